@@ -1,0 +1,10 @@
+//! Places in a text, identifiers, and the paths of modules.
+#![tactic(auto)]
+
+mod ident;
+mod path;
+mod span;
+
+pub use ident::Ident;
+pub use path::{ModulePath, PathOrigin};
+pub use span::{Span, Spanned};

@@ -1,0 +1,83 @@
+//! Places in a text.
+
+ghost use Rattle.std.specs.Prelude.{◌≡◌, IfOk};
+ghost use Rattle.wgsl_path.specs.Paths.{across};
+
+use std::alloc::{AllocError, Global};
+use wgsl_items::{Boxed, CloneIn};
+
+/// A place in a text, in bytes: where it starts, and where it ends.
+#[derive(Clone, Copy, Debug, PartialEq, Eq)]
+pub struct Span {
+    pub start: usize,
+    pub end: usize,
+}
+
+impl Span {
+    /// From the start of this place to the end of another.
+    pub fn across(self, last: Span) -> Span
+        ensures { result ≡ across self last }
+    {
+        Span {
+            start: self.start,
+            end: last.end,
+        }
+    }
+}
+
+/// A value and its place in the text that it was read from. Equality ignores places.
+#[derive(Debug, Drop)]
+#[derive_where(PartialEq; T)]
+pub struct Spanned<T> {
+    pub node: Boxed<T>,
+    #[derive_where(skip(EqHashOrd))]
+    pub span: Span,
+}
+
+impl<T> Spanned<T> {
+    pub fn span(&self) -> Span
+        ensures { result ≡ self.now.span }
+    {
+        self.span
+    }
+
+    pub fn node(&self) -> &T
+        ensures { result.now ≡ self.now.node }
+    {
+        self.node.get()
+    }
+
+    pub fn into_inner(self) -> T
+        ensures { result ≡ self.node }
+    {
+        let Spanned { node, span: _ } = self;
+        node.into_inner()
+    }
+
+    /// From a boxed value. It needs no memory.
+    pub fn new_boxed(node: Boxed<T>, span: Span) -> Spanned<T>
+        ensures { result ≡ record { node = node; span = span } }
+    {
+        Spanned { node, span }
+    }
+}
+
+impl<T: Drop> Spanned<T> {
+    pub fn new(alloc: Global, node: T, span: Span) -> Result<Spanned<T>, AllocError>
+        ensures { IfOk result (λ made. made ≡ record { node = node; span = span }) }
+    {
+        Ok(Spanned {
+            node: Boxed::new(alloc, node)?,
+            span,
+        })
+    }
+}
+
+impl<T: CloneIn + Drop> CloneIn for Spanned<T> {
+    fn clone_in(&self, alloc: Global) -> Result<Spanned<T>, AllocError> {
+        Ok(Spanned {
+            node: self.node.clone_in(alloc)?,
+            span: self.span,
+        })
+    }
+}
