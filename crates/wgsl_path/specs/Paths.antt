@@ -14,10 +14,10 @@ across first last = record { start = first.start; end = last.end }
 abbrev pub ident_of : List ℕ → Ident
 ident_of name = record { name = name }
 
--- `super` once for each level, with `::` between
+-- `::super` so many times
 abbrev pub supers : ℕ → List ℕ
 supers zero = []
-supers (suc n) = codes "::super" ++ supers n
+supers (suc n) = supers n ++ codes "::super"
 
 -- how an origin is written: `package`, `self`, `super::super` or the package's name
 abbrev pub origin_text : PathOrigin → List ℕ

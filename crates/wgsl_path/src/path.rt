@@ -72,7 +72,7 @@ impl fmt::Display for PathOrigin {
 fn write_supers<W: fmt::Write>(levels: usize, f: &mut fmt::Formatter<W>) -> fmt::Result
     ensures { WritesOnOk W.write_str_gives f.old result (supers levels) f.new }
 {
-    for _ in 0..levels {
+    for _level in 0..levels {
         f.write_str("::super")?;
     }
     Ok(())

@@ -1,13 +1,8 @@
-// A library with one function.
+//! Tokens of WGSL texts, and the faults of a text.
 #![tactic(auto)]
 
-ghost use Rattle.std.specs.Prelude.{◌≡◌};
-ghost use Rattle.wgsl_token.specs.Echo.{echo_of};
+mod error;
+mod token;
 
-// The `ensures` clause is the contract: what `echo` returns is `echo_of` of its argument, a definition
-// in `specs/Echo.antt`, which a caller's clause can cite too.
-pub fn echo(x: usize) -> usize
-    ensures { result ≡ echo_of x }
-{
-    x
-}
+pub use error::{Error, ErrorKind};
+pub use token::{Fixed, SpannedToken, Token};
