@@ -1,13 +1,23 @@
-// A library with one function.
+//! The syntax trees of WGSL modules with imports.
 #![tactic(auto)]
 
-ghost use Rattle.std.specs.Prelude.{◌≡◌};
-ghost use Rattle.wgsl_syntax.specs.Echo.{echo_of};
+mod declaration;
+mod expression;
+mod import;
+mod statement;
+mod unit;
 
-// The `ensures` clause is the contract: what `echo` returns is `echo_of` of its argument, a definition
-// in `specs/Echo.antt`, which a caller's clause can cite too.
-pub fn echo(x: usize) -> usize
-    ensures { result ≡ echo_of x }
-{
-    x
-}
+pub use declaration::{
+    Attribute, AttributeNode, Attributes, Declaration, DeclarationKind, FormalParameter, Function,
+    GlobalDeclaration, GlobalDeclarationNode,
+};
+pub use expression::{
+    BinaryExpression, BinaryExpressionOf, Expression, ExpressionNode, FunctionCall, FunctionCallOf,
+    LiteralExpression, ParenthesizedExpression, ParenthesizedExpressionOf, TemplateArg, TemplateArgOf,
+    TemplateArgs, TypeExpression, TypeExpressionOf, UnaryExpression, UnaryExpressionOf,
+};
+pub use import::{ImportContent, ImportItem, ImportStatement};
+pub use statement::{CompoundStatement, CompoundStatementOf, ReturnStatement, Statement, StatementNode};
+pub use unit::TranslationUnit;
+pub use wgsl_operators::{BinaryOperator, UnaryOperator};
+pub use wgsl_path::{Ident, ModulePath, PathOrigin, Span, Spanned};
