@@ -1,0 +1,3 @@
+pub mod Terminals
+pub mod Expressions
+pub mod Declarations
