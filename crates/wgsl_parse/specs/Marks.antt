@@ -1,22 +1,29 @@
--- Tokens that stand for something, and which tokens end a phrase.
-use Rattle.std.specs.Prelude.{◌≡◌, ℕ, Bool, true, false, ◌&&◌, Option, Some, None, List, [], ◌∷◌}
+-- Tokens that stand for something.
+use Rattle.std.specs.Prelude.{◌≡◌, ◌≢◌, ℕ, Option, Some, None, List, [], ◌∷◌}
 use Rattle.wgsl_path.specs.declared.span.Span.{Span}
-use Rattle.wgsl_path.specs.Paths.{ident_of}
 use Rattle.wgsl_operators.specs.declared.BinaryOperator.{BinaryOperator}
 use Rattle.wgsl_token.specs.declared.token.Token.{Token}
 use Rattle.wgsl_token.specs.declared.token.Token.TheVariants as t
 use Rattle.wgsl_token.specs.declared.token.Fixed.{Fixed as FixedToken}
-use Rattle.wgsl_token.specs.declared.token.Fixed.TheVariants as f
 use Rattle.wgsl_token.specs.declared.token.SpannedToken.{SpannedToken}
-use Rattle.wgsl_syntax.specs.declared.expression.LiteralExpression.{LiteralExpression}
 use Rattle.wgsl_phrases.specs.Sequences.{Taking, Done}
+use Rattle.wgsl_phrases.specs.Parsing.{first}
+use Rattle.wgsl_grammar.specs.Terminals.{fixed, word, literal_of, additive, multiplicative}
 use Rattle.wgsl_parse.specs.declared.cursor.Word.{Word}
 use Rattle.wgsl_parse.specs.declared.cursor.Number.{Number}
-use Rattle.wgsl_grammar.specs.Terminals.{fixed, word, literal_of, additive, multiplicative}
 
 -- the token of one spelling, at this place
 abbrev pub IsFixed : FixedToken → SpannedToken → Span → Type 0
 IsFixed kind k s = k ≡ fixed kind s
+
+-- such a token, and then a phrase that depends on its place
+abbrev pub Mark : {A : Type 0} → FixedToken → (Span → List SpannedToken → A → Type 0) → List SpannedToken → A → Type 0
+Mark kind H = Taking (IsFixed kind) H
+
+-- What came of looking for such a token: its place, or nothing is taken since it isn't next.
+abbrev pub TakesFixed : FixedToken → List SpannedToken → Option Span → List SpannedToken → Type 0
+TakesFixed kind old None new = (new ≡ old) × ((s : Span) → first old ≢ Some (fixed kind s))
+TakesFixed kind old (Some s) new = old ≡ fixed kind s ∷ new
 
 abbrev pub IsAdditive : SpannedToken → BinaryOperator → Type 0
 IsAdditive k o = additive k.token ≡ Some o
@@ -32,7 +39,6 @@ IsNumber k n = (literal_of k.token ≡ Some n.literal) × (k.span ≡ n.span)
 abbrev pub IsName : SpannedToken → Word → Type 0
 IsName k w = k ≡ word w.ident.name w.span
 
--- an identifier and its place
 abbrev pub IsWord : List SpannedToken → Word → Type 0
 IsWord = Taking IsName (λ w. Done w)
 

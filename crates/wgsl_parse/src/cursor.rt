@@ -6,7 +6,7 @@ ghost use Rattle.wgsl_path.specs.declared.span.Span as declared_span;
 ghost use Rattle.wgsl_phrases.specs.Parsing.{first, Takes, Parses, anything};
 ghost use Rattle.wgsl_grammar.specs.Terminals as terminal;
 ghost use Rattle.wgsl_grammar.specs.Declarations.{IsIdent};
-ghost use Rattle.wgsl_parse.specs.Marks.{IsFixed, IsAdditive, IsMultiplicative, IsNumber, IsWord, name_of};
+ghost use Rattle.wgsl_parse.specs.Marks.{TakesFixed, IsAdditive, IsMultiplicative, IsNumber, IsWord, name_of};
 
 use std::alloc::Global;
 use std::marker::Model;
@@ -154,7 +154,7 @@ impl<'a> Cursor<'a> {
 
     /// Takes the next token if it has this spelling.
     pub fn eat(&mut self, kind: Fixed) -> Option<Span>
-        ensures { Takes (IsFixed kind) self.old result self.new }
+        ensures { TakesFixed kind self.old result self.new }
     {
         let span = self.place_of(kind)?;
         self.bump();
@@ -218,6 +218,7 @@ impl<'a> Cursor<'a> {
 
     /// An identifier and its place.
     pub fn word(&mut self) -> Result<Word, Stop>
+        ensures parses { Parses IsWord anything self.old result self.new }
         ensures shrinks { length self.new ≤ length self.old }
     {
         let Some(next) = self.peek() else {
@@ -236,6 +237,7 @@ impl<'a> Cursor<'a> {
 
     /// An identifier.
     pub fn ident(&mut self) -> Result<Ident, Stop>
+        ensures parses { Parses IsIdent anything self.old result self.new }
         ensures shrinks { length self.new ≤ length self.old }
     {
         let Word { ident, span: _ } = self.word()?;

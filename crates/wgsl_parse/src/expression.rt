@@ -1,6 +1,11 @@
 //! Expressions (WGSL, "Expression Grammar Summary"): a function for each level.
 
-ghost use Rattle.std.specs.Prelude.{◌≤◌, length};
+ghost use Rattle.std.specs.Prelude.{◌≡◌, ◌≤◌, length};
+ghost use Rattle.wgsl_phrases.specs.Parsing.{Parses};
+ghost use Rattle.wgsl_grammar.specs.Terminals as terminal;
+ghost use Rattle.wgsl_grammar.specs.Expressions.{IsPrimary, IsUnary, IsProduct, IsSum, IsArguments};
+ghost use Rattle.wgsl_parse.specs.Follow.{ends_primary, ends_product, ends_sum, closes};
+ghost use Rattle.wgsl_parse.specs.Rests.{Parenthesized, Named};
 
 use crate::cursor::{Cursor, Word};
 use wgsl_items::Items;
@@ -13,7 +18,9 @@ use wgsl_syntax::{
 use wgsl_token::Fixed;
 
 /// A name without path and template.
-pub fn type_named(ident: Ident) -> TypeExpression {
+pub fn type_named(ident: Ident) -> TypeExpression
+    ensures { result ≡ terminal.type_named ident.name }
+{
     TypeExpression {
         path: None,
         ident,
@@ -23,23 +30,25 @@ pub fn type_named(ident: Ident) -> TypeExpression {
 
 /// Behind `(`.
 #[cycle(expression)]
-fn parenthesized(cursor: &mut Cursor<'_>, open: Span) -> Result<ExpressionNode, Stop>
+fn parenthesized(cursor: &mut Cursor<'_>, opening: Span) -> Result<ExpressionNode, Stop>
+    ensures parses { Parses (Parenthesized opening) ends_primary cursor.old result cursor.new }
     ensures shrinks { length cursor.new ≤ length cursor.old }
 {
     let expression = sum(cursor)?;
     let close = cursor.expect(Fixed::ParenRight)?;
     let tree = Expression::Parenthesized(ParenthesizedExpressionOf { expression });
-    Ok(Spanned::new(cursor.alloc(), tree, open.across(close))?)
+    Ok(Spanned::new(cursor.alloc(), tree, opening.across(close))?)
 }
 
 /// Behind a name.
 #[cycle(expression)]
 fn named(cursor: &mut Cursor<'_>, word: Word) -> Result<ExpressionNode, Stop>
+    ensures parses { Parses (Named word) ends_primary cursor.old result cursor.new }
     ensures shrinks { length cursor.new ≤ length cursor.old }
 {
     let Word { ident, span } = word;
     let ty = type_named(ident);
-    let Some(_open) = cursor.eat(Fixed::ParenLeft) else {
+    let Some(_opening) = cursor.eat(Fixed::ParenLeft) else {
         return Ok(Spanned::new(cursor.alloc(), Expression::TypeOrIdentifier(ty), span)?);
     };
     let arguments = arguments(cursor)?;
@@ -51,6 +60,7 @@ fn named(cursor: &mut Cursor<'_>, word: Word) -> Result<ExpressionNode, Stop>
 /// The arguments of a call, up to `)`.
 #[cycle(expression)]
 fn arguments(cursor: &mut Cursor<'_>) -> Result<Items<ExpressionNode>, Stop>
+    ensures parses { Parses IsArguments closes cursor.old result cursor.new }
     ensures shrinks { length cursor.new ≤ length cursor.old }
 {
     let mut arguments = Items::new(cursor.alloc());
@@ -65,6 +75,7 @@ fn arguments(cursor: &mut Cursor<'_>) -> Result<Items<ExpressionNode>, Stop>
 
 #[cycle(expression)]
 fn primary(cursor: &mut Cursor<'_>) -> Result<ExpressionNode, Stop>
+    ensures parses { Parses IsPrimary ends_primary cursor.old result cursor.new }
     ensures shrinks { length cursor.new ≤ length cursor.old }
 {
     if let Some(number) = cursor.number() {
@@ -75,12 +86,13 @@ fn primary(cursor: &mut Cursor<'_>) -> Result<ExpressionNode, Stop>
         let word = cursor.word()?;
         return named(cursor, word);
     }
-    let open = cursor.expect(Fixed::ParenLeft)?;
-    parenthesized(cursor, open)
+    let opening = cursor.expect(Fixed::ParenLeft)?;
+    parenthesized(cursor, opening)
 }
 
 #[cycle(expression)]
 fn unary(cursor: &mut Cursor<'_>) -> Result<ExpressionNode, Stop>
+    ensures parses { Parses IsUnary ends_primary cursor.old result cursor.new }
     ensures shrinks { length cursor.new ≤ length cursor.old }
 {
     let Some(minus) = cursor.eat(Fixed::Minus) else {
@@ -97,6 +109,7 @@ fn unary(cursor: &mut Cursor<'_>) -> Result<ExpressionNode, Stop>
 
 #[cycle(expression)]
 fn product(cursor: &mut Cursor<'_>) -> Result<ExpressionNode, Stop>
+    ensures parses { Parses IsProduct ends_product cursor.old result cursor.new }
     ensures shrinks { length cursor.new ≤ length cursor.old }
 {
     let mut left = unary(cursor)?;
@@ -116,6 +129,7 @@ fn product(cursor: &mut Cursor<'_>) -> Result<ExpressionNode, Stop>
 /// An expression.
 #[cycle(expression)]
 pub fn sum(cursor: &mut Cursor<'_>) -> Result<ExpressionNode, Stop>
+    ensures parses { Parses IsSum ends_sum cursor.old result cursor.new }
     ensures shrinks { length cursor.new ≤ length cursor.old }
 {
     let mut left = product(cursor)?;

@@ -1,6 +1,11 @@
 //! Imports (WESL, "Imports").
 
 ghost use Rattle.std.specs.Prelude.{◌≤◌, length};
+ghost use Rattle.wgsl_phrases.specs.Languages.{Repeated};
+ghost use Rattle.wgsl_phrases.specs.Parsing.{Parses, anything};
+ghost use Rattle.wgsl_grammar.specs.Declarations.{IsImport};
+ghost use Rattle.wgsl_parse.specs.Follow.{ends_path, ends_imports};
+ghost use Rattle.wgsl_parse.specs.Rests.{IsItemPath, ImportRest};
 
 use crate::cursor::Cursor;
 use wgsl_items::{Items, Text};
@@ -18,6 +23,7 @@ pub struct ItemPath {
 
 /// Names with `::` between.
 fn item_path(cursor: &mut Cursor<'_>) -> Result<ItemPath, Stop>
+    ensures parses { Parses IsItemPath ends_path cursor.old result cursor.new }
     ensures shrinks { length cursor.new ≤ length cursor.old }
 {
     let mut components = Items::new(cursor.alloc());
@@ -33,6 +39,7 @@ fn item_path(cursor: &mut Cursor<'_>) -> Result<ItemPath, Stop>
 
 /// Behind `import`.
 fn import(cursor: &mut Cursor<'_>) -> Result<ImportStatement, Stop>
+    ensures parses { Parses ImportRest anything cursor.old result cursor.new }
     ensures shrinks { length cursor.new ≤ length cursor.old }
 {
     cursor.expect(Fixed::Package)?;
@@ -53,6 +60,7 @@ fn import(cursor: &mut Cursor<'_>) -> Result<ImportStatement, Stop>
 
 /// The imports of a module.
 pub fn imports(cursor: &mut Cursor<'_>) -> Result<Items<ImportStatement>, Stop>
+    ensures parses { Parses (Repeated IsImport) ends_imports cursor.old result cursor.new }
     ensures shrinks { length cursor.new ≤ length cursor.old }
 {
     let mut imports = Items::new(cursor.alloc());
