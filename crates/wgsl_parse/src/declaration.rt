@@ -22,7 +22,6 @@ use wgsl_token::Fixed;
 
 /// A type: a name.
 fn type_expression(cursor: &mut Cursor<'_>) -> Result<TypeExpression, Stop>
-    ensures parses { Parses IsType anything cursor.old result cursor.new }
     ensures shrinks { length cursor.new ≤ length cursor.old }
 {
     let ident = cursor.ident()?;
@@ -30,7 +29,6 @@ fn type_expression(cursor: &mut Cursor<'_>) -> Result<TypeExpression, Stop>
 }
 
 fn parameter(cursor: &mut Cursor<'_>) -> Result<FormalParameter, Stop>
-    ensures parses { Parses IsParameter anything cursor.old result cursor.new }
     ensures shrinks { length cursor.new ≤ length cursor.old }
 {
     let ident = cursor.ident()?;
@@ -45,7 +43,6 @@ fn parameter(cursor: &mut Cursor<'_>) -> Result<FormalParameter, Stop>
 
 /// The parameters of a function, up to `)`.
 fn parameters(cursor: &mut Cursor<'_>) -> Result<Items<FormalParameter>, Stop>
-    ensures parses { Parses (OptionallyListed IsParameter IsComma) closes cursor.old result cursor.new }
     ensures shrinks { length cursor.new ≤ length cursor.old }
 {
     let mut parameters = Items::new(cursor.alloc());
@@ -60,7 +57,6 @@ fn parameters(cursor: &mut Cursor<'_>) -> Result<Items<FormalParameter>, Stop>
 
 /// `:` and a type, or nothing.
 fn annotation(cursor: &mut Cursor<'_>) -> Result<Option<TypeExpression>, Stop>
-    ensures parses { Parses IsAnnotation ends_annotation cursor.old result cursor.new }
     ensures shrinks { length cursor.new ≤ length cursor.old }
 {
     let Some(_colon) = cursor.eat(Fixed::Colon) else {
@@ -72,7 +68,6 @@ fn annotation(cursor: &mut Cursor<'_>) -> Result<Option<TypeExpression>, Stop>
 
 /// `->` and a type, or nothing.
 fn result_type(cursor: &mut Cursor<'_>) -> Result<Option<TypeExpression>, Stop>
-    ensures parses { Parses IsResult ends_result cursor.old result cursor.new }
     ensures shrinks { length cursor.new ≤ length cursor.old }
 {
     let Some(_arrow) = cursor.eat(Fixed::Arrow) else {
@@ -84,7 +79,6 @@ fn result_type(cursor: &mut Cursor<'_>) -> Result<Option<TypeExpression>, Stop>
 
 /// Behind `const`, which stands at `first`.
 fn constant(cursor: &mut Cursor<'_>, first: Span) -> Result<GlobalDeclarationNode, Stop>
-    ensures parses { Parses (ConstantRest first) anything cursor.old result cursor.new }
     ensures shrinks { length cursor.new ≤ length cursor.old }
 {
     let ident = cursor.ident()?;
@@ -104,7 +98,6 @@ fn constant(cursor: &mut Cursor<'_>, first: Span) -> Result<GlobalDeclarationNod
 
 /// The value of a `return`, up to `;`.
 fn value(cursor: &mut Cursor<'_>) -> Result<Option<ExpressionNode>, Stop>
-    ensures parses { Parses IsValue ends_statement cursor.old result cursor.new }
     ensures shrinks { length cursor.new ≤ length cursor.old }
 {
     if cursor.sees(Fixed::Semicolon) {
@@ -116,7 +109,6 @@ fn value(cursor: &mut Cursor<'_>) -> Result<Option<ExpressionNode>, Stop>
 
 /// Behind `return`, which stands at `first`.
 fn return_statement(cursor: &mut Cursor<'_>, first: Span) -> Result<StatementNode, Stop>
-    ensures parses { Parses (ReturnRest first) anything cursor.old result cursor.new }
     ensures shrinks { length cursor.new ≤ length cursor.old }
 {
     let expression = value(cursor)?;
@@ -130,7 +122,6 @@ fn return_statement(cursor: &mut Cursor<'_>, first: Span) -> Result<StatementNod
 
 /// The statements of a function.
 fn body(cursor: &mut Cursor<'_>) -> Result<Items<StatementNode>, Stop>
-    ensures parses { Parses IsBody ends_body cursor.old result cursor.new }
     ensures shrinks { length cursor.new ≤ length cursor.old }
 {
     let mut statements = Items::new(cursor.alloc());
@@ -144,7 +135,6 @@ fn body(cursor: &mut Cursor<'_>) -> Result<Items<StatementNode>, Stop>
 
 /// Behind `fn`, which stands at `first`.
 fn function(cursor: &mut Cursor<'_>, first: Span) -> Result<GlobalDeclarationNode, Stop>
-    ensures parses { Parses (FunctionRest first) anything cursor.old result cursor.new }
     ensures shrinks { length cursor.new ≤ length cursor.old }
 {
     let ident = cursor.ident()?;
@@ -171,7 +161,6 @@ fn function(cursor: &mut Cursor<'_>, first: Span) -> Result<GlobalDeclarationNod
 }
 
 fn declaration(cursor: &mut Cursor<'_>) -> Result<GlobalDeclarationNode, Stop>
-    ensures parses { Parses IsDeclaration anything cursor.old result cursor.new }
     ensures shrinks { OnOk result (length cursor.new < length cursor.old) }
     ensures within { length cursor.new ≤ length cursor.old }
 {
@@ -184,8 +173,6 @@ fn declaration(cursor: &mut Cursor<'_>) -> Result<GlobalDeclarationNode, Stop>
 
 /// Declarations up to the end.
 pub fn declarations(cursor: &mut Cursor<'_>) -> Result<Items<GlobalDeclarationNode>, Stop>
-    ensures parses { Parses (Repeated IsDeclaration) at_end cursor.old result cursor.new }
-    ensures all { OnOk result (cursor.new ≡ []) }
     ensures shrinks { length cursor.new ≤ length cursor.old }
 {
     let mut declarations = Items::new(cursor.alloc());

@@ -8,7 +8,9 @@ mod import;
 mod text;
 mod unit;
 
+pub use text::parse_str;
 pub use unit::{ParseError, parse_tokens};
+pub use wgsl_lex::lex;
 pub use wgsl_syntax::{
     Attribute, AttributeNode, Attributes, BinaryExpression, BinaryExpressionOf, BinaryOperator,
     CompoundStatement, CompoundStatementOf, Declaration, DeclarationKind, Expression,
