@@ -1,0 +1,237 @@
+-- What each phrase of a declaration comes to, by its first token.
+use Rattle.std.proofs.Common.{ℕ, ◌≡◌, ◌≢◌, ◌∙◌, sym, ap, subst, refl, List, [], ◌∷◌, ◌++◌, append_assoc, append-nil, Option, Some, None, Bool, true, false, ◌&&◌, length, IsTrue, Result, Ok, Err}
+use Rattle.wgsl_path.specs.declared.span.Span.{Span}
+use Rattle.wgsl_path.specs.declared.span.Spanned.{Spanned}
+use Rattle.wgsl_path.specs.declared.ident.Ident.{Ident}
+use Rattle.wgsl_path.specs.Paths.{ident_of}
+use Rattle.wgsl_token.specs.declared.token.Token.{Token}
+use Rattle.wgsl_token.specs.declared.token.Token.TheVariants as t
+use Rattle.wgsl_token.specs.declared.token.Fixed.TheVariants as f
+use Rattle.wgsl_token.specs.declared.token.SpannedToken.{SpannedToken}
+use Rattle.wgsl_syntax.specs.declared.expression.Expression.{Expression}
+use Rattle.wgsl_syntax.specs.declared.expression.TypeExpressionOf.{TypeExpressionOf}
+use Rattle.wgsl_syntax.specs.declared.statement.Statement.{Statement}
+use Rattle.wgsl_syntax.specs.declared.declaration.FormalParameter.{FormalParameter}
+use Rattle.wgsl_syntax.specs.declared.declaration.GlobalDeclaration.{GlobalDeclaration}
+use Rattle.wgsl_phrases.specs.declared.Stop.{Stop}
+use Rattle.wgsl_phrases.specs.declared.Stop.TheVariants.{Unexpected}
+use Rattle.wgsl_phrases.specs.Parsing.{first, Parses, anything}
+use Rattle.wgsl_phrases.specs.Parsing.{at_end as at_the_end}
+use Rattle.wgsl_phrases.specs.Languages.{◌⌢◌, OptionallyListed, no_list}
+use Rattle.wgsl_phrases.specs.Sequences.{Taking, taken, Done, done, Then, next, Either, left, right}
+use Rattle.wgsl_phrases.proofs.Steps.{Inhabited, IsBarred, at_end, some_injective, nowhere, parses_as, parses_done}
+use Rattle.wgsl_grammar.specs.Terminals.{fixed, word, IsComma, type_named}
+use Rattle.wgsl_grammar.specs.Expressions.{IsSum}
+use Rattle.wgsl_grammar.specs.Declarations.{IsIdent, ident, IsType, type, IsParameter, parameter, parameter_of, IsAnnotation, unannotated, annotated, IsResult, no_result, result_of, IsValue, no_value, value, IsBody, empty_body, returns, return_of, IsDeclaration, constant, function}
+use Rattle.wgsl_parse.specs.Marks.{IsFixed, Mark}
+use Rattle.wgsl_parse.specs.Follow.{is_semicolon, no_call, no_factor, no_term, ends_sum, ends_statement}
+use Rattle.wgsl_parse.specs.Rests.{ParameterRest, ReturnRest, ConstantRest, FunctionRest}
+use Rattle.wgsl_parse.proofs.Marks.{origin, parses_mark}
+use Rattle.wgsl_parse.proofs.Expressions.{sum_barred, inhabited_sum}
+
+-- some phrase of each language
+
+pub inhabited_ident : Inhabited IsIdent
+inhabited_ident = record { tokens = _; value = _; stands = ident {id = []} {s = origin} }
+
+pub inhabited_type : Inhabited IsType
+inhabited_type = record { tokens = _; value = _; stands = type {id = []} {s = origin} }
+
+pub inhabited_annotation : Inhabited IsAnnotation
+inhabited_annotation = record { tokens = []; value = None; stands = unannotated }
+
+pub inhabited_result : Inhabited IsResult
+inhabited_result = record { tokens = []; value = None; stands = no_result }
+
+pub inhabited_value : Inhabited IsValue
+inhabited_value = record { tokens = []; value = None; stands = no_value }
+
+pub inhabited_body : Inhabited IsBody
+inhabited_body = record { tokens = []; value = []; stands = empty_body }
+
+pub inhabited_parameters : Inhabited (OptionallyListed IsParameter IsComma)
+inhabited_parameters = record { tokens = []; value = []; stands = no_list }
+
+pub ruleset inhabited = (inhabited_ident, inhabited_type, inhabited_annotation, inhabited_result, inhabited_value, inhabited_body, inhabited_parameters, inhabited_sum)
+
+-- types
+
+type_is : (u : List SpannedToken) (x : TypeExpressionOf Expression) → Then IsIdent (λ name. Done (type_named name.name)) u x → IsType u x
+type_is u x (next (ident {id = id} {s = s}) d) = at_end d (λ b y. IsType (word id s ∷ b) y) type
+
+type_out : (u : List SpannedToken) (x : TypeExpressionOf Expression) → IsType u x → Then IsIdent (λ name. Done (type_named name.name)) u x
+type_out u x type = next ident done
+
+pub parses_type : {F : Option SpannedToken → Bool} {tokens s1 : List SpannedToken} {r : Result (TypeExpressionOf Expression) Stop}
+    → Parses (Then IsIdent (λ name. Done (type_named name.name))) F tokens r s1 → Parses IsType F tokens r s1
+parses_type p = parses_as type_is (λ u v x h may f. type_out u x h) p
+
+-- parameters
+
+parameter_is : (u : List SpannedToken) (x : FormalParameter) → ParameterRest u x → IsParameter u x
+parameter_is u x (next {u = a} g (taken {k = k} {o = c} is (next {u = b} h d))) = at_end d (λ e y. IsParameter (a ⌢ k ∷ b ⌢ e) y) (rw (is, append-nil b) (parameter c g h))
+
+parameter_out : (u : List SpannedToken) (x : FormalParameter) → IsParameter u x → ParameterRest u x
+parameter_out u x (parameter {v = b} c {name = name} {ty = ty} g h) =
+    let n : Then IsType (λ ty. Done (parameter_of name ty)) (b ++ []) (parameter_of name ty) = next h done in next g (taken refl (rw (append-nil b) at n))
+
+pub parses_parameter : {F : Option SpannedToken → Bool} {tokens s1 : List SpannedToken} {r : Result FormalParameter Stop} → Parses ParameterRest F tokens r s1
+    → Parses IsParameter F tokens r s1
+parses_parameter p = parses_as parameter_is (λ u v x h may f. parameter_out u x h) p
+
+parameter_begun : {p : Span} (tokens u v : List SpannedToken) (x : FormalParameter) → first tokens ≡ Some (fixed f.ParenRight p) → IsParameter u x → first (u ++ v) ≢ first tokens
+parameter_begun tokens u v x is (parameter c ident h) g = let e = ap (λ (k : SpannedToken). k.token) (some_injective (g ∙ is)) in cc
+
+pub parameter_barred : {p : Span} {tokens : List SpannedToken} → first tokens ≡ Some (fixed f.ParenRight p) → IsBarred IsParameter tokens
+parameter_barred {tokens = tokens} is = record { bars = λ u v x h. parameter_begun tokens u v x is h }
+
+-- optional types
+
+abbrev pub Annotated : List SpannedToken → Option (TypeExpressionOf Expression) → Type 0
+Annotated = Either (Done None) (Mark f.Colon (λ c. Then IsType (λ ty. Done (Some ty))))
+
+annotation_is : (u : List SpannedToken) (x : Option (TypeExpressionOf Expression)) → Annotated u x → IsAnnotation u x
+annotation_is u x (left done) = unannotated
+annotation_is u x (right (taken {k = k} is (next {u = a} h d))) = at_end d (λ b y. IsAnnotation (k ∷ a ++ b) y) (rw (is, append-nil a) (annotated h))
+
+annotation_out : (u : List SpannedToken) (x : Option (TypeExpressionOf Expression)) → IsAnnotation u x → Annotated u x
+annotation_out u x unannotated = left done
+annotation_out u x (annotated {u = a} {ty = ty} h) = let n : Then IsType (λ ty. Done (Some ty)) (a ++ []) (Some ty) = next h done in right (taken refl (rw (append-nil a) at n))
+
+pub parses_annotation : {F : Option SpannedToken → Bool} {tokens s1 : List SpannedToken} {r : Result (Option (TypeExpressionOf Expression)) Stop} → Parses Annotated F tokens r s1
+    → Parses IsAnnotation F tokens r s1
+parses_annotation p = parses_as annotation_is (λ u v x h may f. annotation_out u x h) p
+
+abbrev pub Resulting : List SpannedToken → Option (TypeExpressionOf Expression) → Type 0
+Resulting = Either (Done None) (Mark f.Arrow (λ c. Then IsType (λ ty. Done (Some ty))))
+
+result_is : (u : List SpannedToken) (x : Option (TypeExpressionOf Expression)) → Resulting u x → IsResult u x
+result_is u x (left done) = no_result
+result_is u x (right (taken {k = k} is (next {u = a} h d))) = at_end d (λ b y. IsResult (k ∷ a ++ b) y) (rw (is, append-nil a) (result_of h))
+
+result_out : (u : List SpannedToken) (x : Option (TypeExpressionOf Expression)) → IsResult u x → Resulting u x
+result_out u x no_result = left done
+result_out u x (result_of {u = a} {ty = ty} h) = let n : Then IsType (λ ty. Done (Some ty)) (a ++ []) (Some ty) = next h done in right (taken refl (rw (append-nil a) at n))
+
+pub parses_result : {F : Option SpannedToken → Bool} {tokens s1 : List SpannedToken} {r : Result (Option (TypeExpressionOf Expression)) Stop} → Parses Resulting F tokens r s1
+    → Parses IsResult F tokens r s1
+parses_result p = parses_as result_is (λ u v x h may f. result_out u x h) p
+
+-- [expr] before `;`
+
+abbrev pub SomeValue : List SpannedToken → Option (Spanned Expression) → Type 0
+SomeValue = Then IsSum (λ x. Done (Some x))
+
+value_is : (u : List SpannedToken) (x : Option (Spanned Expression)) → SomeValue u x → IsValue u x
+value_is u x (next {u = w} h d) = at_end d (λ b y. IsValue (w ++ b) y) (rw (append-nil w) (value h))
+
+semicolon : (k : Token) → IsTrue (is_semicolon k) → k ≡ t.Fixed f.Semicolon
+semicolon (t.Fixed f.Semicolon) may = refl
+semicolon _ may = absurd cc
+
+no_semicolon : (k : Option SpannedToken) → IsTrue (ends_statement k) → ((p : Span) → k ≢ Some (fixed f.Semicolon p)) → ⊥
+no_semicolon None may differs = absurd cc
+no_semicolon (Some k) may differs = differs k.span (ap (λ t. Some (record { token = t; span = k.span })) (semicolon k.token may))
+
+value_out : (u v tokens : List SpannedToken) (x : Option (Spanned Expression)) → ((p : Span) → first tokens ≢ Some (fixed f.Semicolon p)) → IsValue u x → IsTrue (ends_statement (first v))
+    → first (u ++ v) ≡ first tokens → SomeValue u x
+value_out u v tokens x differs no_value may g = absurd (no_semicolon (first v) may (λ p e. differs p (sym g ∙ e)))
+value_out u v tokens x differs (value h) may g = let n : SomeValue (u ++ []) x = next h done in rw (append-nil u) at n
+
+pub parses_value : {tokens s1 : List SpannedToken} {r : Result (Option (Spanned Expression)) Stop} → ((p : Span) → first tokens ≢ Some (fixed f.Semicolon p))
+    → Parses SomeValue ends_statement tokens r s1 → Parses IsValue ends_statement tokens r s1
+parses_value {tokens = tokens} differs p = parses_as value_is (λ u v x h may g. value_out u v tokens x differs h may g) p
+
+no_value_is : (u : List SpannedToken) (x : Option (Spanned Expression)) → Done None u x → IsValue u x
+no_value_is u x done = no_value
+
+no_value_out : {p : Span} (u v tokens : List SpannedToken) (x : Option (Spanned Expression)) → first tokens ≡ Some (fixed f.Semicolon p) → IsValue u x → first (u ++ v) ≡ first tokens → Done None u x
+no_value_out u v tokens x is no_value g = done
+no_value_out u v tokens x is (value h) g = absurd ((sum_barred is refl).bars u v _ h g)
+
+pub parses_no_value : {F : Option SpannedToken → Bool} {p : Span} {tokens : List SpannedToken} → first tokens ≡ Some (fixed f.Semicolon p) → Parses IsValue F tokens (Ok None) tokens
+parses_no_value {tokens = tokens} is = parses_as no_value_is (λ u v x h may g. no_value_out u v tokens x is h g) parses_done
+
+sum_may : (k : Token) → IsTrue (is_semicolon k) → IsTrue (no_call k && no_factor k && no_term k)
+sum_may (t.Fixed f.Semicolon) h = refl
+sum_may _ h = absurd cc
+
+pub statement_sum : (k : Option SpannedToken) → IsTrue (ends_statement k) → IsTrue (ends_sum k)
+statement_sum None h = absurd cc
+statement_sum (Some k) h = sum_may k.token h
+
+-- [`return` [expr] `;`]
+
+abbrev pub Statements : List SpannedToken → List (Spanned Statement) → Type 0
+Statements = Either (Done []) (Mark f.Return (λ r. Then (ReturnRest r) (λ x. Done (x ∷ []))))
+
+body_is : (u : List SpannedToken) (x : List (Spanned Statement)) → Statements u x → IsBody u x
+body_is u x (left done) = empty_body
+body_is u x (right (taken {k = k} {o = r} is (next (next {u = a} h (taken {k = j} {o = e} ends done)) done))) =
+    rw (is, ends, append-nil (a ++ fixed f.Semicolon e ∷ [])) (returns e h)
+
+body_out : (u : List SpannedToken) (x : List (Spanned Statement)) → IsBody u x → Statements u x
+body_out u x empty_body = left done
+body_out u x (returns {u = a} {x = y} {r = r} e h) =
+    let n : Then (ReturnRest r) (λ x. Done (x ∷ [])) ((a ++ fixed f.Semicolon e ∷ []) ++ []) (return_of r y e ∷ []) = next (next h (taken refl done)) done in
+    right (taken refl (rw (append-nil (a ++ fixed f.Semicolon e ∷ [])) at n))
+
+pub parses_body : {F : Option SpannedToken → Bool} {tokens s1 : List SpannedToken} {r : Result (List (Spanned Statement)) Stop} → Parses Statements F tokens r s1 → Parses IsBody F tokens r s1
+parses_body p = parses_as body_is (λ u v x h may f. body_out u x h) p
+
+-- declarations by their first token
+
+constant_is : (u : List SpannedToken) (x : Spanned GlobalDeclaration) → Mark f.Const ConstantRest u x → IsDeclaration u x
+constant_is u x (taken {k = k} {o = c} is (next {u = a} ha (next {u = b} hb (taken {k = i} {o = e} equals (next {u = w} hw (taken {k = j} {o = z} ends d)))))) =
+    at_end d (λ r y. IsDeclaration (k ∷ a ⌢ b ⌢ i ∷ w ⌢ j ∷ r) y) (rw (is, equals, ends) (constant e z ha hb hw))
+
+function_is : (u : List SpannedToken) (x : Spanned GlobalDeclaration) → Mark f.Fn FunctionRest u x → IsDeclaration u x
+function_is u x (taken {k = k} {o = n} is (next {u = a} ha (taken {k = i} {o = p} opens (next {u = b} hb (taken {k = j} {o = q} closes (next {u = w} hw (taken {k = l} {o = o} begins (next {u = y} hy (taken {k = m} {o = z} ends d))))))))) =
+    at_end d (λ r y'. IsDeclaration (k ∷ a ⌢ i ∷ b ⌢ j ∷ w ⌢ l ∷ y ⌢ m ∷ r) y') (rw (is, opens, closes, begins, ends) (function p q o z ha hb hw hy))
+
+constant_out : {p : Span} (tokens s1 u v : List SpannedToken) (x : Spanned GlobalDeclaration) → tokens ≡ fixed f.Const p ∷ s1 → IsDeclaration u x → first (u ++ v) ≡ first tokens
+    → Mark f.Const ConstantRest u x
+constant_out tokens s1 u v x is (constant e z ha hb hw) g = taken refl (next ha (next hb (taken refl (next hw (taken refl done)))))
+constant_out tokens s1 u v x is (function p q b z ha hb hw hx) g = absurd (let e = ap (λ (k : SpannedToken). k.token) (some_injective (g ∙ ap first is)) in cc)
+
+function_out : {p : Span} (tokens s1 u v : List SpannedToken) (x : Spanned GlobalDeclaration) → tokens ≡ fixed f.Fn p ∷ s1 → IsDeclaration u x → first (u ++ v) ≡ first tokens
+    → Mark f.Fn FunctionRest u x
+function_out tokens s1 u v x is (constant e z ha hb hw) g = absurd (let e = ap (λ (k : SpannedToken). k.token) (some_injective (g ∙ ap first is)) in cc)
+function_out tokens s1 u v x is (function p q b z ha hb hw hx) g =
+    taken refl (next ha (taken refl (next hb (taken refl (next hw (taken refl (next hx (taken refl done))))))))
+
+pub parses_constant : {F : Option SpannedToken → Bool} {tokens s1 s2 : List SpannedToken} {p : Span} {r : Result (Spanned GlobalDeclaration) Stop} → tokens ≡ fixed f.Const p ∷ s1
+    → Parses (ConstantRest p) F s1 r s2 → Parses IsDeclaration F tokens r s2
+parses_constant {tokens = tokens} {s1 = s1} is q = parses_as constant_is (λ u v x h may f. constant_out tokens s1 u v x is h f) (parses_mark is q)
+
+pub parses_function : {F : Option SpannedToken → Bool} {tokens s1 s2 : List SpannedToken} {p : Span} {r : Result (Spanned GlobalDeclaration) Stop} → tokens ≡ fixed f.Fn p ∷ s1
+    → Parses (FunctionRest p) F s1 r s2 → Parses IsDeclaration F tokens r s2
+parses_function {tokens = tokens} {s1 = s1} is q = parses_as function_is (λ u v x h may f. function_out tokens s1 u v x is h f) (parses_mark is q)
+
+no_declaration_at : (tokens u v : List SpannedToken) (x : Spanned GlobalDeclaration) → ((p : Span) → first tokens ≢ Some (fixed f.Const p))
+    → ((p : Span) → first tokens ≢ Some (fixed f.Fn p)) → IsDeclaration u x → first (u ++ v) ≢ first tokens
+no_declaration_at tokens u v x a b (constant e z ha hb hw) g = a _ (sym g)
+no_declaration_at tokens u v x a b (function p q o z ha hb hw hx) g = b _ (sym g)
+
+inhabited_declaration : Inhabited IsDeclaration
+inhabited_declaration = record { tokens = _; value = _; stands = constant {c = origin} origin origin inhabited_ident.stands inhabited_annotation.stands inhabited_sum.stands }
+
+pub no_declaration : {F : Option SpannedToken → Bool} {old mid new : List SpannedToken} {e : Stop} → mid ≡ old → new ≡ mid → e ≡ Unexpected
+    → ((p : Span) → first old ≢ Some (fixed f.Const p)) → ((p : Span) → first mid ≢ Some (fixed f.Fn p)) → Parses IsDeclaration F old (Err e) new
+no_declaration {old = old} m n is a b =
+    let b2 : (p : Span) → first old ≢ Some (fixed f.Fn p) = rw m at b in
+    rw (is, n, m) (nowhere inhabited_declaration (λ u v x h may. no_declaration_at old u v x a b2 h))
+
+-- no declaration is empty
+
+declaration_begun : (u v : List SpannedToken) (x : Spanned GlobalDeclaration) → IsDeclaration u x → first (u ++ v) ≢ None
+declaration_begun u v x (constant e z ha hb hw) g = cc
+declaration_begun u v x (function p q o z ha hb hw hx) g = cc
+
+pub ended : {tokens : List SpannedToken} → length tokens ≡ 0 → IsBarred IsDeclaration tokens
+ended {tokens = []} h = record { bars = λ u v x d. declaration_begun u v x d }
+ended {tokens = k ∷ v} h = absurd cc
+
+pub goes_on : (tokens : List SpannedToken) → length tokens ≢ 0 → at_the_end (first tokens) ≡ false
+goes_on [] h = absurd (h refl)
+goes_on (k ∷ v) h = refl

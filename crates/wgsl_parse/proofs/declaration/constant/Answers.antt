@@ -1,0 +1,32 @@
+use Rattle.std.proofs.Common.{refl}
+use Rattle.wgsl_phrases.proofs.Steps.{outcomes, passes, exhausts}
+use Rattle.wgsl_parse.proofs.Marks.{marks}
+use Rattle.wgsl_parse.proofs.Declarations.{inhabited}
+use Rattle.wgsl_parse.proofs.declaration.constant.Goals as goal
+
+pub returns-in_err-ident-clause-parses : goal.returns-in_err-ident-clause-parses
+returns-in_err-ident-clause-parses c = passes c.from_residual.ensures.1
+    (search (outcomes, marks, inhabited, c.in_err-ident.ensures) depth 20)
+
+pub returns-in_err-ty-clause-parses : goal.returns-in_err-ty-clause-parses
+returns-in_err-ty-clause-parses c = passes c.from_residual-in_err-ty.ensures.1
+    (search (outcomes, marks, inhabited, c.in_ok-ident.ensures, c.in_err-ty.ensures) depth 20)
+
+pub returns-in_err-expect-clause-parses : goal.returns-in_err-expect-clause-parses
+returns-in_err-expect-clause-parses c = passes c.from_residual-in_err-expect.ensures.1
+    (search (outcomes, marks, inhabited, c.in_ok-ident.ensures, c.in_ok-ty.ensures, c.in_err-expect.ensures) depth 20)
+
+pub returns-in_err-value-clause-parses : goal.returns-in_err-value-clause-parses
+returns-in_err-value-clause-parses c = passes c.from_residual-in_err-value.ensures.1
+    (search (outcomes, marks, inhabited, c.in_ok-ident.ensures, c.in_ok-ty.ensures, c.in_ok-expect.ensures, c.in_err-value.ensures) depth 20)
+
+pub returns-in_err-last-clause-parses : goal.returns-in_err-last-clause-parses
+returns-in_err-last-clause-parses c = passes c.from_residual-in_err-last.ensures.1
+    (search (outcomes, marks, inhabited, c.in_ok-ident.ensures, c.in_ok-ty.ensures, c.in_ok-expect.ensures, c.in_ok-value.ensures, c.in_err-last.ensures) depth 20)
+
+pub returns-in_err-new-clause-parses : goal.returns-in_err-new-clause-parses
+returns-in_err-new-clause-parses c = exhausts c.from_residual-in_err-new.ensures.1
+
+pub returns-clause-parses : goal.returns-clause-parses
+returns-clause-parses c = rw (c.in_ok-new.ensures, c.across.ensures, c.new.ensures)
+    (search (outcomes, marks, inhabited, c.in_ok-ident.ensures, c.in_ok-ty.ensures, c.in_ok-expect.ensures, c.in_ok-value.ensures, c.in_ok-last.ensures) depth 20)
