@@ -60,9 +60,13 @@ begins_with_two_underscores (c ∷ d ∷ cs) = (c == 95) && (d == 95)
 
 -- the tokens that are spelled in one way
 abbrev pub all_fixed : List FixedToken
-all_fixed = f.Alias ∷ f.Break ∷ f.Case ∷ f.Const ∷ f.ConstAssert ∷ f.Continue ∷ f.Continuing ∷ f.Default ∷ f.Diagnostic ∷ f.Discard ∷ f.Else ∷ f.Enable ∷ f.False
-    ∷ f.Fn ∷ f.For ∷ f.If ∷ f.Let ∷ f.Loop ∷ f.Override ∷ f.Requires ∷ f.Return ∷ f.Struct ∷ f.Switch ∷ f.True ∷ f.Var ∷ f.While ∷ f.And ∷ f.AndAnd ∷
-    f.Arrow ∷ f.Attr ∷ f.ForwardSlash ∷ f.Bang ∷ f.BracketLeft ∷ f.BracketRight ∷ f.BraceLeft ∷ []
+all_fixed = f.Alias ∷ f.Break ∷ f.Case ∷ f.Const ∷ f.ConstAssert ∷ f.Continue ∷ f.Continuing ∷ f.Default ∷ f.Diagnostic ∷ f.Discard ∷ f.Else ∷
+    f.Enable ∷ f.False ∷ f.Fn ∷ f.For ∷ f.If ∷ f.Let ∷ f.Loop ∷ f.Override ∷ f.Requires ∷ f.Return ∷ f.Struct ∷ f.Switch ∷ f.True ∷ f.Var ∷ f.While ∷
+    f.And ∷ f.AndAnd ∷ f.Arrow ∷ f.Attr ∷ f.ForwardSlash ∷ f.Bang ∷ f.BracketLeft ∷ f.BracketRight ∷ f.BraceLeft ∷ f.BraceRight ∷ f.Colon ∷
+    f.PathSeparator ∷ f.Comma ∷ f.Equal ∷ f.EqualEqual ∷ f.NotEqual ∷ f.GreaterThan ∷ f.GreaterThanEqual ∷ f.ShiftRight ∷ f.LessThan ∷
+    f.LessThanEqual ∷ f.ShiftLeft ∷ f.Modulo ∷ f.Minus ∷ f.MinusMinus ∷ f.Period ∷ f.Plus ∷ f.PlusPlus ∷ f.Or ∷ f.OrOr ∷ f.ParenLeft ∷ f.ParenRight ∷
+    f.Semicolon ∷ f.Star ∷ f.Tilde ∷ f.Underscore ∷ f.Xor ∷ f.PlusEqual ∷ f.MinusEqual ∷ f.TimesEqual ∷ f.DivisionEqual ∷ f.ModuloEqual ∷
+    f.AndEqual ∷ f.OrEqual ∷ f.XorEqual ∷ f.ShiftRightAssign ∷ f.ShiftLeftAssign ∷ f.Import ∷ f.Package ∷ f.Super ∷ f.As ∷ []
 
 -- the one that is spelled so
 abbrev pub fixed_of : List ℕ → Option FixedToken

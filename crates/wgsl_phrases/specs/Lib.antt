@@ -1,2 +1,4 @@
 pub mod Languages
+pub mod Sequences
 pub mod Sentences
+pub mod Parsing

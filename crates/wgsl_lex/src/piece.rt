@@ -1,0 +1,12 @@
+//! What stands at the front of some characters.
+
+use wgsl_token::Token;
+
+/// The longest run of characters at the front that is blankspace, a comment or a token.
+#[derive(Debug, Drop)]
+pub(crate) struct Piece {
+    /// How many characters it has.
+    pub(crate) length: usize,
+    /// Its token, unless it is blankspace or a comment.
+    pub(crate) token: Option<Token>,
+}

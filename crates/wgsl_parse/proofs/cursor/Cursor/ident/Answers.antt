@@ -1,0 +1,9 @@
+use Rattle.wgsl_phrases.proofs.Steps.{outcomes, passes}
+use Rattle.wgsl_parse.proofs.Marks.{parses_ident}
+use Rattle.wgsl_parse.proofs.cursor.Cursor.ident.Goals as goal
+
+pub returns-in_err-ident-clause-parses : goal.returns-in_err-ident-clause-parses
+returns-in_err-ident-clause-parses c = passes c.from_residual.ensures.1 (parses_ident (search (outcomes, c.in_err-ident.ensures)))
+
+pub returns-clause-parses : goal.returns-clause-parses
+returns-clause-parses c = parses_ident (search (outcomes, c.in_ok-ident.ensures))

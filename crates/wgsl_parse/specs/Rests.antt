@@ -1,0 +1,70 @@
+-- The rest of a phrase behind the tokens that chose it.
+use Rattle.std.specs.Prelude.{ℕ, List, [], ◌∷◌, ◌++◌, Option, Some, None}
+use Rattle.wgsl_path.specs.declared.span.Span.{Span}
+use Rattle.wgsl_path.specs.declared.span.Spanned.{Spanned}
+use Rattle.wgsl_path.specs.declared.ident.Ident.{Ident}
+use Rattle.wgsl_path.specs.Paths.{across}
+use Rattle.wgsl_token.specs.declared.token.Fixed.TheVariants as f
+use Rattle.wgsl_token.specs.declared.token.SpannedToken.{SpannedToken}
+use Rattle.wgsl_syntax.specs.declared.expression.Expression.{Expression}
+use Rattle.wgsl_syntax.specs.declared.expression.Expression.TheVariants as e
+use Rattle.wgsl_syntax.specs.declared.declaration.FormalParameter.{FormalParameter}
+use Rattle.wgsl_syntax.specs.declared.declaration.GlobalDeclaration.{GlobalDeclaration}
+use Rattle.wgsl_syntax.specs.declared.statement.Statement.{Statement}
+use Rattle.wgsl_syntax.specs.declared.import.ImportStatement.{ImportStatement}
+use Rattle.wgsl_phrases.specs.Languages.{OptionallyListed}
+use Rattle.wgsl_phrases.specs.Sequences.{Then, Done, Either, Chain, Taking}
+use Rattle.wgsl_grammar.specs.Terminals.{IsComma, node, type_named}
+use Rattle.wgsl_grammar.specs.Expressions.{IsSum, IsUnary, IsArguments, negated}
+use Rattle.wgsl_grammar.specs.Declarations.{IsIdent, IsType, IsParameter, parameter_of, IsAnnotation, IsResult, IsValue, IsBody, return_of, constant_of, function_of, import_of}
+use Rattle.wgsl_parse.specs.declared.cursor.Word.{Word}
+use Rattle.wgsl_parse.specs.declared.import.ItemPath.{ItemPath}
+use Rattle.wgsl_parse.specs.Marks.{IsFixed, Mark}
+
+-- behind `(` at a place
+abbrev pub Parenthesized : Span → List SpannedToken → Spanned Expression → Type 0
+Parenthesized p = Then IsSum (λ x. Mark f.ParenRight (λ q. Done (node (e.Parenthesized (record { expression = x })) (across p q))))
+
+-- behind id `(`
+abbrev pub Called : Word → List SpannedToken → Spanned Expression → Type 0
+Called w = Then IsArguments (λ xs. Mark f.ParenRight (λ q. Done (node (e.FunctionCall (record { ty = type_named w.ident.name; arguments = xs })) (across w.span q))))
+
+-- behind id
+abbrev pub Named : Word → List SpannedToken → Spanned Expression → Type 0
+Named w = Either (Done (node (e.TypeOrIdentifier (type_named w.ident.name)) w.span)) (Mark f.ParenLeft (λ p. Called w))
+
+-- behind `-`
+abbrev pub Negated : Span → List SpannedToken → Spanned Expression → Type 0
+Negated s = Then IsUnary (λ x. Done (negated s x))
+
+abbrev pub ParameterRest : List SpannedToken → FormalParameter → Type 0
+ParameterRest = Then IsIdent (λ name. Mark f.Colon (λ c. Then IsType (λ ty. Done (parameter_of name ty))))
+
+-- behind `return`
+abbrev pub ReturnRest : Span → List SpannedToken → Spanned Statement → Type 0
+ReturnRest r = Then IsValue (λ x. Mark f.Semicolon (λ e. Done (return_of r x e)))
+
+-- behind `const`
+abbrev pub ConstantRest : Span → List SpannedToken → Spanned GlobalDeclaration → Type 0
+ConstantRest c = Then IsIdent (λ name. Then IsAnnotation (λ ty. Mark f.Equal (λ e. Then IsSum (λ x. Mark f.Semicolon (λ z. Done (constant_of c name ty x z))))))
+
+-- behind `fn`
+abbrev pub FunctionRest : Span → List SpannedToken → Spanned GlobalDeclaration → Type 0
+FunctionRest n = Then IsIdent (λ name. Mark f.ParenLeft (λ p. Then (OptionallyListed IsParameter IsComma) (λ parameters. Mark f.ParenRight (λ q.
+    Then IsResult (λ ty. Mark f.BraceLeft (λ b. Then IsBody (λ statements. Mark f.BraceRight (λ z. Done (function_of n name parameters ty statements z)))))))))
+
+-- id, as the path of an item
+abbrev pub IsLone : List SpannedToken → ItemPath → Type 0
+IsLone = Then IsIdent (λ x. Done (record { components = []; ident = x }))
+
+-- the path of an item in the module that another path names
+abbrev pub within : Span → ItemPath → ItemPath → ItemPath
+within s l r = record { components = l.components ++ l.ident.name ∷ []; ident = r.ident }
+
+-- id {`::` id}
+abbrev pub IsItemPath : List SpannedToken → ItemPath → Type 0
+IsItemPath = Then IsLone (Chain IsLone (IsFixed f.PathSeparator) within)
+
+-- behind `import`
+abbrev pub ImportRest : List SpannedToken → ImportStatement → Type 0
+ImportRest = Mark f.Package (λ p. Mark f.PathSeparator (λ c. Then IsItemPath (λ x. Mark f.Semicolon (λ z. Done (import_of x.components x.ident.name)))))

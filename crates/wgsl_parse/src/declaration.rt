@@ -1,0 +1,183 @@
+//! Declarations of a module.
+
+ghost use Rattle.std.specs.Prelude.{◌≡◌, [], ◌≤◌, ◌<◌, OnOk, length};
+ghost use Rattle.wgsl_phrases.specs.Languages.{OptionallyListed, Repeated};
+ghost use Rattle.wgsl_phrases.specs.Parsing.{Parses, anything, at_end};
+ghost use Rattle.wgsl_grammar.specs.Terminals.{IsComma};
+ghost use Rattle.wgsl_grammar.specs.Declarations.{IsType, IsParameter, IsAnnotation, IsResult, IsValue, IsBody, IsDeclaration};
+ghost use Rattle.wgsl_parse.specs.Follow.{closes, ends_annotation, ends_result, ends_statement, ends_body};
+ghost use Rattle.wgsl_parse.specs.Rests.{ReturnRest, ConstantRest, FunctionRest};
+
+use crate::cursor::Cursor;
+use crate::expression::{sum, type_named};
+use wgsl_items::Items;
+use wgsl_path::{Span, Spanned};
+use wgsl_phrases::Stop;
+use wgsl_syntax::{
+    CompoundStatementOf, Declaration, DeclarationKind, ExpressionNode, FormalParameter, Function,
+    GlobalDeclaration, GlobalDeclarationNode, ReturnStatement, Statement, StatementNode,
+    TypeExpression,
+};
+use wgsl_token::Fixed;
+
+/// A type: a name.
+fn type_expression(cursor: &mut Cursor<'_>) -> Result<TypeExpression, Stop>
+    ensures shrinks { length cursor.new ≤ length cursor.old }
+{
+    let ident = cursor.ident()?;
+    Ok(type_named(ident))
+}
+
+fn parameter(cursor: &mut Cursor<'_>) -> Result<FormalParameter, Stop>
+    ensures shrinks { length cursor.new ≤ length cursor.old }
+{
+    let ident = cursor.ident()?;
+    cursor.expect(Fixed::Colon)?;
+    let ty = type_expression(cursor)?;
+    Ok(FormalParameter {
+        attributes: Items::new(cursor.alloc()),
+        ident,
+        ty,
+    })
+}
+
+/// The parameters of a function, up to `)`.
+fn parameters(cursor: &mut Cursor<'_>) -> Result<Items<FormalParameter>, Stop>
+    ensures shrinks { length cursor.new ≤ length cursor.old }
+{
+    let mut parameters = Items::new(cursor.alloc());
+    while !cursor.sees(Fixed::ParenRight) {
+        parameters.push(parameter(cursor)?)?;
+        let Some(_comma) = cursor.eat(Fixed::Comma) else {
+            break;
+        };
+    }
+    Ok(parameters)
+}
+
+/// `:` and a type, or nothing.
+fn annotation(cursor: &mut Cursor<'_>) -> Result<Option<TypeExpression>, Stop>
+    ensures shrinks { length cursor.new ≤ length cursor.old }
+{
+    let Some(_colon) = cursor.eat(Fixed::Colon) else {
+        return Ok(None);
+    };
+    let ty = type_expression(cursor)?;
+    Ok(Some(ty))
+}
+
+/// `->` and a type, or nothing.
+fn result_type(cursor: &mut Cursor<'_>) -> Result<Option<TypeExpression>, Stop>
+    ensures shrinks { length cursor.new ≤ length cursor.old }
+{
+    let Some(_arrow) = cursor.eat(Fixed::Arrow) else {
+        return Ok(None);
+    };
+    let ty = type_expression(cursor)?;
+    Ok(Some(ty))
+}
+
+/// Behind `const`, which stands at `first`.
+fn constant(cursor: &mut Cursor<'_>, first: Span) -> Result<GlobalDeclarationNode, Stop>
+    ensures shrinks { length cursor.new ≤ length cursor.old }
+{
+    let ident = cursor.ident()?;
+    let ty = annotation(cursor)?;
+    cursor.expect(Fixed::Equal)?;
+    let value = sum(cursor)?;
+    let last = cursor.expect(Fixed::Semicolon)?;
+    let tree = GlobalDeclaration::Declaration(Declaration {
+        attributes: Items::new(cursor.alloc()),
+        kind: DeclarationKind::Const,
+        ident,
+        ty,
+        initializer: Some(value),
+    });
+    Ok(Spanned::new(cursor.alloc(), tree, first.across(last))?)
+}
+
+/// The value of a `return`, up to `;`.
+fn value(cursor: &mut Cursor<'_>) -> Result<Option<ExpressionNode>, Stop>
+    ensures shrinks { length cursor.new ≤ length cursor.old }
+{
+    if cursor.sees(Fixed::Semicolon) {
+        return Ok(None);
+    }
+    let value = sum(cursor)?;
+    Ok(Some(value))
+}
+
+/// Behind `return`, which stands at `first`.
+fn return_statement(cursor: &mut Cursor<'_>, first: Span) -> Result<StatementNode, Stop>
+    ensures shrinks { length cursor.new ≤ length cursor.old }
+{
+    let expression = value(cursor)?;
+    let last = cursor.expect(Fixed::Semicolon)?;
+    let tree = Statement::Return(ReturnStatement {
+        attributes: Items::new(cursor.alloc()),
+        expression,
+    });
+    Ok(Spanned::new(cursor.alloc(), tree, first.across(last))?)
+}
+
+/// The statements of a function.
+fn body(cursor: &mut Cursor<'_>) -> Result<Items<StatementNode>, Stop>
+    ensures shrinks { length cursor.new ≤ length cursor.old }
+{
+    let mut statements = Items::new(cursor.alloc());
+    let Some(first) = cursor.eat(Fixed::Return) else {
+        return Ok(statements);
+    };
+    let statement = return_statement(cursor, first)?;
+    statements.push(statement)?;
+    Ok(statements)
+}
+
+/// Behind `fn`, which stands at `first`.
+fn function(cursor: &mut Cursor<'_>, first: Span) -> Result<GlobalDeclarationNode, Stop>
+    ensures shrinks { length cursor.new ≤ length cursor.old }
+{
+    let ident = cursor.ident()?;
+    cursor.expect(Fixed::ParenLeft)?;
+    let parameters = parameters(cursor)?;
+    cursor.expect(Fixed::ParenRight)?;
+    let return_type = result_type(cursor)?;
+    cursor.expect(Fixed::BraceLeft)?;
+    let statements = body(cursor)?;
+    let last = cursor.expect(Fixed::BraceRight)?;
+    let body = CompoundStatementOf {
+        attributes: Items::new(cursor.alloc()),
+        statements,
+    };
+    let tree = GlobalDeclaration::Function(Function {
+        attributes: Items::new(cursor.alloc()),
+        ident,
+        parameters,
+        return_attributes: Items::new(cursor.alloc()),
+        return_type,
+        body,
+    });
+    Ok(Spanned::new(cursor.alloc(), tree, first.across(last))?)
+}
+
+fn declaration(cursor: &mut Cursor<'_>) -> Result<GlobalDeclarationNode, Stop>
+    ensures shrinks { OnOk result (length cursor.new < length cursor.old) }
+    ensures within { length cursor.new ≤ length cursor.old }
+{
+    if let Some(first) = cursor.eat(Fixed::Const) {
+        return constant(cursor, first);
+    }
+    let first = cursor.expect(Fixed::Fn)?;
+    function(cursor, first)
+}
+
+/// Declarations up to the end.
+pub fn declarations(cursor: &mut Cursor<'_>) -> Result<Items<GlobalDeclarationNode>, Stop>
+    ensures shrinks { length cursor.new ≤ length cursor.old }
+{
+    let mut declarations = Items::new(cursor.alloc());
+    while cursor.left() != 0 {
+        declarations.push(declaration(cursor)?)?;
+    }
+    Ok(declarations)
+}

@@ -1,0 +1,68 @@
+//! Imports (WESL, "Imports").
+
+ghost use Rattle.std.specs.Prelude.{◌≤◌, length};
+ghost use Rattle.wgsl_phrases.specs.Languages.{Repeated};
+ghost use Rattle.wgsl_phrases.specs.Parsing.{Parses, anything};
+ghost use Rattle.wgsl_grammar.specs.Declarations.{IsImport};
+ghost use Rattle.wgsl_parse.specs.Follow.{ends_path, ends_imports};
+ghost use Rattle.wgsl_parse.specs.Rests.{IsItemPath, ImportRest};
+
+use crate::cursor::Cursor;
+use wgsl_items::{Items, Text};
+use wgsl_path::{Ident, ModulePath, PathOrigin};
+use wgsl_phrases::Stop;
+use wgsl_syntax::{ImportContent, ImportItem, ImportStatement};
+use wgsl_token::Fixed;
+
+/// The path of an item: the names before the last, and the item's own.
+#[derive(Drop)]
+pub struct ItemPath {
+    pub components: Items<Text>,
+    pub ident: Ident,
+}
+
+/// Names with `::` between.
+fn item_path(cursor: &mut Cursor<'_>) -> Result<ItemPath, Stop>
+    ensures shrinks { length cursor.new ≤ length cursor.old }
+{
+    let mut components = Items::new(cursor.alloc());
+    let mut ident = cursor.ident()?;
+    while let Some(_separator) = cursor.eat(Fixed::PathSeparator) {
+        let next = cursor.ident()?;
+        let Ident { name } = ident;
+        components.push(name)?;
+        ident = next;
+    }
+    Ok(ItemPath { components, ident })
+}
+
+/// Behind `import`.
+fn import(cursor: &mut Cursor<'_>) -> Result<ImportStatement, Stop>
+    ensures shrinks { length cursor.new ≤ length cursor.old }
+{
+    cursor.expect(Fixed::Package)?;
+    cursor.expect(Fixed::PathSeparator)?;
+    let path = item_path(cursor)?;
+    cursor.expect(Fixed::Semicolon)?;
+    let ItemPath { components, ident } = path;
+    let item = ImportItem {
+        ident,
+        rename: None,
+    };
+    Ok(ImportStatement {
+        attributes: Items::new(cursor.alloc()),
+        path: Some(ModulePath::new(PathOrigin::Absolute, components)),
+        content: ImportContent::Item(item),
+    })
+}
+
+/// The imports of a module.
+pub fn imports(cursor: &mut Cursor<'_>) -> Result<Items<ImportStatement>, Stop>
+    ensures shrinks { length cursor.new ≤ length cursor.old }
+{
+    let mut imports = Items::new(cursor.alloc());
+    while let Some(_first) = cursor.eat(Fixed::Import) {
+        imports.push(import(cursor)?)?;
+    }
+    Ok(imports)
+}

@@ -1,0 +1,52 @@
+//! Whole modules.
+
+ghost use Rattle.std.specs.Prelude.{◌≡◌, ◌⊎◌, [], ◌≤◌, IfOk, OnOk, Ok, Err, length};
+ghost use Rattle.wgsl_phrases.specs.Parsing.{Parses, at_end};
+ghost use Rattle.wgsl_phrases.specs.Sentences.{IsFaultAt, IsCutShort};
+ghost use Rattle.wgsl_grammar.specs.Declarations.{IsUnit};
+
+use crate::cursor::Cursor;
+use crate::declaration::declarations;
+use crate::import::imports;
+use std::alloc::Global;
+use wgsl_phrases::Stop;
+use wgsl_syntax::TranslationUnit;
+use wgsl_token::SpannedToken;
+
+/// Why tokens are no module.
+#[derive(Clone, Copy, Debug, PartialEq, Eq)]
+pub enum ParseError {
+    /// Memory was refused. This says nothing of the tokens.
+    OutOfMemory,
+    /// The token at this index is the first with which no module goes on.
+    UnexpectedToken(usize),
+    /// The tokens end where some module goes on.
+    UnexpectedEof,
+}
+
+fn translation_unit(cursor: &mut Cursor<'_>) -> Result<TranslationUnit, Stop>
+    ensures shrinks { length cursor.new ≤ length cursor.old }
+{
+    let imports = imports(cursor)?;
+    let global_declarations = declarations(cursor)?;
+    Ok(TranslationUnit {
+        imports,
+        global_declarations,
+    })
+}
+
+/// The module that the tokens are.
+pub fn parse_tokens(alloc: Global, tokens: &[SpannedToken]) -> Result<TranslationUnit, ParseError> {
+    let mut cursor = Cursor::new(alloc, tokens);
+    match translation_unit(&mut cursor) {
+        Ok(unit) => Ok(unit),
+        Err(Stop::Memory) => Err(ParseError::OutOfMemory),
+        Err(Stop::Unexpected) => {
+            let left = cursor.left();
+            if left == 0 {
+                return Err(ParseError::UnexpectedEof);
+            }
+            Err(ParseError::UnexpectedToken(tokens.len() - left))
+        }
+    }
+}
