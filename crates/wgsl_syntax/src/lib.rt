@@ -1,6 +1,7 @@
 //! The syntax trees of WGSL modules with imports.
 #![tactic(auto)]
 
+mod copy;
 mod declaration;
 mod expression;
 mod import;
