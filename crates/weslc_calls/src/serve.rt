@@ -90,6 +90,7 @@ fn status(refusal: &Refusal) -> u8 {
 }
 
 /// What is printed, or `-` where there is nothing.
+#[derive(Drop)]
 struct OrDash<'a, T>(Option<&'a T>);
 
 impl<T: fmt::Display> fmt::Display for OrDash<'_, T> {
