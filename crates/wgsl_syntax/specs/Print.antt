@@ -1,7 +1,8 @@
 -- How a tree is printed (this project's own layout): a line for each import, declaration and statement, four spaces a level,
 -- `, ` in lists, single spaces round the sign of a binary operator, and no parentheses but the tree's own.
-use Rattle.std.specs.Prelude.{ℕ, ◌+◌, ◌*◌, ◌==◌, Bool, true, false, if◌then◌else◌, List, [], ◌∷◌, ◌++◌, Option, Some, None, codes, replicate}
+use Rattle.std.specs.Prelude.{ℕ, ◌+◌, ◌*◌, ◌==◌, Bool, false, if◌then◌else◌, List, [], ◌∷◌, ◌++◌, Option, Some, None, codes, replicate}
 use Rattle.std.specs.List.{flat_map}
+use Rattle.std.specs.Option.{option_map}
 use Rattle.std.specs.Fmt.{decimal, signed_decimal}
 use Rattle.wgsl_operators.specs.Operators.{unary_text, binary_text}
 use Rattle.wgsl_operators.specs.declared.UnaryOperator.{UnaryOperator}
@@ -12,6 +13,8 @@ use Rattle.wgsl_syntax.specs.declared.expression.LiteralExpression.{LiteralExpre
 use Rattle.wgsl_syntax.specs.declared.expression.LiteralExpression.TheVariants.{AbstractInt, I32, U32}
 use Rattle.wgsl_syntax.specs.declared.declaration.DeclarationKind.{DeclarationKind}
 use Rattle.wgsl_syntax.specs.declared.declaration.DeclarationKind.TheVariants.{Const}
+use Rattle.wgsl_syntax.specs.declared.import.ImportContent.{ImportContent}
+use Rattle.wgsl_syntax.specs.declared.import.ImportContent.TheVariants.{Item}
 use Rattle.wgsl_syntax.specs.Tree.{Exp, literal, parenthesized, unary, binary, call, named, Exps, nil, cons, Typ, simple, templated, Attr, fragment, location, Stm, returning, Block, Param, Decl, variable, function, Imp, Unit}
 
 -- a whole number in decimal, with its suffix
@@ -34,10 +37,19 @@ clings _ text = false
 abbrev pub prefixed : UnaryOperator → List ℕ → List ℕ
 prefixed o text = unary_text o ++ (if clings o text then codes " " else []) ++ text
 
+-- parts, with `, ` between them
+abbrev pub commas : {A : Type 0} → (A → List ℕ) → List A → List ℕ
+commas text [] = []
+commas text (x ∷ xs) = text x ++ flat_map (λ y. codes ", " ++ text y) xs
+
 -- what stands before a name: the path of its module and `::`
 abbrev pub qualifier_text : Option ModulePath → List ℕ
 qualifier_text None = []
 qualifier_text (Some path) = path_text path ++ codes "::"
+
+-- template arguments in their brackets
+unfoldable pub angled : List ℕ → List ℕ
+angled text = codes "<" ++ text ++ codes ">"
 
 abbrev mutual
   pub exp_text : Exp → List ℕ
@@ -60,7 +72,11 @@ abbrev mutual
 
   pub typ_text : Typ → List ℕ
   typ_text (simple path name) = qualifier_text path ++ name
-  typ_text (templated path name xs) = qualifier_text path ++ name ++ codes "<" ++ exps_text xs ++ codes ">"
+  typ_text (templated path name xs) = qualifier_text path ++ name ++ angled (exps_text xs)
+
+abbrev pub brackets_text : Option Exps → List ℕ
+brackets_text None = []
+brackets_text (Some xs) = angled (exps_text xs)
 
 abbrev pub attr_text : Attr → List ℕ
 attr_text fragment = codes "@fragment"
@@ -89,13 +105,12 @@ braces_text level (s ∷ ss) = codes "{\n" ++ flat_map (stm_text (level + 1)) (s
 abbrev pub block_text : ℕ → Block → List ℕ
 block_text level block = attrs_text block.attributes ++ braces_text level block.statements
 
+-- the body of a function, to the end of its line
+unfoldable pub body_text : Block → List ℕ
+body_text block = codes " " ++ block_text 0 block ++ codes "\n"
+
 abbrev pub param_text : Param → List ℕ
 param_text p = attrs_text p.attributes ++ p.name ++ codes ": " ++ typ_text p.type
-
--- with `, ` between them
-abbrev pub params_text : List Param → List ℕ
-params_text [] = []
-params_text (p ∷ ps) = param_text p ++ flat_map (λ q. codes ", " ++ param_text q) ps
 
 abbrev pub annotation_text : Option Typ → List ℕ
 annotation_text None = []
@@ -116,13 +131,13 @@ abbrev pub variable_text : List Attr → DeclarationKind → List ℕ → Option
 variable_text attributes kind name type value =
     attrs_text attributes ++ kind_text kind ++ codes " " ++ name ++ (annotation_text type ++ initializer_text value ++ codes ";\n")
 
-abbrev pub head_text : List Attr → List ℕ → List Param → List ℕ
-head_text attributes name params = attrs_text attributes ++ codes "fn " ++ name ++ codes "(" ++ params_text params ++ codes ")"
+unfoldable pub head_text : List Attr → List ℕ → List Param → List ℕ
+head_text attributes name params = attrs_text attributes ++ codes "fn " ++ name ++ codes "(" ++ commas param_text params ++ codes ")"
 
 abbrev pub decl_text : Decl → List ℕ
 decl_text (variable attributes kind name type value) = variable_text attributes kind name type value
 decl_text (function attributes name params result_attributes result block) =
-    head_text attributes name params ++ result_text result_attributes result ++ codes " " ++ block_text 0 block ++ codes "\n"
+    head_text attributes name params ++ result_text result_attributes result ++ body_text block
 
 abbrev pub rename_text : Option (List ℕ) → List ℕ
 rename_text None = []
@@ -131,6 +146,9 @@ rename_text (Some name) = codes " as " ++ name
 -- one item of an import, maybe under another name
 abbrev pub item_text : List ℕ → Option (List ℕ) → List ℕ
 item_text name rename = name ++ rename_text rename
+
+abbrev pub content_text : ImportContent → List ℕ
+content_text (Item x) = item_text x.ident.name (option_map (λ r. r.name) x.rename)
 
 abbrev pub imp_text : Imp → List ℕ
 imp_text i = attrs_text i.attributes ++ codes "import " ++ qualifier_text i.path ++ item_text i.item i.rename ++ codes ";\n"

@@ -41,7 +41,10 @@ fn copied_node(node: &ExpressionNode, alloc: Global) -> Result<ExpressionNode, A
 }
 
 #[cycle(copy)]
-fn copied_nodes(nodes: &[ExpressionNode], alloc: Global) -> Result<Items<ExpressionNode>, AllocError>
+fn copied_nodes(
+    nodes: &[ExpressionNode],
+    alloc: Global,
+) -> Result<Items<ExpressionNode>, AllocError>
     ensures { IfOk result (λ copy. copy ≡ nodes.now) }
 {
     let mut copies = Items::new(alloc);
@@ -88,7 +91,10 @@ fn copied_type(x: &TypeExpression, alloc: Global) -> Result<TypeExpression, Allo
 }
 
 #[cycle(copy)]
-fn copied_arguments(arguments: &[TemplateArg], alloc: Global) -> Result<Items<TemplateArg>, AllocError>
+fn copied_arguments(
+    arguments: &[TemplateArg],
+    alloc: Global,
+) -> Result<Items<TemplateArg>, AllocError>
     ensures { IfOk result (λ copy. copy ≡ arguments.now) }
 {
     let mut copies = Items::new(alloc);
@@ -228,7 +234,9 @@ impl CloneIn for Function {
 impl CloneIn for GlobalDeclaration {
     fn clone_in(&self, alloc: Global) -> Result<GlobalDeclaration, AllocError> {
         match self {
-            GlobalDeclaration::Declaration(x) => Ok(GlobalDeclaration::Declaration(x.clone_in(alloc)?)),
+            GlobalDeclaration::Declaration(x) => Ok(GlobalDeclaration::Declaration(x.clone_in(
+                alloc,
+            )?)),
             GlobalDeclaration::Function(x) => Ok(GlobalDeclaration::Function(x.clone_in(alloc)?)),
         }
     }
