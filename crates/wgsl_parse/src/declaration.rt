@@ -22,6 +22,7 @@ use wgsl_token::Fixed;
 
 /// A type: a name.
 fn type_expression(cursor: &mut Cursor<'_>) -> Result<TypeExpression, Stop>
+    ensures parses { Parses IsType anything cursor.old result cursor.new }
     ensures shrinks { length cursor.new ≤ length cursor.old }
 {
     let ident = cursor.ident()?;
@@ -29,6 +30,7 @@ fn type_expression(cursor: &mut Cursor<'_>) -> Result<TypeExpression, Stop>
 }
 
 fn parameter(cursor: &mut Cursor<'_>) -> Result<FormalParameter, Stop>
+    ensures parses { Parses IsParameter anything cursor.old result cursor.new }
     ensures shrinks { length cursor.new ≤ length cursor.old }
 {
     let ident = cursor.ident()?;
@@ -43,6 +45,7 @@ fn parameter(cursor: &mut Cursor<'_>) -> Result<FormalParameter, Stop>
 
 /// The parameters of a function, up to `)`.
 fn parameters(cursor: &mut Cursor<'_>) -> Result<Items<FormalParameter>, Stop>
+    ensures parses { Parses (OptionallyListed IsParameter IsComma) closes cursor.old result cursor.new }
     ensures shrinks { length cursor.new ≤ length cursor.old }
 {
     let mut parameters = Items::new(cursor.alloc());
@@ -57,6 +60,7 @@ fn parameters(cursor: &mut Cursor<'_>) -> Result<Items<FormalParameter>, Stop>
 
 /// `:` and a type, or nothing.
 fn annotation(cursor: &mut Cursor<'_>) -> Result<Option<TypeExpression>, Stop>
+    ensures parses { Parses IsAnnotation ends_annotation cursor.old result cursor.new }
     ensures shrinks { length cursor.new ≤ length cursor.old }
 {
     let Some(_colon) = cursor.eat(Fixed::Colon) else {
@@ -68,6 +72,7 @@ fn annotation(cursor: &mut Cursor<'_>) -> Result<Option<TypeExpression>, Stop>
 
 /// `->` and a type, or nothing.
 fn result_type(cursor: &mut Cursor<'_>) -> Result<Option<TypeExpression>, Stop>
+    ensures parses { Parses IsResult ends_result cursor.old result cursor.new }
     ensures shrinks { length cursor.new ≤ length cursor.old }
 {
     let Some(_arrow) = cursor.eat(Fixed::Arrow) else {
@@ -79,6 +84,7 @@ fn result_type(cursor: &mut Cursor<'_>) -> Result<Option<TypeExpression>, Stop>
 
 /// Behind `const`, which stands at `first`.
 fn constant(cursor: &mut Cursor<'_>, first: Span) -> Result<GlobalDeclarationNode, Stop>
+    ensures parses { Parses (ConstantRest first) anything cursor.old result cursor.new }
     ensures shrinks { length cursor.new ≤ length cursor.old }
 {
     let ident = cursor.ident()?;
@@ -98,6 +104,7 @@ fn constant(cursor: &mut Cursor<'_>, first: Span) -> Result<GlobalDeclarationNod
 
 /// The value of a `return`, up to `;`.
 fn value(cursor: &mut Cursor<'_>) -> Result<Option<ExpressionNode>, Stop>
+    ensures parses { Parses IsValue ends_statement cursor.old result cursor.new }
     ensures shrinks { length cursor.new ≤ length cursor.old }
 {
     if cursor.sees(Fixed::Semicolon) {
@@ -109,6 +116,7 @@ fn value(cursor: &mut Cursor<'_>) -> Result<Option<ExpressionNode>, Stop>
 
 /// Behind `return`, which stands at `first`.
 fn return_statement(cursor: &mut Cursor<'_>, first: Span) -> Result<StatementNode, Stop>
+    ensures parses { Parses (ReturnRest first) anything cursor.old result cursor.new }
     ensures shrinks { length cursor.new ≤ length cursor.old }
 {
     let expression = value(cursor)?;
@@ -122,6 +130,7 @@ fn return_statement(cursor: &mut Cursor<'_>, first: Span) -> Result<StatementNod
 
 /// The statements of a function.
 fn body(cursor: &mut Cursor<'_>) -> Result<Items<StatementNode>, Stop>
+    ensures parses { Parses IsBody ends_body cursor.old result cursor.new }
     ensures shrinks { length cursor.new ≤ length cursor.old }
 {
     let mut statements = Items::new(cursor.alloc());
@@ -135,6 +144,7 @@ fn body(cursor: &mut Cursor<'_>) -> Result<Items<StatementNode>, Stop>
 
 /// Behind `fn`, which stands at `first`.
 fn function(cursor: &mut Cursor<'_>, first: Span) -> Result<GlobalDeclarationNode, Stop>
+    ensures parses { Parses (FunctionRest first) anything cursor.old result cursor.new }
     ensures shrinks { length cursor.new ≤ length cursor.old }
 {
     let ident = cursor.ident()?;
@@ -161,6 +171,7 @@ fn function(cursor: &mut Cursor<'_>, first: Span) -> Result<GlobalDeclarationNod
 }
 
 fn declaration(cursor: &mut Cursor<'_>) -> Result<GlobalDeclarationNode, Stop>
+    ensures parses { Parses IsDeclaration anything cursor.old result cursor.new }
     ensures shrinks { OnOk result (length cursor.new < length cursor.old) }
     ensures within { length cursor.new ≤ length cursor.old }
 {
@@ -173,6 +184,8 @@ fn declaration(cursor: &mut Cursor<'_>) -> Result<GlobalDeclarationNode, Stop>
 
 /// Declarations up to the end.
 pub fn declarations(cursor: &mut Cursor<'_>) -> Result<Items<GlobalDeclarationNode>, Stop>
+    ensures parses { Parses (Repeated IsDeclaration) at_end cursor.old result cursor.new }
+    ensures all { OnOk result (cursor.new ≡ []) }
     ensures shrinks { length cursor.new ≤ length cursor.old }
 {
     let mut declarations = Items::new(cursor.alloc());

@@ -31,6 +31,7 @@ pub fn type_named(ident: Ident) -> TypeExpression
 /// Behind `(`.
 #[cycle(expression)]
 fn parenthesized(cursor: &mut Cursor<'_>, opening: Span) -> Result<ExpressionNode, Stop>
+    ensures parses { Parses (Parenthesized opening) ends_primary cursor.old result cursor.new }
     ensures shrinks { length cursor.new ≤ length cursor.old }
 {
     let expression = sum(cursor)?;
@@ -42,6 +43,7 @@ fn parenthesized(cursor: &mut Cursor<'_>, opening: Span) -> Result<ExpressionNod
 /// Behind a name.
 #[cycle(expression)]
 fn named(cursor: &mut Cursor<'_>, word: Word) -> Result<ExpressionNode, Stop>
+    ensures parses { Parses (Named word) ends_primary cursor.old result cursor.new }
     ensures shrinks { length cursor.new ≤ length cursor.old }
 {
     let Word { ident, span } = word;
@@ -58,6 +60,7 @@ fn named(cursor: &mut Cursor<'_>, word: Word) -> Result<ExpressionNode, Stop>
 /// The arguments of a call, up to `)`.
 #[cycle(expression)]
 fn arguments(cursor: &mut Cursor<'_>) -> Result<Items<ExpressionNode>, Stop>
+    ensures parses { Parses IsArguments closes cursor.old result cursor.new }
     ensures shrinks { length cursor.new ≤ length cursor.old }
 {
     let mut arguments = Items::new(cursor.alloc());
@@ -72,6 +75,7 @@ fn arguments(cursor: &mut Cursor<'_>) -> Result<Items<ExpressionNode>, Stop>
 
 #[cycle(expression)]
 fn primary(cursor: &mut Cursor<'_>) -> Result<ExpressionNode, Stop>
+    ensures parses { Parses IsPrimary ends_primary cursor.old result cursor.new }
     ensures shrinks { length cursor.new ≤ length cursor.old }
 {
     if let Some(number) = cursor.number() {
@@ -88,6 +92,7 @@ fn primary(cursor: &mut Cursor<'_>) -> Result<ExpressionNode, Stop>
 
 #[cycle(expression)]
 fn unary(cursor: &mut Cursor<'_>) -> Result<ExpressionNode, Stop>
+    ensures parses { Parses IsUnary ends_primary cursor.old result cursor.new }
     ensures shrinks { length cursor.new ≤ length cursor.old }
 {
     let Some(minus) = cursor.eat(Fixed::Minus) else {
@@ -104,6 +109,7 @@ fn unary(cursor: &mut Cursor<'_>) -> Result<ExpressionNode, Stop>
 
 #[cycle(expression)]
 fn product(cursor: &mut Cursor<'_>) -> Result<ExpressionNode, Stop>
+    ensures parses { Parses IsProduct ends_product cursor.old result cursor.new }
     ensures shrinks { length cursor.new ≤ length cursor.old }
 {
     let mut left = unary(cursor)?;
@@ -123,6 +129,7 @@ fn product(cursor: &mut Cursor<'_>) -> Result<ExpressionNode, Stop>
 /// An expression.
 #[cycle(expression)]
 pub fn sum(cursor: &mut Cursor<'_>) -> Result<ExpressionNode, Stop>
+    ensures parses { Parses IsSum ends_sum cursor.old result cursor.new }
     ensures shrinks { length cursor.new ≤ length cursor.old }
 {
     let mut left = product(cursor)?;

@@ -23,6 +23,7 @@ pub struct ItemPath {
 
 /// Names with `::` between.
 fn item_path(cursor: &mut Cursor<'_>) -> Result<ItemPath, Stop>
+    ensures parses { Parses IsItemPath ends_path cursor.old result cursor.new }
     ensures shrinks { length cursor.new ≤ length cursor.old }
 {
     let mut components = Items::new(cursor.alloc());
@@ -38,6 +39,7 @@ fn item_path(cursor: &mut Cursor<'_>) -> Result<ItemPath, Stop>
 
 /// Behind `import`.
 fn import(cursor: &mut Cursor<'_>) -> Result<ImportStatement, Stop>
+    ensures parses { Parses ImportRest anything cursor.old result cursor.new }
     ensures shrinks { length cursor.new ≤ length cursor.old }
 {
     cursor.expect(Fixed::Package)?;
@@ -58,6 +60,7 @@ fn import(cursor: &mut Cursor<'_>) -> Result<ImportStatement, Stop>
 
 /// The imports of a module.
 pub fn imports(cursor: &mut Cursor<'_>) -> Result<Items<ImportStatement>, Stop>
+    ensures parses { Parses (Repeated IsImport) ends_imports cursor.old result cursor.new }
     ensures shrinks { length cursor.new ≤ length cursor.old }
 {
     let mut imports = Items::new(cursor.alloc());

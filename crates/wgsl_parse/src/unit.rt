@@ -25,6 +25,8 @@ pub enum ParseError {
 }
 
 fn translation_unit(cursor: &mut Cursor<'_>) -> Result<TranslationUnit, Stop>
+    ensures parses { Parses IsUnit at_end cursor.old result cursor.new }
+    ensures all { OnOk result (cursor.new ≡ []) }
     ensures shrinks { length cursor.new ≤ length cursor.old }
 {
     let imports = imports(cursor)?;
@@ -36,7 +38,13 @@ fn translation_unit(cursor: &mut Cursor<'_>) -> Result<TranslationUnit, Stop>
 }
 
 /// The module that the tokens are.
-pub fn parse_tokens(alloc: Global, tokens: &[SpannedToken]) -> Result<TranslationUnit, ParseError> {
+pub fn parse_tokens(alloc: Global, tokens: &[SpannedToken]) -> Result<TranslationUnit, ParseError>
+    ensures tree { IfOk result (IsUnit tokens.now) }
+    ensures only { IfOk result (λ unit. (other : _) → IsUnit tokens.now other → other ≡ unit) }
+    ensures complete { (unit : _) → IsUnit tokens.now unit → (result ≡ Ok unit) ⊎ (result ≡ Err ParseError.OutOfMemory) }
+    ensures token { (at : _) → result ≡ Err (ParseError.UnexpectedToken at) → IsFaultAt IsUnit tokens.now at }
+    ensures end { result ≡ Err ParseError.UnexpectedEof → IsCutShort IsUnit tokens.now }
+{
     let mut cursor = Cursor::new(alloc, tokens);
     match translation_unit(&mut cursor) {
         Ok(unit) => Ok(unit),

@@ -434,7 +434,10 @@ follows_anything = record { allowed = λ u v x h may. refl }
 pub inhabited_then : {T A B : Type 0} {G : List T → A → Type 0} {H : A → List T → B → Type 0} → Inhabited G → ((x : A) → Inhabited (H x)) → Inhabited (Then G H)
 inhabited_then g h = record { tokens = g.tokens ++ (h g.value).tokens; value = (h g.value).value; stands = next g.stands (h g.value).stands }
 
-pub ruleset outcomes = (follows_same, follows_anything, inhabited_then, parses_then, stops_then, parses_done, follows_done, inhabited_done)
+pub inhabited_either : {T A : Type 0} {G H : List T → A → Type 0} → Inhabited G → Inhabited (Either G H)
+inhabited_either i = record { tokens = i.tokens; value = i.value; stands = left i.stands }
+
+pub ruleset outcomes = (inhabited_either, follows_same, follows_anything, inhabited_then, parses_then, stops_then, parses_done, follows_done, inhabited_done)
 
 -- repetitions
 
