@@ -1,2 +1,21 @@
-//! To be written.
+//! Linking: what the names of modules denote, what is reached from the names that are kept, and the one unit that holds it.
 #![tactic(auto)]
+
+mod assemble;
+mod clash;
+mod denote;
+mod error;
+mod mangle;
+mod module;
+mod naming;
+mod occurrence;
+mod rename;
+mod resolver;
+mod rounds;
+mod source_map;
+
+pub use error::{ImportError, ResolveError};
+pub use mangle::EscapeMangler;
+pub use resolver::Resolver;
+pub use rounds::{Resolutions, resolve_lazy};
+pub use source_map::{BasicSourceMap, SourceMap};

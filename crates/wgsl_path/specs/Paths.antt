@@ -1,5 +1,6 @@
 -- Places in a text, and paths of modules.
-use Rattle.std.specs.Prelude.{ℕ, zero, suc, List, [], ◌++◌, codes}
+use denote.Ref.{Bor}
+use Rattle.std.specs.Prelude.{ℕ, zero, suc, List, [], ◌++◌, codes, Option, Some, None}
 use Rattle.std.specs.List.{flat_map}
 use Rattle.wgsl_path.specs.declared.span.Span.{Span}
 use Rattle.wgsl_path.specs.declared.ident.Ident.{Ident}
@@ -26,6 +27,15 @@ origin_text (Relative zero) = codes "self"
 origin_text (Relative (suc n)) = codes "super" ++ supers n
 origin_text (Package name) = name
 
+-- how the components of a path are written: each behind `::`
+abbrev pub components_text : List (List ℕ) → List ℕ
+components_text components = flat_map (λ component. codes "::" ++ component) components
+
 -- how a path is written: its origin and its components, with `::` between
 abbrev pub path_text : ModulePath → List ℕ
-path_text path = origin_text path.origin ++ flat_map (λ component. codes "::" ++ component) path.components
+path_text path = origin_text path.origin ++ components_text path.components
+
+-- what stands behind a part of a path's text: nothing, or `::` and the rest
+abbrev pub rest_text : Option (Bor (List ℕ)) → List ℕ
+rest_text None = []
+rest_text (Some rest) = codes "::" ++ rest.now

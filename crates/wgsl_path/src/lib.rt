@@ -3,8 +3,10 @@
 
 mod ident;
 mod path;
+mod reading;
 mod span;
 
 pub use ident::Ident;
 pub use path::{ModulePath, PathOrigin};
+pub use reading::ModulePathParseError;
 pub use span::{Span, Spanned};

@@ -1,0 +1,176 @@
+//! The program: from a bundle to a text or an error line.
+
+use crate::bundle::{BundleError, read_bundle};
+use crate::calls::link;
+use crate::error::{CompileError, Concern};
+use crate::input::{InputError, read_input};
+use std::alloc::Global;
+use std::fmt;
+use std::io;
+use std::io::{Read, Write};
+use wgsl_items::Text;
+use wgsl_parse::{ErrorKind, Span};
+use wgsl_path::ModulePath;
+
+/// Why the program writes no text.
+#[derive(Debug, Drop)]
+enum Refusal {
+    Read,
+    TooLong,
+    Bundle(BundleError),
+    Compile(CompileError),
+    OutOfMemory,
+}
+
+impl From<InputError> for Refusal {
+    fn from(error: InputError) -> Refusal {
+        match error {
+            InputError::Read => Refusal::Read,
+            InputError::TooLong => Refusal::TooLong,
+            InputError::OutOfMemory => Refusal::OutOfMemory,
+        }
+    }
+}
+
+impl From<BundleError> for Refusal {
+    fn from(error: BundleError) -> Refusal {
+        match error {
+            BundleError::OutOfMemory => Refusal::OutOfMemory,
+            error => Refusal::Bundle(error),
+        }
+    }
+}
+
+impl From<CompileError> for Refusal {
+    fn from(error: CompileError) -> Refusal {
+        match error {
+            CompileError::OutOfMemory => Refusal::OutOfMemory,
+            error => Refusal::Compile(error),
+        }
+    }
+}
+
+/// Reads a bundle, and writes the text that it asks for, or one line about its first fault. It gives the program's status: 0
+/// for a text, 1 for a refused call or a write that fails, 2 for what is no bundle or a read that fails.
+pub fn serve_bundle<R: Read, W: Write, E: Write>(
+    alloc: Global,
+    reader: &mut R,
+    writer: &mut W,
+    errors: &mut E,
+) -> u8 {
+    match served(alloc, reader) {
+        Ok(text) => match write_text(writer, text.as_str()) {
+            Ok(()) => 0,
+            Err(_) => 1,
+        },
+        Err(refusal) => match write_refusal(errors, &refusal) {
+            Ok(()) => status(&refusal),
+            Err(_) => 1,
+        },
+    }
+}
+
+fn served<R: Read>(alloc: Global, reader: &mut R) -> Result<String, Refusal> {
+    let bytes = read_input(alloc, reader)?;
+    let mut bundle = read_bundle(alloc, bytes.as_slice())?;
+    let (text, _) = link(alloc, &mut bundle.resolver, &bundle.root, &bundle.options)?;
+    Ok(text)
+}
+
+fn write_text<W: Write>(writer: &mut W, text: &str) -> io::Result<()> {
+    writer.write_all(text.as_bytes())?;
+    writer.flush()
+}
+
+fn status(refusal: &Refusal) -> u8 {
+    match refusal {
+        Refusal::Read | Refusal::TooLong | Refusal::Bundle(_) => 2,
+        Refusal::Compile(_) | Refusal::OutOfMemory => 1,
+    }
+}
+
+/// What is printed, or `-` where there is nothing.
+#[derive(Drop)]
+struct OrDash<'a, T>(Option<&'a T>);
+
+impl<T: fmt::Display> fmt::Display for OrDash<'_, T> {
+    fn fmt<W: fmt::Write>(&self, f: &mut fmt::Formatter<W>) -> fmt::Result {
+        match self.0 {
+            Some(value) => value.fmt(f),
+            None => f.write_str("-"),
+        }
+    }
+}
+
+/// Writes the line about a refusal. It needs no memory.
+fn write_refusal<E: Write>(errors: &mut E, refusal: &Refusal) -> io::Result<()> {
+    match refusal {
+        Refusal::Read => errors.write_all(b"error: Read - - - -\n"),
+        Refusal::TooLong => errors.write_all(b"error: Bundle - - - size\n"),
+        Refusal::OutOfMemory => errors.write_all(b"error: OutOfMemory - - - -\n"),
+        Refusal::Bundle(error) => write_bundle_error(errors, error),
+        Refusal::Compile(error) => write_compile_error(errors, error),
+    }?;
+    errors.flush()
+}
+
+fn write_bundle_error<E: Write>(errors: &mut E, error: &BundleError) -> io::Result<()> {
+    match error {
+        BundleError::NotAnObject => errors.write_all(b"error: Bundle - - - -\n"),
+        BundleError::UnknownKey(key) => writeln!(errors, "error: Bundle - - - {key}"),
+        BundleError::Value(key) => writeln!(errors, "error: Bundle - - - {key}"),
+        BundleError::DuplicateModule(path) => writeln!(errors, "error: DuplicateModule {path} - - -"),
+        BundleError::OutOfMemory => errors.write_all(b"error: OutOfMemory - - - -\n"),
+    }
+}
+
+fn write_compile_error<E: Write>(errors: &mut E, error: &CompileError) -> io::Result<()> {
+    match error {
+        CompileError::TooManyModules(concern) => {
+            errors.write_all(b"error: TooManyModules")?;
+            write_concern(errors, concern, None)
+        }
+        CompileError::Resolve(concern, kind) => {
+            write!(errors, "error: Resolve.{kind}")?;
+            write_concern(errors, concern, None)
+        }
+        CompileError::Syntax(concern, error) => {
+            let kind = syntax_kind(error.kind);
+            write!(errors, "error: Syntax.{kind}")?;
+            write_concern(errors, concern, Some(error.span))
+        }
+        CompileError::Import(concern, kind) => {
+            write!(errors, "error: Import.{kind}")?;
+            write_concern(errors, concern, None)
+        }
+        CompileError::NameClash(concern) => {
+            errors.write_all(b"error: NameClash")?;
+            write_concern(errors, concern, None)
+        }
+        CompileError::OutOfMemory => errors.write_all(b"error: OutOfMemory - - - -\n"),
+    }
+}
+
+fn syntax_kind(kind: ErrorKind) -> &'static str {
+    match kind {
+        ErrorKind::InvalidToken => "InvalidToken",
+        ErrorKind::ReservedWord => "ReservedWord",
+        ErrorKind::UnexpectedToken => "UnexpectedToken",
+        ErrorKind::UnexpectedEof => "UnexpectedEof",
+        ErrorKind::OutOfMemory => "OutOfMemory",
+    }
+}
+
+/// The rest of an error line: module, declaration, place and name.
+fn write_concern<E: Write>(errors: &mut E, concern: &Concern, span: Option<Span>) -> io::Result<()> {
+    let module: OrDash<'_, ModulePath> = OrDash(concern.module.as_ref());
+    let decl: OrDash<'_, Text> = OrDash(concern.decl.as_ref());
+    let name: OrDash<'_, Text> = OrDash(concern.name.as_ref());
+    match span {
+        Some(span) => {
+            let (start, end) = (span.start, span.end);
+            writeln!(errors, " {module} {decl} {start}..{end} {name}")
+        }
+        None => writeln!(errors, " {module} {decl} - {name}"),
+    }
+}
