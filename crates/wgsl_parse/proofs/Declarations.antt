@@ -1,9 +1,7 @@
 -- What each phrase of a declaration comes to, by its first token.
-use Rattle.std.proofs.Common.{ℕ, ◌≡◌, ◌≢◌, ◌∙◌, sym, ap, subst, refl, List, [], ◌∷◌, ◌++◌, append_assoc, append-nil, Option, Some, None, Bool, true, false, ◌&&◌, length, IsTrue, Result, Ok, Err}
+use Rattle.std.proofs.Common.{◌≡◌, ◌≢◌, ◌∙◌, sym, ap, refl, List, [], ◌∷◌, ◌++◌, append-nil, Option, Some, None, Bool, false, ◌&&◌, length, IsTrue, Result, Ok, Err}
 use Rattle.wgsl_path.specs.declared.span.Span.{Span}
 use Rattle.wgsl_path.specs.declared.span.Spanned.{Spanned}
-use Rattle.wgsl_path.specs.declared.ident.Ident.{Ident}
-use Rattle.wgsl_path.specs.Paths.{ident_of}
 use Rattle.wgsl_token.specs.declared.token.Token.{Token}
 use Rattle.wgsl_token.specs.declared.token.Token.TheVariants as t
 use Rattle.wgsl_token.specs.declared.token.Fixed.TheVariants as f
@@ -15,15 +13,15 @@ use Rattle.wgsl_syntax.specs.declared.declaration.FormalParameter.{FormalParamet
 use Rattle.wgsl_syntax.specs.declared.declaration.GlobalDeclaration.{GlobalDeclaration}
 use Rattle.wgsl_phrases.specs.declared.Stop.{Stop}
 use Rattle.wgsl_phrases.specs.declared.Stop.TheVariants.{Unexpected}
-use Rattle.wgsl_phrases.specs.Parsing.{first, Parses, anything}
+use Rattle.wgsl_phrases.specs.Parsing.{first, Parses}
 use Rattle.wgsl_phrases.specs.Parsing.{at_end as at_the_end}
 use Rattle.wgsl_phrases.specs.Languages.{◌⌢◌, OptionallyListed, no_list}
-use Rattle.wgsl_phrases.specs.Sequences.{Taking, taken, Done, done, Then, next, Either, left, right}
+use Rattle.wgsl_phrases.specs.Sequences.{taken, Done, done, Then, next, Either, left, right}
 use Rattle.wgsl_phrases.proofs.Steps.{Inhabited, IsBarred, at_end, some_injective, nowhere, parses_as, parses_done}
 use Rattle.wgsl_grammar.specs.Terminals.{fixed, word, IsComma, type_named}
 use Rattle.wgsl_grammar.specs.Expressions.{IsSum}
 use Rattle.wgsl_grammar.specs.Declarations.{IsIdent, ident, IsType, type, IsParameter, parameter, parameter_of, IsAnnotation, unannotated, annotated, IsResult, no_result, result_of, IsValue, no_value, value, IsBody, empty_body, returns, return_of, IsDeclaration, constant, function}
-use Rattle.wgsl_parse.specs.Marks.{IsFixed, Mark}
+use Rattle.wgsl_parse.specs.Marks.{Mark}
 use Rattle.wgsl_parse.specs.Follow.{is_semicolon, no_call, no_factor, no_term, ends_sum, ends_statement}
 use Rattle.wgsl_parse.specs.Rests.{ParameterRest, ReturnRest, ConstantRest, FunctionRest}
 use Rattle.wgsl_parse.proofs.Marks.{origin, parses_mark}

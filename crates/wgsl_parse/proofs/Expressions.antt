@@ -12,17 +12,16 @@ use Rattle.wgsl_syntax.specs.declared.expression.Expression.TheVariants as e
 use Rattle.wgsl_syntax.specs.declared.expression.LiteralExpression.{LiteralExpression}
 use Rattle.wgsl_phrases.specs.declared.Stop.{Stop}
 use Rattle.wgsl_phrases.specs.declared.Stop.TheVariants.{Unexpected}
-use Rattle.wgsl_phrases.specs.Parsing.{first, Parses, anything}
-use Rattle.wgsl_phrases.specs.Sequences.{Taking, taken, Done, done, Then, next, Either, left, right, Chain, chain_end, link, Listing, no_item, item, Separated, no_separator, separated}
+use Rattle.wgsl_phrases.specs.Parsing.{first, Parses}
+use Rattle.wgsl_phrases.specs.Sequences.{Taking, taken, Done, done, Then, next, left, right, Chain, Listing, no_item, item, Separated, no_separator, separated}
 use Rattle.wgsl_phrases.proofs.Steps.{IsSingle, Inhabited, IsRung, IsBarred, chained_one, chained_more, chain_onto, at_end, some_injective, nowhere, parses_as, parses_done, parses_taking}
 use Rattle.wgsl_grammar.specs.Terminals.{fixed, word, IsComma, literal_of, additive, multiplicative, node, type_named}
 use Rattle.wgsl_grammar.specs.Expressions.{IsPrimary, number, name, call, paren, IsArguments, no_arguments, arguments, IsExpressions, last_expression, last_and_comma, more_expressions, IsUnary, primary, negation, IsProduct, unary, times, IsSum, product, plus, negated, joined}
-use Rattle.wgsl_parse.specs.declared.cursor.Word.{Word}
 use Rattle.wgsl_parse.specs.declared.cursor.Number.{Number}
-use Rattle.wgsl_parse.specs.Marks.{IsFixed, Mark, IsName, IsWord, IsNumber, IsAdditive, IsMultiplicative, name_of}
-use Rattle.wgsl_parse.specs.Follow.{ended_by, before, no_call, no_factor, no_term, is_close, ends_primary, ends_product, ends_sum, closes}
-use Rattle.wgsl_parse.specs.Rests.{Parenthesized, Called, Named, Negated}
-use Rattle.wgsl_parse.proofs.Marks.{origin, single_name, inhabited_word, parses_mark}
+use Rattle.wgsl_parse.specs.Marks.{Mark, IsWord, IsNumber, IsAdditive, IsMultiplicative, name_of}
+use Rattle.wgsl_parse.specs.Follow.{before, no_call, no_factor, no_term, is_close, ends_primary, ends_product, ends_sum, closes}
+use Rattle.wgsl_parse.specs.Rests.{Parenthesized, Named, Negated}
+use Rattle.wgsl_parse.proofs.Marks.{origin, parses_mark}
 
 both_left : (a b : Bool) → IsTrue (a && b) → IsTrue a
 both_left true b h = refl

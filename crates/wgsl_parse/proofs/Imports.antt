@@ -1,26 +1,23 @@
 -- What each phrase of an import comes to.
-use Rattle.std.proofs.Common.{ℕ, ◌≡◌, ◌≢◌, ◌∙◌, sym, ap, subst, refl, List, [], ◌∷◌, ◌++◌, append_assoc, append-nil, Option, Some, None, Bool, true, false, IsTrue, Result, Ok, Err}
+use Rattle.std.proofs.Common.{ℕ, ◌≡◌, ◌≢◌, ◌∙◌, sym, ap, subst, refl, List, [], ◌∷◌, ◌++◌, append_assoc, append-nil, Option, Some, Bool, false, IsTrue, Result, Ok}
 use Rattle.wgsl_path.specs.declared.span.Span.{Span}
 use Rattle.wgsl_path.specs.declared.ident.Ident.{Ident}
 use Rattle.wgsl_path.specs.Paths.{ident_of}
-use Rattle.wgsl_token.specs.declared.token.Token.{Token}
-use Rattle.wgsl_token.specs.declared.token.Token.TheVariants as t
 use Rattle.wgsl_token.specs.declared.token.Fixed.TheVariants as f
 use Rattle.wgsl_token.specs.declared.token.SpannedToken.{SpannedToken}
 use Rattle.wgsl_syntax.specs.declared.import.ImportStatement.{ImportStatement}
 use Rattle.wgsl_phrases.specs.declared.Stop.{Stop}
-use Rattle.wgsl_phrases.specs.Parsing.{first, Parses, anything, reads, faults, memory}
-use Rattle.wgsl_phrases.specs.Languages.{◌⌢◌, Repeated, no_more, again}
-use Rattle.wgsl_phrases.specs.Sequences.{Taking, taken, Done, done, Then, next, Chain, chain_end, link, Run, run_end, run}
-use Rattle.wgsl_phrases.proofs.Steps.{outcomes, Inhabited, Follows, IsRung, IsBarred, at_end, some_injective, parses_as, parses_done, inhabited_then, inhabited_done, chained_one}
+use Rattle.wgsl_phrases.specs.Parsing.{first, Parses, anything}
+use Rattle.wgsl_phrases.specs.Languages.{◌⌢◌}
+use Rattle.wgsl_phrases.specs.Sequences.{taken, Done, done, Then, next, Chain, chain_end, link}
+use Rattle.wgsl_phrases.proofs.Steps.{outcomes, Inhabited, IsRung, IsBarred, at_end, parses_as, chained_one}
 use Rattle.wgsl_grammar.specs.Terminals.{fixed, word}
 use Rattle.wgsl_grammar.specs.Declarations.{IsIdent, ident, IsComponents, no_components, component, IsImport, importing, import_of}
 use Rattle.wgsl_parse.specs.declared.import.ItemPath.{ItemPath}
 use Rattle.wgsl_parse.specs.Marks.{IsFixed, Mark}
-use Rattle.wgsl_parse.specs.Follow.{ended_by, no_separator, no_import, ends_path, ends_imports}
+use Rattle.wgsl_parse.specs.Follow.{ends_path, ends_imports}
 use Rattle.wgsl_parse.specs.Rests.{IsLone, within, IsItemPath, ImportRest}
 use Rattle.wgsl_parse.proofs.Marks.{origin, parses_mark}
-use Rattle.wgsl_parse.proofs.Declarations.{inhabited_ident}
 
 -- paths
 
@@ -122,7 +119,7 @@ import_out : (u : List SpannedToken) (x : ImportStatement) → IsImport u x → 
 unfolding path_of
 import_out u x (importing {u = a} {components = components} {id = id} s z h) =
     let n : Then IsItemPath (λ x. Mark f.Semicolon (λ z. Done (import_of x.components x.ident.name))) ((a ++ word id s ∷ []) ++ fixed f.Semicolon z ∷ []) (import_of components id) =
-        next (path_from h id s) (taken refl done) in
+    next (path_from h id s) (taken refl done) in
     taken refl (taken refl (taken refl (rw (append_assoc a (word id s ∷ []) (fixed f.Semicolon z ∷ [])) at n)))
 
 pub parses_import : {F : Option SpannedToken → Bool} {tokens s1 s2 : List SpannedToken} {p : Span} {r : Result ImportStatement Stop} → tokens ≡ fixed f.Import p ∷ s1

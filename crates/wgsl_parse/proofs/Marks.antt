@@ -1,5 +1,5 @@
 -- Tokens that stand for something: what an answer for one, and for what follows it, comes to.
-use Rattle.std.proofs.Common.{ℕ, ◌≡◌, ◌≢◌, ◌∙◌, sym, ap, subst, refl, List, [], ◌∷◌, Option, Some, None, Bool, true, false, IsTrue, Result, Ok, Err}
+use Rattle.std.proofs.Common.{ℕ, ◌≡◌, ◌≢◌, ◌∙◌, sym, ap, subst, refl, List, [], ◌∷◌, Option, Some, None, Bool, false, IsTrue, Result, Ok, Err}
 use Rattle.wgsl_path.specs.declared.span.Span.{Span}
 use Rattle.wgsl_path.specs.declared.ident.Ident.{Ident}
 use Rattle.wgsl_path.specs.Paths.{ident_of}
@@ -10,7 +10,7 @@ use Rattle.wgsl_token.specs.declared.token.SpannedToken.{SpannedToken}
 use Rattle.wgsl_phrases.specs.declared.Stop.{Stop}
 use Rattle.wgsl_phrases.specs.declared.Stop.TheVariants.{Unexpected}
 use Rattle.wgsl_phrases.specs.Parsing.{first, Parses, anything}
-use Rattle.wgsl_phrases.specs.Sequences.{Taking, taken, Done, done, Then, next, Either, left, right}
+use Rattle.wgsl_phrases.specs.Sequences.{taken, Done, done, Then, next, Either}
 use Rattle.wgsl_phrases.proofs.Steps.{IsSingle, Inhabited, Follows, parses_as, parses_done, parses_taking, refuses_taking, follows_taking, inhabited_taking, parses_absent, parses_present, at_end}
 use Rattle.wgsl_grammar.specs.Terminals.{fixed, word}
 use Rattle.wgsl_grammar.specs.Declarations.{IsIdent, ident}

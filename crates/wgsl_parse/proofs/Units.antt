@@ -1,5 +1,5 @@
 -- Modules as imports and then declarations.
-use Rattle.std.proofs.Common.{◌≡◌, ◌≢◌, ◌∙◌, sym, ap, refl, List, [], ◌∷◌, ◌++◌, append_assoc, append-nil, Option, Some, None, Bool, true, false, IsTrue, Result}
+use Rattle.std.proofs.Common.{refl, List, [], ◌++◌, append_assoc, append-nil, Option, Some, None, Bool, IsTrue, Result}
 use Rattle.wgsl_path.specs.declared.span.Spanned.{Spanned}
 use Rattle.wgsl_token.specs.declared.token.SpannedToken.{SpannedToken}
 use Rattle.wgsl_syntax.specs.declared.declaration.GlobalDeclaration.{GlobalDeclaration}

@@ -1,5 +1,5 @@
 -- Tokens that stand for something.
-use Rattle.std.specs.Prelude.{◌≡◌, ◌≢◌, ℕ, Option, Some, None, List, [], ◌∷◌}
+use Rattle.std.specs.Prelude.{◌≡◌, ◌≢◌, ℕ, Option, Some, None, List, ◌∷◌}
 use Rattle.wgsl_path.specs.declared.span.Span.{Span}
 use Rattle.wgsl_operators.specs.declared.BinaryOperator.{BinaryOperator}
 use Rattle.wgsl_token.specs.declared.token.Token.{Token}

@@ -1,8 +1,7 @@
 -- The rest of a phrase behind the tokens that chose it.
-use Rattle.std.specs.Prelude.{ℕ, List, [], ◌∷◌, ◌++◌, Option, Some, None}
+use Rattle.std.specs.Prelude.{List, [], ◌∷◌, ◌++◌}
 use Rattle.wgsl_path.specs.declared.span.Span.{Span}
 use Rattle.wgsl_path.specs.declared.span.Spanned.{Spanned}
-use Rattle.wgsl_path.specs.declared.ident.Ident.{Ident}
 use Rattle.wgsl_path.specs.Paths.{across}
 use Rattle.wgsl_token.specs.declared.token.Fixed.TheVariants as f
 use Rattle.wgsl_token.specs.declared.token.SpannedToken.{SpannedToken}
@@ -13,7 +12,7 @@ use Rattle.wgsl_syntax.specs.declared.declaration.GlobalDeclaration.{GlobalDecla
 use Rattle.wgsl_syntax.specs.declared.statement.Statement.{Statement}
 use Rattle.wgsl_syntax.specs.declared.import.ImportStatement.{ImportStatement}
 use Rattle.wgsl_phrases.specs.Languages.{OptionallyListed}
-use Rattle.wgsl_phrases.specs.Sequences.{Then, Done, Either, Chain, Taking}
+use Rattle.wgsl_phrases.specs.Sequences.{Then, Done, Either, Chain}
 use Rattle.wgsl_grammar.specs.Terminals.{IsComma, node, type_named}
 use Rattle.wgsl_grammar.specs.Expressions.{IsSum, IsUnary, IsArguments, negated}
 use Rattle.wgsl_grammar.specs.Declarations.{IsIdent, IsType, IsParameter, parameter_of, IsAnnotation, IsResult, IsValue, IsBody, return_of, constant_of, function_of, import_of}

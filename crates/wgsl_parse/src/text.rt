@@ -1,5 +1,11 @@
 //! Texts of modules.
 
+ghost use Rattle.std.specs.Prelude.{◌≡◌, ◌≢◌, ◌⊎◌, ◌<◌, Some, IfOk, IfErr, Ok, Err, length, slice_get};
+ghost use Rattle.wgsl_token.specs.declared.error.ErrorKind.TheVariants as kind;
+ghost use Rattle.wgsl_grammar.specs.Declarations.{IsUnit};
+ghost use Rattle.wgsl_parse.specs.Texts as spec;
+ghost use Rattle.wgsl_parse.specs.Texts.{Derives, IsFaultIn, IsFaultOf};
+
 use crate::unit::{ParseError, parse_tokens};
 use std::alloc::Global;
 use wgsl_lex::lex;
@@ -7,8 +13,10 @@ use wgsl_path::Span;
 use wgsl_syntax::TranslationUnit;
 use wgsl_token::{Error, ErrorKind, Fixed, SpannedToken, Token};
 
-/// The kind of the fault of a text whose first token with which no module goes on is this.
-fn fault_kind(token: &Token) -> ErrorKind {
+/// What kind of fault a token is where no module goes on with it.
+fn fault_kind(token: &Token) -> ErrorKind
+    ensures { result ≡ spec.fault_kind token.now }
+{
     match token {
         Token::Invalid => ErrorKind::InvalidToken,
         Token::Reserved(_) => ErrorKind::ReservedWord,
@@ -19,37 +27,57 @@ fn fault_kind(token: &Token) -> ErrorKind {
     }
 }
 
-/// The fault of a text so long that ends too early.
-fn unexpected_end(length: usize) -> Error {
+/// The token at an index, with which no module goes on, as the fault.
+fn fault_at(tokens: &[SpannedToken], at: usize) -> Error
+    requires { at < length tokens.now }
+    ensures { (k : _) → slice_get tokens.now at ≡ Some k → result ≡ spec.fault_of k }
+{
+    let next = &tokens[at];
+    Error {
+        kind: fault_kind(&next.token),
+        span: next.span,
+    }
+}
+
+/// An end that comes too early, behind so many bytes.
+fn end_at(size: usize) -> Error
+    ensures { result ≡ spec.end_at size }
+{
     Error {
         kind: ErrorKind::UnexpectedEof,
         span: Span {
-            start: length,
-            end: length,
+            start: size,
+            end: size,
         },
     }
 }
 
-/// Memory was refused. It has no place in the text.
-fn out_of_memory() -> Error {
+/// Memory was refused. That has no place in the text.
+fn out_of_memory() -> Error
+    ensures { result ≡ spec.out_of_memory }
+{
     Error {
         kind: ErrorKind::OutOfMemory,
         span: Span { start: 0, end: 0 },
     }
 }
 
-/// The fault of a text so long that has these tokens.
-fn fault(length: usize, tokens: &[SpannedToken], error: ParseError) -> Error {
-    match error {
-        ParseError::OutOfMemory => out_of_memory(),
-        ParseError::UnexpectedEof => unexpected_end(length),
-        ParseError::UnexpectedToken(at) => match tokens.get(at) {
-            Some(next) => Error {
-                kind: fault_kind(&next.token),
-                span: next.span,
-            },
-            None => unexpected_end(length),
-        },
+/// The module that the tokens of a text of so many bytes are, or their fault.
+fn parse_lexed(
+    alloc: Global,
+    size: usize,
+    tokens: &[SpannedToken],
+) -> Result<TranslationUnit, Error>
+    ensures tree { IfOk result (IsUnit tokens.now) }
+    ensures complete { (unit : _) → IsUnit tokens.now unit → (result ≡ Ok unit) ⊎ (result ≡ Err spec.out_of_memory) }
+    ensures fault { IfErr result (λ e. (e ≡ spec.out_of_memory) ⊎ IsFaultIn tokens.now size e) }
+    ensures faulty { (e : _) → IsFaultIn tokens.now size e → (result ≡ Err e) ⊎ (result ≡ Err spec.out_of_memory) }
+{
+    match parse_tokens(alloc, tokens) {
+        Ok(unit) => Ok(unit),
+        Err(ParseError::OutOfMemory) => Err(out_of_memory()),
+        Err(ParseError::UnexpectedEof) => Err(end_at(size)),
+        Err(ParseError::UnexpectedToken(at)) => Err(fault_at(tokens, at)),
     }
 }
 
@@ -61,10 +89,7 @@ pub fn parse_str(alloc: Global, text: &str) -> Result<TranslationUnit, Error> {
     let Ok(tokens) = lex(alloc, text) else {
         return Err(out_of_memory());
     };
-    match parse_tokens(alloc, tokens.as_slice()) {
-        Ok(unit) => Ok(unit),
-        Err(error) => Err(fault(text.len(), tokens.as_slice(), error)),
-    }
+    parse_lexed(alloc, text.len(), tokens.as_slice())
 }
 
 #[cfg(test)]
@@ -142,7 +167,6 @@ mod tests {
 
     #[test]
     fn places(rt: HostRuntime) -> Result<(), Fail> {
-        // 0: const, 10: a, 14: (, 15: -, 16: f, 18: 1, 19: ), 20: ), 21: ;
         let unit = parse_str(rt.alloc(), "const x = a * (-f(1));").map_err(|_| "no module")?;
         assert_eq!(rt; unit.imports.len(), 0);
         let node = unit.global_declarations.get(0).ok_or("no declaration")?;

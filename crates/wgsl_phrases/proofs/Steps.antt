@@ -1,5 +1,5 @@
 -- How the answer of a parser for a phrase follows from the answers for its parts.
-use Rattle.std.proofs.Common.{◌≡◌, ◌≢◌, ◌∙◌, sym, ap, subst, refl, List, [], ◌∷◌, ◌++◌, append_assoc, append-nil, Option, Some, None, Bool, true, false, IsTrue, Result, Ok, Err, IsErrAnd}
+use Rattle.std.proofs.Common.{◌≡◌, ◌≢◌, ◌∙◌, sym, ap, subst, refl, List, [], ◌∷◌, ◌++◌, append_assoc, append-nil, Option, Some, Bool, false, IsTrue, Result, Ok, Err, IsErrAnd}
 use Rattle.wgsl_phrases.specs.declared.Stop.{Stop}
 use Rattle.wgsl_phrases.specs.declared.Stop.TheVariants.{Memory, Unexpected}
 use Rattle.wgsl_phrases.specs.Parsing.{first, Reads, Faults, Parses, reads, faults, memory, anything}
@@ -42,9 +42,6 @@ parses_after {k = k} e (faults p) = faults (record {
 })
 parses_after e memory = memory
 
-first_after : {T A : Type 0} {k : T} {H : List T → A → Type 0} {u : List T} {x : A} → After k H u x → (v : List T) → first (u ++ v) ≡ Some k
-first_after (after h) v = refl
-
 -- some phrase of a language
 pub record Inhabited {T A : Type 0} (G : List T → A → Type 0) : Type 0 where
   pub tokens : List T
@@ -62,11 +59,6 @@ nowhere {s = s} i none = faults (record {
   viable = i.stands;
   only = λ other behind z x f g may eq. none other behind x g may (ap first eq ∙ f);
 })
-
-pub unexpected : {T A : Type 0} {k : T} {H : List T → A → Type 0} {F : Option T → Bool} {s : List T} → Inhabited H → first s ≢ Some k
-    → Parses (After k H) F s (Err Unexpected) s
-unexpected {k = k} i differs = nowhere (record { tokens = k ∷ i.tokens; value = i.value; stands = after i.stands })
-    (λ u v x g may e. differs (sym e ∙ first_after g v))
 
 -- nothing more
 
@@ -86,9 +78,6 @@ parses_done = reads (record {
 -- what stands behind a phrase of G, a phrase of H and then what F allows, is what FG allows
 pub record Follows {T A : Type 0} (FG : Option T → Bool) (H : List T → A → Type 0) (F : Option T → Bool) : Type 0 where
   pub allowed : (u v : List T) (x : A) → H u x → IsTrue (F (first v)) → IsTrue (FG (first (u ++ v)))
-
-pub follows_after : {T A : Type 0} {k : T} {FG F : Option T → Bool} {H : List T → A → Type 0} → IsTrue (FG (Some k)) → Follows FG (After k H) F
-follows_after {FG = FG} may_be = record { allowed = λ u v x h may. rw (first_after h v) may_be }
 
 pub follows_done : {T A : Type 0} {y : A} {FG F : Option T → Bool} → ((t : Option T) → IsTrue (F t) → IsTrue (FG t)) → Follows FG (Done y) F
 follows_done {FG = FG} may_be = record { allowed = λ u v x h may. rw (only_done h).0 (may_be (first v) may) }
@@ -260,15 +249,6 @@ exhausts is = passes is memory
 
 pub inhabited_done : {T A : Type 0} {y : A} → Inhabited {T = T} (Done y)
 inhabited_done {y = y} = record { tokens = []; value = y; stands = done }
-
-pub inhabited_after : {T A : Type 0} {k : T} {H : List T → A → Type 0} → Inhabited H → Inhabited (After k H)
-inhabited_after {k = k} i = record { tokens = k ∷ i.tokens; value = i.value; stands = after i.stands }
-
--- the exit of an `expect`
-pub refuses : {T A : Type 0} {k : T} {H : List T → A → Type 0} {F : Option T → Bool} {s rest : List T} {e : Stop} → Inhabited H → e ≡ Unexpected → rest ≡ s
-    → first s ≢ Some k → Parses (After k H) F s (Err e) rest
-refuses {k = k} {H = H} {F = F} {s = s} {rest = rest} i is same differs =
-    subst (λ e. Parses (After k H) F s (Err e) rest) (sym is) (subst (λ l. Parses (After k H) F s (Err Unexpected) l) (sym same) (unexpected i differs))
 
 -- a token that stands for something
 

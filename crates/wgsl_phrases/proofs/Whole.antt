@@ -1,9 +1,10 @@
 -- From the outcome on all tokens to what holds of them as a sentence.
-use Rattle.std.proofs.Common.{ℕ, ◌+◌, ◌-◌, ◌<◌, ◌≡◌, ◌≢◌, ◌∙◌, sym, ap, subst, refl, arith, List, [], ◌∷◌, ◌++◌, length, take, drop, append_assoc, append-nil, Option, Some, None, Bool, true, false, IsTrue, Result, Ok, Err}
-use Rattle.std.proofs.lemmas.List.{take_at, length-append, take-append-drop}
+use Rattle.std.proofs.Common.{ℕ, ◌+◌, ◌<◌, ◌≤◌, inl, inr, ◌≡◌, ◌≢◌, ◌∙◌, sym, ap, subst, refl, arith, List, [], ◌∷◌, ◌++◌, length, take, drop, append_assoc, append-nil, Option, None, Bool, IsTrue, Ok, Err}
+use Rattle.std.proofs.lemmas.List.{take_at, take-take, length-append, take-append-drop}
+use Rattle.std.proofs.lemmas.Bool.{cases_order}
 use Rattle.wgsl_phrases.specs.declared.Stop.{Stop}
-use Rattle.wgsl_phrases.specs.declared.Stop.TheVariants.{Memory, Unexpected}
-use Rattle.wgsl_phrases.specs.Parsing.{first, Reads, Faults, Parses, reads, faults, memory, at_end}
+use Rattle.wgsl_phrases.specs.declared.Stop.TheVariants.{Unexpected}
+use Rattle.wgsl_phrases.specs.Parsing.{first, Faults, Parses, reads, faults, memory, at_end}
 use Rattle.wgsl_phrases.specs.Sentences.{IsViable, IsFaultAt, IsCutShort}
 use Rattle.wgsl_phrases.proofs.Steps.{append_cancel}
 
@@ -102,3 +103,23 @@ cut_short {G = G} {s = s} {rest = rest} (faults p) none =
 -- what has a fault is no sentence
 pub no_sentence : {T A : Type 0} {G : List T → A → Type 0} {s : List T} {i : ℕ} {x : A} → IsFaultAt G s i → G s x → ⊥
 no_sentence {G = G} {s = s} {i = i} {x = x} p g = p.dead (record { rest = drop (i + 1) s; tree = x; stands = rw (take-append-drop (i + 1) s) g })
+
+-- Tokens have one fault at most.
+
+viable_front : {T A : Type 0} {G : List T → A → Type 0} (u v : List T) → IsViable G (u ++ v) → IsViable G u
+viable_front {G = G} u v p = record { rest = v ++ p.rest; tree = p.tree; stands = subst (λ l. G l p.tree) (append_assoc u v p.rest) p.stands }
+
+viable_before : {T A : Type 0} {G : List T → A → Type 0} (s : List T) (i j : ℕ) → i ≤ j → IsViable G (take j s) → IsViable G (take i s)
+viable_before {G = G} s i j within p =
+    let split : take j s ≡ take i s ++ drop i (take j s) = sym (ap (λ l. l ++ drop i (take j s)) (sym (take-take i j s within)) ∙ take-append-drop i (take j s)) in
+    viable_front (take i s) (drop i (take j s)) (subst (λ l. IsViable G l) split p)
+
+no_later : {T A : Type 0} {G : List T → A → Type 0} {s : List T} {i j : ℕ} → IsFaultAt G s i → IsFaultAt G s j → i < j → ⊥
+no_later {s = s} {i = i} {j = j} p q before = p.dead (viable_before s (i + 1) j (omega arith) q.viable)
+
+pub one_fault : {T A : Type 0} {G : List T → A → Type 0} {s : List T} {i j : ℕ} → IsFaultAt G s i → IsFaultAt G s j → i ≡ j
+one_fault {i = i} {j = j} p q = elim (cases_order i j) [ inl same ↦ same | inr differ ↦ absurd (elim differ [ inl less ↦ no_later p q less | inr more ↦ no_later q p more ]) ]
+
+pub not_short : {T A : Type 0} {G : List T → A → Type 0} {s : List T} {i : ℕ} → IsFaultAt G s i → IsCutShort G s → ⊥
+not_short {G = G} {s = s} {i = i} p q =
+    p.dead (viable_front (take (i + 1) s) (drop (i + 1) s) (subst (λ l. IsViable G l) (sym (take-append-drop (i + 1) s)) q.viable))

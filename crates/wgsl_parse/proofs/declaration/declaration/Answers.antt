@@ -1,7 +1,6 @@
 use Rattle.std.proofs.Common.{sym, ◌∙◌}
-use Rattle.wgsl_phrases.proofs.Steps.{outcomes, passes, exhausts}
-use Rattle.wgsl_parse.proofs.Marks.{marks}
-use Rattle.wgsl_parse.proofs.Declarations.{inhabited, parses_constant, parses_function, no_declaration}
+use Rattle.wgsl_phrases.proofs.Steps.{passes}
+use Rattle.wgsl_parse.proofs.Declarations.{parses_constant, parses_function, no_declaration}
 use Rattle.wgsl_parse.proofs.declaration.declaration.Goals as goal
 
 pub returns-in-Some-clause-parses : goal.returns-in-Some-clause-parses

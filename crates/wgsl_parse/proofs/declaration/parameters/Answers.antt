@@ -1,4 +1,4 @@
-use Rattle.std.proofs.Common.{◌≡◌, Some, refl, ap, ◌∙◌, arith, length}
+use Rattle.std.proofs.Common.{Some, refl, ap, ◌∙◌, arith, length}
 use Rattle.wgsl_phrases.proofs.Steps.{passes, exhausts, parses_listed, parses_item, stops_item, parses_no_item, parses_separated, parses_no_separator}
 use Rattle.wgsl_parse.proofs.Expressions.{not_closed}
 use Rattle.wgsl_parse.proofs.Declarations.{parameter_barred}

@@ -1,5 +1,4 @@
-use Rattle.std.proofs.Common.{refl}
-use Rattle.wgsl_phrases.proofs.Steps.{outcomes, passes, exhausts}
+use Rattle.wgsl_phrases.proofs.Steps.{outcomes, passes}
 use Rattle.wgsl_parse.proofs.Marks.{marks, absent_mark}
 use Rattle.wgsl_parse.proofs.Declarations.{inhabited, parses_result}
 use Rattle.wgsl_parse.proofs.declaration.result_type.Goals as goal

@@ -1,4 +1,3 @@
-use Rattle.std.proofs.Common.{refl}
 use Rattle.wgsl_phrases.proofs.Steps.{outcomes, passes, exhausts}
 use Rattle.wgsl_parse.proofs.Marks.{marks}
 use Rattle.wgsl_parse.proofs.Declarations.{inhabited}

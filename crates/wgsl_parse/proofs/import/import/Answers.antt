@@ -1,5 +1,4 @@
-use Rattle.std.proofs.Common.{refl}
-use Rattle.wgsl_phrases.proofs.Steps.{outcomes, passes, exhausts}
+use Rattle.wgsl_phrases.proofs.Steps.{outcomes, passes}
 use Rattle.wgsl_parse.proofs.Marks.{marks}
 use Rattle.wgsl_parse.proofs.Imports.{inhabited_path}
 use Rattle.wgsl_parse.proofs.import.import.Goals as goal
