@@ -1,7 +1,9 @@
 //! Words (WGSL, "Identifiers", "Keywords" and "Reserved Words").
 
-ghost use Rattle.std.specs.Prelude.{◌≡◌, IfOk};
+ghost use Rattle.std.specs.Prelude.{◌≡◌, ◌∷◌, true, Some, IfOk};
 ghost use Rattle.std.specs.Str.{encode_utf8_all};
+ghost use Rattle.wgsl_lex.specs.Tokens.{is_word, token_form};
+ghost use Rattle.wgsl_lex.specs.Pieces.{IsListed};
 
 use std::alloc::{AllocError, Global};
 use wgsl_items::Text;
@@ -183,28 +185,38 @@ static WORDS: [(&str, Option<Fixed>); 172] = [
     ("yield", None),
 ];
 
-/// The token of a word.
-pub(crate) fn word_token(alloc: Global, word: &[char]) -> Result<Token, AllocError> {
-    if word.len() > 1 && word[0] == '_' && word[1] == '_' {
+/// The token of a word, given by its first character and those behind.
+pub(crate) fn word_token(alloc: Global, first: char, behind: &[char]) -> Result<Token, AllocError>
+    ensures { is_word (first ∷ behind.now) ≡ true → IfOk result (λ token. token_form (first ∷ behind.now) ≡ Some token) }
+{
+    if first == '_' && behind.first().copied() == Some('_') {
         return Ok(Token::Invalid);
     }
-    let text = text_of(alloc, word)?;
-    let spelled = text.as_str();
-    match WORDS.binary_search_by_key(&spelled, |entry| entry.0) {
-        Ok(at) => match WORDS[at].1 {
-            Some(fixed) => Ok(Token::Fixed(fixed)),
-            None => Ok(Token::Reserved(text)),
-        },
-        Err(_) => Ok(Token::Identifier(text)),
+    let text = text_of(alloc, first, behind)?;
+    match listed(text.as_str()) {
+        Some(Some(fixed)) => Ok(Token::Fixed(fixed)),
+        Some(None) => Ok(Token::Reserved(text)),
+        None => Ok(Token::Identifier(text)),
+    }
+}
+
+/// What the table has of a word.
+fn listed(word: &str) -> Option<Option<Fixed>>
+    ensures { IsListed word.now result }
+{
+    match WORDS.binary_search_by_key(&word, |entry| entry.0) {
+        Ok(at) => Some(WORDS[at].1),
+        Err(_) => None,
     }
 }
 
 /// The text that some characters spell.
-fn text_of(alloc: Global, characters: &[char]) -> Result<Text, AllocError>
-    ensures { IfOk result (λ text. text ≡ encode_utf8_all characters.now) }
+fn text_of(alloc: Global, first: char, behind: &[char]) -> Result<Text, AllocError>
+    ensures { IfOk result (λ text. text ≡ encode_utf8_all (first ∷ behind.now)) }
 {
     let mut text = String::new(alloc);
-    for character in characters {
+    text.push(first)?;
+    for character in behind {
         text.push(*character)?;
     }
     Ok(Text::from_string(text))
