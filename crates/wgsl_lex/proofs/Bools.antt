@@ -59,3 +59,7 @@ covered_word true u k r e f = cc
 covered_word false false k r e f = refl
 covered_word false true true r e f = cc
 covered_word false true false r e f = refl
+
+pub neither : (a b : Bool) → (a || b) ≡ false → (a ≡ false) × (b ≡ false)
+neither true b e = cc
+neither false b e = (refl, e)

@@ -9,10 +9,11 @@ use Rattle.unicode_ident.specs.Ident.{is_xid_start, is_xid_continue}
 use Rattle.wgsl_token.specs.declared.token.Token.{Token}
 use Rattle.wgsl_token.specs.declared.token.Token.TheVariants.{Fixed, Invalid}
 use Rattle.wgsl_token.specs.declared.token.Fixed.{Fixed as FixedToken}
+use Rattle.wgsl_lex.specs.declared.piece.Piece.{Piece}
 use Rattle.wgsl_lex.specs.Tokens.{digit_value, is_blank, is_trivia, is_word, is_line_break, is_line_comment_tail, is_block_comment_tail, fixed_of, token_form, form, Form, trivia, token, NoLonger, IsLongest, abstract_token, signed_token, unsigned_token}
 use Rattle.wgsl_lex.specs.Runs.{IsRun, IsLongestRun, IsLongestMagnitude, IsValue, is_no_line_break, begins_with_pair, value_behind}
-use Rattle.wgsl_lex.specs.Pieces.{StandsFirst, trivia_first, token_first, nothing_first, BeginsNothingElse, HasMagnitude, opens_comment, begins_with_continue, spelled_by_two, spelled_by_three, is_mark, goes_on}
-use Rattle.wgsl_lex.proofs.Bools.{and_false, both, covered, covered_word, either, not_both, fails, differs, is_number}
+use Rattle.wgsl_lex.specs.Pieces.{IsCommentAnswer, no_comment, comment, opens_word, StandsFirst, trivia_first, token_first, nothing_first, BeginsNothingElse, HasMagnitude, opens_comment, begins_with_continue, spelled_by_two, spelled_by_three, is_mark, goes_on}
+use Rattle.wgsl_lex.proofs.Bools.{and_false, both, covered, covered_word, either, neither, not_both, fails, differs, is_number}
 use Rattle.wgsl_lex.proofs.Tables.{begins_word, spelled_as}
 use Rattle.wgsl_lex.proofs.Forms.{suffix_token, trivia_form, token_form_is, fixed_form, no_form, no_trivia, no_word}
 use Rattle.wgsl_lex.proofs.Longest.{longest_run, word_longest, blank_longest, line_comment_longest, block_comment_longest}
@@ -26,32 +27,80 @@ one_more c behind n m what e h = let P : ℕ → Type 0 = λ k. IsLongest (take 
 pub blank_first : (c : ℕ) (behind : List ℕ) → is_blank c ≡ true → StandsFirst (c ∷ behind) 1 None
 blank_first c behind blank = trivia_first (blank_longest c behind blank)
 
-pub comment_first : (behind : List ℕ) (n : ℕ) → IsLongest (47 ∷ take n behind) (drop n behind) trivia → StandsFirst (47 ∷ behind) (1 + n) None
-comment_first behind n h = trivia_first (one_more 47 behind n (1 + n) trivia (omega arith) h)
+pub is_the_word : (c : ℕ) (behind : List ℕ) (n : ℕ) → opens_word c behind ≡ true → IsRun is_xid_continue behind n → is_word (c ∷ take n behind) ≡ true
+is_the_word c behind n opens run = whole (take n behind) refl (longest_run is_xid_continue behind n run).passes
+  where
+    first_stays : (cs : List ℕ) → IsRun is_xid_continue cs n → take n cs ≡ [] → begins_with_continue cs ≡ false
+    first_stays [] r e = refl
+    first_stays (d ∷ ds) r e =
+        let none : n ≡ 0 = zero_is n e in
+        ap (λ k. is_xid_continue (get_or (d ∷ ds) k 0)) (sym none) ∙ r.stops (omega arith)
+      where
+        zero_is : (k : ℕ) → take k (d ∷ ds) ≡ [] → k ≡ 0
+        zero_is zero h = refl
+        zero_is (suc k) h = cc
 
-pub word_first : (c : ℕ) (behind word : List ℕ) (n : ℕ) (t : Token) → begins_word c ≡ true → IsRun is_xid_continue behind n → word ≡ take n behind → length word ≡ n → token_form (c ∷ word) ≡ Some t
+    starts : (s u k : Bool) → (s || (u && k)) ≡ true → k ≡ false → s ≡ true
+    starts true u k e f = refl
+    starts false true k e f = absurd (not_both k e f)
+    starts false false k e f = cc
+
+    begins : (s u k : Bool) → (s || (u && k)) ≡ true → (s || u) ≡ true
+    begins true u k e = refl
+    begins false true k e = refl
+    begins false false k e = cc
+
+    whole : (ds : List ℕ) → take n behind ≡ ds → list_all is_xid_continue ds ≡ true → is_word (c ∷ ds) ≡ true
+    whole [] e all = starts (is_xid_start c) (c == 95) (begins_with_continue behind) opens (first_stays behind run e)
+    whole (d ∷ ds) e all = rw (begins (is_xid_start c) (c == 95) (begins_with_continue behind) opens, all)
+
+pub word_begins : (c : ℕ) (cs : List ℕ) → is_word (c ∷ cs) ≡ true → begins_word c ≡ true
+word_begins c [] e = rw e
+word_begins c (d ∷ cs) e = (both (begins_word c) (list_all is_xid_continue (d ∷ cs)) e).0
+
+pub word_first : (c : ℕ) (behind word : List ℕ) (n : ℕ) (t : Token) → is_word (c ∷ word) ≡ true → IsRun is_xid_continue behind n → word ≡ take n behind → length word ≡ n → token_form (c ∷ word) ≡ Some t
     → StandsFirst (c ∷ behind) (1 + length word) (Some t)
 word_first c behind word n t begins run w size e =
-    token_first (one_more c behind n (1 + length word) (token t) (omega arith) (word_longest c (take n behind) (drop n behind) t begins (longest_run is_xid_continue behind n run) (ap (λ x. token_form (c ∷ x)) (sym w) ∙ e)))
+    token_first (one_more c behind n (1 + length word) (token t) (omega arith) (word_longest c (take n behind) (drop n behind) t (word_begins c word begins) (longest_run is_xid_continue behind n run) (ap (λ x. token_form (c ∷ x)) (sym w) ∙ e)))
 
 -- Comments
 
-pub line_answer : (behind tail : List ℕ) (n : ℕ) → behind ≡ 47 ∷ tail → IsRun is_no_line_break tail n → (1 + n ≤ length behind) × IsLongest (47 ∷ take (1 + n) behind) (drop (1 + n) behind) trivia
-line_answer behind tail n e run =
-    let size : length behind ≡ length tail + 1 = ap length e ∙ sym (add-one (length tail)) in
-    let P : List ℕ → Type 0 = λ b. IsLongest (47 ∷ take (1 + n) b) (drop (1 + n) b) trivia in
-    let Q : ℕ → Type 0 = λ m. IsLongest (47 ∷ take m (47 ∷ tail)) (drop m (47 ∷ tail)) trivia in
-    let n' : suc n ≡ 1 + n = omega arith in
-    (omega (arith, run.within), subst P (sym e) (subst Q n' (line_comment_longest (take n tail) (drop n tail) (longest_run is_no_line_break tail n run))))
+pub line_answer : (c d : ℕ) (behind tail : List ℕ) (n : ℕ) → c ≡ 47 → behind ≡ d ∷ tail → d ≡ 47 → IsRun is_no_line_break tail n → IsCommentAnswer c behind (Some (2 + n))
+line_answer c d behind tail n slash b other run =
+    let whole : 47 ∷ 47 ∷ tail ≡ c ∷ behind = (λ i. sym slash i ∷ (ap (λ x. x ∷ tail) (sym other) ∙ sym b) i) in
+    let P : List ℕ → Type 0 = λ xs. StandsFirst xs (2 + n) None in
+    let size : length behind ≡ length tail + 1 = ap length b ∙ sym (add-one (length tail)) in
+    comment (omega (arith, run.within)) (subst P whole (trivia_first (one_more 47 (47 ∷ tail) (suc n) (2 + n) trivia (omega arith) (line_comment_longest (take n tail) (drop n tail) (longest_run is_no_line_break tail n run)))))
 
-pub block_answer : (behind tail : List ℕ) (n : ℕ) → behind ≡ 42 ∷ tail → n ≤ length tail → IsLongestRun (is_block_comment_tail 1) (take n tail) (drop n tail)
-    → (1 + n ≤ length behind) × IsLongest (47 ∷ take (1 + n) behind) (drop (1 + n) behind) trivia
-block_answer behind tail n e within run =
-    let size : length behind ≡ length tail + 1 = ap length e ∙ sym (add-one (length tail)) in
-    let P : List ℕ → Type 0 = λ b. IsLongest (47 ∷ take (1 + n) b) (drop (1 + n) b) trivia in
-    let Q : ℕ → Type 0 = λ m. IsLongest (47 ∷ take m (42 ∷ tail)) (drop m (42 ∷ tail)) trivia in
-    let n' : suc n ≡ 1 + n = omega arith in
-    (omega arith, subst P (sym e) (subst Q n' (block_comment_longest (take n tail) (drop n tail) run)))
+pub block_answer : (c d : ℕ) (behind tail : List ℕ) (n : ℕ) → c ≡ 47 → behind ≡ d ∷ tail → d ≡ 42 → n ≤ length tail → IsLongestRun (is_block_comment_tail 1) (take n tail) (drop n tail)
+    → IsCommentAnswer c behind (Some (2 + n))
+block_answer c d behind tail n slash b other within run =
+    let whole : 47 ∷ 42 ∷ tail ≡ c ∷ behind = (λ i. sym slash i ∷ (ap (λ x. x ∷ tail) (sym other) ∙ sym b) i) in
+    let P : List ℕ → Type 0 = λ xs. StandsFirst xs (2 + n) None in
+    let size : length behind ≡ length tail + 1 = ap length b ∙ sym (add-one (length tail)) in
+    comment (omega arith) (subst P whole (trivia_first (one_more 47 (42 ∷ tail) (suc n) (2 + n) trivia (omega arith) (block_comment_longest (take n tail) (drop n tail) run))))
+
+pub comment_stands : (c : ℕ) (behind : List ℕ) (n : ℕ) → IsCommentAnswer c behind (Some n) → (n ≤ length behind + 1) × StandsFirst (c ∷ behind) n None
+comment_stands c behind n (comment within stands) = (within, stands)
+
+pub no_comment_opens : (c : ℕ) (behind : List ℕ) → IsCommentAnswer c behind None → ((c == 47) && opens_comment behind) ≡ false
+no_comment_opens c behind (no_comment none) = none
+
+pub no_slash : (c : ℕ) (behind : List ℕ) → (c ≡ 47 → ⊥) → IsCommentAnswer c behind None
+no_slash c behind other = let h : (c == 47) ≡ false = fails _ (λ e. other (is_number c 47 e)) in no_comment (rw h)
+
+pub slash_alone : (c : ℕ) (behind : List ℕ) → opens_comment behind ≡ false → IsCommentAnswer c behind None
+slash_alone c behind h = no_comment (rw h (and_false (c == 47)))
+
+pub empty_alone : (c : ℕ) (behind : List ℕ) (r : Option ℕ) → length behind ≡ 0 → r ≡ None → IsCommentAnswer c behind r
+empty_alone c [] r e none = let P : Option ℕ → Type 0 = λ o. IsCommentAnswer c [] o in subst P (sym none) (slash_alone c [] refl)
+empty_alone c (d ∷ ds) r e none = absurd (omega arith)
+
+pub no_second : (c d : ℕ) (behind tail : List ℕ) → behind ≡ d ∷ tail → (d ≡ 47 → ⊥) → (d ≡ 42 → ⊥) → IsCommentAnswer c behind None
+no_second c d behind tail b h k =
+    let h' : (d == 47) ≡ false = fails _ (λ e. h (is_number d 47 e)) in
+    let k' : (d == 42) ≡ false = fails _ (λ e. k (is_number d 42 e)) in
+    slash_alone c behind (ap opens_comment b ∙ rw (h', k'))
 
 pub pair_is : (cs : List ℕ) (c d x y : ℕ) → 2 ≤ length cs → x ≡ get_or cs 0 x → y ≡ get_or cs 1 y → ((x == c) && (y == d)) ≡ begins_with_pair c d cs
 pair_is [] c d x y h e f = absurd (omega arith)
@@ -122,7 +171,7 @@ begins_two c d (x ∷ y ∷ xs) e =
     (xs, (λ i. h0 i ∷ h1 i ∷ xs))
 
 pub starts_open : (behind : List ℕ) → IsOpen behind 0 1
-starts_open behind = record { within = omega arith; shallow = omega arith; goes_on = λ more rest e. refl; }
+starts_open behind = record { within = omega arith; shallow = omega arith; goes_on = λ more rest e. refl }
 
 pub closes_one : (behind rest : List ℕ) (at depth : ℕ) → IsOpen behind at depth → 0 < depth → rest ≡ drop at behind → begins_with_pair 42 47 rest ≡ true → IsOpen behind (at + 2) (depth - 1)
 closes_one behind rest at depth still positive r e =
@@ -162,6 +211,7 @@ ends_open behind at depth still why = record {
     ended : (n : ℕ) → is_block_comment_tail n [] ≡ true
     ended zero = refl
     ended (suc n) = refl
+
     closed : ((depth ≡ 0) ⊎ (length behind ≤ at)) → (more rest : List ℕ) → more ≢ [] → drop at behind ≡ more ++ rest → is_block_comment_tail depth more ≡ false
     closed w [] rest nonempty e = absurd (nonempty refl)
     closed (inl none) (c ∷ more) rest nonempty e = ap (λ n. is_block_comment_tail n (c ∷ more)) none
@@ -175,7 +225,7 @@ decimal_has c behind digits n word digit nonzero run d size value =
     let other : (c == 48) ≡ false = fails _ (λ same. nonzero (is_number c 48 same)) in
     let first : 0 * 10 + digit_value c ≡ digit_value c = omega arith in
     let runs = longest_run is_ascii_digit behind n run in
-    let whole : IsLongestRun (list_all is_ascii_digit) (c ∷ take n behind) (drop n behind) = record { passes = rw (digit, runs.passes); longest = λ more rest nonempty e. rw (digit, runs.longest more rest nonempty e); } in
+    let whole : IsLongestRun (list_all is_ascii_digit) (c ∷ take n behind) (drop n behind) = record { passes = rw (digit, runs.passes); longest = λ more rest nonempty e. rw (digit, runs.longest more rest nonempty e) } in
     let P : ℕ → Type 0 = λ k. HasMagnitude c behind k word in
     let V : ℕ → Type 0 = λ v. IsValue word v in
     subst P (sym size) (record {
@@ -185,7 +235,7 @@ decimal_has c behind digits n word digit nonzero run d size value =
     })
 
 pub zero_has : (behind : List ℕ) → goes_on behind ≡ false → HasMagnitude 48 behind 0 (Some 0)
-zero_has behind ended = record { value = 0; longest = zero_longest behind ended; is_value = refl; }
+zero_has behind ended = record { value = 0; longest = zero_longest behind ended; is_value = refl }
 
 pub hexadecimal_has : (x : ℕ) (behind tail digits : List ℕ) (n : ℕ) (word : Option ℕ) → behind ≡ x ∷ tail → is_mark x ≡ true → IsRun is_ascii_hexdigit tail n → digits ≡ take n tail → length digits ≡ n
     → 0 < n → IsValue word (value_behind 16 0 digits) → HasMagnitude 48 behind (1 + length digits) word
@@ -215,22 +265,23 @@ mark_alone x behind tail digits n b run d size none = ap goes_on b ∙ alone tai
         let here : is_ascii_hexdigit c ≡ false = ap (λ k. is_ascii_hexdigit (get_or (c ∷ cs) k 0)) (sym zeroth) ∙ stop in
         rw here (and_false (is_mark x))
 
-pub no_mark : (x : ℕ) (behind tail : List ℕ) → behind ≡ x ∷ tail → (x ≡ 120 → ⊥) → (x ≡ 88 → ⊥) → goes_on behind ≡ false
-no_mark x behind tail b h k = ap goes_on b ∙ unmarked tail
+pub no_mark : (x : ℕ) (behind tail : List ℕ) → behind ≡ x ∷ tail → is_mark x ≡ false → goes_on behind ≡ false
+no_mark x behind tail b h = ap goes_on b ∙ unmarked tail
   where
-    small : (x == 120) ≡ false
-    small = fails _ (λ e. h (is_number x 120 e))
-    large : (x == 88) ≡ false
-    large = fails _ (λ e. k (is_number x 88 e))
     unmarked : (cs : List ℕ) → goes_on (x ∷ cs) ≡ false
     unmarked [] = refl
-    unmarked (c ∷ cs) = rw (small, large)
+    unmarked (c ∷ cs) = rw h
 
 -- the character at an index, if there is one
 at_index : (cs : List ℕ) (n s : ℕ) → slice_get cs n ≡ Some s → drop n cs ≡ s ∷ drop (suc n) cs
 at_index [] n s e = cc
 at_index (c ∷ cs) zero s e = let same : c ≡ s = cc in ap (λ x. x ∷ cs) same
 at_index (c ∷ cs) (suc n) s e = at_index cs n s e
+
+pub get_within : (cs : List ℕ) (n s : ℕ) → slice_get cs n ≡ Some s → n < length cs
+get_within [] n s e = cc
+get_within (c ∷ cs) zero s e = omega arith
+get_within (c ∷ cs) (suc n) s e = let h = get_within cs n s e in omega arith
 
 at_front : (cs : List ℕ) (d : ℕ) (ds : List ℕ) → cs ≡ d ∷ ds → slice_get cs 0 ≡ Some d
 at_front cs d ds e = ap (λ xs. slice_get xs 0) e
@@ -275,6 +326,12 @@ plain_first c behind n word t digit has not_i not_u is =
 -- Symbols
 
 module _ (c : ℕ) (behind : List ℕ) (plain : BeginsNothingElse c behind) where
+  pub starts : is_xid_start c ≡ false
+  starts = (neither (is_xid_start c) ((c == 95) && begins_with_continue behind) plain.word).0
+
+  underscore : ((c == 95) && begins_with_continue behind) ≡ false
+  underscore = (neither (is_xid_start c) ((c == 95) && begins_with_continue behind) plain.word).1
+
   trivial : (ds rest : List ℕ) → behind ≡ ds ++ rest → is_trivia (c ∷ ds) ≡ false
   trivial [] rest e = plain.blank
   trivial (d ∷ ds) rest e =
@@ -285,14 +342,14 @@ module _ (c : ℕ) (behind : List ℕ) (plain : BeginsNothingElse c behind) wher
   more_form [] rest nonempty e fixed = absurd (nonempty refl)
   more_form (d ∷ ds) rest nonempty e fixed =
       no_form c (d ∷ ds) (trivial (d ∷ ds) rest e) fixed
-      (covered_word (is_xid_start c) (c == 95) (is_xid_continue d) (list_all is_xid_continue ds) plain.starts (ap (λ xs. (c == 95) && begins_with_continue xs) (sym e) ∙ plain.word)) plain.digit
+      (covered_word (is_xid_start c) (c == 95) (is_xid_continue d) (list_all is_xid_continue ds) starts (ap (λ xs. (c == 95) && begins_with_continue xs) (sym e) ∙ underscore)) plain.digit
 
   fixed_is : (ds rest : List ℕ) (fixed : FixedToken) → behind ≡ ds ++ rest → fixed_of (c ∷ ds) ≡ Some fixed → form (c ∷ ds) ≡ Some (token (Fixed fixed))
   fixed_is ds rest fixed e f = fixed_form (c ∷ ds) fixed (trivial ds rest e) f
 
   -- three are no fixed token with more
   past_three : (d e g : ℕ) (ms rest : List ℕ) → behind ≡ d ∷ e ∷ g ∷ (ms ++ rest) → form (c ∷ d ∷ e ∷ g ∷ ms) ≡ None
-  past_three d e g ms rest is = more_form (d ∷ e ∷ g ∷ ms) rest (λ n. cc) is (four_is_none c d e g ms plain.starts)
+  past_three d e g ms rest is = more_form (d ∷ e ∷ g ∷ ms) rest (λ n. cc) is (four_is_none c d e g ms starts)
 
   past_two_fixed : (d e : ℕ) (ms rest : List ℕ) → spelled_by_three c behind ≡ None → behind ≡ d ∷ e ∷ (ms ++ rest) → form (c ∷ d ∷ e ∷ ms) ≡ None
   past_two_fixed d e [] rest none is = more_form (d ∷ e ∷ []) rest (λ n. cc) is (ap (spelled_by_three c) (sym is) ∙ none)
@@ -307,21 +364,21 @@ module _ (c : ℕ) (behind : List ℕ) (plain : BeginsNothingElse c behind) wher
   alone none nor (d ∷ ms) rest nonempty is = past_one_fixed d ms rest none nor is
 
   pub one_first : (fixed : FixedToken) → spelled_by_three c behind ≡ None → spelled_by_two c behind ≡ None → fixed_of (c ∷ []) ≡ Some fixed → StandsFirst (c ∷ behind) 1 (Some (Fixed fixed))
-  one_first fixed none nor f = token_first (record { is = fixed_is [] behind fixed refl f; longest = alone none nor; })
+  one_first fixed none nor f = token_first (record { is = fixed_is [] behind fixed refl f; longest = alone none nor })
 
   pub none_first : spelled_by_three c behind ≡ None → spelled_by_two c behind ≡ None → fixed_of (c ∷ []) ≡ None → StandsFirst (c ∷ behind) 1 (Some Invalid)
-  none_first none nor f = nothing_first refl (no_form c [] plain.blank f plain.starts plain.digit) (alone none nor)
+  none_first none nor f = nothing_first refl (no_form c [] plain.blank f starts plain.digit) (alone none nor)
 
 two_longest : (c d : ℕ) (ds : List ℕ) (plain : BeginsNothingElse c (d ∷ ds)) (fixed : FixedToken) → spelled_by_three c (d ∷ ds) ≡ None → fixed_of (c ∷ d ∷ []) ≡ Some fixed
     → IsLongest (c ∷ d ∷ []) ds (token (Fixed fixed))
-two_longest c d ds plain fixed none f = record { is = fixed_is c (d ∷ ds) plain (d ∷ []) ds fixed refl f; longest = stops; }
+two_longest c d ds plain fixed none f = record { is = fixed_is c (d ∷ ds) plain (d ∷ []) ds fixed refl f; longest = stops }
   where
     stops : NoLonger (c ∷ d ∷ []) ds
     stops [] rest nonempty is = absurd (nonempty refl)
     stops (e ∷ ms) rest nonempty is = past_two_fixed c (d ∷ ds) plain d e ms rest none (ap (λ xs. d ∷ xs) is)
 
 three_longest : (c d e : ℕ) (ds : List ℕ) (plain : BeginsNothingElse c (d ∷ e ∷ ds)) (fixed : FixedToken) → fixed_of (c ∷ d ∷ e ∷ []) ≡ Some fixed → IsLongest (c ∷ d ∷ e ∷ []) ds (token (Fixed fixed))
-three_longest c d e ds plain fixed f = record { is = fixed_is c (d ∷ e ∷ ds) plain (d ∷ e ∷ []) ds fixed refl f; longest = stops; }
+three_longest c d e ds plain fixed f = record { is = fixed_is c (d ∷ e ∷ ds) plain (d ∷ e ∷ []) ds fixed refl f; longest = stops }
   where
     stops : NoLonger (c ∷ d ∷ e ∷ []) ds
     stops [] rest nonempty is = absurd (nonempty refl)
@@ -335,3 +392,15 @@ pub three_first : (c : ℕ) (behind : List ℕ) → BeginsNothingElse c behind �
 three_first c [] plain fixed f = cc
 three_first c (d ∷ []) plain fixed f = cc
 three_first c (d ∷ e ∷ ds) plain fixed f = token_first (three_longest c d e ds plain fixed f)
+
+pub spelled_two : (c d : ℕ) (cs : List ℕ) → Some d ≡ slice_get cs 0 → fixed_of (c ∷ d ∷ []) ≡ spelled_by_two c cs
+spelled_two c d [] h = cc
+spelled_two c d (a ∷ cs) h = let same : d ≡ a = cc in ap (λ x. fixed_of (c ∷ x ∷ [])) same
+
+pub spelled_three : (c d e : ℕ) (cs : List ℕ) → Some d ≡ slice_get cs 0 → true ≡ nat_lt 1 (length cs) → e ≡ get_or cs 1 e → fixed_of (c ∷ d ∷ e ∷ []) ≡ spelled_by_three c cs
+spelled_three c d e [] h within k = cc
+spelled_three c d e (a ∷ []) h within k = cc
+spelled_three c d e (a ∷ b ∷ cs) h within k = let same : d ≡ a = cc in (λ i. fixed_of (c ∷ same i ∷ k i ∷ []))
+
+pub piece_stands : (cs : List ℕ) (n : ℕ) (t : Option Token) (piece : Piece) → piece ≡ record { length = n; token = t } → StandsFirst cs n t → StandsFirst cs piece.length piece.token
+piece_stands cs n t piece e h = let P : Piece → Type 0 = λ p. StandsFirst cs p.length p.token in subst P (sym e) h

@@ -1,6 +1,6 @@
 -- Whole numbers.
 use Rattle.std.specs.Prelude.{◌≢◌, not, Option, Some, None, MatchOption, nat_le, fold, if◌then◌else◌}
-use Rattle.std.proofs.Common.{◌≡◌, ℕ, zero, suc, ◌+◌, ◌-◌, ◌*◌, ◌<◌, ◌≤◌, Bool, true, false, cond, ◌&&◌, ◌||◌, ◌==◌, ◌⊎◌, inl, inr, List, [], ◌∷◌, ◌++◌, length, take, drop, get_or, refl, sym, ◌∙◌, ap, subst, arith, append_assoc, append-nil}
+use Rattle.std.proofs.Common.{◌≡◌, ℕ, zero, suc, ◌+◌, ◌-◌, ◌*◌, ◌^◌, ◌<◌, ◌≤◌, Bool, true, false, cond, ◌&&◌, ◌||◌, ◌==◌, ◌⊎◌, inl, inr, List, [], ◌∷◌, ◌++◌, length, take, drop, get_or, refl, sym, ◌∙◌, ap, subst, arith, append_assoc, append-nil}
 use Rattle.std.specs.Option.{option_map, option_or}
 use Rattle.std.specs.List.{list_all, list_any}
 use Rattle.std.specs.Char.{is_ascii_digit, is_ascii_hexdigit}
@@ -8,7 +8,7 @@ use Rattle.std.proofs.lemmas.List.{take_more, take-append-drop}
 use Rattle.std.proofs.Math.Nat.{le-mul_of_pos_right}
 use Rattle.wgsl_token.specs.declared.token.Token.{Token}
 use Rattle.wgsl_lex.specs.Tokens.{magnitude, zero_led_value, digit_value, digits_value, abstract_token, signed_token, unsigned_token, number_token, form, Form, token, NoLonger, IsLongest}
-use Rattle.wgsl_lex.specs.Runs.{IsLongestRun, IsLongestMagnitude, value_behind}
+use Rattle.wgsl_lex.specs.Runs.{IsLongestRun, IsLongestMagnitude, IsValue, value_behind}
 use Rattle.wgsl_lex.specs.Pieces.{is_mark, goes_on}
 use Rattle.wgsl_lex.proofs.Bools.{and_false, both, either, not_both, fails, differs, is_number}
 use Rattle.wgsl_lex.proofs.Forms.{Ends, ends, nothing, last, suffix_token, suffix_of_none, number_token-append, digit_form}
@@ -114,3 +114,13 @@ value_within base n cs i h =
     ap (value_behind base n) (sym (take-append-drop i cs)) ∙ value_from base n (take i cs) (drop i cs)
     in
     omega (arith, value_grows base (value_behind base n (take i cs)) (drop i cs) h)
+
+-- where a step leaves 64 bits, the whole does
+pub value_past : (base n : ℕ) (cs : List ℕ) (i x w : ℕ) (r : Option ℕ) → w ≡ value_behind base n (take i cs) → i < length cs → x ≡ get_or cs i x → 1 ≤ base → (w * base + digit_value x < 2 ^ 64 → ⊥) → r ≡ None
+    → IsValue r (value_behind base n cs)
+value_past base n cs i x w r so_far within is b past none =
+    let step : value_behind base n (take (i + 1) cs) ≡ w * base + digit_value x = value_more base n cs i x within is ∙ ap (λ v. v * base + digit_value x) (sym so_far) in
+    let whole : value_behind base n (take (i + 1) cs) ≤ value_behind base n cs = value_within base n cs (i + 1) b in
+    let large : 2 ^ 64 ≤ value_behind base n cs = omega arith in
+    let P : Option ℕ → Type 0 = λ o. IsValue o (value_behind base n cs) in
+    subst P (sym none) large

@@ -22,10 +22,10 @@ record Front (cs rest : List ℕ) (what : Option Form) : Type 0 where
   alone : what ≡ None → (c : ℕ) × (cs ≡ c ∷ [])
 
 longest_front : (cs rest : List ℕ) (what : Form) → IsLongest cs rest what → Front cs rest (Some what)
-longest_front cs rest what h = record { is = h.is; longest = h.longest; some = λ e. let none : form cs ≡ None = ap form e ∙ no_empty_form in let some = h.is in cc; alone = λ e. cc; }
+longest_front cs rest what h = record { is = h.is; longest = h.longest; some = λ e. let none : form cs ≡ None = ap form e ∙ no_empty_form in let some = h.is in cc; alone = λ e. cc }
 
 nothing_front : (c : ℕ) (rest : List ℕ) → form (c ∷ []) ≡ None → NoLonger (c ∷ []) rest → Front (c ∷ []) rest None
-nothing_front c rest is longest = record { is = is; longest = longest; some = λ e. cc; alone = λ e. (c, refl); }
+nothing_front c rest is longest = record { is = is; longest = longest; some = λ e. cc; alone = λ e. (c, refl) }
 
 -- one of two fronts of a list begins with the other
 data Compared (cs rest ds behind : List ℕ) : Type 0 where
@@ -39,8 +39,8 @@ compare_fronts (c ∷ cs) rest (d ∷ ds) behind e =
     let same : c ≡ d = cc in
     let tails : cs ++ rest ≡ ds ++ behind = cc in
     elim (compare_fronts cs rest ds behind tails) [
-      first_shorter more f g ↦ first_shorter more ((λ i. sym same i ∷ f i)) g
-    | second_shorter more f g ↦ second_shorter more ((λ i. same i ∷ f i)) g
+      | first_shorter more f g ↦ first_shorter more ((λ i. sym same i ∷ f i)) g
+      | second_shorter more f g ↦ second_shorter more ((λ i. same i ∷ f i)) g
     ]
 
 -- a front that is longer than another is none
@@ -59,8 +59,8 @@ too_long cs rest more behind what other f g e nonempty =
 same_front : (cs rest ds behind : List ℕ) (what other : Option Form) → Front cs rest what → Front ds behind other → cs ++ rest ≡ ds ++ behind → (cs ≡ ds) × (rest ≡ behind) × (what ≡ other)
 same_front cs rest ds behind what other f g e =
     elim (compare_fronts cs rest ds behind e) [
-      first_shorter more d r ↦ from cs rest ds behind what other more f g d r
-    | second_shorter more d r ↦ let h = from ds behind cs rest other what more g f d r in (sym h.0, sym h.1, sym h.2)
+      | first_shorter more d r ↦ from cs rest ds behind what other more f g d r
+      | second_shorter more d r ↦ let h = from ds behind cs rest other what more g f d r in (sym h.0, sym h.1, sym h.2)
     ]
   where
     from : (cs rest ds behind : List ℕ) (what other : Option Form) (more : List ℕ) → Front cs rest what → Front ds behind other → ds ≡ cs ++ more → rest ≡ more ++ behind → (cs ≡ ds) × (rest ≡ behind) × (what ≡ other)
@@ -96,11 +96,11 @@ front_of at _ _ (at_the_end) cs rest what f e = absurd (f.some (empty cs e))
     empty [] h = refl
     empty (x ∷ xs) h = cc
 front_of at _ tokens (behind_trivia {cs = ds} {rest = behind} h l) cs rest what f e =
-    move at cs rest ds behind what (Some trivia) tokens (same_front cs rest ds behind what (Some trivia) f (longest_front ds behind trivia h) e) (record { tail = tokens; lexes = l; is = refl; })
+    move at cs rest ds behind what (Some trivia) tokens (same_front cs rest ds behind what (Some trivia) f (longest_front ds behind trivia h) e) (record { tail = tokens; lexes = l; is = refl })
 front_of at _ _ (a_token {cs = ds} {rest = behind} {t = t} {tokens = tail} h l) cs rest what f e =
-    move at cs rest ds behind what (Some (token t)) (spanned t at (at + size ds) ∷ tail) (same_front cs rest ds behind what (Some (token t)) f (longest_front ds behind (token t) h) e) (record { tail = tail; lexes = l; is = refl; })
+    move at cs rest ds behind what (Some (token t)) (spanned t at (at + size ds) ∷ tail) (same_front cs rest ds behind what (Some (token t)) f (longest_front ds behind (token t) h) e) (record { tail = tail; lexes = l; is = refl })
 front_of at _ _ (no_token {c = c} {rest = behind} {tokens = tail} is longest l) cs rest what f e =
-    move at cs rest (c ∷ []) behind what None (spanned Invalid at (at + size (c ∷ [])) ∷ tail) (same_front cs rest (c ∷ []) behind what None f (nothing_front c behind is longest) e) (record { tail = tail; lexes = l; is = refl; })
+    move at cs rest (c ∷ []) behind what None (spanned Invalid at (at + size (c ∷ [])) ∷ tail) (same_front cs rest (c ∷ []) behind what None f (nothing_front c behind is longest) e) (record { tail = tail; lexes = l; is = refl })
 
 pub lexes_once : (at : ℕ) (xs : List ℕ) (a : List SpannedToken) → Lexes at xs a → (b : List SpannedToken) → Lexes at xs b → a ≡ b
 unfolding tokens_of
@@ -134,6 +134,13 @@ lexed_once text a b l m =
     let same : m.characters ≡ l.characters = encodes_same m.characters l.characters (m.spell ∙ sym l.spell) in
     let P : List ℕ → Type 0 = λ cs. Lexes 0 cs b in
     lexes_once 0 l.characters a l.lexes b (subst P same m.lexes)
+
+-- something stands first
+pub stands_some : (cs : List ℕ) (n : ℕ) (o : Option Token) → StandsFirst cs n o → 0 < n
+stands_some cs zero _ (trivia_first h) = absurd ((longest_front [] cs trivia h).some refl)
+stands_some cs zero _ (token_first {t = t} h) = absurd ((longest_front [] cs (token t) h).some refl)
+stands_some cs zero _ (nothing_first one is longest) = cc
+stands_some cs (suc n) o h = omega arith
 
 -- One step of a reading: what stands first comes off
 

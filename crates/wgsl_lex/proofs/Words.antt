@@ -23,16 +23,12 @@ use Rattle.wgsl_token.specs.declared.token.Token.TheVariants.{Fixed, Identifier,
 use Rattle.wgsl_token.specs.Spelling.{spelling}
 use Rattle.wgsl_lex.specs.declared.word.TheConstants.{WORDS}
 use Rattle.wgsl_lex.specs.Tokens.{all_fixed, fixed_of, reserved_words, is_reserved, is_word, begins_with_two_underscores, word_token, number_token, token_form}
+use Rattle.wgsl_lex.specs.Rows.{ascends, IsFound, found, missing}
+use Rattle.wgsl_lex.specs.Pieces.{IsListed, listed, unlisted, is_meaning}
 use Rattle.wgsl_lex.proofs.Bools.{both, either, not_both, fails}
 use Rattle.wgsl_lex.proofs.Tables.{fixed_passes, no_fixed, spelled_as, fixed_of-spelling}
 
 -- A binary search of a table in order
-
-module _ {X : Type 0} (spelled : X → List ℕ) where
-  pub ascends : List X → Bool
-  ascends [] = true
-  ascends (x ∷ []) = true
-  ascends (x ∷ y ∷ xs) = not (is_lt (slice_cmp nat_cmp (spelled y) (spelled x))) && ascends (y ∷ xs)
 
 not_true : (b : Bool) → not b ≡ true → b ≡ false
 not_true true e = sym e
@@ -75,23 +71,14 @@ module _ {X : Type 0} (spelled : X → List ℕ) where
         let parts = h (searchable_from_sorted nat_list_cmp_total spelled xs word (table_sorted xs up)) in
         nowhere (λ e. bytes_eq (spelled e) word) xs
         (λ k d l. elim (side k at) [
-          inl low ↦ other_spelled (get_or xs k d) (ap is_eq (parts.0 k d (omega arith) low))
-        | inr high ↦ other_spelled (get_or xs k d) (ap is_eq (parts.1 k d high l))
+          | inl low ↦ other_spelled (get_or xs k d) (ap is_eq (parts.0 k d (omega arith) low))
+          | inr high ↦ other_spelled (get_or xs k d) (ap is_eq (parts.1 k d high l))
         ])
       where
         side : (k i : ℕ) → (k < i) ⊎ (i ≤ k)
         side k i = search arith
 
 -- What the rows say
-
--- a row's word and its token
-abbrev pub is_right : List ℕ → Option FixedToken → Bool
-is_right word (Some fixed) = bytes_eq (spelling fixed) word
-is_right word None = is_reserved word && is_none (fixed_of word)
-
-words_right : list_all (λ e. is_right e.0.now e.1) WORDS ≡ true
-unfolding fixed_of is_reserved
-words_right = refl
 
 pub at_row : {X : Type 0} (p : X → Bool) (xs : List X) → list_all p xs ≡ true → (k : ℕ) (d : X) → k < length xs → p (get_or xs k d) ≡ true
 at_row p [] e k d h = absurd (omega arith)
@@ -158,14 +145,14 @@ pub word_is_invalid : (cs : List ℕ) → is_word cs ≡ true → begins_with_tw
 word_is_invalid cs w u = word_is_token cs (no_fixed one_underscore refl cs (rw u)) w ∙ ap Some (rw u)
 
 module _ (cs b : List ℕ) (text : b ≡ encode_utf8_all cs) where
-  pub row_fixed : (fixed : FixedToken) → is_right b (Some fixed) ≡ true → token_form cs ≡ Some (Fixed fixed)
+  pub row_fixed : (fixed : FixedToken) → is_meaning b (Some fixed) ≡ true → token_form cs ≡ Some (Fixed fixed)
   row_fixed fixed right =
       let spelled : spelling fixed ≡ b = (bytes_eq-Decides (spelling fixed) b).0 right in
       let same : spelling fixed ≡ cs = encodes_same (spelling fixed) cs (fixed_own fixed ∙ spelled ∙ text) in
       word_is_fixed cs fixed (ap fixed_of (sym same) ∙ fixed_of-spelling fixed)
 
   -- a text of its own bytes
-  pub row_reserved : is_word cs ≡ true → begins_with_two_underscores cs ≡ false → is_right b None ≡ true → token_form cs ≡ Some (Reserved b)
+  pub row_reserved : is_word cs ≡ true → begins_with_two_underscores cs ≡ false → is_meaning b None ≡ true → token_form cs ≡ Some (Reserved b)
   row_reserved w u right =
       let parts = both (is_reserved b) (is_none (fixed_of b)) right in
       let own : encode_utf8_all b ≡ b = own_text b (reserved_passes is_own_text reserved_are_own b parts.0) in
@@ -181,25 +168,32 @@ module _ (cs b : List ℕ) (text : b ≡ encode_utf8_all cs) where
   pub no_row_identifier : is_word cs ≡ true → begins_with_two_underscores cs ≡ false → has_row b ≡ false → token_form cs ≡ Some (Identifier b)
   no_row_identifier w u none =
       let unfixed : fixed_of cs ≡ None =
-            elim (fixed_of cs) as (λ o. fixed_of cs ≡ o → o ≡ None) [
-              None ↦ λ _. refl
-            | Some g ↦ λ some.
-                let row : word_has_row cs ≡ true = fixed_passes word_has_row fixed_have_rows cs g some in
-                let there : has_row cs ≡ true = rw w at row in
-                let own : encode_utf8_all cs ≡ cs = own_text cs (fixed_passes is_own_text fixed_are_own cs g some) in
-                absurd (not_both (has_row cs) there (ap has_row (sym (text ∙ own)) ∙ none))
-            ] refl
+      elim (fixed_of cs) as (λ o. fixed_of cs ≡ o → o ≡ None) [
+        | None ↦ λ _. refl
+        | Some g ↦ λ some.
+            let known : word_has_row cs ≡ true = fixed_passes word_has_row fixed_have_rows cs g some in
+            let there : has_row cs ≡ true = rw w at known in
+            let own : encode_utf8_all cs ≡ cs = own_text cs (fixed_passes is_own_text fixed_are_own cs g some) in
+            absurd (not_both (has_row cs) there (ap has_row (sym (text ∙ own)) ∙ none))
+      ] refl
       in
       let unreserved : is_reserved cs ≡ false =
-            fails (is_reserved cs)
-            (λ r.
-              let own : encode_utf8_all cs ≡ cs = own_text cs (reserved_passes is_own_text reserved_are_own cs r) in
-              not_both (has_row cs) (reserved_passes has_row reserved_have_rows cs r) (ap has_row (sym (text ∙ own)) ∙ none))
+      fails (is_reserved cs)
+      (λ r.
+      let own : encode_utf8_all cs ≡ cs = own_text cs (reserved_passes is_own_text reserved_are_own cs r) in
+      not_both (has_row cs) (reserved_passes has_row reserved_have_rows cs r) (ap has_row (sym (text ∙ own)) ∙ none))
       in
       word_is_token cs unfixed w ∙ ap Some (rw (u, unreserved) (ap Identifier (sym text)))
 
-pub row_at : (b : List ℕ) (answer : Option FixedToken) → Any (λ e. (e.0.now ≡ b) × (e.1 ≡ answer)) WORDS → is_right b answer ≡ true
-row_at b answer any =
-    let (k, e, within, is, named) = any in
-    let right : is_right (get_or WORDS k e).0.now (get_or WORDS k e).1 ≡ true = at_row (λ x. is_right x.0.now x.1) WORDS words_right k e within in
-    (λ i. is_right (sym named.0 i) (sym named.1 i)) ∙ (λ i. is_right (sym is i).0.now (sym is i).1) ∙ right
+-- a table that agrees with `WORDS`
+pub listed_from : {X : Type 0} (spelled : X → List ℕ) (fixed : X → Option FixedToken) (xs : List X) (word : List ℕ) (answer : Option (Option FixedToken)) → list_all (λ e. is_meaning (spelled e) (fixed e)) xs ≡ true
+    → (list_any (λ e. bytes_eq (spelled e) word) xs ≡ false → has_row word ≡ false) → IsFound spelled fixed xs word answer → IsListed word answer
+listed_from spelled fixed xs word _ right same (found k d within is) =
+    listed (ap (λ w. is_meaning w (fixed (get_or xs k d))) (sym is) ∙ at_row (λ e. is_meaning (spelled e) (fixed e)) xs right k d within)
+listed_from spelled fixed xs word _ right same (missing none) = unlisted (same none)
+
+pub listed_right : (b : List ℕ) (answer : Option FixedToken) → IsListed b (Some answer) → is_meaning b answer ≡ true
+listed_right b _ (listed right) = right
+
+pub listed_nowhere : (b : List ℕ) → IsListed b None → has_row b ≡ false
+listed_nowhere b (unlisted none) = none

@@ -1,5 +1,5 @@
 -- What stands at the front of some characters.
-use Rattle.std.specs.Prelude.{◌≡◌, ◌≢◌, ℕ, ◌<◌, ◌≤◌, Bool, true, false, ◌&&◌, ◌||◌, ◌==◌, List, [], ◌∷◌, ◌++◌, length, take, drop, Option, Some, None, MatchOption, Any}
+use Rattle.std.specs.Prelude.{◌≡◌, ◌≢◌, ℕ, ◌<◌, ◌≤◌, ◌+◌, Bool, true, false, ◌&&◌, ◌||◌, ◌==◌, List, [], ◌∷◌, ◌++◌, length, take, drop, Option, Some, None, MatchOption, is_none}
 use Rattle.std.specs.List.{list_any}
 use Rattle.std.specs.Char.{is_ascii_digit, is_ascii_hexdigit}
 use Rattle.std.specs.Str.{bytes_eq}
@@ -7,9 +7,10 @@ use Rattle.unicode_ident.specs.Ident.{is_xid_start, is_xid_continue}
 use Rattle.wgsl_token.specs.declared.token.Token.{Token}
 use Rattle.wgsl_token.specs.declared.token.Token.TheVariants.{Invalid}
 use Rattle.wgsl_token.specs.declared.token.Fixed.{Fixed}
+use Rattle.wgsl_token.specs.Spelling.{spelling}
 use Rattle.wgsl_lex.specs.declared.number.Magnitude.{Magnitude}
 use Rattle.wgsl_lex.specs.declared.word.TheConstants.{WORDS}
-use Rattle.wgsl_lex.specs.Tokens.{is_blank, fixed_of, form, trivia, token, NoLonger, IsLongest}
+use Rattle.wgsl_lex.specs.Tokens.{is_blank, fixed_of, is_reserved, form, trivia, token, NoLonger, IsLongest}
 use Rattle.wgsl_lex.specs.Runs.{IsLongestMagnitude, IsValue}
 
 -- So many characters stand first: the longest form, with its token if it has one, or a character with which no form begins.
@@ -28,13 +29,16 @@ abbrev pub opens_comment : List ℕ → Bool
 opens_comment [] = false
 opens_comment (c ∷ cs) = (c == 47) || (c == 42)
 
+-- a word begins with this character, of which those stand behind
+abbrev pub opens_word : ℕ → List ℕ → Bool
+opens_word c behind = is_xid_start c || ((c == 95) && begins_with_continue behind)
+
 -- a character and those behind it, if no blankspace, comment, word or number begins there
 pub record BeginsNothingElse (c : ℕ) (behind : List ℕ) : Type 0 where
-  pub starts : is_xid_start c ≡ false
-  pub digit : is_ascii_digit c ≡ false
   pub blank : is_blank c ≡ false
   pub comment : ((c == 47) && opens_comment behind) ≡ false
-  pub word : ((c == 95) && begins_with_continue behind) ≡ false
+  pub word : opens_word c behind ≡ false
+  pub digit : is_ascii_digit c ≡ false
 
 -- the token that the first two, or three, characters spell
 abbrev pub spelled_by_two : ℕ → List ℕ → Option Fixed
@@ -46,9 +50,10 @@ spelled_by_three c [] = None
 spelled_by_three c (d ∷ []) = None
 spelled_by_three c (d ∷ e ∷ es) = fixed_of (c ∷ d ∷ e ∷ [])
 
--- how many characters behind `/` are of a comment, if one stands there
-abbrev pub IsCommentAnswer : List ℕ → Option ℕ → Type 0
-IsCommentAnswer behind answer = MatchOption answer (opens_comment behind ≡ false) (λ n. (n ≤ length behind) × IsLongest (47 ∷ take n behind) (drop n behind) trivia)
+-- how many characters are of a comment, if one stands there
+pub data IsCommentAnswer (c : ℕ) (behind : List ℕ) : Option ℕ → Type 0 where
+  no_comment : ((c == 47) && opens_comment behind) ≡ false → IsCommentAnswer c behind None
+  comment : {n : ℕ} → n ≤ length behind + 1 → StandsFirst (c ∷ behind) n None → IsCommentAnswer c behind (Some n)
 
 -- so many characters behind the first are of the longest number without suffix, and its value is this
 pub record HasMagnitude (c : ℕ) (behind : List ℕ) (n : ℕ) (word : Option ℕ) : Type 0 where
@@ -68,7 +73,12 @@ goes_on (c ∷ d ∷ cs) = is_mark c && is_ascii_hexdigit d
 abbrev pub IsHexadecimalAnswer : List ℕ → Option Magnitude → Type 0
 IsHexadecimalAnswer behind answer = MatchOption answer (goes_on behind ≡ false) (λ m. (m.length ≤ length behind) × HasMagnitude 48 behind m.length m.value)
 
--- what the table has of a word: one row that is spelled so, or none
+-- a word that is fixed, with its token, or that is reserved, with none
+abbrev pub is_meaning : List ℕ → Option Fixed → Bool
+is_meaning word (Some fixed) = bytes_eq (spelling fixed) word
+is_meaning word None = is_reserved word && is_none (fixed_of word)
+
+-- what the table has of a word: its meaning, or no row
 pub data IsListed (word : List ℕ) : Option (Option Fixed) → Type 0 where
-  row : {fixed : Option Fixed} → Any (λ entry. (entry.0.now ≡ word) × (entry.1 ≡ fixed)) WORDS → IsListed word (Some fixed)
-  no_row : list_any (λ entry. bytes_eq entry.0.now word) WORDS ≡ false → IsListed word None
+  listed : {fixed : Option Fixed} → is_meaning word fixed ≡ true → IsListed word (Some fixed)
+  unlisted : list_any (λ entry. bytes_eq entry.0.now word) WORDS ≡ false → IsListed word None

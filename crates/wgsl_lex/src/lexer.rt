@@ -1,24 +1,25 @@
 //! The tokens of a text.
 
 ghost use Rattle.std.specs.Prelude.{◌≡◌, ◌≤◌, ◌<◌, ◌^◌, ◌+◌, ◌∷◌, length, None, IfOk};
-ghost use Rattle.wgsl_lex.specs.Tokens.{size};
-ghost use Rattle.wgsl_lex.specs.Pieces.{StandsFirst, begins_with_continue};
+ghost use Rattle.wgsl_lex.specs.Tokens.{size, IsLexed};
+ghost use Rattle.wgsl_lex.specs.Pieces.{StandsFirst};
 
 use crate::number::number;
 use crate::piece::Piece;
 use crate::run::word_run;
 use crate::symbol::symbol;
 use crate::trivia::{comment_length, is_blankspace};
-use crate::word::word_token;
+use crate::word::{begins_word, word_token};
 use std::alloc::{AllocError, Global};
-use unicode_ident::{is_xid_continue, is_xid_start};
 use wgsl_items::Items;
 use wgsl_path::Span;
 use wgsl_token::SpannedToken;
 
 /// The tokens of a text (WGSL, "Textual Structure"), each with its place in bytes: at every place the longest one, with
 /// blankspace and comments left out. What is no token is an invalid token. Only memory can fail.
-pub fn lex(alloc: Global, text: &str) -> Result<Items<SpannedToken>, AllocError> {
+pub fn lex(alloc: Global, text: &str) -> Result<Items<SpannedToken>, AllocError>
+    ensures { IfOk result (IsLexed text.now) }
+{
     let characters: Vec<char> = text.chars().collect(alloc)?;
     let mut tokens = Items::new(alloc);
     let mut rest = characters.as_slice();
@@ -40,13 +41,15 @@ pub fn lex(alloc: Global, text: &str) -> Result<Items<SpannedToken>, AllocError>
 /// What stands at the front: of this character, and what is behind it.
 fn first_piece(alloc: Global, first: char, behind: &[char]) -> Result<Piece, AllocError>
     ensures within { IfOk result (λ piece. piece.length ≤ length behind.now + 1) }
-    ensures some { IfOk result (λ piece. 0 < piece.length) }
     ensures first { IfOk result (λ piece. StandsFirst (first ∷ behind.now) piece.length piece.token) }
 {
     if is_blankspace(first) {
         return Ok(trivia(1));
     }
-    if is_xid_start(first) || (first == '_' && continues_word(behind)) {
+    if let Some(length) = comment_length(first, behind) {
+        return Ok(trivia(length));
+    }
+    if begins_word(first, behind) {
         let (rest_of_word, _) = behind.split_at(word_run(behind));
         let token = word_token(alloc, first, rest_of_word)?;
         return Ok(Piece {
@@ -57,11 +60,6 @@ fn first_piece(alloc: Global, first: char, behind: &[char]) -> Result<Piece, All
     if first.is_ascii_digit() {
         return Ok(number(first, behind));
     }
-    if first == '/'
-        && let Some(length) = comment_length(behind)
-    {
-        return Ok(trivia(1 + length));
-    }
     Ok(symbol(first, behind))
 }
 
@@ -71,16 +69,6 @@ fn trivia(length: usize) -> Piece
     Piece {
         length,
         token: None,
-    }
-}
-
-/// Whether the first of these characters continues a word.
-fn continues_word(characters: &[char]) -> bool
-    ensures { result ≡ begins_with_continue characters.now }
-{
-    match characters.first() {
-        Some(first) => is_xid_continue(*first),
-        None => false,
     }
 }
 

@@ -4,10 +4,10 @@ ghost use Rattle.std.specs.Prelude.{◌≡◌, ◌≤◌, ◌+◌, ◌∷◌, �
 ghost use Rattle.std.specs.Char.{is_ascii_digit};
 ghost use Rattle.wgsl_lex.specs.Tokens.{digit_value, abstract_token, signed_token, unsigned_token};
 ghost use Rattle.wgsl_lex.specs.Runs.{IsValue, value_behind};
-ghost use Rattle.wgsl_lex.specs.Pieces.{StandsFirst, HasMagnitude, IsHexadecimalAnswer};
+ghost use Rattle.wgsl_lex.specs.Pieces.{StandsFirst, HasMagnitude, IsHexadecimalAnswer, is_mark};
 
 use crate::piece::Piece;
-use crate::run::{decimal_run, hexadecimal_run};
+use crate::run::{decimal_run, hexadecimal_run, is_at};
 use wgsl_token::Token;
 
 /// A whole number without its suffix.
@@ -25,13 +25,12 @@ pub(crate) fn number(first: char, behind: &[char]) -> Piece
     ensures first { StandsFirst (first ∷ behind.now) result.length result.token }
 {
     let Magnitude { length, value } = unsuffixed(first, behind);
-    let suffix = behind.get(length).copied();
-    if suffix == Some('i') {
+    if is_at(behind, length, 'i') {
         Piece {
             length: length + 2,
             token: Some(signed_token(value)),
         }
-    } else if suffix == Some('u') {
+    } else if is_at(behind, length, 'u') {
         Piece {
             length: length + 2,
             token: Some(unsigned_token(value)),
@@ -71,7 +70,7 @@ fn hexadecimal(behind: &[char]) -> Option<Magnitude>
     ensures { IsHexadecimalAnswer behind.now result }
 {
     let (mark, tail) = behind.split_first()?;
-    if *mark != 'x' && *mark != 'X' {
+    if !is_mark(*mark) {
         return None;
     }
     let (digits, _) = tail.split_at(hexadecimal_run(tail));
@@ -82,6 +81,13 @@ fn hexadecimal(behind: &[char]) -> Option<Magnitude>
         length: 1 + digits.len(),
         value: digits_value(16, 0, digits),
     })
+}
+
+/// Whether the character marks a hexadecimal number behind `0`.
+fn is_mark(character: char) -> bool
+    ensures { result ≡ is_mark character }
+{
+    matches!(character, 'x' | 'X')
 }
 
 /// The value of some digits behind what has this value, or `None` where it is past 64 bits.

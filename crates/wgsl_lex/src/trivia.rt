@@ -27,15 +27,18 @@ pub fn is_blankspace(character: char) -> bool
     )
 }
 
-/// How many characters a comment has behind its first `/`, if one stands there.
-pub(crate) fn comment_length(behind: &[char]) -> Option<usize>
-    ensures { IsCommentAnswer behind.now result }
+/// How many characters a comment has, if one begins with this character.
+pub(crate) fn comment_length(first: char, behind: &[char]) -> Option<usize>
+    ensures { IsCommentAnswer first behind.now result }
 {
+    if first != '/' {
+        return None;
+    }
     let (second, tail) = behind.split_first()?;
     if *second == '/' {
-        Some(1 + line_run(tail))
+        Some(2 + line_run(tail))
     } else if *second == '*' {
-        Some(1 + block_comment_length(tail))
+        Some(2 + block_comment_length(tail))
     } else {
         None
     }

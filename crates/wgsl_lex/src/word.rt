@@ -2,10 +2,12 @@
 
 ghost use Rattle.std.specs.Prelude.{◌≡◌, ◌∷◌, true, Some, IfOk};
 ghost use Rattle.std.specs.Str.{encode_utf8_all};
-ghost use Rattle.wgsl_lex.specs.Tokens.{is_word, token_form};
-ghost use Rattle.wgsl_lex.specs.Pieces.{IsListed};
+ghost use Rattle.wgsl_lex.specs.Tokens.{is_word, begins_with_two_underscores, token_form};
+ghost use Rattle.wgsl_lex.specs.Rows.{ascends, IsFound};
+ghost use Rattle.wgsl_lex.specs.Pieces.{IsListed, opens_word, begins_with_continue};
 
 use std::alloc::{AllocError, Global};
+use unicode_ident::{is_xid_continue, is_xid_start};
 use wgsl_items::Text;
 use wgsl_token::{Fixed, Token};
 
@@ -185,11 +187,29 @@ static WORDS: [(&str, Option<Fixed>); 172] = [
     ("yield", None),
 ];
 
+/// Whether a word begins with this character, of which those stand behind.
+pub(crate) fn begins_word(first: char, behind: &[char]) -> bool
+    ensures { result ≡ opens_word first behind.now }
+{
+    is_xid_start(first) | ((first == '_') & continues_word(behind))
+}
+
+/// Whether the first of these characters continues a word.
+fn continues_word(characters: &[char]) -> bool
+    ensures { result ≡ begins_with_continue characters.now }
+{
+    match characters.first() {
+        Some(first) => is_xid_continue(*first),
+        None => false,
+    }
+}
+
 /// The token of a word, given by its first character and those behind.
 pub(crate) fn word_token(alloc: Global, first: char, behind: &[char]) -> Result<Token, AllocError>
-    ensures { is_word (first ∷ behind.now) ≡ true → IfOk result (λ token. token_form (first ∷ behind.now) ≡ Some token) }
+    requires { is_word (first ∷ behind.now) ≡ true }
+    ensures { IfOk result (λ token. token_form (first ∷ behind.now) ≡ Some token) }
 {
-    if first == '_' && behind.first().copied() == Some('_') {
+    if is_underscored(first, behind) {
         return Ok(Token::Invalid);
     }
     let text = text_of(alloc, first, behind)?;
@@ -200,12 +220,30 @@ pub(crate) fn word_token(alloc: Global, first: char, behind: &[char]) -> Result<
     }
 }
 
+/// Whether a word begins with two underscores.
+fn is_underscored(first: char, behind: &[char]) -> bool
+    ensures { result ≡ begins_with_two_underscores (first ∷ behind.now) }
+{
+    match behind.first() {
+        Some(second) => (first == '_') & (*second == '_'),
+        None => false,
+    }
+}
+
 /// What the table has of a word.
 fn listed(word: &str) -> Option<Option<Fixed>>
     ensures { IsListed word.now result }
 {
-    match WORDS.binary_search_by_key(&word, |entry| entry.0) {
-        Ok(at) => Some(WORDS[at].1),
+    found(&WORDS, word)
+}
+
+/// What a table in order has of a word.
+fn found(table: &[(&str, Option<Fixed>)], word: &str) -> Option<Option<Fixed>>
+    requires { ascends (λ entry. entry.0.now) table.now ≡ true }
+    ensures { IsFound (λ entry. entry.0.now) (λ entry. entry.1) table.now word.now result }
+{
+    match table.binary_search_by_key(&word, |entry| entry.0) {
+        Ok(at) => Some(table[at].1),
         Err(_) => None,
     }
 }
