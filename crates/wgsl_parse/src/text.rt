@@ -1,10 +1,9 @@
 //! Texts of modules.
 
-ghost use Rattle.std.specs.Prelude.{◌≡◌, ◌≢◌, ◌⊎◌, ◌<◌, Some, IfOk, IfErr, Ok, Err, length, slice_get};
-ghost use Rattle.wgsl_token.specs.declared.error.ErrorKind.TheVariants as kind;
+ghost use Rattle.std.specs.Prelude.{◌≡◌, ◌⊎◌, ◌<◌, Some, IfOk, IfErr, Ok, Err, length, slice_get};
 ghost use Rattle.wgsl_grammar.specs.Declarations.{IsUnit};
 ghost use Rattle.wgsl_parse.specs.Texts as spec;
-ghost use Rattle.wgsl_parse.specs.Texts.{Derives, IsFaultIn, IsFaultOf};
+ghost use Rattle.wgsl_parse.specs.Texts.{IsFaultIn};
 
 use crate::unit::{ParseError, parse_tokens};
 use std::alloc::Global;
@@ -163,6 +162,15 @@ mod tests {
             error(alloc, "const x = 2147483648i;"),
             at(ErrorKind::InvalidToken, 10, 21)
         );
+    }
+
+    // Whichever allocation fails.
+    #[test]
+    fn memory_refused(rt: HostRuntime) {
+        let text =
+            "import package::m::a; fn f(x: i32,) -> i32 { return g(-x, 1) * 2; } const b = c;";
+        let answer = error(rt.alloc(), text);
+        assert!(rt; answer == None || answer == at(ErrorKind::OutOfMemory, 0, 0));
     }
 
     #[test]
