@@ -1,9 +1,10 @@
 //! Texts of modules.
 
-ghost use Rattle.std.specs.Prelude.{◌≡◌, ◌⊎◌, ◌<◌, Some, IfOk, IfErr, Ok, Err, length, slice_get};
+ghost use Rattle.std.specs.Prelude.{◌≡◌, ◌≢◌, ◌⊎◌, ◌<◌, Some, IfOk, IfErr, Ok, Err, length, slice_get};
+ghost use Rattle.wgsl_token.specs.declared.error.ErrorKind.TheVariants as kind;
 ghost use Rattle.wgsl_grammar.specs.Declarations.{IsUnit};
 ghost use Rattle.wgsl_parse.specs.Texts as spec;
-ghost use Rattle.wgsl_parse.specs.Texts.{IsFaultIn};
+ghost use Rattle.wgsl_parse.specs.Texts.{Derives, IsFaultIn, IsFaultOf};
 
 use crate::unit::{ParseError, parse_tokens};
 use std::alloc::Global;
@@ -84,7 +85,15 @@ fn parse_lexed(
 ///
 /// A text with faults has the one that ends first: the first token with which no module goes on, or the end of the text,
 /// as an empty place there. Where memory is refused the error says nothing of the text, and its place is empty too.
-pub fn parse_str(alloc: Global, text: &str) -> Result<TranslationUnit, Error> {
+pub fn parse_str(alloc: Global, text: &str) -> Result<TranslationUnit, Error>
+    ensures tree { IfOk result (Derives text.now) }
+    ensures only { IfOk result (λ unit. (other : _) → Derives text.now other → other ≡ unit) }
+    ensures complete { (unit : _) → Derives text.now unit → (result ≡ Ok unit) ⊎ (result ≡ Err spec.out_of_memory) }
+    ensures fault { IfErr result (λ e. e.kind ≢ kind.OutOfMemory → IsFaultOf text.now e) }
+    ensures faulty { (e : _) → IsFaultOf text.now e → (result ≡ Err e) ⊎ (result ≡ Err spec.out_of_memory) }
+    ensures memory { IfErr result (λ e. e.kind ≡ kind.OutOfMemory → e ≡ spec.out_of_memory) }
+    ensures apart { (unit : _) → Derives text.now unit → (e : _) → IsFaultOf text.now e → ⊥ }
+{
     let Ok(tokens) = lex(alloc, text) else {
         return Err(out_of_memory());
     };
