@@ -85,7 +85,15 @@ fn parse_lexed(
 ///
 /// A text with faults has the one that ends first: the first token with which no module goes on, or the end of the text,
 /// as an empty place there. Where memory is refused the error says nothing of the text, and its place is empty too.
-pub fn parse_str(alloc: Global, text: &str) -> Result<TranslationUnit, Error> {
+pub fn parse_str(alloc: Global, text: &str) -> Result<TranslationUnit, Error>
+    ensures tree { IfOk result (Derives text.now) }
+    ensures only { IfOk result (λ unit. (other : _) → Derives text.now other → other ≡ unit) }
+    ensures complete { (unit : _) → Derives text.now unit → (result ≡ Ok unit) ⊎ (result ≡ Err spec.out_of_memory) }
+    ensures fault { IfErr result (λ e. e.kind ≢ kind.OutOfMemory → IsFaultOf text.now e) }
+    ensures faulty { (e : _) → IsFaultOf text.now e → (result ≡ Err e) ⊎ (result ≡ Err spec.out_of_memory) }
+    ensures memory { IfErr result (λ e. e.kind ≡ kind.OutOfMemory → e ≡ spec.out_of_memory) }
+    ensures apart { (unit : _) → Derives text.now unit → (e : _) → IsFaultOf text.now e → ⊥ }
+{
     let Ok(tokens) = lex(alloc, text) else {
         return Err(out_of_memory());
     };
@@ -163,6 +171,15 @@ mod tests {
             error(alloc, "const x = 2147483648i;"),
             at(ErrorKind::InvalidToken, 10, 21)
         );
+    }
+
+    // Whichever allocation fails.
+    #[test]
+    fn memory_refused(rt: HostRuntime) {
+        let text =
+            "import package::m::a; fn f(x: i32,) -> i32 { return g(-x, 1) * 2; } const b = c;";
+        let answer = error(rt.alloc(), text);
+        assert!(rt; answer == None || answer == at(ErrorKind::OutOfMemory, 0, 0));
     }
 
     #[test]
