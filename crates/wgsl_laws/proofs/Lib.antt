@@ -1,0 +1,4 @@
+pub mod Prints
+pub mod Pieces
+pub mod Expressions
+pub mod Declarations
