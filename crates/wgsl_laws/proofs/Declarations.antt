@@ -31,7 +31,8 @@ use Rattle.wgsl_grammar.specs.Declarations.{IsIdent, ident, IsType, type, IsPara
 use Rattle.wgsl_lex.specs.Tokens.{Lexes, at_the_end, behind_trivia, a_token, no_token, IsLexed}
 use Rattle.wgsl_laws.specs.Printing.{StandsFor, PrintsBack, IsSettled, PrintsTheSame}
 use Rattle.wgsl_laws.proofs.Prints.{Prints, Nothing, nothing, Is, is, Joined, joined, prints_as, prints_where, prints_then, prints_behind, prints_before, prints_nothing, both, Spells, spells_then, spells_ascii, anything}
-use Rattle.wgsl_laws.proofs.Pieces.{stops, spaced, Spelled, word_piece, prints_space, prints_line_break, prints_paren_left, prints_paren_right, prints_brace_left, prints_brace_right, prints_comma, prints_semicolon, prints_separator, prints_arrow, prints_equal, prints_colon, prints_const, prints_fn, prints_return, prints_import, prints_package}
+use Rattle.wgsl_laws.proofs.Marks.{stops}
+use Rattle.wgsl_laws.proofs.Pieces.{Spelled, word_piece, prints_space, prints_line_break, prints_paren_left, prints_paren_right, prints_brace_left, prints_brace_right, prints_comma, prints_semicolon, prints_separator, prints_arrow, prints_equal, prints_colon, prints_const, prints_fn, prints_return, prints_import, prints_package}
 use Rattle.wgsl_laws.proofs.Expressions.{Known, known_of, Knowns, knowns_front, knowns_behind, Gives, gives, again_sum}
 
 -- a phrase for what is seen so

@@ -26,7 +26,8 @@ use Rattle.wgsl_grammar.specs.Terminals.{fixed, word, literal_of, additive, mult
 use Rattle.wgsl_grammar.specs.Expressions.{IsPrimary, number, name, paren, IsArguments, no_arguments, arguments, IsExpressions, last_expression, last_and_comma, more_expressions, IsUnary, primary, negation, IsProduct, unary, times, IsSum, product, plus}
 use Rattle.wgsl_grammar.specs.Expressions as grammar
 use Rattle.wgsl_laws.proofs.Prints.{Prints, Nothing, nothing, Is, is, Joined, joined, prints_as, prints_where, prints_then, prints_behind, prints_before, prints_nothing, Spells, spells_then, spells_ascii, anything}
-use Rattle.wgsl_laws.proofs.Pieces.{stops, spaced, no_sign, begins_plainly, Spelled, word_piece, number_piece, prints_space, prints_paren_left, prints_paren_right, prints_comma, prints_minus, prints_plus, prints_star, prints_slash, prints_percent}
+use Rattle.wgsl_laws.proofs.Marks.{stops, spaced, no_sign}
+use Rattle.wgsl_laws.proofs.Pieces.{begins_plainly, Spelled, word_piece, number_piece, prints_space, prints_paren_left, prints_paren_right, prints_comma, prints_minus, prints_plus, prints_star, prints_slash, prints_percent}
 
 -- Each token is spelled by some characters, or is none.
 abbrev pub Known : Token → Type 0
