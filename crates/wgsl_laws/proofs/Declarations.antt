@@ -1,14 +1,12 @@
 -- What is printed of a module derives it again.
-use Rattle.std.proofs.Common.{◌≡◌, refl, sym, ap, ◌∙◌, subst, ℕ, Bool, true, false, List, [], ◌∷◌, ◌++◌, ◌&&◌, map, append_assoc, append-nil, codes, Option, Some, None}
+use Rattle.std.proofs.Common.{◌≡◌, refl, sym, ap, ◌∙◌, subst, ℕ, Bool, true, List, [], ◌∷◌, ◌++◌, ◌&&◌, map, append_assoc, append-nil, codes, Option, Some, None}
 use Rattle.std.specs.List.{flat_map}
 use Rattle.std.specs.Str.{all_scalars}
 use Rattle.std.proofs.Math.Utf8.{scalar}
 use Rattle.std.specs.Option.{option_map}
 use Rattle.wgsl_path.specs.declared.span.Span.{Span}
 use Rattle.wgsl_path.specs.declared.span.Spanned.{Spanned}
-use Rattle.wgsl_path.specs.declared.ident.Ident.{Ident}
 use Rattle.wgsl_path.specs.declared.path.PathOrigin.TheVariants.{Absolute}
-use Rattle.wgsl_token.specs.declared.token.Token.{Token}
 use Rattle.wgsl_token.specs.declared.token.Token.TheVariants as t
 use Rattle.wgsl_token.specs.declared.token.Fixed.TheVariants as f
 use Rattle.wgsl_token.specs.declared.token.SpannedToken.{SpannedToken}
@@ -23,17 +21,17 @@ use Rattle.wgsl_syntax.specs.declared.unit.TranslationUnit.{TranslationUnit}
 use Rattle.wgsl_syntax.specs.Tree.{Exp, Typ, simple, Stm, returning, Param, Decl, Imp, Unit}
 use Rattle.wgsl_syntax.specs.Tree as tree
 use Rattle.wgsl_syntax.specs.View.{node_tree, type_tree, statement_tree, parameter_tree, declaration_tree, import_tree, unit_tree}
-use Rattle.wgsl_syntax.specs.Print.{commas, exp_text, typ_text, value_text, stm_text, braces_text, param_text, annotation_text, result_text, head_text, body_text, decl_text, imp_text, unit_text}
+use Rattle.wgsl_syntax.specs.Print.{commas, value_text, braces_text, param_text, annotation_text, result_text, head_text, body_text, decl_text, imp_text, unit_text}
 use Rattle.wgsl_phrases.specs.Languages.{◌⌢◌, Listed, last, last_separated, more, OptionallyListed, no_list, list, Repeated, no_more, again}
-use Rattle.wgsl_grammar.specs.Terminals.{fixed, word, type_named, IsComma}
+use Rattle.wgsl_grammar.specs.Terminals.{fixed, word, IsComma}
 use Rattle.wgsl_grammar.specs.Expressions.{IsSum}
-use Rattle.wgsl_grammar.specs.Declarations.{IsIdent, ident, IsType, type, IsParameter, parameter, IsAnnotation, unannotated, annotated, IsResult, no_result, result_of, IsValue, no_value, value, return_of, IsBody, empty_body, returns, constant_of, function_of, IsDeclaration, constant, function, IsComponents, no_components, component, import_of, IsImport, importing, IsUnit, unit}
-use Rattle.wgsl_lex.specs.Tokens.{Lexes, at_the_end, behind_trivia, a_token, no_token, IsLexed}
-use Rattle.wgsl_laws.specs.Printing.{StandsFor, PrintsBack, IsSettled, PrintsTheSame}
-use Rattle.wgsl_laws.proofs.Prints.{Prints, Nothing, nothing, Is, is, Joined, joined, prints_as, prints_where, prints_then, prints_behind, prints_before, prints_nothing, both, Spells, spells_then, spells_ascii, anything}
+use Rattle.wgsl_grammar.specs.Declarations.{ident, IsType, type, IsParameter, parameter, IsAnnotation, unannotated, annotated, IsResult, no_result, result_of, IsValue, no_value, value, IsBody, empty_body, returns, IsDeclaration, constant, function, IsComponents, no_components, component, IsImport, importing, IsUnit, unit}
+use Rattle.wgsl_lex.specs.Tokens.{Lexes, at_the_end, behind_trivia, a_token, no_token}
+use Rattle.wgsl_laws.specs.Printing.{StandsFor, PrintsBack, PrintsTheSame}
+use Rattle.wgsl_laws.proofs.Prints.{Prints, Nothing, nothing, Is, is, Joined, joined, prints_as, prints_then, prints_behind, prints_before, prints_nothing, both, Spells, spells_then, spells_ascii, anything}
 use Rattle.wgsl_laws.proofs.Marks.{stops}
 use Rattle.wgsl_laws.proofs.Pieces.{Spelled, word_piece, prints_space, prints_line_break, prints_paren_left, prints_paren_right, prints_brace_left, prints_brace_right, prints_comma, prints_semicolon, prints_separator, prints_arrow, prints_equal, prints_colon, prints_const, prints_fn, prints_return, prints_import, prints_package}
-use Rattle.wgsl_laws.proofs.Expressions.{Known, known_of, Knowns, knowns_front, knowns_behind, Gives, gives, again_sum}
+use Rattle.wgsl_laws.proofs.Expressions.{known_of, Knowns, knowns_front, knowns_behind, Gives, gives, again_sum}
 
 -- a phrase for what is seen so
 pub data Means {A B : Type 0} (P : List SpannedToken → A → Type 0) (view : A → B) (b : B) : List SpannedToken → Type 0 where

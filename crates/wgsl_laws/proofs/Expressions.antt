@@ -1,10 +1,9 @@
 -- What is printed of an expression derives it again.
-use Rattle.std.proofs.Common.{◌≡◌, ◌≢◌, refl, sym, ap, ◌∙◌, subst, ℕ, ◌+◌, ◌==◌, nat_lt, Bool, true, false, cond, not, ◌&&◌, List, [], ◌∷◌, ◌++◌, map, append_assoc, append-nil, codes, Option, Some, None, lit<}
+use Rattle.std.proofs.Common.{◌≡◌, refl, sym, ap, ◌∙◌, subst, ℕ, ◌==◌, nat_lt, Bool, true, false, cond, not, ◌&&◌, List, [], ◌∷◌, ◌++◌, map, append_assoc, append-nil, codes, Option, Some, None, lit<}
 use Rattle.std.specs.Str.{encode_utf8_all}
 use Rattle.std.proofs.lemmas.Str.Ascii.{encode_ascii}
 use Rattle.std.specs.List.{list_all}
 use Rattle.std.proofs.lemmas.Bool.{eqb-true}
-use Rattle.wgsl_path.specs.declared.span.Span.{Span}
 use Rattle.wgsl_path.specs.declared.span.Spanned.{Spanned}
 use Rattle.wgsl_operators.specs.declared.BinaryOperator.{BinaryOperator}
 use Rattle.wgsl_operators.specs.declared.BinaryOperator.TheVariants.{ShortCircuitOr, ShortCircuitAnd, Addition, Subtraction, Multiplication, Division, Remainder, Equality, Inequality, LessThan, LessThanEqual, GreaterThan, GreaterThanEqual, BitwiseOr, BitwiseAnd, BitwiseXor, ShiftLeft, ShiftRight}
@@ -19,13 +18,12 @@ use Rattle.wgsl_syntax.specs.declared.expression.Expression.{Expression}
 use Rattle.wgsl_syntax.specs.Tree.{Exp, literal, parenthesized, call, named, exps, simple}
 use Rattle.wgsl_syntax.specs.Tree as tree
 use Rattle.wgsl_syntax.specs.View.{node_tree}
-use Rattle.wgsl_syntax.specs.Print.{literal_text, begins_with, prefixed, exp_text, exps_text}
+use Rattle.wgsl_syntax.specs.Print.{begins_with, exp_text, exps_text}
 use Rattle.wgsl_syntax.proofs.Trees.{tree_of_literal, tree_of_parenthesized, tree_of_unary, tree_of_binary, tree_of_call, tree_of_named}
-use Rattle.wgsl_lex.specs.Tokens.{Lexes}
-use Rattle.wgsl_grammar.specs.Terminals.{fixed, word, literal_of, additive, multiplicative, node, type_named}
+use Rattle.wgsl_grammar.specs.Terminals.{literal_of, additive, multiplicative, type_named}
 use Rattle.wgsl_grammar.specs.Expressions.{IsPrimary, number, name, paren, IsArguments, no_arguments, arguments, IsExpressions, last_expression, last_and_comma, more_expressions, IsUnary, primary, negation, IsProduct, unary, times, IsSum, product, plus}
 use Rattle.wgsl_grammar.specs.Expressions as grammar
-use Rattle.wgsl_laws.proofs.Prints.{Prints, Nothing, nothing, Is, is, Joined, joined, prints_as, prints_where, prints_then, prints_behind, prints_before, prints_nothing, Spells, spells_then, spells_ascii, anything}
+use Rattle.wgsl_laws.proofs.Prints.{Prints, Nothing, nothing, Is, is, Joined, joined, prints_as, prints_where, prints_then, prints_behind, prints_nothing, Spells, spells_then, spells_ascii}
 use Rattle.wgsl_laws.proofs.Marks.{stops, spaced, no_sign}
 use Rattle.wgsl_laws.proofs.Pieces.{begins_plainly, Spelled, word_piece, number_piece, prints_space, prints_paren_left, prints_paren_right, prints_comma, prints_minus, prints_plus, prints_star, prints_slash, prints_percent}
 
@@ -181,7 +179,7 @@ minus_first (c ∷ cs) text spells begins calm rest = ap (λ b. not b && (not (c
     no_minus true e =
         let same : c ≡ 45 = eqb-true c 45 e in
         let starts : begins_with 45 text ≡ true =
-          ap (begins_with 45) (sym spells.encodes) ∙ ap (λ d. begins_with 45 (encode_utf8_all (d ∷ cs))) same ∙ ap (λ bs. begins_with 45 (bs ++ encode_utf8_all cs)) (encode_ascii 45 (lit< tt)) in
+        ap (begins_with 45) (sym spells.encodes) ∙ ap (λ d. begins_with 45 (encode_utf8_all (d ∷ cs))) same ∙ ap (λ bs. begins_with 45 (bs ++ encode_utf8_all cs)) (encode_ascii 45 (lit< tt)) in
         let wrong : true ≡ false = sym starts ∙ calm in absurd cc
 
 again_negation : {e : Exp} → Again IsUnary e → Again IsUnary (tree.unary Negation e)

@@ -1,5 +1,5 @@
 -- What a token says of the characters that are it.
-use Rattle.std.proofs.Common.{◌≡◌, refl, sym, ap, ◌∙◌, subst, ℕ, ◌+◌, ◌<◌, ◌≤◌, Bool, true, false, cond, not, ◌&&◌, ◌||◌, ◌==◌, List, [], ◌∷◌, ◌++◌, Option, Some, None, ◌⊎◌, inl, inr, pos}
+use Rattle.std.proofs.Common.{◌≡◌, refl, sym, ap, ◌∙◌, subst, ℕ, ◌≤◌, Bool, true, false, ◌&&◌, ◌||◌, ◌==◌, List, [], ◌∷◌, ◌++◌, Option, Some, None, pos}
 use Rattle.std.specs.Prelude.{nat_le, if◌then◌else◌}
 use Rattle.std.specs.Option.{option_map, option_or}
 use Rattle.std.specs.List.{list_all}
@@ -7,13 +7,11 @@ use Rattle.std.specs.Char.{is_ascii_digit, is_ascii_hexdigit}
 use Rattle.std.specs.Str.{encode_utf8_all}
 use Rattle.std.proofs.lemmas.Bool.{leb-true, eqb-true, and_parts}
 use Rattle.std.proofs.lemmas.List.Folds.{list_all-append}
-use Rattle.unicode_ident.specs.Ident.{is_xid_start, is_xid_continue}
 use Rattle.wgsl_token.specs.declared.token.Token.{Token}
 use Rattle.wgsl_token.specs.declared.token.Token.TheVariants as t
 use Rattle.wgsl_token.specs.declared.token.Fixed.{Fixed}
-use Rattle.wgsl_lex.specs.Tokens.{is_trivia, is_word, fixed_of, form, Form, trivia, token, token_form, is_reserved, word_token, begins_with_two_underscores, magnitude, zero_led_value, abstract_token, signed_token, unsigned_token, number_token, digits_value}
-use Rattle.wgsl_lex.proofs.Tables.{begins_word}
-use Rattle.wgsl_lex.proofs.Forms.{trivia_form, fixed_form, word_form, number_form, Ends, nothing, last, ends, suffix_token, suffix_of_none, number_token-append}
+use Rattle.wgsl_lex.specs.Tokens.{is_trivia, is_word, fixed_of, form, trivia, token, is_reserved, word_token, begins_with_two_underscores, magnitude, zero_led_value, abstract_token, signed_token, unsigned_token, number_token, digits_value}
+use Rattle.wgsl_lex.proofs.Forms.{trivia_form, fixed_form, word_form, number_form, nothing, last, ends, suffix_token, suffix_of_none, number_token-append}
 
 -- which rule makes some characters a token
 pub data Made (cs : List ℕ) (k : Token) : Type 0 where
@@ -59,7 +57,7 @@ word_is cs id e = by_underscores (begins_with_two_underscores cs) refl
     by_underscores : (b : Bool) → begins_with_two_underscores cs ≡ b → encode_utf8_all cs ≡ id
     by_underscores true h =
         let wrong : t.Identifier id ≡ t.Invalid =
-          subst (λ b. t.Identifier id ≡ (if b then t.Invalid else (if is_reserved cs then t.Reserved (encode_utf8_all cs) else t.Identifier (encode_utf8_all cs)))) h e in absurd cc
+        subst (λ b. t.Identifier id ≡ (if b then t.Invalid else (if is_reserved cs then t.Reserved (encode_utf8_all cs) else t.Identifier (encode_utf8_all cs)))) h e in absurd cc
     by_underscores false h =
         by_reserved (is_reserved cs) (subst (λ b. t.Identifier id ≡ (if b then t.Invalid else (if is_reserved cs then t.Reserved (encode_utf8_all cs) else t.Identifier (encode_utf8_all cs)))) h e)
 

@@ -1,15 +1,12 @@
 -- What stands behind a token that has been printed makes no longer form with it.
-use Rattle.std.specs.Prelude.{◌≢◌}
-use Rattle.std.proofs.Common.{◌≡◌, refl, sym, ap, ◌∙◌, subst, ℕ, Bool, true, false, not, ◌&&◌, ◌||◌, ◌==◌, List, [], ◌∷◌, ◌++◌, codes, Option, Some, None, ◌⊎◌, inl, inr}
+use Rattle.std.proofs.Common.{◌≡◌, refl, sym, ap, ◌∙◌, subst, ℕ, Bool, true, false, not, ◌&&◌, ◌||◌, ◌==◌, List, [], ◌∷◌, ◌++◌, codes, None, inl, inr}
 use Rattle.std.specs.List.{list_all}
 use Rattle.std.specs.Char.{is_ascii_digit}
 use Rattle.std.proofs.lemmas.Bool.{eqb-true, eq-eqb, or_cases}
-use Rattle.unicode_ident.specs.Ident.{is_xid_start, is_xid_continue}
+use Rattle.unicode_ident.specs.Ident.{is_xid_continue}
 use Rattle.unicode_ident.proofs.Computing.{unicode_ident}
-use Rattle.wgsl_token.specs.declared.token.Fixed.{Fixed}
-use Rattle.wgsl_token.specs.declared.token.Fixed.TheVariants as f
 use Rattle.wgsl_token.specs.Spelling.{spelling}
-use Rattle.wgsl_lex.specs.Tokens.{is_trivia, is_word, all_fixed, fixed_of, form, NoLonger}
+use Rattle.wgsl_lex.specs.Tokens.{all_fixed, form, NoLonger}
 use Rattle.wgsl_lex.proofs.Tables.{no_fixed, begins_word, stays_word, spellings_stay_words}
 use Rattle.wgsl_lex.proofs.Classes.{word_no_slash, word_no_digit}
 use Rattle.wgsl_lex.proofs.Forms.{no_form, no_trivia, no_word}

@@ -1,6 +1,6 @@
 -- Whole numbers in decimal are read as the tokens that they stand for.
-use Rattle.std.proofs.Common.{◌≡◌, refl, sym, ap, ◌∙◌, subst, ℕ, zero, suc, ◌+◌, ◌*◌, ◌^◌, ◌<◌, ◌≤◌, ◌/◌, ◌%◌, Bool, true, false, not, nat_lt, ◌&&◌, ◌==◌, List, [], ◌∷◌, ◌++◌, append_assoc, append-nil, arith, lit<, mod-lt, reverse, codes, Option, Some, None, ◌⊎◌, inl, inr, pos}
-use Rattle.std.specs.Prelude.{nat_le, fold, if◌then◌else◌}
+use Rattle.std.proofs.Common.{◌≡◌, refl, sym, ap, ◌∙◌, ℕ, zero, suc, ◌+◌, ◌*◌, ◌^◌, ◌<◌, ◌≤◌, ◌/◌, ◌%◌, true, false, not, nat_lt, ◌&&◌, ◌==◌, List, [], ◌∷◌, ◌++◌, append_assoc, append-nil, arith, lit<, mod-lt, reverse, codes, Option, Some, None, pos}
+use Rattle.std.specs.Prelude.{nat_le, if◌then◌else◌}
 use Rattle.std.specs.Option.{option_map, option_or}
 use Rattle.std.specs.List.{list_all}
 use Rattle.std.specs.Char.{is_ascii_digit}
@@ -12,10 +12,10 @@ use Rattle.std.proofs.lemmas.Nat.{div-add-mod'}
 use Rattle.std.proofs.lemmas.Fmt.{decimal_by_steps, decimal_digit}
 use Rattle.wgsl_token.specs.declared.token.Token.{Token}
 use Rattle.wgsl_token.specs.declared.token.Token.TheVariants as t
-use Rattle.wgsl_lex.specs.Tokens.{form, token, digit_value, digits_value, magnitude, zero_led_value, abstract_token, signed_token, unsigned_token, suffixed_number, number_token, NoLonger}
+use Rattle.wgsl_lex.specs.Tokens.{form, token, digit_value, digits_value, magnitude, abstract_token, suffixed_number, number_token, NoLonger}
 use Rattle.wgsl_lex.proofs.Forms.{digit_form, suffix_token, number_token-append}
 use Rattle.wgsl_laws.proofs.Forms.{is_magnitude_char, is_number_char, all_weaker, magnitude_chars, number_chars}
-use Rattle.wgsl_laws.proofs.Marks.{is_stop, stops, no_longer, all_fails, at_stop}
+use Rattle.wgsl_laws.proofs.Marks.{stops, no_longer, all_fails, at_stop}
 
 -- a number in decimal
 pub record IsDecimal (n : ℕ) (ds : List ℕ) : Type 0 where
@@ -100,21 +100,21 @@ pub abstract_form : (n : ℕ) → n ≤ 9223372036854775807 → form (decimal n)
 abstract_form n range =
     let small : n < 2 ^ 64 = omega arith in
     rw (append-nil (decimal n)) at (form_of_digits (decimal_is n small) []) ∙ ap (option_map token)
-      (ap (λ m. option_or (option_map abstract_token m) (suffixed_number (reverse (decimal n)))) (magnitude_decimal n small) ∙ ap (λ b. Some (if b then t.AbstractInt (pos n) else t.Invalid)) (le-leb n 9223372036854775807 range))
+    (ap (λ m. option_or (option_map abstract_token m) (suffixed_number (reverse (decimal n)))) (magnitude_decimal n small) ∙ ap (λ b. Some (if b then t.AbstractInt (pos n) else t.Invalid)) (le-leb n 9223372036854775807 range))
 
 pub signed_form : (n : ℕ) → n ≤ 2147483647 → form (decimal n ++ codes "i") ≡ Some (token (t.I32 (pos n)))
 signed_form n range =
     let small : n < 2 ^ 64 = omega arith in
     form_of_digits (decimal_is n small) (codes "i") ∙ ap (option_map token)
-      (number_token-append (decimal n) 105 ∙ (λ k. option_or (option_map abstract_token (no_magnitude_with (decimal n) 105 [] refl k)) (suffix_token 105 (magnitude_decimal n small k)))
-      ∙ ap (λ b. Some (if b then t.I32 (pos n) else t.Invalid)) (le-leb n 2147483647 range))
+    (number_token-append (decimal n) 105 ∙ (λ k. option_or (option_map abstract_token (no_magnitude_with (decimal n) 105 [] refl k)) (suffix_token 105 (magnitude_decimal n small k)))
+    ∙ ap (λ b. Some (if b then t.I32 (pos n) else t.Invalid)) (le-leb n 2147483647 range))
 
 pub unsigned_form : (n : ℕ) → n ≤ 4294967295 → form (decimal n ++ codes "u") ≡ Some (token (t.U32 n))
 unsigned_form n range =
     let small : n < 2 ^ 64 = omega arith in
     form_of_digits (decimal_is n small) (codes "u") ∙ ap (option_map token)
-      (number_token-append (decimal n) 117 ∙ (λ k. option_or (option_map abstract_token (no_magnitude_with (decimal n) 117 [] refl k)) (suffix_token 117 (magnitude_decimal n small k)))
-      ∙ ap (λ b. Some (if b then t.U32 n else t.Invalid)) (le-leb n 4294967295 range))
+    (number_token-append (decimal n) 117 ∙ (λ k. option_or (option_map abstract_token (no_magnitude_with (decimal n) 117 [] refl k)) (suffix_token 117 (magnitude_decimal n small k)))
+    ∙ ap (λ b. Some (if b then t.U32 n else t.Invalid)) (le-leb n 4294967295 range))
 
 pub digits_are_ascii : {n : ℕ} {ds : List ℕ} → IsDecimal n ds → list_all (λ c. nat_lt c 128) ds ≡ true
 digits_are_ascii {ds = ds} d = all_weaker is_ascii_digit (λ c. nat_lt c 128) (λ c h. let low : c ≤ 57 = leb-true c 57 (and_parts (nat_le 48 c) (nat_le c 57) h).1 in lt-ltb c 128 (omega arith)) ds d.digits

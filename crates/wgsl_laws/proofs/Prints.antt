@@ -1,5 +1,5 @@
 -- Characters that are read as a phrase wherever they stand before what may follow.
-use Rattle.std.proofs.Common.{◌≡◌, refl, sym, ap, ◌∙◌, subst, ℕ, ◌+◌, ◌<◌, nat_lt, Bool, true, false, ◌&&◌, List, [], ◌∷◌, ◌++◌, append_assoc, append-nil, add_assoc, arith, Option, Some}
+use Rattle.std.proofs.Common.{◌≡◌, refl, sym, ap, ◌∙◌, subst, ℕ, ◌+◌, ◌<◌, nat_lt, Bool, true, false, ◌&&◌, List, [], ◌∷◌, ◌++◌, append_assoc, append-nil, add_assoc, arith, Some}
 use Rattle.std.specs.Str.{encode_utf8_all, all_scalars}
 use Rattle.std.specs.List.{list_all}
 use Rattle.std.proofs.Math.Utf8.{scalar, low_scalar}
@@ -9,7 +9,7 @@ use Rattle.std.proofs.lemmas.Str.{encodes-append}
 use Rattle.wgsl_path.specs.declared.span.Span.{Span}
 use Rattle.wgsl_token.specs.declared.token.Token.{Token}
 use Rattle.wgsl_token.specs.declared.token.SpannedToken.{SpannedToken}
-use Rattle.wgsl_lex.specs.Tokens.{Lexes, a_token, behind_trivia, size, spanned, form, Form, trivia, token, NoLonger, IsLongest}
+use Rattle.wgsl_lex.specs.Tokens.{Lexes, a_token, behind_trivia, size, spanned, form, trivia, token, NoLonger}
 use Rattle.wgsl_lex.proofs.Sizes.{size-append}
 
 -- some tokens are a phrase, and the characters lex to them and the rest's tokens
