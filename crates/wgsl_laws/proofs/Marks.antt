@@ -75,10 +75,6 @@ unspaced (x ∷ y ∷ xs) = not (y == 32)
 pub spaced_no_longer : (c : ℕ) (rest : List ℕ) → begins_word c ≡ false → is_ascii_digit c ≡ false → spaced rest ≡ true → NoLonger (c ∷ []) rest
 spaced_no_longer c rest letter digit ok = no_longer spaced (c ∷ []) rest ok next
   where
-    trivial : (b : Bool) → (b && ((false && true) || (false && true))) ≡ false
-    trivial true = refl
-    trivial false = refl
-
     at_space : (more : List ℕ) → form (c ∷ 32 ∷ more) ≡ None
     at_space more = no_form c (32 ∷ more) (no_comment (c == 47)) (no_fixed unspaced refl (c ∷ 32 ∷ more) refl) (no_word c (32 ∷ more) letter) digit
       where
