@@ -1,2 +1,5 @@
+pub mod Laws
+pub mod Pieces
+pub mod Rows
 pub mod Runs
 pub mod Tokens

@@ -69,7 +69,7 @@ all_fixed = f.Alias ∷ f.Break ∷ f.Case ∷ f.Const ∷ f.ConstAssert ∷ f.C
     f.AndEqual ∷ f.OrEqual ∷ f.XorEqual ∷ f.ShiftRightAssign ∷ f.ShiftLeftAssign ∷ f.Import ∷ f.Package ∷ f.Super ∷ f.As ∷ []
 
 -- the one that is spelled so
-abbrev pub fixed_of : List ℕ → Option FixedToken
+unfoldable pub fixed_of : List ℕ → Option FixedToken
 fixed_of cs = find (λ fixed. bytes_eq (spelling fixed) cs) all_fixed
 
 -- the reserved words that no grammar names (this project's table)
@@ -93,7 +93,7 @@ reserved_words = codes "NULL" ∷ codes "Self" ∷ codes "abstract" ∷ codes "a
     codes "unsized" ∷ codes "use" ∷ codes "using" ∷ codes "varying" ∷ codes "virtual" ∷ codes "volatile" ∷ codes "wgsl" ∷ codes "where" ∷ codes "with" ∷
     codes "writeonly" ∷ codes "yield" ∷ []
 
-abbrev pub is_reserved : List ℕ → Bool
+unfoldable pub is_reserved : List ℕ → Bool
 is_reserved cs = list_any (λ word. bytes_eq word cs) reserved_words
 
 -- the token of a word that is no keyword
@@ -146,10 +146,10 @@ pub data Form : Type 0 where
   trivia : Form
   token : Token → Form
 
-abbrev pub token_form : List ℕ → Option Token
+unfoldable pub token_form : List ℕ → Option Token
 token_form cs = option_or (option_map Fixed (fixed_of cs)) (if is_word cs then Some (word_token cs) else number_token cs)
 
-abbrev pub form : List ℕ → Option Form
+unfoldable pub form : List ℕ → Option Form
 form cs = if is_trivia cs then Some trivia else option_map token (token_form cs)
 
 -- No more of what stands behind these characters makes a form with them.

@@ -1,83 +1,75 @@
 //! The tokens of a text.
 
-ghost use Rattle.std.specs.Prelude.{◌≡◌, ◌≤◌, ◌<◌, ◌^◌, length, IfOk};
-ghost use Rattle.wgsl_lex.specs.Tokens.{size};
+ghost use Rattle.std.specs.Prelude.{◌≡◌, ◌≤◌, ◌<◌, ◌^◌, ◌+◌, ◌∷◌, length, None, IfOk};
+ghost use Rattle.wgsl_lex.specs.Tokens.{size, IsLexed};
+ghost use Rattle.wgsl_lex.specs.Pieces.{StandsFirst};
 
 use crate::number::number;
 use crate::piece::Piece;
-use crate::run::{line_run, word_run};
+use crate::run::word_run;
 use crate::symbol::symbol;
-use crate::trivia::{block_comment_length, is_blankspace};
-use crate::word::word_token;
+use crate::trivia::{comment_length, is_blankspace};
+use crate::word::{begins_word, word_token};
 use std::alloc::{AllocError, Global};
-use unicode_ident::{is_xid_continue, is_xid_start};
 use wgsl_items::Items;
 use wgsl_path::Span;
 use wgsl_token::SpannedToken;
 
 /// The tokens of a text (WGSL, "Textual Structure"), each with its place in bytes: at every place the longest one, with
 /// blankspace and comments left out. What is no token is an invalid token. Only memory can fail.
-pub fn lex(alloc: Global, text: &str) -> Result<Items<SpannedToken>, AllocError> {
+pub fn lex(alloc: Global, text: &str) -> Result<Items<SpannedToken>, AllocError>
+    ensures { IfOk result (IsLexed text.now) }
+{
     let characters: Vec<char> = text.chars().collect(alloc)?;
     let mut tokens = Items::new(alloc);
     let mut rest = characters.as_slice();
     let mut start = 0;
-    while !rest.is_empty() {
-        let Piece { length, token } = first_piece(alloc, rest)?;
-        let (front, behind) = rest.split_at(length);
+    while let Some((first, behind)) = rest.split_first() {
+        let Piece { length, token } = first_piece(alloc, *first, behind)?;
+        let (front, back) = rest.split_at(length);
         let end = start + size_of(front);
         if let Some(token) = token {
             let span = Span { start, end };
             tokens.push(SpannedToken { token, span })?;
         }
-        rest = behind;
+        rest = back;
         start = end;
     }
     Ok(tokens)
 }
 
-/// What stands at the front of some characters.
-fn first_piece(alloc: Global, characters: &[char]) -> Result<Piece, AllocError>
-    requires { 0 < length characters.now }
-    ensures within { IfOk result (λ piece. piece.length ≤ length characters.now) }
-    ensures some { IfOk result (λ piece. 0 < piece.length) }
+/// What stands at the front: of this character, and what is behind it.
+fn first_piece(alloc: Global, first: char, behind: &[char]) -> Result<Piece, AllocError>
+    ensures within { IfOk result (λ piece. piece.length ≤ length behind.now + 1) }
+    ensures first { IfOk result (λ piece. StandsFirst (first ∷ behind.now) piece.length piece.token) }
 {
-    let first = characters[0];
     if is_blankspace(first) {
         return Ok(trivia(1));
     }
-    let behind = &characters[1..];
-    if is_xid_start(first) || (first == '_' && continues_word(behind)) {
-        let length = 1 + word_run(behind);
-        let token = Some(word_token(alloc, &characters[..length])?);
-        return Ok(Piece { length, token });
+    if let Some(length) = comment_length(first, behind) {
+        return Ok(trivia(length));
+    }
+    if begins_word(first, behind) {
+        let (rest_of_word, _) = behind.split_at(word_run(behind));
+        let token = word_token(alloc, first, rest_of_word)?;
+        return Ok(Piece {
+            length: 1 + rest_of_word.len(),
+            token: Some(token),
+        });
     }
     if first.is_ascii_digit() {
-        return Ok(number(characters));
+        return Ok(number(first, behind));
     }
-    if first == '/' && !behind.is_empty() {
-        if behind[0] == '/' {
-            return Ok(trivia(2 + line_run(&behind[1..])));
-        }
-        if behind[0] == '*' {
-            return Ok(trivia(2 + block_comment_length(&behind[1..])));
-        }
-    }
-    Ok(symbol(characters))
+    Ok(symbol(first, behind))
 }
 
 fn trivia(length: usize) -> Piece
-    ensures { result.length ≡ length }
+    ensures { result ≡ record { length = length; token = None } }
 {
     Piece {
         length,
         token: None,
     }
-}
-
-/// Whether the first of these characters continues a word.
-fn continues_word(characters: &[char]) -> bool {
-    !characters.is_empty() && is_xid_continue(characters[0])
 }
 
 /// How many bytes some characters have in UTF-8.

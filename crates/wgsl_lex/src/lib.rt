@@ -1,6 +1,7 @@
 //! The tokens of WGSL texts.
 #![tactic(auto)]
 
+pub mod laws;
 mod lexer;
 mod number;
 mod piece;

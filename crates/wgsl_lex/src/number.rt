@@ -1,88 +1,101 @@
 //! Whole numbers (WGSL, "Numeric Literals").
 
-ghost use Rattle.std.specs.Prelude.{◌≡◌, ◌≤◌, ◌<◌, ◌+◌, length, IsTrue};
-ghost use Rattle.std.specs.Char.{is_ascii_hexdigit};
-ghost use Rattle.wgsl_lex.specs.Tokens.{digit_value};
+ghost use Rattle.std.specs.Prelude.{◌≡◌, ◌≤◌, ◌+◌, ◌∷◌, ℕ, length, true};
+ghost use Rattle.std.specs.Char.{is_ascii_digit};
+ghost use Rattle.wgsl_lex.specs.Tokens.{digit_value, abstract_token, signed_token, unsigned_token};
+ghost use Rattle.wgsl_lex.specs.Runs.{IsValue, value_behind};
+ghost use Rattle.wgsl_lex.specs.Pieces.{StandsFirst, HasMagnitude, IsHexadecimalAnswer, is_mark};
 
 use crate::piece::Piece;
-use crate::run::{decimal_run, hexadecimal_run};
+use crate::run::{decimal_run, hexadecimal_run, is_at};
 use wgsl_token::Token;
 
 /// A whole number without its suffix.
 struct Magnitude {
-    /// How many characters it has.
+    /// How many characters it has behind the first.
     length: usize,
     /// Its value, unless that is past 64 bits.
     value: Option<u64>,
 }
 
-/// The longest whole number at the front, which begins with a digit.
-pub(crate) fn number(characters: &[char]) -> Piece
-    requires { 0 < length characters.now }
-    ensures within { result.length ≤ length characters.now }
-    ensures some { 0 < result.length }
+/// The longest whole number that begins with this digit.
+pub(crate) fn number(first: char, behind: &[char]) -> Piece
+    requires { is_ascii_digit first ≡ true }
+    ensures within { result.length ≤ length behind.now + 1 }
+    ensures first { StandsFirst (first ∷ behind.now) result.length result.token }
 {
-    let Magnitude { length, value } = unsuffixed(characters);
-    let suffix = characters.get(length).copied();
-    if suffix == Some('i') {
+    let Magnitude { length, value } = unsuffixed(first, behind);
+    if is_at(behind, length, 'i') {
         Piece {
-            length: length + 1,
+            length: length + 2,
             token: Some(signed_token(value)),
         }
-    } else if suffix == Some('u') {
+    } else if is_at(behind, length, 'u') {
         Piece {
-            length: length + 1,
+            length: length + 2,
             token: Some(unsigned_token(value)),
         }
     } else {
         Piece {
-            length,
+            length: length + 1,
             token: Some(abstract_token(value)),
         }
     }
 }
 
-/// The longest whole number at the front, its suffix left aside.
-fn unsuffixed(characters: &[char]) -> Magnitude
-    requires { 0 < length characters.now }
-    ensures within { result.length ≤ length characters.now }
-    ensures some { 0 < result.length }
+/// The longest whole number that begins with this digit, its suffix left aside.
+fn unsuffixed(first: char, behind: &[char]) -> Magnitude
+    requires { is_ascii_digit first ≡ true }
+    ensures within { result.length ≤ length behind.now }
+    ensures longest { HasMagnitude first behind.now result.length result.value }
 {
-    if characters[0] != '0' {
-        let count = decimal_run(characters);
-        Magnitude {
-            length: count.max(1),
-            value: digits_value(10, &characters[..count]),
-        }
-    } else {
-        zero_led(&characters[1..])
+    if first != '0' {
+        let (digits, _) = behind.split_at(decimal_run(behind));
+        return Magnitude {
+            length: digits.len(),
+            value: digits_value(10, digit_value(first), digits),
+        };
+    }
+    match hexadecimal(behind) {
+        Some(magnitude) => magnitude,
+        None => Magnitude {
+            length: 0,
+            value: Some(0),
+        },
     }
 }
 
-/// A whole number that begins with `0`, of which this is what stands behind.
-fn zero_led(behind: &[char]) -> Magnitude
-    ensures within { result.length ≤ length behind.now + 1 }
-    ensures some { 0 < result.length }
+/// What makes a hexadecimal number behind a `0`.
+fn hexadecimal(behind: &[char]) -> Option<Magnitude>
+    ensures { IsHexadecimalAnswer behind.now result }
 {
-    if behind.len() > 1 && (behind[0] == 'x' || behind[0] == 'X') {
-        let digits = &behind[1..];
-        let count = hexadecimal_run(digits);
-        if count > 0 {
-            return Magnitude {
-                length: count + 2,
-                value: digits_value(16, &digits[..count]),
-            };
-        }
+    let (mark, tail) = behind.split_first()?;
+    if !is_mark(*mark) {
+        return None;
     }
-    Magnitude {
-        length: 1,
-        value: Some(0),
+    let (digits, _) = tail.split_at(hexadecimal_run(tail));
+    if digits.is_empty() {
+        return None;
     }
+    Some(Magnitude {
+        length: 1 + digits.len(),
+        value: digits_value(16, 0, digits),
+    })
 }
 
-/// The value of some digits, or `None` where it is past 64 bits.
-fn digits_value(base: u64, digits: &[char]) -> Option<u64> {
-    let mut value: u64 = 0;
+/// Whether the character marks a hexadecimal number behind `0`.
+fn is_mark(character: char) -> bool
+    ensures { result ≡ is_mark character }
+{
+    matches!(character, 'x' | 'X')
+}
+
+/// The value of some digits behind what has this value, or `None` where it is past 64 bits.
+fn digits_value(base: u64, before: u64, digits: &[char]) -> Option<u64>
+    requires { 1 ≤ base }
+    ensures { IsValue result (value_behind base before digits.now) }
+{
+    let mut value = before;
     for digit in digits {
         value = value.checked_mul(base)?.checked_add(digit_value(*digit))?;
     }
@@ -91,7 +104,7 @@ fn digits_value(base: u64, digits: &[char]) -> Option<u64> {
 
 /// The value of a digit: `0` to `9`, `A` to `F` or `a` to `f`.
 fn digit_value(digit: char) -> u64
-    ensures { IsTrue (is_ascii_hexdigit digit) → result ≡ digit_value digit }
+    ensures { result ≡ digit_value digit }
 {
     if digit <= '9' {
         (digit as u64).saturating_sub(48)
@@ -102,7 +115,10 @@ fn digit_value(digit: char) -> u64
     }
 }
 
-fn abstract_token(value: Option<u64>) -> Token {
+/// The token of a value without suffix.
+fn abstract_token(value: Option<u64>) -> Token
+    ensures { (n : ℕ) → IsValue value n → result ≡ abstract_token n }
+{
     if let Some(value) = value
         && value <= 9_223_372_036_854_775_807
     {
@@ -112,7 +128,10 @@ fn abstract_token(value: Option<u64>) -> Token {
     }
 }
 
-fn signed_token(value: Option<u64>) -> Token {
+/// The token of a value with the suffix `i`.
+fn signed_token(value: Option<u64>) -> Token
+    ensures { (n : ℕ) → IsValue value n → result ≡ signed_token n }
+{
     if let Some(value) = value
         && value <= 2_147_483_647
     {
@@ -122,7 +141,10 @@ fn signed_token(value: Option<u64>) -> Token {
     }
 }
 
-fn unsigned_token(value: Option<u64>) -> Token {
+/// The token of a value with the suffix `u`.
+fn unsigned_token(value: Option<u64>) -> Token
+    ensures { (n : ℕ) → IsValue value n → result ≡ unsigned_token n }
+{
     if let Some(value) = value
         && value <= 4_294_967_295
     {

@@ -1,5 +1,6 @@
 //! Runs of characters of one kind.
 
+ghost use Rattle.std.specs.Prelude.{◌≡◌, ◌↔◌, Some, IsTrue, slice_get};
 ghost use Rattle.std.specs.Char.{is_ascii_digit, is_ascii_hexdigit};
 ghost use Rattle.unicode_ident.specs.Ident.{is_xid_continue};
 ghost use Rattle.wgsl_lex.specs.Runs.{IsRun, is_no_line_break};
@@ -53,4 +54,14 @@ pub(crate) fn hexadecimal_run(characters: &[char]) -> usize
         }
     }
     characters.len()
+}
+
+/// Whether this character stands at an index.
+pub(crate) fn is_at(characters: &[char], at: usize, character: char) -> bool
+    ensures { IsTrue result ↔ (slice_get characters.now at ≡ Some character) }
+{
+    match characters.get(at) {
+        Some(found) => *found == character,
+        None => false,
+    }
 }

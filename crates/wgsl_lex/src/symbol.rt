@@ -1,6 +1,9 @@
 //! Tokens that are spelled without letters or digits (WGSL, "Syntactic Tokens").
 
-ghost use Rattle.std.specs.Prelude.{◌≡◌, ◌≤◌, ◌<◌, length};
+ghost use Rattle.std.specs.Prelude.{◌≡◌, ◌≤◌, ◌+◌, ◌==◌, ◌&&◌, ◌∷◌, length, find, Some, false};
+ghost use Rattle.std.specs.Option.{option_map};
+ghost use Rattle.unicode_ident.specs.Ident.{is_xid_start};
+ghost use Rattle.wgsl_lex.specs.Pieces.{StandsFirst, BeginsNothingElse, spelled_by_two, spelled_by_three};
 
 use crate::piece::Piece;
 use wgsl_token::{Fixed, Token};
@@ -61,34 +64,30 @@ static THREE: [(char, char, char, Fixed); 2] = [
     ('<', '<', '=', Fixed::ShiftLeftAssign),
 ];
 
-/// The longest symbol at the front, or an invalid character.
-pub(crate) fn symbol(characters: &[char]) -> Piece
-    requires { 0 < length characters.now }
-    ensures within { result.length ≤ length characters.now }
-    ensures some { 0 < result.length }
+/// What stands at the front of characters that begin as no blankspace, comment, word or number: the longest symbol, or an
+/// invalid character.
+pub(crate) fn symbol(first: char, behind: &[char]) -> Piece
+    requires { BeginsNothingElse first behind.now }
+    ensures within { result.length ≤ length behind.now + 1 }
+    ensures first { StandsFirst (first ∷ behind.now) result.length result.token }
 {
-    let first = characters[0];
-    if characters.len() > 2
-        && let Some(fixed) = three(first, characters[1], characters[2])
-    {
+    if let Some(fixed) = three_at(first, behind) {
         return fixed_piece(3, fixed);
     }
-    if characters.len() > 1
-        && let Some(fixed) = two(first, characters[1])
-    {
+    if let Some(fixed) = two_at(first, behind) {
         return fixed_piece(2, fixed);
     }
-    match one(first) {
-        Some(fixed) => fixed_piece(1, fixed),
-        None => Piece {
-            length: 1,
-            token: Some(Token::Invalid),
-        },
+    if let Some(fixed) = one(first) {
+        return fixed_piece(1, fixed);
+    }
+    Piece {
+        length: 1,
+        token: Some(Token::Invalid),
     }
 }
 
 fn fixed_piece(length: usize, fixed: Fixed) -> Piece
-    ensures { result.length ≡ length }
+    ensures { result ≡ record { length = length; token = Some (Token.Fixed fixed) } }
 {
     Piece {
         length,
@@ -96,32 +95,44 @@ fn fixed_piece(length: usize, fixed: Fixed) -> Piece
     }
 }
 
+/// The symbol of the first three characters.
+fn three_at(first: char, behind: &[char]) -> Option<Fixed>
+    ensures { is_xid_start first ≡ false → result ≡ spelled_by_three first behind.now }
+{
+    three(first, *behind.first()?, *behind.get(1)?)
+}
+
+/// The symbol of the first two characters.
+fn two_at(first: char, behind: &[char]) -> Option<Fixed>
+    ensures { is_xid_start first ≡ false → result ≡ spelled_by_two first behind.now }
+{
+    two(first, *behind.first()?)
+}
+
 /// The symbol of this character.
-fn one(first: char) -> Option<Fixed> {
-    for (a, fixed) in &ONE {
-        if *a == first {
-            return Some(*fixed);
-        }
-    }
-    None
+fn one(first: char) -> Option<Fixed>
+    ensures { result ≡ option_map (λ entry. entry.1) (find (λ entry. entry.0 == first) ONE) }
+{
+    ONE.iter()
+        .find(|entry| entry.0 == first)
+        .map(|entry| entry.1)
 }
 
 /// The symbol of these two characters.
-fn two(first: char, second: char) -> Option<Fixed> {
-    for (a, b, fixed) in &TWO {
-        if *a == first && *b == second {
-            return Some(*fixed);
-        }
-    }
-    None
+fn two(first: char, second: char) -> Option<Fixed>
+    ensures { result ≡ option_map (λ entry. entry.2) (find (λ entry. (entry.0 == first) && (entry.1 == second)) TWO) }
+{
+    TWO.iter()
+        .find(|entry| entry.0 == first && entry.1 == second)
+        .map(|entry| entry.2)
 }
 
 /// The symbol of these three characters.
-fn three(first: char, second: char, third: char) -> Option<Fixed> {
-    for (a, b, c, fixed) in &THREE {
-        if *a == first && *b == second && *c == third {
-            return Some(*fixed);
-        }
-    }
-    None
+fn three(first: char, second: char, third: char) -> Option<Fixed>
+    ensures { result ≡ option_map (λ entry. entry.3) (find (λ entry. (entry.0 == first) && (entry.1 == second) && (entry.2 == third)) THREE) }
+{
+    THREE
+        .iter()
+        .find(|entry| entry.0 == first && entry.1 == second && entry.2 == third)
+        .map(|entry| entry.3)
 }

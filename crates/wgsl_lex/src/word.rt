@@ -1,9 +1,13 @@
 //! Words (WGSL, "Identifiers", "Keywords" and "Reserved Words").
 
-ghost use Rattle.std.specs.Prelude.{◌≡◌, IfOk};
+ghost use Rattle.std.specs.Prelude.{◌≡◌, ◌∷◌, true, Some, IfOk};
 ghost use Rattle.std.specs.Str.{encode_utf8_all};
+ghost use Rattle.wgsl_lex.specs.Tokens.{is_word, begins_with_two_underscores, token_form};
+ghost use Rattle.wgsl_lex.specs.Rows.{ascends, IsFound};
+ghost use Rattle.wgsl_lex.specs.Pieces.{IsListed, opens_word, begins_with_continue};
 
 use std::alloc::{AllocError, Global};
+use unicode_ident::{is_xid_continue, is_xid_start};
 use wgsl_items::Text;
 use wgsl_token::{Fixed, Token};
 
@@ -183,28 +187,74 @@ static WORDS: [(&str, Option<Fixed>); 172] = [
     ("yield", None),
 ];
 
-/// The token of a word.
-pub(crate) fn word_token(alloc: Global, word: &[char]) -> Result<Token, AllocError> {
-    if word.len() > 1 && word[0] == '_' && word[1] == '_' {
+/// Whether a word begins with this character, of which those stand behind.
+pub(crate) fn begins_word(first: char, behind: &[char]) -> bool
+    ensures { result ≡ opens_word first behind.now }
+{
+    is_xid_start(first) | ((first == '_') & continues_word(behind))
+}
+
+/// Whether the first of these characters continues a word.
+fn continues_word(characters: &[char]) -> bool
+    ensures { result ≡ begins_with_continue characters.now }
+{
+    match characters.first() {
+        Some(first) => is_xid_continue(*first),
+        None => false,
+    }
+}
+
+/// The token of a word, given by its first character and those behind.
+pub(crate) fn word_token(alloc: Global, first: char, behind: &[char]) -> Result<Token, AllocError>
+    requires { is_word (first ∷ behind.now) ≡ true }
+    ensures { IfOk result (λ token. token_form (first ∷ behind.now) ≡ Some token) }
+{
+    if is_underscored(first, behind) {
         return Ok(Token::Invalid);
     }
-    let text = text_of(alloc, word)?;
-    let spelled = text.as_str();
-    match WORDS.binary_search_by_key(&spelled, |entry| entry.0) {
-        Ok(at) => match WORDS[at].1 {
-            Some(fixed) => Ok(Token::Fixed(fixed)),
-            None => Ok(Token::Reserved(text)),
-        },
-        Err(_) => Ok(Token::Identifier(text)),
+    let text = text_of(alloc, first, behind)?;
+    match listed(text.as_str()) {
+        Some(Some(fixed)) => Ok(Token::Fixed(fixed)),
+        Some(None) => Ok(Token::Reserved(text)),
+        None => Ok(Token::Identifier(text)),
+    }
+}
+
+/// Whether a word begins with two underscores.
+fn is_underscored(first: char, behind: &[char]) -> bool
+    ensures { result ≡ begins_with_two_underscores (first ∷ behind.now) }
+{
+    match behind.first() {
+        Some(second) => (first == '_') & (*second == '_'),
+        None => false,
+    }
+}
+
+/// What the table has of a word.
+fn listed(word: &str) -> Option<Option<Fixed>>
+    ensures { IsListed word.now result }
+{
+    found(&WORDS, word)
+}
+
+/// What a table in order has of a word.
+fn found(table: &[(&str, Option<Fixed>)], word: &str) -> Option<Option<Fixed>>
+    requires { ascends (λ entry. entry.0.now) table.now ≡ true }
+    ensures { IsFound (λ entry. entry.0.now) (λ entry. entry.1) table.now word.now result }
+{
+    match table.binary_search_by_key(&word, |entry| entry.0) {
+        Ok(at) => Some(table[at].1),
+        Err(_) => None,
     }
 }
 
 /// The text that some characters spell.
-fn text_of(alloc: Global, characters: &[char]) -> Result<Text, AllocError>
-    ensures { IfOk result (λ text. text ≡ encode_utf8_all characters.now) }
+fn text_of(alloc: Global, first: char, behind: &[char]) -> Result<Text, AllocError>
+    ensures { IfOk result (λ text. text ≡ encode_utf8_all (first ∷ behind.now)) }
 {
     let mut text = String::new(alloc);
-    for character in characters {
+    text.push(first)?;
+    for character in behind {
         text.push(*character)?;
     }
     Ok(Text::from_string(text))

@@ -1,9 +1,9 @@
-use Rattle.std.proofs.Common.{◌≡◌, ◌+◌, length}
-use Rattle.wgsl_lex.specs.Tokens.{size}
+use Rattle.std.proofs.Common.{length}
+use Rattle.wgsl_lex.proofs.Reading.{IsReadTo}
 use Rattle.wgsl_lex.proofs.lexer.lex.Given as goal
 
-abbrev pub decreases-loop-rest : goal.decreases-loop-rest
-decreases-loop-rest l = length l.rest
+abbrev pub decreases-loop-first : goal.decreases-loop-first
+decreases-loop-first l = length l.rest
 
-abbrev pub invariant-loop-rest : goal.invariant-loop-rest
-invariant-loop-rest l = l.start + size l.rest ≡ length l.fn.text
+abbrev pub invariant-loop-first : goal.invariant-loop-first
+invariant-loop-first l = IsReadTo l.fn.text l.start l.rest l.tokens

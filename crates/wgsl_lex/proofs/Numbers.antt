@@ -1,0 +1,126 @@
+-- Whole numbers.
+use Rattle.std.specs.Prelude.{◌≢◌, not, Option, Some, None, MatchOption, nat_le, fold, if◌then◌else◌}
+use Rattle.std.proofs.Common.{◌≡◌, ℕ, zero, suc, ◌+◌, ◌-◌, ◌*◌, ◌^◌, ◌<◌, ◌≤◌, Bool, true, false, cond, ◌&&◌, ◌||◌, ◌==◌, ◌⊎◌, inl, inr, List, [], ◌∷◌, ◌++◌, length, take, drop, get_or, refl, sym, ◌∙◌, ap, subst, arith, append_assoc, append-nil}
+use Rattle.std.specs.Option.{option_map, option_or}
+use Rattle.std.specs.List.{list_all, list_any}
+use Rattle.std.specs.Char.{is_ascii_digit, is_ascii_hexdigit}
+use Rattle.std.proofs.lemmas.List.{take_more, take-append-drop}
+use Rattle.std.proofs.Math.Nat.{le-mul_of_pos_right}
+use Rattle.wgsl_token.specs.declared.token.Token.{Token}
+use Rattle.wgsl_lex.specs.Tokens.{magnitude, zero_led_value, digit_value, digits_value, abstract_token, signed_token, unsigned_token, number_token, form, Form, token, NoLonger, IsLongest}
+use Rattle.wgsl_lex.specs.Runs.{IsLongestRun, IsLongestMagnitude, IsValue, value_behind}
+use Rattle.wgsl_lex.specs.Pieces.{is_mark, goes_on}
+use Rattle.wgsl_lex.proofs.Bools.{and_false, both, either, not_both, fails, differs, is_number}
+use Rattle.wgsl_lex.proofs.Forms.{Ends, ends, nothing, last, suffix_token, suffix_of_none, number_token-append, digit_form}
+
+-- The three kinds
+
+pub decimal_longest : (c : ℕ) (ds rest : List ℕ) → (c == 48) ≡ false → IsLongestRun (list_all is_ascii_digit) (c ∷ ds) rest → IsLongestMagnitude (c ∷ ds) rest (digits_value 10 (c ∷ ds))
+decimal_longest c ds rest nonzero run = record {
+  is = rw (nonzero, run.passes);
+  longest = λ more behind nonempty e. rw (nonzero, run.longest more behind nonempty e);
+}
+
+pub hexadecimal_longest : (x c : ℕ) (cs rest : List ℕ) → is_mark x ≡ true → IsLongestRun (list_all is_ascii_hexdigit) (c ∷ cs) rest
+    → IsLongestMagnitude (48 ∷ x ∷ c ∷ cs) rest (digits_value 16 (c ∷ cs))
+hexadecimal_longest x c cs rest marked run = record {
+  is = rw (marked, run.passes);
+  longest = λ more behind nonempty e. rw (marked, run.longest more behind nonempty e);
+}
+
+-- a zero behind which no hexadecimal number goes on
+pub zero_longest : (rest : List ℕ) → goes_on rest ≡ false → IsLongestMagnitude (48 ∷ []) rest 0
+zero_longest rest ended = record { is = refl; longest = λ more behind nonempty e. stops more behind nonempty (ap goes_on (sym e) ∙ ended) }
+  where
+    led : (x c : ℕ) (cs : List ℕ) → (is_mark x && is_ascii_hexdigit c) ≡ false → zero_led_value (x ∷ c ∷ cs) ≡ None
+    led x c cs e =
+        elim (is_mark x) as (λ b. (b && is_ascii_hexdigit c) ≡ false → (if b && (is_ascii_hexdigit c && list_all is_ascii_hexdigit cs) then Some (digits_value 16 (c ∷ cs)) else None) ≡ None) [
+          | true ↦ λ h. rw h
+          | false ↦ λ h. refl
+        ] e
+
+    stops : (more behind : List ℕ) → more ≢ [] → goes_on (more ++ behind) ≡ false → magnitude (48 ∷ more) ≡ None
+    stops [] behind nonempty e = absurd (nonempty refl)
+    stops (x ∷ []) behind nonempty e = refl
+    stops (x ∷ c ∷ cs) behind nonempty e = led x c cs e
+
+-- With a suffix or without
+
+module _ (c : ℕ) (ds rest : List ℕ) (value : ℕ) (digit : is_ascii_digit c ≡ true) where
+  -- without
+  pub plain_longest : IsLongestMagnitude (c ∷ ds) rest value → ((d : ℕ) (behind : List ℕ) → rest ≡ d ∷ behind → ((d == 105) ≡ false) × ((d == 117) ≡ false))
+      → IsLongest (c ∷ ds) rest (token (abstract_token value))
+  plain_longest run unsuffixed = record {
+    is = digit_form c ds digit ∙ rw run.is;
+    longest = λ more behind nonempty e. digit_form c (ds ++ more) digit ∙ ap (option_map token) (stops more (ends more) behind nonempty e);
+  }
+    where
+      before : (ys : List ℕ) (y : ℕ) (behind : List ℕ) → rest ≡ ys ++ y ∷ behind → suffix_token y (magnitude (c ∷ (ds ++ ys))) ≡ None
+      before [] y behind e =
+          let h = unsuffixed y behind e in
+          let m : magnitude (c ∷ (ds ++ [])) ≡ magnitude (c ∷ ds) = ap (λ xs. magnitude (c ∷ xs)) (append-nil ds) in
+          ap (suffix_token y) (m ∙ run.is) ∙ rw (h.0, h.1)
+      before (x ∷ ys) y behind e = ap (suffix_token y) (run.longest (x ∷ ys) (y ∷ behind) (λ n. cc) e) ∙ suffix_of_none y
+
+      stops : (more : List ℕ) → Ends more → (behind : List ℕ) → more ≢ [] → rest ≡ more ++ behind → number_token (c ∷ (ds ++ more)) ≡ None
+      stops [] nothing behind nonempty e = absurd (nonempty refl)
+      stops _ (last ys y) behind nonempty e =
+          let seam : c ∷ (ds ++ (ys ++ y ∷ [])) ≡ (c ∷ (ds ++ ys)) ++ y ∷ [] = ap (λ xs. c ∷ xs) (sym (append_assoc ds ys (y ∷ []))) in
+          let gone : magnitude ((c ∷ (ds ++ ys)) ++ y ∷ []) ≡ None = ap magnitude (sym seam) ∙ run.longest (ys ++ y ∷ []) behind nonempty e in
+          ap number_token seam ∙ number_token-append (c ∷ (ds ++ ys)) y ∙ rw gone (before ys y behind (e ∙ append_assoc ys (y ∷ []) behind))
+
+  -- with
+  pub suffixed_longest : (s : ℕ) (t : Token) → IsLongestMagnitude (c ∷ ds) (s ∷ rest) value → suffix_token s (Some value) ≡ Some t → IsLongest (c ∷ (ds ++ s ∷ [])) rest (token t)
+  suffixed_longest s t run suffix = record {
+    is = digit_form c (ds ++ s ∷ []) digit ∙ ap (option_map token) whole;
+    longest = λ more behind nonempty e. digit_form c ((ds ++ s ∷ []) ++ more) digit ∙ ap (option_map token) (stops more (ends more) behind nonempty e);
+  }
+    where
+      whole : number_token (c ∷ (ds ++ s ∷ [])) ≡ Some t
+      whole = number_token-append (c ∷ ds) s ∙ rw (run.longest (s ∷ []) rest (λ n. cc) refl, run.is) suffix
+
+      stops : (more : List ℕ) → Ends more → (behind : List ℕ) → more ≢ [] → rest ≡ more ++ behind → number_token (c ∷ ((ds ++ s ∷ []) ++ more)) ≡ None
+      stops [] nothing behind nonempty e = absurd (nonempty refl)
+      stops _ (last ys y) behind nonempty e =
+          let seam : c ∷ ((ds ++ s ∷ []) ++ (ys ++ y ∷ [])) ≡ (c ∷ (ds ++ s ∷ ys)) ++ y ∷ [] =
+          ap (λ xs. c ∷ xs) (append_assoc ds (s ∷ []) (ys ++ y ∷ []) ∙ sym (append_assoc ds (s ∷ ys) (y ∷ [])))
+          in
+          let e' : s ∷ rest ≡ (s ∷ ys) ++ y ∷ behind = ap (λ xs. s ∷ xs) (e ∙ append_assoc ys (y ∷ []) behind) in
+          let e'' : s ∷ rest ≡ (s ∷ (ys ++ y ∷ [])) ++ behind = ap (λ xs. s ∷ xs) e in
+          let gone : magnitude ((c ∷ (ds ++ s ∷ ys)) ++ y ∷ []) ≡ None =
+          ap (λ xs. magnitude (c ∷ xs)) (append_assoc ds (s ∷ ys) (y ∷ [])) ∙ run.longest (s ∷ (ys ++ y ∷ [])) behind (λ n. cc) e''
+          in
+          ap number_token seam ∙ number_token-append (c ∷ (ds ++ s ∷ ys)) y ∙ rw (gone, run.longest (s ∷ ys) (y ∷ behind) (λ n. cc) e') (suffix_of_none y)
+
+-- Values
+
+value_from : (base n : ℕ) (cs ds : List ℕ) → value_behind base n (cs ++ ds) ≡ value_behind base (value_behind base n cs) ds
+value_from base n [] ds = refl
+value_from base n (c ∷ cs) ds = value_from base (n * base + digit_value c) cs ds
+
+value_grows : (base n : ℕ) (cs : List ℕ) → 1 ≤ base → n ≤ value_behind base n cs
+value_grows base n [] h = omega arith
+value_grows base n (c ∷ cs) h =
+    let more : n * base + digit_value c ≤ value_behind base (n * base + digit_value c) cs = value_grows base (n * base + digit_value c) cs h in
+    let much : n ≤ n * base = le-mul_of_pos_right n (omega arith) in
+    omega arith
+
+pub value_more : (base n : ℕ) (cs : List ℕ) (i x : ℕ) → i < length cs → x ≡ get_or cs i x → value_behind base n (take (i + 1) cs) ≡ value_behind base n (take i cs) * base + digit_value x
+value_more base n cs i x h e = ap (value_behind base n) (take_more cs i x h ∙ ap (λ y. take i cs ++ y ∷ []) (sym e)) ∙ value_from base n (take i cs) (x ∷ [])
+
+pub value_within : (base n : ℕ) (cs : List ℕ) (i : ℕ) → 1 ≤ base → value_behind base n (take i cs) ≤ value_behind base n cs
+value_within base n cs i h =
+    let parts : value_behind base n cs ≡ value_behind base (value_behind base n (take i cs)) (drop i cs) =
+    ap (value_behind base n) (sym (take-append-drop i cs)) ∙ value_from base n (take i cs) (drop i cs)
+    in
+    omega (arith, value_grows base (value_behind base n (take i cs)) (drop i cs) h)
+
+-- where a step leaves 64 bits, the whole does
+pub value_past : (base n : ℕ) (cs : List ℕ) (i x w : ℕ) (r : Option ℕ) → w ≡ value_behind base n (take i cs) → i < length cs → x ≡ get_or cs i x → 1 ≤ base → (w * base + digit_value x < 2 ^ 64 → ⊥) → r ≡ None
+    → IsValue r (value_behind base n cs)
+value_past base n cs i x w r so_far within is b past none =
+    let step : value_behind base n (take (i + 1) cs) ≡ w * base + digit_value x = value_more base n cs i x within is ∙ ap (λ v. v * base + digit_value x) (sym so_far) in
+    let whole : value_behind base n (take (i + 1) cs) ≤ value_behind base n cs = value_within base n cs (i + 1) b in
+    let large : 2 ^ 64 ≤ value_behind base n cs = omega arith in
+    let P : Option ℕ → Type 0 = λ o. IsValue o (value_behind base n cs) in
+    subst P (sym none) large

@@ -1,0 +1,13 @@
+use Rattle.std.proofs.Common.{refl}
+use Rattle.wgsl_lex.specs.Tokens.{fixed_of, is_reserved}
+use Rattle.wgsl_lex.specs.Rows.{ascends}
+use Rattle.wgsl_lex.proofs.Words.{listed_from}
+use Rattle.wgsl_lex.proofs.word.listed.Goals as goal
+
+pub found-requires : goal.found-requires
+unfolding ascends
+found-requires c = refl
+
+pub returns : goal.returns
+unfolding fixed_of is_reserved
+returns c = listed_from (λ e. e.0.now) (λ e. e.1) _ _ _ refl (λ h. h) c.found.ensures
