@@ -1,0 +1,33 @@
+-- What holds of modules that are printed and read again.
+use Rattle.std.specs.Prelude.{◌≡◌, ℕ, List}
+use Rattle.wgsl_token.specs.declared.token.SpannedToken.{SpannedToken}
+use Rattle.wgsl_syntax.specs.declared.unit.TranslationUnit.{TranslationUnit}
+use Rattle.wgsl_syntax.specs.Tree.{Unit}
+use Rattle.wgsl_syntax.specs.View.{unit_tree}
+use Rattle.wgsl_syntax.specs.Print.{unit_text}
+use Rattle.wgsl_lex.specs.Tokens.{IsLexed}
+use Rattle.wgsl_grammar.specs.Declarations.{IsUnit}
+
+-- The text stands for this tree: its tokens derive a module with it.
+pub record StandsFor (text : List ℕ) (tree : Unit) : Type 0 where
+  pub tokens : List SpannedToken
+  pub unit : TranslationUnit
+  pub lexed : IsLexed text tokens
+  pub derived : IsUnit tokens unit
+  pub same : unit_tree unit ≡ tree
+
+-- Each module that a text derives prints to a text that stands for its tree again.
+abbrev pub PrintsBack : Type 0
+PrintsBack = (text : List ℕ) (tokens : List SpannedToken) (unit : TranslationUnit) → IsLexed text tokens → IsUnit tokens unit
+    → StandsFor (unit_text (unit_tree unit)) (unit_tree unit)
+
+-- The text stands for a tree that prints to this text.
+pub record IsSettled (text : List ℕ) : Type 0 where
+  pub tree : Unit
+  pub stands : StandsFor text tree
+  pub prints : unit_text tree ≡ text
+
+-- What is printed of a module that a text derives can be read and printed again without a change.
+abbrev pub PrintsTheSame : Type 0
+PrintsTheSame = (text : List ℕ) (tokens : List SpannedToken) (unit : TranslationUnit) → IsLexed text tokens → IsUnit tokens unit
+    → IsSettled (unit_text (unit_tree unit))

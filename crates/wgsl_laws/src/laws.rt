@@ -1,0 +1,13 @@
+//! Laws, each as the contract of a function that does nothing.
+
+ghost use Rattle.wgsl_laws.specs.Printing.{PrintsBack, PrintsTheSame};
+
+/// A module that a text derives prints to a text that derives an equal tree.
+pub fn prints_back()
+    ensures { PrintsBack }
+{}
+
+/// What is printed of a module that a text derives is read and printed again without a change.
+pub fn prints_the_same()
+    ensures { PrintsTheSame }
+{}
