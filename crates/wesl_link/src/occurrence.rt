@@ -13,7 +13,7 @@ ghost use Rattle.wgsl_syntax.specs.declared.declaration.GlobalDeclaration.TheVar
 use std::alloc::{AllocError, Global};
 use std::collections::BTreeSet;
 use wgsl_syntax::{
-    Attribute, Attributes, CompoundStatement, Declaration, Expression, ExpressionNode,
+    Attribute, AttributeNode, Attributes, CompoundStatement, Declaration, Expression, ExpressionNode,
     FormalParameter, Function, FunctionCall, GlobalDeclaration, ModulePath, Statement,
     StatementNode, TemplateArg, TemplateArgs, TypeExpression,
 };
@@ -234,7 +234,6 @@ fn add_statement<'a>(
     }
 }
 
-#[tactic(auto, using(crate::proofs::Occurring::attributes_flat))]
 fn add_attributes<'a>(
     found: &mut Vec<Occurrence<'a>>,
     scope: &Scope<'a>,
@@ -243,7 +242,19 @@ fn add_attributes<'a>(
 ) -> Result<(), AllocError>
     ensures { OnOk result (seen found.new.items ≡ seen found.old.items ++ spec.occurring_attributes (hidden scope.now) in_body (attributes_tree attributes.now)) }
 {
-    for attribute in attributes.as_slice() {
+    add_each_attribute(found, scope, in_body, attributes.as_slice())?;
+    Ok(())
+}
+
+fn add_each_attribute<'a>(
+    found: &mut Vec<Occurrence<'a>>,
+    scope: &Scope<'a>,
+    in_body: bool,
+    attributes: &'a [AttributeNode],
+) -> Result<(), AllocError>
+    ensures { OnOk result (seen found.new.items ≡ seen found.old.items ++ flat_map (λ n. spec.occurring_attribute (hidden scope.now) in_body (attribute_tree n.node)) attributes.now) }
+{
+    for attribute in attributes {
         add_attribute(found, scope, in_body, attribute.node())?;
     }
     Ok(())

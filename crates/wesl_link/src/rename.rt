@@ -13,7 +13,7 @@ use std::alloc::{AllocError, Global};
 use wgsl_items::{CloneIn, Items, Text};
 use wgsl_path::{Ident, Spanned};
 use wgsl_syntax::{
-    Attribute, Attributes, BinaryExpression, CompoundStatement, Declaration, Expression,
+    Attribute, AttributeNode, Attributes, BinaryExpression, CompoundStatement, Declaration, Expression,
     ExpressionNode, FormalParameter, Function, FunctionCall, GlobalDeclaration, ModulePath,
     ParenthesizedExpression, ReturnStatement, Statement, StatementNode, TemplateArg, TemplateArgs,
     TypeExpression, UnaryExpression,
@@ -211,7 +211,6 @@ fn renamed_statement<N: Naming>(
     }
 }
 
-#[tactic(auto, using(crate::proofs::Renames::attributes_renamed))]
 fn renamed_attributes<N: Naming>(
     alloc: Global,
     naming: &N,
@@ -219,8 +218,19 @@ fn renamed_attributes<N: Naming>(
 ) -> Result<Attributes, AllocError>
     ensures { IfOk result (λ renamed. attributes_tree renamed ≡ spec.renamed_attributes (N.gives naming.now) (attributes_tree attributes.now)) }
 {
+    let renamed = renamed_each_attribute(alloc, naming, attributes.as_slice())?;
+    Ok(renamed)
+}
+
+fn renamed_each_attribute<N: Naming>(
+    alloc: Global,
+    naming: &N,
+    attributes: &[AttributeNode],
+) -> Result<Attributes, AllocError>
+    ensures { IfOk result (λ renamed. attributes_tree renamed ≡ map (λ n. spec.renamed_attribute (N.gives naming.now) (attribute_tree n.node)) attributes.now) }
+{
     let mut renamed = Items::new(alloc);
-    for attribute in attributes.as_slice() {
+    for attribute in attributes {
         let new = renamed_attribute(alloc, naming, attribute.node())?;
         renamed.push(Spanned::new(alloc, new, attribute.span)?)?;
     }
