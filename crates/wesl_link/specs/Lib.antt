@@ -1,0 +1,5 @@
+pub mod Mangling
+pub mod Renaming
+pub mod Occurrences
+pub mod Views
+pub mod Tables

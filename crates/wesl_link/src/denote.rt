@@ -1,5 +1,11 @@
 //! What names denote.
 
+ghost use Rattle.std.specs.Prelude.{◌≡◌, Option, IfSome, IfNone, None, is_some, string_bytes};
+ghost use Rattle.std.specs.BTreeMap.{get_by_text};
+ghost use Rattle.std.specs.Option.{option_map};
+ghost use Rattle.wesl_link.specs.declared.module.Target.{Target};
+ghost use Rattle.wesl_link.specs.Tables as spec;
+
 use crate::module::{Meaning, Module, Modules, Target};
 use wgsl_syntax::GlobalDeclaration;
 
@@ -27,7 +33,9 @@ pub enum Denoted<'a> {
 }
 
 /// What a name of a module denotes: its own declaration, else what its import names.
-pub fn denotation<'a>(modules: &'a Modules, module: &'a Module, name: &str) -> Denoted<'a> {
+pub fn denotation<'a>(modules: &'a Modules, module: &'a Module, name: &str) -> Denoted<'a>
+    ensures { spec.answered result ≡ spec.denotation_of modules.now module.now name.now }
+{
     match module.meanings.get(name) {
         None => Denoted::Free,
         Some(Meaning::Declared(place)) => match symbol_at(module, *place) {
@@ -38,7 +46,9 @@ pub fn denotation<'a>(modules: &'a Modules, module: &'a Module, name: &str) -> D
     }
 }
 
-fn sought<'a>(modules: &'a Modules, target: &'a Target) -> Denoted<'a> {
+fn sought<'a>(modules: &'a Modules, target: &'a Target) -> Denoted<'a>
+    ensures { spec.answered result ≡ spec.imported_from (get_by_text modules.now (string_bytes target.now.text)) target.now }
+{
     match item_of(modules, target.text.as_str(), target.item.as_str()) {
         Item::Declared(symbol) => Denoted::Declared(symbol),
         Item::Imported => Denoted::Private(target),
@@ -58,7 +68,9 @@ pub enum Item<'a> {
 }
 
 /// What the module at a printed path has under a name.
-pub fn item_of<'a>(modules: &'a Modules, text: &str, name: &str) -> Item<'a> {
+pub fn item_of<'a>(modules: &'a Modules, text: &str, name: &str) -> Item<'a>
+    ensures { (t : Target) → t.item ≡ name.now → spec.item_answered t result ≡ spec.imported_from (get_by_text modules.now text.now) t }
+{
     let Some(module) = modules.get(text) else {
         return Item::Unloaded;
     };
@@ -72,7 +84,10 @@ pub fn item_of<'a>(modules: &'a Modules, text: &str, name: &str) -> Item<'a> {
     }
 }
 
-pub fn symbol_at<'a>(module: &'a Module, place: usize) -> Option<Symbol<'a>> {
+pub fn symbol_at<'a>(module: &'a Module, place: usize) -> Option<Symbol<'a>>
+    ensures symbol { option_map spec.symbol_denotation result ≡ spec.declared_at module.now place }
+    ensures there { option_map (λ s. s.declaration.now) result ≡ spec.declaration_at module.now place }
+{
     Some(Symbol {
         module,
         place,

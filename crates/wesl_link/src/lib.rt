@@ -13,6 +13,7 @@ mod rename;
 mod resolver;
 mod rounds;
 mod source_map;
+mod unmangle;
 
 pub use error::{ImportError, ResolveError};
 pub use mangle::EscapeMangler;

@@ -1,5 +1,8 @@
 //! Names of items that tell apart the modules that declare them.
 
+ghost use Rattle.std.specs.Prelude.{◌≡◌, ◌++◌, IfOk, OnOk};
+ghost use Rattle.wesl_link.specs.Mangling.{mangled, mangled_origin, escaped, more_supers};
+
 use std::alloc::{AllocError, Global};
 use wgsl_items::Text;
 use wgsl_path::{ModulePath, PathOrigin};
@@ -11,39 +14,51 @@ pub struct EscapeMangler;
 
 impl EscapeMangler {
     /// The name of an item of a module.
-    pub fn mangle(&self, alloc: Global, path: &ModulePath, item: &str) -> Result<Text, AllocError> {
-        let mut mangled = Text::new(alloc);
-        push_origin(alloc, &mut mangled, &path.origin)?;
+    pub fn mangle(&self, alloc: Global, path: &ModulePath, item: &str) -> Result<Text, AllocError>
+        ensures { IfOk result (λ name. name ≡ mangled path.now item.now) }
+    {
+        let mut name = Text::new(alloc);
+        push_origin(alloc, &mut name, &path.origin)?;
         for component in path.components.as_slice() {
-            mangled.push_str("_")?;
-            push_escaped(alloc, &mut mangled, component.as_str())?;
+            name.push_str("_")?;
+            push_escaped(alloc, &mut name, component.as_str())?;
         }
-        mangled.push_str("_")?;
-        push_escaped(alloc, &mut mangled, item)?;
-        Ok(mangled)
+        name.push_str("_")?;
+        push_escaped(alloc, &mut name, item)?;
+        Ok(name)
     }
 }
 
-fn push_origin(alloc: Global, mangled: &mut Text, origin: &PathOrigin) -> Result<(), AllocError> {
+fn push_origin(alloc: Global, name: &mut Text, origin: &PathOrigin) -> Result<(), AllocError>
+    ensures { OnOk result (name.new ≡ name.old ++ mangled_origin origin.now) }
+{
     match origin {
-        PathOrigin::Absolute => mangled.push_str("package"),
-        PathOrigin::Relative(0) => mangled.push_str("self"),
+        PathOrigin::Absolute => name.push_str("package"),
+        PathOrigin::Relative(0) => name.push_str("self"),
         PathOrigin::Relative(levels) => {
-            mangled.push_str("super")?;
-            for _level in 1..*levels {
-                mangled.push_str("_super")?;
-            }
-            Ok(())
+            name.push_str("super")?;
+            push_supers(name, *levels - 1)
         }
-        PathOrigin::Package(name) => push_escaped(alloc, mangled, name.as_str()),
+        PathOrigin::Package(package) => push_escaped(alloc, name, package.as_str()),
     }
 }
 
-fn push_escaped(alloc: Global, mangled: &mut Text, part: &str) -> Result<(), AllocError> {
+fn push_escaped(alloc: Global, name: &mut Text, part: &str) -> Result<(), AllocError>
+    ensures { OnOk result (name.new ≡ name.old ++ escaped part.now) }
+{
     let underscores = part.bytes().filter(|byte| *byte == b'_').count();
     if underscores > 0 {
         let number = format!(in alloc; "_{underscores}")?;
-        mangled.push_str(number.as_str())?;
+        name.push_str(number.as_str())?;
     }
-    mangled.push_str(part)
+    name.push_str(part)
+}
+
+fn push_supers(name: &mut Text, levels: usize) -> Result<(), AllocError>
+    ensures { OnOk result (name.new ≡ name.old ++ more_supers levels) }
+{
+    for _level in 0..levels {
+        name.push_str("_super")?;
+    }
+    Ok(())
 }

@@ -38,6 +38,10 @@ pub struct Module {
 pub type Modules = BTreeMap<String, Module>;
 
 impl Module {
+    ghost use Rattle.std.specs.Prelude.{◌≡◌};
+    ghost use Rattle.std.specs.Option.{option_copied};
+    ghost use Rattle.wesl_link.specs.Tables.{declaration_at};
+
     /// A module with the table of its names. It is refused where a name is declared or imported twice.
     pub fn new(alloc: Global, path: &ModulePath, unit: TranslationUnit) -> Result<Module, ImportError> {
         let meanings = meanings_of(alloc, path, &unit)?;
@@ -49,7 +53,9 @@ impl Module {
         })
     }
 
-    pub fn declaration(&self, place: usize) -> Option<&GlobalDeclaration> {
+    pub fn declaration(&self, place: usize) -> Option<&GlobalDeclaration>
+        ensures { option_copied result ≡ declaration_at self.now place }
+    {
         Some(self.unit.global_declarations.get(place)?.node())
     }
 }

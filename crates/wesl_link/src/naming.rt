@@ -1,5 +1,10 @@
 //! New names for the names that occur.
 
+ghost use Rattle.std.specs.Prelude.{◌≡◌, ℕ, List, IfOk, if◌then◌else◌, string_bytes};
+ghost use Rattle.std.specs.Option.{option_copied};
+ghost use Rattle.wesl_link.specs.Tables as spec;
+ghost use Rattle.wesl_link.specs.Views.{hidden};
+
 use crate::denote::{Denoted, Symbol, denotation};
 use crate::module::Module;
 use crate::occurrence::Scope;
@@ -9,7 +14,11 @@ use wgsl_items::Text;
 
 /// Gives each name that occurs in a place a new one.
 pub trait Naming {
-    fn new_name(&self, alloc: Global, name: &str) -> Result<Text, AllocError>;
+    /// The new name of a name.
+    ghost gives: { Self → List ℕ → List ℕ };
+
+    fn new_name(&self, alloc: Global, name: &str) -> Result<Text, AllocError>
+        ensures { IfOk result (λ new. new ≡ gives self.now name.now) };
 }
 
 /// A module's scope: a name that denotes a held symbol gets that symbol's printed name, others stay.
@@ -20,6 +29,10 @@ pub struct ModuleNaming<'a> {
 }
 
 impl Naming for ModuleNaming<'_> {
+    ghost use Rattle.wesl_link.specs.Tables.{named_or, printed_in};
+
+    ghost gives = { λ n x. named_or (printed_in n.resolutions.now.held n.resolutions.now.modules n.module.now x) x };
+
     fn new_name(&self, alloc: Global, name: &str) -> Result<Text, AllocError> {
         match printed(self.resolutions, self.module, name) {
             Some(printed) => Text::from_str(alloc, printed),
@@ -36,6 +49,8 @@ pub struct BodyNaming<'s, 'a, N> {
 }
 
 impl<N: Naming> Naming for BodyNaming<'_, '_, N> {
+    ghost gives = { λ n x. if hidden n.scope.now x then x else N.gives n.outer x };
+
     fn new_name(&self, alloc: Global, name: &str) -> Result<Text, AllocError> {
         if self.scope.hides(name) {
             return Text::from_str(alloc, name);
@@ -45,7 +60,9 @@ impl<N: Naming> Naming for BodyNaming<'_, '_, N> {
 }
 
 /// The printed name of the held symbol that a name of a module denotes.
-pub fn printed<'a>(resolutions: &'a Resolutions, module: &'a Module, name: &str) -> Option<&'a str> {
+pub fn printed<'a>(resolutions: &'a Resolutions, module: &'a Module, name: &str) -> Option<&'a str>
+    ensures { option_copied result ≡ spec.printed_in resolutions.now.held resolutions.now.modules module.now name.now }
+{
     match denotation(&resolutions.modules, module, name) {
         Denoted::Declared(symbol) => held_name(&resolutions.held, symbol),
         Denoted::Unloaded(_) | Denoted::Missing(_) | Denoted::Private(_) | Denoted::Free => None,
@@ -53,7 +70,9 @@ pub fn printed<'a>(resolutions: &'a Resolutions, module: &'a Module, name: &str)
 }
 
 /// The printed name of a symbol, where it is held.
-pub fn held_name<'a>(held: &'a Held, symbol: Symbol<'_>) -> Option<&'a str> {
+pub fn held_name<'a>(held: &'a Held, symbol: Symbol<'_>) -> Option<&'a str>
+    ensures { option_copied result ≡ spec.held_name_at held.now (string_bytes symbol.entry.module.now.text) symbol.entry.place }
+{
     let name = held.get(symbol.module.text.as_str())?.get(&symbol.place)?;
     Some(name.as_str())
 }

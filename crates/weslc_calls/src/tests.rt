@@ -8,7 +8,7 @@ use std::io;
 use std::io::{Read, Write};
 use std::process::Abort;
 use std::test::Fail;
-use wesl_link::SourceMap;
+use wesl_link::{EscapeMangler, SourceMap};
 use wgsl_items::Text;
 use wgsl_path::ModulePath;
 
@@ -182,6 +182,25 @@ fn a_path_twice_comes_after_the_keys(rt: HostRuntime) -> Result<(), Fail> {
     assert_line(&rt, twice, "error: DuplicateModule package::m - - -\n", 2)?;
     let twice = r#"{"command":"link","root":"package","modules":[{"path":"package","text":""},{"path":"package","text":""}],"max_modules":"1"}"#;
     assert_line(&rt, twice, "error: Bundle - - - max_modules\n", 2)
+}
+
+#[test]
+fn mangled_names_come_back(rt: HostRuntime) -> Result<(), Fail> {
+    let alloc = rt.alloc();
+    let cases = [
+        ("package::bevy_pbr::lighting", "item", "package__1bevy_pbr_lighting_item"),
+        ("a_b::c_d::e", "item", "_1a_b__1c_d_e_item"),
+    ];
+    for (path, item, name) in cases {
+        let path = ModulePath::from_str(alloc, path)?;
+        assert_eq!(rt; EscapeMangler.mangle(alloc, &path, item)?.as_str(), name);
+        let Some((module, back)) = EscapeMangler.unmangle(alloc, name)? else {
+            return Err(Fail::from("the name does not come back"));
+        };
+        assert!(rt; module == path);
+        assert_eq!(rt; back.as_str(), item);
+    }
+    Ok(())
 }
 
 /// Gives its bytes a few at a time, and fails at a read.

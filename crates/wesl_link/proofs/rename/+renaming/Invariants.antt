@@ -1,4 +1,6 @@
-use Rattle.std.proofs.Common.{◌+◌, ◌*◌}
+use Rattle.std.proofs.Common.{◌≡◌, ◌+◌, ◌*◌, map, take}
+use Rattle.wgsl_syntax.specs.View.{node_tree}
+use Rattle.wesl_link.specs.Renaming.{renamed}
 use Rattle.wesl_link.proofs.rename.+renaming.Given as goal
 
 abbrev pub decreases-renamed_expression : goal.decreases-renamed_expression
@@ -16,8 +18,19 @@ decreases-renamed_binary g l = 8 * goal.size-renamed_binary g l + 2
 abbrev pub decreases-renamed_template : goal.decreases-renamed_template
 decreases-renamed_template g l = 8 * goal.size-renamed_template g l + 3
 
+abbrev pub decreases-renamed_maybe_template : goal.decreases-renamed_maybe_template
+decreases-renamed_maybe_template g l = 8 * goal.size-renamed_maybe_template g l + 4
+
 abbrev pub decreases-renamed_type : goal.decreases-renamed_type
-decreases-renamed_type g l = 8 * goal.size-renamed_type g l + 4
+decreases-renamed_type g l = 8 * goal.size-renamed_type g l + 5
 
 abbrev pub decreases-renamed_call : goal.decreases-renamed_call
-decreases-renamed_call g l = 8 * goal.size-renamed_call g l + 5
+decreases-renamed_call g l = 8 * goal.size-renamed_call g l + 6
+
+abbrev pub invariant-renamed_nodes-loop-node : goal.invariant-renamed_nodes-loop-node
+invariant-renamed_nodes-loop-node g l =
+    map node_tree l.renamed ≡ map (λ n. renamed (g.N.Naming.gives l.naming) (node_tree n)) (take l.node-index l.nodes)
+
+abbrev pub invariant-renamed_template-loop-argument : goal.invariant-renamed_template-loop-argument
+invariant-renamed_template-loop-argument g l =
+    map (λ a. node_tree a.expression) l.renamed ≡ map (λ a. renamed (g.N.Naming.gives l.naming) (node_tree a.expression)) (take l.argument-index l.arguments)

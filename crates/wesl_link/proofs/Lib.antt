@@ -1,0 +1,4 @@
+pub mod Denoting
+pub mod Hiding
+pub mod Occurring
+pub mod Renames
