@@ -1,2 +1,4 @@
-//! To be written.
+//! Validation of a linked unit: duplicates, free names, calls, rings of declarations, and names that printing would blur.
 #![tactic(auto)]
+
+pub mod place;
