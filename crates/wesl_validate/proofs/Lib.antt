@@ -1,1 +1,3 @@
 pub mod TreeLemmas
+pub mod PositionLemmas
+pub mod FaultLemmas

@@ -1,2 +1,4 @@
 pub mod Scopes
 pub mod Lookups
+pub mod Rings
+pub mod Faults

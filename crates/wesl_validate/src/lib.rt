@@ -1,4 +1,8 @@
 //! Validation of a linked unit: duplicates, free names, calls, rings of declarations, and names that printing would blur.
 #![tactic(auto)]
 
-pub mod place;
+mod error;
+mod index;
+mod place;
+
+pub use error::{Refusal, ValidateError, ValidateFault};

@@ -39,7 +39,7 @@ pub struct Place {
     pub meaning: Meaning,
 }
 
-fn is_local(name: &str, locals: &[FormalParameter]) -> bool
+pub fn is_local(name: &str, locals: &[FormalParameter]) -> bool
     ensures { result ≡ is_in name.now (local_names locals.now) }
 {
     for local in locals {

@@ -1,0 +1,22 @@
+-- Rings of declarations (WGSL, "Declaration and Scope": "a module-scope declaration must not be recursive": no chain of
+-- identifiers leads a declaration back to itself).
+use Rattle.std.specs.Prelude.{◌≡◌, ℕ, List, slice_get, Option, Some}
+use Rattle.std.specs.List.{Contains}
+use Rattle.wesl_validate.specs.declared.place.Meaning.TheVariants.{Global}
+use Rattle.wesl_validate.specs.declared.place.Place.{Place}
+
+-- declaration i has an occurrence that denotes declaration j; `rows` has for each declaration its occurrences
+pub record Leads (rows : List (List Place)) (i j : ℕ) : Type 0 where
+  pub row : List Place
+  pub place : Place
+  pub stands : slice_get rows i ≡ Some row
+  pub occurs : Contains row place
+  pub denotes : place.meaning ≡ Global j
+
+-- a chain of one or more occurrences
+pub data Chain (rows : List (List Place)) : ℕ → ℕ → Type 0 where
+  step : (i j : ℕ) → Leads rows i j → Chain rows i j
+  onward : (i j k : ℕ) → Leads rows i j → Chain rows j k → Chain rows i k
+
+abbrev pub IsOnRing : List (List Place) → ℕ → Type 0
+IsOnRing rows i = Chain rows i i
