@@ -3,7 +3,7 @@
 -- "Function Calls", and for rings "Declaration and Scope" and "Restrictions on Functions".)
 use Rattle.std.specs.Prelude.{◌≡◌, ⊤, ℕ, ◌<◌, List, [], ◌∷◌, ◌++◌, map, length, slice_get, ◌==◌, Option, Some, None, Bool, true, false, if◌then◌else◌, Result, Ok, Err}
 use Rattle.std.specs.List.{flat_map}
-use Rattle.wgsl_syntax.specs.Tree.{Decl, variable, function, Unit}
+use Rattle.wgsl_syntax.specs.Tree.{Decl, Unit}
 use Rattle.wesl_validate.specs.declared.error.ValidateError.{ValidateError}
 use Rattle.wesl_validate.specs.declared.error.ValidateError.TheVariants.{UndefinedSymbol, ParamCount, NotCallable, Duplicate, Cycle}
 use Rattle.wesl_validate.specs.declared.error.ValidateFault.{ValidateFault}
@@ -12,7 +12,8 @@ use Rattle.wesl_validate.specs.declared.error.Refusal.TheVariants.{Fault, OutOfM
 use Rattle.wesl_validate.specs.declared.place.Meaning.{Meaning}
 use Rattle.wesl_validate.specs.declared.place.Meaning.TheVariants.{Local, Global, Free}
 use Rattle.wesl_validate.specs.declared.place.Place.{Place}
-use Rattle.wesl_validate.specs.Scopes.{Name, name_of, parameters_of, is_in, decl_places, global_of, rows}
+use Rattle.wesl_validate.specs.declared.place.Row.{Row}
+use Rattle.wesl_validate.specs.Scopes.{Name, name_of, parameters_of, is_in, rows}
 use Rattle.wesl_validate.specs.Rings.{IsOnRing}
 
 abbrev pub fault : ValidateError → Name → Name → ValidateFault
@@ -45,42 +46,44 @@ undefined_at table holder p = undefined_in table holder p.name p.meaning
 
 -- ---- a callee that is no function, or a function called with another number of arguments than it has parameters
 
-abbrev pub callee_fault : ℕ → Option Decl → Option ValidateError
+abbrev pub arity_fault : ℕ → Option ℕ → Option ValidateError
+arity_fault arguments None = Some NotCallable
+arity_fault arguments (Some parameters) = if arguments == parameters then None else Some ParamCount
+
+abbrev pub callee_fault : ℕ → Option Row → Option ValidateError
 callee_fault arguments None = None
-callee_fault arguments (Some (variable attributes kind name type initializer)) = Some NotCallable
-callee_fault arguments (Some (function attributes name parameters result_attributes result body)) =
-    if arguments == length parameters then None else Some ParamCount
+callee_fault arguments (Some row) = arity_fault arguments row.parameters
 
-abbrev pub called_fault : List Decl → ℕ → Meaning → Option ValidateError
-called_fault declarations arguments Local = Some NotCallable
-called_fault declarations arguments (Global position) = callee_fault arguments (slice_get declarations position)
-called_fault declarations arguments Free = None
+abbrev pub called_fault : List Row → ℕ → Meaning → Option ValidateError
+called_fault rows arguments Local = Some NotCallable
+called_fault rows arguments (Global position) = callee_fault arguments (slice_get rows position)
+called_fault rows arguments Free = None
 
-abbrev pub call_fault : List Decl → Option ℕ → Meaning → Option ValidateError
-call_fault declarations None meaning = None
-call_fault declarations (Some arguments) meaning = called_fault declarations arguments meaning
+abbrev pub call_fault : List Row → Option ℕ → Meaning → Option ValidateError
+call_fault rows None meaning = None
+call_fault rows (Some arguments) meaning = called_fault rows arguments meaning
 
 abbrev pub maybe_fault : Name → Name → Option ValidateError → List ValidateFault
 maybe_fault holder x None = []
 maybe_fault holder x (Some kind) = fault kind holder x ∷ []
 
-abbrev pub miscall_at : List Decl → Name → Place → List ValidateFault
-miscall_at declarations holder p = maybe_fault holder p.name (call_fault declarations p.arguments p.meaning)
+abbrev pub miscall_at : List Row → Name → Place → List ValidateFault
+miscall_at rows holder p = maybe_fault holder p.name (call_fault rows p.arguments p.meaning)
 
 -- ---- the cases of a unit
 
 -- the faults at the occurrences in each declaration
-abbrev pub faults_at : (Name → Place → List ValidateFault) → (Name → Option ℕ) → List Decl → List ValidateFault
-faults_at at global declarations = flat_map (λ d. flat_map (at (name_of d)) (decl_places global d)) declarations
+abbrev pub faults_at : (Name → Place → List ValidateFault) → List Row → List ValidateFault
+faults_at at rows = flat_map (λ r. flat_map (at r.name) r.places) rows
 
 abbrev pub duplicates_of : Unit → List ValidateFault
 duplicates_of unit = duplicates [] unit.declarations
 
 abbrev pub undefined_of : Unit → List Name → List ValidateFault
-undefined_of unit table = faults_at (undefined_at table) (global_of unit) unit.declarations
+undefined_of unit table = faults_at (undefined_at table) (rows unit)
 
 abbrev pub miscalls_of : Unit → List ValidateFault
-miscalls_of unit = faults_at (miscall_at unit.declarations) (global_of unit) unit.declarations
+miscalls_of unit = faults_at (miscall_at (rows unit)) (rows unit)
 
 -- a unit has no fault that stands at one place
 pub record IsFlat (unit : Unit) (table : List Name) : Type 0 where
@@ -100,8 +103,8 @@ pub data IsFirstFault (unit : Unit) (table : List Name) : ValidateFault → Type
       → IsFirstFault unit table f
   miscall : (f : ValidateFault) (rest : List ValidateFault) → duplicates_of unit ≡ [] → undefined_of unit table ≡ []
       → miscalls_of unit ≡ f ∷ rest → IsFirstFault unit table f
-  ring : (i : ℕ) (d : Decl) → IsFlat unit table → slice_get unit.declarations i ≡ Some d → IsOnRing (rows unit) i
-      → ((j : ℕ) → j < i → ¬ IsOnRing (rows unit) j) → IsFirstFault unit table (fault Cycle (name_of d) (name_of d))
+  ring : (i : ℕ) (r : Row) → IsFlat unit table → slice_get (rows unit) i ≡ Some r → IsOnRing (rows unit) i
+      → ((j : ℕ) → j < i → ¬ IsOnRing (rows unit) j) → IsFirstFault unit table (fault Cycle r.name r.name)
 
 -- what a refusal says of a unit; that memory was refused says nothing
 abbrev pub NamesFirstFault : Unit → List Name → Refusal → Type 0

@@ -23,3 +23,7 @@ trees declarations = map (λ n. declaration_tree n.node) declarations
 
 abbrev pub declared : List (Spanned GlobalDeclaration) → List Name
 declared declarations = map (λ n. name_of (declaration_tree n.node)) declarations
+
+-- a table of names
+abbrev pub texts : List (Bor (List ℕ)) → List Name
+texts table = map (λ x. x.now) table

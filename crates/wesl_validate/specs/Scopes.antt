@@ -7,6 +7,7 @@ use Rattle.wgsl_syntax.specs.Tree.{Exp, literal, parenthesized, unary, binary, c
 use Rattle.wesl_validate.specs.declared.place.Meaning.{Meaning}
 use Rattle.wesl_validate.specs.declared.place.Meaning.TheVariants.{Local, Global, Free}
 use Rattle.wesl_validate.specs.declared.place.Place.{Place}
+use Rattle.wesl_validate.specs.declared.place.Row.{Row}
 
 -- a name, by its bytes
 abbrev pub Name : Type 0
@@ -116,6 +117,14 @@ decl_places global (function attributes name parameters result_attributes result
 abbrev pub global_of : Unit → Name → Option ℕ
 global_of unit x = position (bytes_eq x) (names unit)
 
--- for each declaration of a unit its occurrences
-abbrev pub rows : Unit → List (List Place)
-rows unit = map (decl_places (global_of unit)) unit.declarations
+-- how many parameters a function has; a value has none
+abbrev pub arity : Decl → Option ℕ
+arity (variable attributes kind name type initializer) = None
+arity (function attributes name parameters result_attributes result body) = Some (length parameters)
+
+-- what a declaration declares, and what occurs in it
+abbrev pub row_of : (Name → Option ℕ) → Decl → Row
+row_of global d = record { name = name_of d; parameters = arity d; places = decl_places global d }
+
+abbrev pub rows : Unit → List Row
+rows unit = map (row_of (global_of unit)) unit.declarations

@@ -8,20 +8,10 @@ ghost use Rattle.wesl_validate.specs.Lookups.{lookup, local_names, trees, declar
 ghost use Rattle.wesl_validate.specs.Faults.{again, repeats, duplicates, Finds};
 
 use crate::error::{Refusal, ValidateError, refused};
-use crate::place::{Index, is_local};
+use crate::place::{Index, declared_name, is_local};
 use std::alloc::Global;
 use std::collections::HashMap;
 use wgsl_syntax::{FormalParameter, GlobalDeclaration, GlobalDeclarationNode};
-
-/// The name that a declaration declares.
-pub fn declared_name(declaration: &GlobalDeclaration) -> &str
-    ensures { result.now ≡ name_of (declaration_tree declaration.now) }
-{
-    match declaration {
-        GlobalDeclaration::Declaration(x) => x.ident.as_str(),
-        GlobalDeclaration::Function(x) => x.ident.as_str(),
-    }
-}
 
 fn check_parameters(alloc: Global, holder: &str, parameters: &[FormalParameter]) -> Result<(), Refusal>
     ensures { Finds (repeats holder.now [] (local_names parameters.now)) result }

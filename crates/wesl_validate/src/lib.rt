@@ -1,6 +1,7 @@
 //! Validation of a linked unit: duplicates, free names, calls, rings of declarations, and names that printing would blur.
 #![tactic(auto)]
 
+mod check;
 mod error;
 mod index;
 mod place;

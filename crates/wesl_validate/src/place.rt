@@ -5,8 +5,8 @@ ghost use Rattle.std.specs.List.{flat_map};
 ghost use Rattle.std.specs.Option.{option_map};
 ghost use Rattle.wgsl_syntax.specs.Tree.{exps};
 ghost use Rattle.wgsl_syntax.specs.View.{tree, node_tree, type_tree, attributes_tree, statement_tree, block_tree, parameter_tree, declaration_tree};
-ghost use Rattle.wesl_validate.specs.Scopes.{is_in, denoted, name_places, exp_places, all_places, type_places, attributes_places, maybe_type_places, maybe_exp_places, statement_places, parameter_places, head_places, body_places, decl_places};
-ghost use Rattle.wesl_validate.specs.Lookups.{lookup, local_names};
+ghost use Rattle.wesl_validate.specs.Scopes.{is_in, denoted, name_places, exp_places, all_places, type_places, attributes_places, maybe_type_places, maybe_exp_places, statement_places, parameter_places, head_places, body_places, decl_places, name_of, arity, row_of};
+ghost use Rattle.wesl_validate.specs.Lookups.{lookup, local_names, trees};
 
 use std::alloc::{AllocError, Global};
 use std::collections::HashMap;
@@ -37,6 +37,14 @@ pub struct Place {
     /// Of a callee, how many arguments it is called with.
     pub arguments: Option<usize>,
     pub meaning: Meaning,
+}
+
+/// A declaration: its name, a function's number of parameters, and what occurs in it.
+#[derive(Debug, Drop)]
+pub struct Row {
+    pub name: Text,
+    pub parameters: Option<usize>,
+    pub places: Items<Place>,
 }
 
 pub fn is_local(name: &str, locals: &[FormalParameter]) -> bool
@@ -317,17 +325,46 @@ fn places_in(alloc: Global, index: &Index<'_>, declaration: &GlobalDeclaration) 
     Ok(places)
 }
 
-/// The occurrences in each declaration.
-pub fn place_rows(
+fn arity(declaration: &GlobalDeclaration) -> Option<usize>
+    ensures { result ≡ arity (declaration_tree declaration.now) }
+{
+    match declaration {
+        GlobalDeclaration::Declaration(_) => None,
+        GlobalDeclaration::Function(x) => Some(x.parameters.len()),
+    }
+}
+
+/// The name that a declaration declares.
+pub fn declared_name(declaration: &GlobalDeclaration) -> &str
+    ensures { result.now ≡ name_of (declaration_tree declaration.now) }
+{
+    match declaration {
+        GlobalDeclaration::Declaration(x) => x.ident.as_str(),
+        GlobalDeclaration::Function(x) => x.ident.as_str(),
+    }
+}
+
+fn made_row(alloc: Global, index: &Index<'_>, declaration: &GlobalDeclaration) -> Result<Row, AllocError>
+    ensures { IfOk result (λ made. made ≡ row_of (lookup index.now) (declaration_tree declaration.now)) }
+{
+    Ok(Row {
+        name: Text::from_str(alloc, declared_name(declaration))?,
+        parameters: arity(declaration),
+        places: places_in(alloc, index, declaration)?,
+    })
+}
+
+/// What each declaration declares and what occurs in it.
+pub fn rows(
     alloc: Global,
     index: &Index<'_>,
     declarations: &[GlobalDeclarationNode],
-) -> Result<Items<Items<Place>>, AllocError>
-    ensures { IfOk result (λ rows. rows ≡ map (λ n. decl_places (lookup index.now) (declaration_tree n.node)) declarations.now) }
+) -> Result<Items<Row>, AllocError>
+    ensures { IfOk result (λ made. made ≡ map (row_of (lookup index.now)) (trees declarations.now)) }
 {
-    let mut rows = Items::new(alloc);
+    let mut made = Items::new(alloc);
     for declaration in declarations {
-        rows.push(places_in(alloc, index, declaration.node())?)?;
+        made.push(made_row(alloc, index, declaration.node())?)?;
     }
-    Ok(rows)
+    Ok(made)
 }
