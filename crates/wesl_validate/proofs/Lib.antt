@@ -1,3 +1,4 @@
 pub mod TreeLemmas
 pub mod PositionLemmas
 pub mod FaultLemmas
+pub mod SearchLemmas

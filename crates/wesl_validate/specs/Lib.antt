@@ -1,4 +1,5 @@
 pub mod Scopes
 pub mod Lookups
 pub mod Rings
+pub mod Searches
 pub mod Faults

@@ -16,8 +16,8 @@ pub record Leads (rows : List Row) (i j : ℕ) : Type 0 where
 
 -- a chain of one or more occurrences
 pub data Chain (rows : List Row) : ℕ → ℕ → Type 0 where
-  step : (i j : ℕ) → Leads rows i j → Chain rows i j
-  onward : (i j k : ℕ) → Leads rows i j → Chain rows j k → Chain rows i k
+  step : {i j : ℕ} → Leads rows i j → Chain rows i j
+  onward : {i j k : ℕ} → Leads rows i j → Chain rows j k → Chain rows i k
 
 abbrev pub IsOnRing : List Row → ℕ → Type 0
 IsOnRing rows i = Chain rows i i

@@ -5,5 +5,6 @@ mod check;
 mod error;
 mod index;
 mod place;
+mod ring;
 
 pub use error::{Refusal, ValidateError, ValidateFault};
