@@ -83,7 +83,8 @@ fn visit_row(
 fn leads_back(alloc: Global, rows: &[Row], start: usize) -> Result<bool, AllocError>
     ensures { IfOk result (λ back. IsTrue back ↔ IsOnRing rows.now start) }
 {
-    let mut seen = vec![in alloc; false; rows.len()]?;
+    let mut marks = vec![in alloc; false; rows.len()]?;
+    let seen = marks.as_mut_slice();
     let mut reached = Vec::new(alloc);
     reached.push(start)?;
     for at in 0..usize::MAX {
@@ -91,7 +92,7 @@ fn leads_back(alloc: Global, rows: &[Row], start: usize) -> Result<bool, AllocEr
             return Ok(false);
         }
         let position = reached[at];
-        if visit_row(rows, position, start, &mut seen, &mut reached)? {
+        if visit_row(rows, position, start, seen, &mut reached)? {
             return Ok(true);
         }
     }
