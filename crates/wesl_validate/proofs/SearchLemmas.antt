@@ -4,16 +4,16 @@ use Rattle.std.proofs.lemmas.List.{append-nil}
 use Rattle.std.proofs.lemmas.Bool.{cases_order}
 use Rattle.std.proofs.lemmas.List.{get_or_default}
 use Rattle.std.specs.Prelude.{◌⊎◌, slice_get}
-use Rattle.std.specs.List.{All, Contains, slice_index_or}
+use Rattle.std.specs.List.{All, Contains, slice_index_or, slice_index}
 use Rattle.std.proofs.lemmas.List.{get_or_append_left, take_more}
-use Rattle.std.proofs.lemmas.Option.{slice_get_within, none-some, same_Some}
+use Rattle.std.proofs.lemmas.Option.{slice_get_within, slice_get_read, none-some, same_Some}
 use Rattle.std.proofs.lemmas.List.Elements.{All-nil, All-cons, All-append, All-push, All-weaker, Contains-get_or, Contains-append_left, Contains-append_right, Contains-push, Contains-push_cases}
 use Rattle.wesl_validate.specs.declared.place.Meaning.{Meaning}
 use Rattle.wesl_validate.specs.declared.place.Meaning.TheVariants.{Local, Global, Free}
 use Rattle.wesl_validate.specs.declared.place.Place.{Place}
 use Rattle.wesl_validate.specs.declared.place.Row.{Row}
 use Rattle.wesl_validate.specs.Rings.{Leads, Chain, step, onward, IsOnRing}
-use Rattle.wesl_validate.specs.Searches.{Targets, Adds, PassesBy, Visits, IsDone, VisitsRow, Searches}
+use Rattle.wesl_validate.specs.Searches.{Targets, Adds, PassesBy, Visits, IsDone, VisitsRow, Searches, IsBelow, AreRanks}
 
 -- ---- at places
 
@@ -173,3 +173,42 @@ search_ends rows start at reached s e ring =
     no_return rows start reached
     (λ v c. subst (IsDone rows start reached) c.2 (s.done c.0 v (omega (arith, c.1))))
     start start ring s.starts refl
+
+-- ---- ranks
+
+pub ranks_fall : (ranks : List ℕ) (rows : List Row) → AreRanks ranks rows → (i k : ℕ) → Chain rows i k → 0 < slice_index ranks i
+    → IsBelow ranks (slice_index ranks i) k
+ranks_fall ranks rows are i k (step l) h = are i k l h
+ranks_fall ranks rows are i k (onward {j = j} l c) h =
+    let below = are i j l h in
+    let rest = ranks_fall ranks rows are j k c below.0 in
+    (rest.0, omega (arith, below.1, rest.1))
+
+pub ranked_ringless : (ranks : List ℕ) (rows : List Row) → AreRanks ranks rows → (i : ℕ) → 0 < slice_index ranks i → IsOnRing rows i → ⊥
+ranked_ringless ranks rows are i h ring = absurd (omega (arith, (ranks_fall ranks rows are i i ring h).1))
+
+pub below_more : (ps : List Place) (i : ℕ) (p : Place) (P : ℕ → Type 0) → i < length ps → p ≡ get_or ps i p
+    → ((j : ℕ) → Targets (take i ps) j → P j) → ((j : ℕ) → p.meaning ≡ Global j → P j) → (j : ℕ) → Targets (take (i + 1) ps) j → P j
+below_more ps i p P within is before here j t =
+    at (targets_cases (take i ps) p j (subst (λ xs. Targets xs j) (take_more ps i p within ∙ ap (λ q. take i ps ++ q ∷ []) (sym is)) t))
+  where
+    at : Targets (take i ps) j ⊎ (p.meaning ≡ Global j) → P j
+    at (inl h) = before j h
+    at (inr e) = here j e
+
+pub targets_none : (j : ℕ) → Targets [] j → ⊥
+targets_none j t = absurd (omega (arith, t.occurs.1))
+
+pub ranks_more : (ranks : List ℕ) (rows : List Row) (at : ℕ) (row : Row) → at < length rows → row ≡ get_or rows at row
+    → ((i j : ℕ) → i < at → Leads rows i j → 0 < slice_index ranks i → IsBelow ranks (slice_index ranks i) j)
+    → ((j : ℕ) → Targets row.places j → 0 < slice_index ranks at → IsBelow ranks (slice_index ranks at) j)
+    → (i j : ℕ) → i < at + 1 → Leads rows i j → 0 < slice_index ranks i → IsBelow ranks (slice_index ranks i) j
+ranks_more ranks rows at row within is before here i j below l h = case (cases_order i at)
+  where
+    case : (i ≡ at) ⊎ ((i < at) ⊎ (at < i)) → IsBelow ranks (slice_index ranks i) j
+    case (inl e) =
+        subst (λ k. IsBelow ranks (slice_index ranks k) j) (sym e)
+        (here j (led_from rows at j row (slice_get_read rows (length rows) at row refl within is) (subst (λ k. Leads rows k j) e l))
+        (subst (λ k. 0 < slice_index ranks k) e h))
+    case (inr (inl b)) = before i j b l h
+    case (inr (inr b)) = absurd (omega arith)

@@ -14,7 +14,7 @@ use Rattle.wesl_validate.specs.declared.place.Meaning.TheVariants.{Local, Global
 use Rattle.wesl_validate.specs.declared.place.Place.{Place}
 use Rattle.wesl_validate.specs.declared.place.Row.{Row}
 use Rattle.wesl_validate.specs.Scopes.{Name, name_of, parameters_of, is_in, rows}
-use Rattle.wesl_validate.specs.Rings.{IsOnRing}
+use Rattle.wesl_validate.specs.Rings.{IsOnRing, IsFirstOnRing}
 
 abbrev pub fault : ValidateError → Name → Name → ValidateFault
 fault kind holder x = record { kind = kind; declaration = holder; name = x }
@@ -103,8 +103,8 @@ pub data IsFirstFault (unit : Unit) (table : List Name) : ValidateFault → Type
       → IsFirstFault unit table f
   miscall : (f : ValidateFault) (rest : List ValidateFault) → duplicates_of unit ≡ [] → undefined_of unit table ≡ []
       → miscalls_of unit ≡ f ∷ rest → IsFirstFault unit table f
-  ring : (i : ℕ) (r : Row) → IsFlat unit table → slice_get (rows unit) i ≡ Some r → IsOnRing (rows unit) i
-      → ((j : ℕ) → j < i → ¬ IsOnRing (rows unit) j) → IsFirstFault unit table (fault Cycle r.name r.name)
+  ring : (i : ℕ) (r : Row) → IsFlat unit table → slice_get (rows unit) i ≡ Some r → IsFirstOnRing (rows unit) i
+      → IsFirstFault unit table (fault Cycle r.name r.name)
 
 -- what a refusal says of a unit; that memory was refused says nothing
 abbrev pub NamesFirstFault : Unit → List Name → Refusal → Type 0
@@ -131,3 +131,12 @@ Finds fs (Err e) = Refuses fs e
 abbrev pub IsRefusalOf : ValidateFault → Refusal → Type 0
 IsRefusalOf f (Fault g) = g ≡ f
 IsRefusalOf f OutOfMemory = ⊤
+
+-- an answer is the first declaration on a ring, and there is none where it is no refusal
+abbrev pub RefusesRing : List Row → Refusal → Type 0
+RefusesRing rows (Fault f) = (i : ℕ) × ((r : Row) × ((slice_get rows i ≡ Some r) × (f ≡ fault Cycle r.name r.name) × IsFirstOnRing rows i))
+RefusesRing rows OutOfMemory = ⊤
+
+abbrev pub FindsRing : {T : Type 0} → List Row → Result T Refusal → Type 0
+FindsRing rows (Ok x) = (i : ℕ) → IsOnRing rows i → ⊥
+FindsRing rows (Err e) = RefusesRing rows e

@@ -1,6 +1,6 @@
 -- Rings of declarations (WGSL, "Declaration and Scope": "a module-scope declaration must not be recursive": no chain of
 -- identifiers leads a declaration back to itself).
-use Rattle.std.specs.Prelude.{◌≡◌, ℕ, List, slice_get, Option, Some}
+use Rattle.std.specs.Prelude.{◌≡◌, ℕ, ◌<◌, List, slice_get, Option, Some}
 use Rattle.std.specs.List.{Contains}
 use Rattle.wesl_validate.specs.declared.place.Meaning.TheVariants.{Global}
 use Rattle.wesl_validate.specs.declared.place.Place.{Place}
@@ -21,3 +21,8 @@ pub data Chain (rows : List Row) : ℕ → ℕ → Type 0 where
 
 abbrev pub IsOnRing : List Row → ℕ → Type 0
 IsOnRing rows i = Chain rows i i
+
+-- the first declaration in text order that is on a ring
+pub record IsFirstOnRing (rows : List Row) (i : ℕ) : Type 0 where
+  pub ring : IsOnRing rows i
+  pub before : (j : ℕ) → j < i → ¬ IsOnRing rows j

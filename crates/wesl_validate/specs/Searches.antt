@@ -56,6 +56,10 @@ pub record Searches (rows : List Row) (start at : ℕ) (reached : List ℕ) : Ty
 
 -- ---- ranks
 
+-- a rank below another; 0 is none
+abbrev pub IsBelow : List ℕ → ℕ → ℕ → Type 0
+IsBelow ranks rank j = (0 < slice_index ranks j) × (slice_index ranks j < rank)
+
 -- a ranked declaration leads only to ones of a lower rank
 abbrev pub AreRanks : List ℕ → List Row → Type 0
-AreRanks ranks rows = (i j : ℕ) → Leads rows i j → 0 < slice_index ranks i → (0 < slice_index ranks j) × (slice_index ranks j < slice_index ranks i)
+AreRanks ranks rows = (i j : ℕ) → Leads rows i j → 0 < slice_index ranks i → IsBelow ranks (slice_index ranks i) j

@@ -6,5 +6,7 @@ mod error;
 mod index;
 mod place;
 mod ring;
+mod validate;
 
 pub use error::{Refusal, ValidateError, ValidateFault};
+pub use validate::validate_wesl;
