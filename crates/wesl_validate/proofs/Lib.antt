@@ -2,3 +2,4 @@ pub mod TreeLemmas
 pub mod PositionLemmas
 pub mod FaultLemmas
 pub mod SearchLemmas
+pub mod UnitLemmas

@@ -16,7 +16,7 @@ use Rattle.wgsl_syntax.specs.declared.declaration.FormalParameter.{FormalParamet
 use Rattle.wesl_validate.specs.Lookups.{local_names}
 use Rattle.wesl_validate.specs.Scopes.{Name, count, exp_places, all_places, type_places}
 
-map-map : {A B C : Type 0} (f : B → C) (h : A → B) (xs : List A) → map f (map h xs) ≡ map (λ x. f (h x)) xs
+pub map-map : {A B C : Type 0} (f : B → C) (h : A → B) (xs : List A) → map f (map h xs) ≡ map (λ x. f (h x)) xs
 map-map f h [] = refl
 map-map f h (x ∷ xs) = ap (λ t. f (h x) ∷ t) (map-map f h xs)
 

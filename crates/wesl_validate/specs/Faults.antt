@@ -96,13 +96,16 @@ pub record IsFaultless (unit : Unit) (table : List Name) : Type 0 where
   pub flat : IsFlat unit table
   pub ringless : (i : ℕ) → ¬ IsOnRing (rows unit) i
 
--- the fault of a unit
+abbrev pub first : List ValidateFault → Option ValidateFault
+first [] = None
+first (f ∷ fs) = Some f
+
+-- the fault of a unit: the first of the first case that has any
 pub data IsFirstFault (unit : Unit) (table : List Name) : ValidateFault → Type 0 where
-  duplicate : (f : ValidateFault) (rest : List ValidateFault) → duplicates_of unit ≡ f ∷ rest → IsFirstFault unit table f
-  undefined : (f : ValidateFault) (rest : List ValidateFault) → duplicates_of unit ≡ [] → undefined_of unit table ≡ f ∷ rest
+  duplicate : (f : ValidateFault) → first (duplicates_of unit) ≡ Some f → IsFirstFault unit table f
+  undefined : (f : ValidateFault) → duplicates_of unit ≡ [] → first (undefined_of unit table) ≡ Some f → IsFirstFault unit table f
+  miscall : (f : ValidateFault) → duplicates_of unit ≡ [] → undefined_of unit table ≡ [] → first (miscalls_of unit) ≡ Some f
       → IsFirstFault unit table f
-  miscall : (f : ValidateFault) (rest : List ValidateFault) → duplicates_of unit ≡ [] → undefined_of unit table ≡ []
-      → miscalls_of unit ≡ f ∷ rest → IsFirstFault unit table f
   ring : (i : ℕ) (r : Row) → IsFlat unit table → slice_get (rows unit) i ≡ Some r → IsFirstOnRing (rows unit) i
       → IsFirstFault unit table (fault Cycle r.name r.name)
 
@@ -112,10 +115,6 @@ NamesFirstFault unit table (Fault f) = IsFirstFault unit table f
 NamesFirstFault unit table OutOfMemory = ⊤
 
 -- ---- the answer of one case
-
-abbrev pub first : List ValidateFault → Option ValidateFault
-first [] = None
-first (f ∷ fs) = Some f
 
 -- a refusal is the first of these faults
 abbrev pub Refuses : List ValidateFault → Refusal → Type 0

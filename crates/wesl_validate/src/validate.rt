@@ -32,7 +32,8 @@ pub fn validate_wesl(alloc: Global, unit: &TranslationUnit, names: &[&str]) -> R
     let declarations = unit.global_declarations.as_slice();
     let index = distinct_names(alloc, declarations)?;
     let rows = rows(alloc, &index, declarations)?;
-    check_names(alloc, rows.as_slice(), names)?;
-    check_calls(alloc, rows.as_slice())?;
-    check_rings(alloc, rows.as_slice())
+    let rows = rows.as_slice();
+    check_names(alloc, rows, names)?;
+    check_calls(alloc, rows)?;
+    check_rings(alloc, rows)
 }
