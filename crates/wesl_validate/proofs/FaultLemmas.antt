@@ -15,7 +15,8 @@ use Rattle.wesl_validate.specs.declared.error.Refusal.TheVariants.{Fault, OutOfM
 use Rattle.wesl_validate.specs.Scopes.{Name, name_of, parameters_of, is_in}
 use Rattle.wesl_validate.specs.Lookups.{trees, declared}
 use Rattle.wesl_validate.proofs.PositionLemmas.{position-push}
-use Rattle.wesl_validate.specs.Faults.{fault, again, repeats, duplicates, first, Refuses, Finds, IsRefusalOf}
+use Rattle.wesl_validate.specs.First.{first}
+use Rattle.wesl_validate.specs.Faults.{fault, again, repeats, duplicates, Refuses, Finds, IsRefusalOf}
 
 first-append : (fs gs : List ValidateFault) (f : ValidateFault) → first fs ≡ Some f → first (fs ++ gs) ≡ Some f
 first-append [] gs f h = cc

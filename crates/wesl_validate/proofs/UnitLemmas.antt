@@ -15,7 +15,7 @@ use Rattle.wesl_validate.specs.declared.place.Row.{Row}
 use Rattle.wesl_validate.specs.Scopes.{Name, name_of, names, global_of, row_of, rows}
 use Rattle.wesl_validate.specs.Lookups.{trees, declared}
 use Rattle.wesl_validate.specs.Rings.{IsFirstOnRing}
-use Rattle.wesl_validate.specs.Faults.{duplicates, faults_at, undefined_at, miscall_at, duplicates_of, undefined_of, miscalls_of, first, Refuses, IsFlat, IsFaultless, IsFirstFault, duplicate, undefined, miscall, ring, NamesFirstFault, RefusesRing, FindsRing}
+use Rattle.wesl_validate.specs.Faults.{duplicates, faults_at, undefined_at, miscall_at, duplicates_of, undefined_of, miscalls_of, Refuses, IsFlat, IsFaultless, IsFirstFault, duplicate, undefined, miscall, ring, NamesFirstFault, RefusesRing, FindsRing}
 use Rattle.wesl_validate.proofs.TreeLemmas.{map-map}
 
 -- ---- the rows of the code are those of the unit
@@ -53,7 +53,7 @@ module _ (unit : Unit) (table : List Name) where
   names_miscall OutOfMemory d u h = tt
 
   pub names_ring : (e : Refusal) → IsFlat unit table → RefusesRing (rows unit) e → NamesFirstFault unit table e
-  names_ring (Fault f) flat h = subst (IsFirstFault unit table) (sym h.1.1.1) (ring h.0 h.1.0 flat h.1.1.0 h.1.1.2)
+  names_ring (Fault f) flat h = subst (IsFirstFault unit table) (sym h.3) (ring h.0 h.1 flat h.2 h.4)
   names_ring OutOfMemory flat h = tt
 
   pub faultless : (U : Type 0) (r : Result U Refusal) → IsFlat unit table → FindsRing (rows unit) r → OnOk r (IsFaultless unit table)

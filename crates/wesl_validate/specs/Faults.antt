@@ -14,6 +14,7 @@ use Rattle.wesl_validate.specs.declared.place.Meaning.TheVariants.{Local, Global
 use Rattle.wesl_validate.specs.declared.place.Place.{Place}
 use Rattle.wesl_validate.specs.declared.place.Row.{Row}
 use Rattle.wesl_validate.specs.Scopes.{Name, name_of, parameters_of, is_in, rows}
+use Rattle.wesl_validate.specs.First.{first}
 use Rattle.wesl_validate.specs.Rings.{IsOnRing, IsFirstOnRing}
 
 abbrev pub fault : ValidateError → Name → Name → ValidateFault
@@ -96,10 +97,6 @@ pub record IsFaultless (unit : Unit) (table : List Name) : Type 0 where
   pub flat : IsFlat unit table
   pub ringless : (i : ℕ) → ¬ IsOnRing (rows unit) i
 
-abbrev pub first : List ValidateFault → Option ValidateFault
-first [] = None
-first (f ∷ fs) = Some f
-
 -- the fault of a unit: the first of the first case that has any
 pub data IsFirstFault (unit : Unit) (table : List Name) : ValidateFault → Type 0 where
   duplicate : (f : ValidateFault) → first (duplicates_of unit) ≡ Some f → IsFirstFault unit table f
@@ -133,7 +130,7 @@ IsRefusalOf f OutOfMemory = ⊤
 
 -- an answer is the first declaration on a ring, and there is none where it is no refusal
 abbrev pub RefusesRing : List Row → Refusal → Type 0
-RefusesRing rows (Fault f) = (i : ℕ) × ((r : Row) × ((slice_get rows i ≡ Some r) × (f ≡ fault Cycle r.name r.name) × IsFirstOnRing rows i))
+RefusesRing rows (Fault f) = (i : ℕ) × (r : Row) × (slice_get rows i ≡ Some r) × (f ≡ fault Cycle r.name r.name) × IsFirstOnRing rows i
 RefusesRing rows OutOfMemory = ⊤
 
 abbrev pub FindsRing : {T : Type 0} → List Row → Result T Refusal → Type 0

@@ -11,7 +11,7 @@ use Rattle.wgsl_syntax.specs.View.{declaration_tree}
 use Rattle.wesl_validate.specs.Scopes.{Name, name_of}
 
 -- where an index has a name
-abbrev pub lookup : {S : Type 0} → HashMap (Bor (List ℕ)) ℕ S → Name → Option ℕ
+abbrev pub lookup : {X S : Type 0} → HashMap (Bor (List ℕ)) X S → Name → Option X
 lookup index x = get_by (λ k. bytes_eq x k.now) index
 
 abbrev pub local_names : List FormalParameter → List Name
