@@ -3,3 +3,4 @@ pub mod PositionLemmas
 pub mod FaultLemmas
 pub mod SearchLemmas
 pub mod UnitLemmas
+pub mod ClearLemmas

@@ -1,11 +1,12 @@
 //! Names that the printed unit would blur.
 
 ghost use Rattle.std.specs.Prelude.{◌≡◌, IfOk, is_some, filter};
+ghost use Rattle.std.specs.List.{flat_map};
 ghost use Rattle.std.specs.Option.{option_copied};
 ghost use Rattle.wgsl_syntax.specs.View.{declaration_tree, unit_tree};
 ghost use Rattle.wesl_validate.specs.First.{first};
 ghost use Rattle.wesl_validate.specs.Scopes.{Name, parameters_of};
-ghost use Rattle.wesl_validate.specs.Lookups.{lookup, local_names, texts, declared};
+ghost use Rattle.wesl_validate.specs.Lookups.{lookup, local_names, texts, trees, declared};
 ghost use Rattle.wesl_validate.specs.Clearness.{sharing_of, is_shared_by, is_declared_by, unclear_in, unclear};
 
 use crate::check::is_known;
@@ -85,6 +86,22 @@ fn unclear_inside<'a>(
     unclear_local(sharing, names, declaration)
 }
 
+fn first_unclear<'a>(
+    sharing: &Sharing<'_>,
+    names: &[&str],
+    declarations: &'a [GlobalDeclarationNode],
+) -> Option<&'a str>
+    ensures { option_copied result ≡ first (flat_map (unclear_in (is_shared_by (lookup sharing.now) (texts names.now)) (is_declared_by (lookup sharing.now) (texts names.now))) (trees declarations.now)) }
+{
+    for declaration in declarations {
+        let found = unclear_inside(sharing, names, declaration.node());
+        if found.is_some() {
+            return found;
+        }
+    }
+    None
+}
+
 /// The first name, in text order, of a declaration or a parameter that the printed unit would blur: of a declaration, where
 /// another has it or the table of WGSL's names; of a parameter, where a declaration has it or the table.
 pub fn unclear_name(alloc: Global, unit: &TranslationUnit, names: &[&str]) -> Result<Option<Text>, AllocError>
@@ -92,10 +109,8 @@ pub fn unclear_name(alloc: Global, unit: &TranslationUnit, names: &[&str]) -> Re
 {
     let declarations = unit.global_declarations.as_slice();
     let sharing = sharing(alloc, declarations)?;
-    for declaration in declarations {
-        if let Some(name) = unclear_inside(&sharing, names, declaration.node()) {
-            return Ok(Some(Text::from_str(alloc, name)?));
-        }
+    match first_unclear(&sharing, names, declarations) {
+        None => Ok(None),
+        Some(name) => Ok(Some(Text::from_str(alloc, name)?)),
     }
-    Ok(None)
 }

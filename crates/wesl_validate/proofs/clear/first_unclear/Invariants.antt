@@ -3,7 +3,7 @@ use Rattle.std.specs.List.{flat_map}
 use Rattle.wesl_validate.specs.First.{first}
 use Rattle.wesl_validate.specs.Lookups.{lookup, texts, trees}
 use Rattle.wesl_validate.specs.Clearness.{is_shared_by, is_declared_by, unclear_in}
-use Rattle.wesl_validate.proofs.clear.unclear_name.Given as goal
+use Rattle.wesl_validate.proofs.clear.first_unclear.Given as goal
 
 abbrev pub invariant-loop-declaration : goal.invariant-loop-declaration
 invariant-loop-declaration l =
