@@ -116,7 +116,7 @@ unclear_are u ds look table are is =
     let names_are : names (unit_tree u) ≡ declared u.global_declarations = map-map name_of (λ n. declaration_tree n.node) u.global_declarations in
     let globals : declared ds ≡ names (unit_tree u) = ap declared are ∙ sym names_are in
     let global : (x : Name) → is_shared_by look table x ≡ is_unclear_global table (names (unit_tree u)) x =
-        λ x. ap (λ b. is_in x table || b) (ap (λ o. unwrap_or o false) (is x) ∙ unwrap-sharing x (declared ds) ∙ ap (is_shared x) globals) in
+    λ x. ap (λ b. is_in x table || b) (ap (λ o. unwrap_or o false) (is x) ∙ unwrap-sharing x (declared ds) ∙ ap (is_shared x) globals) in
     let local : (x : Name) → is_declared_by look table x ≡ is_unclear_local table (names (unit_tree u)) x =
-        λ x. ap (λ b. is_in x table || b) (ap is_some (is x) ∙ is_some-sharing x (declared ds) ∙ ap (is_in x) globals) in
+    λ x. ap (λ b. is_in x table || b) (ap is_some (is x) ∙ is_some-sharing x (declared ds) ∙ ap (is_in x) globals) in
     λ k. flat_map (unclear_in (λ x. global x k) (λ x. local x k)) (trees (are k))

@@ -43,7 +43,8 @@ module _ (ps : List Place) (p : Place) (start bound : ℕ) (old mid new : List �
     rest = v.rest;
     extends = e ∙ v.extends;
     only = All-weaker (Targets ps) (Targets (ps ++ p ∷ [])) (targets_more ps p) v.rest v.only;
-    covers = λ j t. covered j (targets_cases ps p j t) }
+    covers = λ j t. covered j (targets_cases ps p j t);
+  }
     where
       covered : (j : ℕ) → Targets ps j ⊎ (p.meaning ≡ Global j) → (j ≢ start) × (j < bound → Contains new j)
       covered j (inl t) = subst (λ xs. (j ≢ start) × (j < bound → Contains xs j)) (sym e) (v.covers j t)
@@ -62,12 +63,14 @@ module _ (ps : List Place) (p : Place) (start bound : ℕ) (old mid new : List �
         rest = v.rest;
         extends = e ∙ v.extends;
         only = All-weaker (Targets ps) (Targets (ps ++ p ∷ [])) (targets_more ps p) v.rest v.only;
-        covers = λ j t. covered (λ k h. subst (λ xs. Contains xs k) (sym e) h) j (targets_cases ps p j t) }
+        covers = λ j t. covered (λ k h. subst (λ xs. Contains xs k) (sym e) h) j (targets_cases ps p j t);
+      }
       at (inr e) = record {
         rest = v.rest ++ i ∷ [];
         extends = e ∙ ap (λ xs. xs ++ i ∷ []) v.extends ∙ append_assoc old v.rest (i ∷ []);
         only = All-push (Targets (ps ++ p ∷ [])) v.rest i (All-weaker (Targets ps) (Targets (ps ++ p ∷ [])) (targets_more ps p) v.rest v.only) (targets_last ps p i is);
-        covers = λ j t. covered (λ k h. subst (λ xs. Contains xs k) (sym e) (Contains-append_left mid (i ∷ []) k h)) j (targets_cases ps p j t) }
+        covers = λ j t. covered (λ k h. subst (λ xs. Contains xs k) (sym e) (Contains-append_left mid (i ∷ []) k h)) j (targets_cases ps p j t);
+      }
 
   visits_by : (m : Meaning) → p.meaning ≡ m → PassesBy m start bound mid new → Visits (ps ++ p ∷ []) start bound old new
   visits_by Local is same = visits_same (λ j d. (let e : Local ≡ Global j = sym is ∙ d in cc)) same
@@ -89,14 +92,16 @@ led_from : (rows : List Row) (v j : ℕ) (row : Row) → slice_get rows v ≡ So
 led_from rows v j row stands l = record {
   place = l.place;
   occurs = subst (λ r. Contains r.places l.place) (same_Some l.row row (sym l.stands ∙ stands)) l.occurs;
-  denotes = l.denotes }
+  denotes = l.denotes;
+}
 
 pub visits_row_none : (rows : List Row) (v start : ℕ) (old : List ℕ) → slice_get rows v ≡ None → VisitsRow rows v start old old
 visits_row_none rows v start old missing = record {
   rest = [];
   extends = sym (append-nil old);
   only = All-nil (Leads rows v);
-  done = λ j l. absurd (none-some l.row (sym missing ∙ l.stands)) }
+  done = λ j l. absurd (none-some l.row (sym missing ∙ l.stands));
+}
 
 pub visits_row_some : (rows : List Row) (v start : ℕ) (old new : List ℕ) (row : Row) → slice_get rows v ≡ Some row
     → Visits row.places start (length rows) old new → VisitsRow rows v start old new
@@ -104,7 +109,8 @@ visits_row_some rows v start old new row stands h = record {
   rest = h.rest;
   extends = h.extends;
   only = All-weaker (Targets row.places) (Leads rows v) (λ j t. lead_to rows v j row stands t) h.rest h.only;
-  done = λ j l. h.covers j (led_from rows v j row stands l) }
+  done = λ j l. h.covers j (led_from rows v j row stands l);
+}
 
 -- ---- chains
 
@@ -127,7 +133,8 @@ search_starts rows start = record {
   within = omega arith;
   starts = Contains-push [] start;
   only = All-cons (λ v. (v ≡ start) ⊎ Chain rows start v) start [] (inl refl) (All-nil (λ v. (v ≡ start) ⊎ Chain rows start v));
-  done = λ k d h. absurd (omega arith) }
+  done = λ k d h. absurd (omega arith);
+}
 
 module _ (rows : List Row) (start at : ℕ) (old : List ℕ) (s : Searches rows start at old) (v : ℕ) (more : at < length old) (is : v ≡ get_or old at v) where
   reached_at : (v ≡ start) ⊎ Chain rows start v
@@ -142,9 +149,10 @@ module _ (rows : List Row) (start at : ℕ) (old : List ℕ) (s : Searches rows 
     within = omega (arith, ap length h.extends, length-append old h.rest);
     starts = grown start s.starts;
     only = subst (All (λ v. (v ≡ start) ⊎ Chain rows start v)) (sym h.extends)
-      (All-append (λ v. (v ≡ start) ⊎ Chain rows start v) old h.rest s.only
-      (All-weaker (Leads rows v) (λ v. (v ≡ start) ⊎ Chain rows start v) (λ j l. inr (onward_from rows start v j reached_at l)) h.rest h.only));
-    done = λ k d below. done_at k d (cases_order k at) below }
+        (All-append (λ v. (v ≡ start) ⊎ Chain rows start v) old h.rest s.only
+        (All-weaker (Leads rows v) (λ v. (v ≡ start) ⊎ Chain rows start v) (λ j l. inr (onward_from rows start v j reached_at l)) h.rest h.only));
+    done = λ k d below. done_at k d (cases_order k at) below;
+  }
     where
       grown : (x : ℕ) → Contains old x → Contains new x
       grown x c = subst (λ xs. Contains xs x) (sym h.extends) (Contains-append_left old h.rest x c)

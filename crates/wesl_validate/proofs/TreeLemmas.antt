@@ -29,13 +29,13 @@ module _ {A : Type 0} (f : A → Exp) where
 
   type-map : (p : Option ModulePath) (i : Ident) (o : Option (List (TemplateArgOf A)))
       → let t : TypeExpressionOf A = record { path = p; ident = i; template_args = o } in
-        layer (λ x. x) (map-Expression A Exp f (Expression-F.TypeOrIdentifier t)) ≡ named (type_layer f t)
+      layer (λ x. x) (map-Expression A Exp f (Expression-F.TypeOrIdentifier t)) ≡ named (type_layer f t)
   type-map p i None = refl
   type-map p i (Some args) = ap (λ t. named (templated p i.name (exps t))) (map-map (λ a. a.expression.node) argument_map args)
 
   call-map : (p : Option ModulePath) (i : Ident) (o : Option (List (TemplateArgOf A))) (args : List (Spanned A))
       → let x : FunctionCallOf A = record { ty = record { path = p; ident = i; template_args = o }; arguments = args } in
-        layer (λ x. x) (map-Expression A Exp f (Expression-F.FunctionCall x)) ≡ call_layer f x
+      layer (λ x. x) (map-Expression A Exp f (Expression-F.FunctionCall x)) ≡ call_layer f x
   call-map p i None args = ap (λ t. call (simple p i.name) (exps t)) (map-map (λ a. a.node) node_map args)
   call-map p i (Some ts) args = λ k. call (templated p i.name (exps (map-map (λ a. a.expression.node) argument_map ts k))) (exps (map-map (λ a. a.node) node_map args k))
 
@@ -61,7 +61,7 @@ places_of_named global locals t = ap (exp_places global locals) (tree_of_named t
 
 pub places_of_call : (global : Name → Option ℕ) (locals : List Name) (x : FunctionCallOf Expression)
     → exp_places global locals (tree (FunctionCall x))
-      ≡ type_places global locals (Some (length x.arguments)) (type_tree x.ty) ++ all_places global locals (exps (map node_tree x.arguments))
+    ≡ type_places global locals (Some (length x.arguments)) (type_tree x.ty) ++ all_places global locals (exps (map node_tree x.arguments))
 places_of_call global locals x =
     ap (exp_places global locals) (tree_of_call x)
     ∙ ap (λ n. type_places global locals (Some n) (type_tree x.ty) ++ all_places global locals (exps (map node_tree x.arguments))) (count-exps node_tree x.arguments)

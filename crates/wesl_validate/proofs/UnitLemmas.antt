@@ -26,7 +26,7 @@ pub rows_are : (u : TranslationUnit) (ds : List (Spanned GlobalDeclaration)) (lo
 rows_are u ds look made are is same =
     let names_are : names (unit_tree u) ≡ declared u.global_declarations = map-map name_of (λ n. declaration_tree n.node) u.global_declarations in
     let looks : (x : Name) → look x ≡ global_of (unit_tree u) x =
-        λ x. is x ∙ ap (λ xs. position (bytes_eq x) (declared xs)) are ∙ ap (position (bytes_eq x)) (sym names_are) in
+    λ x. is x ∙ ap (λ xs. position (bytes_eq x) (declared xs)) are ∙ ap (position (bytes_eq x)) (sym names_are) in
     same ∙ (λ k. map (row_of (λ x. looks x k)) (trees (are k)))
 
 pub distinct_is : (u : TranslationUnit) (ds : List (Spanned GlobalDeclaration)) → ds ≡ u.global_declarations → duplicates [] (trees ds) ≡ [] → duplicates_of (unit_tree u) ≡ []

@@ -27,7 +27,12 @@ fn check_name(alloc: Global, holder: &str, place: &Place, table: &[&str]) -> Res
 {
     match place.meaning {
         Meaning::Free if !is_known(place.name.as_str(), table) => {
-            Err(refused(alloc, ValidateError::UndefinedSymbol, holder, place.name.as_str()))
+            Err(refused(
+                alloc,
+                ValidateError::UndefinedSymbol,
+                holder,
+                place.name.as_str(),
+            ))
         }
         _ => Ok(()),
     }

@@ -19,7 +19,10 @@ use wgsl_syntax::{FormalParameter, GlobalDeclaration, GlobalDeclarationNode, Tra
 /// For each name that a unit declares, whether two declarations share it.
 type Sharing<'a> = HashMap<&'a str, bool>;
 
-fn sharing<'a>(alloc: Global, declarations: &'a [GlobalDeclarationNode]) -> Result<Sharing<'a>, AllocError>
+fn sharing<'a>(
+    alloc: Global,
+    declarations: &'a [GlobalDeclarationNode],
+) -> Result<Sharing<'a>, AllocError>
     ensures { IfOk result (λ made. (x : Name) → lookup made x ≡ sharing_of x (declared declarations.now)) }
 {
     let mut made = HashMap::new(alloc);
@@ -68,7 +71,11 @@ fn unclear_local<'a>(
 {
     match declaration {
         GlobalDeclaration::Declaration(_) => None,
-        GlobalDeclaration::Function(x) => unclear_parameter(sharing, names, x.parameters.as_slice()),
+        GlobalDeclaration::Function(x) => unclear_parameter(
+            sharing,
+            names,
+            x.parameters.as_slice(),
+        ),
     }
 }
 
@@ -104,7 +111,11 @@ fn first_unclear<'a>(
 
 /// The first name, in text order, of a declaration or a parameter that the printed unit would blur: of a declaration, where
 /// another has it or the table of WGSL's names; of a parameter, where a declaration has it or the table.
-pub fn unclear_name(alloc: Global, unit: &TranslationUnit, names: &[&str]) -> Result<Option<Text>, AllocError>
+pub fn unclear_name(
+    alloc: Global,
+    unit: &TranslationUnit,
+    names: &[&str],
+) -> Result<Option<Text>, AllocError>
     ensures { IfOk result (λ found. found ≡ first (unclear (unit_tree unit.now) (texts names.now))) }
 {
     let declarations = unit.global_declarations.as_slice();

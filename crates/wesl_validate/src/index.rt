@@ -13,7 +13,11 @@ use std::alloc::Global;
 use std::collections::HashMap;
 use wgsl_syntax::{FormalParameter, GlobalDeclaration, GlobalDeclarationNode};
 
-fn check_parameters(alloc: Global, holder: &str, parameters: &[FormalParameter]) -> Result<(), Refusal>
+fn check_parameters(
+    alloc: Global,
+    holder: &str,
+    parameters: &[FormalParameter],
+) -> Result<(), Refusal>
     ensures { Finds (repeats holder.now [] (local_names parameters.now)) result }
 {
     for (at, parameter) in parameters.iter().enumerate() {
@@ -30,12 +34,19 @@ fn check_inside(alloc: Global, declaration: &GlobalDeclaration) -> Result<(), Re
 {
     match declaration {
         GlobalDeclaration::Declaration(_) => Ok(()),
-        GlobalDeclaration::Function(x) => check_parameters(alloc, x.ident.as_str(), x.parameters.as_slice()),
+        GlobalDeclaration::Function(x) => check_parameters(
+            alloc,
+            x.ident.as_str(),
+            x.parameters.as_slice(),
+        ),
     }
 }
 
 /// Where each name is declared, once no scope has a name twice.
-pub fn distinct_names<'a>(alloc: Global, declarations: &'a [GlobalDeclarationNode]) -> Result<Index<'a>, Refusal>
+pub fn distinct_names<'a>(
+    alloc: Global,
+    declarations: &'a [GlobalDeclarationNode],
+) -> Result<Index<'a>, Refusal>
     ensures faults { Finds (duplicates [] (trees declarations.now)) result }
     ensures index { IfOk result (λ index. (x : Name) → lookup index x ≡ position (bytes_eq x) (declared declarations.now)) }
 {

@@ -12,8 +12,9 @@ use std::alloc::{AllocError, Global};
 use std::collections::HashMap;
 use wgsl_items::{CloneIn, Items, Text};
 use wgsl_syntax::{
-    Attribute, Attributes, CompoundStatement, Declaration, Expression, ExpressionNode, FormalParameter, Function, FunctionCall,
-    GlobalDeclaration, GlobalDeclarationNode, Ident, ModulePath, Statement, StatementNode, TemplateArg, TypeExpression,
+    Attribute, Attributes, CompoundStatement, Declaration, Expression, ExpressionNode,
+    FormalParameter, Function, FunctionCall, GlobalDeclaration, GlobalDeclarationNode, Ident,
+    ModulePath, Statement, StatementNode, TemplateArg, TypeExpression,
 };
 
 /// Where a unit declares a name: the position of the first declaration of that name.
@@ -104,7 +105,13 @@ fn add_expression(
 {
     match expression {
         Expression::Literal(_) => Ok(()),
-        Expression::Parenthesized(x) => add_expression(alloc, index, locals, x.expression.node(), places),
+        Expression::Parenthesized(x) => add_expression(
+            alloc,
+            index,
+            locals,
+            x.expression.node(),
+            places,
+        ),
         Expression::Unary(x) => add_expression(alloc, index, locals, x.operand.node(), places),
         Expression::Binary(x) => {
             add_expression(alloc, index, locals, x.left.node(), places)?;
@@ -126,7 +133,14 @@ fn add_call(
     ensures { OnOk result (places.new ≡ places.old ++ (type_places (lookup index.now) (local_names locals.now) (Some (length call.now.arguments)) (type_tree call.now.ty)
         ++ all_places (lookup index.now) (local_names locals.now) (exps (map node_tree call.now.arguments)))) }
 {
-    add_type(alloc, index, locals, &call.ty, Some(call.arguments.len()), places)?;
+    add_type(
+        alloc,
+        index,
+        locals,
+        &call.ty,
+        Some(call.arguments.len()),
+        places,
+    )?;
     add_expressions(alloc, index, locals, call.arguments.as_slice(), places)
 }
 
@@ -310,11 +324,21 @@ fn add_function(
     ensures { OnOk result (places.new ≡ places.old ++ decl_places (lookup index.now) (declaration_tree (GlobalDeclaration.Function function.now))) }
 {
     add_head(alloc, index, function, places)?;
-    add_body(alloc, index, function.parameters.as_slice(), &function.body, places)
+    add_body(
+        alloc,
+        index,
+        function.parameters.as_slice(),
+        &function.body,
+        places,
+    )
 }
 
 /// The occurrences in a declaration, in text order.
-fn places_in(alloc: Global, index: &Index<'_>, declaration: &GlobalDeclaration) -> Result<Items<Place>, AllocError>
+fn places_in(
+    alloc: Global,
+    index: &Index<'_>,
+    declaration: &GlobalDeclaration,
+) -> Result<Items<Place>, AllocError>
     ensures { IfOk result (λ places. places ≡ decl_places (lookup index.now) (declaration_tree declaration.now)) }
 {
     let mut places = Items::new(alloc);
@@ -344,7 +368,11 @@ pub fn declared_name(declaration: &GlobalDeclaration) -> &str
     }
 }
 
-fn made_row(alloc: Global, index: &Index<'_>, declaration: &GlobalDeclaration) -> Result<Row, AllocError>
+fn made_row(
+    alloc: Global,
+    index: &Index<'_>,
+    declaration: &GlobalDeclaration,
+) -> Result<Row, AllocError>
     ensures { IfOk result (λ made. made ≡ row_of (lookup index.now) (declaration_tree declaration.now)) }
 {
     Ok(Row {

@@ -23,7 +23,12 @@ fn reach(position: usize, seen: &mut [bool], reached: &mut Vec<usize>) -> Result
 }
 
 /// Reaches what a place denotes; whether that is the start.
-fn pass(place: &Place, start: usize, seen: &mut [bool], reached: &mut Vec<usize>) -> Result<bool, AllocError>
+fn pass(
+    place: &Place,
+    start: usize,
+    seen: &mut [bool],
+    reached: &mut Vec<usize>,
+) -> Result<bool, AllocError>
     requires { IsMarked seen.old reached.old.items }
     ensures marked { IfOk result (λ back. back ≡ false → IsMarked seen.new reached.new.items) }
     ensures passes { IfOk result (λ back. back ≡ false → PassesBy place.now.meaning start (length seen.old) reached.old.items reached.new.items) }
@@ -129,13 +134,22 @@ fn uses(alloc: Global, rows: &[Row]) -> Result<Vec<usize>, AllocError> {
     let mut counts = Vec::new(alloc);
     for row in rows {
         let places = row.places.as_slice();
-        counts.push(places.iter().filter(|place| matches!(place.meaning, Meaning::Global(_))).count())?;
+        counts.push(
+            places
+                .iter()
+                .filter(|place| matches!(place.meaning, Meaning::Global(_)))
+                .count(),
+        )?;
     }
     Ok(counts)
 }
 
 /// Takes an occurrence off each of these declarations, and lists those that have none left.
-fn settle(users: &[usize], waiting: &mut [usize], order: &mut Vec<usize>) -> Result<(), AllocError> {
+fn settle(
+    users: &[usize],
+    waiting: &mut [usize],
+    order: &mut Vec<usize>,
+) -> Result<(), AllocError> {
     for user in users {
         let user = *user;
         if user < waiting.len() {
@@ -175,7 +189,11 @@ fn ranked(alloc: Global, rows: &[Row]) -> Result<Vec<usize>, AllocError> {
 fn rank_of(ranks: &[usize], position: usize) -> usize
     ensures { result ≡ slice_index ranks.now position }
 {
-    if position < ranks.len() { ranks[position] } else { 0 }
+    if position < ranks.len() {
+        ranks[position]
+    } else {
+        0
+    }
 }
 
 fn is_place_below(ranks: &[usize], rank: usize, place: &Place) -> bool
@@ -221,7 +239,13 @@ fn are_ranks(ranks: &[usize], rows: &[Row]) -> bool
 }
 
 /// Whether a declaration is on a ring. A search is needed only where it has no rank.
-fn is_on_ring(alloc: Global, rows: &[Row], ranks: &[usize], trusted: bool, position: usize) -> Result<bool, AllocError>
+fn is_on_ring(
+    alloc: Global,
+    rows: &[Row],
+    ranks: &[usize],
+    trusted: bool,
+    position: usize,
+) -> Result<bool, AllocError>
     requires { IsTrue trusted → AreRanks ranks.now rows.now }
     ensures { IfOk result (λ back. IsTrue back ↔ IsOnRing rows.now position) }
 {

@@ -14,7 +14,7 @@ returns-then-is_some c =
     let G = unclear_in (is_shared_by look table) (is_declared_by look table) in
     let found = c.unclear_inside-found.ensures ∙ ap (λ n. first (G (declaration_tree n))) c.node.ensures in
     first_found G c.args.declarations.now c.loop-declaration.declaration-index c.declaration-item.result c.loop-declaration-test.true c.declaration-item.is
-        c.unclear_inside-found.result found (sym c.is_some.ensures ∙ c.if-is_some.true)
+    c.unclear_inside-found.result found (sym c.is_some.ensures ∙ c.if-is_some.true)
     ∙ c.loop-declaration.invariant
 
 pub loop-declaration-preserved : goal.loop-declaration-preserved
@@ -24,5 +24,5 @@ loop-declaration-preserved c =
     let G = unclear_in (is_shared_by look table) (is_declared_by look table) in
     let found = c.unclear_inside-found.ensures ∙ ap (λ n. first (G (declaration_tree n))) c.node.ensures in
     first_goes G c.args.declarations.now c.loop-declaration.declaration-index c.declaration-item.result c.loop-declaration-test.true c.declaration-item.is
-        c.unclear_inside-found.result found (sym c.is_some.ensures ∙ c.if-is_some.false)
+    c.unclear_inside-found.result found (sym c.is_some.ensures ∙ c.if-is_some.false)
     ∙ c.loop-declaration.invariant

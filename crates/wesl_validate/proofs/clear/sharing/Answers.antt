@@ -10,5 +10,5 @@ pub loop-declaration-preserved : goal.loop-declaration-preserved
 loop-declaration-preserved c =
     let same = c.declared_name-name.ensures ∙ ap (λ n. name_of (declaration_tree n)) c.node.ensures in
     sharing_more c.args.declarations.now c.loop-declaration.declaration-index c.declaration-item.result c.loop-declaration-test.true c.declaration-item.is
-        (lookup c.loop-declaration.made) _ _ c.contains_key-again.result same c.contains_key-again.ensures c.loop-declaration.invariant
-        (hash_map_updates_str c.declared_name-name.result.now c.loop-declaration.made c.insert.new.self _ c.in_ok-insert.ensures.updates)
+    (lookup c.loop-declaration.made) _ _ c.contains_key-again.result same c.contains_key-again.ensures c.loop-declaration.invariant
+    (hash_map_updates_str c.declared_name-name.result.now c.loop-declaration.made c.insert.new.self _ c.in_ok-insert.ensures.updates)

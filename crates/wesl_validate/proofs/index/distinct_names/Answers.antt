@@ -15,20 +15,20 @@ returns-then-contains_key-clause-faults c =
     let d = c.index-declarations-position.result in
     let same = c.declared_name-name.ensures ∙ ap (λ n. name_of (declaration_tree n)) c.node.ensures in
     refuses_again c.args.declarations.now c.loop-position.position d c.loop-position-test.true c.index-declarations-position.is
-        c.loop-position.invariant.is_distinct
-        (known_from (lookup c.loop-position.index) _ _ _ true same c.loop-position.invariant.looks_up (sym c.contains_key.ensures ∙ c.if-contains_key.true))
-        c.refused.result (subst (λ x. IsRefusalOf (fault Duplicate x x) c.refused.result) same c.refused.ensures)
+    c.loop-position.invariant.is_distinct
+    (known_from (lookup c.loop-position.index) _ _ _ true same c.loop-position.invariant.looks_up (sym c.contains_key.ensures ∙ c.if-contains_key.true))
+    c.refused.result (subst (λ x. IsRefusalOf (fault Duplicate x x) c.refused.result) same c.refused.ensures)
 
 pub returns-in_err-check_inside-clause-faults : goal.returns-in_err-check_inside-clause-faults
 returns-in_err-check_inside-clause-faults c =
     let d = c.index-declarations-position.result in
     let same = c.declared_name-name.ensures ∙ ap (λ n. name_of (declaration_tree n)) c.node.ensures in
     Finds-through _ _ c.in_err-check_inside.field-0.0 _ c.from_residual.ensures.1
-        (refuses_inside c.args.declarations.now c.loop-position.position d c.loop-position-test.true c.index-declarations-position.is
-        c.loop-position.invariant.is_distinct
-        (known_from (lookup c.loop-position.index) _ _ _ false same c.loop-position.invariant.looks_up (sym c.contains_key.ensures ∙ c.if-contains_key.false))
-        c.in_err-check_inside.field-0.0
-        (subst (λ n. Refuses (inside n) c.in_err-check_inside.field-0.0) c.node-in-loop-position.ensures c.in_err-check_inside.ensures))
+    (refuses_inside c.args.declarations.now c.loop-position.position d c.loop-position-test.true c.index-declarations-position.is
+    c.loop-position.invariant.is_distinct
+    (known_from (lookup c.loop-position.index) _ _ _ false same c.loop-position.invariant.looks_up (sym c.contains_key.ensures ∙ c.if-contains_key.false))
+    c.in_err-check_inside.field-0.0
+    (subst (λ n. Refuses (inside n) c.in_err-check_inside.field-0.0) c.node-in-loop-position.ensures c.in_err-check_inside.ensures))
 
 pub loop-position-preserved : goal.loop-position-preserved
 loop-position-preserved c =
@@ -41,5 +41,5 @@ loop-position-preserved c =
       looks_up = looks_up_more ds i d c.loop-position-test.true c.index-declarations-position.is (lookup c.loop-position.index) _ _ same fresh c.loop-position.invariant.looks_up
           (hash_map_updates_str c.declared_name-name.result.now c.loop-position.index c.insert.new.self _ c.in_ok-insert.ensures.updates);
       is_distinct = goes_on ds i d c.loop-position-test.true c.index-declarations-position.is c.loop-position.invariant.is_distinct fresh
-          (subst (λ n. inside n ≡ []) c.node-in-loop-position.ensures c.in_ok-check_inside.ensures)
+          (subst (λ n. inside n ≡ []) c.node-in-loop-position.ensures c.in_ok-check_inside.ensures);
     }

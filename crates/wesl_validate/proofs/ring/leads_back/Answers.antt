@@ -8,9 +8,10 @@ returns-then-at-len c =
 
 pub returns-then-branch : goal.returns-then-branch
 returns-then-branch c =
-    let more : c.loop-at.at < length c.loop-at.reached.items = omega (arith, c.loop-at.reached.ok.0, c.loop-at.invariant.searched.within) in
-    ((λ t. search_finds _ _ c.loop-at.at _ c.loop-at.invariant.searched c.index-position.result.now more c.index-position.ensures (c.in_ok-visit_row.ensures.back c.if-branch.true)),
-    (λ ring. search rules))
+    let more : c.loop-at.at < length c.loop-at.reached.items = omega (arith, c.loop-at.reached.ok.0, c.loop-at.invariant.searched.within) in (
+      (λ t. search_finds _ _ c.loop-at.at _ c.loop-at.invariant.searched c.index-position.result.now more c.index-position.ensures (c.in_ok-visit_row.ensures.back c.if-branch.true)),
+      (λ ring. search rules),
+    )
 
 pub loop-at-preserved : goal.loop-at-preserved
 loop-at-preserved c =
@@ -19,6 +20,6 @@ loop-at-preserved c =
       sized = c.visit_row.auto.seen ∙ c.loop-at.invariant.sized;
       marked = c.in_ok-visit_row.ensures.marked c.if-branch.false;
       searched =
-        search_more _ _ c.loop-at.at _ c.loop-at.invariant.searched c.index-position.result.now more c.index-position.ensures _
-        (c.in_ok-visit_row.ensures.visits c.if-branch.false)
+          search_more _ _ c.loop-at.at _ c.loop-at.invariant.searched c.index-position.result.now more c.index-position.ensures _
+          (c.in_ok-visit_row.ensures.visits c.if-branch.false);
     }

@@ -6,5 +6,5 @@ abbrev pub invariant-loop-at : goal.invariant-loop-at
 invariant-loop-at l = record {
   sized : length l.seen ≡ length l.rows;
   marked : IsMarked l.seen l.reached.items;
-  searched : Searches l.rows l.start l.at l.reached.items
+  searched : Searches l.rows l.start l.at l.reached.items;
 }

@@ -18,11 +18,11 @@ returns-in-Some-clause-visits c =
     let found = c.in-Some.ensures.lookup.3 in
     let stands = slice_get_read rows _ c.args.position row refl found.0 (found.1 row) in
     IfOk-weaker c.visit.result (λ back. back ≡ false → Visits c.as_slice.result.now c.args.start (length c.args.seen.now) old new)
-        (λ back. back ≡ false → VisitsRow rows c.args.position c.args.start old new)
-        (λ back h e. visits_row_some rows c.args.position c.args.start old new row stands
-        (subst (λ ps. Visits ps c.args.start (length rows) old new) c.as_slice.ensures
-        (subst (λ n. Visits c.as_slice.result.now c.args.start n old new) c.requires.sized (h e))))
-        c.visit.ensures.visits
+    (λ back. back ≡ false → VisitsRow rows c.args.position c.args.start old new)
+    (λ back h e. visits_row_some rows c.args.position c.args.start old new row stands
+    (subst (λ ps. Visits ps c.args.start (length rows) old new) c.as_slice.ensures
+    (subst (λ n. Visits c.as_slice.result.now c.args.start n old new) c.requires.sized (h e))))
+    c.visit.ensures.visits
 
 pub returns-in-Some-clause-back : goal.returns-in-Some-clause-back
 returns-in-Some-clause-back c =
@@ -31,5 +31,5 @@ returns-in-Some-clause-back c =
     let found = c.in-Some.ensures.lookup.3 in
     let stands = slice_get_read rows _ c.args.position row refl found.0 (found.1 row) in
     IfOk-weaker c.visit.result (λ back. back ≡ true → Targets c.as_slice.result.now c.args.start) (λ back. back ≡ true → Leads rows c.args.position c.args.start)
-        (λ back h e. lead_to rows c.args.position c.args.start row stands (subst (λ ps. Targets ps c.args.start) c.as_slice.ensures (h e)))
-        c.visit.ensures.back
+    (λ back h e. lead_to rows c.args.position c.args.start row stands (subst (λ ps. Targets ps c.args.start) c.as_slice.ensures (h e)))
+    c.visit.ensures.back
