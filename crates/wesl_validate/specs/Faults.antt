@@ -1,6 +1,6 @@
 -- The faults of a unit. Those of a case are listed in text order; the fault of a unit is the first of the first case that
--- has any. (The order of the cases is this project's own; each case is an error of WGSL: "Declaration and Scope",
--- "Function Calls", and for rings "Declaration and Scope" and "Restrictions on Functions".)
+-- has any. (The order of the cases is this project's own. The cases are errors of WGSL: "Declaration and Scope" for names that
+-- are declared twice, not at all, or by means of themselves; "Function Calls" for callees and arguments.)
 use Rattle.std.specs.Prelude.{◌≡◌, ⊤, ℕ, ◌<◌, List, [], ◌∷◌, ◌++◌, map, length, slice_get, ◌==◌, Option, Some, None, Bool, true, false, if◌then◌else◌, Result, Ok, Err}
 use Rattle.std.specs.List.{flat_map}
 use Rattle.wgsl_syntax.specs.Tree.{Decl, Unit}
