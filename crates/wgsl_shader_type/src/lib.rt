@@ -1,0 +1,10 @@
+//! The types of WGSL.
+#![tactic(auto)]
+
+mod alike;
+mod class;
+mod copy;
+mod print;
+pub mod tree;
+
+pub use tree::{ShaderType, StructMemberType, StructMemberTypeOf, StructType, StructTypeOf, Type};
