@@ -41,13 +41,13 @@ same_out a b =
 pub same_of_struct : (x y : StructTypeOf ShaderType) → same (v.Struct x) (v.Struct y) ≡ same_struct same x y
 same_of_struct x y = same_out (v.Struct x) (v.Struct y) ∙ (λ i. same_layer same (v.outs-Struct x i) (v.outs-Struct y i))
 
-option_true : (a b : Option ℕ) → option_eq ◌==◌ a b ≡ true → a ≡ b
+pub option_true : (a b : Option ℕ) → option_eq ◌==◌ a b ≡ true → a ≡ b
 option_true None None h = refl
 option_true None (Some y) h = absurd (true≢false (sym h))
 option_true (Some x) None h = absurd (true≢false (sym h))
 option_true (Some x) (Some y) h = ap Some (eqb-true x y h)
 
-option_self : (a : Option ℕ) → option_eq ◌==◌ a a ≡ true
+pub option_self : (a : Option ℕ) → option_eq ◌==◌ a a ≡ true
 option_self None = refl
 option_self (Some x) = eq-eqb x x refl
 
@@ -78,7 +78,7 @@ module _ {A : Type 0} (E : A → ShaderType → Bool) (f : A → ShaderType) (ch
   members_true (m ∷ ms) (n ∷ ns) h = λ i.
       member_true m n (first_so (same_member E m n) (pointwise (same_member E) ms ns) h) i ∷ members_true ms ns (second_so (same_member E m n) (pointwise (same_member E) ms ns) h) i
 
-  layer_true : (x : ShaderType-F A) (y : ShaderType-F ShaderType) → same_layer E x y ≡ true → map-ShaderType A ShaderType f x ≡ y
+  pub layer_true : (x : ShaderType-F A) (y : ShaderType-F ShaderType) → same_layer E x y ≡ true → map-ShaderType A ShaderType f x ≡ y
   layer_true ShaderType-F.Bool ShaderType-F.Bool h = refl
   layer_true ShaderType-F.AbstractInt ShaderType-F.AbstractInt h = refl
   layer_true ShaderType-F.AbstractFloat ShaderType-F.AbstractFloat h = refl
@@ -128,7 +128,7 @@ module _ {A : Type 0} (E : A → ShaderType → Bool) (f : A → ShaderType) (ch
   members_self (m ∷ ms) = λ i.
       ((bytes_eq-Decides m.name m.name).1 refl i && child m.ty i && option_self m.size i && option_self m.align i) && members_self ms i
 
-  layer_self : (x : ShaderType-F A) → same_layer E x (map-ShaderType A ShaderType f x) ≡ true
+  pub layer_self : (x : ShaderType-F A) → same_layer E x (map-ShaderType A ShaderType f x) ≡ true
   layer_self ShaderType-F.Bool = refl
   layer_self ShaderType-F.AbstractInt = refl
   layer_self ShaderType-F.AbstractFloat = refl

@@ -3,6 +3,7 @@
 
 mod alike;
 mod class;
+pub mod conversion;
 mod copy;
 mod print;
 pub mod tree;

@@ -1,0 +1,69 @@
+//! Implicit conversions between types.
+
+ghost use Rattle.std.specs.Prelude.{◌≡◌, ◌↔◌, IsTrue, MatchOption};
+ghost use Rattle.wgsl_shader_type.specs.Rank.{rank_of};
+ghost use Rattle.wgsl_shader_type.specs.Conversion.{Converts, IsRank, IsCommonType};
+
+use crate::tree::ShaderType;
+
+/// The rank, variant by variant.
+#[tactic(auto, using(crate::proofs::Ranks::rank_out, crate::proofs::Ranks::rank_of_arrays, crate::proofs::Ranks::rank_of_vectors))]
+fn rank_between(from: &ShaderType, to: &ShaderType) -> Option<u32>
+    ensures { result ≡ rank_of from.now to.now }
+{
+    match from {
+        ShaderType::AbstractInt => match to {
+            ShaderType::AbstractInt => Some(0),
+            ShaderType::I32 => Some(3),
+            ShaderType::U32 => Some(4),
+            ShaderType::AbstractFloat => Some(5),
+            ShaderType::F32 => Some(6),
+            ShaderType::F16 => Some(7),
+            _ => None,
+        },
+        ShaderType::AbstractFloat => match to {
+            ShaderType::AbstractFloat => Some(0),
+            ShaderType::F32 => Some(1),
+            ShaderType::F16 => Some(2),
+            _ => None,
+        },
+        ShaderType::Array(element, count) => match to {
+            ShaderType::Array(element_to, count_to) => {
+                if *count == *count_to {
+                    rank_between(element.get(), element_to.get())
+                } else {
+                    None
+                }
+            }
+            _ => None,
+        },
+        ShaderType::Vec(count, component) => match to {
+            ShaderType::Vec(count_to, component_to) => {
+                if *count == *count_to {
+                    rank_between(component.get(), component_to.get())
+                } else {
+                    None
+                }
+            }
+            _ => None,
+        },
+        _ => { if *from == *to { Some(0) } else { None } }
+    }
+}
+
+/// The rank of the implicit conversion of one type to another, or nothing where there is none (WGSL, "Conversion rank").
+#[tactic(auto, using(crate::proofs::Ranks::rank_is_least))]
+pub fn conversion_rank(from: &ShaderType, to: &ShaderType) -> Option<u32>
+    ensures { MatchOption result (¬ Converts from.now to.now) (IsRank from.now to.now) }
+{
+    rank_between(from, to)
+}
+
+impl ShaderType {
+    /// Whether it converts to another type implicitly.
+    pub fn is_convertible_to(&self, other: &ShaderType) -> bool
+        ensures { IsTrue result ↔ Converts self.now other.now }
+    {
+        conversion_rank(self, other).is_some()
+    }
+}
