@@ -1,2 +1,3 @@
 pub mod Classes
+pub mod Commons
 pub mod Ranks

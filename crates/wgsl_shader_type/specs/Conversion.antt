@@ -31,3 +31,11 @@ pub record IsRank (from to : ShaderType) (rank : ℕ) : Type 0 where
 pub record IsCommonType (types : List ShaderType) (common : ShaderType) : Type 0 where
   pub member : Contains types common
   pub all_convert : All (λ member. Converts member common) types
+
+abbrev pub HasNoCommonType : List ShaderType → Type 0
+HasNoCommonType types = (common : ShaderType) → IsCommonType types common → ⊥
+
+-- A member that is the common type of the list, if there is one.
+pub record IsOnlyCandidate (types : List ShaderType) (candidate : ShaderType) : Type 0 where
+  pub member : Contains types candidate
+  pub only : (common : ShaderType) → IsCommonType types common → candidate ≡ common

@@ -1,8 +1,8 @@
 //! Implicit conversions between types.
 
-ghost use Rattle.std.specs.Prelude.{◌≡◌, ◌↔◌, IsTrue, MatchOption};
+ghost use Rattle.std.specs.Prelude.{◌≡◌, ◌↔◌, [], ◌∷◌, IsTrue, MatchOption};
 ghost use Rattle.wgsl_shader_type.specs.Rank.{rank_of};
-ghost use Rattle.wgsl_shader_type.specs.Conversion.{Converts, IsRank, IsCommonType};
+ghost use Rattle.wgsl_shader_type.specs.Conversion.{Converts, IsRank, IsCommonType, HasNoCommonType, IsOnlyCandidate};
 
 use crate::tree::ShaderType;
 
@@ -66,4 +66,46 @@ impl ShaderType {
     {
         conversion_rank(self, other).is_some()
     }
+}
+
+/// The common type of two types: the one to which the other converts.
+#[tactic(auto, using(crate::proofs::Commons::common_first, crate::proofs::Commons::common_second))]
+pub fn convert_ty<'a>(first: &'a ShaderType, second: &'a ShaderType) -> Option<&'a ShaderType>
+    ensures { MatchOption result
+        (HasNoCommonType (first.now ∷ second.now ∷ []))
+        (λ common. IsCommonType (first.now ∷ second.now ∷ []) common.now) }
+{
+    if first.is_convertible_to(second) {
+        Some(second)
+    } else if second.is_convertible_to(first) {
+        Some(first)
+    } else {
+        None
+    }
+}
+
+/// The common type of a list: its member to which every member converts.
+pub fn convert_all_ty(types: &[ShaderType]) -> Option<&ShaderType>
+    ensures { MatchOption result (HasNoCommonType types.now) (λ common. IsCommonType types.now common.now) }
+{
+    let candidate = last_reached(types)?;
+    for ty in types {
+        if !ty.is_convertible_to(candidate) {
+            return None;
+        }
+    }
+    Some(candidate)
+}
+
+/// A member of the list, which is its common type where there is one.
+fn last_reached(types: &[ShaderType]) -> Option<&ShaderType>
+    ensures { MatchOption result (types.now ≡ []) (λ reached. IsOnlyCandidate types.now reached.now) }
+{
+    let mut reached = types.first()?;
+    for ty in types {
+        if !ty.is_convertible_to(reached) {
+            reached = ty;
+        }
+    }
+    Some(reached)
 }
