@@ -1,3 +1,4 @@
 pub mod Classes
 pub mod Commons
+pub mod LayoutSteps
 pub mod Ranks

@@ -5,6 +5,7 @@ mod alike;
 mod class;
 pub mod conversion;
 mod copy;
+mod layout;
 mod print;
 pub mod tree;
 
