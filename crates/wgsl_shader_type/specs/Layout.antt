@@ -86,4 +86,10 @@ module _ (unsized : Option ℕ) where
     pub data HasExtents : List (StructMemberTypeOf ShaderType) → List Extent → Type 0 where
       none : HasExtents [] []
       more : {m : StructMemberTypeOf ShaderType} {ms : List (StructMemberTypeOf ShaderType)} {align size : ℕ} {extents : List Extent}
-          → IsAlignment m.ty align → IsSize m.ty size → HasExtents ms extents → HasExtents (m ∷ ms) (record { size = given_or m.size size; align = given_or m.align align } ∷ extents)
+          → IsAlignment m.ty align → 0 < given_or m.align align → IsSize m.ty size → HasExtents ms extents → HasExtents (m ∷ ms) (record { size = given_or m.size size; align = given_or m.align align } ∷ extents)
+
+abbrev pub HasNoAlignment : ShaderType → Type 0
+HasNoAlignment t = (align : ℕ) → IsAlignment t align → ⊥
+
+abbrev pub HasNoSize : Option ℕ → ShaderType → Type 0
+HasNoSize unsized t = (size : ℕ) → IsSize unsized t size → ⊥

@@ -1,9 +1,9 @@
 //! How types lie in memory: alignments and sizes, in bytes.
 
-ghost use Rattle.std.specs.Prelude.{◌≡◌, ◌<◌, MatchOption, IfSome};
+ghost use Rattle.std.specs.Prelude.{◌≡◌, ◌<◌, Some, None, MatchOption, IfSome};
 ghost use Rattle.wgsl_shader_type.specs.LayoutOf as plain;
 ghost use Rattle.wgsl_shader_type.specs.LayoutOf.{IsSmall};
-ghost use Rattle.wgsl_shader_type.specs.Layout.{count_or};
+ghost use Rattle.wgsl_shader_type.specs.Layout.{IsAlignment, HasNoAlignment, IsSize, HasNoSize};
 
 use crate::tree::{ShaderType, StructMemberType};
 
@@ -169,4 +169,30 @@ fn member_end(member: &StructMemberType, from: u32, unsized_count: Option<usize>
     let natural = size_counting(&member.ty, unsized_count)?;
     let at = rounded_up(align, from)?;
     at.checked_add(member.size.unwrap_or(natural))
+}
+
+impl ShaderType {
+    /// The alignment, in bytes, or nothing where the type has none: abstract types, pointers, references and what holds one (WGSL, "Alignment and Size").
+    #[tactic(auto, using(crate::proofs::Layouts::alignment_is))]
+    pub fn align_of(&self) -> Option<u32>
+        ensures { MatchOption result (HasNoAlignment self.now) (IsAlignment self.now) }
+    {
+        alignment(self)
+    }
+
+    /// The size, in bytes, or nothing where the type has none within a `u32`.
+    #[tactic(auto, using(crate::proofs::Layouts::size_found))]
+    pub fn size_of(&self) -> Option<u32>
+        ensures { MatchOption result (HasNoSize None self.now) (IsSize None self.now) }
+    {
+        size_counting(self, None)
+    }
+
+    /// The size, in bytes, where an array without a length counts as having one element.
+    #[tactic(auto, using(crate::proofs::Layouts::size_found))]
+    pub fn min_size_of(&self) -> Option<u32>
+        ensures { MatchOption result (HasNoSize (Some 1) self.now) (IsSize (Some 1) self.now) }
+    {
+        size_counting(self, Some(1))
+    }
 }
