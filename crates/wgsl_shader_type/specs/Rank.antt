@@ -1,5 +1,5 @@
 -- The rank of a conversion, variant by variant. That it is the least sum along a path, `rank_is_least` of the proofs shows.
-use Rattle.std.specs.Prelude.{ℕ, ◌==◌, Bool, Option, Some, None, if◌then◌else◌}
+use Rattle.std.specs.Prelude.{ℕ, ◌==◌, Bool, Option, Some, None, is_some, if◌then◌else◌}
 use Rattle.std.specs.Option.{option_eq}
 use Rattle.wgsl_shader_type.specs.declared.tree.ShaderType.{ShaderType, out-ShaderType, para-ShaderType}
 use Rattle.wgsl_shader_type.specs.declared.tree.ShaderType.TheOpen.{ShaderType-F}
@@ -19,3 +19,11 @@ rank_layer E R x y = if same_layer E x y then Some 0 else None
 
 abbrev pub rank_of : ShaderType → ShaderType → Option ℕ
 rank_of = para-ShaderType (ShaderType → Option ℕ) (λ x t. rank_layer (λ pair y. same pair.0 y) (λ pair y. pair.1 y) x (out-ShaderType t))
+
+-- whether there is a conversion
+abbrev pub converts : ShaderType → ShaderType → Bool
+converts a b = is_some (rank_of a b)
+
+-- the one of two types to which the other converts
+abbrev pub common_of : ShaderType → ShaderType → Option ShaderType
+common_of a b = if converts a b then Some b else (if converts b a then Some a else None)

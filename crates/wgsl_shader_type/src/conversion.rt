@@ -1,7 +1,8 @@
 //! Implicit conversions between types.
 
 ghost use Rattle.std.specs.Prelude.{◌≡◌, ◌↔◌, [], ◌∷◌, IsTrue, MatchOption};
-ghost use Rattle.wgsl_shader_type.specs.Rank.{rank_of};
+ghost use Rattle.std.specs.Option.{option_copied};
+ghost use Rattle.wgsl_shader_type.specs.Rank.{rank_of, converts, common_of};
 ghost use Rattle.wgsl_shader_type.specs.Conversion.{Converts, IsRank, IsCommonType, HasNoCommonType, IsOnlyCandidate};
 
 use crate::tree::ShaderType;
@@ -54,7 +55,8 @@ fn rank_between(from: &ShaderType, to: &ShaderType) -> Option<u32>
 /// The rank of the implicit conversion of one type to another, or nothing where there is none (WGSL, "Conversion rank").
 #[tactic(auto, using(crate::proofs::Ranks::rank_is_least))]
 pub fn conversion_rank(from: &ShaderType, to: &ShaderType) -> Option<u32>
-    ensures { MatchOption result (¬ Converts from.now to.now) (IsRank from.now to.now) }
+    ensures least { MatchOption result (¬ Converts from.now to.now) (IsRank from.now to.now) }
+    ensures value { result ≡ rank_of from.now to.now }
 {
     rank_between(from, to)
 }
@@ -62,7 +64,8 @@ pub fn conversion_rank(from: &ShaderType, to: &ShaderType) -> Option<u32>
 impl ShaderType {
     /// Whether it converts to another type implicitly.
     pub fn is_convertible_to(&self, other: &ShaderType) -> bool
-        ensures { IsTrue result ↔ Converts self.now other.now }
+        ensures by_path { IsTrue result ↔ Converts self.now other.now }
+        ensures value { result ≡ converts self.now other.now }
     {
         conversion_rank(self, other).is_some()
     }
@@ -71,9 +74,10 @@ impl ShaderType {
 /// The common type of two types: the one to which the other converts.
 #[tactic(auto, using(crate::proofs::Commons::common_first, crate::proofs::Commons::common_second))]
 pub fn convert_ty<'a>(first: &'a ShaderType, second: &'a ShaderType) -> Option<&'a ShaderType>
-    ensures { MatchOption result
+    ensures common { MatchOption result
         (HasNoCommonType (first.now ∷ second.now ∷ []))
         (λ common. IsCommonType (first.now ∷ second.now ∷ []) common.now) }
+    ensures value { option_copied result ≡ common_of first.now second.now }
 {
     if first.is_convertible_to(second) {
         Some(second)

@@ -14,13 +14,13 @@ loop-ty-preserved c =
           let e = ap (λ r. r.now) w.reached-is in
           record {
             member = subst (Contains types) (sym e) (item_within types i c.ty-item.result c.loop-ty-test.true c.ty-item.is);
-            only = λ common is h. e ∙ only_moved types i c.ty-item.result before c.loop-ty-test.true c.ty-item.is (λ converts. true≢false (sym (w.if-not-is_convertible_to.ensures.1 converts))) c.loop-ty.invariant.only common is h;
+            only = λ common is h. e ∙ only_moved types i c.ty-item.result before c.loop-ty-test.true c.ty-item.is (λ converts. true≢false (sym (w.if-not-is_convertible_to.ensures.by_path.1 converts))) c.loop-ty.invariant.only common is h;
           }
       | else-not-is_convertible_to w ↦
           let e = ap (λ r. r.now) w.reached-is in
           record {
             member = subst (Contains types) (sym e) c.loop-ty.invariant.member;
-            only = λ common is h. e ∙ only_kept types i c.ty-item.result before c.loop-ty-test.true c.ty-item.is c.loop-ty.invariant.member (w.if-not-is_convertible_to.ensures.0 refl) c.loop-ty.invariant.only common is h;
+            only = λ common is h. e ∙ only_kept types i c.ty-item.result before c.loop-ty-test.true c.ty-item.is c.loop-ty.invariant.member (w.if-not-is_convertible_to.ensures.by_path.0 refl) c.loop-ty.invariant.only common is h;
           }
     ]
 
