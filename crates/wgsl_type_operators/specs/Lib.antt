@@ -1,2 +1,3 @@
+pub mod Literal
 pub mod Operator
 pub mod ResultOf

@@ -1,10 +1,8 @@
-//! Operators on types.
+//! Operators on types: what they take, what they give, and what is refused.
 #![tactic(auto)]
 
-use wgsl_shader_type::ShaderType;
+pub mod error;
+pub mod literal;
 
-impl ShaderType {
-    pub fn op_foo(&self) -> bool {
-        self.is_i32()
-    }
-}
+pub use error::Error;
+pub use literal::{CallSignature, LiteralInstance, TpltParam};
