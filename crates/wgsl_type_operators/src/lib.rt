@@ -3,6 +3,7 @@
 
 pub mod error;
 pub mod literal;
+pub mod operator;
 
 pub use error::Error;
 pub use literal::{CallSignature, LiteralInstance, TpltParam};
