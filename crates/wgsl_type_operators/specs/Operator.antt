@@ -1,5 +1,5 @@
 -- What operators take and give (WGSL, "Arithmetic Expressions", "Comparison Expressions", "Logical Expressions", "Bit Expressions", "Overload Resolution").
-use Rattle.std.specs.Prelude.{◌≡◌, ℕ, ◌+◌, ◌≤◌, Bool, true, false, ◌||◌, not, IsTrue}
+use Rattle.std.specs.Prelude.{◌≡◌, ℕ, ◌+◌, ◌≤◌, Bool, true, false, ◌&&◌, ◌||◌, not, IsTrue}
 use Rattle.wgsl_enumerations.specs.declared.address.AddressSpace.{AddressSpace}
 use Rattle.wgsl_enumerations.specs.declared.address.AddressSpace.TheVariants.{Handle}
 use Rattle.wgsl_enumerations.specs.declared.address.AccessMode.{AccessMode}
@@ -7,10 +7,18 @@ use Rattle.wgsl_operators.specs.declared.UnaryOperator.{UnaryOperator}
 use Rattle.wgsl_operators.specs.declared.UnaryOperator.TheVariants.{LogicalNegation, Negation, BitwiseComplement, AddressOf, Indirection}
 use Rattle.wgsl_operators.specs.declared.BinaryOperator.{BinaryOperator}
 use Rattle.wgsl_operators.specs.declared.BinaryOperator.TheVariants.{ShortCircuitOr, ShortCircuitAnd, Addition, Subtraction, Multiplication, Division, Remainder, Equality, Inequality, LessThan, LessThanEqual, GreaterThan, GreaterThanEqual, BitwiseOr, BitwiseAnd, BitwiseXor, ShiftLeft, ShiftRight}
-use Rattle.wgsl_shader_type.specs.declared.tree.ShaderType.{ShaderType}
+use Rattle.wgsl_shader_type.specs.declared.tree.ShaderType.{ShaderType, out-ShaderType}
+use Rattle.wgsl_shader_type.specs.declared.tree.ShaderType.TheOpen.{ShaderType-F}
 use Rattle.wgsl_shader_type.specs.declared.tree.ShaderType.TheVariants as type
 use Rattle.wgsl_shader_type.specs.Class.{is_scalar, is_numeric, is_integer, is_bool}
 use Rattle.wgsl_shader_type.specs.Conversion.{IsRank}
+
+abbrev pub unsigned_layer : {A : Type 0} → ShaderType-F A → Bool
+unsigned_layer ShaderType-F.U32 = true
+unsigned_layer _ = false
+
+abbrev pub is_unsigned : ShaderType → Bool
+is_unsigned t = unsigned_layer (out-ShaderType t)
 
 -- ---- binary operators
 
@@ -111,3 +119,35 @@ IsBinaryResult operator = IsResult (Signature operator)
 
 abbrev pub HasNoBinaryCandidate : BinaryOperator → ShaderType → ShaderType → Type 0
 HasNoBinaryCandidate operator = HasNoCandidate (Signature operator)
+
+-- ---- unary operators
+
+-- Which scalar type the operand may have: numbers but U32 for `-`, Bool for `!`, integers for `~`.
+abbrev pub unary_takes : UnaryOperator → ShaderType → Bool
+unary_takes LogicalNegation t = is_bool t
+unary_takes Negation t = is_numeric t && not (is_unsigned t)
+unary_takes BitwiseComplement t = is_integer t
+unary_takes AddressOf t = false
+unary_takes Indirection t = false
+
+-- The signatures of a unary operator: on scalars, componentwise on vectors, and between references and pointers; to the handle space there are no pointers.
+pub data UnarySignature : UnaryOperator → ShaderType → ShaderType → Type 0 where
+  scalar : (operator : UnaryOperator) (t : ShaderType) → IsTrue (unary_takes operator t) → UnarySignature operator t t
+  vector : (operator : UnaryOperator) (n : ℕ) (t : ShaderType) → IsTrue (unary_takes operator t) → UnarySignature operator (type.Vec n t) (type.Vec n t)
+  address : (space : AddressSpace) (t : ShaderType) (access : AccessMode) → (space ≡ Handle → ⊥) → UnarySignature AddressOf (type.Ref space t access) (type.Ptr space t access)
+  indirection : (space : AddressSpace) (t : ShaderType) (access : AccessMode) → UnarySignature Indirection (type.Ptr space t access) (type.Ref space t access)
+
+pub record IsUnaryCandidate (operator : UnaryOperator) (operand a result : ShaderType) (rank : ℕ) : Type 0 where
+  pub here : UnarySignature operator a result
+  pub converts : IsRank operand a rank
+
+-- The result is that of the one candidate of the least rank.
+pub record IsUnaryResult (operator : UnaryOperator) (operand result : ShaderType) : Type 0 where
+  pub first : ShaderType
+  pub rank : ℕ
+  pub candidate : IsUnaryCandidate operator operand first result rank
+  pub least : (a b : ShaderType) (other : ℕ) → IsUnaryCandidate operator operand a b other → rank ≤ other
+  pub alone : (a b : ShaderType) (other : ℕ) → IsUnaryCandidate operator operand a b other → other ≡ rank → (a ≡ first) × (b ≡ result)
+
+abbrev pub HasNoUnaryCandidate : UnaryOperator → ShaderType → Type 0
+HasNoUnaryCandidate operator operand = (a b : ShaderType) (rank : ℕ) → IsUnaryCandidate operator operand a b rank → ⊥

@@ -6,6 +6,7 @@ ghost use Rattle.wgsl_type_operators.specs.ResultOf as plain;
 
 use crate::error::Error;
 use std::alloc::{AllocError, Global};
+use wgsl_enumerations::{AccessMode, AddressSpace};
 use wgsl_items::Boxed;
 use wgsl_operators::{BinaryOperator, UnaryOperator};
 use wgsl_shader_type::{Type, convert_ty};
@@ -155,5 +156,106 @@ fn binary_type(
             }
             _ => component_type(alloc, operator, left, right),
         },
+    }
+}
+
+/// The result of a binary operator: that of the one candidate signature of the least sum of conversion ranks.
+#[tactic(auto, using(crate::proofs::Candidates::result_found, crate::proofs::Candidates::none_found))]
+pub fn type_binary_op(
+    alloc: Global,
+    operator: BinaryOperator,
+    left: &Type,
+    right: &Type,
+) -> Result<Type, Error>
+    ensures ok { IfOk result (spec.IsBinaryResult operator left.now right.now) }
+    ensures err { IfErr result (λ error. (error ≡ Error.OutOfMemory)
+        ⊎ ((error ≡ Error.Binary operator left.now right.now) × spec.HasNoBinaryCandidate operator left.now right.now)) }
+{
+    match binary_type(alloc, operator, left, right)? {
+        Some(given) => Ok(given),
+        None => {
+            let left = left.clone(alloc)?;
+            let right = right.clone(alloc)?;
+            Err(Error::Binary(operator, left, right))
+        }
+    }
+}
+
+fn is_taken_alone(operator: UnaryOperator, ty: &Type) -> bool
+    ensures { result ≡ spec.unary_takes operator ty.now }
+{
+    match operator {
+        UnaryOperator::LogicalNegation => ty.is_bool(),
+        UnaryOperator::Negation => ty.is_numeric() && !ty.is_u32(),
+        UnaryOperator::BitwiseComplement => ty.is_integer(),
+        UnaryOperator::AddressOf | UnaryOperator::Indirection => false,
+    }
+}
+
+/// What one operand gives, by its shape.
+fn unary_type(alloc: Global, operator: UnaryOperator, operand: &Type) -> Result<Option<Type>, AllocError>
+    ensures { IfOk result (λ found. found ≡ plain.unary_result operator operand.now) }
+{
+    match operand {
+        Type::Ref(space, stored, access) => match operator {
+            UnaryOperator::AddressOf => pointer_to(alloc, *space, stored.get(), *access),
+            _ => Ok(None),
+        },
+        Type::Ptr(space, stored, access) => match operator {
+            UnaryOperator::Indirection => {
+                let stored = stored.get().clone(alloc)?;
+                Ok(Some(Type::Ref(*space, Boxed::new(alloc, stored)?, *access)))
+            }
+            _ => Ok(None),
+        },
+        Type::Vec(_, component) => {
+            if is_taken_alone(operator, component.get()) {
+                Ok(Some(operand.clone(alloc)?))
+            } else {
+                Ok(None)
+            }
+        }
+        _ => {
+            if is_taken_alone(operator, operand) {
+                Ok(Some(operand.clone(alloc)?))
+            } else {
+                Ok(None)
+            }
+        }
+    }
+}
+
+fn pointer_to(alloc: Global, space: AddressSpace, stored: &Type, access: AccessMode) -> Result<Option<Type>, AllocError>
+    ensures { IfOk result (λ found. found ≡ plain.address_of space stored.now access) }
+{
+    if space == AddressSpace::Handle {
+        return Ok(None);
+    }
+    let stored = stored.clone(alloc)?;
+    Ok(Some(Type::Ptr(space, Boxed::new(alloc, stored)?, access)))
+}
+
+/// The refusal of an operand.
+fn unary_fault(alloc: Global, operator: UnaryOperator, operand: &Type) -> Result<Error, AllocError>
+    ensures { IfOk result (λ fault. fault ≡ plain.unary_fault operator operand.now) }
+{
+    if let UnaryOperator::AddressOf = operator {
+        if let Type::Ref(AddressSpace::Handle, _, _) = operand {
+            return Ok(Error::PtrHandle);
+        }
+    }
+    Ok(Error::Unary(operator, operand.clone(alloc)?))
+}
+
+/// The result of a unary operator: that of the one candidate signature of the least conversion rank.
+#[tactic(auto, using(crate::proofs::UnaryCandidates::result_found, crate::proofs::UnaryCandidates::none_found))]
+pub fn type_unary_op(alloc: Global, operator: UnaryOperator, operand: &Type) -> Result<Type, Error>
+    ensures ok { IfOk result (spec.IsUnaryResult operator operand.now) }
+    ensures err { IfErr result (λ error. (error ≡ Error.OutOfMemory)
+        ⊎ ((error ≡ plain.unary_fault operator operand.now) × spec.HasNoUnaryCandidate operator operand.now)) }
+{
+    match unary_type(alloc, operator, operand)? {
+        Some(given) => Ok(given),
+        None => Err(unary_fault(alloc, operator, operand)?),
     }
 }
