@@ -205,7 +205,7 @@ module _ (operator : BinaryOperator) (left right : ShaderType) where
         ahead a b o other q =
             let e = alike_if s q.here in
             in_some q.left_rank (k + q.right_rank) (sym (rank_if_least left a q.left_rank q.left_converts) ∙ ap (rank_of left) (e.2 ∙ sym e.3)
-                ∙ rank_if_path (joined (path_if_rank left right k h) q.right_converts.path))
+            ∙ rank_if_path (joined (path_if_rank left right k h) q.right_converts.path))
     right_meets k h false t = λ a b o sum q.
         let e = alike_if s q.here in
         true≢false (sym (goes_down (taken_goes operator) q.right_converts.path (ap (takes operator) e.3 ∙ e.1)) ∙ t)
@@ -236,7 +236,7 @@ module _ (operator : BinaryOperator) (left right : ShaderType) where
         ahead a b o other q =
             let e = alike_if s q.here in
             in_some q.right_rank (k + q.left_rank) (sym (rank_if_least right b q.right_rank q.right_converts) ∙ ap (rank_of right) (e.3 ∙ sym e.2)
-                ∙ rank_if_path (joined (path_if_rank right left k h) q.left_converts.path))
+            ∙ rank_if_path (joined (path_if_rank right left k h) q.left_converts.path))
     left_meets k h false t = λ a b o sum q.
         let e = alike_if s q.here in
         true≢false (sym (goes_down (taken_goes operator) q.left_converts.path (ap (takes operator) e.2 ∙ e.1)) ∙ t)
@@ -245,9 +245,9 @@ module _ (operator : BinaryOperator) (left right : ShaderType) where
     apart f g a b o sum q =
         let e = alike_if s q.here in
         ⊎_elim
-            (λ (c : Converts left right). true≢false (sym (converts_if left right c.0 c.1) ∙ f))
-            (λ (c : Converts right left). true≢false (sym (converts_if right left c.0 c.1) ∙ g))
-            (comparable (subst (λ t. Path left t q.left_rank) e.2 q.left_converts.path) (subst (λ t. Path right t q.right_rank) e.3 q.right_converts.path) (taken_scalar operator e.0 e.1))
+        (λ (c : Converts left right). true≢false (sym (converts_if left right c.0 c.1) ∙ f))
+        (λ (c : Converts right left). true≢false (sym (converts_if right left c.0 c.1) ∙ g))
+        (comparable (subst (λ t. Path left t q.left_rank) e.2 q.left_converts.path) (subst (λ t. Path right t q.right_rank) e.3 q.right_converts.path) (taken_scalar operator e.0 e.1))
 
     alike_meets : (f g : Bool) → converts left right ≡ f → converts right left ≡ g → Meets (option_and_then (if_taken operator) (cond f (Some right) (cond g (Some left) None)))
     alike_meets true g f h = let k = ranked left right f in right_meets k.0 k.1 (takes operator right) refl
@@ -273,19 +273,26 @@ module _ (operator : BinaryOperator) (left right l r : ShaderType) (f g h : Shad
     (up_left : (a : ShaderType) (n : ℕ) → rank_of l a ≡ Some n → rank_of left (f a) ≡ Some n)
     (up_right : (b : ShaderType) (n : ℕ) → rank_of r b ≡ Some n → rank_of right (g b) ≡ Some n)
     (down : (A B C : ShaderType) (m n : ℕ) → Signature operator A B C → rank_of left A ≡ Some m → rank_of right B ≡ Some n
-      → (a : ShaderType) × (b : ShaderType) × (c : ShaderType) × ScalarSignature operator a b c × (rank_of l a ≡ Some m) × (rank_of r b ≡ Some n) × (A ≡ f a) × (B ≡ g b) × (C ≡ h c)) where
+    → (a : ShaderType) × (b : ShaderType) × (c : ShaderType) × ScalarSignature operator a b c × (rank_of l a ≡ Some m) × (rank_of r b ≡ Some n) × (A ≡ f a) × (B ≡ g b) × (C ≡ h c)) where
   parts : (A B C : ShaderType) (sum : ℕ) → IsCandidate (Signature operator) left right A B C sum
       → (a : ShaderType) × (b : ShaderType) × (c : ShaderType) × IsCandidate (ScalarSignature operator) l r a b c sum × (A ≡ f a) × (B ≡ g b) × (C ≡ h c)
   parts A B C sum q =
-      let d = down A B C q.left_rank q.right_rank q.here (rank_if_least left A q.left_rank q.left_converts) (rank_if_least right B q.right_rank q.right_converts) in
-      (d.0, d.1, d.2, record {
-        here = d.3;
-        left_rank = q.left_rank;
-        right_rank = q.right_rank;
-        left_converts = rank_if_some l d.0 q.left_rank d.4;
-        right_converts = rank_if_some r d.1 q.right_rank d.5;
-        sums = q.sums;
-      }, d.6, d.7, d.8)
+      let d = down A B C q.left_rank q.right_rank q.here (rank_if_least left A q.left_rank q.left_converts) (rank_if_least right B q.right_rank q.right_converts) in (
+        d.0,
+        d.1,
+        d.2,
+        record {
+          here = d.3;
+          left_rank = q.left_rank;
+          right_rank = q.right_rank;
+          left_converts = rank_if_some l d.0 q.left_rank d.4;
+          right_converts = rank_if_some r d.1 q.right_rank d.5;
+          sums = q.sums;
+        },
+        d.6,
+        d.7,
+        d.8,
+      )
 
   lifted : (c : ShaderType) → IsResult (ScalarSignature operator) l r c → IsBinaryResult operator left right (h c)
   lifted c is = record {
@@ -397,7 +404,7 @@ module _ (operator : BinaryOperator) (l r : ShaderType) where
   vectors_found n m true e =
       let b = and_parts (n == m) (is_logical operator) e in
       subst (λ k. Found operator (v.Vec n l) (v.Vec k r) (in_vector n (component operator l r))) (eqb-true n m b.0)
-          (by (component operator l r) b.1 (scalars_meet operator l r))
+      (by (component operator l r) b.1 (scalars_meet operator l r))
     where
       by : (o : Option ShaderType) → is_logical operator ≡ false → Meets operator l r o → Found operator (v.Vec n l) (v.Vec n r) (in_vector n o)
       by None plain is = none_lifted operator (v.Vec n l) (v.Vec n r) l r (v.Vec n) (v.Vec n) (v.Vec n) (λ a b c s. Signature.vectors n plain s) (λ a. in_vectors n l a) (λ b. in_vectors n r b) (vectors_down n) is
@@ -429,17 +436,17 @@ module _ (operator : BinaryOperator) (l r : ShaderType) where
 found_at : (operator : BinaryOperator) (left right : ShaderType) → Vectored left ⊎ IsNoVector left → Vectored right ⊎ IsNoVector right → Found operator left right (binary_result operator left right)
 found_at operator left right (inl x) (inl y) =
     subst (λ t. Found operator t right (binary_result operator t right)) (sym x.2)
-        (subst (λ t. Found operator (v.Vec x.0 x.1) t (binary_result operator (v.Vec x.0 x.1) t)) (sym y.2)
-            (subst (Found operator (v.Vec x.0 x.1) (v.Vec y.0 y.1)) (sym (binary_of_vectors operator x.0 y.0 x.1 y.1))
-                (vectors_found operator x.1 y.1 x.0 y.0 ((x.0 == y.0) && not (is_logical operator)) refl)))
+    (subst (λ t. Found operator (v.Vec x.0 x.1) t (binary_result operator (v.Vec x.0 x.1) t)) (sym y.2)
+    (subst (Found operator (v.Vec x.0 x.1) (v.Vec y.0 y.1)) (sym (binary_of_vectors operator x.0 y.0 x.1 y.1))
+    (vectors_found operator x.1 y.1 x.0 y.0 ((x.0 == y.0) && not (is_logical operator)) refl)))
 found_at operator left right (inl x) (inr flat) =
     subst (λ t. Found operator t right (binary_result operator t right)) (sym x.2)
-        (subst (Found operator (v.Vec x.0 x.1) right) (sym (binary_of_vector_left operator x.0 x.1 right flat))
-            (left_found operator x.1 right x.0 flat (is_arithmetic operator) refl))
+    (subst (Found operator (v.Vec x.0 x.1) right) (sym (binary_of_vector_left operator x.0 x.1 right flat))
+    (left_found operator x.1 right x.0 flat (is_arithmetic operator) refl))
 found_at operator left right (inr flat) (inl y) =
     subst (λ t. Found operator left t (binary_result operator left t)) (sym y.2)
-        (subst (Found operator left (v.Vec y.0 y.1)) (sym (binary_of_vector_right operator left y.0 y.1 flat))
-            (right_found operator left y.1 y.0 flat (is_arithmetic operator) refl))
+    (subst (Found operator left (v.Vec y.0 y.1)) (sym (binary_of_vector_right operator left y.0 y.1 flat))
+    (right_found operator left y.1 y.0 flat (is_arithmetic operator) refl))
 found_at operator left right (inr flat) (inr flat') =
     subst (Found operator left right) (sym (binary_of_no_vectors operator left right flat flat')) (flat_found operator left right flat flat')
 

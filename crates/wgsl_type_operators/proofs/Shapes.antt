@@ -57,7 +57,7 @@ no_vectors operator left right x y flat flat' = refl
 pub binary_of_no_vectors : (operator : BinaryOperator) (left right : ShaderType) → IsNoVector left → IsNoVector right → binary_result operator left right ≡ component operator left right
 binary_of_no_vectors operator left right flat flat' =
     no_vectors operator left right (out-ShaderType left) (out-ShaderType right)
-        (λ n c e. flat n c (sym (roll-out-ShaderType left) ∙ e)) (λ n c e. flat' n c (sym (roll-out-ShaderType right) ∙ e))
+    (λ n c e. flat n c (sym (roll-out-ShaderType left) ∙ e)) (λ n c e. flat' n c (sym (roll-out-ShaderType right) ∙ e))
 
 -- ---- what is a vector, and what is none
 
@@ -205,9 +205,9 @@ pub comparable : {s r t : ShaderType} {m n : ℕ} → Path s t m → Path r t n 
 comparable {s} {r} {t} {m} {n} p q h = ⊎_elim
     (λ (e : s ≡ t). inr (n, subst (λ u. Path r u n) (sym e) q))
     (λ a. ⊎_elim
-        (λ (e : r ≡ t). inl (m, subst (λ u. Path s u m) (sym e) p))
-        (λ b. abstract_ones a b)
-        (source_of q h))
+    (λ (e : r ≡ t). inl (m, subst (λ u. Path s u m) (sym e) p))
+    (λ b. abstract_ones a b)
+    (source_of q h))
     (source_of p h)
   where
     up : Converts v.AbstractInt v.AbstractFloat

@@ -1,6 +1,7 @@
 //! The types that operators give.
 
-ghost use Rattle.std.specs.Prelude.{◌≡◌, ◌⊎◌, IfOk, IfErr};
+ghost use Rattle.std.specs.Prelude.{◌≡◌, IfOk};
+ghost use Rattle.wgsl_type_operators.specs.Answer.{AnswersBinary, AnswersUnary};
 ghost use Rattle.wgsl_type_operators.specs.Operator as spec;
 ghost use Rattle.wgsl_type_operators.specs.ResultOf as plain;
 
@@ -41,13 +42,19 @@ fn is_comparison(operator: BinaryOperator) -> bool
 fn is_shift(operator: BinaryOperator) -> bool
     ensures { result ≡ spec.is_shift operator }
 {
-    matches!(operator, BinaryOperator::ShiftLeft | BinaryOperator::ShiftRight)
+    matches!(
+        operator,
+        BinaryOperator::ShiftLeft | BinaryOperator::ShiftRight
+    )
 }
 
 fn is_logical(operator: BinaryOperator) -> bool
     ensures { result ≡ spec.is_logical operator }
 {
-    matches!(operator, BinaryOperator::ShortCircuitOr | BinaryOperator::ShortCircuitAnd)
+    matches!(
+        operator,
+        BinaryOperator::ShortCircuitOr | BinaryOperator::ShortCircuitAnd
+    )
 }
 
 /// Whether both operands may be of this scalar type.
@@ -135,7 +142,12 @@ fn binary_type(
                 if *count != *count_right || is_logical(operator) {
                     return Ok(None);
                 }
-                let found = component_type(alloc, operator, component.get(), component_right.get())?;
+                let found = component_type(
+                    alloc,
+                    operator,
+                    component.get(),
+                    component_right.get(),
+                )?;
                 in_vector(alloc, *count, found)
             }
             _ => {
@@ -167,9 +179,7 @@ pub fn type_binary_op(
     left: &Type,
     right: &Type,
 ) -> Result<Type, Error>
-    ensures ok { IfOk result (spec.IsBinaryResult operator left.now right.now) }
-    ensures err { IfErr result (λ error. (error ≡ Error.OutOfMemory)
-        ⊎ ((error ≡ Error.Binary operator left.now right.now) × spec.HasNoBinaryCandidate operator left.now right.now)) }
+    ensures { AnswersBinary operator left.now right.now result }
 {
     match binary_type(alloc, operator, left, right)? {
         Some(given) => Ok(given),
@@ -193,7 +203,11 @@ fn is_taken_alone(operator: UnaryOperator, ty: &Type) -> bool
 }
 
 /// What one operand gives, by its shape.
-fn unary_type(alloc: Global, operator: UnaryOperator, operand: &Type) -> Result<Option<Type>, AllocError>
+fn unary_type(
+    alloc: Global,
+    operator: UnaryOperator,
+    operand: &Type,
+) -> Result<Option<Type>, AllocError>
     ensures { IfOk result (λ found. found ≡ plain.unary_result operator operand.now) }
 {
     match operand {
@@ -225,7 +239,12 @@ fn unary_type(alloc: Global, operator: UnaryOperator, operand: &Type) -> Result<
     }
 }
 
-fn pointer_to(alloc: Global, space: AddressSpace, stored: &Type, access: AccessMode) -> Result<Option<Type>, AllocError>
+fn pointer_to(
+    alloc: Global,
+    space: AddressSpace,
+    stored: &Type,
+    access: AccessMode,
+) -> Result<Option<Type>, AllocError>
     ensures { IfOk result (λ found. found ≡ plain.address_of space stored.now access) }
 {
     if space == AddressSpace::Handle {
@@ -250,9 +269,7 @@ fn unary_fault(alloc: Global, operator: UnaryOperator, operand: &Type) -> Result
 /// The result of a unary operator: that of the one candidate signature of the least conversion rank.
 #[tactic(auto, using(crate::proofs::UnaryCandidates::result_found, crate::proofs::UnaryCandidates::none_found))]
 pub fn type_unary_op(alloc: Global, operator: UnaryOperator, operand: &Type) -> Result<Type, Error>
-    ensures ok { IfOk result (spec.IsUnaryResult operator operand.now) }
-    ensures err { IfErr result (λ error. (error ≡ Error.OutOfMemory)
-        ⊎ ((error ≡ plain.unary_fault operator operand.now) × spec.HasNoUnaryCandidate operator operand.now)) }
+    ensures { AnswersUnary operator operand.now result }
 {
     match unary_type(alloc, operator, operand)? {
         Some(given) => Ok(given),
