@@ -1,0 +1,17 @@
+//! The types of WGSL: enumerations, types, conversions, layouts, operators, constructors and templates.
+#![tactic(auto)]
+
+pub mod laws;
+
+pub use wgsl_enumerations::{
+    AccessMode, AddressSpace, AssignmentOperator, BuiltinValue, DiagnosticSeverity, Enumerant, InterpolationSampling,
+    InterpolationType, ShaderStage,
+};
+pub use wgsl_operators::{BinaryOperator, UnaryOperator};
+pub use wgsl_shader_type::{
+    ShaderType, StructMemberType, StructMemberTypeOf, StructType, StructTypeOf, Type, conversion_rank, convert_all_ty,
+    convert_ty,
+};
+pub use wgsl_type_operators::{
+    CallSignature, Error, LiteralInstance, TpltParam, TypeOperators, type_binary_op, type_unary_op,
+};
