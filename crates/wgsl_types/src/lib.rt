@@ -3,6 +3,9 @@
 
 pub mod laws;
 
+#[cfg(test)]
+mod tests;
+
 pub use wgsl_enumerations::{
     AccessMode, AddressSpace, AssignmentOperator, BuiltinValue, DiagnosticSeverity, Enumerant, InterpolationSampling,
     InterpolationType, ShaderStage,
