@@ -1,11 +1,15 @@
 //! The types of WGSL: enumerations, types, conversions, layouts, operators, constructors and templates.
 #![tactic(auto)]
 
+pub mod conversions;
 pub mod laws;
+pub mod typed;
 
 #[cfg(test)]
 mod tests;
 
+pub use conversions::{convert, convert_all, convert_all_inner_to, convert_all_to, convert_inner};
+pub use typed::{Convert, Ty};
 pub use wgsl_enumerations::{
     AccessMode, AddressSpace, AssignmentOperator, BuiltinValue, DiagnosticSeverity, Enumerant, InterpolationSampling,
     InterpolationType, ShaderStage,
