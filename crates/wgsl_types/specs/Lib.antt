@@ -1,2 +1,3 @@
 pub mod Convert
 pub mod Laws
+pub mod Template

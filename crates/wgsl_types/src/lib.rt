@@ -3,12 +3,14 @@
 
 pub mod conversions;
 pub mod laws;
+pub mod template;
 pub mod typed;
 
 #[cfg(test)]
 mod tests;
 
 pub use conversions::{convert, convert_all, convert_all_inner_to, convert_all_to, convert_inner};
+pub use template::{ArrayTemplate, PtrTemplate, VecTemplate};
 pub use typed::{Convert, Ty};
 pub use wgsl_enumerations::{
     AccessMode, AddressSpace, AssignmentOperator, BuiltinValue, DiagnosticSeverity, Enumerant, InterpolationSampling,
