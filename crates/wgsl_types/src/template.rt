@@ -93,7 +93,11 @@ impl ArrayTemplate {
     }
 
     /// Reads a type and, after it, a count above 0, if there is one. The count 0 is `Todo`; any other list is `TemplateArgs`.
-    pub fn parse(alloc: Global, params: &[TpltParam]) -> Result<ArrayTemplate, Error> {
+    pub fn parse(alloc: Global, params: &[TpltParam]) -> Result<ArrayTemplate, Error>
+        ensures { MatchResult result
+            (λ made. spec.array_reading params.now ≡ Some made)
+            (λ error. (error ≡ Error.OutOfMemory) ⊎ (spec.array_reading params.now ≡ None)) }
+    {
         match params {
             [TpltParam::Ty(ty)] => Ok(ArrayTemplate::new(ty.clone(alloc)?, None)),
             [TpltParam::Ty(ty), TpltParam::Instance(literal)] => {
@@ -126,7 +130,11 @@ impl ArrayTemplate {
 
 impl PtrTemplate {
     /// Reads an address space and a type and, in the storage space, an access mode, if there is one; any other list is `TemplateArgs`.
-    pub fn parse(alloc: Global, params: &[TpltParam]) -> Result<PtrTemplate, Error> {
+    pub fn parse(alloc: Global, params: &[TpltParam]) -> Result<PtrTemplate, Error>
+        ensures { MatchResult result
+            (λ made. spec.pointer_reading params.now ≡ Some made)
+            (λ error. (error ≡ Error.OutOfMemory) ⊎ (spec.pointer_reading params.now ≡ None)) }
+    {
         match params {
             [TpltParam::Enumerant(Enumerant::AddressSpace(space)), TpltParam::Ty(ty)] => Ok(PtrTemplate {
                 space: *space,
