@@ -1,6 +1,7 @@
 //! The types of WGSL: enumerations, types, conversions, layouts, operators, constructors and templates.
 #![tactic(auto)]
 
+pub mod constructor;
 pub mod conversions;
 pub mod laws;
 pub mod template;
@@ -9,6 +10,7 @@ pub mod typed;
 #[cfg(test)]
 mod tests;
 
+pub use constructor::{array_t, typecheck_struct_ctor, vec_t};
 pub use conversions::{convert, convert_all, convert_all_inner_to, convert_all_to, convert_inner};
 pub use template::{ArrayTemplate, PtrTemplate, VecTemplate};
 pub use typed::{Convert, Ty};
