@@ -3,3 +3,5 @@ pub mod Compares
 pub mod Meets
 pub mod Longer
 pub mod Stages
+pub mod Typing
+pub mod WrittenValue

@@ -6,3 +6,4 @@ pub mod Programs
 pub mod Compare
 pub mod Follows
 pub mod Written
+pub mod Typing
