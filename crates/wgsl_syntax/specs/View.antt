@@ -2,7 +2,6 @@
 use Rattle.std.specs.Prelude.{ℕ, List, map, Option, Some, None}
 use Rattle.std.specs.Option.{option_map}
 use Rattle.wgsl_path.specs.declared.span.Spanned.{Spanned}
-use Rattle.wgsl_path.specs.declared.ident.Ident.{Ident}
 use Rattle.wgsl_path.specs.declared.path.ModulePath.{ModulePath}
 use Rattle.wgsl_syntax.specs.declared.expression.Expression.{Expression, fold-Expression}
 use Rattle.wgsl_syntax.specs.declared.expression.Expression.TheOpen.{Expression-F}
@@ -11,9 +10,7 @@ use Rattle.wgsl_syntax.specs.declared.expression.TypeExpressionOf.{TypeExpressio
 use Rattle.wgsl_syntax.specs.declared.expression.TemplateArgOf.{TemplateArgOf}
 use Rattle.wgsl_syntax.specs.declared.declaration.Attribute.{Attribute}
 use Rattle.wgsl_syntax.specs.declared.declaration.Attribute.TheVariants.{Fragment, Location}
-use Rattle.wgsl_syntax.specs.declared.declaration.Declaration.{Declaration as ValueDeclaration}
 use Rattle.wgsl_syntax.specs.declared.declaration.FormalParameter.{FormalParameter}
-use Rattle.wgsl_syntax.specs.declared.declaration.Function.{Function as CodeFunction}
 use Rattle.wgsl_syntax.specs.declared.declaration.GlobalDeclaration.{GlobalDeclaration}
 use Rattle.wgsl_syntax.specs.declared.declaration.GlobalDeclaration.TheVariants.{Declaration, Function}
 use Rattle.wgsl_syntax.specs.declared.statement.Statement.{Statement}
@@ -23,7 +20,7 @@ use Rattle.wgsl_syntax.specs.declared.import.ImportStatement.{ImportStatement}
 use Rattle.wgsl_syntax.specs.declared.import.ImportContent.{ImportContent}
 use Rattle.wgsl_syntax.specs.declared.import.ImportContent.TheVariants.{Item}
 use Rattle.wgsl_syntax.specs.declared.unit.TranslationUnit.{TranslationUnit}
-use Rattle.wgsl_syntax.specs.Tree.{Exp, literal, parenthesized, unary, binary, call, named, Exps, exps, Typ, simple, templated, Attr, fragment, location, Stm, returning, Block, Param, Decl, variable, function, Imp, Unit}
+use Rattle.wgsl_syntax.specs.Tree.{Exp, literal, parenthesized, unary, binary, call, named, exps, Typ, simple, templated, Attr, fragment, location, Stm, returning, Block, Param, Decl, variable, function, Imp, Unit}
 
 abbrev pub typed : {A : Type 0} → (A → Exp) → Option ModulePath → List ℕ → Option (List (TemplateArgOf A)) → Typ
 typed f path name None = simple path name

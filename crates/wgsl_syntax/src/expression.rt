@@ -17,11 +17,17 @@ pub enum LiteralExpression {
 pub type ExpressionNode = Spanned<Expression>;
 
 pub type ParenthesizedExpression = ParenthesizedExpressionOf<Expression>;
+
 pub type UnaryExpression = UnaryExpressionOf<Expression>;
+
 pub type BinaryExpression = BinaryExpressionOf<Expression>;
+
 pub type FunctionCall = FunctionCallOf<Expression>;
+
 pub type TypeExpression = TypeExpressionOf<Expression>;
+
 pub type TemplateArg = TemplateArgOf<Expression>;
+
 pub type TemplateArgs = Option<Items<TemplateArg>>;
 
 /// An expression.

@@ -1,9 +1,12 @@
 //! The syntax trees of WGSL modules with imports.
 #![tactic(auto)]
 
+mod copy;
 mod declaration;
 mod expression;
 mod import;
+mod print;
+mod print_declarations;
 mod statement;
 mod unit;
 
@@ -13,11 +16,17 @@ pub use declaration::{
 };
 pub use expression::{
     BinaryExpression, BinaryExpressionOf, Expression, ExpressionNode, FunctionCall, FunctionCallOf,
-    LiteralExpression, ParenthesizedExpression, ParenthesizedExpressionOf, TemplateArg, TemplateArgOf,
-    TemplateArgs, TypeExpression, TypeExpressionOf, UnaryExpression, UnaryExpressionOf,
+    LiteralExpression, ParenthesizedExpression, ParenthesizedExpressionOf, TemplateArg,
+    TemplateArgOf, TemplateArgs, TypeExpression, TypeExpressionOf, UnaryExpression,
+    UnaryExpressionOf,
 };
 pub use import::{ImportContent, ImportItem, ImportStatement};
-pub use statement::{CompoundStatement, CompoundStatementOf, ReturnStatement, Statement, StatementNode};
+pub use statement::{
+    CompoundStatement, CompoundStatementOf, ReturnStatement, Statement, StatementNode,
+};
 pub use unit::TranslationUnit;
 pub use wgsl_operators::{BinaryOperator, UnaryOperator};
 pub use wgsl_path::{Ident, ModulePath, PathOrigin, Span, Spanned};
+
+#[cfg(test)]
+mod tests;
