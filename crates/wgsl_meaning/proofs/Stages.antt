@@ -38,12 +38,12 @@ then_later (Err e) f g h = tt
 
 -- what is not lenient has faults where a later stage may have values
 module _ (s t : ShaderStage) (strict : (ty : NumericType) → is_lenient s ty ≡ false) where
-  unless_exact : (b c : Bool) (v x : Value) (f : NumberFault) (y : Numbers Value) → c ≡ false → Later (if b then Ok v else (if c then Ok x else Err f)) (if b then Ok v else y)
-  unless_exact true c v x f y e = refl
-  unless_exact false c v x f y e = subst (λ d. Later (if d then Ok x else Err f) y) (sym e) tt
+  choice_later : (b c : Bool) (v v' x y : Numbers Value) (f : NumberFault) → c ≡ false → Later v v' → Later (if b then v else (if c then x else Err f)) (if b then v' else y)
+  choice_later true c v v' x y f e h = h
+  choice_later false c v v' x y f e h = subst (λ d. Later (if d then x else Err f) y) (sym e) tt
 
   brought_later : (f : NumberFault) (ty : NumericType) (z : ℤ) → Later (brought s f ty z) (brought t f ty z)
-  brought_later f ty z = unless_exact (fits ty z) (is_lenient s ty) _ _ f _ (strict ty)
+  brought_later f ty z = choice_later (fits ty z) (is_lenient s ty) _ _ _ _ f (strict ty) refl
 
   negated_later : (v : Value) → Later (negated s v) (negated t v)
   negated_later (V.AbstractInt z) = brought_later SubOverflow AbstractInt (neg_ℤ z)
@@ -61,8 +61,8 @@ module _ (s t : ShaderStage) (strict : (ty : NumericType) → is_lenient s ty �
   arithmetic_later Addition ty a b = brought_later AddOverflow ty (a +ℤ b)
   arithmetic_later Subtraction ty a b = brought_later SubOverflow ty (a -ℤ b)
   arithmetic_later Multiplication ty a b = brought_later MulOverflow ty (a *ℤ b)
-  arithmetic_later Division ty a b = unless_exact (divides ty a b) (is_lenient s ty) _ _ DivByZero _ (strict ty)
-  arithmetic_later Remainder ty a b = unless_exact (divides ty a b) (is_lenient s ty) _ _ RemZeroDiv _ (strict ty)
+  arithmetic_later Division ty a b = choice_later (divides ty a b) (is_lenient s ty) _ _ _ _ DivByZero (strict ty) (brought_later DivByZero ty (int_div a b))
+  arithmetic_later Remainder ty a b = choice_later (divides ty a b) (is_lenient s ty) _ _ _ _ RemZeroDiv (strict ty) (brought_later RemZeroDiv ty (int_rem a b))
   arithmetic_later ShortCircuitOr ty a b = tt
   arithmetic_later ShortCircuitAnd ty a b = tt
   arithmetic_later Equality ty a b = tt

@@ -1,6 +1,6 @@
 -- Where typing gives a type and evaluation a value, that value has that type.
 use Rattle.std.proofs.Common.{◌≡◌, ℕ, List, [], ◌∷◌, map, Option, Some, None, Bool, true, false, Result, Ok, Err, refl, sym, ap, ◌∙◌, subst}
-use Rattle.std.specs.Prelude.{ℤ, if◌then◌else◌, neg_ℤ, ◌+ℤ◌, ◌-ℤ◌, ◌*ℤ◌, int_div, int_rem}
+use Rattle.std.specs.Prelude.{ℤ, pos, if◌then◌else◌, neg_ℤ, ◌+ℤ◌, ◌-ℤ◌, ◌*ℤ◌, int_div, int_rem}
 use Rattle.std.specs.Str.{bytes_eq}
 use Rattle.wgsl_operators.specs.declared.UnaryOperator.{UnaryOperator}
 use Rattle.wgsl_operators.specs.declared.UnaryOperator.TheVariants.{LogicalNegation, Negation, BitwiseComplement, AddressOf, Indirection}
@@ -67,7 +67,7 @@ type_of-wrapped AbstractInt z = refl
 type_of-wrapped I32 z = refl
 type_of-wrapped U32 z = refl
 
-either_fits : (b c : Bool) (t : NumericType) (v x : Value) (f : NumberFault) → HasType t v → HasType t x → Fits (Ok t) (if b then Ok v else (if c then Ok x else Err f))
+either_fits : (b c : Bool) (t : NumericType) (v x : Numbers Value) (f : NumberFault) → Fits (Ok t) v → Fits (Ok t) x → Fits (Ok t) (if b then v else (if c then x else Err f))
 either_fits true c t v x f h i = h
 either_fits false true t v x f h i = i
 either_fits false false t v x f h i = tt
@@ -88,8 +88,8 @@ arithmetic_fits : (s : ShaderStage) (o : BinaryOperator) (t : NumericType) (a b 
 arithmetic_fits s Addition t a b = brought_fits s AddOverflow t (a +ℤ b)
 arithmetic_fits s Subtraction t a b = brought_fits s SubOverflow t (a -ℤ b)
 arithmetic_fits s Multiplication t a b = brought_fits s MulOverflow t (a *ℤ b)
-arithmetic_fits s Division t a b = either_fits (divides t a b) (is_lenient s t) t _ _ DivByZero (type_of-value_at t (int_div a b)) (type_of-value_at t a)
-arithmetic_fits s Remainder t a b = either_fits (divides t a b) (is_lenient s t) t _ _ RemZeroDiv (type_of-value_at t (int_rem a b)) (type_of-value_at t _)
+arithmetic_fits s Division t a b = either_fits (divides t a b) (is_lenient s t) t _ _ DivByZero (brought_fits s DivByZero t (int_div a b)) (brought_fits s DivByZero t a)
+arithmetic_fits s Remainder t a b = either_fits (divides t a b) (is_lenient s t) t _ _ RemZeroDiv (brought_fits s RemZeroDiv t (int_rem a b)) (brought_fits s RemZeroDiv t (pos 0))
 arithmetic_fits s ShortCircuitOr t a b = tt
 arithmetic_fits s ShortCircuitAnd t a b = tt
 arithmetic_fits s Equality t a b = tt

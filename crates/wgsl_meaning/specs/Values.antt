@@ -94,13 +94,13 @@ is_lenient Exec AbstractInt = false
 is_lenient Const t = false
 is_lenient Override t = false
 
--- this value when the shader runs, else the fault
-abbrev pub instead : ShaderStage → NumericType → Value → NumberFault → Numbers Value
-instead s t v f = if is_lenient s t then Ok v else Err f
+-- this when the shader runs, else the fault
+abbrev pub instead : ShaderStage → NumericType → Numbers Value → NumberFault → Numbers Value
+instead s t v f = if is_lenient s t then v else Err f
 
 -- an exact result, brought to its type
 abbrev pub brought : ShaderStage → NumberFault → NumericType → ℤ → Numbers Value
-brought s f t z = if fits t z then Ok (value_at t z) else instead s t (wrapped t z) f
+brought s f t z = if fits t z then Ok (value_at t z) else instead s t (Ok (wrapped t z)) f
 
 -- ---- conversions
 
@@ -171,13 +171,13 @@ divides t a (pos zero) = false
 divides t a (pos (suc b)) = fits t (int_div a (pos (suc b)))
 divides t a (negsuc b) = fits t (int_div a (negsuc b))
 
--- of two numbers of one type
+-- of two numbers of one type; by 0, and for the least number by -1, x / y is x and x % y is 0 when the shader runs
 abbrev pub arithmetic : ShaderStage → BinaryOperator → NumericType → ℤ → ℤ → Numbers Value
 arithmetic s Addition t a b = brought s AddOverflow t (a +ℤ b)
 arithmetic s Subtraction t a b = brought s SubOverflow t (a -ℤ b)
 arithmetic s Multiplication t a b = brought s MulOverflow t (a *ℤ b)
-arithmetic s Division t a b = if divides t a b then Ok (value_at t (int_div a b)) else instead s t (value_at t a) DivByZero
-arithmetic s Remainder t a b = if divides t a b then Ok (value_at t (int_rem a b)) else instead s t (value_at t (pos 0)) RemZeroDiv
+arithmetic s Division t a b = if divides t a b then brought s DivByZero t (int_div a b) else instead s t (brought s DivByZero t a) DivByZero
+arithmetic s Remainder t a b = if divides t a b then brought s RemZeroDiv t (int_rem a b) else instead s t (brought s RemZeroDiv t (pos 0)) RemZeroDiv
 arithmetic s o t a b = Err (Binary o t t)
 
 abbrev pub binary_value : ShaderStage → BinaryOperator → Value → Value → Numbers Value
