@@ -1,2 +1,13 @@
-//! To be written.
+//! The evaluator of the const stage over a plain unit: values and types of expressions, and the consts at the start.
 #![tactic(auto)]
+
+mod error;
+mod evaluate;
+mod find;
+mod scope;
+
+pub use error::EvalError;
+pub use evaluate::eval_value;
+pub use scope::Scope;
+pub use wgsl_meaning::{Fault, NameFault};
+pub use wgsl_value::{NumberFault, NumericType, ShaderStage, Value};

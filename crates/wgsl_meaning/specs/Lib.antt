@@ -7,3 +7,4 @@ pub mod Compare
 pub mod Follows
 pub mod Written
 pub mod Typing
+pub mod ConstStage
