@@ -7,8 +7,9 @@ use Rattle.wgsl_syntax.specs.Tree.{Exps, exps, cons, call, Typ}
 use Rattle.wgsl_syntax.specs.View.{node_tree}
 use Rattle.wgsl_meaning.specs.Outcome.{Outcome, Done, Failed, Deep, after, andthen}
 use Rattle.wgsl_meaning.specs.declared.value.Value.{Value}
-use Rattle.wgsl_meaning.specs.Names.{Name, plain_name}
-use Rattle.wgsl_meaning.specs.Meaning.{World, value, values, result_here}
+use Rattle.wgsl_meaning.specs.Names.{Name, find, plain_name}
+use Rattle.wgsl_meaning.specs.Meaning.{World, Types, value, values, result_here, called_or, typed, all_typed, result_type_here}
+use Rattle.wgsl_meaning.specs.declared.value.NumericType.{NumericType}
 use Rattle.wgsl_eval.specs.declared.error.EvalError.{EvalError}
 use Rattle.wgsl_eval.specs.declared.error.EvalError.TheVariants.{OutOfMemory, Wrong}
 use Rattle.wgsl_eval.specs.Ends.{Ends, first_these}
@@ -32,3 +33,9 @@ pub called : (w : World) (t : Typ) (es : Exps) (vs : List Value) (f : Name) (r :
 called w t es vs f r e n h =
     subst (λ z. Ends (andthen z (λ xs. result_here w [] (plain_name t) xs)) r) (sym e)
     (subst (λ z. Ends (andthen (Done vs 0) (λ xs. result_here w [] z xs)) r) (sym n) (ends_after (w.result_of f vs) r h))
+
+pub called_typed : (w : World) (env : Types) (t : Typ) (es : Exps) (ts : List NumericType) (f : Name) (r : Result NumericType EvalError) → all_typed w env es ≡ Done ts 0 → plain_name t ≡ Ok f →
+    Ends (called_or f (find f env) (w.result_type f ts)) r → Ends (typed w env (call t es)) r
+called_typed w env t es ts f r e n h =
+    subst (λ z. Ends (andthen z (λ xs. result_type_here w env (plain_name t) xs)) r) (sym e)
+    (subst (λ z. Ends (andthen (Done ts 0) (λ xs. result_type_here w env z xs)) r) (sym n) (ends_after (called_or f (find f env) (w.result_type f ts)) r h))

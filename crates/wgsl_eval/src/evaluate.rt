@@ -20,7 +20,7 @@ use wgsl_syntax::{Expression, ExpressionNode, FunctionCall, GlobalDeclaration, T
 use wgsl_value::{call_binary_op, call_unary_op, construct, literal_value};
 
 /// The value of a name: of a const that has one by now.
-fn name_value(alloc: Global, scope: &Scope<'_>, name: &Text) -> Result<Value, EvalError>
+pub(crate) fn name_value(alloc: Global, scope: &Scope<'_>, name: &Text) -> Result<Value, EvalError>
     ensures { Ends ((stage (scope_of scope.now)).value_of name.now) result }
 {
     if found(name, scope.parameters).is_some() {

@@ -5,9 +5,11 @@ mod error;
 mod evaluate;
 mod find;
 mod scope;
+mod typing;
 
 pub use error::EvalError;
 pub use evaluate::eval_value;
 pub use scope::Scope;
+pub use typing::{const_value, eval_ty, ty_eval_ty};
 pub use wgsl_meaning::{Fault, NameFault};
 pub use wgsl_value::{NumberFault, NumericType, ShaderStage, Value};
