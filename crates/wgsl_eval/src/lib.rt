@@ -7,7 +7,7 @@ mod find;
 mod scope;
 mod typing;
 
-pub use error::EvalError;
+pub use error::{EvalError, Refusal, UnitError, refused};
 pub use evaluate::eval_value;
 pub use scope::Scope;
 pub use typing::{const_value, eval_ty, ty_eval_ty};
