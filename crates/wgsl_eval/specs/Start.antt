@@ -14,6 +14,7 @@ use Rattle.wgsl_meaning.specs.Names.{Name, find_decl, name_of}
 use Rattle.wgsl_meaning.specs.Meaning.{const_in}
 use Rattle.wgsl_meaning.specs.ConstStage.{Consts, stage, module_scope}
 use Rattle.wgsl_eval.specs.declared.error.Refusal.{Refusal}
+use Rattle.wgsl_eval.specs.declared.start.Order.{Order}
 
 -- ---- the order
 
@@ -43,11 +44,6 @@ mentioned (Some (variable attributes kind x type None)) = []
 mentioned (Some (function attributes f parameters return_attributes type body)) = []
 mentioned None = []
 
--- the names that were met, and those whose turn has come, in order
-pub record Order : Type 0 where
-  pub met : List Name
-  pub done : List Name
-
 abbrev pub is_in : Name → List Name → Bool
 is_in x ys = list_any (λ y. bytes_eq x y) ys
 
@@ -68,8 +64,11 @@ const_names (variable attributes kind x type e ∷ ds) = x ∷ const_names ds
 const_names (function attributes f parameters return_attributes type body ∷ ds) = const_names ds
 
 -- a chain of names without a repetition has at most one more than there are declarations
+abbrev pub none_met : Order
+none_met = record { met = []; done = [] }
+
 abbrev pub order_of : List Decl → List Name
-order_of ds = (fold (reached ds (length ds + 1)) (record { met = []; done = [] }) (const_names ds)).done
+order_of ds = (fold (reached ds (length ds + 1)) none_met (const_names ds)).done
 
 -- ---- the values
 

@@ -5,11 +5,13 @@ mod error;
 mod evaluate;
 mod find;
 mod scope;
+mod start;
 mod typing;
 
 pub use error::{EvalError, Refusal, UnitError, refused};
 pub use evaluate::eval_value;
 pub use scope::Scope;
+pub use start::start_values;
 pub use typing::{const_value, eval_ty, ty_eval_ty};
 pub use wgsl_meaning::{Fault, NameFault};
 pub use wgsl_value::{NumberFault, NumericType, ShaderStage, Value};

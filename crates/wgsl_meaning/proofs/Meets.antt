@@ -10,7 +10,7 @@ use Rattle.wgsl_meaning.specs.declared.fault.NameFault.TheVariants.{NotCallable,
 use Rattle.wgsl_meaning.specs.Values.{Checked, and_then, type_of, literal_value, converted, unary_type, binary_type}
 use Rattle.wgsl_meaning.specs.Outcome.{Outcome, Done, Failed, Deep, after, andthen, at_once, computed}
 use Rattle.wgsl_meaning.specs.Names.{Name, find, plain_name}
-use Rattle.wgsl_meaning.specs.Meaning.{Env, Types, World, local_or, called_or, value_here, result_here, value, values, type_in_world, type_here, result_type_here, typed, all_typed, type_written, initial, const_in, bound, returned_by, handed_back, return_type_of, body_of, needed, call_in, call_type}
+use Rattle.wgsl_meaning.specs.Meaning.{Env, Types, World, local_or, called_or, value_here, result_here, value, values, type_in_world, type_here, result_type_here, typed, all_typed, type_written, initial, initialized, const_in, bound, returned_by, handed_back, return_type_of, body_of, needed, call_in, call_type}
 use Rattle.wgsl_meaning.specs.Programs.{Inputs, attribute_number, location_of, input_at, inputs_bound, has_stage, entered, started_by}
 use Rattle.wgsl_meaning.proofs.Simulates.{Kept, StagesMeet, simulates, follows_itself}
 
@@ -89,9 +89,12 @@ module _ (R : (A : Type 0) → Outcome A → Outcome A → Type 0) (kept : Kept 
         kept.going_on Value Value (value w [] e) (value u [] e) _ _ (value_meets [] e) (λ v. kept.refl_of Value (computed (converted (Conversion (type_of v) s) s v))))
     initial_meets None e = kept.going_on NumericType Value (typed w [] e) (typed u [] e) _ _ (typed_meets [] e) (λ s. value_meets [] e)
 
+    initialized_meets : (y : Name) (type : Option Typ) (e : Option Exp) → R Value (initialized w y type e) (initialized u y type e)
+    initialized_meets y type (Some e) = initial_meets type e
+    initialized_meets y type None = kept.refl_of Value (Failed (Named UninitConst y))
+
     pub const_meets : (x : Name) (d : Option Decl) → R Value (const_in w x d) (const_in u x d)
-    const_meets x (Some (variable attributes kind y type (Some e))) = initial_meets type e
-    const_meets x (Some (variable attributes kind y type None)) = kept.refl_of Value (Failed (Named UninitConst x))
+    const_meets x (Some (variable attributes kind y type e)) = initialized_meets y type e
     const_meets x (Some (function attributes f parameters return_attributes type body)) = kept.refl_of Value (Failed (Named UnknownDecl x))
     const_meets x None = kept.refl_of Value (Failed (Named UnknownDecl x))
 

@@ -117,10 +117,13 @@ abbrev pub initial : World → Option Typ → Exp → Outcome Value
 initial w (Some t) e = andthen (type_written w t) (λ u. andthen (value w [] e) (λ v. computed (converted (Conversion (type_of v) u) u v)))
 initial w None e = andthen (typed w [] e) (λ u. value w [] e)
 
+abbrev pub initialized : World → Name → Option Typ → Option Exp → Outcome Value
+initialized w x type (Some e) = initial w type e
+initialized w x type None = Failed (Named UninitConst x)
+
 -- a const's value (WGSL, "const Declarations")
 abbrev pub const_in : World → Name → Option Decl → Outcome Value
-const_in w x (Some (variable attributes kind y type (Some e))) = initial w type e
-const_in w x (Some (variable attributes kind y type None)) = Failed (Named UninitConst x)
+const_in w x (Some (variable attributes kind y type e)) = initialized w y type e
 const_in w x (Some (function attributes f parameters return_attributes return_type body)) = Failed (Named UnknownDecl x)
 const_in w x None = Failed (Named UnknownDecl x)
 
