@@ -36,7 +36,7 @@ pub(crate) fn name_value(alloc: Global, scope: &Scope<'_>, name: &Text) -> Resul
 }
 
 /// The type that a name constructs. Calls of functions aren't evaluated yet.
-pub(crate) fn callee(alloc: Global, scope: &Scope<'_>, name: &Text) -> Result<NumericType, EvalError>
+pub fn callee(alloc: Global, scope: &Scope<'_>, name: &Text) -> Result<NumericType, EvalError>
     ensures { Gives (λ t. t) (callee_of (scope_of scope.now) name.now) result }
 {
     if found(name, scope.parameters).is_some() {

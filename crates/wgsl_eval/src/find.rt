@@ -64,7 +64,7 @@ pub(crate) fn built_in_type(alloc: Global, name: &Text) -> Result<NumericType, E
 }
 
 /// A plain name, without path and template arguments.
-pub(crate) fn plain_name<'a>(alloc: Global, ty: &'a TypeExpression) -> Result<&'a Text, EvalError>
+pub fn plain_name<'a>(alloc: Global, ty: &'a TypeExpression) -> Result<&'a Text, EvalError>
     ensures { Gives (λ name. name.now) (spec.plain_name (type_tree ty.now)) result }
 {
     let name = &ty.ident.name;

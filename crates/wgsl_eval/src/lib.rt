@@ -9,7 +9,8 @@ mod start;
 mod typing;
 
 pub use error::{EvalError, Refusal, UnitError, refused};
-pub use evaluate::eval_value;
+pub use evaluate::{callee, eval_value};
+pub use find::plain_name;
 pub use scope::Scope;
 pub use start::start_values;
 pub use typing::{const_value, eval_ty, ty_eval_ty};
