@@ -1,4 +1,3 @@
-pub mod Mangling
 pub mod Renaming
 pub mod Occurrences
 pub mod Views

@@ -5,7 +5,7 @@ use crate::module::{Module, declared_name};
 use crate::naming::ModuleNaming;
 use crate::rename::renamed_declaration;
 use crate::rounds::Resolutions;
-use crate::source_map::BasicSourceMap;
+use wesl_resolve::BasicSourceMap;
 use std::alloc::{AllocError, Global};
 use std::collections::BTreeMap;
 use wgsl_items::{Items, Text};

@@ -2,21 +2,9 @@
 
 use std::alloc::{AllocError, AllocFailed};
 use thiserror::Error as Message;
+use wesl_resolve::ResolveError;
 use wgsl_items::Text;
 use wgsl_path::ModulePath;
-use wgsl_token::Error;
-
-/// Why a resolver gives no module for a path.
-#[derive(Debug, Drop, Message)]
-pub enum ResolveError {
-    #[error("there is no module at {0}")]
-    ModuleNotFound(ModulePath),
-    #[error("in {0}: {1}")]
-    Syntax(ModulePath, Error),
-    /// Memory was refused. This says nothing of the module.
-    #[error("out of memory")]
-    OutOfMemory,
-}
 
 /// Why modules are not linked.
 #[derive(Debug, Drop, Message)]
@@ -38,17 +26,6 @@ pub enum ImportError {
     /// Memory was refused. This says nothing of the modules.
     #[error("out of memory")]
     OutOfMemory,
-}
-
-impl From<AllocError> for ResolveError {
-    ghost use Rattle.std.specs.Prelude.{◌≡◌};
-    ghost use Rattle.wesl_link.specs.declared.error.ResolveError.TheVariants.{OutOfMemory};
-
-    ghost from_gives = { λ _ e. e ≡ OutOfMemory };
-
-    fn from(_: AllocError) -> ResolveError {
-        ResolveError::OutOfMemory
-    }
 }
 
 impl From<AllocError> for ImportError {

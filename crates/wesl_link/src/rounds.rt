@@ -2,10 +2,10 @@
 
 use crate::denote::{Denoted, Item, Symbol, denotation, item_of, symbol_at};
 use crate::error::ImportError;
-use crate::mangle::EscapeMangler;
+use wesl_resolve::EscapeMangler;
 use crate::module::{Module, Modules, Target, declared_name, entry_points};
 use crate::occurrence::occurrences;
-use crate::resolver::Resolver;
+use wesl_resolve::Resolver;
 use std::alloc::{AllocError, Global};
 use std::collections::{BTreeMap, BTreeSet};
 use wgsl_items::{CloneIn, Items, Text};

@@ -7,7 +7,11 @@ use wgsl_path::{ModulePath, PathOrigin};
 
 impl EscapeMangler {
     /// The module and the item that a name was mangled from. A path that is relative does not come back.
-    pub fn unmangle(&self, alloc: Global, name: &str) -> Result<Option<(ModulePath, Text)>, AllocError> {
+    pub fn unmangle(
+        &self,
+        alloc: Global,
+        name: &str,
+    ) -> Result<Option<(ModulePath, Text)>, AllocError> {
         let mut parts = Vec::new(alloc);
         let mut rest = Some(name);
         // A part and the `_` behind it have a byte at least.
@@ -26,7 +30,10 @@ impl EscapeMangler {
 }
 
 /// A part, and what stands behind the `_` after it.
-fn read_part<'a>(alloc: Global, text: &'a str) -> Result<Option<(Text, Option<&'a str>)>, AllocError> {
+fn read_part<'a>(
+    alloc: Global,
+    text: &'a str,
+) -> Result<Option<(Text, Option<&'a str>)>, AllocError> {
     match text.strip_prefix('_') {
         None => take_part(alloc, 0, text),
         Some(counted) => match read_count(counted) {

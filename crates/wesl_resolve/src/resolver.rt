@@ -12,10 +12,18 @@ pub trait Resolver: Drop {
     fn resolve_source(&mut self, alloc: Global, path: &ModulePath) -> Result<Text, ResolveError>;
 
     /// The syntax tree of the module at a path.
-    fn resolve_module(&mut self, alloc: Global, path: &ModulePath) -> Result<TranslationUnit, ResolveError>;
+    fn resolve_module(
+        &mut self,
+        alloc: Global,
+        path: &ModulePath,
+    ) -> Result<TranslationUnit, ResolveError>;
 
     /// The name that a message gives the module, where it has one. It is refused for memory alone.
-    fn display_name(&mut self, _alloc: Global, _path: &ModulePath) -> Result<Option<Text>, AllocError> {
+    fn display_name(
+        &mut self,
+        _alloc: Global,
+        _path: &ModulePath,
+    ) -> Result<Option<Text>, AllocError> {
         Ok(None)
     }
 }

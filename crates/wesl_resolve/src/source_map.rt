@@ -14,7 +14,11 @@ pub trait SourceMap {
     fn get_source(&self, alloc: Global, path: &ModulePath) -> Result<Option<&str>, AllocError>;
 
     /// The name that a message gives a module.
-    fn get_display_name(&self, alloc: Global, path: &ModulePath) -> Result<Option<&str>, AllocError>;
+    fn get_display_name(
+        &self,
+        alloc: Global,
+        path: &ModulePath,
+    ) -> Result<Option<&str>, AllocError>;
 
     /// The text that a place belongs to where no module is named.
     fn get_default_source(&self) -> Option<&str>;
@@ -53,12 +57,18 @@ impl BasicSourceMap {
     }
 
     /// Records what a name of the linked unit stands for.
-    pub fn add_decl(&mut self, decl: &str, module: &ModulePath, item: &str) -> Result<(), AllocError> {
+    pub fn add_decl(
+        &mut self,
+        decl: &str,
+        module: &ModulePath,
+        item: &str,
+    ) -> Result<(), AllocError> {
         let value = SourceDecl {
             module: module.clone_in(self.alloc)?,
             item: Text::from_str(self.alloc, item)?,
         };
-        self.decls.insert(String::from_str(self.alloc, decl)?, value)?;
+        self.decls
+            .insert(String::from_str(self.alloc, decl)?, value)?;
         Ok(())
     }
 
@@ -93,7 +103,11 @@ impl SourceMap for BasicSourceMap {
         }
     }
 
-    fn get_display_name(&self, alloc: Global, path: &ModulePath) -> Result<Option<&str>, AllocError> {
+    fn get_display_name(
+        &self,
+        alloc: Global,
+        path: &ModulePath,
+    ) -> Result<Option<&str>, AllocError> {
         let text = path.to_string(alloc)?;
         match self.sources.get(text.as_str()) {
             None => Ok(None),

@@ -1,7 +1,7 @@
 //! Names of items that tell apart the modules that declare them.
 
 ghost use Rattle.std.specs.Prelude.{◌≡◌, ◌++◌, IfOk, OnOk};
-ghost use Rattle.wesl_link.specs.Mangling.{mangled, mangled_origin, escaped, more_supers};
+ghost use Rattle.wesl_resolve.specs.Mangling.{mangled, mangled_origin, escaped, more_supers};
 
 use std::alloc::{AllocError, Global};
 use wgsl_items::Text;
