@@ -84,9 +84,7 @@ pub fn occurrences_before<'a>(
 pub fn occurrences_after<'a>(
     alloc: Global,
     declaration: &'a GlobalDeclaration,
-) -> Result<Vec<Occurrence<'a>>, AllocError>
-    ensures { IfOk result (λ found. seen found.items ≡ spec.occurring_after (declaration_tree declaration.now)) }
-{
+) -> Result<Vec<Occurrence<'a>>, AllocError> {
     let mut found = Vec::new(alloc);
     match declaration {
         GlobalDeclaration::Declaration(declaration) => add_declaration(alloc, &mut found, declaration)?,
@@ -99,9 +97,7 @@ pub fn occurrences_after<'a>(
 pub fn occurrences<'a>(
     alloc: Global,
     declaration: &'a GlobalDeclaration,
-) -> Result<Vec<Occurrence<'a>>, AllocError>
-    ensures { IfOk result (λ found. seen found.items ≡ spec.occurrences (declaration_tree declaration.now)) }
-{
+) -> Result<Vec<Occurrence<'a>>, AllocError> {
     let mut found = occurrences_before(alloc, declaration)?;
     let after = occurrences_after(alloc, declaration)?;
     found.extend_from_slice(after.as_slice())?;
@@ -121,14 +117,11 @@ fn add_declaration<'a>(
     Ok(())
 }
 
-#[tactic(auto, using(crate::proofs::Occurring::parameters_flat))]
 fn add_function<'a>(
     alloc: Global,
     found: &mut Vec<Occurrence<'a>>,
     function: &'a Function,
-) -> Result<(), AllocError>
-    ensures { OnOk result (seen found.new.items ≡ seen found.old.items ++ spec.occurring_after (declaration_tree (global.Function function.now))) }
-{
+) -> Result<(), AllocError> {
     let scope = Scope::module(alloc);
     add_parameters(found, &scope, function.parameters.as_slice())?;
     add_attributes(found, &scope, false, &function.return_attributes)?;
@@ -192,14 +185,11 @@ fn add_maybe_expression<'a>(
     }
 }
 
-#[tactic(auto, using(crate::proofs::Occurring::statements_flat))]
 fn add_block<'a>(
     found: &mut Vec<Occurrence<'a>>,
     scope: &Scope<'a>,
     block: &'a CompoundStatement,
-) -> Result<(), AllocError>
-    ensures { OnOk result (seen found.new.items ≡ seen found.old.items ++ spec.occurring_block (hidden scope.now) (block_tree block.now)) }
-{
+) -> Result<(), AllocError> {
     add_attributes(found, scope, true, &block.attributes)?;
     add_statements(found, scope, block.statements.as_slice())?;
     Ok(())

@@ -25,9 +25,7 @@ pub fn renamed_declaration<N: Naming + Copy>(
     naming: N,
     name: &str,
     declaration: &GlobalDeclaration,
-) -> Result<GlobalDeclaration, AllocError>
-    ensures { IfOk result (λ renamed. declaration_tree renamed ≡ spec.renamed_declaration (N.gives naming) name.now (declaration_tree declaration.now)) }
-{
+) -> Result<GlobalDeclaration, AllocError> {
     match declaration {
         GlobalDeclaration::Declaration(declaration) => Ok(GlobalDeclaration::Declaration(renamed_value(
             alloc,
@@ -50,9 +48,7 @@ fn renamed_value<N: Naming>(
     naming: &N,
     name: &str,
     declaration: &Declaration,
-) -> Result<Declaration, AllocError>
-    ensures { IfOk result (λ renamed. declaration_tree (global.Declaration renamed) ≡ spec.renamed_declaration (N.gives naming.now) name.now (declaration_tree (global.Declaration declaration.now))) }
-{
+) -> Result<Declaration, AllocError> {
     Ok(Declaration {
         attributes: renamed_attributes(alloc, naming, &declaration.attributes)?,
         kind: declaration.kind,
@@ -80,9 +76,7 @@ fn renamed_function<N: Naming + Copy>(
     naming: N,
     name: &str,
     function: &Function,
-) -> Result<Function, AllocError>
-    ensures { IfOk result (λ renamed. declaration_tree (global.Function renamed) ≡ spec.renamed_declaration (N.gives naming) name.now (declaration_tree (global.Function function.now))) }
-{
+) -> Result<Function, AllocError> {
     Ok(Function {
         attributes: renamed_attributes(alloc, &naming, &function.attributes)?,
         ident: ident_of(alloc, name)?,
@@ -97,9 +91,7 @@ fn renamed_body<N: Naming + Copy>(
     alloc: Global,
     naming: N,
     function: &Function,
-) -> Result<CompoundStatement, AllocError>
-    ensures { IfOk result (λ renamed. block_tree renamed ≡ spec.renamed_block (spec.in_body (N.gives naming) (map parameter_tree function.now.parameters)) (block_tree function.now.body)) }
-{
+) -> Result<CompoundStatement, AllocError> {
     let scope = Scope::body(alloc, function.parameters.as_slice())?;
     let body = BodyNaming {
         outer: naming,
@@ -108,13 +100,12 @@ fn renamed_body<N: Naming + Copy>(
     renamed_block(alloc, &body, &function.body)
 }
 
-#[tactic(auto, using(crate::proofs::Renames::parameters_renamed))]
 fn renamed_parameters<N: Naming>(
     alloc: Global,
     naming: &N,
     parameters: &[FormalParameter],
 ) -> Result<Items<FormalParameter>, AllocError>
-    ensures { IfOk result (λ renamed. map parameter_tree renamed ≡ map (spec.renamed_parameter (N.gives naming.now)) (map parameter_tree parameters.now)) }
+    ensures { IfOk result (λ renamed. map parameter_tree renamed ≡ map (λ p. spec.renamed_parameter (N.gives naming.now) (parameter_tree p)) parameters.now) }
 {
     let mut renamed = Items::new(alloc);
     for parameter in parameters {
@@ -154,9 +145,7 @@ fn renamed_block<N: Naming>(
     alloc: Global,
     naming: &N,
     block: &CompoundStatement,
-) -> Result<CompoundStatement, AllocError>
-    ensures { IfOk result (λ renamed. block_tree renamed ≡ spec.renamed_block (N.gives naming.now) (block_tree block.now)) }
-{
+) -> Result<CompoundStatement, AllocError> {
     Ok(CompoundStatement {
         attributes: renamed_attributes(alloc, naming, &block.attributes)?,
         statements: renamed_statements(alloc, naming, block.statements.as_slice())?,
@@ -178,13 +167,12 @@ fn renamed_name<N: Naming>(
     }
 }
 
-#[tactic(auto, using(crate::proofs::Renames::statements_renamed))]
 fn renamed_statements<N: Naming>(
     alloc: Global,
     naming: &N,
     statements: &[StatementNode],
 ) -> Result<Items<StatementNode>, AllocError>
-    ensures { IfOk result (λ renamed. map (λ n. statement_tree n.node) renamed ≡ map (spec.renamed_statement (N.gives naming.now)) (map (λ n. statement_tree n.node) statements.now)) }
+    ensures { IfOk result (λ renamed. map (λ n. statement_tree n.node) renamed ≡ map (λ n. spec.renamed_statement (N.gives naming.now) (statement_tree n.node)) statements.now) }
 {
     let mut renamed = Items::new(alloc);
     for statement in statements {
