@@ -27,6 +27,7 @@ use Rattle.wgsl_grammar.specs.Terminals.{fixed, word, IsComma}
 use Rattle.wgsl_grammar.specs.Expressions.{IsSum}
 use Rattle.wgsl_grammar.specs.Declarations.{ident, IsType, type, IsParameter, parameter, IsAnnotation, unannotated, annotated, IsResult, no_result, result_of, IsValue, no_value, value, IsBody, empty_body, returns, IsDeclaration, constant, function, IsComponents, no_components, component, IsImport, importing, IsUnit, unit}
 use Rattle.wgsl_lex.specs.Tokens.{Lexes, at_the_end, behind_trivia, a_token, no_token}
+use Rattle.wgsl_lex.proofs.Once.{lexed_once}
 use Rattle.wgsl_laws.specs.Printing.{StandsFor, PrintsBack, PrintsTheSame}
 use Rattle.wgsl_laws.proofs.Prints.{Prints, Nothing, nothing, Is, is, Joined, joined, prints_as, prints_then, prints_behind, prints_before, prints_nothing, both, Spells, spells_then, spells_ascii, anything}
 use Rattle.wgsl_laws.proofs.Marks.{stops}
@@ -439,4 +440,7 @@ pub prints_back : PrintsBack
 prints_back text tokens m lexed g = stands (unit_back g (tokens_known lexed.lexes lexed.are_scalars))
 
 pub prints_the_same : PrintsTheSame
-prints_the_same text tokens m lexed g = record { tree = unit_tree m; stands = prints_back text tokens m lexed g; prints = refl }
+prints_the_same text tokens m lexed g printed again_lexed =
+    let back = prints_back text tokens m lexed g in
+    let same : back.tokens ≡ printed = lexed_once (unit_text (unit_tree m)) back.tokens printed back.lexed again_lexed in
+    record { unit = back.unit; derived = subst (λ ts. IsUnit ts back.unit) same back.derived; prints = ap unit_text back.same }

@@ -21,13 +21,14 @@ abbrev pub PrintsBack : Type 0
 PrintsBack = (text : List ℕ) (tokens : List SpannedToken) (unit : TranslationUnit) → IsLexed text tokens → IsUnit tokens unit
     → StandsFor (unit_text (unit_tree unit)) (unit_tree unit)
 
--- The text stands for a tree that prints to this text.
-pub record IsSettled (text : List ℕ) : Type 0 where
-  pub tree : Unit
-  pub stands : StandsFor text tree
-  pub prints : unit_text tree ≡ text
+-- The tokens derive a module that prints to this text.
+pub record PrintsTo (tokens : List SpannedToken) (text : List ℕ) : Type 0 where
+  pub unit : TranslationUnit
+  pub derived : IsUnit tokens unit
+  pub prints : unit_text (unit_tree unit) ≡ text
 
--- What is printed of a module that a text derives can be read and printed again without a change.
+-- What is printed of a module that a text derives is printed again without a change: its tokens derive a module that prints
+-- to the same text.
 abbrev pub PrintsTheSame : Type 0
 PrintsTheSame = (text : List ℕ) (tokens : List SpannedToken) (unit : TranslationUnit) → IsLexed text tokens → IsUnit tokens unit
-    → IsSettled (unit_text (unit_tree unit))
+    → (printed : List SpannedToken) → IsLexed (unit_text (unit_tree unit)) printed → PrintsTo printed (unit_text (unit_tree unit))

@@ -7,7 +7,8 @@ pub fn prints_back()
     ensures { PrintsBack }
 {}
 
-/// What is printed of a module that a text derives is read and printed again without a change.
+/// What is printed of a module that a text derives is printed again without a change: the tokens of the printed text derive
+/// a module that prints to the same text.
 pub fn prints_the_same()
     ensures { PrintsTheSame }
 {}
