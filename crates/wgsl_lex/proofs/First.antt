@@ -1,21 +1,19 @@
 -- What stands first, from the parts that the code finds.
-use Rattle.std.specs.Prelude.{◌≢◌, not, Option, Some, None, MatchOption, nat_le, nat_lt, if◌then◌else◌, slice_get}
-use Rattle.std.proofs.Common.{◌≡◌, ℕ, zero, suc, ◌+◌, ◌-◌, ◌*◌, ◌<◌, ◌≤◌, Bool, true, false, cond, ◌&&◌, ◌||◌, ◌==◌, ◌⊎◌, inl, inr, List, [], ◌∷◌, ◌++◌, length, take, drop, get_or, refl, sym, ◌∙◌, ap, subst, arith, append_assoc, append-nil, drop-cons, add-one, length-drop}
-use Rattle.std.proofs.lemmas.List.{take_more}
-use Rattle.std.specs.Option.{option_map}
-use Rattle.std.specs.List.{list_all, list_any}
+use Rattle.std.specs.Prelude.{◌≢◌, Option, Some, None, nat_lt, slice_get}
+use Rattle.std.proofs.Common.{◌≡◌, ℕ, zero, suc, ◌+◌, ◌-◌, ◌*◌, ◌<◌, ◌≤◌, Bool, true, false, ◌&&◌, ◌||◌, ◌==◌, ◌⊎◌, inl, inr, List, [], ◌∷◌, ◌++◌, length, take, drop, get_or, refl, sym, ◌∙◌, ap, subst, arith, append_assoc, append-nil, add-one, length-drop}
+use Rattle.std.specs.List.{list_all}
 use Rattle.std.specs.Char.{is_ascii_digit, is_ascii_hexdigit}
 use Rattle.unicode_ident.specs.Ident.{is_xid_start, is_xid_continue}
 use Rattle.wgsl_token.specs.declared.token.Token.{Token}
 use Rattle.wgsl_token.specs.declared.token.Token.TheVariants.{Fixed, Invalid}
 use Rattle.wgsl_token.specs.declared.token.Fixed.{Fixed as FixedToken}
 use Rattle.wgsl_lex.specs.declared.piece.Piece.{Piece}
-use Rattle.wgsl_lex.specs.Tokens.{digit_value, is_blank, is_trivia, is_word, is_line_break, is_line_comment_tail, is_block_comment_tail, fixed_of, token_form, form, Form, trivia, token, NoLonger, IsLongest, abstract_token, signed_token, unsigned_token}
+use Rattle.wgsl_lex.specs.Tokens.{digit_value, is_blank, is_trivia, is_word, is_line_comment_tail, is_block_comment_tail, fixed_of, token_form, form, Form, trivia, token, NoLonger, IsLongest, abstract_token, signed_token, unsigned_token}
 use Rattle.wgsl_lex.specs.Runs.{IsRun, IsLongestRun, IsLongestMagnitude, IsValue, is_no_line_break, begins_with_pair, value_behind}
 use Rattle.wgsl_lex.specs.Pieces.{IsCommentAnswer, no_comment, comment, opens_word, StandsFirst, trivia_first, token_first, nothing_first, BeginsNothingElse, HasMagnitude, opens_comment, begins_with_continue, spelled_by_two, spelled_by_three, is_mark, goes_on}
-use Rattle.wgsl_lex.proofs.Bools.{and_false, both, covered, covered_word, either, neither, not_both, fails, differs, is_number}
-use Rattle.wgsl_lex.proofs.Tables.{begins_word, spelled_as}
-use Rattle.wgsl_lex.proofs.Forms.{suffix_token, trivia_form, token_form_is, fixed_form, no_form, no_trivia, no_word}
+use Rattle.wgsl_lex.proofs.Bools.{and_false, both, covered, covered_word, neither, not_both, fails, is_number}
+use Rattle.wgsl_lex.proofs.Tables.{begins_word}
+use Rattle.wgsl_lex.proofs.Forms.{suffix_token, fixed_form, no_form}
 use Rattle.wgsl_lex.proofs.Longest.{longest_run, word_longest, blank_longest, line_comment_longest, block_comment_longest}
 use Rattle.wgsl_lex.proofs.Numbers.{decimal_longest, hexadecimal_longest, zero_longest, plain_longest, suffixed_longest}
 use Rattle.wgsl_lex.proofs.Symbols.{four_is_none}

@@ -1,16 +1,15 @@
 -- What some characters are, by what they aren't.
-use Rattle.std.proofs.Common.{◌≡◌, ℕ, Bool, true, false, cond, ◌&&◌, ◌||◌, ◌==◌, ◌⊎◌, inl, inr, List, [], ◌∷◌, ◌++◌, reverse, refl, sym, ◌∙◌, ap, subst}
+use Rattle.std.proofs.Common.{◌≡◌, ℕ, true, false, ◌==◌, List, [], ◌∷◌, ◌++◌, reverse, refl, ◌∙◌, ap}
 use Rattle.std.specs.Prelude.{Option, Some, None, if◌then◌else◌}
 use Rattle.std.specs.Option.{option_map, option_or}
-use Rattle.std.specs.List.{list_all}
 use Rattle.std.specs.Char.{is_ascii_digit}
 use Rattle.std.proofs.lemmas.List.{reverse-append, reverse-reverse}
-use Rattle.unicode_ident.specs.Ident.{is_xid_start, is_xid_continue}
+use Rattle.unicode_ident.specs.Ident.{is_xid_start}
 use Rattle.wgsl_token.specs.declared.token.Token.{Token}
 use Rattle.wgsl_token.specs.declared.token.Token.TheVariants.{Fixed}
 use Rattle.wgsl_token.specs.declared.token.Fixed.{Fixed as FixedToken}
-use Rattle.wgsl_lex.specs.Tokens.{is_blank, is_trivia, is_word, word_token, fixed_of, magnitude, zero_led_value, abstract_token, signed_token, unsigned_token, suffixed_number, number_token, token_form, form, Form, trivia, token}
-use Rattle.wgsl_lex.proofs.Bools.{both, either, not_both, fails, differs, is_number}
+use Rattle.wgsl_lex.specs.Tokens.{is_trivia, is_word, word_token, fixed_of, magnitude, abstract_token, signed_token, unsigned_token, suffixed_number, number_token, token_form, form, trivia, token}
+use Rattle.wgsl_lex.proofs.Bools.{not_both, fails, is_number}
 use Rattle.wgsl_lex.proofs.Tables.{begins_word, no_fixed, begins_fixed, spellings_begin}
 use Rattle.wgsl_lex.proofs.Classes.{digit_begins_no_word, digit_no_slash, digit_no_blank}
 

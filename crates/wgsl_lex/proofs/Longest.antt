@@ -1,16 +1,16 @@
 -- Longest runs and longest forms.
 use Rattle.std.specs.Prelude.{◌≢◌, not}
-use Rattle.std.proofs.Common.{◌≡◌, ℕ, zero, suc, ◌+◌, ◌<◌, ◌≤◌, Bool, true, false, cond, ◌&&◌, ◌||◌, ◌==◌, ◌⊎◌, inl, inr, List, [], ◌∷◌, ◌++◌, length, take, drop, get_or, refl, sym, ◌∙◌, ap, subst, arith, length-drop, get_or-drop, add-zero}
-use Rattle.std.specs.Prelude.{Option, Some, None}
+use Rattle.std.proofs.Common.{◌≡◌, ℕ, zero, suc, ◌+◌, ◌<◌, ◌≤◌, Bool, true, false, ◌&&◌, ◌||◌, ◌==◌, List, [], ◌∷◌, ◌++◌, length, take, drop, get_or, refl, sym, ◌∙◌, ap, subst, arith, length-drop, get_or-drop, add-zero}
+use Rattle.std.specs.Prelude.{Some, None}
 use Rattle.std.specs.List.{list_all}
 use Rattle.std.proofs.lemmas.List.Folds.{list_all-append, list_all_more}
 use Rattle.std.proofs.Math.Seq.{take-append_seam, drop-append_seam}
-use Rattle.unicode_ident.specs.Ident.{is_xid_start, is_xid_continue}
+use Rattle.unicode_ident.specs.Ident.{is_xid_continue}
 use Rattle.wgsl_token.specs.declared.token.Token.{Token}
-use Rattle.wgsl_lex.specs.Tokens.{is_blank, is_trivia, is_word, is_line_break, is_line_comment_tail, is_block_comment_tail, fixed_of, token_form, form, Form, trivia, token, NoLonger, IsLongest}
-use Rattle.wgsl_lex.specs.Runs.{IsRun, IsLongestRun, is_no_line_break}
-use Rattle.wgsl_lex.proofs.Bools.{and_false, both, either, not_both, fails, differs}
-use Rattle.wgsl_lex.proofs.Tables.{begins_word, stays_word, spellings_stay_words, no_fixed, fixed_passes}
+use Rattle.wgsl_lex.specs.Tokens.{is_blank, is_trivia, is_line_comment_tail, is_block_comment_tail, token_form, form, Form, trivia, token, NoLonger, IsLongest}
+use Rattle.wgsl_lex.specs.Runs.{IsRun, IsLongestRun}
+use Rattle.wgsl_lex.proofs.Bools.{and_false}
+use Rattle.wgsl_lex.proofs.Tables.{begins_word, stays_word, spellings_stay_words, no_fixed}
 use Rattle.wgsl_lex.proofs.Classes.{word_no_slash, word_no_digit, word_no_blank, blank_no_slash, blank_no_digit, blank_begins_no_word, slash_begins_no_word}
 use Rattle.wgsl_lex.proofs.Forms.{trivia_form, token_form_is, no_form, no_trivia, no_word}
 

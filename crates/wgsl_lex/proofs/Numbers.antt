@@ -1,16 +1,15 @@
 -- Whole numbers.
-use Rattle.std.specs.Prelude.{◌≢◌, not, Option, Some, None, MatchOption, nat_le, fold, if◌then◌else◌}
-use Rattle.std.proofs.Common.{◌≡◌, ℕ, zero, suc, ◌+◌, ◌-◌, ◌*◌, ◌^◌, ◌<◌, ◌≤◌, Bool, true, false, cond, ◌&&◌, ◌||◌, ◌==◌, ◌⊎◌, inl, inr, List, [], ◌∷◌, ◌++◌, length, take, drop, get_or, refl, sym, ◌∙◌, ap, subst, arith, append_assoc, append-nil}
-use Rattle.std.specs.Option.{option_map, option_or}
-use Rattle.std.specs.List.{list_all, list_any}
+use Rattle.std.specs.Prelude.{◌≢◌, Option, Some, None, if◌then◌else◌}
+use Rattle.std.proofs.Common.{◌≡◌, ℕ, ◌+◌, ◌*◌, ◌^◌, ◌<◌, ◌≤◌, true, false, ◌&&◌, ◌==◌, List, [], ◌∷◌, ◌++◌, length, take, drop, get_or, refl, sym, ◌∙◌, ap, subst, arith, append_assoc, append-nil}
+use Rattle.std.specs.Option.{option_map}
+use Rattle.std.specs.List.{list_all}
 use Rattle.std.specs.Char.{is_ascii_digit, is_ascii_hexdigit}
 use Rattle.std.proofs.lemmas.List.{take_more, take-append-drop}
 use Rattle.std.proofs.Math.Nat.{le-mul_of_pos_right}
 use Rattle.wgsl_token.specs.declared.token.Token.{Token}
-use Rattle.wgsl_lex.specs.Tokens.{magnitude, zero_led_value, digit_value, digits_value, abstract_token, signed_token, unsigned_token, number_token, form, Form, token, NoLonger, IsLongest}
+use Rattle.wgsl_lex.specs.Tokens.{magnitude, zero_led_value, digit_value, digits_value, abstract_token, number_token, token, IsLongest}
 use Rattle.wgsl_lex.specs.Runs.{IsLongestRun, IsLongestMagnitude, IsValue, value_behind}
 use Rattle.wgsl_lex.specs.Pieces.{is_mark, goes_on}
-use Rattle.wgsl_lex.proofs.Bools.{and_false, both, either, not_both, fails, differs, is_number}
 use Rattle.wgsl_lex.proofs.Forms.{Ends, ends, nothing, last, suffix_token, suffix_of_none, number_token-append, digit_form}
 
 -- The three kinds

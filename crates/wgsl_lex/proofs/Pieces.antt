@@ -1,6 +1,6 @@
 -- The tokens of a piece and of what stands behind it.
-use Rattle.std.specs.Prelude.{◌≢◌, Option, Some, None, not}
-use Rattle.std.proofs.Common.{◌≡◌, ℕ, ◌+◌, Bool, true, false, ◌&&◌, ◌||◌, ◌==◌, List, [], ◌∷◌, ◌++◌, refl, sym, ◌∙◌, ap}
+use Rattle.std.specs.Prelude.{◌≢◌, Some, None, not}
+use Rattle.std.proofs.Common.{◌≡◌, ℕ, ◌+◌, Bool, true, false, ◌||◌, ◌==◌, List, [], ◌∷◌, ◌++◌, refl, sym, ◌∙◌, ap}
 use Rattle.std.specs.List.{list_all}
 use Rattle.std.specs.Char.{is_ascii_digit}
 use Rattle.std.proofs.lemmas.List.Folds.{list_all-append}
@@ -9,9 +9,9 @@ use Rattle.wgsl_token.specs.declared.token.SpannedToken.{SpannedToken}
 use Rattle.wgsl_token.specs.declared.token.Token.{Token}
 use Rattle.wgsl_token.specs.declared.token.Token.TheVariants.{Fixed}
 use Rattle.wgsl_token.specs.declared.token.Fixed.{Fixed as FixedToken}
-use Rattle.wgsl_lex.specs.Tokens.{is_blank, is_word, fixed_of, token_form, digits_value, abstract_token, magnitude, token, IsLongest, size, spanned, Lexes, behind_trivia, a_token}
+use Rattle.wgsl_lex.specs.Tokens.{is_blank, is_word, fixed_of, token_form, digits_value, abstract_token, size, spanned, Lexes, behind_trivia, a_token}
 use Rattle.wgsl_lex.specs.Runs.{IsLongestRun, IsLongestMagnitude}
-use Rattle.wgsl_lex.specs.Pieces.{BeginsNothingElse, begins_with_continue, spelled_by_two, spelled_by_three, goes_on}
+use Rattle.wgsl_lex.specs.Pieces.{BeginsNothingElse, spelled_by_two, spelled_by_three, goes_on}
 use Rattle.wgsl_lex.proofs.Bools.{and_false, both}
 use Rattle.wgsl_lex.proofs.Forms.{suffix_token}
 use Rattle.wgsl_lex.proofs.Longest.{word_longest, blank_longest}

@@ -1,21 +1,20 @@
 -- Symbols: the tokens of one spelling that are no words.
-use Rattle.std.specs.Prelude.{◌≢◌, not, Option, Some, None, find, is_some, MatchOption, nat_le}
-use Rattle.std.proofs.Common.{◌≡◌, ℕ, zero, suc, ◌+◌, ◌-◌, ◌<◌, ◌≤◌, Bool, true, false, cond, ◌&&◌, ◌||◌, ◌==◌, ◌⊎◌, inl, inr, List, [], ◌∷◌, ◌++◌, length, take, drop, get_or, refl, sym, ◌∙◌, ap, subst, arith}
+use Rattle.std.specs.Prelude.{Some, None, find}
+use Rattle.std.proofs.Common.{◌≡◌, ℕ, Bool, true, false, cond, ◌&&◌, ◌||◌, ◌==◌, inl, inr, List, [], ◌∷◌, refl, sym, ◌∙◌, ap}
 use Rattle.std.specs.Option.{option_map}
 use Rattle.std.specs.List.{list_all, list_any}
 use Rattle.std.specs.Bool.{Decides}
 use Rattle.std.specs.Str.{bytes_eq}
-use Rattle.std.specs.Char.{is_ascii_digit}
 use Rattle.std.proofs.lemmas.Slice.Eq.{bytes_eq-Decides}
 use Rattle.std.proofs.lemmas.Bool.Decides.{Decides-eqb}
-use Rattle.unicode_ident.specs.Ident.{is_xid_start, is_xid_continue}
+use Rattle.unicode_ident.specs.Ident.{is_xid_start}
 use Rattle.unicode_ident.proofs.Computing.{unicode_ident}
 use Rattle.wgsl_token.specs.declared.token.Fixed.{Fixed}
 use Rattle.wgsl_token.specs.Spelling.{spelling}
 use Rattle.wgsl_lex.specs.declared.symbol.TheConstants.{ONE, TWO, THREE}
 use Rattle.wgsl_lex.specs.Tokens.{all_fixed, fixed_of}
-use Rattle.wgsl_lex.proofs.Bools.{and_false, both, either, not_both, fails, differs, is_number}
-use Rattle.wgsl_lex.proofs.Tables.{find_found, find_all, spelled_as, fixed_passes, no_fixed, fixed_of-spelling}
+use Rattle.wgsl_lex.proofs.Bools.{both, either, not_both, is_number}
+use Rattle.wgsl_lex.proofs.Tables.{find_found, find_all, fixed_passes, no_fixed, fixed_of-spelling}
 
 -- a search finds where some element passes
 find_some : {X : Type 0} (p : X → Bool) (xs : List X) → find p xs ≡ None → list_any p xs ≡ false

@@ -1,13 +1,10 @@
 -- The table of words.
-use Rattle.std.specs.Prelude.{◌≢◌, not, Option, Some, None, Result, Ok, Err, MatchResult, find, if◌then◌else◌, Any, is_none}
+use Rattle.std.specs.Prelude.{not, Option, Some, None, Result, Ok, Err, MatchResult, is_none}
 use Rattle.std.proofs.Math.Utf8.{encode}
-use Rattle.std.proofs.Common.{◌≡◌, ℕ, zero, suc, ◌+◌, ◌<◌, ◌≤◌, Bool, true, false, cond, ◌&&◌, ◌||◌, ◌==◌, ◌⊎◌, inl, inr, List, [], ◌∷◌, ◌++◌, length, get_or, refl, sym, ◌∙◌, ap, subst, arith}
-use Rattle.std.specs.Option.{option_map, option_or}
-use Rattle.std.specs.Cmp.{IsTotalOrder}
-use Rattle.std.specs.List.{list_all, list_any, HoldsAt}
+use Rattle.std.proofs.Common.{◌≡◌, ℕ, zero, suc, ◌+◌, ◌<◌, ◌≤◌, Bool, true, false, ◌||◌, ◌⊎◌, inl, inr, List, [], ◌∷◌, length, get_or, refl, sym, ◌∙◌, ap, arith}
+use Rattle.std.specs.List.{list_all, list_any}
 use Rattle.std.specs.List.Sorted.{IsSortedBy, IsBinarySearchResult}
-use Rattle.std.specs.declared.cmp.Ordering.{Ordering}
-use Rattle.std.specs.declared.cmp.Ordering.TheVariants.{Equal, Less, Greater}
+use Rattle.std.specs.declared.cmp.Ordering.TheVariants.{Equal}
 use Rattle.std.specs.Ordering.{is_lt, is_eq, nat_cmp}
 use Rattle.std.specs.Str.{bytes_eq, encode_utf8_all}
 use Rattle.std.specs.Cmp.Lexicographic.{slice_cmp}
@@ -18,15 +15,14 @@ use Rattle.std.proofs.lemmas.Slice.Eq.{bytes_eq-Decides}
 use Rattle.std.proofs.lemmas.Str.{encodes_same}
 use Rattle.unicode_ident.proofs.Computing.{unicode_ident}
 use Rattle.wgsl_token.specs.declared.token.Fixed.{Fixed as FixedToken}
-use Rattle.wgsl_token.specs.declared.token.Token.{Token}
 use Rattle.wgsl_token.specs.declared.token.Token.TheVariants.{Fixed, Identifier, Reserved, Invalid}
 use Rattle.wgsl_token.specs.Spelling.{spelling}
 use Rattle.wgsl_lex.specs.declared.word.TheConstants.{WORDS}
-use Rattle.wgsl_lex.specs.Tokens.{all_fixed, fixed_of, reserved_words, is_reserved, is_word, begins_with_two_underscores, word_token, number_token, token_form}
+use Rattle.wgsl_lex.specs.Tokens.{all_fixed, fixed_of, reserved_words, is_reserved, is_word, begins_with_two_underscores, word_token, token_form}
 use Rattle.wgsl_lex.specs.Rows.{ascends, IsFound, found, missing}
 use Rattle.wgsl_lex.specs.Pieces.{IsListed, listed, unlisted, is_meaning}
 use Rattle.wgsl_lex.proofs.Bools.{both, either, not_both, fails}
-use Rattle.wgsl_lex.proofs.Tables.{fixed_passes, no_fixed, spelled_as, fixed_of-spelling}
+use Rattle.wgsl_lex.proofs.Tables.{fixed_passes, no_fixed, fixed_of-spelling}
 
 -- A binary search of a table in order
 

@@ -1,4 +1,4 @@
-use Rattle.std.proofs.Common.{◌≡◌, ℕ, List, ◌∷◌, true, sym, ◌∙◌, subst}
+use Rattle.std.proofs.Common.{◌≡◌, ℕ, List, ◌∷◌, true, sym, subst}
 use Rattle.wgsl_lex.specs.Tokens.{is_word}
 use Rattle.wgsl_lex.proofs.First.{piece_stands, blank_first, is_the_word, word_first}
 use Rattle.wgsl_lex.proofs.lexer.first_piece.Goals as goal

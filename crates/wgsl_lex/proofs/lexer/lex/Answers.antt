@@ -1,7 +1,6 @@
-use Rattle.std.proofs.Common.{rules, arith, ◌≡◌, ◌+◌, ◌<◌, length, ◌∙◌}
+use Rattle.std.proofs.Common.{rules, arith, ◌≡◌, ◌∙◌}
 use Rattle.std.specs.Str.{chars}
 use Rattle.std.proofs.lemmas.Str.{chars_from_encodes}
-use Rattle.wgsl_lex.specs.Tokens.{size}
 use Rattle.wgsl_lex.proofs.Sizes.{size_parts}
 use Rattle.wgsl_lex.proofs.Once.{stands_some}
 use Rattle.wgsl_lex.proofs.Reading.{read_start, read_trivia, read_token, read_all}

@@ -1,5 +1,4 @@
-use Rattle.std.proofs.Common.{arith, ◌≡◌, take, ◌+◌, ◌<◌, ◌^◌}
-use Rattle.std.specs.Char.{len_utf8}
+use Rattle.std.proofs.Common.{arith, ◌≡◌, take}
 use Rattle.wgsl_lex.specs.Tokens.{size}
 use Rattle.wgsl_lex.proofs.Sizes.{size_more, size_within}
 use Rattle.wgsl_lex.proofs.lexer.size_of.Goals as goal

@@ -1,6 +1,6 @@
-use Rattle.std.proofs.Common.{arith, ◌≡◌, ◌+◌, ◌*◌, ◌<◌, ◌^◌}
+use Rattle.std.proofs.Common.{arith, ◌+◌, ◌*◌, ◌<◌, ◌^◌}
 use Rattle.wgsl_lex.specs.Tokens.{digit_value}
-use Rattle.wgsl_lex.proofs.Numbers.{value_past, value_more}
+use Rattle.wgsl_lex.proofs.Numbers.{value_past}
 use Rattle.wgsl_lex.proofs.number.digits_value.Goals as goal
 
 pub returns-in_err-checked_mul : goal.returns-in_err-checked_mul

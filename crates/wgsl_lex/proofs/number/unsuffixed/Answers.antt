@@ -1,6 +1,6 @@
-use Rattle.std.proofs.Common.{arith, ℕ, subst}
+use Rattle.std.proofs.Common.{ℕ, subst}
 use Rattle.wgsl_lex.specs.Runs.{IsValue, value_behind}
-use Rattle.wgsl_lex.proofs.First.{decimal_has, zero_has}
+use Rattle.wgsl_lex.proofs.First.{decimal_has}
 use Rattle.wgsl_lex.proofs.number.unsuffixed.Goals as goal
 
 pub returns-then-first-ne48-clause-longest : goal.returns-then-first-ne48-clause-longest

@@ -1,5 +1,5 @@
-use Rattle.std.proofs.Common.{arith, inl, inr, ◌≡◌, ◌≤◌, length, sym, ◌∙◌}
-use Rattle.wgsl_lex.proofs.First.{starts_open, closes_one, opens_one, passes_one, ends_open}
+use Rattle.std.proofs.Common.{arith, inl, inr, ◌≡◌, sym, ◌∙◌}
+use Rattle.wgsl_lex.proofs.First.{closes_one, opens_one, passes_one, ends_open}
 use Rattle.wgsl_lex.proofs.trivia.block_comment_length.Goals as goal
 
 pub loop-depth-preserved-then-is_pair : goal.loop-depth-preserved-then-is_pair
