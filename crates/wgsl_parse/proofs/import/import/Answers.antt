@@ -13,12 +13,12 @@ returns-in_err-expect-2-clause-parses c = passes c.from_residual-in_err-expect-2
 
 pub returns-in_err-path-clause-parses : goal.returns-in_err-path-clause-parses
 returns-in_err-path-clause-parses c = passes c.from_residual-in_err-path.ensures.1
-    (search (outcomes, marks, inhabited_path, c.in_ok-expect.ensures, c.in_ok-expect-2.ensures, c.in_err-path.ensures) depth 20)
+    (search (outcomes, marks, c.in_ok-expect.ensures, c.in_ok-expect-2.ensures, c.in_err-path.ensures) depth 20)
 
 pub returns-in_err-expect-3-clause-parses : goal.returns-in_err-expect-3-clause-parses
 returns-in_err-expect-3-clause-parses c = passes c.from_residual-in_err-expect-3.ensures.1
-    (search (outcomes, marks, inhabited_path, c.in_ok-expect.ensures, c.in_ok-expect-2.ensures, c.in_ok-path.ensures, c.in_err-expect-3.ensures) depth 20)
+    (search (outcomes, marks, c.in_ok-expect.ensures, c.in_ok-expect-2.ensures, c.in_ok-path.ensures, c.in_err-expect-3.ensures) depth 20)
 
 pub returns-clause-parses : goal.returns-clause-parses
 returns-clause-parses c = rw (c.new.ensures, c.new-2.ensures)
-    (search (outcomes, marks, inhabited_path, c.in_ok-expect.ensures, c.in_ok-expect-2.ensures, c.in_ok-path.ensures, c.in_ok-expect-3.ensures) depth 20)
+    (search (outcomes, marks, c.in_ok-expect.ensures, c.in_ok-expect-2.ensures, c.in_ok-path.ensures, c.in_ok-expect-3.ensures) depth 20)

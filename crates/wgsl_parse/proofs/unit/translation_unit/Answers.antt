@@ -9,7 +9,7 @@ returns-in_err-imports-clause-parses c =
 pub returns-in_err-global_declarations-clause-parses : goal.returns-in_err-global_declarations-clause-parses
 returns-in_err-global_declarations-clause-parses c =
     passes c.from_residual-in_err-global_declarations.ensures.1
-    (parses_unit (search (outcomes, follows_imports, inhabited_declared, c.in_ok-imports.ensures, c.in_err-global_declarations.ensures)))
+    (parses_unit (search (outcomes, follows_imports, c.in_ok-imports.ensures, c.in_err-global_declarations.ensures)))
 
 pub returns-clause-parses : goal.returns-clause-parses
-returns-clause-parses c = parses_unit (search (outcomes, follows_imports, inhabited_declared, c.in_ok-imports.ensures, c.in_ok-global_declarations.ensures))
+returns-clause-parses c = parses_unit (search (outcomes, follows_imports, c.in_ok-imports.ensures, c.in_ok-global_declarations.ensures))
