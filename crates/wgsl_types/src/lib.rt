@@ -10,7 +10,7 @@ pub mod typed;
 #[cfg(test)]
 mod tests;
 
-pub use constructor::{array_t, typecheck_struct_ctor, vec_t};
+pub use constructor::{array_t, builtin_type, is_ctor, type_ctor, typecheck_struct_ctor, vec_t};
 pub use conversions::{convert, convert_all, convert_all_inner_to, convert_all_to, convert_inner};
 pub use template::{ArrayTemplate, PtrTemplate, VecTemplate};
 pub use typed::{Convert, Ty};

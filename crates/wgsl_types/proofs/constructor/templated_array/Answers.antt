@@ -1,4 +1,5 @@
 use Rattle.std.proofs.Common.{refl, sym, subst, Some}
+use Rattle.wgsl_shader_type.specs.declared.tree.ShaderType.TheVariants as type
 use Rattle.wgsl_types.specs.Constructor.{IsArrayMade}
 use Rattle.wgsl_types.proofs.Emptiness.{empty_if, full_if}
 use Rattle.wgsl_types.proofs.constructor.templated_array.Goals as goal
@@ -6,7 +7,7 @@ use Rattle.wgsl_types.proofs.constructor.templated_array.Goals as goal
 pub returns-then-is_empty : goal.returns-then-is_empty
 returns-then-is_empty c =
     subst (IsArrayMade (Some c.args.template.now) c.args.args.now) (sym c.in_ok-made-in-Some.ensures)
-        (subst (λ args. IsArrayMade (Some c.args.template.now) args _) (sym (empty_if c.args.args.now c.if-is_empty.ensures)) (IsArrayMade.zero_value c.args.template.now c.in-Some.is))
+        (subst (λ args. IsArrayMade (Some c.args.template.now) args (type.Array c.args.template.now.element (Some c.in-Some.count))) (sym (empty_if c.args.args.now c.if-is_empty.ensures)) (IsArrayMade.zero_value c.args.template.now c.in-Some.is))
 
 pub returns-in_ok-made-in-Some-2 : goal.returns-in_ok-made-in-Some-2
 returns-in_ok-made-in-Some-2 c =
