@@ -14,7 +14,11 @@ use wgsl_shader_type::{StructType, Type, convert_all_ty};
 use wgsl_type_operators::{CallSignature, Error, TpltParam};
 
 /// Whether the arguments are the values of a struct's members, or none for its zero value.
-pub fn typecheck_struct_ctor(alloc: Global, struct_type: &StructType, args: &[Type]) -> Result<(), Error>
+pub fn typecheck_struct_ctor(
+    alloc: Global,
+    struct_type: &StructType,
+    args: &[Type],
+) -> Result<(), Error>
     ensures { MatchResult result
         (λ _. FitStruct struct_type.now.members args.now)
         (λ error. (error ≡ Error.OutOfMemory) ⊎ ((args.now ≢ []) × (fit_members struct_type.now.members args.now ≡ false))) }
@@ -115,7 +119,11 @@ fn templated_array(alloc: Global, template: &ArrayTemplate, args: &[Type]) -> Re
 }
 
 /// The type of an array's constructor. No arguments without a template are `Todo`, other lists that make no array `Signature`.
-pub fn array_t(alloc: Global, template: Option<&ArrayTemplate>, args: &[Type]) -> Result<Type, Error>
+pub fn array_t(
+    alloc: Global,
+    template: Option<&ArrayTemplate>,
+    args: &[Type],
+) -> Result<Type, Error>
     ensures { IfOk result (IsArrayMade (option_copied template.entry) args.now) }
 {
     match template {
@@ -144,7 +152,12 @@ fn parts_of(alloc: Global, args: &[Type]) -> Result<(Items<Type>, u64), AllocErr
 }
 
 /// The type of a vector's constructor: of nothing, of one scalar, of one vector of that length, or of parts with as many components in all.
-pub fn vec_t(alloc: Global, n: u8, template: Option<&VecTemplate>, args: &[Type]) -> Result<Type, Error>
+pub fn vec_t(
+    alloc: Global,
+    n: u8,
+    template: Option<&VecTemplate>,
+    args: &[Type],
+) -> Result<Type, Error>
     ensures { IfOk result (λ made. IsTrue (is_vector made)) }
 {
     let (components, total) = parts_of(alloc, args)?;
@@ -210,7 +223,16 @@ pub fn is_ctor(name: &str) -> bool {
 fn is_left_out(name: &str) -> bool {
     matches!(
         name,
-        "f32" | "f16" | "vec2f" | "vec3f" | "vec4f" | "vec2h" | "vec3h" | "vec4h" | "atomic" | "sampler"
+        "f32"
+            | "f16"
+            | "vec2f"
+            | "vec3f"
+            | "vec4f"
+            | "vec2h"
+            | "vec3h"
+            | "vec4h"
+            | "atomic"
+            | "sampler"
             | "sampler_comparison"
     ) || name.starts_with("mat")
         || name.starts_with("texture_")
@@ -224,7 +246,11 @@ fn untemplated(alloc: Global, name: &str, template: Option<&[TpltParam]>) -> Res
 }
 
 /// The built-in type of a name and its template.
-pub fn builtin_type(alloc: Global, name: &str, template: Option<&[TpltParam]>) -> Result<Type, Error> {
+pub fn builtin_type(
+    alloc: Global,
+    name: &str,
+    template: Option<&[TpltParam]>,
+) -> Result<Type, Error> {
     if let Some(scalar) = scalar_name(name) {
         untemplated(alloc, name, template)?;
         return Ok(scalar);
@@ -288,7 +314,12 @@ fn scalar_t(alloc: Global, name: &str, scalar: Type, args: &[Type]) -> Result<Ty
 }
 
 /// The type of a constructor's call.
-pub fn type_ctor(alloc: Global, name: &str, template: Option<&[TpltParam]>, args: &[Type]) -> Result<Type, Error> {
+pub fn type_ctor(
+    alloc: Global,
+    name: &str,
+    template: Option<&[TpltParam]>,
+    args: &[Type],
+) -> Result<Type, Error> {
     if let Some(scalar) = scalar_name(name) {
         untemplated(alloc, name, template)?;
         return scalar_t(alloc, name, scalar, args);
