@@ -10,7 +10,11 @@ use wgsl_items::Items;
 use wgsl_shader_type::{Type, convert_all_ty, convert_ty};
 
 /// Two things at the common type of theirs, or nothing where they have none.
-pub fn convert<T: Convert>(alloc: Global, first: &T, second: &T) -> Result<Option<(T, T)>, AllocError>
+pub fn convert<T: Convert>(
+    alloc: Global,
+    first: &T,
+    second: &T,
+) -> Result<Option<(T, T)>, AllocError>
     ensures { IfOk result (λ found. found
         ≡ both_converted T.converted T.converted first.now second.now (common_of (T.type_of first.now) (T.type_of second.now))) }
 {
@@ -52,7 +56,11 @@ pub fn convert_inner<T: Convert, U: Convert>(
 }
 
 /// Each thing at a type, or nothing where one doesn't convert.
-pub fn convert_all_to<T: Convert>(alloc: Global, things: &[T], ty: &Type) -> Result<Option<Items<T>>, AllocError>
+pub fn convert_all_to<T: Convert>(
+    alloc: Global,
+    things: &[T],
+    ty: &Type,
+) -> Result<Option<Items<T>>, AllocError>
     ensures { IfOk result (λ found. found ≡ all_converted T.converted things.now ty.now) }
 {
     let mut made = Items::new(alloc);
@@ -66,7 +74,11 @@ pub fn convert_all_to<T: Convert>(alloc: Global, things: &[T], ty: &Type) -> Res
 }
 
 /// Each thing with its inner type converted, or nothing where one doesn't convert.
-pub fn convert_all_inner_to<T: Convert>(alloc: Global, things: &[T], ty: &Type) -> Result<Option<Items<T>>, AllocError>
+pub fn convert_all_inner_to<T: Convert>(
+    alloc: Global,
+    things: &[T],
+    ty: &Type,
+) -> Result<Option<Items<T>>, AllocError>
     ensures { IfOk result (λ found. found ≡ all_converted T.inner_converted things.now ty.now) }
 {
     let mut made = Items::new(alloc);

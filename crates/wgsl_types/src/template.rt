@@ -136,7 +136,10 @@ impl PtrTemplate {
             (λ error. (error ≡ Error.OutOfMemory) ⊎ (spec.pointer_reading params.now ≡ None)) }
     {
         match params {
-            [TpltParam::Enumerant(Enumerant::AddressSpace(space)), TpltParam::Ty(ty)] => Ok(PtrTemplate {
+            [
+                TpltParam::Enumerant(Enumerant::AddressSpace(space)),
+                TpltParam::Ty(ty),
+            ] => Ok(PtrTemplate {
                 space: *space,
                 stored: ty.clone(alloc)?,
                 access: space.default_access_mode(),

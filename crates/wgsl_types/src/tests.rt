@@ -1,6 +1,8 @@
 use crate::{
-    AccessMode, AddressSpace, BinaryOperator, BuiltinValue, Enumerant, Error, ShaderType, StructMemberType, StructType,
-    Type, TypeOperators, conversion_rank, convert_all_ty, convert_ty, type_binary_op,
+    AccessMode, AddressSpace, ArrayTemplate, BinaryOperator, BuiltinValue, Enumerant, Error,
+    LiteralInstance, ShaderType, StructMemberType, StructType, TpltParam, Type, TypeOperators,
+    builtin_type, conversion_rank, convert, convert_all, convert_all_ty, convert_ty, is_ctor,
+    type_binary_op, type_ctor, typecheck_struct_ctor,
 };
 use std::alloc::{AllocError, Global};
 use std::test::Fail;
@@ -30,7 +32,10 @@ fn common_types(rt: HostRuntime) -> Result<(), Fail> {
     let none = vec![in rt.alloc(); Type::AbstractInt, Type::I32, Type::U32]?;
     assert_eq!(rt; convert_all_ty(none.as_slice()), None);
     assert_eq!(rt; convert_ty(&Type::I32, &Type::U32), None);
-    assert_eq!(rt; convert_ty(&Type::AbstractInt, &Type::U32), Some(&Type::U32));
+    assert_eq!(rt;
+        convert_ty(&Type::AbstractInt, &Type::U32),
+        Some(&Type::U32)
+    );
     Ok(())
 }
 
@@ -100,7 +105,11 @@ fn ranks_are_least_sums(rt: HostRuntime) -> Result<(), Fail> {
                     let expected = if n == m { least_sum(from, to, 5) } else { None };
                     let first = shaped(rt.alloc(), n, from)?;
                     let second = shaped(rt.alloc(), m, to)?;
-                    assert_eq!(rt; conversion_rank(&first, &second), expected, "{first} to {second}");
+                    assert_eq!(rt;
+                        conversion_rank(&first, &second),
+                        expected,
+                        "{first} to {second}"
+                    );
                 }
             }
         }
@@ -144,7 +153,10 @@ fn alignment_zero(rt: HostRuntime) -> Result<(), Fail> {
 fn operators(rt: HostRuntime) -> Result<(), Fail> {
     let alloc = rt.alloc();
     assert_eq!(rt; Type::AbstractInt.op_bitor(alloc, &Type::U32)?, Type::U32);
-    assert_eq!(rt; Type::AbstractInt.op_shl(alloc, &Type::AbstractInt)?, Type::AbstractInt);
+    assert_eq!(rt;
+        Type::AbstractInt.op_shl(alloc, &Type::AbstractInt)?,
+        Type::AbstractInt
+    );
     let ints = vector(alloc, 2, Type::I32)?;
     let truths = vector(alloc, 2, Type::Bool)?;
     assert_eq!(rt; ints.op_eq(alloc, &ints)?, truths);
@@ -163,9 +175,16 @@ fn operators(rt: HostRuntime) -> Result<(), Fail> {
 #[test]
 fn pointers(rt: HostRuntime) -> Result<(), Fail> {
     let alloc = rt.alloc();
-    let place = ShaderType::Ref(AddressSpace::Storage, Boxed::new(alloc, Type::U32)?, AccessMode::ReadWrite);
+    let place = ShaderType::Ref(
+        AddressSpace::Storage,
+        Boxed::new(alloc, Type::U32)?,
+        AccessMode::ReadWrite,
+    );
     let pointer = place.op_ref(alloc)?;
-    assert_eq!(rt; pointer.to_string(alloc)?.as_str(), "ptr<storage, u32, read_write>");
+    assert_eq!(rt;
+        pointer.to_string(alloc)?.as_str(),
+        "ptr<storage, u32, read_write>"
+    );
     assert_eq!(rt; pointer.op_deref(alloc)?, place);
     assert_eq!(rt; place.loaded(alloc)?, Type::U32);
     assert!(rt; Type::U32.op_neg(alloc).is_err());
@@ -181,11 +200,111 @@ fn texts(rt: HostRuntime) -> Result<(), Fail> {
     let ty = array(alloc, vector(alloc, 2, Type::I32)?, Some(3))?;
     assert_eq!(rt; ty.to_string(alloc)?.as_str(), "array<vec2<i32>, 3>");
     assert_eq!(rt; ty.concretize(alloc)?, ty);
-    let pointer = ShaderType::Ptr(AddressSpace::Function, Boxed::new(alloc, Type::U32)?, AccessMode::ReadWrite);
+    let pointer = ShaderType::Ptr(
+        AddressSpace::Function,
+        Boxed::new(alloc, Type::U32)?,
+        AccessMode::ReadWrite,
+    );
     assert_eq!(rt; pointer.to_string(alloc)?.as_str(), "ptr<function, u32>");
-    assert_eq!(rt; "read_write".parse::<Enumerant>().ok(), Some(Enumerant::AccessMode(AccessMode::ReadWrite)));
+    assert_eq!(rt;
+        "read_write".parse::<Enumerant>().ok(),
+        Some(Enumerant::AccessMode(AccessMode::ReadWrite))
+    );
     assert_eq!(rt; "handle".parse::<AddressSpace>().ok(), None);
-    assert_eq!(rt; "position".parse::<BuiltinValue>().ok(), Some(BuiltinValue::Position));
-    assert_eq!(rt; AddressSpace::Uniform.default_access_mode(), AccessMode::Read);
+    assert_eq!(rt;
+        "position".parse::<BuiltinValue>().ok(),
+        Some(BuiltinValue::Position)
+    );
+    assert_eq!(rt;
+        AddressSpace::Uniform.default_access_mode(),
+        AccessMode::Read
+    );
+    Ok(())
+}
+
+#[test]
+fn templates(rt: HostRuntime) -> Result<(), Fail> {
+    let alloc = rt.alloc();
+    let counted = vec![in alloc;
+        TpltParam::Ty(Type::U32),
+        TpltParam::Instance(LiteralInstance::AbstractInt(2)),
+    ]?;
+    let read = ArrayTemplate::parse(alloc, counted.as_slice())?;
+    assert_eq!(rt; read.ty(alloc)?, array(alloc, Type::U32, Some(2))?);
+    let zero = vec![in alloc;
+        TpltParam::Ty(Type::U32),
+        TpltParam::Instance(LiteralInstance::I32(0)),
+    ]?;
+    match ArrayTemplate::parse(alloc, zero.as_slice()) {
+        Err(Error::Todo(_)) => {}
+        _ => panic!(rt; "a count of 0"),
+    }
+    let negative = vec![in alloc;
+        TpltParam::Ty(Type::U32),
+        TpltParam::Instance(LiteralInstance::AbstractInt(-1)),
+    ]?;
+    match ArrayTemplate::parse(alloc, negative.as_slice()) {
+        Err(Error::TemplateArgs(_)) => {}
+        _ => panic!(rt; "a count below 0"),
+    }
+    let places = vec![in alloc;
+        TpltParam::Enumerant(Enumerant::AddressSpace(AddressSpace::Storage)),
+        TpltParam::Ty(Type::U32),
+    ]?;
+    let pointer = builtin_type(alloc, "ptr", Some(places.as_slice()))?;
+    assert_eq!(rt;
+        pointer.to_string(alloc)?.as_str(),
+        "ptr<storage, u32, read>"
+    );
+    Ok(())
+}
+
+#[test]
+fn constructors(rt: HostRuntime) -> Result<(), Fail> {
+    let alloc = rt.alloc();
+    assert!(rt; is_ctor("vec3u"));
+    assert!(rt; !is_ctor("ptr"));
+    assert_eq!(rt; type_ctor(alloc, "i32", None, &[])?, Type::I32);
+    let parts = vec![in alloc; Type::AbstractInt, Type::U32]?;
+    assert_eq!(rt;
+        type_ctor(alloc, "vec2", None, parts.as_slice())?,
+        vector(alloc, 2, Type::U32)?
+    );
+    assert_eq!(rt;
+        type_ctor(alloc, "array", None, parts.as_slice())?,
+        array(alloc, Type::U32, Some(2))?
+    );
+    match type_ctor(alloc, "vec4", None, parts.as_slice()) {
+        Err(Error::Signature(_)) => {}
+        _ => panic!(rt; "two parts of four"),
+    }
+    match builtin_type(alloc, "f32", None) {
+        Err(Error::Todo(_)) => {}
+        _ => panic!(rt; "floats are left out"),
+    }
+    let mut members = Items::new(alloc);
+    members.push(member(alloc, "a", Type::U32)?)?;
+    let made = StructType::new(Text::from_str(alloc, "S")?, members);
+    typecheck_struct_ctor(alloc, &made, &[])?;
+    match typecheck_struct_ctor(alloc, &made, parts.as_slice()) {
+        Err(Error::ParamCount(_, 1, 2)) => {}
+        _ => panic!(rt; "two values for one member"),
+    }
+    Ok(())
+}
+
+#[test]
+fn conversions(rt: HostRuntime) -> Result<(), Fail> {
+    let alloc = rt.alloc();
+    assert_eq!(rt;
+        convert(alloc, &Type::AbstractInt, &Type::I32)?,
+        Some((Type::I32, Type::I32))
+    );
+    assert_eq!(rt; convert(alloc, &Type::U32, &Type::I32)?, None);
+    let types = vec![in alloc; Type::AbstractInt, Type::U32]?;
+    match convert_all(alloc, types.as_slice())? {
+        Some(all) => assert_eq!(rt; all.len(), 2),
+        None => panic!(rt; "they have a common type"),
+    }
     Ok(())
 }
