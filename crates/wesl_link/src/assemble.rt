@@ -5,9 +5,9 @@ use crate::module::{Module, declared_name};
 use crate::naming::ModuleNaming;
 use crate::rename::renamed_declaration;
 use crate::rounds::Resolutions;
-use wesl_resolve::BasicSourceMap;
 use std::alloc::{AllocError, Global};
 use std::collections::BTreeMap;
+use wesl_resolve::BasicSourceMap;
 use wgsl_items::{Items, Text};
 use wgsl_path::{ModulePath, Spanned};
 use wgsl_syntax::{GlobalDeclarationNode, TranslationUnit};
@@ -21,7 +21,10 @@ pub struct HeldModule<'a> {
 
 impl Resolutions {
     /// The modules with held declarations: the root, then the others in byte order of their printed paths.
-    pub(crate) fn held_modules<'a>(&'a self, alloc: Global) -> Result<Vec<HeldModule<'a>>, AllocError> {
+    pub(crate) fn held_modules<'a>(
+        &'a self,
+        alloc: Global,
+    ) -> Result<Vec<HeldModule<'a>>, AllocError> {
         let mut modules = Vec::new(alloc);
         if let Some(places) = self.held.get(self.root.as_str()) {
             push_module(&mut modules, self, self.root.as_str(), places)?;
@@ -69,7 +72,10 @@ impl Resolutions {
 
     /// The paths of the loaded modules.
     pub fn paths<'a>(&'a self, alloc: Global) -> Result<Vec<&'a ModulePath>, AllocError> {
-        self.modules.values().map(|module| &module.path).collect(alloc)
+        self.modules
+            .values()
+            .map(|module| &module.path)
+            .collect(alloc)
     }
 
     /// Records each held symbol under its name in the linked unit.

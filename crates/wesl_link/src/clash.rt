@@ -116,7 +116,10 @@ fn sharing_of<'a>(alloc: Global, modules: &[HeldModule<'a>]) -> Result<Sharing<'
 }
 
 /// The scope of a declaration's body.
-fn scope_of<'a>(alloc: Global, declaration: &'a GlobalDeclaration) -> Result<Scope<'a>, AllocError> {
+fn scope_of<'a>(
+    alloc: Global,
+    declaration: &'a GlobalDeclaration,
+) -> Result<Scope<'a>, AllocError> {
     match declaration {
         GlobalDeclaration::Declaration(_) => Ok(Scope::module(alloc)),
         GlobalDeclaration::Function(function) => Scope::body(alloc, function.parameters.as_slice()),

@@ -43,7 +43,11 @@ impl Module {
     ghost use Rattle.wesl_link.specs.Tables.{declaration_at};
 
     /// A module with the table of its names. It is refused where a name is declared or imported twice.
-    pub fn new(alloc: Global, path: &ModulePath, unit: TranslationUnit) -> Result<Module, ImportError> {
+    pub fn new(
+        alloc: Global,
+        path: &ModulePath,
+        unit: TranslationUnit,
+    ) -> Result<Module, ImportError> {
         let meanings = meanings_of(alloc, path, &unit)?;
         Ok(Module {
             path: path.clone_in(alloc)?,
@@ -68,7 +72,13 @@ fn meanings_of(
     let mut meanings = BTreeMap::new(alloc);
     for import in unit.imports.as_slice() {
         let target = target_of(alloc, path, import)?;
-        add_meaning(alloc, path, &mut meanings, local_name(import), Meaning::Imported(target))?;
+        add_meaning(
+            alloc,
+            path,
+            &mut meanings,
+            local_name(import),
+            Meaning::Imported(target),
+        )?;
     }
     for (place, declaration) in unit.global_declarations.as_slice().iter().enumerate() {
         let name = declared_name(declaration.node());
@@ -103,7 +113,11 @@ fn local_name(import: &ImportStatement) -> &str {
 }
 
 /// What an import names. One without a path names an item of the module itself.
-fn target_of(alloc: Global, path: &ModulePath, import: &ImportStatement) -> Result<Target, AllocError> {
+fn target_of(
+    alloc: Global,
+    path: &ModulePath,
+    import: &ImportStatement,
+) -> Result<Target, AllocError> {
     let module = match &import.path {
         Some(path) => path.clone_in(alloc)?,
         None => path.clone_in(alloc)?,
@@ -140,7 +154,5 @@ pub fn entry_points(alloc: Global, unit: &TranslationUnit) -> Result<Vec<Text>, 
 }
 
 fn is_stage(attributes: &[wgsl_syntax::AttributeNode]) -> bool {
-    attributes
-        .iter()
-        .any(|attribute| matches!(attribute.node(), Attribute::Fragment))
+    attributes.iter().any(|attribute| matches!(attribute.node(), Attribute::Fragment))
 }

@@ -13,9 +13,9 @@ ghost use Rattle.wgsl_syntax.specs.declared.declaration.GlobalDeclaration.TheVar
 use std::alloc::{AllocError, Global};
 use std::collections::BTreeSet;
 use wgsl_syntax::{
-    Attribute, AttributeNode, Attributes, CompoundStatement, Declaration, Expression, ExpressionNode,
-    FormalParameter, Function, FunctionCall, GlobalDeclaration, ModulePath, Statement,
-    StatementNode, TemplateArg, TemplateArgs, TypeExpression,
+    Attribute, AttributeNode, Attributes, CompoundStatement, Declaration, Expression,
+    ExpressionNode, FormalParameter, Function, FunctionCall, GlobalDeclaration, ModulePath,
+    Statement, StatementNode, TemplateArg, TemplateArgs, TypeExpression,
 };
 
 /// The parameters whose names a place of a declaration sees.
@@ -87,7 +87,11 @@ pub fn occurrences_after<'a>(
 ) -> Result<Vec<Occurrence<'a>>, AllocError> {
     let mut found = Vec::new(alloc);
     match declaration {
-        GlobalDeclaration::Declaration(declaration) => add_declaration(alloc, &mut found, declaration)?,
+        GlobalDeclaration::Declaration(declaration) => add_declaration(
+            alloc,
+            &mut found,
+            declaration,
+        )?,
         GlobalDeclaration::Function(function) => add_function(alloc, &mut found, function)?,
     }
     Ok(found)

@@ -13,10 +13,10 @@ use std::alloc::{AllocError, Global};
 use wgsl_items::{CloneIn, Items, Text};
 use wgsl_path::{Ident, Spanned};
 use wgsl_syntax::{
-    Attribute, AttributeNode, Attributes, BinaryExpression, CompoundStatement, Declaration, Expression,
-    ExpressionNode, FormalParameter, Function, FunctionCall, GlobalDeclaration, ModulePath,
-    ParenthesizedExpression, ReturnStatement, Statement, StatementNode, TemplateArg, TemplateArgs,
-    TypeExpression, UnaryExpression,
+    Attribute, AttributeNode, Attributes, BinaryExpression, CompoundStatement, Declaration,
+    Expression, ExpressionNode, FormalParameter, Function, FunctionCall, GlobalDeclaration,
+    ModulePath, ParenthesizedExpression, ReturnStatement, Statement, StatementNode, TemplateArg,
+    TemplateArgs, TypeExpression, UnaryExpression,
 };
 
 /// A declaration under a new name, every name in it renamed.
@@ -27,12 +27,9 @@ pub fn renamed_declaration<N: Naming + Copy>(
     declaration: &GlobalDeclaration,
 ) -> Result<GlobalDeclaration, AllocError> {
     match declaration {
-        GlobalDeclaration::Declaration(declaration) => Ok(GlobalDeclaration::Declaration(renamed_value(
-            alloc,
-            &naming,
-            name,
-            declaration,
-        )?)),
+        GlobalDeclaration::Declaration(declaration) => Ok(GlobalDeclaration::Declaration(
+            renamed_value(alloc, &naming, name, declaration)?,
+        )),
         GlobalDeclaration::Function(function) => {
             Ok(GlobalDeclaration::Function(renamed_function(alloc, naming, name, function)?))
         }
@@ -257,8 +254,12 @@ fn renamed_expression<N: Naming>(
             operand: renamed_node(alloc, naming, &x.operand)?,
         })),
         Expression::Binary(x) => Ok(Expression::Binary(renamed_binary(alloc, naming, x)?)),
-        Expression::FunctionCall(x) => Ok(Expression::FunctionCall(renamed_call(alloc, naming, x)?)),
-        Expression::TypeOrIdentifier(x) => Ok(Expression::TypeOrIdentifier(renamed_type(alloc, naming, x)?)),
+        Expression::FunctionCall(x) => Ok(Expression::FunctionCall(renamed_call(
+            alloc, naming, x,
+        )?)),
+        Expression::TypeOrIdentifier(x) => Ok(Expression::TypeOrIdentifier(renamed_type(
+            alloc, naming, x,
+        )?)),
     }
 }
 
@@ -270,7 +271,11 @@ fn renamed_node<N: Naming>(
 ) -> Result<ExpressionNode, AllocError>
     ensures { IfOk result (λ renamed. node_tree renamed ≡ spec.renamed (N.gives naming.now) (node_tree node.now)) }
 {
-    Spanned::new(alloc, renamed_expression(alloc, naming, node.node())?, node.span)
+    Spanned::new(
+        alloc,
+        renamed_expression(alloc, naming, node.node())?,
+        node.span,
+    )
 }
 
 #[cycle(renaming)]
@@ -306,7 +311,11 @@ fn renamed_binary<N: Naming>(
 
 #[cycle(renaming)]
 #[tactic(auto, using(crate::proofs::Renames::renames_call))]
-fn renamed_call<N: Naming>(alloc: Global, naming: &N, x: &FunctionCall) -> Result<FunctionCall, AllocError>
+fn renamed_call<N: Naming>(
+    alloc: Global,
+    naming: &N,
+    x: &FunctionCall,
+) -> Result<FunctionCall, AllocError>
     ensures { IfOk result (λ renamed. tree (variants.FunctionCall renamed) ≡ spec.renamed (N.gives naming.now) (tree (variants.FunctionCall x.now))) }
 {
     Ok(FunctionCall {

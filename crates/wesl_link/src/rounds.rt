@@ -2,12 +2,11 @@
 
 use crate::denote::{Denoted, Item, Symbol, denotation, item_of, symbol_at};
 use crate::error::ImportError;
-use wesl_resolve::EscapeMangler;
 use crate::module::{Module, Modules, Target, declared_name, entry_points};
 use crate::occurrence::occurrences;
-use wesl_resolve::Resolver;
 use std::alloc::{AllocError, Global};
 use std::collections::{BTreeMap, BTreeSet};
+use wesl_resolve::{EscapeMangler, Resolver};
 use wgsl_items::{CloneIn, Items, Text};
 use wgsl_path::ModulePath;
 use wgsl_syntax::TranslationUnit;
@@ -55,7 +54,14 @@ pub fn resolve_lazy<R: Resolver>(
     let mut modules = Modules::new(alloc);
     modules.insert(root.clone()?, Module::new(alloc, path, unit)?)?;
     let mut held = Held::new(alloc);
-    let mut asked = close_root(alloc, &modules, root.as_str(), path, kept.as_slice(), &mut held)?;
+    let mut asked = close_root(
+        alloc,
+        &modules,
+        root.as_str(),
+        path,
+        kept.as_slice(),
+        &mut held,
+    )?;
     for _round in 1..max_modules {
         if asked.is_empty() {
             break;
@@ -65,11 +71,19 @@ pub fn resolve_lazy<R: Resolver>(
     }
     match asked.first_key_value() {
         Some((_, module)) => Err(ImportError::TooManyModules(module.path.clone_in(alloc)?)),
-        None => Ok(Resolutions { modules, root, held }),
+        None => Ok(Resolutions {
+            modules,
+            root,
+            held,
+        }),
     }
 }
 
-fn kept_names(alloc: Global, keep: &[Text], unit: &TranslationUnit) -> Result<Items<Text>, AllocError> {
+fn kept_names(
+    alloc: Global,
+    keep: &[Text],
+    unit: &TranslationUnit,
+) -> Result<Items<Text>, AllocError> {
     if keep.is_empty() {
         return Ok(Items::from_vec(entry_points(alloc, unit)?));
     }
@@ -240,7 +254,9 @@ fn printed_name(alloc: Global, root: &str, symbol: Symbol<'_>) -> Result<Text, A
 fn ask(alloc: Global, asked: &mut Asked, target: &Target) -> Result<(), AllocError> {
     if let Some(module) = asked.get_mut(target.text.as_str()) {
         if !module.names.contains(target.item.as_str()) {
-            module.names.insert(String::from_str(alloc, target.item.as_str())?)?;
+            module
+                .names
+                .insert(String::from_str(alloc, target.item.as_str())?)?;
         }
         return Ok(());
     }
@@ -255,7 +271,11 @@ fn ask(alloc: Global, asked: &mut Asked, target: &Target) -> Result<(), AllocErr
 }
 
 /// The first occurrence in what is held that denotes nothing, by printed path of the module and then place.
-fn first_missing(alloc: Global, modules: &Modules, held: &Held) -> Result<Option<ImportError>, AllocError> {
+fn first_missing(
+    alloc: Global,
+    modules: &Modules,
+    held: &Held,
+) -> Result<Option<ImportError>, AllocError> {
     for (text, places) in held {
         let Some(module) = modules.get(text.as_str()) else {
             continue;
@@ -273,7 +293,11 @@ fn first_missing(alloc: Global, modules: &Modules, held: &Held) -> Result<Option
 }
 
 /// The first occurrence in a declaration that denotes nothing.
-fn missing_in(alloc: Global, modules: &Modules, symbol: Symbol<'_>) -> Result<Option<ImportError>, AllocError> {
+fn missing_in(
+    alloc: Global,
+    modules: &Modules,
+    symbol: Symbol<'_>,
+) -> Result<Option<ImportError>, AllocError> {
     for occurrence in occurrences(alloc, symbol.declaration)? {
         match denotation(modules, symbol.module, occurrence.name) {
             Denoted::Missing(target) => {

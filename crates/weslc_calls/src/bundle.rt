@@ -185,7 +185,10 @@ fn read_max_modules(members: &Members) -> Result<u32, BundleError> {
 }
 
 /// All modules; the first that stands at the path of an earlier one is refused.
-fn resolver_of(alloc: Global, modules: Vec<(ModulePath, Text)>) -> Result<VirtualResolver, BundleError> {
+fn resolver_of(
+    alloc: Global,
+    modules: Vec<(ModulePath, Text)>,
+) -> Result<VirtualResolver, BundleError> {
     let mut resolver = VirtualResolver::new(alloc);
     for (path, text) in modules {
         if resolver.contains(&path)? {

@@ -76,7 +76,10 @@ impl Concern {
 }
 
 impl CompileError {
-    pub fn too_many_modules(alloc: Global, module: &ModulePath) -> Result<CompileError, AllocError> {
+    pub fn too_many_modules(
+        alloc: Global,
+        module: &ModulePath,
+    ) -> Result<CompileError, AllocError> {
         Ok(CompileError::TooManyModules(Concern::of_module(module.clone_in(alloc)?)))
     }
 
@@ -125,7 +128,10 @@ impl From<ResolveError> for CompileError {
             ResolveError::ModuleNotFound(module) => {
                 CompileError::Resolve(Concern::of_module(module), ResolveKind::ModuleNotFound)
             }
-            ResolveError::Syntax(module, error) => CompileError::Syntax(Concern::of_module(module), error),
+            ResolveError::Syntax(module, error) => CompileError::Syntax(
+                Concern::of_module(module),
+                error,
+            ),
             ResolveError::OutOfMemory => CompileError::OutOfMemory,
         }
     }
@@ -134,7 +140,9 @@ impl From<ResolveError> for CompileError {
 impl From<ImportError> for CompileError {
     fn from(error: ImportError) -> CompileError {
         match error {
-            ImportError::TooManyModules(module) => CompileError::TooManyModules(Concern::of_module(module)),
+            ImportError::TooManyModules(module) => CompileError::TooManyModules(Concern::of_module(
+                module,
+            )),
             ImportError::Resolve(error) => CompileError::from(error),
             ImportError::DuplicateSymbol(module, name) => {
                 CompileError::Import(Concern::of_item(module, name), ImportKind::DuplicateSymbol)

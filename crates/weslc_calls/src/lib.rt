@@ -8,7 +8,6 @@ mod input;
 mod options;
 mod resolver;
 mod serve;
-
 #[cfg(test)]
 mod tests;
 

@@ -67,7 +67,11 @@ impl Resolver for VirtualResolver {
         Ok(Text::from_str(alloc, self.get_module(path)?)?)
     }
 
-    fn resolve_module(&mut self, alloc: Global, path: &ModulePath) -> Result<TranslationUnit, ResolveError> {
+    fn resolve_module(
+        &mut self,
+        alloc: Global,
+        path: &ModulePath,
+    ) -> Result<TranslationUnit, ResolveError> {
         match parse_str(alloc, self.get_module(path)?) {
             Ok(unit) => Ok(unit),
             Err(error) => match error.kind {

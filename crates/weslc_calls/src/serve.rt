@@ -5,9 +5,8 @@ use crate::calls::link;
 use crate::error::{CompileError, Concern};
 use crate::input::{InputError, read_input};
 use std::alloc::Global;
-use std::fmt;
-use std::io;
 use std::io::{Read, Write};
+use std::{fmt, io};
 use wgsl_items::Text;
 use wgsl_parse::{ErrorKind, Span};
 use wgsl_path::ModulePath;
@@ -119,7 +118,10 @@ fn write_bundle_error<E: Write>(errors: &mut E, error: &BundleError) -> io::Resu
         BundleError::NotAnObject => errors.write_all(b"error: Bundle - - - -\n"),
         BundleError::UnknownKey(key) => writeln!(errors, "error: Bundle - - - {key}"),
         BundleError::Value(key) => writeln!(errors, "error: Bundle - - - {key}"),
-        BundleError::DuplicateModule(path) => writeln!(errors, "error: DuplicateModule {path} - - -"),
+        BundleError::DuplicateModule(path) => writeln!(
+            errors,
+            "error: DuplicateModule {path} - - -"
+        ),
         BundleError::OutOfMemory => errors.write_all(b"error: OutOfMemory - - - -\n"),
     }
 }
@@ -162,7 +164,11 @@ fn syntax_kind(kind: ErrorKind) -> &'static str {
 }
 
 /// The rest of an error line: module, declaration, place and name.
-fn write_concern<E: Write>(errors: &mut E, concern: &Concern, span: Option<Span>) -> io::Result<()> {
+fn write_concern<E: Write>(
+    errors: &mut E,
+    concern: &Concern,
+    span: Option<Span>,
+) -> io::Result<()> {
     let module: OrDash<'_, ModulePath> = OrDash(concern.module.as_ref());
     let decl: OrDash<'_, Text> = OrDash(concern.decl.as_ref());
     let name: OrDash<'_, Text> = OrDash(concern.name.as_ref());

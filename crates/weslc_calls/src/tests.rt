@@ -12,9 +12,11 @@ use wesl_link::{EscapeMangler, SourceMap};
 use wgsl_items::Text;
 use wgsl_path::ModulePath;
 
-const TWO_MODULES: &str = r#"{"command":"link","root":"package","modules":[{"path":"package","text":"import package::m::two; fn g() -> u32 { return two + 1; }"},{"path":"package::m","text":"const two = 2;"}],"keep":["g"]}"#;
+const TWO_MODULES: &str =
+    r#"{"command":"link","root":"package","modules":[{"path":"package","text":"import package::m::two; fn g() -> u32 { return two + 1; }"},{"path":"package::m","text":"const two = 2;"}],"keep":["g"]}"#;
 
-const LINKED: &str = "fn g() -> u32 {\n    return package_m_two + 1;\n}\nconst package_m_two = 2;\n";
+const LINKED: &str =
+    "fn g() -> u32 {\n    return package_m_two + 1;\n}\nconst package_m_two = 2;\n";
 
 /// The text, the error line and the status that a bundle gives.
 #[derive(Drop)]
@@ -38,7 +40,9 @@ fn served<R: AllocGlobal>(rt: &R, bundle: &str) -> Result<Answer, Fail> {
 
 /// A bundle of a root and the module `package::m`, with more keys behind `modules`.
 fn bundle_of<R: AllocGlobal>(rt: &R, root: &str, m: &str, more: &str) -> Result<String, Fail> {
-    Ok(format!(in rt.alloc(); r#"{{"command":"link","root":"package","modules":[{{"path":"package","text":"{root}"}},{{"path":"package::m","text":"{m}"}}]{more}}}"#)?)
+    Ok(format!(in rt.alloc();
+        r#"{{"command":"link","root":"package","modules":[{{"path":"package","text":"{root}"}},{{"path":"package::m","text":"{m}"}}]{more}}}"#
+    )?)
 }
 
 fn assert_text<R: Abort + AllocGlobal>(rt: &R, bundle: &str, text: &str) -> Result<(), Fail> {
@@ -49,7 +53,12 @@ fn assert_text<R: Abort + AllocGlobal>(rt: &R, bundle: &str, text: &str) -> Resu
     Ok(())
 }
 
-fn assert_line<R: Abort + AllocGlobal>(rt: &R, bundle: &str, line: &str, status: u8) -> Result<(), Fail> {
+fn assert_line<R: Abort + AllocGlobal>(
+    rt: &R,
+    bundle: &str,
+    line: &str,
+    status: u8,
+) -> Result<(), Fail> {
     let answer = served(rt, bundle)?;
     assert_eq!(rt; answer.text.as_str(), "", "{bundle}");
     assert_eq!(rt; answer.line.as_str(), line, "{bundle}");
@@ -69,14 +78,24 @@ fn unused_imports_load_nothing(rt: HostRuntime) -> Result<(), Fail> {
     assert_text(&rt, bundle.as_str(), "fn g() {}\n")?;
     let root = "import package::m::gone; fn g() -> u32 { return gone; }";
     let bundle = bundle_of(&rt, root, "const two = 2;", r#","keep":["g"]"#)?;
-    assert_line(&rt, bundle.as_str(), "error: Import.MissingDecl package::m - - gone\n", 1)
+    assert_line(
+        &rt,
+        bundle.as_str(),
+        "error: Import.MissingDecl package::m - - gone\n",
+        1,
+    )
 }
 
 #[test]
 fn names_a_private_import(rt: HostRuntime) -> Result<(), Fail> {
     let root = "import package::m::y; fn g() -> u32 { return y; }";
     let bundle = bundle_of(&rt, root, "import package::n::y;", r#","keep":["g"]"#)?;
-    assert_line(&rt, bundle.as_str(), "error: Import.Private package::m - - y\n", 1)
+    assert_line(
+        &rt,
+        bundle.as_str(),
+        "error: Import.Private package::m - - y\n",
+        1,
+    )
 }
 
 #[test]
@@ -84,9 +103,19 @@ fn counts_modules(rt: HostRuntime) -> Result<(), Fail> {
     let root = "import package::m::two; fn g() -> u32 { return two + 1; }";
     let m = "const two = 2;";
     let bundle = bundle_of(&rt, root, m, r#","keep":["g"],"max_modules":1"#)?;
-    assert_line(&rt, bundle.as_str(), "error: TooManyModules package::m - - -\n", 1)?;
+    assert_line(
+        &rt,
+        bundle.as_str(),
+        "error: TooManyModules package::m - - -\n",
+        1,
+    )?;
     let bundle = bundle_of(&rt, root, m, r#","keep":["g"],"max_modules":0"#)?;
-    assert_line(&rt, bundle.as_str(), "error: TooManyModules package - - -\n", 1)?;
+    assert_line(
+        &rt,
+        bundle.as_str(),
+        "error: TooManyModules package - - -\n",
+        1,
+    )?;
     let bundle = bundle_of(&rt, root, m, r#","keep":["g"],"max_modules":2"#)?;
     assert_text(&rt, bundle.as_str(), LINKED)
 }
@@ -100,28 +129,59 @@ fn an_empty_root_gives_an_empty_text(rt: HostRuntime) -> Result<(), Fail> {
 #[test]
 fn names_what_is_not_there(rt: HostRuntime) -> Result<(), Fail> {
     let bundle = bundle_of(&rt, "fn g() {}", "", r#","keep":["g","h"]"#)?;
-    assert_line(&rt, bundle.as_str(), "error: Import.MissingDecl package - - h\n", 1)?;
+    assert_line(
+        &rt,
+        bundle.as_str(),
+        "error: Import.MissingDecl package - - h\n",
+        1,
+    )?;
     let root = "import package::n::y; fn g() -> u32 { return y; }";
     let bundle = bundle_of(&rt, root, "", r#","keep":["g"]"#)?;
-    assert_line(&rt, bundle.as_str(), "error: Resolve.ModuleNotFound package::n - - -\n", 1)
+    assert_line(
+        &rt,
+        bundle.as_str(),
+        "error: Resolve.ModuleNotFound package::n - - -\n",
+        1,
+    )
 }
 
 #[test]
 fn names_the_first_fault_of_a_text(rt: HostRuntime) -> Result<(), Fail> {
     let bundle = bundle_of(&rt, "fn g() {} fn g() {}", "", r#","keep":["g"]"#)?;
-    assert_line(&rt, bundle.as_str(), "error: Import.DuplicateSymbol package - - g\n", 1)?;
+    assert_line(
+        &rt,
+        bundle.as_str(),
+        "error: Import.DuplicateSymbol package - - g\n",
+        1,
+    )?;
     let bundle = bundle_of(&rt, "fn g(", "", r#","keep":["g"]"#)?;
-    assert_line(&rt, bundle.as_str(), "error: Syntax.UnexpectedEof package - 5..5 -\n", 1)
+    assert_line(
+        &rt,
+        bundle.as_str(),
+        "error: Syntax.UnexpectedEof package - 5..5 -\n",
+        1,
+    )
 }
 
 #[test]
 fn names_a_clash(rt: HostRuntime) -> Result<(), Fail> {
     let root = "import package::m::two; fn g(package_m_two: u32) -> u32 { return two; }";
     let bundle = bundle_of(&rt, root, "const two = 2;", r#","keep":["g"]"#)?;
-    assert_line(&rt, bundle.as_str(), "error: NameClash - - - package_m_two\n", 1)?;
-    let root = "import package::m::two; const package_m_two = 1; fn g() -> u32 { return two + package_m_two; }";
+    assert_line(
+        &rt,
+        bundle.as_str(),
+        "error: NameClash - - - package_m_two\n",
+        1,
+    )?;
+    let root =
+        "import package::m::two; const package_m_two = 1; fn g() -> u32 { return two + package_m_two; }";
     let bundle = bundle_of(&rt, root, "const two = 2;", r#","keep":["g"]"#)?;
-    assert_line(&rt, bundle.as_str(), "error: NameClash - - - package_m_two\n", 1)
+    assert_line(
+        &rt,
+        bundle.as_str(),
+        "error: NameClash - - - package_m_two\n",
+        1,
+    )
 }
 
 #[test]
@@ -131,8 +191,14 @@ fn maps_back_to_the_modules(rt: HostRuntime) -> Result<(), Fail> {
     let root = ModulePath::from_str(alloc, "package")?;
     let m = ModulePath::from_str(alloc, "package::m")?;
     let root_text = "import package::m::two; fn g() -> u32 { return two + 1; }";
-    resolver.add_module(ModulePath::from_str(alloc, "package")?, Text::from_str(alloc, root_text)?)?;
-    resolver.add_module(ModulePath::from_str(alloc, "package::m")?, Text::from_str(alloc, "const two = 2;")?)?;
+    resolver.add_module(
+        ModulePath::from_str(alloc, "package")?,
+        Text::from_str(alloc, root_text)?,
+    )?;
+    resolver.add_module(
+        ModulePath::from_str(alloc, "package::m")?,
+        Text::from_str(alloc, "const two = 2;")?,
+    )?;
     let mut options = Options::new(alloc);
     options.keep.push(Text::from_str(alloc, "g")?)?;
     let (text, map) = link(alloc, &mut resolver, &root, &options)?;
@@ -153,21 +219,48 @@ fn refuses_what_is_no_bundle(rt: HostRuntime) -> Result<(), Fail> {
         ("", "-"),
         ("{", "-"),
         ("[]", "-"),
-        (r#"{"command":"link","zoo":1,"root":"package","area":2}"#, "area"),
+        (
+            r#"{"command":"link","zoo":1,"root":"package","area":2}"#,
+            "area",
+        ),
         (r#"{"command":"link","mode":"lazy"}"#, "mode"),
         (r#"{"root":"package","modules":[]}"#, "command"),
         (r#"{"command":"compile","root":7}"#, "command"),
         (r#"{"command":"link"}"#, "root"),
         (r#"{"command":"link","root":"package::"}"#, "root"),
-        (r#"{"command":"link","root":"super::a","modules":[]}"#, "root"),
+        (
+            r#"{"command":"link","root":"super::a","modules":[]}"#,
+            "root",
+        ),
         (r#"{"command":"link","root":"package"}"#, "modules"),
-        (r#"{"command":"link","root":"package","modules":[{"path":"package"}]}"#, "modules"),
-        (r#"{"command":"link","root":"package","modules":[{"path":"m","text":""}]}"#, "modules"),
-        (r#"{"command":"link","root":"package","modules":[{"path":"package","text":"","name":""}]}"#, "modules"),
-        (r#"{"command":"link","root":"package","modules":[],"keep":"g"}"#, "keep"),
-        (r#"{"command":"link","root":"package","modules":[],"keep":[1],"max_modules":-1}"#, "keep"),
-        (r#"{"command":"link","root":"package","modules":[],"max_modules":1.5}"#, "max_modules"),
-        (r#"{"command":"link","root":"package","modules":[],"max_modules":4294967296}"#, "max_modules"),
+        (
+            r#"{"command":"link","root":"package","modules":[{"path":"package"}]}"#,
+            "modules",
+        ),
+        (
+            r#"{"command":"link","root":"package","modules":[{"path":"m","text":""}]}"#,
+            "modules",
+        ),
+        (
+            r#"{"command":"link","root":"package","modules":[{"path":"package","text":"","name":""}]}"#,
+            "modules",
+        ),
+        (
+            r#"{"command":"link","root":"package","modules":[],"keep":"g"}"#,
+            "keep",
+        ),
+        (
+            r#"{"command":"link","root":"package","modules":[],"keep":[1],"max_modules":-1}"#,
+            "keep",
+        ),
+        (
+            r#"{"command":"link","root":"package","modules":[],"max_modules":1.5}"#,
+            "max_modules",
+        ),
+        (
+            r#"{"command":"link","root":"package","modules":[],"max_modules":4294967296}"#,
+            "max_modules",
+        ),
     ];
     for (bundle, subject) in cases {
         let line = format!(in rt.alloc(); "error: Bundle - - - {subject}\n")?;
@@ -178,9 +271,11 @@ fn refuses_what_is_no_bundle(rt: HostRuntime) -> Result<(), Fail> {
 
 #[test]
 fn a_path_twice_comes_after_the_keys(rt: HostRuntime) -> Result<(), Fail> {
-    let twice = r#"{"command":"link","root":"package","modules":[{"path":"package::m","text":""},{"path":"package","text":""},{"path":"package::m","text":""}]}"#;
+    let twice =
+        r#"{"command":"link","root":"package","modules":[{"path":"package::m","text":""},{"path":"package","text":""},{"path":"package::m","text":""}]}"#;
     assert_line(&rt, twice, "error: DuplicateModule package::m - - -\n", 2)?;
-    let twice = r#"{"command":"link","root":"package","modules":[{"path":"package","text":""},{"path":"package","text":""}],"max_modules":"1"}"#;
+    let twice =
+        r#"{"command":"link","root":"package","modules":[{"path":"package","text":""},{"path":"package","text":""}],"max_modules":"1"}"#;
     assert_line(&rt, twice, "error: Bundle - - - max_modules\n", 2)
 }
 
@@ -188,7 +283,11 @@ fn a_path_twice_comes_after_the_keys(rt: HostRuntime) -> Result<(), Fail> {
 fn mangled_names_come_back(rt: HostRuntime) -> Result<(), Fail> {
     let alloc = rt.alloc();
     let cases = [
-        ("package::bevy_pbr::lighting", "item", "package__1bevy_pbr_lighting_item"),
+        (
+            "package::bevy_pbr::lighting",
+            "item",
+            "package__1bevy_pbr_lighting_item",
+        ),
         ("a_b::c_d::e", "item", "_1a_b__1c_d_e_item"),
     ];
     for (path, item, name) in cases {

@@ -9,7 +9,7 @@ pub supers_more : (n : ℕ) (part after rest text : List ℕ) → rest ≡ codes
 supers_more n part after rest text splits test before =
     let same : part ≡ codes "super" = (bytes_eq-Decides part (codes "super")).0 test in
     let at_suc : supers (suc n) ++ after ≡ text =
-        append_assoc (supers n) (codes "::super") after ∙ sym (ap (λ p. supers n ++ (codes "::" ++ (p ++ after))) same) ∙ sym (ap (λ r. supers n ++ r) splits) ∙ before in
+    append_assoc (supers n) (codes "::super") after ∙ sym (ap (λ p. supers n ++ (codes "::" ++ (p ++ after))) same) ∙ sym (ap (λ r. supers n ++ r) splits) ∙ before in
     rw add-one at_suc
 
 pub few_more : (n m : ℕ) (part after rest : List ℕ) → rest ≡ codes "::" ++ (part ++ after) → n + length rest ≤ m → n + 1 + length after ≤ m

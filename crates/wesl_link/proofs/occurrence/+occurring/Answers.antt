@@ -9,4 +9,4 @@ add_type-returns t c =
     appended c.add_maybe_template.result _ _ _ _ _ _ c.in_ok-add_name_at.ensures c.add_maybe_template.ensures
     (occurring_typed (hidden c.args.scope.now) c.args.in_body c.args.ty.now.path c.args.ty.now.ident.name c.args.ty.now.template_args
     ∙ sym (ap (λ name. occurring_at (hidden c.args.scope.now) c.args.in_body c.args.ty.now.path name
-        ++ template_occurring (hidden c.args.scope.now) c.args.in_body c.args.ty.now.template_args) c.as_str.ensures))
+    ++ template_occurring (hidden c.args.scope.now) c.args.in_body c.args.ty.now.template_args) c.as_str.ensures))

@@ -12,5 +12,5 @@ pub returns : goal.returns
 returns c =
     c.in_ok-add_each_attribute.ensures
     ∙ ap (λ (xs : List (Spanned Attribute)). seen c.args.found.now.items
-        ++ flat_map (λ n. occurring_attribute (hidden c.args.scope.now) c.args.in_body (attribute_tree n.node)) xs) c.as_slice.ensures
+    ++ flat_map (λ n. occurring_attribute (hidden c.args.scope.now) c.args.in_body (attribute_tree n.node)) xs) c.as_slice.ensures
     ∙ sym (ap (λ (t : List Occ). seen c.args.found.now.items ++ t) (attributes_flat (hidden c.args.scope.now) c.args.in_body c.args.attributes.now))

@@ -28,6 +28,6 @@ pub renamed_type-returns : goal.renamed_type-returns
 renamed_type-returns g t c =
     let r : List ℕ → List ℕ = g.N.Naming.gives c.args.naming.now in
     let name_is : c.new.result.name ≡ renamed_at r c.args.x.now.path c.args.x.now.ident.name =
-        ap (λ (i : Ident). i.name) c.new.ensures ∙ c.in_ok-name.ensures ∙ ap (renamed_at r c.args.x.now.path) c.as_str.ensures in
+    ap (λ (i : Ident). i.name) c.new.ensures ∙ c.in_ok-name.ensures ∙ ap (renamed_at r c.args.x.now.path) c.as_str.ensures in
     (λ k. typed tree (c.in_ok-path.ensures k) (name_is k) c.in_ok-template_args.template_args)
     ∙ renames_typed r c.args.x.now.path c.args.x.now.ident.name c.args.x.now.template_args c.in_ok-template_args.template_args c.in_ok-template_args.ensures

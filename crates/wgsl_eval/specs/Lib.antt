@@ -1,4 +1,0 @@
-pub mod Ends
-pub mod Scopes
-pub mod Start
-pub mod Refusals

@@ -1,3 +1,0 @@
-pub mod Emptiness
-pub mod Lawful
-pub mod Together

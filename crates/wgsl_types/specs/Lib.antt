@@ -1,4 +1,0 @@
-pub mod Constructor
-pub mod Convert
-pub mod Laws
-pub mod Template
