@@ -177,3 +177,12 @@ lacks (Wrong (Named f x)) = lacks_value f
 abbrev pub prepended : {A : Type 0} → List A → Checked (List A) → Checked (List A)
 prepended ds (Ok es) = Ok (ds ++ es)
 prepended ds (Err f) = Err f
+
+abbrev pub pushed : Scope → List Decl → Decl → Result (List Decl) Refusal
+pushed s done (variable attributes kind x type e) = Ok done
+pushed s done (function attributes f parameters return_attributes type body) =
+    then_more (refusing f (lowered_function s attributes f parameters return_attributes type body)) (λ d. Ok (done ++ d ∷ []))
+
+abbrev pub all_pushed : Scope → List Decl → List Decl → Result (List Decl) Refusal
+all_pushed s done [] = Ok done
+all_pushed s done (d ∷ ds) = then_more (pushed s done d) (λ more. all_pushed s more ds)

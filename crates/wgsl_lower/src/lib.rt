@@ -3,8 +3,11 @@
 
 mod expression;
 mod function;
+mod unit;
 mod write;
 
 pub use expression::lowered;
 pub use function::lowered_function;
+pub use unit::lower;
+pub use wgsl_eval::{Refusal, UnitError};
 pub use write::to_expr;

@@ -1,7 +1,7 @@
 -- The comparisons of outcomes are kept by going on.
 use Rattle.std.proofs.Common.{◌≡◌, ℕ, ◌+◌, ◌≤◌, refl, sym, ap, ◌∙◌, subst, arith}
 use Rattle.wgsl_meaning.specs.Outcome.{Outcome, Done, Failed, Deep, after, andthen}
-use Rattle.wgsl_meaning.specs.Compare.{Better, Extends, Agree, Carries}
+use Rattle.wgsl_meaning.specs.Compare.{Better, Extends, Agree, Carries, Likewise}
 use Rattle.wgsl_meaning.proofs.Simulates.{Kept}
 
 -- ---- equal
@@ -93,7 +93,7 @@ kept_carries = record { refl_of = carries_refl; going_on = carries_on }
 
 -- ---- agree
 
-agree_refl : (A : Type 0) (o : Outcome A) → Agree A o o
+pub agree_refl : (A : Type 0) (o : Outcome A) → Agree A o o
 agree_refl A (Done x n) = refl
 agree_refl A (Failed f) = tt
 agree_refl A Deep = tt
@@ -126,3 +126,31 @@ pub agree_from_carries : (A : Type 0) (o p : Outcome A) → Carries A o p → Ag
 agree_from_carries A (Done x n) p e = subst (λ q. Agree A (Done x n) q) (sym e) refl
 agree_from_carries A (Failed f) p e = tt
 agree_from_carries A Deep p e = tt
+
+-- ---- likewise
+
+pub likewise_refl : (A : Type 0) (o : Outcome A) → Likewise A o o
+likewise_refl A (Done x n) = (n, refl)
+likewise_refl A (Failed f) = tt
+likewise_refl A Deep = tt
+
+likewise_after : (B : Type 0) (o p : Outcome B) (n m : ℕ) → Likewise B o p → Likewise B (after n o) (after m p)
+likewise_after B (Done y k) p n m b = (m + b.0, ap (after m) b.1)
+likewise_after B (Failed f) p n m b = tt
+likewise_after B Deep p n m b = tt
+
+likewise_on : (A B : Type 0) (o p : Outcome A) (f g : A → Outcome B) → Likewise A o p → ((x : A) → Likewise B (f x) (g x)) → Likewise B (andthen o f) (andthen p g)
+likewise_on A B (Done x n) p f g b h = subst (λ q. Likewise B (after n (f x)) (andthen q g)) (sym b.1) (likewise_after B (f x) (g x) n b.0 (h x))
+likewise_on A B (Failed e) p f g b h = tt
+likewise_on A B Deep p f g b h = tt
+
+pub kept_likewise : Kept Likewise
+kept_likewise = record { refl_of = likewise_refl; going_on = likewise_on }
+
+-- ---- going on with what is known of the value
+
+pub better_from : (A B : Type 0) (o p : Outcome A) (f g : A → Outcome B) → Better A o p → ((x : A) (n : ℕ) → o ≡ Done x n → Better B (f x) (g x)) → Better B (andthen o f) (andthen p g)
+better_from A B (Done x n) p f g b h =
+    subst (λ q. Better B (after n (f x)) (andthen q g)) (sym b.1) (better_after B (f x) (g x) n b.0 b.2 (h x n refl))
+better_from A B (Failed e) p f g b h = tt
+better_from A B Deep p f g b h = tt

@@ -115,7 +115,7 @@ binary_fits s o x y = then_fits (common_type o (type_of x) (type_of y)) _ _ (λ 
 
 -- ---- expressions
 
-find_types : (x : Name) (env : Env) (P : Option NumericType → Option Value → Type 0) → P None None → ((v : Value) → P (Some (type_of v)) (Some v)) → P (find x (types_of env)) (find x env)
+pub find_types : (x : Name) (env : Env) (P : Option NumericType → Option Value → Type 0) → P None None → ((v : Value) → P (Some (type_of v)) (Some v)) → P (find x (types_of env)) (find x env)
 find_types x [] P none some = none
 find_types x (b ∷ env) P none some = at (bytes_eq x b.0) (find_types x env P none some)
   where

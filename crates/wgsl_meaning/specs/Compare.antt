@@ -27,3 +27,9 @@ Agree A (Done x n) (Failed f) = Unit {0}
 Agree A (Done x n) Deep = Unit {0}
 Agree A (Failed f) p = Unit {0}
 Agree A Deep p = Unit {0}
+
+-- what ends well ends well likewise, in whatever steps
+abbrev pub Likewise : (A : Type 0) → Outcome A → Outcome A → Type 0
+Likewise A (Done x n) p = (m : ℕ) × (p ≡ Done x m)
+Likewise A (Failed f) p = Unit {0}
+Likewise A Deep p = Unit {0}

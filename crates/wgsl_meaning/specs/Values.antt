@@ -130,9 +130,10 @@ converted f AbstractInt (V.U32 n) = Err f
 converted f I32 (V.U32 n) = Err f
 converted f U32 (V.I32 z) = Err f
 
--- the constructor of a type: between i32 and u32 the bits stay (WGSL, "Value Constructor Built-in Functions")
+-- the constructor of a type: between i32 and u32 the bits stay (WGSL, "Value Constructor Built-in Functions"). The abstract type
+-- has no name, so no text calls its constructor
 abbrev pub constructed : NumericType → Value → Numbers Value
-constructed AbstractInt v = Ok v
+constructed AbstractInt v = Ok (V.AbstractInt (number v))
 constructed I32 (V.AbstractInt z) = from_abstract I32 z
 constructed U32 (V.AbstractInt z) = from_abstract U32 z
 constructed I32 (V.I32 z) = Ok (V.I32 z)

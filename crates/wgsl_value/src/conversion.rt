@@ -42,7 +42,11 @@ pub fn construct(ty: NumericType, value: Value) -> Result<Value, NumberFault>
     ensures { result ≡ spec.constructed ty value }
 {
     match ty {
-        NumericType::AbstractInt => Ok(value),
+        NumericType::AbstractInt => match value {
+            Value::AbstractInt(z) => Ok(Value::AbstractInt(z)),
+            Value::I32(z) => Ok(Value::AbstractInt(z as i64)),
+            Value::U32(n) => Ok(Value::AbstractInt(n as i64)),
+        },
         NumericType::I32 => match value {
             Value::AbstractInt(z) => from_abstract(ty, z),
             Value::I32(z) => Ok(Value::I32(z)),
