@@ -74,7 +74,8 @@ module _ (ds : List Decl) where
     values_meet = λ x. of_stage cs (at k) h x (find x cs) (find_decl x ds) refl;
     results_meet = λ f vs. calls_alike f (find_decl f ds) _ _ vs;
     types_meet = λ f ts. types_alike f (find_decl f ds) _ _ ts;
-    same_types = λ x. refl }
+    same_types = λ x. refl;
+  }
 
   deeper : (k : ℕ) (x : Name) (v : Value) (n : ℕ) (d : Option Decl) → find_decl x ds ≡ d → const_in (at k) x (find_decl x ds) ≡ Done v n → (at (suc k)).value_of x ≡ Done v n
   deeper k x v n (Some d) e h = ap (λ o. const_at x (here_if x o) (inside (plain ds) (suc k) Const).const_value) e ∙ h

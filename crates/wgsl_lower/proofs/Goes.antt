@@ -76,30 +76,30 @@ module _ (s : Scope) where
     goes (parenthesized a) d h =
         let inner = goes a in
         by_case (parenthesized a) d (and_then (lowered s a) (λ x. Ok (parenthesized x))) (λ is lacks.
-            let x = then_ok (lowered s a) (λ x. Ok (parenthesized x)) d is in
-            let to : parenthesized x.0 ≡ d = cc in
-            subst (Goes (parenthesized a)) to (keeps_parentheses (inner x.0 x.1))) (case_of _ _ d h)
+        let x = then_ok (lowered s a) (λ x. Ok (parenthesized x)) d is in
+        let to : parenthesized x.0 ≡ d = cc in
+        subst (Goes (parenthesized a)) to (keeps_parentheses (inner x.0 x.1))) (case_of _ _ d h)
     goes (unary o a) d h =
         let inner = goes a in
         by_case (unary o a) d (and_then (lowered s a) (λ x. Ok (unary o x))) (λ is lacks.
-            let x = then_ok (lowered s a) (λ x. Ok (unary o x)) d is in
-            let to : unary o x.0 ≡ d = cc in
-            subst (Goes (unary o a)) to (keeps_unary (inner x.0 x.1))) (case_of _ _ d h)
+        let x = then_ok (lowered s a) (λ x. Ok (unary o x)) d is in
+        let to : unary o x.0 ≡ d = cc in
+        subst (Goes (unary o a)) to (keeps_unary (inner x.0 x.1))) (case_of _ _ d h)
     goes (binary o a b) d h =
         let left = goes a in
         let right = goes b in
         by_case (binary o a b) d (and_then (lowered s a) (λ x. and_then (lowered s b) (λ y. Ok (binary o x y)))) (λ is lacks.
-            let x = then_ok (lowered s a) (λ x. and_then (lowered s b) (λ y. Ok (binary o x y))) d is in
-            let y = then_ok (lowered s b) (λ y. Ok (binary o x.0 y)) d x.2 in
-            let to : binary o x.0 y.0 ≡ d = cc in
-            subst (Goes (binary o a b)) to (keeps_binary (left x.0 x.1) (right y.0 y.1))) (case_of _ _ d h)
+        let x = then_ok (lowered s a) (λ x. and_then (lowered s b) (λ y. Ok (binary o x y))) d is in
+        let y = then_ok (lowered s b) (λ y. Ok (binary o x.0 y)) d x.2 in
+        let to : binary o x.0 y.0 ≡ d = cc in
+        subst (Goes (binary o a b)) to (keeps_binary (left x.0 x.1) (right y.0 y.1))) (case_of _ _ d h)
     goes (call f es) d h =
         let inner = all_go es in
         by_case (call f es) d (and_then (callee_here s f) (λ t. and_then (all_lowered s es) (λ xs. Ok (call f (exps xs))))) (λ is lacks.
-            let t = then_ok (callee_here s f) (λ t. and_then (all_lowered s es) (λ xs. Ok (call f (exps xs)))) d is in
-            let x = then_ok (all_lowered s es) (λ xs. Ok (call f (exps xs))) d t.2 in
-            let to : call f (exps x.0) ≡ d = cc in
-            subst (Goes (call f es)) to (keeps_call (record { same_callee = refl; type = t.0; is = t.1 }) (inner x.0 x.1))) (case_of _ _ d h)
+        let t = then_ok (callee_here s f) (λ t. and_then (all_lowered s es) (λ xs. Ok (call f (exps xs)))) d is in
+        let x = then_ok (all_lowered s es) (λ xs. Ok (call f (exps xs))) d t.2 in
+        let to : call f (exps x.0) ≡ d = cc in
+        subst (Goes (call f es)) to (keeps_call (record { same_callee = refl; type = t.0; is = t.1 }) (inner x.0 x.1))) (case_of _ _ d h)
 
     pub all_go : (es : Exps) (ds : List Exp) → all_lowered s es ≡ Ok ds → AllGo es (exps ds)
     all_go nil ds h = let to : [] ≡ ds = cc in subst (λ z. AllGo nil (exps z)) to no_more

@@ -131,9 +131,11 @@ module _ (ds low : List Decl) (cs : Consts) (is_known : Known ds cs) (gone : (x 
   -- ---- lowering
 
   has_constructor : HasConstructor to env
-  has_constructor = record { least =
-      ap (λ o. called_or (codes "i32") o (to.result_of (codes "i32") (V.AbstractInt (negsuc 2147483647) ∷ []))) (none_in_env (codes "i32") env clear_env)
-      ∙ result_at low k st (codes "i32") (V.AbstractInt (negsuc 2147483647) ∷ []) (gone (codes "i32") clear) }
+  has_constructor = record {
+    least =
+        ap (λ o. called_or (codes "i32") o (to.result_of (codes "i32") (V.AbstractInt (negsuc 2147483647) ∷ []))) (none_in_env (codes "i32") env clear_env)
+        ∙ result_at low k st (codes "i32") (V.AbstractInt (negsuc 2147483647) ∷ []) (gone (codes "i32") clear);
+  }
 
   better_refl : (o : Outcome Value) → Better Value o o
   better_refl o = kept_better.refl_of Value o
@@ -169,7 +171,7 @@ module _ (ds low : List Decl) (cs : Consts) (is_known : Known ds cs) (gone : (x 
       (λ x y h. subst (λ z. Better Value (value_here from env (plain_name x)) (value_here to env (plain_name z))) h.same_name (kept_name x h.no_value))
       (λ f g vs h. subst (λ z. Better Value (result_here from env (plain_name f) vs) (result_here to env (plain_name z) vs)) h.same_callee (kept_callee f vs h.type h.is))
       (λ a b h. subst (λ z. Better Value (value from env a) (value to env z)) h.so_written
-          (subst (Better Value (value from env a)) (sym (value-written to env has_constructor h.its)) (done_first h.its h.steps _ _ h.gives (stage_agrees a))))
+      (subst (Better Value (value from env a)) (sym (value-written to env has_constructor h.its)) (done_first h.its h.steps _ _ h.gives (stage_agrees a))))
       e d (goes s e d is)
 
   -- ---- types
@@ -192,7 +194,8 @@ module _ (ds low : List Decl) (cs : Consts) (is_known : Known ds cs) (gone : (x 
   types_agree : TypesAgree (stage s) from
   types_agree = record {
     of_names = λ x. type_at x (find x (types_of env)) (λ e. const_agrees ds cs is_known k st x (find x cs) (find_decl x ds) refl);
-    of_results = λ f vs. result_fits f vs (find_decl f ds) refl }
+    of_results = λ f vs. result_fits f vs (find_decl f ds) refl;
+  }
 
   pub typed_inside : (e : Exp) → Both HasType (typed (stage s) (types_of env) e) (value from env e)
   typed_inside e = has_type (stage s) from types_agree env e

@@ -126,7 +126,7 @@ module _ (ds low : List Decl) (cs : Consts) (is_known : Known ds cs) (gone : (x 
       let left : andthen (andthen o wrap) H ≡ andthen o (λ v. andthen (wrap v) H) = then_then o wrap H in
       let listed : Value → Outcome (List Value) = λ x. Done (x ∷ []) 0 in
       let right : andthen (andthen (andthen (andthen o listed) R) wrap) H ≡ andthen o (λ v. andthen (andthen (andthen (listed v) R) wrap) H) =
-          ap (λ p. andthen (andthen p wrap) H) (then_then o listed R) ∙ ap (λ p. andthen p H) (then_then o (λ v. andthen (listed v) R) wrap) ∙ then_then o (λ v. andthen (andthen (listed v) R) wrap) H in
+      ap (λ p. andthen (andthen p wrap) H) (then_then o listed R) ∙ ap (λ p. andthen p H) (then_then o (λ v. andthen (listed v) R) wrap) ∙ then_then o (λ v. andthen (andthen (listed v) R) wrap) H in
       subst (λ p. Better (Option Value) p (andthen (andthen (one_argument o t) wrap) H)) (sym left)
       (subst (λ p. Better (Option Value) (andthen o (λ v. andthen (wrap v) H)) p) (sym right)
       (better_from Value (Option Value) o o _ _ (kept_better.refl_of Value o) (λ v n e. each v (abstract_is v (abstract v n e)))))

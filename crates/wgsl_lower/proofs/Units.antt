@@ -66,21 +66,31 @@ is_lowered s as' f ps rs t b d h =
     let to : function a.0 f p.0 r.0 t c.0 ≡ d = cc in
     let inner : record { attributes = ba.0; statements = bs.0 } ≡ c.0 = cc in
     record {
-      attributes = a.0; attributes_are = a.1; parameters = p.0; parameters_are = p.1; types = ts.0; types_are = ts.1; result = r.0; type_is = u.1; block = c.0;
-      statements_are = bs.1 ∙ ap (λ (x : Block). Ok x.statements) inner; is = to }
+      attributes = a.0;
+      attributes_are = a.1;
+      parameters = p.0;
+      parameters_are = p.1;
+      types = ts.0;
+      types_are = ts.1;
+      result = r.0;
+      type_is = u.1;
+      block = c.0;
+      statements_are = bs.1 ∙ ap (λ (x : Block). Ok x.statements) inner;
+      is = to;
+    }
 
 module _ (s : Scope) where
   step_none : (b : Bool) (d : Decl) (o : Option Decl) (p : Option Decl) → (if b then Some d else o) ≡ None → (o ≡ None → p ≡ None) → (e : Decl) → (if b then Some e else p) ≡ None
   step_none true d o p h go e = absurd (cc)
   step_none false d o p h go e = go h
 
+  past_none : {X : Type 0} (b : Bool) (d : Decl) (o : Option Decl) → (if b then Some d else o) ≡ None → (o ≡ None → X) → X
+  past_none true d o e go = absurd (cc)
+  past_none false d o e go = go e
+
   pub gone_too : (ds low : List Decl) → lowered_declarations s ds ≡ Ok low → (x : Name) → find_decl x ds ≡ None → find_decl x low ≡ None
   gone_too [] low h x e = let same : [] ≡ low = cc in ap (find_decl x) (sym same)
-  gone_too (variable attributes kind y type i ∷ ds) low h x e = at (bytes_eq x y) e
-    where
-      at : (b : Bool) → (if b then Some (variable attributes kind y type i) else find_decl x ds) ≡ None → find_decl x low ≡ None
-      at true e = absurd (cc)
-      at false e = gone_too ds low h x e
+  gone_too (variable attributes kind y type i ∷ ds) low h x e = past_none (bytes_eq x y) (variable attributes kind y type i) (find_decl x ds) e (gone_too ds low h x)
   gone_too (function as' f ps rs t b ∷ ds) low h x e =
       let d = then_more_ok (refusing f (lowered_function s as' f ps rs t b)) (λ d. then_more (lowered_declarations s ds) (λ more. Ok (d ∷ more))) low h in
       let l = is_lowered s as' f ps rs t b d.0 (refusing_ok f _ d.0 d.1) in
@@ -89,14 +99,16 @@ module _ (s : Scope) where
       ap (find_decl x) (sym same) ∙ ap (λ y. if bytes_eq x y then Some d.0 else find_decl x more.0) (ap name_of (sym l.is))
       ∙ step_none (bytes_eq x f) (function as' f ps rs t b) (find_decl x ds) (find_decl x more.0) e (gone_too ds more.0 more.1 x) d.0
 
+  past_variable : {X : Type 0} (c : Bool) (attributes : List Attr) (kind : DeclarationKind) (y : Name) (type : Option Typ) (i : Option Exp) (o : Option Decl) (d : Decl) → (variable attributes kind y type i ≡ d → ⊥) →
+      (if c then Some (variable attributes kind y type i) else o) ≡ Some d → (o ≡ Some d → X) → X
+  past_variable true attributes kind y type i o d differ e go = absurd (differ (cc))
+  past_variable false attributes kind y type i o d differ e go = go e
+
   pub found_too : (ds low : List Decl) → lowered_declarations s ds ≡ Ok low → (x : Name) (as' : List Attr) (f : Name) (ps : List Param) (rs : List Attr) (t : Option Typ) (b : Block) →
       find_decl x ds ≡ Some (function as' f ps rs t b) → (d : Decl) × (find_decl x low ≡ Some d) × IsLowered s as' f ps rs t b d
   found_too [] low h x as' f ps rs t b e = absurd (cc)
-  found_too (variable attributes kind y type i ∷ ds) low h x as' f ps rs t b e = at (bytes_eq x y) e
-    where
-      at : (c : Bool) → (if c then Some (variable attributes kind y type i) else find_decl x ds) ≡ Some (function as' f ps rs t b) → (d : Decl) × (find_decl x low ≡ Some d) × IsLowered s as' f ps rs t b d
-      at true e = absurd (cc)
-      at false e = found_too ds low h x as' f ps rs t b e
+  found_too (variable attributes kind y type i ∷ ds) low h x as' f ps rs t b e =
+      past_variable (bytes_eq x y) attributes kind y type i (find_decl x ds) (function as' f ps rs t b) (λ e. cc) e (found_too ds low h x as' f ps rs t b)
   found_too (function as2 g qs rs2 t2 b2 ∷ ds) low h x as' f ps rs t b e =
       let d = then_more_ok (refusing g (lowered_function s as2 g qs rs2 t2 b2)) (λ d. then_more (lowered_declarations s ds) (λ more. Ok (d ∷ more))) low h in
       let l = is_lowered s as2 g qs rs2 t2 b2 d.0 (refusing_ok g _ d.0 d.1) in
@@ -116,9 +128,12 @@ module _ (s : Scope) where
           let e3 : qs ≡ ps = cc in
           let e4 : rs2 ≡ rs = cc in
           let e5 : t2 ≡ t = cc in
-          let e6 : b2 ≡ b = cc in
-          (d, refl, subst (λ z. IsLowered s z f ps rs t b d) e1 (subst (λ z. IsLowered s as2 z ps rs t b d) e2 (subst (λ z. IsLowered s as2 g z rs t b d) e3
-              (subst (λ z. IsLowered s as2 g qs z t b d) e4 (subst (λ z. IsLowered s as2 g qs rs2 z b d) e5 (subst (λ z. IsLowered s as2 g qs rs2 t2 z d) e6 l))))))
+          let e6 : b2 ≡ b = cc in (
+            d,
+            refl,
+            subst (λ z. IsLowered s z f ps rs t b d) e1 (subst (λ z. IsLowered s as2 z ps rs t b d) e2 (subst (λ z. IsLowered s as2 g z rs t b d) e3
+                (subst (λ z. IsLowered s as2 g qs z t b d) e4 (subst (λ z. IsLowered s as2 g qs rs2 z b d) e5 (subst (λ z. IsLowered s as2 g qs rs2 t2 z d) e6 l))))),
+          )
       at false d more l go e = go e
 
   -- a lowered unit has no consts, so that its start does nothing
@@ -139,42 +154,42 @@ module _ (s : Scope) where
 
 -- ---- clear names
 
+not_first : (b : Bool) (x y : Name) (d : Decl) (o : Option Decl) → bytes_eq x y ≡ b → (y ≡ x → ⊥) → o ≡ None → (if b then Some d else o) ≡ None
+not_first true x y d o h differ e = absurd (differ (sym (same_text x y (sym h))))
+not_first false x y d o h differ e = e
+
 pub clear_declaration : (ds : List Decl) → AreClear ds → find_decl (codes "i32") ds ≡ None
 clear_declaration [] c = refl
-clear_declaration (variable attributes kind x type e ∷ ds) c = at (bytes_eq (codes "i32") x) refl
-  where
-    at : (b : Bool) → bytes_eq (codes "i32") x ≡ b → (if b then Some (variable attributes kind x type e) else find_decl (codes "i32") ds) ≡ None
-    at true h = absurd (c.0.0 (sym (same_text (codes "i32") x (sym h))))
-    at false h = clear_declaration ds c.1
-clear_declaration (function as' f ps rs t body ∷ ds) c = at (bytes_eq (codes "i32") f) refl
-  where
-    at : (b : Bool) → bytes_eq (codes "i32") f ≡ b → (if b then Some (function as' f ps rs t body) else find_decl (codes "i32") ds) ≡ None
-    at true h = absurd (c.0.0.0 (sym (same_text (codes "i32") f (sym h))))
-    at false h = clear_declaration ds c.1
+clear_declaration (variable attributes kind x type e ∷ ds) c = not_first (bytes_eq (codes "i32") x) (codes "i32") x _ _ refl c.0.0 (clear_declaration ds c.1)
+clear_declaration (function as' f ps rs t body ∷ ds) c = not_first (bytes_eq (codes "i32") f) (codes "i32") f _ _ refl c.0.0.0 (clear_declaration ds c.1)
+
+either_clear : (k : Bool) (as2 : List Attr) (g : Name) (qs : List Param) (rs2 : List Attr) (t2 : Option Typ) (b2 : Block) (o : Option Decl) (as' : List Attr) (f : Name) (ps : List Param) (rs : List Attr) (t : Option Typ) (b : Block) →
+    ClearParameters qs → (o ≡ Some (function as' f ps rs t b) → ClearParameters ps) → (if k then Some (function as2 g qs rs2 t2 b2) else o) ≡ Some (function as' f ps rs t b) → ClearParameters ps
+either_clear true as2 g qs rs2 t2 b2 o as' f ps rs t b c go e = let same : qs ≡ ps = cc in subst ClearParameters same c
+either_clear false as2 g qs rs2 t2 b2 o as' f ps rs t b c go e = go e
+
+either_past : {X : Type 0} (k : Bool) (attributes : List Attr) (kind : DeclarationKind) (y : Name) (type : Option Typ) (i : Option Exp) (o : Option Decl) (d : Decl) → (variable attributes kind y type i ≡ d → ⊥) →
+    (o ≡ Some d → X) → (if k then Some (variable attributes kind y type i) else o) ≡ Some d → X
+either_past true attributes kind y type i o d differ go e = absurd (differ (cc))
+either_past false attributes kind y type i o d differ go e = go e
 
 pub clear_found : (ds : List Decl) (x : Name) (as' : List Attr) (f : Name) (ps : List Param) (rs : List Attr) (t : Option Typ) (b : Block) → AreClear ds → find_decl x ds ≡ Some (function as' f ps rs t b) → ClearParameters ps
 clear_found [] x as' f ps rs t b c e = absurd (cc)
-clear_found (variable attributes kind y type i ∷ ds) x as' f ps rs t b c e = at (bytes_eq x y) e
-  where
-    at : (k : Bool) → (if k then Some (variable attributes kind y type i) else find_decl x ds) ≡ Some (function as' f ps rs t b) → ClearParameters ps
-    at true e = absurd (cc)
-    at false e = clear_found ds x as' f ps rs t b c.1 e
-clear_found (function as2 g qs rs2 t2 b2 ∷ ds) x as' f ps rs t b c e = at (bytes_eq x g) e
-  where
-    at : (k : Bool) → (if k then Some (function as2 g qs rs2 t2 b2) else find_decl x ds) ≡ Some (function as' f ps rs t b) → ClearParameters ps
-    at true e = let same : qs ≡ ps = cc in subst ClearParameters same c.0.1
-    at false e = clear_found ds x as' f ps rs t b c.1 e
+clear_found (variable attributes kind y type i ∷ ds) x as' f ps rs t b c e =
+    either_past (bytes_eq x y) attributes kind y type i (find_decl x ds) (function as' f ps rs t b) (λ e. cc) (clear_found ds x as' f ps rs t b c.1) e
+clear_found (function as2 g qs rs2 t2 b2 ∷ ds) x as' f ps rs t b c e =
+    either_clear (bytes_eq x g) as2 g qs rs2 t2 b2 (find_decl x ds) as' f ps rs t b c.0.1 (clear_found ds x as' f ps rs t b c.1) e
 
 pub clear_types : (y : Name) (s : Scope) (ps : List Param) (ts : Types) → ((p : Param) → is_clear p.name → p.name ≡ y → ⊥) → ClearParameters ps → parameter_types s ps ≡ Ok ts → find y ts ≡ None
-clear_types y s [] ts no c h = let same : [] ≡ ts = cc in ap (find y) (sym same)
-clear_types y s (p ∷ ps) ts no c h =
+clear_types y s [] ts never c h = let same : [] ≡ ts = cc in ap (find y) (sym same)
+clear_types y s (p ∷ ps) ts never c h =
     let t = then_ok (type_here s p.type) (λ t. and_then (parameter_types s ps) (λ more. Ok ((p.name, t) ∷ more))) ts h in
     let more = then_ok (parameter_types s ps) (λ more. Ok ((p.name, t.0) ∷ more)) ts t.2 in
     let same : (p.name, t.0) ∷ more.0 ≡ ts = cc in
-    ap (find y) (sym same) ∙ at (bytes_eq y p.name) refl t.0 more.0 (clear_types y s ps more.0 no c.1 more.1)
+    ap (find y) (sym same) ∙ at (bytes_eq y p.name) refl t.0 more.0 (clear_types y s ps more.0 never c.1 more.1)
   where
     at : (b : Bool) → bytes_eq y p.name ≡ b → (t : NumericType) (more : Types) → find y more ≡ None → (if b then Some t else find y more) ≡ None
-    at true e t more go = absurd (no p c.0 (sym (same_text y p.name (sym e))))
+    at true e t more go = absurd (never p c.0 (sym (same_text y p.name (sym e))))
     at false e t more go = go
 
 -- ---- what an outcome says of its parts

@@ -100,7 +100,7 @@ type_here s t = and_then (plain_name t) (stage s).type_named
 abbrev pub lowered_parameter : Scope → Param → Checked Param
 lowered_parameter s p =
     and_then (lowered_attributes s p.attributes) (λ attributes. and_then (type_here s p.type) (λ t.
-        Ok (record { attributes = attributes; name = p.name; type = p.type })))
+    Ok (record { attributes = attributes; name = p.name; type = p.type })))
 
 abbrev pub lowered_parameters : Scope → List Param → Checked (List Param)
 lowered_parameters s [] = Ok []
@@ -129,19 +129,19 @@ with_parameters s ts = record { declarations = s.declarations; consts = s.consts
 abbrev pub lowered_body : Scope → Option Typ → Block → Checked Block
 lowered_body s t b =
     and_then (lowered_attributes s b.attributes) (λ attributes. and_then (lowered_statements s t b.statements) (λ statements.
-        Ok (record { attributes = attributes; statements = statements })))
+    Ok (record { attributes = attributes; statements = statements })))
 
 -- the attributes and the type of the result, and the body, after attributes and parameters
 abbrev pub lowered_rest : Scope → List Attr → Name → List Param → Types → List Attr → Option Typ → Block → Checked Decl
 lowered_rest s attributes f parameters ts return_attributes type body =
     and_then (lowered_attributes s return_attributes) (λ rs. and_then (checked_type s type) (λ u. and_then (lowered_body (with_parameters s ts) type body) (λ b.
-        Ok (function attributes f parameters rs type b))))
+    Ok (function attributes f parameters rs type b))))
 
 -- in text order
 abbrev pub lowered_function : Scope → List Attr → Name → List Param → List Attr → Option Typ → Block → Checked Decl
 lowered_function s attributes f parameters return_attributes type body =
     and_then (lowered_attributes s attributes) (λ as'. and_then (lowered_parameters s parameters) (λ ps. and_then (parameter_types s parameters) (λ ts.
-        lowered_rest s as' f ps ts return_attributes type body)))
+    lowered_rest s as' f ps ts return_attributes type body)))
 
 -- a const stays as it is (it goes from the unit)
 abbrev pub lowered_declaration : Scope → Decl → Checked Decl
@@ -164,7 +164,7 @@ lowered_declarations s (function attributes f parameters return_attributes type 
 abbrev pub lowered_unit : Module → Result Module Refusal
 lowered_unit u =
     then_more (consts_of u.declarations) (λ cs. then_more (lowered_declarations (module_scope u.declarations cs) u.declarations) (λ low.
-        Ok (record { imports = []; declarations = low })))
+    Ok (record { imports = []; declarations = low })))
 
 -- ---- what code tests and keeps
 

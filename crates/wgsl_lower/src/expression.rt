@@ -12,7 +12,8 @@ use std::alloc::Global;
 use wgsl_eval::{EvalError, Fault, NameFault, Scope, callee, eval_value, plain_name};
 use wgsl_items::{CloneIn, Items};
 use wgsl_syntax::{
-    BinaryExpression, Expression, ExpressionNode, FunctionCall, ParenthesizedExpression, Spanned, UnaryExpression,
+    BinaryExpression, Expression, ExpressionNode, FunctionCall, ParenthesizedExpression, Spanned,
+    UnaryExpression,
 };
 
 // Whether the fault says that an expression has no const value.
@@ -28,7 +29,11 @@ fn lacks_value(error: &EvalError) -> bool
 /// The expression with outermost constant expressions written as their values.
 #[cycle(lowering)]
 #[tactic(auto, using(crate::proofs::Parts::lowered_is))]
-pub fn lowered(alloc: Global, scope: &Scope<'_>, node: &ExpressionNode) -> Result<ExpressionNode, EvalError>
+pub fn lowered(
+    alloc: Global,
+    scope: &Scope<'_>,
+    node: &ExpressionNode,
+) -> Result<ExpressionNode, EvalError>
     ensures { Gives node_tree (spec.lowered (scope_of scope.now) (node_tree node.now)) result }
 {
     match eval_value(alloc, scope, node.node()) {
@@ -76,7 +81,11 @@ fn parts(alloc: Global, scope: &Scope<'_>, expression: &Expression) -> Result<Ex
 }
 
 #[cycle(lowering)]
-fn lowered_call(alloc: Global, scope: &Scope<'_>, x: &FunctionCall) -> Result<FunctionCall, EvalError>
+fn lowered_call(
+    alloc: Global,
+    scope: &Scope<'_>,
+    x: &FunctionCall,
+) -> Result<FunctionCall, EvalError>
     ensures { Gives (call_layer tree) (spec.parts (scope_of scope.now) (call_layer tree x.now)) result }
 {
     let name = plain_name(alloc, &x.ty)?;
@@ -87,7 +96,11 @@ fn lowered_call(alloc: Global, scope: &Scope<'_>, x: &FunctionCall) -> Result<Fu
 }
 
 #[cycle(lowering)]
-fn all_lowered(alloc: Global, scope: &Scope<'_>, nodes: &[ExpressionNode]) -> Result<Items<ExpressionNode>, EvalError>
+fn all_lowered(
+    alloc: Global,
+    scope: &Scope<'_>,
+    nodes: &[ExpressionNode],
+) -> Result<Items<ExpressionNode>, EvalError>
     ensures { Gives (map node_tree) (spec.all_lowered (scope_of scope.now) (exps (map node_tree nodes.now))) result }
 {
     let mut done = Items::new(alloc);

@@ -3,6 +3,8 @@
 
 mod expression;
 mod function;
+#[cfg(test)]
+mod tests;
 mod unit;
 mod write;
 

@@ -25,14 +25,22 @@ fn push_lowered(
 {
     if let GlobalDeclaration::Function(function) = node.node() {
         match lowered_function(alloc, scope, function) {
-            Ok(low) => done.push(Spanned::new(alloc, GlobalDeclaration::Function(low), node.span())?)?,
+            Ok(low) => done.push(Spanned::new(
+                alloc,
+                GlobalDeclaration::Function(low),
+                node.span(),
+            )?)?,
             Err(error) => return Err(refused(alloc, &function.ident.name, error)),
         }
     }
     Ok(())
 }
 
-fn lowered_in_turn(alloc: Global, scope: &Scope<'_>, nodes: &[GlobalDeclarationNode]) -> Result<Items<GlobalDeclarationNode>, UnitError>
+fn lowered_in_turn(
+    alloc: Global,
+    scope: &Scope<'_>,
+    nodes: &[GlobalDeclarationNode],
+) -> Result<Items<GlobalDeclarationNode>, UnitError>
     ensures { Answers decls (spec.all_pushed (scope_of scope.now) [] (decls nodes.now)) result }
 {
     let mut done = Items::new(alloc);
@@ -42,16 +50,18 @@ fn lowered_in_turn(alloc: Global, scope: &Scope<'_>, nodes: &[GlobalDeclarationN
     Ok(done)
 }
 
-fn lowered_declarations(alloc: Global, scope: &Scope<'_>, nodes: &[GlobalDeclarationNode]) -> Result<Items<GlobalDeclarationNode>, UnitError>
+fn lowered_declarations(
+    alloc: Global,
+    scope: &Scope<'_>,
+    nodes: &[GlobalDeclarationNode],
+) -> Result<Items<GlobalDeclarationNode>, UnitError>
     ensures { Answers decls (spec.lowered_declarations (scope_of scope.now) (decls nodes.now)) result }
 {
     lowered_in_turn(alloc, scope, nodes)
 }
 
-/// The plain unit without consts: outermost constant expressions are written as their values, and what a function returns is
-/// converted to its type. It is refused at the first fault of a const, then of a function, in text order.
-pub fn lower(alloc: Global, unit: &TranslationUnit) -> Result<TranslationUnit, UnitError>
-    ensures exactly { Answers unit_tree (spec.lowered_unit (unit_tree unit.now)) result }
+fn lowered_unit(alloc: Global, unit: &TranslationUnit) -> Result<TranslationUnit, UnitError>
+    ensures { Answers unit_tree (spec.lowered_unit (unit_tree unit.now)) result }
 {
     let declarations = unit.global_declarations.as_slice();
     let consts = start_values(alloc, declarations)?;
@@ -65,4 +75,15 @@ pub fn lower(alloc: Global, unit: &TranslationUnit) -> Result<TranslationUnit, U
         imports: Items::new(alloc),
         global_declarations,
     })
+}
+
+/// The plain unit without consts: outermost constant expressions are written as their values, and what a function returns is
+/// converted to its type. It is refused at the first fault of a const, then of a function, in text order.
+pub fn lower(alloc: Global, unit: &TranslationUnit) -> Result<TranslationUnit, UnitError>
+    ensures exactly { Answers unit_tree (spec.lowered_unit (unit_tree unit.now)) result }
+
+    // A run that ends well ends well after, with the same answer and in no more steps, where no name is a type's.
+    ensures keeps { AreClear (unit_tree unit.now).declarations → IfOk result (λ low. Keeps (unit_tree unit.now).declarations (unit_tree low).declarations) }
+{
+    lowered_unit(alloc, unit)
 }

@@ -10,12 +10,16 @@ use std::alloc::{AllocError, Global};
 use wgsl_eval::Value;
 use wgsl_items::{Items, Text};
 use wgsl_syntax::{
-    BinaryExpression, BinaryOperator, Expression, FunctionCall, Ident, LiteralExpression, ParenthesizedExpression,
-    Span, Spanned, TypeExpression, UnaryExpression, UnaryOperator,
+    BinaryExpression, BinaryOperator, Expression, FunctionCall, Ident, LiteralExpression,
+    ParenthesizedExpression, Span, Spanned, TypeExpression, UnaryExpression, UnaryOperator,
 };
 
 #[tactic(auto, using(wgsl_syntax::proofs::Trees::tree_of_parenthesized))]
-fn parenthesized(alloc: Global, expression: Expression, span: Span) -> Result<Expression, AllocError>
+fn parenthesized(
+    alloc: Global,
+    expression: Expression,
+    span: Span,
+) -> Result<Expression, AllocError>
     ensures { IfOk result (λ e. tree e ≡ T.parenthesized (tree expression)) }
 {
     let expression = Spanned::new(alloc, expression, span)?;
