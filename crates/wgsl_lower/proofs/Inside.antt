@@ -17,12 +17,13 @@ use Rattle.wgsl_meaning.specs.Programs.{called_at, call_type_at, inside, world, 
 use Rattle.wgsl_meaning.specs.Compare.{Better, Agree}
 use Rattle.wgsl_meaning.specs.Typing.{Both, HasType, types_of, TypesAgree}
 use Rattle.wgsl_meaning.specs.ConstStage.{Consts, Scope, stage, hidden, const_known, callee_at, callee_of}
-use Rattle.wgsl_meaning.specs.Written.{written}
+use Rattle.wgsl_meaning.specs.Written.{HasConstructor, written}
 use Rattle.wgsl_meaning.proofs.Simulates.{StagesMeet, simulates, follows_itself}
 use Rattle.wgsl_meaning.proofs.Compares.{kept_better, kept_agree, agree_refl, agree_from_carries}
 use Rattle.wgsl_meaning.proofs.Stages.{strict_stages_meet}
 use Rattle.wgsl_meaning.proofs.Typing.{find_types, has_type}
-use Rattle.wgsl_meaning.proofs.WrittenValue.{HasConstructor, value-written}
+use Rattle.wgsl_meaning.proofs.CallTypes.{built_in_fits}
+use Rattle.wgsl_meaning.proofs.WrittenValue.{value-written}
 use Rattle.wgsl_lower.specs.Lowered.{callee_here, lowered, lacks_value}
 use Rattle.wgsl_lower.proofs.Goes.{then_ok, HasNone, KeptName, KeptCallee, HasValue, goes}
 use Rattle.wgsl_lower.proofs.Consts.{Known, const_agrees, result_at, called_none}
@@ -49,38 +50,6 @@ done_first v n (Done y m) s is a =
     (0, ap (λ z. Done z 0) b, omega arith)
 done_first v n (Failed f) s is a = tt
 done_first v n Deep s is a = tt
-
--- ---- the constructor of a type gives values of the type
-
-either_type : (b : Bool) (t : NumericType) (v : Value) (e : NumberFault) → type_of v ≡ t → Both HasType (Done t 0) (computed (if b then Ok v else Err e))
-either_type true t v e h = h
-either_type false t v e h = tt
-
-construct_fits : (f : Name) (t : NumericType) (vs : List Value) → Both HasType (construct_type f t (map type_of vs)) (construct f t vs)
-construct_fits f AbstractInt [] = refl
-construct_fits f I32 [] = refl
-construct_fits f U32 [] = refl
-construct_fits f AbstractInt (V.AbstractInt z ∷ []) = refl
-construct_fits f AbstractInt (V.I32 z ∷ []) = refl
-construct_fits f AbstractInt (V.U32 n ∷ []) = refl
-construct_fits f I32 (V.AbstractInt z ∷ []) = either_type (fits I32 z) I32 (V.I32 z) _ refl
-construct_fits f I32 (V.I32 z ∷ []) = refl
-construct_fits f I32 (V.U32 n ∷ []) = refl
-construct_fits f U32 (V.AbstractInt z ∷ []) = either_type (fits U32 z) U32 (value_at U32 z) _ refl
-construct_fits f U32 (V.I32 z ∷ []) = refl
-construct_fits f U32 (V.U32 n ∷ []) = refl
-construct_fits f t (v ∷ w ∷ vs) = tt
-
-built_in_fits : (f : Name) (o : Checked NumericType) (vs : List Value) → Both HasType (andthen (at_once o) (λ t. construct_type f t (map type_of vs))) (andthen (at_once o) (λ t. construct f t vs))
-built_in_fits f (Ok t) vs = after_both (construct_type f t (map type_of vs)) (construct f t vs) (construct_fits f t vs)
-  where
-    after_both : (o : Outcome NumericType) (q : Outcome Value) → Both HasType o q → Both HasType (after 0 o) (after 0 q)
-    after_both (Done x n) (Done y m) h = h
-    after_both (Done x n) (Failed f) h = tt
-    after_both (Done x n) Deep h = tt
-    after_both (Failed f) q h = tt
-    after_both Deep q h = tt
-built_in_fits f (Err e) vs = tt
 
 module _ (ds low : List Decl) (cs : Consts) (is_known : Known ds cs) (gone : (x : Name) → find_decl x ds ≡ None → find_decl x low ≡ None) (k : ℕ) (st : ShaderStage) (env : Env)
     (clear_env : find (codes "i32") (types_of env) ≡ None) (clear : find_decl (codes "i32") ds ≡ None) where

@@ -5,3 +5,4 @@ pub mod Longer
 pub mod Stages
 pub mod Typing
 pub mod WrittenValue
+pub mod CallTypes

@@ -10,11 +10,7 @@ use Rattle.wgsl_meaning.specs.declared.value.Value.TheVariants as V
 use Rattle.wgsl_meaning.specs.Values.{Numbers}
 use Rattle.wgsl_meaning.specs.Outcome.{Outcome, Done, Failed, Deep, after, computed, andthen}
 use Rattle.wgsl_meaning.specs.Meaning.{Env, World, value, result_here}
-use Rattle.wgsl_meaning.specs.Written.{written, negative, least_abstract, least_signed}
-
--- `i32` is the constructor there: neither a parameter nor a declaration has the name
-pub record HasConstructor (w : World) (env : Env) : Type 0 where
-  pub least : result_here w env (Ok (codes "i32")) (V.AbstractInt (negsuc 2147483647) ∷ []) ≡ Done (V.I32 (negsuc 2147483647)) 0
+use Rattle.wgsl_meaning.specs.Written.{HasConstructor, written, negative, least_abstract, least_signed}
 
 within : (n m k : ℕ) → nat_lt n m ≡ true → m ≤ k → nat_lt n k ≡ true
 within n m k h le = grind (arith, nat_tests)

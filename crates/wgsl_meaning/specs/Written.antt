@@ -1,10 +1,12 @@
 -- How a value is written (this project's own).
-use Rattle.std.specs.Prelude.{ℕ, zero, suc, ◌^◌, ℤ, pos, negsuc, Bool, true, false, nat_lt, nat_eq, Option, None, if◌then◌else◌, codes}
+use Rattle.std.specs.Prelude.{◌≡◌, ℕ, suc, pos, negsuc, nat_lt, nat_eq, List, [], ◌∷◌, None, Ok, if◌then◌else◌, codes}
 use Rattle.wgsl_operators.specs.declared.UnaryOperator.TheVariants.{Negation}
 use Rattle.wgsl_operators.specs.declared.BinaryOperator.TheVariants.{Subtraction}
 use Rattle.wgsl_syntax.specs.declared.expression.LiteralExpression.TheVariants.{AbstractInt, I32, U32}
 use Rattle.wgsl_syntax.specs.Tree.{Exp, Exps, literal, parenthesized, unary, binary, call, nil, cons, simple}
 use Rattle.wgsl_meaning.specs.declared.value.Value.{Value}
+use Rattle.wgsl_meaning.specs.Outcome.{Outcome, Done}
+use Rattle.wgsl_meaning.specs.Meaning.{World, Env, result_here}
 use Rattle.wgsl_meaning.specs.declared.value.Value.TheVariants as V
 
 -- `(-n)`
@@ -33,3 +35,7 @@ written (V.I32 (negsuc n)) =
     else if nat_lt n 2147483647 then negative (literal (I32 (pos (suc n))))
     else literal (I32 (negsuc n))
 written (V.U32 n) = literal (U32 n)
+
+-- `i32` is the constructor there: neither a parameter nor a declaration has the name
+pub record HasConstructor (w : World) (env : Env) : Type 0 where
+  pub least : result_here w env (Ok (codes "i32")) (V.AbstractInt (negsuc 2147483647) ∷ []) ≡ Done (V.I32 (negsuc 2147483647)) 0

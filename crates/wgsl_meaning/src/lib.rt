@@ -2,6 +2,7 @@
 #![tactic(auto)]
 
 mod fault;
+pub mod laws;
 mod value;
 
 pub use fault::{Fault, NameFault, NumberFault};
