@@ -45,5 +45,5 @@ one_reached ds k o x seen later items rest y z done some fresh seen_is y_is item
     let step : Order → Name → Order = reached ds (k - 1) in
     let begin : record { met = seen; done = o.done } ≡ meeting x o = ap (λ l. record { met = l; done = o.done }) (seen_is ∙ ap (λ n. o.met ++ n ∷ []) y_is) in
     let end : later ≡ fold step (meeting x o) (mentioned (find_decl x ds)) =
-        sym (ap (λ r. fold step later r) rest_is) ∙ same ∙ ap (λ b. fold step b items) begin ∙ ap (λ l. fold step (meeting x o) l) items_are in
+    sym (ap (λ r. fold step later r) rest_is) ∙ same ∙ ap (λ b. fold step b items) begin ∙ ap (λ l. fold step (meeting x o) l) items_are in
     ap (λ l. record { met = later.met; done = l }) (done_is ∙ ap (λ n. later.done ++ n ∷ []) z_is) ∙ ap (finishing x) end ∙ sym (met_now ds k o x some fresh)

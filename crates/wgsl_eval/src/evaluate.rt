@@ -31,7 +31,11 @@ pub(crate) fn name_value(alloc: Global, scope: &Scope<'_>, name: &Text) -> Resul
     }
     match declaration(name, scope.declarations) {
         Some(GlobalDeclaration::Declaration(_)) => Err(named(alloc, NameFault::CyclicDecl, name)),
-        Some(GlobalDeclaration::Function(_)) | None => Err(named(alloc, NameFault::UnknownDecl, name)),
+        Some(GlobalDeclaration::Function(_)) | None => Err(named(
+            alloc,
+            NameFault::UnknownDecl,
+            name,
+        )),
     }
 }
 
@@ -48,7 +52,12 @@ pub fn callee(alloc: Global, scope: &Scope<'_>, name: &Text) -> Result<NumericTy
     }
 }
 
-fn call(alloc: Global, scope: &Scope<'_>, name: &Text, arguments: &[Value]) -> Result<Value, EvalError>
+fn call(
+    alloc: Global,
+    scope: &Scope<'_>,
+    name: &Text,
+    arguments: &[Value],
+) -> Result<Value, EvalError>
     ensures { Ends ((stage (scope_of scope.now)).result_of name.now arguments.now) result }
 {
     let ty = callee(alloc, scope, name)?;
@@ -62,7 +71,11 @@ fn call(alloc: Global, scope: &Scope<'_>, name: &Text, arguments: &[Value]) -> R
 /// The value of an expression at the const stage, or its fault.
 #[cycle(evaluating)]
 #[tactic(auto, using(wgsl_syntax::proofs::Trees::tree_of_call))]
-pub fn eval_value(alloc: Global, scope: &Scope<'_>, expression: &Expression) -> Result<Value, EvalError>
+pub fn eval_value(
+    alloc: Global,
+    scope: &Scope<'_>,
+    expression: &Expression,
+) -> Result<Value, EvalError>
     ensures { Ends (spec.value (stage (scope_of scope.now)) [] (tree expression.now)) result }
 {
     match expression {
@@ -95,7 +108,11 @@ fn call_value(alloc: Global, scope: &Scope<'_>, x: &FunctionCall) -> Result<Valu
 }
 
 #[cycle(evaluating)]
-fn values(alloc: Global, scope: &Scope<'_>, nodes: &[ExpressionNode]) -> Result<Items<Value>, EvalError>
+fn values(
+    alloc: Global,
+    scope: &Scope<'_>,
+    nodes: &[ExpressionNode],
+) -> Result<Items<Value>, EvalError>
     ensures { Ends (spec.values (stage (scope_of scope.now)) [] (exps (map node_tree nodes.now))) result }
 {
     let mut done = Items::new(alloc);

@@ -38,7 +38,10 @@ pub(crate) fn name_of(declaration: &GlobalDeclaration) -> &Text
 }
 
 /// The first declaration of a name.
-pub(crate) fn declaration<'a>(name: &Text, declarations: &'a [GlobalDeclarationNode]) -> Option<&'a GlobalDeclaration>
+pub(crate) fn declaration<'a>(
+    name: &Text,
+    declarations: &'a [GlobalDeclarationNode],
+) -> Option<&'a GlobalDeclaration>
     ensures { seen result ≡ spec.find_decl name.now (decls declarations.now) }
 {
     let mut rest = declarations;

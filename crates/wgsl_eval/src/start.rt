@@ -15,7 +15,9 @@ use crate::typing::const_value;
 use std::alloc::{AllocError, Global};
 use wgsl_items::{CloneIn, Items, Text};
 use wgsl_meaning::Value;
-use wgsl_syntax::{Expression, ExpressionNode, GlobalDeclaration, GlobalDeclarationNode, TypeExpression};
+use wgsl_syntax::{
+    Expression, ExpressionNode, GlobalDeclaration, GlobalDeclarationNode, TypeExpression,
+};
 
 // The names that were met, and those whose turn has come, in order.
 #[derive(Drop)]
@@ -35,7 +37,11 @@ fn push_name(alloc: Global, x: &TypeExpression, names: &mut Items<Text>) -> Resu
 
 #[cycle(naming)]
 #[tactic(auto, using(wgsl_syntax::proofs::Trees::tree_of_call))]
-fn push_names(alloc: Global, expression: &Expression, names: &mut Items<Text>) -> Result<(), AllocError>
+fn push_names(
+    alloc: Global,
+    expression: &Expression,
+    names: &mut Items<Text>,
+) -> Result<(), AllocError>
     ensures { OnOk result (names.new ≡ names.old ++ spec.names_in (tree expression.now)) }
 {
     match expression {
@@ -52,7 +58,11 @@ fn push_names(alloc: Global, expression: &Expression, names: &mut Items<Text>) -
 }
 
 #[cycle(naming)]
-fn push_all_names(alloc: Global, nodes: &[ExpressionNode], names: &mut Items<Text>) -> Result<(), AllocError>
+fn push_all_names(
+    alloc: Global,
+    nodes: &[ExpressionNode],
+    names: &mut Items<Text>,
+) -> Result<(), AllocError>
     ensures { OnOk result (names.new ≡ names.old ++ spec.all_names_in (exps (map node_tree nodes.now))) }
 {
     for node in nodes {
@@ -67,7 +77,11 @@ fn is_in(name: &Text, names: &[Text]) -> bool
     names.iter().any(|other| name.as_str() == other.as_str())
 }
 
-fn mentioned(alloc: Global, name: &Text, declarations: &[GlobalDeclarationNode]) -> Result<Items<Text>, AllocError>
+fn mentioned(
+    alloc: Global,
+    name: &Text,
+    declarations: &[GlobalDeclarationNode],
+) -> Result<Items<Text>, AllocError>
     ensures { IfOk result (λ names. names ≡ spec.mentioned (find_decl name.now (decls declarations.now))) }
 {
     let mut names = Items::new(alloc);
@@ -103,7 +117,10 @@ fn reach(
     Ok(())
 }
 
-fn order_of(alloc: Global, declarations: &[GlobalDeclarationNode]) -> Result<Items<Text>, AllocError>
+fn order_of(
+    alloc: Global,
+    declarations: &[GlobalDeclarationNode],
+) -> Result<Items<Text>, AllocError>
     ensures { IfOk result (λ names. names ≡ spec.order_of (decls declarations.now)) }
 {
     let mut order = Order {
@@ -112,7 +129,13 @@ fn order_of(alloc: Global, declarations: &[GlobalDeclarationNode]) -> Result<Ite
     };
     for node in declarations {
         if let GlobalDeclaration::Declaration(d) = node.node() {
-            reach(alloc, declarations, declarations.len() + 1, &mut order, &d.ident.name)?;
+            reach(
+                alloc,
+                declarations,
+                declarations.len() + 1,
+                &mut order,
+                &d.ident.name,
+            )?;
         }
     }
     let Order { met: _, done } = order;
@@ -137,7 +160,10 @@ fn push_value(
 }
 
 /// The consts of a unit with their values, or the first fault.
-pub fn start_values(alloc: Global, declarations: &[GlobalDeclarationNode]) -> Result<Items<(Text, Value)>, UnitError>
+pub fn start_values(
+    alloc: Global,
+    declarations: &[GlobalDeclarationNode],
+) -> Result<Items<(Text, Value)>, UnitError>
     ensures { Answers (λ consts. consts) (spec.consts_of (decls declarations.now)) result }
 {
     let order = order_of(alloc, declarations)?;

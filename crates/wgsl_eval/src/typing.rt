@@ -18,7 +18,9 @@ use crate::scope::Scope;
 use std::alloc::Global;
 use wgsl_items::{Items, Text};
 use wgsl_meaning::{NameFault, NumberFault, NumericType, Value};
-use wgsl_syntax::{Declaration, Expression, ExpressionNode, FunctionCall, GlobalDeclarationNode, TypeExpression};
+use wgsl_syntax::{
+    Declaration, Expression, ExpressionNode, FunctionCall, GlobalDeclarationNode, TypeExpression,
+};
 use wgsl_value::{convert_to, literal_value, type_binary_op, type_of, type_unary_op};
 
 fn name_type(alloc: Global, scope: &Scope<'_>, name: &Text) -> Result<NumericType, EvalError>
@@ -30,7 +32,12 @@ fn name_type(alloc: Global, scope: &Scope<'_>, name: &Text) -> Result<NumericTyp
     }
 }
 
-fn call_type(alloc: Global, scope: &Scope<'_>, name: &Text, arguments: &[NumericType]) -> Result<NumericType, EvalError>
+fn call_type(
+    alloc: Global,
+    scope: &Scope<'_>,
+    name: &Text,
+    arguments: &[NumericType],
+) -> Result<NumericType, EvalError>
     ensures { Ends (spec.called_or name.now (find name.now scope.now.parameters.now) ((stage (scope_of scope.now)).result_type name.now arguments.now)) result }
 {
     let ty = callee(alloc, scope, name)?;
@@ -43,7 +50,11 @@ fn call_type(alloc: Global, scope: &Scope<'_>, name: &Text, arguments: &[Numeric
 /// The type of an expression at the const stage, or its fault.
 #[cycle(typing)]
 #[tactic(auto, using(wgsl_syntax::proofs::Trees::tree_of_call))]
-pub fn eval_ty(alloc: Global, scope: &Scope<'_>, expression: &Expression) -> Result<NumericType, EvalError>
+pub fn eval_ty(
+    alloc: Global,
+    scope: &Scope<'_>,
+    expression: &Expression,
+) -> Result<NumericType, EvalError>
     ensures { Ends (spec.typed (stage (scope_of scope.now)) scope.now.parameters.now (tree expression.now)) result }
 {
     match expression {
@@ -76,7 +87,11 @@ fn typed_call(alloc: Global, scope: &Scope<'_>, x: &FunctionCall) -> Result<Nume
 }
 
 #[cycle(typing)]
-fn types(alloc: Global, scope: &Scope<'_>, nodes: &[ExpressionNode]) -> Result<Items<NumericType>, EvalError>
+fn types(
+    alloc: Global,
+    scope: &Scope<'_>,
+    nodes: &[ExpressionNode],
+) -> Result<Items<NumericType>, EvalError>
     ensures { Ends (spec.all_typed (stage (scope_of scope.now)) scope.now.parameters.now (exps (map node_tree nodes.now))) result }
 {
     let mut done = Items::new(alloc);
@@ -87,7 +102,11 @@ fn types(alloc: Global, scope: &Scope<'_>, nodes: &[ExpressionNode]) -> Result<I
 }
 
 /// The type that a text names.
-pub fn ty_eval_ty(alloc: Global, scope: &Scope<'_>, ty: &TypeExpression) -> Result<NumericType, EvalError>
+pub fn ty_eval_ty(
+    alloc: Global,
+    scope: &Scope<'_>,
+    ty: &TypeExpression,
+) -> Result<NumericType, EvalError>
     ensures { Ends (spec.type_written (stage (scope_of scope.now)) (type_tree ty.now)) result }
 {
     let name = plain_name(alloc, ty)?;
@@ -98,7 +117,12 @@ pub fn ty_eval_ty(alloc: Global, scope: &Scope<'_>, ty: &TypeExpression) -> Resu
     }
 }
 
-fn initial_of_type(alloc: Global, scope: &Scope<'_>, ty: &TypeExpression, expression: &Expression) -> Result<Value, EvalError>
+fn initial_of_type(
+    alloc: Global,
+    scope: &Scope<'_>,
+    ty: &TypeExpression,
+    expression: &Expression,
+) -> Result<Value, EvalError>
     ensures { Ends (spec.initial (stage (scope_of scope.now)) (Some (type_tree ty.now)) (tree expression.now)) result }
 {
     let ty = ty_eval_ty(alloc, scope, ty)?;
@@ -106,7 +130,11 @@ fn initial_of_type(alloc: Global, scope: &Scope<'_>, ty: &TypeExpression, expres
     Ok(convert_to(NumberFault::Conversion(type_of(value), ty), ty, value)?)
 }
 
-fn initial_untyped(alloc: Global, scope: &Scope<'_>, expression: &Expression) -> Result<Value, EvalError>
+fn initial_untyped(
+    alloc: Global,
+    scope: &Scope<'_>,
+    expression: &Expression,
+) -> Result<Value, EvalError>
     requires { scope.now.parameters.now ≡ [] }
     ensures { Ends (spec.initial (stage (scope_of scope.now)) None (tree expression.now)) result }
 {

@@ -4,6 +4,8 @@
 mod conversion;
 mod number;
 mod operator;
+#[cfg(test)]
+mod tests;
 
 pub use conversion::{construct, convert_to, converts};
 pub use number::{literal_value, type_of};

@@ -13,14 +13,28 @@ fn negated(stage: ShaderStage, value: Value) -> Result<Value, NumberFault>
     ensures { result ≡ spec.negated stage value }
 {
     match value {
-        Value::AbstractInt(z) => brought(stage, NumberFault::SubOverflow, NumericType::AbstractInt, -(z as i128)),
-        Value::I32(z) => brought(ShaderStage::Exec, NumberFault::SubOverflow, NumericType::I32, -(z as i128)),
+        Value::AbstractInt(z) => brought(
+            stage,
+            NumberFault::SubOverflow,
+            NumericType::AbstractInt,
+            -(z as i128),
+        ),
+        Value::I32(z) => brought(
+            ShaderStage::Exec,
+            NumberFault::SubOverflow,
+            NumericType::I32,
+            -(z as i128),
+        ),
         Value::U32(_) => Err(NumberFault::Unary(UnaryOperator::Negation, NumericType::U32)),
     }
 }
 
 /// The value of an operator in front of an operand.
-pub fn call_unary_op(stage: ShaderStage, operator: UnaryOperator, value: Value) -> Result<Value, NumberFault>
+pub fn call_unary_op(
+    stage: ShaderStage,
+    operator: UnaryOperator,
+    value: Value,
+) -> Result<Value, NumberFault>
     ensures { result ≡ spec.unary_value stage operator value }
 {
     match operator {
@@ -29,7 +43,11 @@ pub fn call_unary_op(stage: ShaderStage, operator: UnaryOperator, value: Value) 
     }
 }
 
-fn common_type(operator: BinaryOperator, left: NumericType, right: NumericType) -> Result<NumericType, NumberFault>
+fn common_type(
+    operator: BinaryOperator,
+    left: NumericType,
+    right: NumericType,
+) -> Result<NumericType, NumberFault>
     ensures { result ≡ spec.common_type operator left right }
 {
     match (left, right) {
@@ -50,7 +68,12 @@ fn divides(ty: NumericType, a: i128, b: i128) -> bool
 }
 
 // What stands in place of a fault when the shader runs.
-fn instead(stage: ShaderStage, ty: NumericType, value: Result<Value, NumberFault>, fault: NumberFault) -> Result<Value, NumberFault>
+fn instead(
+    stage: ShaderStage,
+    ty: NumericType,
+    value: Result<Value, NumberFault>,
+    fault: NumberFault,
+) -> Result<Value, NumberFault>
     ensures { result ≡ spec.instead stage ty value fault }
 {
     match (stage, ty) {
@@ -85,7 +108,13 @@ fn remainder(stage: ShaderStage, ty: NumericType, a: i128, b: i128) -> Result<Va
     }
 }
 
-fn arithmetic(stage: ShaderStage, operator: BinaryOperator, ty: NumericType, a: i128, b: i128) -> Result<Value, NumberFault>
+fn arithmetic(
+    stage: ShaderStage,
+    operator: BinaryOperator,
+    ty: NumericType,
+    a: i128,
+    b: i128,
+) -> Result<Value, NumberFault>
     requires a_in { FitsSigned w64 a }
     requires b_in { FitsSigned w64 b }
     ensures { result ≡ spec.arithmetic stage operator ty a b }
@@ -101,7 +130,12 @@ fn arithmetic(stage: ShaderStage, operator: BinaryOperator, ty: NumericType, a: 
 }
 
 /// The value of an operator between two operands.
-pub fn call_binary_op(stage: ShaderStage, operator: BinaryOperator, left: Value, right: Value) -> Result<Value, NumberFault>
+pub fn call_binary_op(
+    stage: ShaderStage,
+    operator: BinaryOperator,
+    left: Value,
+    right: Value,
+) -> Result<Value, NumberFault>
     ensures { result ≡ spec.binary_value stage operator left right }
 {
     let fault = NumberFault::Binary(operator, type_of(left), type_of(right));
@@ -135,7 +169,11 @@ fn is_arithmetic(operator: BinaryOperator) -> bool
 }
 
 /// The type of an operator between two operands.
-pub fn type_binary_op(operator: BinaryOperator, left: NumericType, right: NumericType) -> Result<NumericType, NumberFault>
+pub fn type_binary_op(
+    operator: BinaryOperator,
+    left: NumericType,
+    right: NumericType,
+) -> Result<NumericType, NumberFault>
     ensures { result ≡ spec.binary_type operator left right }
 {
     let ty = common_type(operator, left, right)?;
