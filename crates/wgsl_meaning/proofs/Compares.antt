@@ -17,7 +17,8 @@ same_on A B Deep f g h = refl
 pub kept_same : Kept Same
 kept_same = record {
   refl_of = λ A o. refl;
-  going_on = λ A B o p f g e h. ap (λ q. andthen q f) e ∙ same_on A B p f g h }
+  going_on = λ A B o p f g e h. ap (λ q. andthen q f) e ∙ same_on A B p f g h;
+}
 
 -- ---- better
 

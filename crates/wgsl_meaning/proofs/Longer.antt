@@ -49,7 +49,8 @@ module _ (R : (A : Type 0) → Outcome A → Outcome A → Type 0) (kept : Kept 
     values_meet = λ x. consts_at x (p.denotes m x);
     results_meet = λ f vs. calls_at s f (p.denotes m f) vs;
     types_meet = λ f ts. call_types_at s f (p.denotes m f) ts;
-    same_types = λ x. refl }
+    same_types = λ x. refl;
+  }
 
 module _ (p : Program) where
   pub inside_longer : (k : ℕ) (s : ShaderStage) → InsidesMeet Extends (inside p k s) (inside p (suc k) s)
@@ -60,7 +61,8 @@ module _ (p : Program) where
       record {
         consts = λ x. const_meets Extends kept_extends _ _ (opened_meet Extends kept_extends p x.home _ _ early Const) x.called (p.item x);
         calls = λ f vs. call_meets Extends kept_extends _ _ (opened_meet Extends kept_extends p f.home _ _ own s) f.called (p.item f) vs;
-        types = λ f. call_type_meets Extends kept_extends _ _ (opened_meet Extends kept_extends p f.home _ _ own s) f.called (p.item f) }
+        types = λ f. call_type_meets Extends kept_extends _ _ (opened_meet Extends kept_extends p f.home _ _ own s) f.called (p.item f);
+      }
 
   pub world_longer : (k : ℕ) (s : ShaderStage) (m : ModulePath) → Meet Extends (world p k s m) (world p (suc k) s m)
   world_longer k s m = opened_meet Extends kept_extends p m _ _ (inside_longer k s) s

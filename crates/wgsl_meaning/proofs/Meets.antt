@@ -110,7 +110,7 @@ module _ (R : (A : Type 0) → Outcome A → Outcome A → Type 0) (kept : Kept 
     bound_meets (p ∷ ps) [] = kept.refl_of Env (Done [] 0)
     bound_meets (p ∷ ps) (v ∷ vs) = kept.going_on NumericType Env (type_written w p.type) (type_written u p.type) _ _ (written_meets p.type) (λ t.
         kept.going_on Value Env _ _ _ _ (kept.refl_of Value (computed (converted (ParamType (type_of v) t) t v))) (λ x.
-            kept.going_on Env Env (bound w ps vs) (bound u ps vs) _ _ (bound_meets ps vs) (λ env. kept.refl_of Env (Done ((p.name, x) ∷ env) 0))))
+        kept.going_on Env Env (bound w ps vs) (bound u ps vs) _ _ (bound_meets ps vs) (λ env. kept.refl_of Env (Done ((p.name, x) ∷ env) 0))))
 
     pub returned_meets : (env : Env) (body : List Stm) → R (Option Value) (returned_by w env body) (returned_by u env body)
     returned_meets env [] = kept.refl_of (Option Value) (Done None 0)
@@ -132,7 +132,7 @@ module _ (R : (A : Type 0) → Outcome A → Outcome A → Type 0) (kept : Kept 
     pub call_meets : (f : Name) (d : Option Decl) (vs : List Value) → R Value (call_in w f d vs) (call_in u f d vs)
     call_meets f (Some (function attributes g ps return_attributes type body)) vs =
         counted (length vs == length ps) f (length vs) (length ps) _ _ (kept.going_on Env Value (bound w ps vs) (bound u ps vs) _ _ (bound_meets ps vs) (λ env.
-            kept.going_on (Option Value) Value (body_of w f type body.statements env) (body_of u f type body.statements env) _ _ (body_meets f type body.statements env) (λ v. kept.refl_of Value (needed f v))))
+        kept.going_on (Option Value) Value (body_of w f type body.statements env) (body_of u f type body.statements env) _ _ (body_meets f type body.statements env) (λ v. kept.refl_of Value (needed f v))))
     call_meets f (Some (variable attributes kind x type e)) vs = kept.refl_of Value (Failed (Named NotCallable f))
     call_meets f None vs = kept.refl_of Value (Failed (Named NotCallable f))
 
@@ -155,8 +155,8 @@ module _ (R : (A : Type 0) → Outcome A → Outcome A → Type 0) (kept : Kept 
     inputs_meet inputs [] = kept.refl_of Env (Done [] 0)
     inputs_meet inputs (p ∷ ps) = kept.going_on ℕ Env (location_of consts p.name p.attributes) (location_of consts' p.name p.attributes) _ _ (location_meets consts consts' meet' p.name p.attributes) (λ n.
         kept.going_on NumericType Env (type_written w p.type) (type_written u p.type) _ _ (written_meets w u meet p.type) (λ t.
-            kept.going_on Value Env _ _ _ _ (kept.refl_of Value (input_at p.name n t (inputs n))) (λ v.
-                kept.going_on Env Env (inputs_bound consts w inputs ps) (inputs_bound consts' u inputs ps) _ _ (inputs_meet inputs ps) (λ env. kept.refl_of Env (Done ((p.name, v) ∷ env) 0)))))
+        kept.going_on Value Env _ _ _ _ (kept.refl_of Value (input_at p.name n t (inputs n))) (λ v.
+        kept.going_on Env Env (inputs_bound consts w inputs ps) (inputs_bound consts' u inputs ps) _ _ (inputs_meet inputs ps) (λ env. kept.refl_of Env (Done ((p.name, v) ∷ env) 0)))))
 
     staged : (b : Bool) (f : Name) (o p : Outcome (Option Value)) → R (Option Value) o p → R (Option Value) (if b then o else Failed (Named NotEntrypoint f)) (if b then p else Failed (Named NotEntrypoint f))
     staged true f o p r = r
@@ -165,6 +165,6 @@ module _ (R : (A : Type 0) → Outcome A → Outcome A → Type 0) (kept : Kept 
     pub entered_meets : (f : Name) (d : Option Decl) (inputs : Inputs) → R (Option Value) (entered consts w f d inputs) (entered consts' u f d inputs)
     entered_meets f (Some (function attributes g ps return_attributes type body)) inputs =
         staged (has_stage attributes) f _ _ (kept.going_on Env (Option Value) (inputs_bound consts w inputs ps) (inputs_bound consts' u inputs ps) _ _ (inputs_meet inputs ps) (λ env.
-            body_meets w u meet f type body.statements env))
+        body_meets w u meet f type body.statements env))
     entered_meets f (Some (variable attributes kind x type e)) inputs = kept.refl_of (Option Value) (Failed (Named NotEntrypoint f))
     entered_meets f None inputs = kept.refl_of (Option Value) (Failed (Named UnknownDecl f))

@@ -38,7 +38,7 @@ module _ (R : (A : Type 0) → Outcome A → Outcome A → Type 0) (kept : Kept 
         kept.going_on Value Value (value w env a) (value u env' b) _ _ (simulates a b f) (λ x. stages.by_unary o x)
     simulates e d (keeps_binary {o = o} {a = a} {b = b} {c = c} {d = d'} f g) =
         kept.going_on Value Value (value w env a) (value u env' b) _ _ (simulates a b f) (λ x.
-            kept.going_on Value Value (value w env c) (value u env' d') _ _ (simulates c d' g) (λ y. stages.by_binary o x y))
+        kept.going_on Value Value (value w env c) (value u env' d') _ _ (simulates c d' g) (λ y. stages.by_binary o x y))
     simulates e d (keeps_call {f = f} {g = g} {es = es} {ds = ds} c fs) =
         kept.going_on (List Value) Value (values w env es) (values u env' ds) _ _ (simulate_all es ds fs) (λ vs. by_call f g vs c)
     simulates e d (keeps_name {x = x} {y = y} n) = by_name x y n
@@ -48,7 +48,7 @@ module _ (R : (A : Type 0) → Outcome A → Outcome A → Type 0) (kept : Kept 
     simulate_all es ds no_more = kept.refl_of (List Value) (Done [] 0)
     simulate_all es ds (one_more {e = e} {d = d} {es = es'} {ds = ds'} f fs) =
         kept.going_on Value (List Value) (value w env e) (value u env' d) _ _ (simulates e d f) (λ x.
-            kept.going_on (List Value) (List Value) (values w env es') (values u env' ds') _ _ (simulate_all es' ds' fs) (λ xs. kept.refl_of (List Value) (Done (x ∷ xs) 0)))
+        kept.going_on (List Value) (List Value) (values w env es') (values u env' ds') _ _ (simulate_all es' ds' fs) (λ xs. kept.refl_of (List Value) (Done (x ∷ xs) 0)))
 
 -- a tree follows itself
 module _ (N C : Typ → Typ → Type 0) (K : Exp → Exp → Type 0) (n : (x : Typ) → N x x) (c : (f : Typ) → C f f) where

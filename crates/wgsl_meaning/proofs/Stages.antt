@@ -80,8 +80,8 @@ module _ (s t : ShaderStage) (strict : (ty : NumericType) → is_lenient s ty �
   binary_later : (o : BinaryOperator) (x y : Value) → Later (binary_value s o x y) (binary_value t o x y)
   binary_later o x y =
       then_later (common_type o (type_of x) (type_of y)) _ _ (λ ty.
-          then_later (converted (Binary o (type_of x) (type_of y)) ty x) _ _ (λ a.
-              then_later (converted (Binary o (type_of x) (type_of y)) ty y) _ _ (λ b. arithmetic_later o ty (number a) (number b))))
+      then_later (converted (Binary o (type_of x) (type_of y)) ty x) _ _ (λ a.
+      then_later (converted (Binary o (type_of x) (type_of y)) ty y) _ _ (λ b. arithmetic_later o ty (number a) (number b))))
 
   pub strict_stages_meet : StagesMeet Carries s t
   strict_stages_meet = record { by_unary = unary_later; by_binary = binary_later }
@@ -109,7 +109,8 @@ module _ (p : Program) (k : ℕ) (m : ModulePath) where
     values_meet = λ x. values x (p.denotes m x);
     results_meet = λ f vs. calls_later k t f (p.denotes m f) vs;
     types_meet = λ f ts. types_later k t f (p.denotes m f) ts;
-    same_types = λ x. refl }
+    same_types = λ x. refl;
+  }
     where
       values : (x : Name) (o : Option Symbol) → Carries Value (const_at x o (inside p k Const).const_value) (const_at x o (inside p k t).const_value)
       values x (Some s) = subst (λ q. Carries Value ((inside p k Const).const_value s) q) (same_consts k t s) (carries_refl Value _)

@@ -111,7 +111,7 @@ then_fits (Err e) f g h = tt
 binary_fits : (s : ShaderStage) (o : BinaryOperator) (x y : Value) → Fits (binary_type o (type_of x) (type_of y)) (binary_value s o x y)
 binary_fits s o x y = then_fits (common_type o (type_of x) (type_of y)) _ _ (λ t.
     after_conversion _ (converted (Binary o (type_of x) (type_of y)) t x) _ (λ a.
-        after_conversion _ (converted (Binary o (type_of x) (type_of y)) t y) _ (λ b. arithmetic_fits s o t (number a) (number b))))
+    after_conversion _ (converted (Binary o (type_of x) (type_of y)) t y) _ (λ b. arithmetic_fits s o t (number a) (number b))))
 
 -- ---- expressions
 
@@ -149,7 +149,7 @@ module _ (w u : World) (agree : TypesAgree w u) (env : Env) where
         subst (λ z. Fits (unary_type o z) (unary_value u.stage o v)) h (unary_fits u.stage o v))
     has_type (binary o a b) = both_on HasType HasType (typed w (types_of env) a) (value u env a) _ _ (has_type a) (λ s x h.
         both_on HasType HasType (typed w (types_of env) b) (value u env b) _ _ (has_type b) (λ t y i.
-            subst (λ z. Fits (binary_type o z t) (binary_value u.stage o x y)) h (subst (λ z. Fits (binary_type o (type_of x) z) (binary_value u.stage o x y)) i (binary_fits u.stage o x y))))
+        subst (λ z. Fits (binary_type o z t) (binary_value u.stage o x y)) h (subst (λ z. Fits (binary_type o (type_of x) z) (binary_value u.stage o x y)) i (binary_fits u.stage o x y))))
     has_type (call f es) = both_on HaveTypes HasType (all_typed w (types_of env) es) (values u env es) _ _ (have_types es) (λ ts vs h. callee_fits (plain_name f) ts vs h)
     has_type (named x) = name_fits (plain_name x)
 

@@ -40,7 +40,8 @@ stage s = record {
   value_of = λ x. hidden x (find x s.parameters) (const_known x (find x s.consts) (find_decl x s.declarations));
   result_of = λ f vs. called_or f (find f s.parameters) (called_at Const f (here_if f (find_decl f s.declarations)) (λ x xs. Deep) vs);
   result_type = λ f ts. call_type_at Const f (here_if f (find_decl f s.declarations)) (λ x. Deep) ts;
-  type_named = λ x. type_at x (here_if x (find_decl x s.declarations)) }
+  type_named = λ x. type_at x (here_if x (find_decl x s.declarations));
+}
 
 -- outside of functions
 abbrev pub module_scope : List Decl → Consts → Scope

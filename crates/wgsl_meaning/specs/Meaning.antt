@@ -133,7 +133,7 @@ bound w [] vs = Done [] 0
 bound w (p ∷ ps) [] = Done [] 0
 bound w (p ∷ ps) (v ∷ vs) =
     andthen (type_written w p.type) (λ t. andthen (computed (converted (ParamType (type_of v) t) t v)) (λ x.
-        andthen (bound w ps vs) (λ env. Done ((p.name, x) ∷ env) 0)))
+    andthen (bound w ps vs) (λ env. Done ((p.name, x) ∷ env) 0)))
 
 -- what a body of at most one return hands back
 abbrev pub returned_by : World → Env → List Stm → Outcome (Option Value)

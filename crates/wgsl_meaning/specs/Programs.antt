@@ -61,7 +61,8 @@ opened p s m i = record {
   value_of = λ x. const_at x (p.denotes m x) i.const_value;
   result_of = λ f vs. called_at s f (p.denotes m f) i.call_value vs;
   result_type = λ f ts. call_type_at s f (p.denotes m f) i.call_type_of ts;
-  type_named = λ x. type_at x (p.denotes m x) }
+  type_named = λ x. type_at x (p.denotes m x);
+}
 
 -- at most so many consts and calls inside one another. A const is evaluated at the const stage, by need
 abbrev pub inside : Program → ℕ → ShaderStage → Inside
@@ -69,7 +70,8 @@ inside p zero s = record { const_value = λ x. Deep; call_value = λ f vs. Deep;
 inside p (suc k) s = record {
   const_value = λ x. const_in (opened p Const x.home (inside p k Const)) x.called (p.item x);
   call_value = λ f vs. call_in (opened p s f.home (inside p k s)) f.called (p.item f) vs;
-  call_type_of = λ f. call_type (opened p s f.home (inside p k s)) f.called (p.item f) }
+  call_type_of = λ f. call_type (opened p s f.home (inside p k s)) f.called (p.item f);
+}
 
 abbrev pub world : Program → ℕ → ShaderStage → ModulePath → World
 world p k s m = opened p s m (inside p k s)
@@ -103,7 +105,7 @@ abbrev pub inputs_bound : World → World → Inputs → List Param → Outcome 
 inputs_bound consts w inputs [] = Done [] 0
 inputs_bound consts w inputs (p ∷ ps) =
     andthen (location_of consts p.name p.attributes) (λ n. andthen (type_written w p.type) (λ t. andthen (input_at p.name n t (inputs n)) (λ v.
-        andthen (inputs_bound consts w inputs ps) (λ env. Done ((p.name, v) ∷ env) 0))))
+    andthen (inputs_bound consts w inputs ps) (λ env. Done ((p.name, v) ∷ env) 0))))
 
 -- an entry point has a stage
 abbrev pub has_stage : List Attr → Bool
@@ -157,7 +159,8 @@ abbrev pub plain : List Decl → Program
 plain ds = record {
   held = map (λ d. here (name_of d)) ds;
   item = λ s. find_decl s.called ds;
-  denotes = λ m x. here_if x (find_decl x ds) }
+  denotes = λ m x. here_if x (find_decl x ds);
+}
 
 abbrev pub program_of : Module → Program
 program_of u = plain u.declarations

@@ -184,8 +184,8 @@ arithmetic s o t a b = Err (Binary o t t)
 abbrev pub binary_value : ShaderStage → BinaryOperator → Value → Value → Numbers Value
 binary_value s o x y =
     then_number (common_type o (type_of x) (type_of y)) (λ t.
-        then_number (converted (Binary o (type_of x) (type_of y)) t x) (λ a.
-            then_number (converted (Binary o (type_of x) (type_of y)) t y) (λ b. arithmetic s o t (number a) (number b))))
+    then_number (converted (Binary o (type_of x) (type_of y)) t x) (λ a.
+    then_number (converted (Binary o (type_of x) (type_of y)) t y) (λ b. arithmetic s o t (number a) (number b))))
 
 -- ---- their types
 
