@@ -1,0 +1,5 @@
+pub mod Occurrences
+pub mod Modules
+pub mod Names
+pub mod Rounds
+pub mod Linked
