@@ -4,8 +4,9 @@ use crate::assemble::HeldModule;
 use crate::denote::{Symbol, symbol_at};
 use crate::module::Module;
 use crate::naming::printed;
-use crate::occurrence::{Occurrence, Scope, occurrences_after, occurrences_before};
+use crate::occurrence::{names_before, names_behind, names_in_body};
 use crate::rounds::Resolutions;
+use crate::scope::Scope;
 use std::alloc::{AllocError, Global};
 use std::collections::BTreeMap;
 use wgsl_items::Text;
@@ -54,17 +55,23 @@ impl Resolutions {
         symbol: Symbol<'_>,
         name: &str,
     ) -> Result<Option<Text>, AllocError> {
-        let scope = scope_of(alloc, symbol.declaration)?;
-        let before = occurrences_before(alloc, symbol.declaration)?;
-        let clash = self.first_clash(alloc, sharing, symbol.module, &scope, before.as_slice())?;
+        let module = Scope::module(alloc);
+        let before = names_before(alloc, symbol.declaration)?;
+        let clash = self.first_clash(alloc, sharing, symbol.module, &module, before.as_slice())?;
         if clash.is_some() {
             return Ok(clash);
         }
         if is_shared(sharing, name) {
             return Ok(Some(Text::from_str(alloc, name)?));
         }
-        let after = occurrences_after(alloc, symbol.declaration)?;
-        self.first_clash(alloc, sharing, symbol.module, &scope, after.as_slice())
+        let behind = names_behind(alloc, symbol.declaration)?;
+        let clash = self.first_clash(alloc, sharing, symbol.module, &module, behind.as_slice())?;
+        if clash.is_some() {
+            return Ok(clash);
+        }
+        let body = scope_of(alloc, symbol.declaration)?;
+        let inside = names_in_body(alloc, symbol.declaration)?;
+        self.first_clash(alloc, sharing, symbol.module, &body, inside.as_slice())
     }
 
     fn first_clash(
@@ -73,20 +80,20 @@ impl Resolutions {
         sharing: &Sharing<'_>,
         module: &Module,
         scope: &Scope<'_>,
-        occurrences: &[Occurrence<'_>],
+        names: &[&str],
     ) -> Result<Option<Text>, AllocError> {
-        for occurrence in occurrences {
-            let clashing = match printed(self, module, occurrence.name) {
+        for occurring in names.iter().copied() {
+            let clashing = match printed(self, module, occurring) {
                 Some(name) => {
-                    if is_shared(sharing, name) || (occurrence.in_body && scope.hides(name)) {
+                    if is_shared(sharing, name) || scope.hides(name) {
                         Some(name)
                     } else {
                         None
                     }
                 }
                 None => {
-                    if sharing.contains_key(occurrence.name) {
-                        Some(occurrence.name)
+                    if sharing.contains_key(occurring) {
+                        Some(occurring)
                     } else {
                         None
                     }

@@ -12,6 +12,7 @@ mod occurrence;
 mod rename;
 mod resolver;
 mod rounds;
+mod scope;
 mod source_map;
 
 pub use error::{ImportError, ResolveError};

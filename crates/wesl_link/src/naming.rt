@@ -2,7 +2,7 @@
 
 use crate::denote::{Denoted, Symbol, denotation};
 use crate::module::Module;
-use crate::occurrence::Scope;
+use crate::scope::Scope;
 use crate::rounds::{Held, Resolutions};
 use std::alloc::{AllocError, Global};
 use wgsl_items::Text;

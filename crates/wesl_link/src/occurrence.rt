@@ -1,75 +1,65 @@
 //! The names that occur in a declaration and that no parameter hides.
 
+ghost use Rattle.std.specs.Prelude.{◌≡◌, [], ◌++◌, map, IfOk, OnOk};
+ghost use Rattle.std.specs.Option.{option_map};
+ghost use Rattle.std.specs.List.{flat_map};
+ghost use Rattle.wgsl_syntax.specs.View.{tree, type_tree, node_tree, attribute_tree, attributes_tree, statement_tree, block_tree, parameter_tree, declaration_tree};
+ghost use Rattle.wgsl_syntax.specs.Tree.{exps};
+ghost use Rattle.wesl_sources.specs.Occurrences as spec;
+ghost use Rattle.wesl_link.specs.Scopes.{texts};
+
+use crate::scope::Scope;
 use std::alloc::{AllocError, Global};
-use std::collections::BTreeSet;
 use wgsl_syntax::{
     Attribute, Attributes, CompoundStatement, Declaration, Expression, ExpressionNode,
-    FormalParameter, Function, GlobalDeclaration, Statement, TemplateArg, TypeExpression,
+    FormalParameter, Function, FunctionCall, GlobalDeclaration, Statement, TemplateArg, TypeExpression,
 };
 
-/// The parameters whose names a place of a declaration sees.
-#[derive(Debug, Drop)]
-pub struct Scope<'a> {
-    parameters: BTreeSet<&'a str>,
-}
-
-impl<'a> Scope<'a> {
-    /// The scope of a module.
-    pub fn module(alloc: Global) -> Scope<'a> {
-        Scope {
-            parameters: BTreeSet::new(alloc),
-        }
-    }
-
-    /// The scope of a function's body.
-    pub fn body(alloc: Global, parameters: &'a [FormalParameter]) -> Result<Scope<'a>, AllocError> {
-        let mut names = BTreeSet::new(alloc);
-        for parameter in parameters {
-            names.insert(parameter.ident.as_str())?;
-        }
-        Ok(Scope { parameters: names })
-    }
-
-    pub fn hides(&self, name: &str) -> bool {
-        self.parameters.contains(name)
-    }
-}
-
-/// A name that occurs and that no parameter hides.
-#[derive(Clone, Copy, Debug)]
-pub struct Occurrence<'a> {
-    pub name: &'a str,
-    /// Whether it stands in a function's body, where the parameters are in scope.
-    pub in_body: bool,
-}
-
 /// The names that occur in a declaration before its own name: in its attributes.
-pub fn occurrences_before<'a>(
+pub fn names_before<'a>(
     alloc: Global,
     declaration: &'a GlobalDeclaration,
-) -> Result<Vec<Occurrence<'a>>, AllocError> {
+) -> Result<Vec<&'a str>, AllocError>
+    ensures { IfOk result (λ found. texts found.items ≡ spec.names_before (declaration_tree declaration.now)) }
+{
     let mut found = Vec::new(alloc);
     let scope = Scope::module(alloc);
     match declaration {
         GlobalDeclaration::Declaration(declaration) => {
-            add_attributes(&mut found, &scope, false, &declaration.attributes)?
+            add_attributes(&mut found, &scope, &declaration.attributes)?
         }
-        GlobalDeclaration::Function(function) => {
-            add_attributes(&mut found, &scope, false, &function.attributes)?
-        }
+        GlobalDeclaration::Function(function) => add_attributes(&mut found, &scope, &function.attributes)?,
     }
     Ok(found)
 }
 
-/// The names that occur in a declaration after its own name.
-pub fn occurrences_after<'a>(
+/// The names that occur behind a declaration's own name, in the scope of the module.
+pub fn names_behind<'a>(
     alloc: Global,
     declaration: &'a GlobalDeclaration,
-) -> Result<Vec<Occurrence<'a>>, AllocError> {
+) -> Result<Vec<&'a str>, AllocError>
+    ensures { IfOk result (λ found. texts found.items ≡ spec.names_behind (declaration_tree declaration.now)) }
+{
     let mut found = Vec::new(alloc);
+    let scope = Scope::module(alloc);
     match declaration {
-        GlobalDeclaration::Declaration(declaration) => add_declaration(alloc, &mut found, declaration)?,
-        GlobalDeclaration::Function(function) => add_function(alloc, &mut found, function)?,
+        GlobalDeclaration::Declaration(declaration) => add_value(&mut found, &scope, declaration)?,
+        GlobalDeclaration::Function(function) => add_signature(&mut found, &scope, function)?,
+    }
+    Ok(found)
+}
+
+/// The names that occur in a function's body and that no parameter hides.
+pub fn names_in_body<'a>(
+    alloc: Global,
+    declaration: &'a GlobalDeclaration,
+) -> Result<Vec<&'a str>, AllocError>
+    ensures { IfOk result (λ found. texts found.items ≡ spec.names_in_body (declaration_tree declaration.now)) }
+{
+    let mut found = Vec::new(alloc);
+    if let GlobalDeclaration::Function(function) = declaration {
+        let body = Scope::body(alloc, function.parameters.as_slice())?;
+        add_block(&mut found, &body, &function.body)?;
     }
     Ok(found)
 }
@@ -78,112 +68,165 @@ pub fn occurrences_after<'a>(
 pub fn occurrences<'a>(
     alloc: Global,
     declaration: &'a GlobalDeclaration,
-) -> Result<Vec<Occurrence<'a>>, AllocError> {
-    let mut found = occurrences_before(alloc, declaration)?;
-    let after = occurrences_after(alloc, declaration)?;
-    found.extend_from_slice(after.as_slice())?;
+) -> Result<Vec<&'a str>, AllocError>
+    ensures { IfOk result (λ found. texts found.items ≡ spec.occurrences (declaration_tree declaration.now)) }
+{
+    let mut found = names_before(alloc, declaration)?;
+    let behind = names_behind(alloc, declaration)?;
+    let body = names_in_body(alloc, declaration)?;
+    found.extend_from_slice(behind.as_slice())?;
+    found.extend_from_slice(body.as_slice())?;
     Ok(found)
 }
 
-fn add_declaration<'a>(
-    alloc: Global,
-    found: &mut Vec<Occurrence<'a>>,
+fn add_value<'a>(
+    found: &mut Vec<&'a str>,
+    scope: &Scope<'a>,
     declaration: &'a Declaration,
-) -> Result<(), AllocError> {
-    let scope = Scope::module(alloc);
+) -> Result<(), AllocError>
+    ensures { OnOk result (texts found.new.items ≡ texts found.old.items ++ (spec.in_some (spec.in_type scope.now) (option_map type_tree declaration.now.ty) ++ spec.in_some (spec.in_expression scope.now) (option_map node_tree declaration.now.initializer))) }
+{
     if let Some(ty) = &declaration.ty {
-        add_type(found, &scope, false, ty)?;
+        add_type(found, scope, ty)?;
     }
     if let Some(initializer) = &declaration.initializer {
-        add_expression(found, &scope, false, initializer.node())?;
+        add_expression(found, scope, initializer.node())?;
     }
     Ok(())
 }
 
-fn add_function<'a>(
-    alloc: Global,
-    found: &mut Vec<Occurrence<'a>>,
+fn add_signature<'a>(
+    found: &mut Vec<&'a str>,
+    scope: &Scope<'a>,
     function: &'a Function,
-) -> Result<(), AllocError> {
-    let scope = Scope::module(alloc);
+) -> Result<(), AllocError>
+    requires { scope.now ≡ [] }
+    ensures { OnOk result (texts found.new.items ≡ texts found.old.items ++ (flat_map spec.in_parameter (map parameter_tree function.now.parameters) ++ spec.in_attributes [] (attributes_tree function.now.return_attributes) ++ spec.in_some (spec.in_type []) (option_map type_tree function.now.return_type))) }
+{
     for parameter in function.parameters.as_slice() {
-        add_attributes(found, &scope, false, &parameter.attributes)?;
-        add_type(found, &scope, false, &parameter.ty)?;
+        add_parameter(found, scope, parameter)?;
     }
-    add_attributes(found, &scope, false, &function.return_attributes)?;
+    add_attributes(found, scope, &function.return_attributes)?;
     if let Some(ty) = &function.return_type {
-        add_type(found, &scope, false, ty)?;
+        add_type(found, scope, ty)?;
     }
-    let body = Scope::body(alloc, function.parameters.as_slice())?;
-    add_block(found, &body, &function.body)
+    Ok(())
+}
+
+fn add_parameter<'a>(
+    found: &mut Vec<&'a str>,
+    scope: &Scope<'a>,
+    parameter: &'a FormalParameter,
+) -> Result<(), AllocError>
+    requires { scope.now ≡ [] }
+    ensures { OnOk result (texts found.new.items ≡ texts found.old.items ++ spec.in_parameter (parameter_tree parameter.now)) }
+{
+    add_attributes(found, scope, &parameter.attributes)?;
+    add_type(found, scope, &parameter.ty)
 }
 
 fn add_block<'a>(
-    found: &mut Vec<Occurrence<'a>>,
+    found: &mut Vec<&'a str>,
     scope: &Scope<'a>,
     block: &'a CompoundStatement,
-) -> Result<(), AllocError> {
-    add_attributes(found, scope, true, &block.attributes)?;
+) -> Result<(), AllocError>
+    ensures { OnOk result (texts found.new.items ≡ texts found.old.items ++ spec.in_block scope.now (block_tree block.now)) }
+{
+    add_attributes(found, scope, &block.attributes)?;
     for statement in block.statements.as_slice() {
-        match statement.node() {
-            Statement::Return(statement) => {
-                add_attributes(found, scope, true, &statement.attributes)?;
-                if let Some(expression) = &statement.expression {
-                    add_expression(found, scope, true, expression.node())?;
-                }
-            }
-        }
+        add_statement(found, scope, statement.node())?;
     }
     Ok(())
+}
+
+fn add_statement<'a>(
+    found: &mut Vec<&'a str>,
+    scope: &Scope<'a>,
+    statement: &'a Statement,
+) -> Result<(), AllocError>
+    ensures { OnOk result (texts found.new.items ≡ texts found.old.items ++ spec.in_statement scope.now (statement_tree statement.now)) }
+{
+    match statement {
+        Statement::Return(statement) => {
+            add_attributes(found, scope, &statement.attributes)?;
+            if let Some(expression) = &statement.expression {
+                add_expression(found, scope, expression.node())?;
+            }
+            Ok(())
+        }
+    }
 }
 
 fn add_attributes<'a>(
-    found: &mut Vec<Occurrence<'a>>,
+    found: &mut Vec<&'a str>,
     scope: &Scope<'a>,
-    in_body: bool,
     attributes: &'a Attributes,
-) -> Result<(), AllocError> {
+) -> Result<(), AllocError>
+    ensures { OnOk result (texts found.new.items ≡ texts found.old.items ++ spec.in_attributes scope.now (attributes_tree attributes.now)) }
+{
     for attribute in attributes.as_slice() {
-        match attribute.node() {
-            Attribute::Fragment => {}
-            Attribute::Location(expression) => add_expression(found, scope, in_body, expression.node())?,
-        }
+        add_attribute(found, scope, attribute.node())?;
     }
     Ok(())
 }
 
-#[cycle(occurring)]
-fn add_expression<'a>(
-    found: &mut Vec<Occurrence<'a>>,
+fn add_attribute<'a>(
+    found: &mut Vec<&'a str>,
     scope: &Scope<'a>,
-    in_body: bool,
+    attribute: &'a Attribute,
+) -> Result<(), AllocError>
+    ensures { OnOk result (texts found.new.items ≡ texts found.old.items ++ spec.in_attribute scope.now (attribute_tree attribute.now)) }
+{
+    match attribute {
+        Attribute::Fragment => Ok(()),
+        Attribute::Location(expression) => add_expression(found, scope, expression.node()),
+    }
+}
+
+#[cycle(occurring)]
+#[tactic(auto, using(crate::proofs::TreeLemmas::in_call, crate::proofs::TreeLemmas::in_named))]
+fn add_expression<'a>(
+    found: &mut Vec<&'a str>,
+    scope: &Scope<'a>,
     expression: &'a Expression,
-) -> Result<(), AllocError> {
+) -> Result<(), AllocError>
+    ensures { OnOk result (texts found.new.items ≡ texts found.old.items ++ spec.in_expression scope.now (tree expression.now)) }
+{
     match expression {
         Expression::Literal(_) => Ok(()),
-        Expression::Parenthesized(x) => add_expression(found, scope, in_body, x.expression.node()),
-        Expression::Unary(x) => add_expression(found, scope, in_body, x.operand.node()),
+        Expression::Parenthesized(x) => add_expression(found, scope, x.expression.node()),
+        Expression::Unary(x) => add_expression(found, scope, x.operand.node()),
         Expression::Binary(x) => {
-            add_expression(found, scope, in_body, x.left.node())?;
-            add_expression(found, scope, in_body, x.right.node())
+            add_expression(found, scope, x.left.node())?;
+            add_expression(found, scope, x.right.node())
         }
-        Expression::FunctionCall(x) => {
-            add_type(found, scope, in_body, &x.ty)?;
-            add_expressions(found, scope, in_body, x.arguments.as_slice())
-        }
-        Expression::TypeOrIdentifier(ty) => add_type(found, scope, in_body, ty),
+        Expression::FunctionCall(x) => add_call(found, scope, x),
+        Expression::TypeOrIdentifier(ty) => add_type(found, scope, ty),
     }
+}
+
+#[cycle(occurring)]
+fn add_call<'a>(
+    found: &mut Vec<&'a str>,
+    scope: &Scope<'a>,
+    call: &'a FunctionCall,
+) -> Result<(), AllocError>
+    ensures { OnOk result (texts found.new.items ≡ texts found.old.items ++ (spec.in_type scope.now (type_tree call.now.ty) ++ spec.in_expressions scope.now (exps (map node_tree call.now.arguments)))) }
+{
+    add_type(found, scope, &call.ty)?;
+    add_expressions(found, scope, call.arguments.as_slice())
 }
 
 #[cycle(occurring)]
 fn add_expressions<'a>(
-    found: &mut Vec<Occurrence<'a>>,
+    found: &mut Vec<&'a str>,
     scope: &Scope<'a>,
-    in_body: bool,
     expressions: &'a [ExpressionNode],
-) -> Result<(), AllocError> {
+) -> Result<(), AllocError>
+    ensures { OnOk result (texts found.new.items ≡ texts found.old.items ++ spec.in_expressions scope.now (exps (map node_tree expressions.now))) }
+{
     for expression in expressions {
-        add_expression(found, scope, in_body, expression.node())?;
+        add_expression(found, scope, expression.node())?;
     }
     Ok(())
 }
@@ -191,41 +234,40 @@ fn add_expressions<'a>(
 /// A name behind a path is no occurrence yet: no text has one.
 #[cycle(occurring)]
 fn add_type<'a>(
-    found: &mut Vec<Occurrence<'a>>,
+    found: &mut Vec<&'a str>,
     scope: &Scope<'a>,
-    in_body: bool,
     ty: &'a TypeExpression,
-) -> Result<(), AllocError> {
+) -> Result<(), AllocError>
+    ensures { OnOk result (texts found.new.items ≡ texts found.old.items ++ spec.in_type scope.now (type_tree ty.now)) }
+{
     if ty.path.is_none() {
-        add_name(found, scope, in_body, ty.ident.as_str())?;
+        add_name(found, scope, ty.ident.as_str())?;
     }
     match &ty.template_args {
         None => Ok(()),
-        Some(arguments) => add_template(found, scope, in_body, arguments.as_slice()),
+        Some(arguments) => add_template(found, scope, arguments.as_slice()),
     }
 }
 
 #[cycle(occurring)]
 fn add_template<'a>(
-    found: &mut Vec<Occurrence<'a>>,
+    found: &mut Vec<&'a str>,
     scope: &Scope<'a>,
-    in_body: bool,
     arguments: &'a [TemplateArg],
-) -> Result<(), AllocError> {
+) -> Result<(), AllocError>
+    ensures { OnOk result (texts found.new.items ≡ texts found.old.items ++ spec.in_expressions scope.now (exps (map (λ a. node_tree a.expression) arguments.now))) }
+{
     for argument in arguments {
-        add_expression(found, scope, in_body, argument.expression.node())?;
+        add_expression(found, scope, argument.expression.node())?;
     }
     Ok(())
 }
 
-fn add_name<'a>(
-    found: &mut Vec<Occurrence<'a>>,
-    scope: &Scope<'a>,
-    in_body: bool,
-    name: &'a str,
-) -> Result<(), AllocError> {
+fn add_name<'a>(found: &mut Vec<&'a str>, scope: &Scope<'a>, name: &'a str) -> Result<(), AllocError>
+    ensures { OnOk result (texts found.new.items ≡ texts found.old.items ++ spec.unless_local scope.now name.now) }
+{
     if !scope.hides(name) {
-        found.push(Occurrence { name, in_body })?;
+        found.push(name)?;
     }
     Ok(())
 }

@@ -1,7 +1,7 @@
 //! Copies of trees with new names in the place of names.
 
 use crate::naming::{BodyNaming, Naming};
-use crate::occurrence::Scope;
+use crate::scope::Scope;
 use std::alloc::{AllocError, Global};
 use wgsl_items::{CloneIn, Items, Text};
 use wgsl_path::{Ident, Spanned};

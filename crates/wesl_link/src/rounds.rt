@@ -198,8 +198,8 @@ impl<'a> Closing<'a> {
     }
 
     fn follow(&mut self, symbol: Symbol<'a>) -> Result<(), AllocError> {
-        for occurrence in occurrences(self.alloc, symbol.declaration)? {
-            match denotation(self.modules, symbol.module, occurrence.name) {
+        for name in occurrences(self.alloc, symbol.declaration)? {
+            match denotation(self.modules, symbol.module, name) {
                 Denoted::Declared(symbol) => self.reach(symbol)?,
                 Denoted::Unloaded(target) => ask(self.alloc, &mut self.asked, target)?,
                 Denoted::Missing(_) | Denoted::Private(_) => self.is_missing = true,
@@ -274,8 +274,8 @@ fn first_missing(alloc: Global, modules: &Modules, held: &Held) -> Result<Option
 
 /// The first occurrence in a declaration that denotes nothing.
 fn missing_in(alloc: Global, modules: &Modules, symbol: Symbol<'_>) -> Result<Option<ImportError>, AllocError> {
-    for occurrence in occurrences(alloc, symbol.declaration)? {
-        match denotation(modules, symbol.module, occurrence.name) {
+    for name in occurrences(alloc, symbol.declaration)? {
+        match denotation(modules, symbol.module, name) {
             Denoted::Missing(target) => {
                 let path = target.module.clone_in(alloc)?;
                 return Ok(Some(ImportError::MissingDecl(path, target.item.clone_in(alloc)?)));
