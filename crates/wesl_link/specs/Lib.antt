@@ -1,1 +1,3 @@
 pub mod Scopes
+pub mod Meanings
+pub mod Outcomes

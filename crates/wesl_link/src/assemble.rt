@@ -1,11 +1,11 @@
 //! The linked unit.
 
-use crate::denote::symbol_at;
-use crate::module::{Module, declared_name};
+use crate::module::Module;
 use crate::naming::ModuleNaming;
 use crate::rename::renamed_declaration;
 use crate::rounds::Resolutions;
 use crate::source_map::BasicSourceMap;
+use crate::table::declared_name;
 use std::alloc::{AllocError, Global};
 use std::collections::BTreeMap;
 use wgsl_items::{Items, Text};
@@ -76,10 +76,10 @@ impl Resolutions {
     pub fn add_decls(&self, alloc: Global, map: &mut BasicSourceMap) -> Result<(), AllocError> {
         for held in self.held_modules(alloc)? {
             for (place, name) in held.places {
-                let Some(symbol) = symbol_at(held.module, *place) else {
+                let Some(declaration) = held.module.declaration(*place) else {
                     continue;
                 };
-                let item = declared_name(symbol.declaration);
+                let item = declared_name(declaration);
                 map.add_decl(name.as_str(), &held.module.path, item)?;
             }
         }

@@ -14,6 +14,8 @@ mod resolver;
 mod rounds;
 mod scope;
 mod source_map;
+mod table;
+mod target;
 
 pub use error::{ImportError, ResolveError};
 pub use mangle::EscapeMangler;

@@ -48,7 +48,7 @@ impl<N: Naming> Naming for BodyNaming<'_, '_, N> {
 pub fn printed<'a>(resolutions: &'a Resolutions, module: &'a Module, name: &str) -> Option<&'a str> {
     match denotation(&resolutions.modules, module, name) {
         Denoted::Declared(symbol) => held_name(&resolutions.held, symbol),
-        Denoted::Unloaded(_) | Denoted::Missing(_) | Denoted::Private(_) | Denoted::Free => None,
+        Denoted::Unloaded(_) | Denoted::Missing(_, _) | Denoted::Private(_, _) | Denoted::Free => None,
     }
 }
 

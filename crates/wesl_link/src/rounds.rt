@@ -1,11 +1,13 @@
 //! Loads what the kept names reach, a round of modules after another.
 
-use crate::denote::{Denoted, Item, Symbol, denotation, item_of, symbol_at};
+use crate::denote::{Denoted, Item, Symbol, denotation, item_of};
 use crate::error::ImportError;
 use crate::mangle::EscapeMangler;
-use crate::module::{Module, Modules, Target, declared_name, entry_points};
+use crate::module::{Module, Modules, entry_points};
 use crate::occurrence::occurrences;
 use crate::resolver::Resolver;
+use crate::table::declared_name;
+use crate::target::Target;
 use std::alloc::{AllocError, Global};
 use std::collections::{BTreeMap, BTreeSet};
 use wgsl_items::{CloneIn, Items, Text};
@@ -198,11 +200,14 @@ impl<'a> Closing<'a> {
     }
 
     fn follow(&mut self, symbol: Symbol<'a>) -> Result<(), AllocError> {
-        for name in occurrences(self.alloc, symbol.declaration)? {
+        let Some(declaration) = symbol.declaration() else {
+            return Ok(());
+        };
+        for name in occurrences(self.alloc, declaration)? {
             match denotation(self.modules, symbol.module, name) {
                 Denoted::Declared(symbol) => self.reach(symbol)?,
                 Denoted::Unloaded(target) => ask(self.alloc, &mut self.asked, target)?,
-                Denoted::Missing(_) | Denoted::Private(_) => self.is_missing = true,
+                Denoted::Missing(_, _) | Denoted::Private(_, _) => self.is_missing = true,
                 Denoted::Free => {}
             }
         }
@@ -230,7 +235,10 @@ fn hold(alloc: Global, held: &mut Held, symbol: Symbol<'_>, name: Text) -> Resul
 
 /// The name of a symbol in the linked unit: the root's names stay.
 fn printed_name(alloc: Global, root: &str, symbol: Symbol<'_>) -> Result<Text, AllocError> {
-    let name = declared_name(symbol.declaration);
+    let Some(declaration) = symbol.declaration() else {
+        return Ok(Text::new(alloc));
+    };
+    let name = declared_name(declaration);
     if symbol.module.text.as_str() == root {
         return Text::from_str(alloc, name);
     }
@@ -247,7 +255,7 @@ fn ask(alloc: Global, asked: &mut Asked, target: &Target) -> Result<(), AllocErr
     let mut names = BTreeSet::new(alloc);
     names.insert(String::from_str(alloc, target.item.as_str())?)?;
     let module = AskedModule {
-        path: target.module.clone_in(alloc)?,
+        path: target.path.clone_in(alloc)?,
         names,
     };
     asked.insert(target.text.clone()?, module)?;
@@ -261,8 +269,9 @@ fn first_missing(alloc: Global, modules: &Modules, held: &Held) -> Result<Option
             continue;
         };
         for place in places.keys() {
-            let Some(symbol) = symbol_at(module, *place) else {
-                continue;
+            let symbol = Symbol {
+                module,
+                place: *place,
             };
             if let Some(error) = missing_in(alloc, modules, symbol)? {
                 return Ok(Some(error));
@@ -274,15 +283,18 @@ fn first_missing(alloc: Global, modules: &Modules, held: &Held) -> Result<Option
 
 /// The first occurrence in a declaration that denotes nothing.
 fn missing_in(alloc: Global, modules: &Modules, symbol: Symbol<'_>) -> Result<Option<ImportError>, AllocError> {
-    for name in occurrences(alloc, symbol.declaration)? {
+    let Some(declaration) = symbol.declaration() else {
+        return Ok(None);
+    };
+    for name in occurrences(alloc, declaration)? {
         match denotation(modules, symbol.module, name) {
-            Denoted::Missing(target) => {
-                let path = target.module.clone_in(alloc)?;
-                return Ok(Some(ImportError::MissingDecl(path, target.item.clone_in(alloc)?)));
+            Denoted::Missing(path, item) => {
+                let path = path.clone_in(alloc)?;
+                return Ok(Some(ImportError::MissingDecl(path, item.clone_in(alloc)?)));
             }
-            Denoted::Private(target) => {
-                let path = target.module.clone_in(alloc)?;
-                return Ok(Some(ImportError::Private(path, target.item.clone_in(alloc)?)));
+            Denoted::Private(path, item) => {
+                let path = path.clone_in(alloc)?;
+                return Ok(Some(ImportError::Private(path, item.clone_in(alloc)?)));
             }
             Denoted::Declared(_) | Denoted::Unloaded(_) | Denoted::Free => {}
         }

@@ -1,12 +1,14 @@
 -- The names of symbols in the linked text.
 use Rattle.std.specs.Prelude.{◌≡◌, ℕ, zero, suc, ◌++◌, codes, count_by, ◌==◌, if◌then◌else◌, replicate}
-use Rattle.std.specs.List.{flat_map}
+use Rattle.std.specs.List.{flat_map, Contains}
 use Rattle.std.specs.Fmt.{decimal}
 use Rattle.wgsl_path.specs.declared.path.ModulePath.{ModulePath}
+use Rattle.wgsl_path.specs.Paths.{path_text}
+use Rattle.wgsl_syntax.specs.Tree.{Unit}
 use Rattle.wgsl_path.specs.declared.path.PathOrigin.{PathOrigin}
 use Rattle.wgsl_path.specs.declared.path.PathOrigin.TheVariants.{Absolute, Relative, Package}
 use Rattle.wesl_sources.specs.Occurrences.{Name}
-use Rattle.wesl_sources.specs.Modules.{Symbol}
+use Rattle.wesl_sources.specs.Modules.{Path, Symbol, Modules}
 
 abbrev pub underscores : Name → ℕ
 underscores part = count_by (λ c. c == 95) part
@@ -25,7 +27,8 @@ escaped_origin (Package name) = escaped name
 abbrev pub mangled : ModulePath → Name → Name
 mangled path item = escaped_origin path.origin ++ flat_map (λ part. codes "_" ++ escaped part) path.components ++ codes "_" ++ escaped item
 
--- the name of a symbol in the linked text: the root's names stay
-pub data IsPrinted (root : ModulePath) : Symbol → Name → Type 0 where
-  stays : {x : Name} → IsPrinted root (record { home = root; name = x }) x
-  is_mangled : {s : Symbol} → (s.home ≡ root → ⊥) → IsPrinted root s (mangled s.home s.name)
+-- the name of a symbol of a loaded module in the linked text: the root's names stay
+pub data IsPrinted (modules : Modules) (root : Path) : Symbol → Name → Type 0 where
+  stays : {x : Name} → IsPrinted modules root (record { home = root; name = x }) x
+  is_mangled : {s : Symbol} {path : ModulePath} {u : Unit} → (s.home ≡ root → ⊥) → Contains modules (path, u) → path_text path ≡ s.home
+      → IsPrinted modules root s (mangled path s.name)
