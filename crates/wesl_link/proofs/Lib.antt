@@ -1,3 +1,5 @@
 pub mod TreeLemmas
 pub mod SetLemmas
 pub mod TableLemmas
+pub mod ScopeLemmas
+pub mod TellLemmas

@@ -1,3 +1,4 @@
 pub mod Scopes
 pub mod Meanings
 pub mod Outcomes
+pub mod Tells

@@ -1,7 +1,9 @@
 //! What names denote.
 
-ghost use Rattle.std.specs.Prelude.{◌≡◌, string_bytes};
+ghost use Rattle.std.specs.Prelude.{◌≡◌, Some, string_bytes};
+ghost use Rattle.wesl_sources.specs.Modules as spec;
 ghost use Rattle.wesl_link.specs.Outcomes.{item_at, item_outcome, outcome, outcome_of, home_of, loaded};
+ghost use Rattle.wesl_link.specs.Tells.{IsFinder, Tells};
 
 use crate::module::{Module, Modules};
 use crate::target::{Meaning, Target};
@@ -39,6 +41,13 @@ pub enum Denoted<'a> {
 
 /// What a name of a module denotes: its own declaration, else what its import names.
 pub fn denotation<'a>(modules: &'a Modules, module: &'a Module, name: &str) -> Denoted<'a>
+    ensures found { outcome_of result ≡ outcome (loaded modules.now) (home_of module.now) name.now }
+    ensures means { (ms : spec.Modules) → IsFinder ms (loaded modules.now) → loaded modules.now (string_bytes module.now.text) ≡ Some (home_of module.now) → Tells ms (string_bytes module.now.text) name.now (outcome_of result) }
+{
+    looked_up(modules, module, name)
+}
+
+fn looked_up<'a>(modules: &'a Modules, module: &'a Module, name: &str) -> Denoted<'a>
     ensures { outcome_of result ≡ outcome (loaded modules.now) (home_of module.now) name.now }
 {
     match module.meanings.get(name) {

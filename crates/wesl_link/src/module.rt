@@ -30,8 +30,13 @@ pub struct Module {
 pub type Modules = BTreeMap<String, Module>;
 
 impl Module {
+    ghost use Rattle.std.specs.Prelude.{◌≡◌, slice_get};
+    ghost use Rattle.wesl_link.specs.Tells.{Opens};
+
     /// A module with the table of its names. It is refused where a name is declared or imported twice.
-    pub fn new(alloc: Global, path: &ModulePath, unit: TranslationUnit) -> Result<Module, ImportError> {
+    pub fn new(alloc: Global, path: &ModulePath, unit: TranslationUnit) -> Result<Module, ImportError>
+        ensures { Opens path.now unit result }
+    {
         let meanings = meanings_of(alloc, path, &unit)?;
         Ok(Module {
             path: path.clone_in(alloc)?,
