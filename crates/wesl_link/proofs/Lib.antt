@@ -3,3 +3,4 @@ pub mod SetLemmas
 pub mod TableLemmas
 pub mod ScopeLemmas
 pub mod TellLemmas
+pub mod ClosingLemmas

@@ -11,6 +11,10 @@ use Rattle.std.proofs.lemmas.Slice.Eq.{bytes_eq-Decides}
 use Rattle.std.proofs.lemmas.Map.Views.{list_any-from_Contains, Contains-from_any}
 use Rattle.wgsl_path.specs.declared.path.ModulePath.{ModulePath}
 use Rattle.wgsl_path.specs.Paths.{path_text}
+use Rattle.std.specs.Option.{option_map}
+use Rattle.wgsl_path.specs.declared.span.Spanned.{Spanned}
+use Rattle.wgsl_syntax.specs.declared.declaration.GlobalDeclaration.{GlobalDeclaration}
+use Rattle.wgsl_syntax.specs.View.{declaration_tree}
 use Rattle.wgsl_syntax.specs.Tree.{Decl, Imp, Unit}
 use Rattle.wesl_sources.specs.Occurrences.{Name, is_among, declared_name}
 use Rattle.wesl_sources.specs.Modules.{Symbol, Declares, Imports, local_name}
@@ -22,7 +26,7 @@ use Rattle.wesl_link.specs.Meanings.{Known, declared, imported, bare, meant, kno
 pub to_contains : {X : Type 0} (xs : List X) (i : ℕ) (x : X) → slice_get xs i ≡ Some x → Contains xs x
 to_contains xs i x is = (i, slice_get_within xs i x is, get_or_from_slice_get xs i x x is)
 
-at_place : {X : Type 0} (xs : List X) (i : ℕ) (x : X) → i < length xs → get_or xs i x ≡ x → slice_get xs i ≡ Some x
+pub at_place : {X : Type 0} (xs : List X) (i : ℕ) (x : X) → i < length xs → get_or xs i x ≡ x → slice_get xs i ≡ Some x
 at_place [] i x h is = absurd (omega arith)
 at_place (y ∷ xs) zero x h is = ap (λ t. Some t) is
 at_place (y ∷ xs) (suc i) x h is = let less : i < length xs = omega arith in at_place xs i x less is
@@ -56,7 +60,7 @@ append_cases (y ∷ xs) ys (suc i) x is = ⊎_elim (λ l. inl (suc l.0, l.1)) (�
 
 -- ---- equal names
 
-same_name : (x y : Name) → bytes_eq x y ≡ true → x ≡ y
+pub same_name : (x y : Name) → bytes_eq x y ≡ true → x ≡ y
 same_name x y e = (bytes_eq-Decides x y).0 e
 
 self_name : (x : Name) → bytes_eq x x ≡ true
@@ -225,3 +229,9 @@ value_means u j d fresh is =
     let e : Name × Known = (declared_name d, declared j) in
     let p = append_right (map import_entry u.imports) (declared_entries 0 u.declarations) j e (get_declared 0 u.declarations j d is ∙ (let here : 0 + j ≡ j = omega arith in ap (λ n. Some (declared_name d, declared n)) here)) in
     meant_once (entries u) p.0 (declared_name d) (declared j) fresh p.1
+
+pub declaration_place : (ds : List (Spanned GlobalDeclaration)) (i : ℕ)
+    → slice_get (map (λ n. declaration_tree n.node) ds) i ≡ option_map (λ n. declaration_tree n.node) (slice_get ds i)
+declaration_place [] i = refl
+declaration_place (d ∷ ds) zero = refl
+declaration_place (d ∷ ds) (suc i) = declaration_place ds i

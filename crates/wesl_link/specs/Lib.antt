@@ -2,3 +2,4 @@ pub mod Scopes
 pub mod Meanings
 pub mod Outcomes
 pub mod Tells
+pub mod Closing

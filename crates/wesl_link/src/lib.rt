@@ -3,9 +3,12 @@
 
 mod assemble;
 mod clash;
+mod closing;
 mod denote;
 mod error;
+mod linking;
 mod mangle;
+mod missing;
 mod module;
 mod naming;
 mod occurrence;

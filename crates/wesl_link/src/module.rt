@@ -31,6 +31,8 @@ pub type Modules = BTreeMap<String, Module>;
 
 impl Module {
     ghost use Rattle.std.specs.Prelude.{◌≡◌, slice_get};
+    ghost use Rattle.std.specs.Option.{option_map};
+    ghost use Rattle.wgsl_syntax.specs.View.{unit_tree, declaration_tree};
     ghost use Rattle.wesl_link.specs.Tells.{Opens};
 
     /// A module with the table of its names. It is refused where a name is declared or imported twice.
@@ -46,8 +48,15 @@ impl Module {
         })
     }
 
-    pub fn declaration(&self, place: usize) -> Option<&GlobalDeclaration> {
-        Some(self.unit.global_declarations.get(place)?.node())
+    /// The declaration at a place.
+    #[tactic(auto, using(crate::proofs::ScopeLemmas::declaration_place))]
+    pub fn declaration(&self, place: usize) -> Option<&GlobalDeclaration>
+        ensures { option_map (λ d. declaration_tree d.now) result ≡ slice_get (unit_tree self.now.unit).declarations place }
+    {
+        match self.unit.global_declarations.get(place) {
+            None => None,
+            Some(declaration) => Some(declaration.node()),
+        }
     }
 }
 

@@ -3,7 +3,8 @@
 use crate::denote::{Denoted, Symbol, denotation};
 use crate::module::Module;
 use crate::scope::Scope;
-use crate::rounds::{Held, Resolutions};
+use crate::linking::Held;
+use crate::rounds::Resolutions;
 use std::alloc::{AllocError, Global};
 use wgsl_items::Text;
 
