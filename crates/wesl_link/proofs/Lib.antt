@@ -4,3 +4,4 @@ pub mod TableLemmas
 pub mod ScopeLemmas
 pub mod TellLemmas
 pub mod ClosingLemmas
+pub mod ReachLemmas

@@ -63,7 +63,7 @@ meaning_of : (e : Name × Known) (x : Name) (k : Known) → e ≡ (x, k) → e.1
 meaning_of e x k is = ap (λ (y : Name × Known). y.1) is
 
 -- the declaration that a name means
-declares : (u : Unit) (x : Name) (j : ℕ) → known u x ≡ Some (declared j) → (d : Decl) × (slice_get u.declarations j ≡ Some d) × (declared_name d ≡ x)
+pub declares : (u : Unit) (x : Name) (j : ℕ) → known u x ≡ Some (declared j) → (d : Decl) × (slice_get u.declarations j ≡ Some d) × (declared_name d ≡ x)
 declares u x j e =
     let m = meant_at (entries u) x (declared j) e in
     ⊎_elim

@@ -9,7 +9,8 @@ use Rattle.std.specs.declared.string.String.{String}
 use Rattle.std.specs.declared.alloc.Global.{Global}
 use Rattle.wgsl_syntax.specs.Tree.{Decl, Unit}
 use Rattle.wesl_sources.specs.Occurrences.{Name, occurrences}
-use Rattle.wesl_sources.specs.Modules.{Path, Symbol}
+use Rattle.wesl_sources.specs.Modules.{Path, Symbol, Modules, Reached}
+use Rattle.wesl_link.specs.Tells.{IsFinder, StandsAt}
 use Rattle.wesl_link.specs.Outcomes.{Loaded, symbol_at, item_at, outcome, loaded}
 use Rattle.wesl_link.specs.declared.denote.Symbol.{Symbol as Found}
 use Rattle.wesl_link.specs.declared.linking.Linking.{Linking}
@@ -50,3 +51,9 @@ AllReached l held = (m : Path) (place : ℕ) → IsSome (held_at held m place) �
 -- what is held and what was reached in this round
 abbrev pub IsSound : Linking → HeldNames → List Found → Type 0
 IsSound l held reached = AllReached l held × All (IsReached l) reached
+
+-- Nothing is held but declarations that a finite chain of occurrences leads to from the kept names of the root.
+abbrev pub OnlyReached : Linking → HeldNames → Type 0
+OnlyReached l held =
+    (modules : Modules) → IsFinder modules (loaded l.modules.now) → (m : Path) (place : ℕ) → IsSome (held_at held m place)
+    → (s : Symbol) × StandsAt modules m place s × Reached modules l.root.now l.keep.now s

@@ -10,7 +10,7 @@ ghost use Rattle.wgsl_syntax.specs.View.{unit_tree, declaration_tree};
 ghost use Rattle.wesl_sources.specs.Occurrences as spec;
 ghost use Rattle.wesl_sources.specs.Modules.{Path};
 ghost use Rattle.wesl_link.specs.Outcomes.{loaded, home_of};
-ghost use Rattle.wesl_link.specs.Closing.{IsReached, AllReached, IsSound, Holds, held_at};
+ghost use Rattle.wesl_link.specs.Closing.{IsReached, AllReached, OnlyReached, IsSound, Holds, held_at};
 
 use crate::denote::{Denoted, Item, Symbol, denotation, item_of};
 use crate::error::ImportError;
@@ -49,6 +49,18 @@ fn found_nothing<'a>(alloc: Global) -> Found<'a>
 
 /// Reaches what the kept names of the root lead to.
 pub fn close_root(
+    alloc: Global,
+    linking: &Linking<'_>,
+    path: &ModulePath,
+    held: &mut Held,
+) -> Result<Asked, ImportError>
+    requires { AllReached linking.now held.old }
+    ensures { OnOk result (OnlyReached linking.now held.new) }
+{
+    close_kept(alloc, linking, path, held)
+}
+
+fn close_kept(
     alloc: Global,
     linking: &Linking<'_>,
     path: &ModulePath,

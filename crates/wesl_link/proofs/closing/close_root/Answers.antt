@@ -1,5 +1,6 @@
-use Rattle.std.proofs.Common.{sym}
+use Rattle.std.proofs.lemmas.Result.{on_ok_weaker}
+use Rattle.wesl_link.proofs.ReachLemmas.{all_reached}
 use Rattle.wesl_link.proofs.closing.close_root.Goals as goal
 
-pub reach_kept-requires : goal.reach_kept-requires
-reach_kept-requires c = record { keep = (c.loop-name.name-index, c.loop-name-test.true, sym c.name-item.is) }
+pub returns : goal.returns
+returns c = on_ok_weaker c.close_kept.result (all_reached c.args.linking.now c.close_kept.new.held) c.close_kept.ensures
