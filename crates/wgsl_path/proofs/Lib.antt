@@ -1,1 +1,2 @@
 pub mod SuperLemmas
+pub mod PartsLemmas

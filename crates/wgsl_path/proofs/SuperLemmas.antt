@@ -1,5 +1,5 @@
 -- Reading one more `super`.
-use Rattle.std.proofs.Common.{◌≡◌, ℕ, suc, List, ◌++◌, ◌+◌, ◌≤◌, length, codes, Bool, true, arith, refl, sym, ap, ◌∙◌, append_assoc, add-one, length-append}
+use Rattle.std.proofs.Common.{◌≡◌, ℕ, suc, List, ◌++◌, ◌+◌, ◌≤◌, length, codes, true, arith, sym, ap, ◌∙◌, append_assoc, add-one, length-append}
 use Rattle.std.specs.Str.{bytes_eq}
 use Rattle.std.proofs.lemmas.Slice.Eq.{bytes_eq-Decides}
 use Rattle.wgsl_path.specs.Paths.{supers}

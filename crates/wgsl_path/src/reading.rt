@@ -1,7 +1,10 @@
 //! Reading the texts of paths.
 
-ghost use Rattle.std.specs.Prelude.{◌≡◌, ◌++◌, ◌+◌, ◌≤◌, length, IfOk};
+ghost use denote.Ref.{Bor};
+ghost use Rattle.std.specs.Prelude.{◌≡◌, ◌∷◌, ◌++◌, ◌+◌, ◌≤◌, ℕ, List, Option, length, IfOk};
 ghost use Rattle.wgsl_path.specs.Paths.{origin_text, path_text, supers, components_text, rest_text};
+ghost use Rattle.wgsl_path.specs.Reading.{parts, left_parts, component_of, components_of, path_behind, path_above, path_of, Continues, Answers};
+ghost use Rattle.wgsl_path.specs.declared.path.PathOrigin.TheVariants.{Relative};
 
 use crate::path::{ModulePath, PathOrigin};
 use std::alloc::{AllocError, Global};
@@ -37,9 +40,11 @@ impl From<AllocError> for ModulePathParseError {
 }
 
 impl ModulePath {
-    /// Reads what `Display` writes: an origin and names with `::` between.
+    /// Reads what `Display` writes: an origin and names with `::` between. The first part that is empty or misplaced is
+    /// refused.
     pub fn from_str(alloc: Global, text: &str) -> Result<ModulePath, ModulePathParseError>
-        ensures { IfOk result (λ path. path_text path ≡ text.now) }
+        ensures prints { IfOk result (λ path. path_text path ≡ text.now) }
+        ensures reads { Answers ModulePath result (path_of (parts text.now)) }
     {
         let (origin, rest) = read_origin(alloc, text)?;
         let components = read_components(alloc, rest)?;
@@ -49,7 +54,8 @@ impl ModulePath {
 
 /// A text up to the first `::`, and what stands behind that.
 fn first_part(text: &str) -> (&str, Option<&str>)
-    ensures { text.now ≡ result.0.now ++ rest_text result.1 }
+    ensures splits { text.now ≡ result.0.now ++ rest_text result.1 }
+    ensures first { parts text.now ≡ result.0.now ∷ left_parts result.1 }
 {
     match text.split_once("::") {
         None => (text, None),
@@ -61,7 +67,8 @@ fn read_origin<'a>(
     alloc: Global,
     text: &'a str,
 ) -> Result<(PathOrigin, Option<&'a str>), ModulePathParseError>
-    ensures { IfOk result (λ read. origin_text read.0 ++ rest_text read.1 ≡ text.now) }
+    ensures prints { IfOk result (λ read. origin_text read.0 ++ rest_text read.1 ≡ text.now) }
+    ensures reads { Continues (PathOrigin × Option (Bor (List ℕ))) ModulePath result (path_of (parts text.now)) (λ read. path_behind read.0 (left_parts read.1)) }
 {
     let (part, rest) = first_part(text);
     match part {
@@ -79,6 +86,7 @@ fn read_origin<'a>(
 /// How often `super` stands next, and what stands behind that.
 fn read_supers(text: Option<&str>) -> (usize, Option<&str>)
     ensures read { supers result.0 ++ rest_text result.1 ≡ rest_text text.entry }
+    ensures above { (n : ℕ) → path_above n (left_parts text.entry) ≡ path_behind (Relative (result.0 + n)) (left_parts result.1) }
     ensures few { result.0 + length (rest_text result.1) ≤ length (rest_text text.entry) }
 {
     let mut levels = 0;
@@ -96,7 +104,8 @@ fn read_supers(text: Option<&str>) -> (usize, Option<&str>)
 }
 
 fn read_components(alloc: Global, text: Option<&str>) -> Result<Items<Text>, ModulePathParseError>
-    ensures { IfOk result (λ components. components_text components ≡ rest_text text.entry) }
+    ensures prints { IfOk result (λ components. components_text components ≡ rest_text text.entry) }
+    ensures reads { Answers (List (List ℕ)) result (components_of (left_parts text.entry)) }
 {
     let mut components = Items::new(alloc);
     let mut rest = text;
@@ -109,7 +118,8 @@ fn read_components(alloc: Global, text: Option<&str>) -> Result<Items<Text>, Mod
 }
 
 fn read_component(alloc: Global, part: &str) -> Result<Text, ModulePathParseError>
-    ensures { IfOk result (λ component. component ≡ part.now) }
+    ensures copies { IfOk result (λ component. component ≡ part.now) }
+    ensures reads { Answers (List ℕ) result (component_of part.now) }
 {
     match part {
         "" => Err(ModulePathParseError::Empty),
