@@ -13,7 +13,7 @@ use Rattle.wgsl_phrases.specs.declared.Stop.{Stop}
 use Rattle.wgsl_phrases.specs.declared.Stop.TheVariants.{Unexpected}
 use Rattle.wgsl_phrases.specs.Parsing.{first, Parses}
 use Rattle.wgsl_phrases.specs.Languages.{◌⌢◌, no_more}
-use Rattle.wgsl_phrases.specs.Sequences.{taken, Done, done, Then, next, Either, left, right}
+use Rattle.wgsl_phrases.specs.Sequences.{taken, Done, done, Then, next, left, right}
 use Rattle.wgsl_phrases.proofs.Steps.{Inhabited, Follows, IsBarred, at_end, some_injective, nowhere, parses_as, parses_done, parses_taking}
 use Rattle.wgsl_grammar.specs.Terminals.{fixed, word}
 use Rattle.wgsl_grammar.specs.Attributes.{fragment_of, IsTrailing, no_comma, comma, IsAttribute, fragment, location}

@@ -1,5 +1,5 @@
 -- What each phrase of a declaration comes to, by its first token.
-use Rattle.std.proofs.Common.{◌≡◌, ◌≢◌, ◌∙◌, sym, ap, refl, List, [], ◌∷◌, ◌++◌, append-nil, Option, Some, None, Bool, false, ◌&&◌, length, IsTrue, Result, Ok, Err}
+use Rattle.std.proofs.Common.{◌≡◌, ◌≢◌, ◌∙◌, sym, ap, refl, List, [], ◌∷◌, ◌++◌, append-nil, Option, Some, None, Bool, false, ◌&&◌, length, IsTrue, Result, Ok}
 use Rattle.wgsl_path.specs.declared.span.Span.{Span}
 use Rattle.wgsl_path.specs.declared.span.Spanned.{Spanned}
 use Rattle.wgsl_token.specs.declared.token.Token.{Token}
@@ -13,12 +13,11 @@ use Rattle.wgsl_syntax.specs.declared.declaration.Attribute.{Attribute}
 use Rattle.wgsl_syntax.specs.declared.declaration.FormalParameter.{FormalParameter}
 use Rattle.wgsl_syntax.specs.declared.declaration.GlobalDeclaration.{GlobalDeclaration}
 use Rattle.wgsl_phrases.specs.declared.Stop.{Stop}
-use Rattle.wgsl_phrases.specs.declared.Stop.TheVariants.{Unexpected}
 use Rattle.wgsl_phrases.specs.Parsing.{first, Parses}
 use Rattle.wgsl_phrases.specs.Parsing.{at_end as at_the_end}
 use Rattle.wgsl_phrases.specs.Languages.{◌⌢◌, OptionallyListed, no_list, no_more, again}
 use Rattle.wgsl_phrases.specs.Sequences.{taken, Done, done, Then, next, Either, left, right}
-use Rattle.wgsl_phrases.proofs.Steps.{Inhabited, IsBarred, at_end, some_injective, nowhere, parses_as, parses_done}
+use Rattle.wgsl_phrases.proofs.Steps.{Inhabited, IsBarred, at_end, some_injective, parses_as, parses_done}
 use Rattle.wgsl_grammar.specs.Terminals.{fixed, word, IsComma, type_named}
 use Rattle.wgsl_grammar.specs.Expressions.{IsSum}
 use Rattle.wgsl_grammar.specs.Attributes.{fragment, location}
