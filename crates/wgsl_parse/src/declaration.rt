@@ -16,8 +16,8 @@ use wgsl_items::Items;
 use wgsl_path::{Span, Spanned};
 use wgsl_phrases::Stop;
 use wgsl_syntax::{
-    Attributes, CompoundStatementOf, Declaration, DeclarationKind, ExpressionNode, FormalParameter, Function,
-    GlobalDeclaration, GlobalDeclarationNode, ReturnStatement, Statement, StatementNode,
+    Attributes, CompoundStatementOf, Declaration, DeclarationKind, ExpressionNode, FormalParameter,
+    Function, GlobalDeclaration, GlobalDeclarationNode, ReturnStatement, Statement, StatementNode,
     TypeExpression,
 };
 use wgsl_token::Fixed;
