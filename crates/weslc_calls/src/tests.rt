@@ -72,6 +72,26 @@ fn links_two_modules(rt: HostRuntime) -> Result<(), Fail> {
 }
 
 #[test]
+fn names_in_attributes_are_linked(rt: HostRuntime) -> Result<(), Fail> {
+    let root =
+        "import package::m::two; @fragment fn g(@location(two) x: u32) -> @location(0) u32 { return x * (two + 1); }";
+    let bundle = bundle_of(&rt, root, "const two = 2;", r#","keep":["g"]"#)?;
+    let linked =
+        "@fragment fn g(@location(package_m_two) x: u32) -> @location(0) u32 {\n    return x * (package_m_two + 1);\n}\nconst package_m_two = 2;\n";
+    assert_text(&rt, bundle.as_str(), linked)?;
+    // With nothing to keep, the entry points are kept.
+    let bundle = bundle_of(&rt, root, "const two = 2;", "")?;
+    assert_text(&rt, bundle.as_str(), linked)?;
+    let root =
+        "import package::m::one; import package::m::two; @location(one) fn g() -> @location(two) u32 { return 0; } fn h() {}";
+    let m = "const three = 3; const two = three - 1; const one = 1;";
+    let bundle = bundle_of(&rt, root, m, r#","keep":["g"]"#)?;
+    let linked =
+        "@location(package_m_one) fn g() -> @location(package_m_two) u32 {\n    return 0;\n}\nconst package_m_three = 3;\nconst package_m_two = package_m_three - 1;\nconst package_m_one = 1;\n";
+    assert_text(&rt, bundle.as_str(), linked)
+}
+
+#[test]
 fn unused_imports_load_nothing(rt: HostRuntime) -> Result<(), Fail> {
     let root = "import package::m::gone; fn g() {}";
     let bundle = bundle_of(&rt, root, "const two = 2;", r#","keep":["g"]"#)?;

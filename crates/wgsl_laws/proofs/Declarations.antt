@@ -1,5 +1,5 @@
 -- What is printed of a module derives it again.
-use Rattle.std.proofs.Common.{◌≡◌, refl, sym, ap, ◌∙◌, subst, ℕ, Bool, true, List, [], ◌∷◌, ◌++◌, ◌&&◌, map, append_assoc, append-nil, codes, Option, Some, None}
+use Rattle.std.proofs.Common.{◌≡◌, refl, sym, ap, ◌∙◌, subst, ℕ, true, List, [], ◌∷◌, ◌++◌, ◌&&◌, map, append_assoc, append-nil, codes, Option, Some, None}
 use Rattle.std.specs.List.{flat_map}
 use Rattle.std.specs.Str.{all_scalars}
 use Rattle.std.proofs.Math.Utf8.{scalar}
@@ -13,36 +13,29 @@ use Rattle.wgsl_token.specs.declared.token.SpannedToken.{SpannedToken}
 use Rattle.wgsl_syntax.specs.declared.expression.Expression.{Expression}
 use Rattle.wgsl_syntax.specs.declared.expression.TypeExpressionOf.{TypeExpressionOf}
 use Rattle.wgsl_syntax.specs.declared.statement.Statement.{Statement}
+use Rattle.wgsl_syntax.specs.declared.declaration.Attribute.{Attribute}
 use Rattle.wgsl_syntax.specs.declared.declaration.FormalParameter.{FormalParameter}
 use Rattle.wgsl_syntax.specs.declared.declaration.GlobalDeclaration.{GlobalDeclaration}
 use Rattle.wgsl_syntax.specs.declared.declaration.DeclarationKind.TheVariants.{Const}
 use Rattle.wgsl_syntax.specs.declared.import.ImportStatement.{ImportStatement}
 use Rattle.wgsl_syntax.specs.declared.unit.TranslationUnit.{TranslationUnit}
-use Rattle.wgsl_syntax.specs.Tree.{Exp, Typ, simple, Stm, returning, Param, Decl, Imp, Unit}
+use Rattle.wgsl_syntax.specs.Tree.{Exp, Typ, simple, Attr, Stm, returning, Param, Decl, Imp, Unit}
 use Rattle.wgsl_syntax.specs.Tree as tree
-use Rattle.wgsl_syntax.specs.View.{node_tree, type_tree, statement_tree, parameter_tree, declaration_tree, import_tree, unit_tree}
-use Rattle.wgsl_syntax.specs.Print.{commas, value_text, braces_text, param_text, annotation_text, result_text, head_text, body_text, decl_text, imp_text, unit_text}
+use Rattle.wgsl_syntax.specs.View.{node_tree, type_tree, attributes_tree, statement_tree, parameter_tree, declaration_tree, import_tree, unit_tree}
+use Rattle.wgsl_syntax.specs.Print.{attrs_text, commas, value_text, braces_text, param_text, annotation_text, result_text, head_text, body_text, decl_text, imp_text, unit_text}
 use Rattle.wgsl_phrases.specs.Languages.{◌⌢◌, Listed, last, last_separated, more, OptionallyListed, no_list, list, Repeated, no_more, again}
 use Rattle.wgsl_grammar.specs.Terminals.{fixed, word, IsComma}
 use Rattle.wgsl_grammar.specs.Expressions.{IsSum}
-use Rattle.wgsl_grammar.specs.Declarations.{ident, IsType, type, IsParameter, parameter, IsAnnotation, unannotated, annotated, IsResult, no_result, result_of, IsValue, no_value, value, IsBody, empty_body, returns, IsDeclaration, constant, function, IsComponents, no_components, component, IsImport, importing, IsUnit, unit}
+use Rattle.wgsl_grammar.specs.Declarations.{ident, IsType, type, IsAttributes, IsParameter, parameter, IsAnnotation, unannotated, annotated, IsResult, no_result, result_of, IsValue, no_value, value, IsBody, empty_body, returns, IsDeclaration, constant, function, IsComponents, no_components, component, IsImport, importing, IsUnit, unit}
 use Rattle.wgsl_lex.specs.Tokens.{Lexes, at_the_end, behind_trivia, a_token, no_token}
 use Rattle.wgsl_lex.proofs.Once.{lexed_once}
 use Rattle.wgsl_laws.specs.Printing.{StandsFor, PrintsBack, PrintsTheSame}
 use Rattle.wgsl_laws.proofs.Prints.{Prints, Nothing, nothing, Is, is, Joined, joined, prints_as, prints_then, prints_behind, prints_before, prints_nothing, both, Spells, spells_then, spells_ascii, anything}
 use Rattle.wgsl_laws.proofs.Marks.{stops}
 use Rattle.wgsl_laws.proofs.Pieces.{Spelled, word_piece, prints_space, prints_line_break, prints_paren_left, prints_paren_right, prints_brace_left, prints_brace_right, prints_comma, prints_semicolon, prints_separator, prints_arrow, prints_equal, prints_colon, prints_const, prints_fn, prints_return, prints_import, prints_package}
+use Rattle.wgsl_laws.proofs.Back.{Means, means, Back}
+use Rattle.wgsl_laws.proofs.Attributes.{attributes_back}
 use Rattle.wgsl_laws.proofs.Expressions.{known_of, Knowns, knowns_front, knowns_behind, Gives, gives, again_sum}
-
--- a phrase for what is seen so
-pub data Means {A B : Type 0} (P : List SpannedToken → A → Type 0) (view : A → B) (b : B) : List SpannedToken → Type 0 where
-  means : {w : List SpannedToken} {x : A} → P w x → view x ≡ b → Means P view b w
-
--- The text is read as a phrase for what is seen so.
-pub record Back {A B : Type 0} (may : List ℕ → Bool) (P : List SpannedToken → A → Type 0) (view : A → B) (text : List ℕ) (b : B) : Type 0 where
-  pub characters : List ℕ
-  pub spells : Spells characters text
-  pub prints : Prints may characters (Means P view b)
 
 -- types
 
@@ -56,16 +49,22 @@ type_back {id = id} spelled =
 -- parameters
 
 parameter_back : {u : List SpannedToken} {p : FormalParameter} → IsParameter u p → Knowns u → Back stops IsParameter parameter_tree (param_text (parameter_tree p)) (parameter_tree p)
-parameter_back (parameter c (ident {id = id} {s = s}) (type {id = id'})) h =
-    let name = word_piece id h.0 in let ty = word_piece id' h.1.1.0 in record {
-      characters = name.characters ++ codes ": " ++ ty.characters;
-      spells = spells_then (spells_then name.spells (spells_ascii (codes ": ") refl)) ty.spells;
-      prints = prints_as (a_parameter id id') (prints_then (prints_then name.prints (prints_behind prints_colon prints_space (λ rest ok. refl)) (λ rest ok. refl)) ty.prints (λ rest ok. refl));
+parameter_back (parameter {u = u} c {attributes = xs} l (ident {id = id} {s = s}) (type {id = id'} {s = s'})) h =
+    let attributes = attributes_back l (knowns_front u _ h) in
+    let behind = knowns_behind u (word id s ∷ fixed f.Colon c ∷ word id' s' ∷ []) h in
+    let name = word_piece id behind.0 in let ty = word_piece id' behind.1.1.0 in record {
+      characters = attributes.characters ++ name.characters ++ codes ": " ++ ty.characters;
+      spells = spells_then (spells_then (spells_then attributes.spells name.spells) (spells_ascii (codes ": ") refl)) ty.spells;
+      prints = prints_as (a_parameter (attributes_tree xs) id id')
+          (prints_then (prints_then (prints_then attributes.prints name.prints (λ rest ok. refl)) (prints_behind prints_colon prints_space (λ rest ok. refl)) (λ rest ok. refl)) ty.prints (λ rest ok. refl));
     }
   where
-    a_parameter : (id id' : List ℕ) (w : List SpannedToken) → Joined (Joined (Is (t.Identifier id)) (Is (t.Fixed f.Colon))) (Is (t.Identifier id')) w
-        → Means IsParameter parameter_tree (record { attributes = []; name = id; type = simple None id' }) w
-    a_parameter id id' w (joined (joined (is s) (is c)) (is s')) = means (parameter c ident type) refl
+    a_parameter : (rs : List Attr) (id id' : List ℕ) (w : List SpannedToken)
+        → Joined (Joined (Joined (Means IsAttributes attributes_tree rs) (Is (t.Identifier id))) (Is (t.Fixed f.Colon))) (Is (t.Identifier id')) w
+        → Means IsParameter parameter_tree (record { attributes = rs; name = id; type = simple None id' }) w
+    a_parameter rs id id' w (joined (joined (joined {u = u} (means l same) (is s)) (is c)) (is s')) =
+        rw (append_assoc (u ++ word id s ∷ []) (fixed f.Colon c ∷ []) (word id' s' ∷ []), append_assoc u (word id s ∷ []) (fixed f.Colon c ∷ word id' s' ∷ []))
+        (means (parameter c l ident type) (λ k. record { attributes = same k; name = id; type = simple None id' }))
 
 abbrev ListBack : (List SpannedToken → List FormalParameter → Type 0) → List Param → Type 0
 ListBack P ps = Back stops P (map parameter_tree) (commas param_text ps) ps
@@ -147,21 +146,34 @@ annotation_back (annotated (type {id = id})) h =
     some : (id : List ℕ) (w : List SpannedToken) → Joined (Is (t.Fixed f.Colon)) (Means IsType type_tree (simple None id)) w → Means IsAnnotation (option_map type_tree) (Some (simple None id)) w
     some id w (joined (is s) (means g same)) = means (annotated g) (ap Some same)
 
-result_back : {u : List SpannedToken} {ty : Option (TypeExpressionOf Expression)} → IsResult u ty → Knowns u
-    → Back stops IsResult (option_map type_tree) (result_text [] (option_map type_tree ty)) (option_map type_tree ty)
+-- a result that is seen so
+data Returns (rs : List Attr) (o : Option Typ) : List SpannedToken → Type 0 where
+  returning_as : {w : List SpannedToken} {xs : List (Spanned Attribute)} {ty : Option (TypeExpressionOf Expression)} → IsResult w xs ty → attributes_tree xs ≡ rs
+      → option_map type_tree ty ≡ o → Returns rs o w
+
+record Result (rs : List Attr) (o : Option Typ) : Type 0 where
+  characters : List ℕ
+  spells : Spells characters (result_text rs o)
+  prints : Prints stops characters (Returns rs o)
+
+result_back : {u : List SpannedToken} {xs : List (Spanned Attribute)} {ty : Option (TypeExpressionOf Expression)} → IsResult u xs ty → Knowns u
+    → Result (attributes_tree xs) (option_map type_tree ty)
 result_back no_result h = record { characters = []; spells = spells_ascii [] refl; prints = prints_as none prints_nothing }
   where
-    none : (w : List SpannedToken) → Nothing w → Means IsResult (option_map type_tree) None w
-    none w nothing = means no_result refl
-result_back (result_of (type {id = id})) h =
-    let ty = type_back {id = id} h.1.0 in record {
-      characters = codes " -> " ++ ty.characters;
-      spells = spells_then (spells_ascii (codes " -> ") refl) ty.spells;
-      prints = prints_as (some id) (prints_then (prints_before prints_space (prints_behind prints_arrow prints_space (λ rest ok. refl)) (λ rest ok. refl)) ty.prints (λ rest ok. refl));
+    none : (w : List SpannedToken) → Nothing w → Returns [] None w
+    none w nothing = returning_as no_result refl refl
+result_back (result_of {u = u} {attributes = xs} l (type {id = id} {s = s})) h =
+    let attributes = attributes_back l (knowns_front u _ h.1) in
+    let ty = type_back {id = id} (knowns_behind u (word id s ∷ []) h.1).0 in record {
+      characters = codes " -> " ++ attributes.characters ++ ty.characters;
+      spells = spells_then (spells_then (spells_ascii (codes " -> ") refl) attributes.spells) ty.spells;
+      prints = prints_as (some (attributes_tree xs) id)
+          (prints_then (prints_then (prints_before prints_space (prints_behind prints_arrow prints_space (λ rest ok. refl)) (λ rest ok. refl)) attributes.prints (λ rest ok. refl)) ty.prints (λ rest ok. refl));
     }
   where
-    some : (id : List ℕ) (w : List SpannedToken) → Joined (Is (t.Fixed f.Arrow)) (Means IsType type_tree (simple None id)) w → Means IsResult (option_map type_tree) (Some (simple None id)) w
-    some id w (joined (is s) (means g same)) = means (result_of g) (ap Some same)
+    some : (rs : List Attr) (id : List ℕ) (w : List SpannedToken) → Joined (Joined (Is (t.Fixed f.Arrow)) (Means IsAttributes attributes_tree rs)) (Means IsType type_tree (simple None id)) w
+        → Returns rs (Some (simple None id)) w
+    some rs id w (joined (joined (is s) (means l same)) (means g same')) = returning_as (result_of l g) same (ap Some same')
 
 -- bodies
 
@@ -257,39 +269,81 @@ constant_back {id = id} {ty = ty} {x = x} spelled g h i j =
     a_constant o e w (joined (joined (is c) (is s)) (joined (joined {u = v} (means g same) (joined {v = w'} (is q) (gives i same'))) (is z))) =
         rw (append_assoc v (fixed f.Equal q ∷ w') (fixed f.Semicolon z ∷ [])) (means (constant q z ident g i) (λ k. tree.variable [] Const id (same k) (Some (same' k))))
 
-function_back : {v w x : List SpannedToken} {id : List ℕ} {ps : List FormalParameter} {ty : Option (TypeExpressionOf Expression)} {ss : List (Spanned Statement)}
-    → Spelled (t.Identifier id) → OptionallyListed IsParameter IsComma v ps → Knowns v → IsResult w ty → Knowns w → IsBody x ss → Knowns x
-    → DeclarationBack (tree.function [] id (map parameter_tree ps) [] (option_map type_tree ty) (record { attributes = []; statements = statements_tree ss }))
+-- what stands behind the attributes of a function
+data Headless (id : List ℕ) (ps : List Param) (rs : List Attr) (o : Option Typ) (stms : List Stm) : List SpannedToken → Type 0 where
+  headless : {w : List SpannedToken} → ((u : List SpannedToken) (xs : List (Spanned Attribute)) → IsAttributes u xs
+      → Means IsDeclaration node_declaration (tree.function (attributes_tree xs) id ps rs o (record { attributes = []; statements = stms })) (u ++ w)) → Headless id ps rs o stms w
+
+record Function (id : List ℕ) (ps : List Param) (rs : List Attr) (o : Option Typ) (stms : List Stm) : Type 0 where
+  characters : List ℕ
+  spells : Spells characters (head_text [] id ps ++ result_text rs o ++ body_text (record { attributes = []; statements = stms }))
+  prints : Prints anything characters (Headless id ps rs o stms)
+
+function_back : {v w x : List SpannedToken} {id : List ℕ} {ps : List FormalParameter} {xs : List (Spanned Attribute)} {ty : Option (TypeExpressionOf Expression)} {ss : List (Spanned Statement)}
+    → Spelled (t.Identifier id) → OptionallyListed IsParameter IsComma v ps → Knowns v → IsResult w xs ty → Knowns w → IsBody x ss → Knowns x
+    → Function id (map parameter_tree ps) (attributes_tree xs) (option_map type_tree ty) (statements_tree ss)
 unfolding head_text body_text
-function_back {id = id} {ps = ps} {ty = ty} {ss = ss} spelled g h i j k l =
+function_back {id = id} {ps = ps} {xs = xs} {ty = ty} {ss = ss} spelled g h i j k l =
     let name = word_piece id spelled in let a = parameters_back g h in let b = result_back i j in let c = braces_back k l in record {
       characters = (codes "fn " ++ name.characters ++ codes "(" ++ a.characters ++ codes ")") ++ b.characters ++ (codes " " ++ c.characters ++ codes "\n");
       spells = spells_then (spells_then (spells_then (spells_then (spells_then (spells_then (spells_ascii (codes "fn ") refl) name.spells) (spells_ascii (codes "(") refl)) a.spells) (spells_ascii (codes ")") refl)) b.spells)
           (spells_then (spells_then (spells_ascii (codes " ") refl) c.spells) (spells_ascii (codes "\n") refl));
-      prints = prints_as (a_function (map parameter_tree ps) (option_map type_tree ty) (statements_tree ss))
+      prints = prints_as (a_function (map parameter_tree ps) (attributes_tree xs) (option_map type_tree ty) (statements_tree ss))
           (prints_then (prints_then (prints_then (prints_then (prints_then (prints_then (prints_behind prints_fn prints_space (λ rest ok. refl)) name.prints (λ rest ok. refl))
           prints_paren_left (λ rest ok. refl)) a.prints (λ rest ok. refl)) prints_paren_right (λ rest ok. refl)) b.prints (λ rest ok. refl))
           (prints_behind (prints_before prints_space c.prints (λ rest ok. refl)) prints_line_break (λ rest ok. refl)) (λ rest ok. refl));
     }
   where
-    a_function : (qs : List Param) (o : Option Typ) (stms : List Stm) (w : List SpannedToken)
+    a_function : (qs : List Param) (rs : List Attr) (o : Option Typ) (stms : List Stm) (w : List SpannedToken)
         → Joined (Joined (Joined (Joined (Joined (Joined (Is (t.Fixed f.Fn)) (Is (t.Identifier id))) (Is (t.Fixed f.ParenLeft))) (Means (OptionallyListed IsParameter IsComma) (map parameter_tree) qs)) (Is (t.Fixed f.ParenRight)))
-        (Means IsResult (option_map type_tree) o)) (Means IsBraced statements_tree stms) w
-        → Means IsDeclaration node_declaration (tree.function [] id qs [] o (record { attributes = []; statements = stms })) w
-    a_function qs o stms w (joined (joined {v = y} (joined (joined {v = v} (joined (joined (is n) (is s)) (is p)) (means g same)) (is q)) (means i same')) (means (braced {b = b} z {u = x} k) same'')) =
+        (Returns rs o)) (Means IsBraced statements_tree stms) w
+        → Headless id qs rs o stms w
+    a_function qs rs o stms w (joined (joined {v = y} (joined (joined {v = v} (joined (joined (is n) (is s)) (is p)) (means g same)) (is q)) (returning_as i same' same'')) (means (braced {b = b} z {u = x} k) same''')) =
         let body = fixed f.BraceLeft b ∷ x ++ fixed f.BraceRight z ∷ [] in
         rw (append_assoc (v ++ fixed f.ParenRight q ∷ []) y body, append_assoc v (fixed f.ParenRight q ∷ []) (y ++ body))
-        (means (function p q b z ident g i k) (λ n. tree.function [] id (same n) [] (same' n) (record { attributes = []; statements = same'' n })))
+        (headless (λ u xs l. means (function n p q b z l ident g i k) (λ m. tree.function (attributes_tree xs) id (same m) (same' m) (same'' m) (record { attributes = []; statements = same''' m }))))
+
+-- a function's text behind its attributes
+head_behind : (rs : List Attr) (id : List ℕ) (ps : List Param) → head_text rs id ps ≡ attrs_text rs ++ head_text [] id ps
+unfolding head_text
+head_behind rs id ps =
+    let a = attrs_text rs in let list = commas param_text ps in
+    let opened = ap (λ l. l ++ codes "(") (append_assoc a (codes "fn ") id) ∙ append_assoc a (codes "fn " ++ id) (codes "(") in
+    let filled = ap (λ l. l ++ list) opened ∙ append_assoc a (codes "fn " ++ id ++ codes "(") list in
+    ap (λ l. l ++ codes ")") filled ∙ append_assoc a (codes "fn " ++ id ++ codes "(" ++ list) (codes ")")
+
+text_behind : (rs : List Attr) (id : List ℕ) (ps : List Param) (result body : List ℕ)
+    → attrs_text rs ++ (head_text [] id ps ++ result ++ body) ≡ head_text rs id ps ++ result ++ body
+text_behind rs id ps result body =
+    let a = attrs_text rs in let head = head_text [] id ps in
+    sym (ap (λ l. l ++ result ++ body) (head_behind rs id ps) ∙ ap (λ l. l ++ body) (append_assoc a head result) ∙ append_assoc a (head ++ result) body)
+
+attributed_back : {u : List SpannedToken} {xs : List (Spanned Attribute)} {id : List ℕ} {ps : List Param} {rs : List Attr} {o : Option Typ} {stms : List Stm} → IsAttributes u xs → Knowns u
+    → Function id ps rs o stms → DeclarationBack (tree.function (attributes_tree xs) id ps rs o (record { attributes = []; statements = stms }))
+attributed_back {xs = xs} {id = id} {ps = ps} {rs = rs} {o = o} {stms = stms} g h b =
+    let a = attributes_back g h in record {
+      characters = a.characters ++ b.characters;
+      spells = subst (Spells (a.characters ++ b.characters)) (text_behind (attributes_tree xs) id ps (result_text rs o) (body_text (record { attributes = []; statements = stms })))
+          (spells_then a.spells b.spells);
+      prints = prints_as (with_attributes (attributes_tree xs)) (prints_then a.prints b.prints (λ rest ok. refl));
+    }
+  where
+    with_attributes : (before : List Attr) (w : List SpannedToken) → Joined (Means IsAttributes attributes_tree before) (Headless id ps rs o stms) w
+        → Means IsDeclaration node_declaration (tree.function before id ps rs o (record { attributes = []; statements = stms })) w
+    with_attributes before w (joined {u = u} {v = v} (means {x = ys} l same) (headless make)) =
+        subst (λ bs. Means IsDeclaration node_declaration (tree.function bs id ps rs o (record { attributes = []; statements = stms })) (u ++ v)) same (make u ys l)
 
 declaration_back : {u : List SpannedToken} {d : Spanned GlobalDeclaration} → IsDeclaration u d → Knowns u → DeclarationBack (node_declaration d)
 declaration_back (constant {v = v} {w = w} e z ident a b) h =
     let behind = h.1.1 in let value = (knowns_behind v (fixed f.Equal e ∷ w ++ fixed f.Semicolon z ∷ []) behind).1 in
     constant_back h.1.0 a (knowns_front v _ behind) b (knowns_front w _ value)
-declaration_back (function {v = v} {w = w} {x = x} p q b z ident a i k) h =
-    let behind = h.1.1.1 in
-    let result = (knowns_behind v (fixed f.ParenRight q ∷ w ⌢ fixed f.BraceLeft b ∷ x ⌢ fixed f.BraceRight z ∷ []) behind).1 in
-    let body = (knowns_behind w (fixed f.BraceLeft b ∷ x ⌢ fixed f.BraceRight z ∷ []) result).1 in
-    function_back h.1.0 a (knowns_front v _ behind) i (knowns_front w _ result) k (knowns_front x _ body)
+declaration_back (function {t = t} {v = v} {w = w} {x = x} n p q b z l (ident {id = id} {s = s}) a i k) h =
+    let open_body = fixed f.BraceLeft b ∷ x ⌢ fixed f.BraceRight z ∷ [] in
+    let keyword = knowns_behind t (fixed f.Fn n ∷ word id s ∷ fixed f.ParenLeft p ∷ v ⌢ fixed f.ParenRight q ∷ w ⌢ open_body) h in
+    let behind = keyword.1.1.1 in
+    let result = (knowns_behind v (fixed f.ParenRight q ∷ w ⌢ open_body) behind).1 in
+    let body = (knowns_behind w open_body result).1 in
+    attributed_back l (knowns_front t _ h) (function_back keyword.1.0 a (knowns_front v _ behind) i (knowns_front w _ result) k (knowns_front x _ body))
 
 -- imports
 

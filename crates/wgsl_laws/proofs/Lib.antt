@@ -4,4 +4,6 @@ pub mod Forms
 pub mod Numbers
 pub mod Pieces
 pub mod Expressions
+pub mod Back
+pub mod Attributes
 pub mod Declarations

@@ -57,6 +57,10 @@ pub prints_brace_right : Prints anything (codes "}") (Is (t.Fixed f.BraceRight))
 unfolding unicode_ident
 prints_brace_right = prints_token (fixed_form (codes "}") f.BraceRight refl (fixed_of-spelling f.BraceRight)) (λ rest ok. alone_no_longer 125 rest refl refl refl refl)
 
+pub prints_attr : Prints anything (codes "@") (Is (t.Fixed f.Attr))
+unfolding unicode_ident
+prints_attr = prints_token (fixed_form (codes "@") f.Attr refl (fixed_of-spelling f.Attr)) (λ rest ok. alone_no_longer 64 rest refl refl refl refl)
+
 pub prints_comma : Prints anything (codes ",") (Is (t.Fixed f.Comma))
 unfolding unicode_ident
 prints_comma = prints_token (fixed_form (codes ",") f.Comma refl (fixed_of-spelling f.Comma)) (λ rest ok. alone_no_longer 44 rest refl refl refl refl)

@@ -1,6 +1,7 @@
 //! From the text of a module to its syntax tree, or to the fault of the text.
 #![tactic(auto)]
 
+mod attribute;
 mod cursor;
 mod declaration;
 mod expression;
@@ -22,3 +23,6 @@ pub use wgsl_syntax::{
     UnaryOperator,
 };
 pub use wgsl_token::{Error, ErrorKind, Fixed, SpannedToken, Token};
+
+#[cfg(test)]
+mod tests;
