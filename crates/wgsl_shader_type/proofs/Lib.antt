@@ -1,0 +1,6 @@
+pub mod Classes
+pub mod Commons
+pub mod LayoutSteps
+pub mod Layouts
+pub mod Ranks
+pub mod Rounding

@@ -1,0 +1,9 @@
+pub mod Alike
+pub mod Class
+pub mod Conversion
+pub mod Equality
+pub mod Layout
+pub mod LayoutOf
+pub mod Rank
+pub mod Text
+pub mod Trees

@@ -1,0 +1,4 @@
+pub mod Answer
+pub mod Literal
+pub mod Operator
+pub mod ResultOf

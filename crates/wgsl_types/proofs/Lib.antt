@@ -1,0 +1,3 @@
+pub mod Emptiness
+pub mod Lawful
+pub mod Together

@@ -1,0 +1,4 @@
+pub mod Constructor
+pub mod Convert
+pub mod Laws
+pub mod Template

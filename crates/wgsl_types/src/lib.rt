@@ -1,0 +1,27 @@
+//! The types of WGSL: enumerations, types, conversions, layouts, operators, constructors and templates.
+#![tactic(auto)]
+
+pub mod constructor;
+pub mod conversions;
+pub mod laws;
+pub mod template;
+#[cfg(test)]
+mod tests;
+pub mod typed;
+
+pub use constructor::{array_t, builtin_type, is_ctor, type_ctor, typecheck_struct_ctor, vec_t};
+pub use conversions::{convert, convert_all, convert_all_inner_to, convert_all_to, convert_inner};
+pub use template::{ArrayTemplate, PtrTemplate, VecTemplate};
+pub use typed::{Convert, Ty};
+pub use wgsl_enumerations::{
+    AccessMode, AddressSpace, AssignmentOperator, BuiltinValue, DiagnosticSeverity, Enumerant,
+    InterpolationSampling, InterpolationType, ShaderStage,
+};
+pub use wgsl_operators::{BinaryOperator, UnaryOperator};
+pub use wgsl_shader_type::{
+    ShaderType, StructMemberType, StructMemberTypeOf, StructType, StructTypeOf, Type,
+    conversion_rank, convert_all_ty, convert_ty,
+};
+pub use wgsl_type_operators::{
+    CallSignature, Error, LiteralInstance, TpltParam, TypeOperators, type_binary_op, type_unary_op,
+};
