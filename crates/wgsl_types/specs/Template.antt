@@ -1,5 +1,5 @@
 -- What the arguments of a template make (WGSL, "Type generators and their parameters").
-use Rattle.std.specs.Prelude.{◌≡◌, ℕ, ℤ, pos, List, [], ◌∷◌, Option, Some, None, Bool, true, false, IsTrue, nat_lt, if◌then◌else◌}
+use Rattle.std.specs.Prelude.{◌≡◌, ℕ, ℤ, pos, List, [], ◌∷◌, Option, Some, None, Bool, true, false, ◌==◌, nat_lt, codes, if◌then◌else◌}
 use Rattle.wgsl_enumerations.specs.declared.address.AddressSpace.{AddressSpace}
 use Rattle.wgsl_enumerations.specs.declared.address.AddressSpace.TheVariants.{Storage}
 use Rattle.wgsl_enumerations.specs.declared.address.AccessMode.{AccessMode}
@@ -7,10 +7,12 @@ use Rattle.wgsl_enumerations.specs.declared.address.Enumerant.TheVariants as enu
 use Rattle.wgsl_enumerations.specs.Texts.{default_access}
 use Rattle.wgsl_shader_type.specs.declared.tree.ShaderType.{ShaderType}
 use Rattle.wgsl_shader_type.specs.Class.{is_scalar}
-use Rattle.wgsl_type_operators.specs.declared.literal.LiteralInstance.{LiteralInstance}
-use Rattle.wgsl_type_operators.specs.declared.literal.LiteralInstance.TheVariants as literal
-use Rattle.wgsl_type_operators.specs.declared.literal.TpltParam.{TpltParam}
-use Rattle.wgsl_type_operators.specs.declared.literal.TpltParam.TheVariants.{Ty, Instance, Enumerant}
+use Rattle.wgsl_shader_type.specs.declared.error.Error.{Error}
+use Rattle.wgsl_shader_type.specs.declared.error.Error.TheVariants as error
+use Rattle.wgsl_shader_type.specs.declared.literal.LiteralInstance.{LiteralInstance}
+use Rattle.wgsl_shader_type.specs.declared.literal.LiteralInstance.TheVariants as literal
+use Rattle.wgsl_shader_type.specs.declared.literal.TpltParam.{TpltParam}
+use Rattle.wgsl_shader_type.specs.declared.literal.TpltParam.TheVariants.{Ty, Instance, Enumerant}
 use Rattle.wgsl_types.specs.declared.template.ArrayTemplate.{ArrayTemplate}
 use Rattle.wgsl_types.specs.declared.template.PtrTemplate.{PtrTemplate}
 
@@ -45,3 +47,32 @@ abbrev pub pointer_reading : List TpltParam → Option PtrTemplate
 pointer_reading (Enumerant (enumerant.AddressSpace space) ∷ Ty t ∷ []) = Some (record { space = space; stored = t; access = default_access space })
 pointer_reading (Enumerant (enumerant.AddressSpace Storage) ∷ Ty t ∷ Enumerant (enumerant.AccessMode access) ∷ []) = Some (record { space = Storage; stored = t; access = access })
 pointer_reading _ = None
+
+-- ---- what is refused
+
+abbrev pub IsTemplateArgs : List ℕ → Error → Type 0
+IsTemplateArgs what (error.TemplateArgs of) = of.now ≡ what
+IsTemplateArgs what _ = ⊥
+
+abbrev pub IsMissingTemplate : List ℕ → Error → Type 0
+IsMissingTemplate what (error.MissingTemplate of) = of.now ≡ what
+IsMissingTemplate what _ = ⊥
+
+abbrev pub is_zero : LiteralInstance → Bool
+is_zero (literal.AbstractInt (pos n)) = n == 0
+is_zero (literal.I32 (pos n)) = n == 0
+is_zero (literal.U32 n) = n == 0
+is_zero _ = false
+
+-- a type and the count 0
+abbrev pub counts_zero : List TpltParam → Bool
+counts_zero (Ty t ∷ Instance l ∷ []) = is_zero l
+counts_zero _ = false
+
+-- An array of no elements isn't supported; any other list that makes no array isn't a template of one.
+abbrev pub array_template_fault : Bool → Error → Type 0
+array_template_fault true fault = fault ≡ error.Todo (codes "array")
+array_template_fault false fault = IsTemplateArgs (codes "array") fault
+
+abbrev pub IsArrayTemplateFault : List TpltParam → Error → Type 0
+IsArrayTemplateFault params fault = array_template_fault (counts_zero params) fault

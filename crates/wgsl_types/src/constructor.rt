@@ -1,27 +1,39 @@
 //! The types that constructors make.
 
-ghost use Rattle.std.specs.Prelude.{◌≡◌, ◌≢◌, [], Some, None, false, ◌⊎◌, IsTrue, ◌↔◌, All, IfOk, MatchResult};
+ghost use Rattle.std.specs.Prelude.{◌≡◌, ℕ, [], ◌++◌, Some, None, ◌==◌, ◌⊎◌, IsTrue, ◌↔◌, All, map, sum, IfOk, MatchOption, MatchResult, codes};
+ghost use Rattle.std.specs.Fmt.{decimal};
 ghost use Rattle.std.specs.Option.{option_copied};
 ghost use Rattle.wgsl_shader_type.specs.Conversion.{Converts};
-ghost use Rattle.wgsl_shader_type.specs.Class.{is_vector};
 ghost use Rattle.wgsl_shader_type.specs.declared.tree.ShaderType.TheVariants as type;
-ghost use Rattle.wgsl_types.specs.Constructor.{fit_members, FitStruct, IsArrayMade};
+ghost use Rattle.wgsl_types.specs.Constructor as spec;
+ghost use Rattle.wgsl_types.specs.Names.{builtin_name};
 
-use crate::template::{ArrayTemplate, PtrTemplate, VecTemplate};
+use crate::names::{BuiltinName, builtin_name};
+use crate::template::{ArrayTemplate, VecTemplate};
 use std::alloc::{AllocError, Global};
 use wgsl_items::{Boxed, CloneIn, Items, Text};
-use wgsl_shader_type::{StructType, Type, convert_all_ty};
-use wgsl_type_operators::{CallSignature, Error, TpltParam};
+use wgsl_shader_type::{CallSignature, Error, StructType, TpltParam, Type, convert_all_ty};
 
-/// Whether the arguments are the values of a struct's members, or none for its zero value.
+/// What makes a value, once its name and its template are read.
+#[derive(Debug, Drop, PartialEq)]
+pub enum Constructor {
+    /// A scalar type.
+    Scalar(Type),
+    /// How many components the vector has, and their type, where it is given.
+    Vector(u8, Option<VecTemplate>),
+    /// The elements' type and their number, where they are given.
+    Array(Option<ArrayTemplate>),
+}
+
+/// Whether the arguments are the values of a struct's members, or none for its zero value. Another number of them is `ParamCount`, the first that doesn't convert to its member's type `ParamType`.
 pub fn typecheck_struct_ctor(
     alloc: Global,
     struct_type: &StructType,
     args: &[Type],
 ) -> Result<(), Error>
     ensures { MatchResult result
-        (λ _. FitStruct struct_type.now.members args.now)
-        (λ error. (error ≡ Error.OutOfMemory) ⊎ ((args.now ≢ []) × (fit_members struct_type.now.members args.now ≡ false))) }
+        (λ _. spec.FitStruct struct_type.now.members args.now)
+        (λ error. (error ≡ Error.OutOfMemory) ⊎ spec.IsStructFault struct_type.now.name struct_type.now.members args.now error) }
 {
     if args.is_empty() {
         return Ok(());
@@ -35,7 +47,8 @@ pub fn typecheck_struct_ctor(
         let member = &members[i];
         if !args[i].is_convertible_to(&member.ty) {
             let expected = member.ty.clone(alloc)?;
-            return Err(Error::ParamType(expected, args[i].clone(alloc)?));
+            let given = args[i].clone(alloc)?;
+            return Err(Error::ParamType(expected, given));
         }
     }
     Ok(())
@@ -53,16 +66,47 @@ fn all_convert(args: &[Type], to: &Type) -> bool
     true
 }
 
-fn signature(alloc: Global, name: &str, args: &[Type]) -> Result<Error, AllocError> {
+fn types_in(alloc: Global, args: &[Type]) -> Result<Items<Type>, AllocError>
+    ensures { IfOk result (λ types. types ≡ args.now) }
+{
     let mut types = Items::new(alloc);
     for arg in args {
         types.push(arg.clone(alloc)?)?;
     }
-    Ok(Error::Signature(CallSignature {
-        name: Text::from_str(alloc, name)?,
-        tplt: None,
-        args: types,
-    }))
+    Ok(types)
+}
+
+fn params_in(
+    alloc: Global,
+    template: Option<&[TpltParam]>,
+) -> Result<Option<Items<TpltParam>>, AllocError>
+    ensures { IfOk result (λ params. params ≡ option_copied template.entry) }
+{
+    match template {
+        None => Ok(None),
+        Some(given) => {
+            let mut params = Items::new(alloc);
+            for param in given {
+                params.push(param.clone(alloc)?)?;
+            }
+            Ok(Some(params))
+        }
+    }
+}
+
+/// The refusal of a call that no constructor takes.
+fn call(
+    alloc: Global,
+    name: &str,
+    template: Option<&[TpltParam]>,
+    args: &[Type],
+) -> Result<Error, AllocError>
+    ensures { IfOk result (λ fault. fault ≡ spec.call name.now (option_copied template.entry) args.now) }
+{
+    let name = Text::from_str(alloc, name)?;
+    let tplt = params_in(alloc, template)?;
+    let args = types_in(alloc, args)?;
+    Ok(Error::Signature(CallSignature { name, tplt, args }))
 }
 
 fn array_of(alloc: Global, element: &Type, count: usize) -> Result<Type, AllocError>
@@ -72,286 +116,391 @@ fn array_of(alloc: Global, element: &Type, count: usize) -> Result<Type, AllocEr
     Ok(Type::Array(Boxed::new(alloc, element)?, Some(count)))
 }
 
-/// An array of as many elements as there are arguments, at the common type of these.
-fn bare_array(alloc: Global, args: &[Type]) -> Result<Type, Error>
-    ensures { IfOk result (λ made. IsArrayMade None args.now made) }
+/// How many elements an array has, by its template's count and the number of its arguments.
+fn array_length(count: Option<usize>, given: usize) -> Option<usize>
+    ensures { result ≡ spec.array_length count given }
 {
-    if args.is_empty() {
-        return Err(Error::Todo(Text::from_str(alloc, "array")?));
+    match count {
+        None => { if given > 0 { Some(given) } else { None } }
+        Some(n) => { if n > 0 && (given == 0 || given == n) { Some(n) } else { None } }
     }
+}
+
+/// An array of as many elements as there are arguments, at the common type of these.
+fn bare_array(alloc: Global, args: &[Type]) -> Result<Option<Type>, AllocError>
+    ensures { IfOk result (λ found. MatchOption found (spec.MakesNothing (spec.constructor.Array None) args.now) (spec.IsArrayMade None args.now)) }
+{
     match convert_all_ty(args) {
-        None => Err(signature(alloc, "array", args)?),
+        None => Ok(None),
         Some(common) => {
             let made = array_of(alloc, common, args.len())?;
-            Ok(made)
+            Ok(Some(made))
         }
     }
 }
 
 /// An array of a template.
-fn templated_array(alloc: Global, template: &ArrayTemplate, args: &[Type]) -> Result<Type, Error>
-    ensures { IfOk result (λ made. IsArrayMade (Some template.now) args.now made) }
+fn templated_array(
+    alloc: Global,
+    template: &ArrayTemplate,
+    args: &[Type],
+) -> Result<Option<Type>, AllocError>
+    ensures { IfOk result (λ found. MatchOption found
+        (spec.MakesNothing (spec.constructor.Array (Some template.now)) args.now)
+        (spec.IsArrayMade (Some template.now) args.now)) }
 {
-    let element = &template.element;
-    if !all_convert(args, element) {
-        return Err(signature(alloc, "array", args)?);
-    }
-    match template.count {
-        Some(count) => {
-            if args.is_empty() {
-                let made = array_of(alloc, element, count)?;
-                return Ok(made);
+    match array_length(template.count, args.len()) {
+        None => Ok(None),
+        Some(n) => {
+            if all_convert(args, &template.element) {
+                let made = array_of(alloc, &template.element, n)?;
+                Ok(Some(made))
+            } else {
+                Ok(None)
             }
-            if args.len() != count {
-                return Err(signature(alloc, "array", args)?);
-            }
-            let made = array_of(alloc, element, count)?;
-            Ok(made)
-        }
-        None => {
-            if args.is_empty() {
-                return Err(signature(alloc, "array", args)?);
-            }
-            let made = array_of(alloc, element, args.len())?;
-            Ok(made)
         }
     }
 }
 
-/// The type of an array's constructor. No arguments without a template are `Todo`, other lists that make no array `Signature`.
+fn is_of_none(template: Option<&ArrayTemplate>, args: &[Type]) -> bool
+    ensures { result ≡ spec.is_of_none (option_copied template.entry) args.now }
+{
+    match args {
+        [] => match template {
+            None => true,
+            Some(template) => template.count == Some(0),
+        },
+        _ => false,
+    }
+}
+
+/// The answer of an array's constructor, called by a name with arguments of a template.
+fn array_answer(
+    alloc: Global,
+    name: &str,
+    params: Option<&[TpltParam]>,
+    template: Option<&ArrayTemplate>,
+    args: &[Type],
+) -> Result<Type, Error>
+    ensures { spec.AnswersMade name.now (option_copied params.entry) (spec.constructor.Array (option_copied template.entry)) args.now result }
+{
+    let found = match template {
+        None => bare_array(alloc, args)?,
+        Some(template) => templated_array(alloc, template, args)?,
+    };
+    if let Some(made) = found {
+        return Ok(made);
+    }
+    if is_of_none(template, args) {
+        let name = Text::from_str(alloc, "array")?;
+        return Err(Error::Todo(name));
+    }
+    Err(call(alloc, name, params, args)?)
+}
+
+/// The type that an array's constructor makes. An array of no elements is `Todo`, other lists that make none are `Signature`, with the name `array` and no arguments of a template.
 pub fn array_t(
     alloc: Global,
     template: Option<&ArrayTemplate>,
     args: &[Type],
 ) -> Result<Type, Error>
-    ensures { IfOk result (IsArrayMade (option_copied template.entry) args.now) }
+    ensures { spec.AnswersMade (codes "array") None (spec.constructor.Array (option_copied template.entry)) args.now result }
+{
+    array_answer(alloc, "array", None, template, args)
+}
+
+/// The type of the components that an argument brings to a vector.
+fn component_of(ty: &Type) -> &Type
+    ensures { result.now ≡ spec.component_of ty.now }
+{
+    match ty {
+        Type::Vec(_, component) => component.get(),
+        _ => ty,
+    }
+}
+
+/// How many components an argument brings to a vector.
+fn count_of(ty: &Type) -> u8
+    ensures { result ≡ spec.count_of ty.now }
+{
+    match ty {
+        Type::Vec(count, _) => *count,
+        _ => 1,
+    }
+}
+
+/// Whether arguments bring so many components in all.
+fn has_total(n: u8, args: &[Type]) -> bool
+    ensures { result ≡ (sum (map spec.count_of args.now) == n) }
+{
+    let mut rest = n;
+    for arg in args {
+        match rest.checked_sub(count_of(arg)) {
+            Some(left) => rest = left,
+            None => return false,
+        }
+    }
+    rest == 0
+}
+
+fn fills(n: u8, args: &[Type]) -> bool
+    ensures { result ≡ spec.fills n args.now }
+{
+    match args {
+        [] => false,
+        [arg] => count_of(arg) == 1 || count_of(arg) == n,
+        _ => has_total(n, args),
+    }
+}
+
+/// Whether arguments fill a vector with scalars.
+fn are_parts(n: u8, args: &[Type]) -> bool
+    ensures { result ≡ spec.are_parts n args.now }
+{
+    fills(n, args) && args.iter().all(|arg| component_of(arg).is_scalar())
+}
+
+fn is_whole(n: u8, args: &[Type]) -> bool
+    ensures { result ≡ spec.is_whole n args.now }
+{
+    match args {
+        [arg] => count_of(arg) == n,
+        _ => false,
+    }
+}
+
+/// Whether the components of each argument convert to a type.
+fn parts_convert(args: &[Type], to: &Type) -> bool
+    ensures { IsTrue result ↔ All (λ arg. Converts (spec.component_of arg) to.now) args.now }
+{
+    for arg in args {
+        if !component_of(arg).is_convertible_to(to) {
+            return false;
+        }
+    }
+    true
+}
+
+/// Whether arguments make a vector of components of a given type.
+fn fits_component(n: u8, component: &Type, args: &[Type]) -> bool
+    ensures { IsTrue result ↔ spec.FitComponent n component.now args.now }
+{
+    if args.is_empty() {
+        return true;
+    }
+    are_parts(n, args) && (is_whole(n, args) || parts_convert(args, component))
+}
+
+fn components_in(alloc: Global, args: &[Type]) -> Result<Items<Type>, AllocError>
+    ensures { IfOk result (λ components. components ≡ map spec.component_of args.now) }
+{
+    let mut components = Items::new(alloc);
+    for arg in args {
+        components.push(component_of(arg).clone(alloc)?)?;
+    }
+    Ok(components)
+}
+
+/// The components' type of a vector for which none is given.
+fn bare_component(alloc: Global, n: u8, args: &[Type]) -> Result<Option<Type>, AllocError>
+    ensures { IfOk result (λ found. MatchOption found (spec.HasNoComponent n args.now) (spec.IsComponent n args.now)) }
+{
+    if args.is_empty() {
+        return Ok(Some(Type::AbstractInt));
+    }
+    if !are_parts(n, args) {
+        return Ok(None);
+    }
+    let components = components_in(alloc, args)?;
+    match convert_all_ty(components.as_slice()) {
+        None => Ok(None),
+        Some(common) => {
+            let component = common.clone(alloc)?;
+            Ok(Some(component))
+        }
+    }
+}
+
+/// A vector of components of a given type.
+fn vector_of(alloc: Global, n: u8, component: &Type, args: &[Type]) -> Result<Option<Type>, AllocError>
+    ensures { IfOk result (λ found. MatchOption found
+        (spec.FitComponent n component.now args.now → ⊥)
+        (λ made. (made ≡ type.Vec n component.now) × spec.FitComponent n component.now args.now)) }
+{
+    if !fits_component(n, component, args) {
+        return Ok(None);
+    }
+    let component = component.clone(alloc)?;
+    let component = Boxed::new(alloc, component)?;
+    Ok(Some(Type::Vec(n, component)))
+}
+
+/// The vector that arguments make, if they make one.
+fn vector_made(
+    alloc: Global,
+    n: u8,
+    template: Option<&VecTemplate>,
+    args: &[Type],
+) -> Result<Option<Type>, AllocError>
+    ensures { IfOk result (λ found. MatchOption found
+        (spec.MakesNothing (spec.constructor.Vector n (option_copied template.entry)) args.now)
+        (spec.IsVectorMade n (option_copied template.entry) args.now)) }
 {
     match template {
-        None => bare_array(alloc, args),
-        Some(template) => templated_array(alloc, template, args),
+        Some(template) => vector_of(alloc, n, &template.component, args),
+        None => match bare_component(alloc, n, args)? {
+            None => Ok(None),
+            Some(component) => {
+                let component = Boxed::new(alloc, component)?;
+                Ok(Some(Type::Vec(n, component)))
+            }
+        },
     }
 }
 
-/// The component of a part of a vector, and how many such it has.
-fn part(ty: &Type) -> (&Type, u64) {
-    match ty {
-        Type::Vec(count, component) => (component.get(), u64::from(*count)),
-        _ => (ty, 1),
+/// The answer of a vector's constructor, called by a name with arguments of a template.
+fn vector_answer(
+    alloc: Global,
+    name: &str,
+    params: Option<&[TpltParam]>,
+    n: u8,
+    template: Option<&VecTemplate>,
+    args: &[Type],
+) -> Result<Type, Error>
+    ensures { spec.AnswersMade name.now (option_copied params.entry) (spec.constructor.Vector n (option_copied template.entry)) args.now result }
+{
+    match vector_made(alloc, n, template, args)? {
+        Some(made) => Ok(made),
+        None => Err(call(alloc, name, params, args)?),
     }
 }
 
-fn parts_of(alloc: Global, args: &[Type]) -> Result<(Items<Type>, u64), AllocError> {
-    let mut components = Items::new(alloc);
-    let mut total: u64 = 0;
-    for arg in args {
-        let (component, count) = part(arg);
-        components.push(component.clone(alloc)?)?;
-        total = total.saturating_add(count);
-    }
-    Ok((components, total))
-}
-
-/// The type of a vector's constructor: of nothing, of one scalar, of one vector of that length, or of parts with as many components in all.
+/// The type that a vector's constructor makes: of nothing, of one scalar for all components, of one vector of that length, or of parts that have as many components in all. Any other list is `Signature`, with the name `vec` and the number, and no arguments of a template.
 pub fn vec_t(
     alloc: Global,
     n: u8,
     template: Option<&VecTemplate>,
     args: &[Type],
 ) -> Result<Type, Error>
-    ensures { IfOk result (λ made. IsTrue (is_vector made)) }
+    ensures { spec.AnswersMade (codes "vec" ++ decimal n) None (spec.constructor.Vector n (option_copied template.entry)) args.now result }
 {
-    let (components, total) = parts_of(alloc, args)?;
-    let whole = args.len() == 1;
-    let scalars = components.as_slice().iter().all(|ty| ty.is_scalar());
-    if !scalars || !(args.is_empty() || total == u64::from(n) || (whole && total == 1)) {
-        return Err(signature(alloc, "vec", args)?);
-    }
-    let component = match template {
-        Some(template) => {
-            let cast = whole && total == u64::from(n);
-            if cast || all_convert(components.as_slice(), &template.component) {
-                template.component.clone(alloc)?
-            } else {
-                return Err(signature(alloc, "vec", args)?);
-            }
-        }
-        None => match convert_all_ty(components.as_slice()) {
-            Some(common) => common.clone(alloc)?,
-            None => {
-                if !args.is_empty() {
-                    return Err(signature(alloc, "vec", args)?);
-                }
-                Type::AbstractInt
-            }
-        },
-    };
-    Ok(Type::Vec(n, Boxed::new(alloc, component)?))
+    let name = format!(in alloc; "vec{n}")?;
+    vector_answer(alloc, name.as_str(), None, n, template, args)
 }
 
-/// How many components a vector of this name has, with the scalar type that the name gives, if it does.
-fn vector_name(name: &str) -> Option<(u8, Option<Type>)> {
-    match name {
-        "vec2" => Some((2, None)),
-        "vec3" => Some((3, None)),
-        "vec4" => Some((4, None)),
-        "vec2i" => Some((2, Some(Type::I32))),
-        "vec3i" => Some((3, Some(Type::I32))),
-        "vec4i" => Some((4, Some(Type::I32))),
-        "vec2u" => Some((2, Some(Type::U32))),
-        "vec3u" => Some((3, Some(Type::U32))),
-        "vec4u" => Some((4, Some(Type::U32))),
-        _ => None,
-    }
-}
-
-/// The scalar type of a name.
-fn scalar_name(name: &str) -> Option<Type> {
-    match name {
-        "bool" => Some(Type::Bool),
-        "i32" => Some(Type::I32),
-        "u32" => Some(Type::U32),
-        _ => None,
-    }
-}
-
-/// Whether a name is that of a constructor that is typed here.
-pub fn is_ctor(name: &str) -> bool {
-    name == "array" || scalar_name(name).is_some() || vector_name(name).is_some()
-}
-
-/// Whether a name is built in, but not supported.
-fn is_left_out(name: &str) -> bool {
-    matches!(
-        name,
-        "f32"
-            | "f16"
-            | "vec2f"
-            | "vec3f"
-            | "vec4f"
-            | "vec2h"
-            | "vec3h"
-            | "vec4h"
-            | "atomic"
-            | "sampler"
-            | "sampler_comparison"
-    ) || name.starts_with("mat")
-        || name.starts_with("texture_")
-}
-
-fn untemplated(alloc: Global, name: &str, template: Option<&[TpltParam]>) -> Result<(), Error> {
-    match template {
-        None => Ok(()),
-        Some(_) => Err(Error::UnexpectedTemplate(Text::from_str(alloc, name)?)),
-    }
-}
-
-/// The built-in type of a name and its template.
-pub fn builtin_type(
-    alloc: Global,
-    name: &str,
-    template: Option<&[TpltParam]>,
-) -> Result<Type, Error> {
-    if let Some(scalar) = scalar_name(name) {
-        untemplated(alloc, name, template)?;
-        return Ok(scalar);
-    }
-    if let Some((n, component)) = vector_name(name) {
-        return match component {
-            Some(component) => {
-                untemplated(alloc, name, template)?;
-                Ok(Type::Vec(n, Boxed::new(alloc, component)?))
-            }
-            None => match template {
-                None => Err(Error::MissingTemplate("vec")),
-                Some(params) => {
-                    let read = VecTemplate::parse(alloc, params)?;
-                    Ok(read.ty(alloc, n)?)
-                }
-            },
-        };
-    }
-    match name {
-        "array" => match template {
-            None => Err(Error::MissingTemplate("array")),
-            Some(params) => {
-                let read = ArrayTemplate::parse(alloc, params)?;
-                Ok(read.ty(alloc)?)
-            }
-        },
-        "ptr" => match template {
-            None => Err(Error::MissingTemplate("ptr")),
-            Some(params) => {
-                let read = PtrTemplate::parse(alloc, params)?;
-                Ok(read.ty(alloc)?)
-            }
-        },
-        _ => {
-            let name_text = Text::from_str(alloc, name)?;
-            if is_left_out(name) {
-                Err(Error::Todo(name_text))
-            } else {
-                Err(Error::UnknownType(name_text))
-            }
-        }
-    }
-}
-
-/// The type of a scalar's constructor: of nothing or of one scalar.
-fn scalar_t(alloc: Global, name: &str, scalar: Type, args: &[Type]) -> Result<Type, Error>
-    ensures { IfOk result (λ made. made ≡ scalar) }
+fn takes_one(args: &[Type]) -> bool
+    ensures { result ≡ spec.takes_one args.now }
 {
     match args {
-        [] => Ok(scalar),
-        [arg] => {
-            if arg.is_scalar() {
-                Ok(scalar)
-            } else {
-                Err(signature(alloc, name, args)?)
-            }
-        }
-        _ => Err(signature(alloc, name, args)?),
+        [] => true,
+        [arg] => arg.is_scalar(),
+        _ => false,
     }
 }
 
-/// The type of a constructor's call.
+/// The answer of a scalar's constructor, called by a name with arguments of a template.
+fn scalar_answer(
+    alloc: Global,
+    name: &str,
+    params: Option<&[TpltParam]>,
+    scalar: Type,
+    args: &[Type],
+) -> Result<Type, Error>
+    ensures { spec.AnswersMade name.now (option_copied params.entry) (spec.constructor.Scalar scalar) args.now result }
+{
+    if takes_one(args) {
+        Ok(scalar)
+    } else {
+        Err(call(alloc, name, params, args)?)
+    }
+}
+
+/// The constructor of a name without a template.
+fn plain_constructor(alloc: Global, text: &str, builtin: BuiltinName) -> Result<Constructor, Error>
+    ensures { MatchResult result
+        (λ by. spec.named_constructor builtin None ≡ Some by)
+        (λ fault. (fault ≡ Error.OutOfMemory) ⊎ ((spec.named_constructor builtin None ≡ None) × spec.IsNameFault text.now builtin None fault)) }
+{
+    match builtin {
+        BuiltinName::Scalar(scalar) => Ok(Constructor::Scalar(scalar)),
+        BuiltinName::Vector(n, Some(component)) => Ok(Constructor::Vector(n, Some(VecTemplate { component }))),
+        BuiltinName::Vector(n, None) => Ok(Constructor::Vector(n, None)),
+        BuiltinName::Array => Ok(Constructor::Array(None)),
+        BuiltinName::LeftOut => {
+            let name = Text::from_str(alloc, text)?;
+            Err(Error::Todo(name))
+        }
+        BuiltinName::Pointer | BuiltinName::Unknown => {
+            let name = Text::from_str(alloc, text)?;
+            Err(Error::UnknownType(name))
+        }
+    }
+}
+
+/// The constructor of a name with a template.
+fn templated_constructor(
+    alloc: Global,
+    text: &str,
+    builtin: BuiltinName,
+    params: &[TpltParam],
+) -> Result<Constructor, Error>
+    ensures { MatchResult result
+        (λ by. spec.named_constructor builtin (Some params.now) ≡ Some by)
+        (λ fault. (fault ≡ Error.OutOfMemory) ⊎ ((spec.named_constructor builtin (Some params.now) ≡ None) × spec.IsNameFault text.now builtin (Some params.now) fault)) }
+{
+    match builtin {
+        BuiltinName::Scalar(_) | BuiltinName::Vector(_, Some(_)) => {
+            let name = Text::from_str(alloc, text)?;
+            Err(Error::UnexpectedTemplate(name))
+        }
+        BuiltinName::Vector(n, None) => {
+            let read = VecTemplate::parse(alloc, params)?;
+            Ok(Constructor::Vector(n, Some(read)))
+        }
+        BuiltinName::Array => {
+            let read = ArrayTemplate::parse(alloc, params)?;
+            Ok(Constructor::Array(Some(read)))
+        }
+        BuiltinName::LeftOut => {
+            let name = Text::from_str(alloc, text)?;
+            Err(Error::Todo(name))
+        }
+        BuiltinName::Pointer | BuiltinName::Unknown => {
+            let name = Text::from_str(alloc, text)?;
+            Err(Error::UnknownType(name))
+        }
+    }
+}
+
+/// The answer of a constructor, called by a name with arguments of a template.
+fn constructor_answer(
+    alloc: Global,
+    name: &str,
+    params: Option<&[TpltParam]>,
+    by: Constructor,
+    args: &[Type],
+) -> Result<Type, Error>
+    ensures { spec.AnswersMade name.now (option_copied params.entry) by args.now result }
+{
+    match by {
+        Constructor::Scalar(scalar) => scalar_answer(alloc, name, params, scalar, args),
+        Constructor::Vector(n, template) => vector_answer(alloc, name, params, n, template.as_ref(), args),
+        Constructor::Array(template) => array_answer(alloc, name, params, template.as_ref(), args),
+    }
+}
+
+/// The type that a constructor's call makes. A template that is too much is `UnexpectedTemplate`, one that can't be read `TemplateArgs` (a count of 0 is `Todo`); a built-in name that isn't supported is `Todo`, a name without a constructor `UnknownType`; an array of no elements is `Todo`, and any other list of arguments that makes nothing `Signature`, with the call's name and template.
 pub fn type_ctor(
     alloc: Global,
     name: &str,
     template: Option<&[TpltParam]>,
     args: &[Type],
-) -> Result<Type, Error> {
-    if let Some(scalar) = scalar_name(name) {
-        untemplated(alloc, name, template)?;
-        return scalar_t(alloc, name, scalar, args);
-    }
-    if let Some((n, component)) = vector_name(name) {
-        return match component {
-            Some(component) => {
-                untemplated(alloc, name, template)?;
-                vec_t(alloc, n, Some(&VecTemplate { component }), args)
-            }
-            None => match template {
-                None => vec_t(alloc, n, None, args),
-                Some(params) => {
-                    let read = VecTemplate::parse(alloc, params)?;
-                    vec_t(alloc, n, Some(&read), args)
-                }
-            },
-        };
-    }
-    if name == "array" {
-        return match template {
-            None => array_t(alloc, None, args),
-            Some(params) => {
-                let read = ArrayTemplate::parse(alloc, params)?;
-                array_t(alloc, Some(&read), args)
-            }
-        };
-    }
-    let name_text = Text::from_str(alloc, name)?;
-    if is_left_out(name) {
-        Err(Error::Todo(name_text))
-    } else {
-        Err(Error::UnknownType(name_text))
-    }
+) -> Result<Type, Error>
+    ensures { spec.AnswersCall name.now (builtin_name name.now) (option_copied template.entry) args.now result }
+{
+    let by = match template {
+        None => plain_constructor(alloc, name, builtin_name(name))?,
+        Some(params) => templated_constructor(alloc, name, builtin_name(name), params)?,
+    };
+    constructor_answer(alloc, name, template, by, args)
 }

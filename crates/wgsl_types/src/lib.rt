@@ -22,6 +22,6 @@ pub use wgsl_shader_type::{
     ShaderType, StructMemberType, StructMemberTypeOf, StructType, StructTypeOf, Type,
     conversion_rank, convert_all_ty, convert_ty,
 };
-pub use wgsl_type_operators::{
+pub use wgsl_shader_type::{
     CallSignature, Error, LiteralInstance, TpltParam, TypeOperators, type_binary_op, type_unary_op,
 };

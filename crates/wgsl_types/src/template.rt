@@ -1,6 +1,6 @@
 //! The arguments of templates, read as what the templates make.
 
-ghost use Rattle.std.specs.Prelude.{◌≡◌, ◌⊎◌, Some, None, IfOk, MatchResult};
+ghost use Rattle.std.specs.Prelude.{◌≡◌, ◌⊎◌, Some, None, IfOk, MatchResult, codes};
 ghost use Rattle.wgsl_shader_type.specs.declared.tree.ShaderType.TheVariants as type;
 ghost use Rattle.wgsl_types.specs.Template as spec;
 
@@ -8,7 +8,7 @@ use std::alloc::{AllocError, Global};
 use wgsl_enumerations::{AccessMode, AddressSpace, Enumerant};
 use wgsl_items::{Boxed, Text};
 use wgsl_shader_type::Type;
-use wgsl_type_operators::{Error, LiteralInstance, TpltParam};
+use wgsl_shader_type::{Error, LiteralInstance, TpltParam};
 
 /// The template of a vector: the type of its components.
 #[derive(Debug, Drop, PartialEq)]
@@ -36,7 +36,7 @@ impl VecTemplate {
     pub fn parse(alloc: Global, params: &[TpltParam]) -> Result<VecTemplate, Error>
         ensures { MatchResult result
             (λ made. spec.vector_reading params.now ≡ Some made.component)
-            (λ error. (error ≡ Error.OutOfMemory) ⊎ (spec.vector_reading params.now ≡ None)) }
+            (λ error. (error ≡ Error.OutOfMemory) ⊎ ((spec.vector_reading params.now ≡ None) × spec.IsTemplateArgs (codes "vec") error)) }
     {
         match params {
             [TpltParam::Ty(ty)] => {
@@ -59,6 +59,7 @@ impl VecTemplate {
         Ok(Type::Vec(n, Boxed::new(alloc, component)?))
     }
 
+    /// The type of the components.
     pub fn inner_ty(&self) -> &Type
         ensures { result.now ≡ self.now.component }
     {
@@ -86,6 +87,7 @@ fn count_of(alloc: Global, literal: LiteralInstance) -> Result<usize, Error>
 }
 
 impl ArrayTemplate {
+    /// A template of these elements and this count. It needs no memory.
     pub fn new(element: Type, count: Option<usize>) -> ArrayTemplate
         ensures { result ≡ record { element = element; count = count } }
     {
@@ -96,7 +98,7 @@ impl ArrayTemplate {
     pub fn parse(alloc: Global, params: &[TpltParam]) -> Result<ArrayTemplate, Error>
         ensures { MatchResult result
             (λ made. spec.array_reading params.now ≡ Some made)
-            (λ error. (error ≡ Error.OutOfMemory) ⊎ (spec.array_reading params.now ≡ None)) }
+            (λ error. (error ≡ Error.OutOfMemory) ⊎ ((spec.array_reading params.now ≡ None) × spec.IsArrayTemplateFault params.now error)) }
     {
         match params {
             [TpltParam::Ty(ty)] => Ok(ArrayTemplate::new(ty.clone(alloc)?, None)),
@@ -108,6 +110,7 @@ impl ArrayTemplate {
         }
     }
 
+    /// The array.
     pub fn ty(&self, alloc: Global) -> Result<Type, AllocError>
         ensures { IfOk result (λ ty. ty ≡ type.Array self.now.element self.now.count) }
     {
@@ -115,12 +118,14 @@ impl ArrayTemplate {
         Ok(Type::Array(Boxed::new(alloc, element)?, self.count))
     }
 
+    /// The type of the elements.
     pub fn inner_ty(&self) -> &Type
         ensures { result.now ≡ self.now.element }
     {
         &self.element
     }
 
+    /// How many elements there are, where that is fixed.
     pub fn n(&self) -> Option<usize>
         ensures { result ≡ self.now.count }
     {
@@ -133,7 +138,7 @@ impl PtrTemplate {
     pub fn parse(alloc: Global, params: &[TpltParam]) -> Result<PtrTemplate, Error>
         ensures { MatchResult result
             (λ made. spec.pointer_reading params.now ≡ Some made)
-            (λ error. (error ≡ Error.OutOfMemory) ⊎ (spec.pointer_reading params.now ≡ None)) }
+            (λ error. (error ≡ Error.OutOfMemory) ⊎ ((spec.pointer_reading params.now ≡ None) × spec.IsTemplateArgs (codes "ptr") error)) }
     {
         match params {
             [
@@ -157,6 +162,7 @@ impl PtrTemplate {
         }
     }
 
+    /// The pointer.
     pub fn ty(&self, alloc: Global) -> Result<Type, AllocError>
         ensures { IfOk result (λ ty. ty ≡ type.Ptr self.now.space self.now.stored self.now.access) }
     {

@@ -10,11 +10,11 @@ use Rattle.wgsl_operators.specs.declared.UnaryOperator.TheVariants.{AddressOf, I
 use Rattle.wgsl_shader_type.specs.declared.tree.ShaderType.{ShaderType, out-ShaderType}
 use Rattle.wgsl_shader_type.specs.declared.tree.ShaderType.TheVariants as type
 use Rattle.wgsl_shader_type.specs.declared.tree.ShaderType.TheOpen.{ShaderType-F}
-use Rattle.wgsl_type_operators.specs.declared.error.Error.{Error}
-use Rattle.wgsl_type_operators.specs.declared.error.Error.TheVariants as error
+use Rattle.wgsl_shader_type.specs.declared.error.Error.{Error}
+use Rattle.wgsl_shader_type.specs.declared.error.Error.TheVariants as error
 use Rattle.wgsl_shader_type.specs.Class.{is_integer}
 use Rattle.wgsl_shader_type.specs.Rank.{converts, common_of}
-use Rattle.wgsl_type_operators.specs.Operator.{takes, gives, is_shift, is_arithmetic, is_logical, unary_takes}
+use Rattle.wgsl_shader_type.specs.Operator.{takes, gives, is_shift, is_arithmetic, is_logical, unary_takes}
 
 abbrev pub if_taken : BinaryOperator → ShaderType → Option ShaderType
 if_taken operator t = if takes operator t then Some (gives operator t) else None

@@ -1,11 +1,11 @@
 //! What the rules of types and operators refuse.
 
 use crate::literal::{CallSignature, LiteralInstance};
+use crate::tree::Type;
 use std::alloc::{AllocError, AllocFailed};
 use thiserror::Error;
 use wgsl_items::Text;
 use wgsl_operators::{BinaryOperator, UnaryOperator};
-use wgsl_shader_type::Type;
 
 /// A refusal by a rule of types, values or operators, or for want of memory.
 #[derive(Debug, Drop, PartialEq, Error)]
@@ -80,7 +80,7 @@ pub enum Error {
 
 impl From<AllocError> for Error {
     ghost use Rattle.std.specs.Prelude.{◌≡◌};
-    ghost use Rattle.wgsl_type_operators.specs.declared.error.Error.TheVariants.{OutOfMemory};
+    ghost use Rattle.wgsl_shader_type.specs.declared.error.Error.TheVariants.{OutOfMemory};
 
     ghost from_gives = { λ _ error. error ≡ OutOfMemory };
 
@@ -91,7 +91,7 @@ impl From<AllocError> for Error {
 
 impl<T: Drop> From<AllocFailed<T>> for Error {
     ghost use Rattle.std.specs.Prelude.{◌≡◌};
-    ghost use Rattle.wgsl_type_operators.specs.declared.error.Error.TheVariants.{OutOfMemory};
+    ghost use Rattle.wgsl_shader_type.specs.declared.error.Error.TheVariants.{OutOfMemory};
 
     ghost from_gives = { λ _ error. error ≡ OutOfMemory };
 

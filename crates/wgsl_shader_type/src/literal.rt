@@ -1,9 +1,9 @@
 //! Literals, and the arguments of templates.
 
+use crate::tree::Type;
 use std::fmt;
 use wgsl_enumerations::Enumerant;
 use wgsl_items::{Items, Text};
-use wgsl_shader_type::Type;
 
 /// The value of a scalar.
 #[derive(Clone, Copy, Debug, PartialEq, Eq)]
@@ -16,7 +16,7 @@ pub enum LiteralInstance {
 
 impl fmt::Display for LiteralInstance {
     ghost use Rattle.std.specs.Prelude.{Some};
-    ghost use Rattle.wgsl_type_operators.specs.Literal.{literal_text};
+    ghost use Rattle.wgsl_shader_type.specs.Literal.{literal_text};
 
     ghost output = { λ literal. Some (literal_text literal) };
 

@@ -1,8 +1,8 @@
 -- How a literal is written (WGSL, "Literals").
 use Rattle.std.specs.Prelude.{ℕ, List, ◌++◌, true, false, codes}
 use Rattle.std.specs.Fmt.{decimal, signed_decimal}
-use Rattle.wgsl_type_operators.specs.declared.literal.LiteralInstance.{LiteralInstance}
-use Rattle.wgsl_type_operators.specs.declared.literal.LiteralInstance.TheVariants as literal
+use Rattle.wgsl_shader_type.specs.declared.literal.LiteralInstance.{LiteralInstance}
+use Rattle.wgsl_shader_type.specs.declared.literal.LiteralInstance.TheVariants as literal
 
 abbrev pub literal_text : LiteralInstance → List ℕ
 literal_text (literal.Bool true) = codes "true"

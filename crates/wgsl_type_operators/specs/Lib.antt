@@ -1,4 +1,0 @@
-pub mod Answer
-pub mod Literal
-pub mod Operator
-pub mod ResultOf
