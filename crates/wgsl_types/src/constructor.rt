@@ -128,7 +128,7 @@ fn array_length(count: Option<usize>, given: usize) -> Option<usize>
 
 /// An array of as many elements as there are arguments, at the common type of these.
 fn bare_array(alloc: Global, args: &[Type]) -> Result<Option<Type>, AllocError>
-    ensures { IfOk result (λ found. MatchOption found (spec.MakesNothing (spec.constructor.Array None) args.now) (spec.IsArrayMade None args.now)) }
+    ensures { IfOk result (λ found. MatchOption found (spec.MakesNothing (Constructor.Array None) args.now) (spec.IsArrayMade None args.now)) }
 {
     match convert_all_ty(args) {
         None => Ok(None),
@@ -146,7 +146,7 @@ fn templated_array(
     args: &[Type],
 ) -> Result<Option<Type>, AllocError>
     ensures { IfOk result (λ found. MatchOption found
-        (spec.MakesNothing (spec.constructor.Array (Some template.now)) args.now)
+        (spec.MakesNothing (Constructor.Array (Some template.now)) args.now)
         (spec.IsArrayMade (Some template.now) args.now)) }
 {
     match array_length(template.count, args.len()) {
@@ -162,6 +162,22 @@ fn templated_array(
     }
 }
 
+/// The array that arguments make, if they make one.
+fn array_made(
+    alloc: Global,
+    template: Option<&ArrayTemplate>,
+    args: &[Type],
+) -> Result<Option<Type>, AllocError>
+    ensures { IfOk result (λ found. MatchOption found
+        (spec.MakesNothing (Constructor.Array (option_copied template.entry)) args.now)
+        (spec.IsArrayMade (option_copied template.entry) args.now)) }
+{
+    match template {
+        None => bare_array(alloc, args),
+        Some(template) => templated_array(alloc, template, args),
+    }
+}
+
 fn is_of_none(template: Option<&ArrayTemplate>, args: &[Type]) -> bool
     ensures { result ≡ spec.is_of_none (option_copied template.entry) args.now }
 {
@@ -174,6 +190,25 @@ fn is_of_none(template: Option<&ArrayTemplate>, args: &[Type]) -> bool
     }
 }
 
+/// What is refused where arguments make no array.
+fn array_fault(
+    alloc: Global,
+    name: &str,
+    params: Option<&[TpltParam]>,
+    template: Option<&ArrayTemplate>,
+    args: &[Type],
+) -> Result<Error, AllocError>
+    ensures { IfOk result (λ fault. fault
+        ≡ spec.array_fault name.now (option_copied params.entry) (option_copied template.entry) args.now) }
+{
+    if is_of_none(template, args) {
+        let name = Text::from_str(alloc, "array")?;
+        Ok(Error::Todo(name))
+    } else {
+        call(alloc, name, params, args)
+    }
+}
+
 /// The answer of an array's constructor, called by a name with arguments of a template.
 fn array_answer(
     alloc: Global,
@@ -182,20 +217,12 @@ fn array_answer(
     template: Option<&ArrayTemplate>,
     args: &[Type],
 ) -> Result<Type, Error>
-    ensures { spec.AnswersMade name.now (option_copied params.entry) (spec.constructor.Array (option_copied template.entry)) args.now result }
+    ensures { spec.AnswersMade name.now (option_copied params.entry) (Constructor.Array (option_copied template.entry)) args.now result }
 {
-    let found = match template {
-        None => bare_array(alloc, args)?,
-        Some(template) => templated_array(alloc, template, args)?,
-    };
-    if let Some(made) = found {
-        return Ok(made);
+    match array_made(alloc, template, args)? {
+        Some(made) => Ok(made),
+        None => Err(array_fault(alloc, name, params, template, args)?),
     }
-    if is_of_none(template, args) {
-        let name = Text::from_str(alloc, "array")?;
-        return Err(Error::Todo(name));
-    }
-    Err(call(alloc, name, params, args)?)
 }
 
 /// The type that an array's constructor makes. An array of no elements is `Todo`, other lists that make none are `Signature`, with the name `array` and no arguments of a template.
@@ -204,7 +231,7 @@ pub fn array_t(
     template: Option<&ArrayTemplate>,
     args: &[Type],
 ) -> Result<Type, Error>
-    ensures { spec.AnswersMade (codes "array") None (spec.constructor.Array (option_copied template.entry)) args.now result }
+    ensures { spec.AnswersMade (codes "array") None (Constructor.Array (option_copied template.entry)) args.now result }
 {
     array_answer(alloc, "array", None, template, args)
 }
@@ -343,7 +370,7 @@ fn vector_made(
     args: &[Type],
 ) -> Result<Option<Type>, AllocError>
     ensures { IfOk result (λ found. MatchOption found
-        (spec.MakesNothing (spec.constructor.Vector n (option_copied template.entry)) args.now)
+        (spec.MakesNothing (Constructor.Vector n (option_copied template.entry)) args.now)
         (spec.IsVectorMade n (option_copied template.entry) args.now)) }
 {
     match template {
@@ -367,7 +394,7 @@ fn vector_answer(
     template: Option<&VecTemplate>,
     args: &[Type],
 ) -> Result<Type, Error>
-    ensures { spec.AnswersMade name.now (option_copied params.entry) (spec.constructor.Vector n (option_copied template.entry)) args.now result }
+    ensures { spec.AnswersMade name.now (option_copied params.entry) (Constructor.Vector n (option_copied template.entry)) args.now result }
 {
     match vector_made(alloc, n, template, args)? {
         Some(made) => Ok(made),
@@ -382,7 +409,7 @@ pub fn vec_t(
     template: Option<&VecTemplate>,
     args: &[Type],
 ) -> Result<Type, Error>
-    ensures { spec.AnswersMade (codes "vec" ++ decimal n) None (spec.constructor.Vector n (option_copied template.entry)) args.now result }
+    ensures { spec.AnswersMade (codes "vec" ++ decimal n) None (Constructor.Vector n (option_copied template.entry)) args.now result }
 {
     let name = format!(in alloc; "vec{n}")?;
     vector_answer(alloc, name.as_str(), None, n, template, args)
@@ -406,7 +433,7 @@ fn scalar_answer(
     scalar: Type,
     args: &[Type],
 ) -> Result<Type, Error>
-    ensures { spec.AnswersMade name.now (option_copied params.entry) (spec.constructor.Scalar scalar) args.now result }
+    ensures { spec.AnswersMade name.now (option_copied params.entry) (Constructor.Scalar scalar) args.now result }
 {
     if takes_one(args) {
         Ok(scalar)

@@ -4,13 +4,13 @@
 pub mod constructor;
 pub mod conversions;
 pub mod laws;
+pub mod names;
 pub mod template;
-#[cfg(test)]
-mod tests;
 pub mod typed;
 
-pub use constructor::{array_t, builtin_type, is_ctor, type_ctor, typecheck_struct_ctor, vec_t};
+pub use constructor::{array_t, type_ctor, typecheck_struct_ctor, vec_t};
 pub use conversions::{convert, convert_all, convert_all_inner_to, convert_all_to, convert_inner};
+pub use names::{builtin_type, is_ctor};
 pub use template::{ArrayTemplate, PtrTemplate, VecTemplate};
 pub use typed::{Convert, Ty};
 pub use wgsl_enumerations::{
@@ -19,9 +19,7 @@ pub use wgsl_enumerations::{
 };
 pub use wgsl_operators::{BinaryOperator, UnaryOperator};
 pub use wgsl_shader_type::{
-    ShaderType, StructMemberType, StructMemberTypeOf, StructType, StructTypeOf, Type,
-    conversion_rank, convert_all_ty, convert_ty,
-};
-pub use wgsl_shader_type::{
-    CallSignature, Error, LiteralInstance, TpltParam, TypeOperators, type_binary_op, type_unary_op,
+    CallSignature, Error, LiteralInstance, ShaderType, StructMemberType, StructMemberTypeOf,
+    StructType, StructTypeOf, TpltParam, Type, conversion_rank, convert_all_ty, convert_ty,
+    type_binary_op, type_unary_op,
 };

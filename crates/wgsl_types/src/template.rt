@@ -7,8 +7,7 @@ ghost use Rattle.wgsl_types.specs.Template as spec;
 use std::alloc::{AllocError, Global};
 use wgsl_enumerations::{AccessMode, AddressSpace, Enumerant};
 use wgsl_items::{Boxed, Text};
-use wgsl_shader_type::Type;
-use wgsl_shader_type::{Error, LiteralInstance, TpltParam};
+use wgsl_shader_type::{Error, LiteralInstance, TpltParam, Type};
 
 /// The template of a vector: the type of its components.
 #[derive(Debug, Drop, PartialEq)]

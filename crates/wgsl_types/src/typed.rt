@@ -36,7 +36,7 @@ pub trait Convert: Ty + Sized + Drop {
     ghost inner_converted: { Self → ShaderType → Option Self };
 
     /// It at a concrete type.
-    ghost made_concrete: { Self → Self };
+    ghost concretized: { Self → Self };
 
     fn convert_to(&self, alloc: Global, ty: &Type) -> Result<Option<Self>, AllocError>
         ensures { IfOk result (λ found. found ≡ converted self.now ty.now) };
@@ -44,8 +44,8 @@ pub trait Convert: Ty + Sized + Drop {
     fn convert_inner_to(&self, alloc: Global, ty: &Type) -> Result<Option<Self>, AllocError>
         ensures { IfOk result (λ found. found ≡ inner_converted self.now ty.now) };
 
-    fn make_concrete(&self, alloc: Global) -> Result<Self, AllocError>
-        ensures { IfOk result (λ made. made ≡ made_concrete self.now) };
+    fn concretize(&self, alloc: Global) -> Result<Self, AllocError>
+        ensures { IfOk result (λ made. made ≡ concretized self.now) };
 }
 
 impl Ty for Type {
@@ -87,7 +87,7 @@ impl Convert for Type {
 
     ghost inner_converted = { spec.inner_converted_type };
 
-    ghost made_concrete = { concrete_type };
+    ghost concretized = { concrete_type };
 
     fn convert_to(&self, alloc: Global, ty: &Type) -> Result<Option<Type>, AllocError> {
         converted_type(alloc, self, ty)
@@ -117,7 +117,7 @@ impl Convert for Type {
         }
     }
 
-    fn make_concrete(&self, alloc: Global) -> Result<Type, AllocError> {
-        self.concretize(alloc)
+    fn concretize(&self, alloc: Global) -> Result<Type, AllocError> {
+        Type::concretize(self, alloc)
     }
 }
