@@ -2,7 +2,9 @@
 
 ghost use Rattle.std.specs.Prelude.{◌≡◌, ℕ, [], ◌++◌, Some, None, ◌==◌, ◌⊎◌, IsTrue, ◌↔◌, All, map, sum, IfOk, MatchOption, MatchResult, codes};
 ghost use Rattle.std.specs.Fmt.{decimal};
+ghost use Rattle.std.specs.List.{list_all};
 ghost use Rattle.std.specs.Option.{option_copied};
+ghost use Rattle.wgsl_shader_type.specs.Class.{is_scalar};
 ghost use Rattle.wgsl_shader_type.specs.Conversion.{Converts};
 ghost use Rattle.wgsl_shader_type.specs.declared.tree.ShaderType.TheVariants as type;
 ghost use Rattle.wgsl_types.specs.Constructor as spec;
@@ -280,11 +282,18 @@ fn fills(n: u8, args: &[Type]) -> bool
     }
 }
 
+/// Whether the components of each argument are scalars.
+fn are_scalars(args: &[Type]) -> bool
+    ensures { result ≡ list_all (λ arg. is_scalar (spec.component_of arg)) args.now }
+{
+    args.iter().all(|arg| component_of(arg).is_scalar())
+}
+
 /// Whether arguments fill a vector with scalars.
 fn are_parts(n: u8, args: &[Type]) -> bool
     ensures { result ≡ spec.are_parts n args.now }
 {
-    fills(n, args) && args.iter().all(|arg| component_of(arg).is_scalar())
+    fills(n, args) && are_scalars(args)
 }
 
 fn is_whole(n: u8, args: &[Type]) -> bool

@@ -1,7 +1,9 @@
 //! The built-in names of types.
 
 ghost use Rattle.std.specs.Prelude.{◌≡◌, Some, None};
+ghost use Rattle.std.specs.List.{list_any};
 ghost use Rattle.std.specs.Option.{option_copied};
+ghost use Rattle.std.specs.Str.{bytes_eq};
 ghost use Rattle.wgsl_types.specs.Names as spec;
 
 use crate::template::{ArrayTemplate, PtrTemplate, VecTemplate};
@@ -85,10 +87,16 @@ static LEFT_OUT: [&str; 55] = [
     "texture_depth_cube_array",
 ];
 
+fn is_among(entries: &[&str], text: &str) -> bool
+    ensures { result ≡ list_any (λ entry. bytes_eq text.now entry.now) entries.now }
+{
+    entries.iter().any(|entry| text == *entry)
+}
+
 fn is_left_out(text: &str) -> bool
     ensures { result ≡ spec.is_among spec.left_out_names text.now }
 {
-    LEFT_OUT.iter().any(|entry| *entry == text)
+    is_among(&LEFT_OUT, text)
 }
 
 /// What a name stands for, if it is a built-in one.

@@ -70,7 +70,7 @@ impl VecTemplate {
 fn count_of(alloc: Global, literal: LiteralInstance) -> Result<usize, Error>
     ensures { MatchResult result
         (λ count. spec.count_reading literal ≡ Some count)
-        (λ error. (error ≡ Error.OutOfMemory) ⊎ (spec.count_reading literal ≡ None)) }
+        (λ error. (error ≡ Error.OutOfMemory) ⊎ ((spec.count_reading literal ≡ None) × spec.array_template_fault (spec.is_zero literal) error)) }
 {
     let found = match literal {
         LiteralInstance::AbstractInt(n) => usize::try_from(n).ok(),
@@ -82,6 +82,21 @@ fn count_of(alloc: Global, literal: LiteralInstance) -> Result<usize, Error>
         Some(0) => Err(Error::Todo(Text::from_str(alloc, "array")?)),
         Some(count) => Ok(count),
         None => Err(Error::TemplateArgs("array")),
+    }
+}
+
+/// An array of the number of elements that a literal gives.
+fn counted(alloc: Global, ty: &Type, literal: LiteralInstance) -> Result<ArrayTemplate, Error>
+    ensures { MatchResult result
+        (λ made. spec.counted ty.now (spec.count_reading literal) ≡ Some made)
+        (λ error. (error ≡ Error.OutOfMemory) ⊎ ((spec.counted ty.now (spec.count_reading literal) ≡ None) × spec.array_template_fault (spec.is_zero literal) error)) }
+{
+    match count_of(alloc, literal) {
+        Ok(count) => {
+            let element = ty.clone(alloc)?;
+            Ok(ArrayTemplate::new(element, Some(count)))
+        }
+        Err(error) => Err(error),
     }
 }
 
@@ -101,10 +116,7 @@ impl ArrayTemplate {
     {
         match params {
             [TpltParam::Ty(ty)] => Ok(ArrayTemplate::new(ty.clone(alloc)?, None)),
-            [TpltParam::Ty(ty), TpltParam::Instance(literal)] => {
-                let count = count_of(alloc, *literal)?;
-                Ok(ArrayTemplate::new(ty.clone(alloc)?, Some(count)))
-            }
+            [TpltParam::Ty(ty), TpltParam::Instance(literal)] => counted(alloc, ty, *literal),
             _ => Err(Error::TemplateArgs("array")),
         }
     }
