@@ -1,0 +1,9 @@
+pub mod Candidates
+pub mod Classes
+pub mod Commons
+pub mod LayoutSteps
+pub mod Layouts
+pub mod Ranks
+pub mod Rounding
+pub mod Shapes
+pub mod UnaryCandidates

@@ -1,0 +1,101 @@
+//! What the rules of types and operators refuse.
+
+use crate::literal::{CallSignature, LiteralInstance};
+use crate::tree::Type;
+use std::alloc::{AllocError, AllocFailed};
+use thiserror::Error;
+use wgsl_items::Text;
+use wgsl_operators::{BinaryOperator, UnaryOperator};
+
+/// A refusal by a rule of types, values or operators, or for want of memory.
+#[derive(Debug, Drop, PartialEq, Error)]
+pub enum Error {
+    #[error("not supported here: `{0}`")]
+    Todo(Text),
+    #[error("expected a scalar type, got `{0}`")]
+    NotScalar(Type),
+    #[error("the type `{0}` is not constructible")]
+    NotConstructible(Type),
+    #[error("unknown type `{0}`")]
+    UnknownType(Text),
+    #[error("the type `{0}` takes no template arguments")]
+    UnexpectedTemplate(Text),
+    #[error("missing template arguments for `{0}`")]
+    MissingTemplate(&'static str),
+    #[error("cannot write a `{1}` to a reference to `{0}`")]
+    WriteRefType(Type, Type),
+    #[error("attempt to write to a reference without write access")]
+    NotWrite,
+    #[error("attempt to read from a reference without read access")]
+    NotRead,
+    #[error("reference is not accessible for both reading and writing")]
+    NotReadWrite,
+    #[error("cannot create a pointer into the `handle` address space")]
+    PtrHandle,
+    #[error("cannot create a pointer to a vector component")]
+    PtrVecComp,
+    #[error("cannot convert from `{0}` to `{1}`")]
+    Conversion(Type, Type),
+    #[error("overflow in the conversion of `{0}` to `{1}`")]
+    ConvOverflow(LiteralInstance, Type),
+    #[error("`{0}` has no component `{1}`")]
+    Component(Type, Text),
+    #[error("`{0}` cannot be indexed")]
+    NotIndexable(Type),
+    #[error("index `{0}` is out of bounds of a `{1}` of {2} elements")]
+    OutOfBounds(i64, Type, usize),
+    #[error("cannot use the operator `{0}` on an operand of type `{1}`")]
+    Unary(UnaryOperator, Type),
+    #[error("cannot use the operator `{0}` on operands of types `{1}` and `{2}`")]
+    Binary(BinaryOperator, Type, Type),
+    #[error("cannot apply a component-wise operator to `{0}` and `{1}`")]
+    CompwiseBinary(Type, Type),
+    #[error("attempt to add with overflow")]
+    AddOverflow,
+    #[error("attempt to subtract with overflow")]
+    SubOverflow,
+    #[error("attempt to multiply with overflow")]
+    MulOverflow,
+    #[error("attempt to divide by zero")]
+    DivByZero,
+    #[error("attempt to take a remainder with a divisor of zero")]
+    RemZeroDiv,
+    #[error("attempt to shift `{1}` left by `{0}`, which overflows")]
+    ShlOverflow(u32, LiteralInstance),
+    #[error("attempt to shift `{1}` right by `{0}`, which overflows")]
+    ShrOverflow(u32, LiteralInstance),
+    #[error("no such call of `{}`", .0.name)]
+    Signature(CallSignature),
+    #[error("{0}")]
+    Builtin(&'static str),
+    #[error("invalid template arguments of `{0}`")]
+    TemplateArgs(&'static str),
+    #[error("incorrect number of arguments to `{0}`: expected {1}, got {2}")]
+    ParamCount(Text, usize, usize),
+    #[error("invalid parameter type: expected `{0}`, got `{1}`")]
+    ParamType(Type, Type),
+    #[error("out of memory")]
+    OutOfMemory,
+}
+
+impl From<AllocError> for Error {
+    ghost use Rattle.std.specs.Prelude.{◌≡◌};
+    ghost use Rattle.wgsl_shader_type.specs.declared.error.Error.TheVariants.{OutOfMemory};
+
+    ghost from_gives = { λ _ error. error ≡ OutOfMemory };
+
+    fn from(_error: AllocError) -> Error {
+        Error::OutOfMemory
+    }
+}
+
+impl<T: Drop> From<AllocFailed<T>> for Error {
+    ghost use Rattle.std.specs.Prelude.{◌≡◌};
+    ghost use Rattle.wgsl_shader_type.specs.declared.error.Error.TheVariants.{OutOfMemory};
+
+    ghost from_gives = { λ _ error. error ≡ OutOfMemory };
+
+    fn from(_error: AllocFailed<T>) -> Error {
+        Error::OutOfMemory
+    }
+}

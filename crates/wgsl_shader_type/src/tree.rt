@@ -1,0 +1,71 @@
+//! The tree of a type.
+
+ghost use Rattle.std.specs.Prelude.{◌≡◌, None};
+
+use wgsl_enumerations::{AccessMode, AddressSpace};
+use wgsl_items::{Boxed, Items, Text};
+
+/// A type (WGSL, "Types").
+#[derive(Debug, Drop)]
+pub enum ShaderType {
+    Bool,
+    AbstractInt,
+    AbstractFloat,
+    I32,
+    U32,
+    F32,
+    F16,
+    Struct(Boxed<StructTypeOf<ShaderType>>),
+    /// The type of the elements, and how many there are, where that is fixed.
+    Array(Boxed<ShaderType>, Option<usize>),
+    /// How many components there are, and their type.
+    Vec(u8, Boxed<ShaderType>),
+    Ptr(AddressSpace, Boxed<ShaderType>, AccessMode),
+    Ref(AddressSpace, Boxed<ShaderType>, AccessMode),
+}
+
+/// The name by which most of this crate speaks of a type.
+pub type Type = ShaderType;
+
+/// A struct, over the type `T` of its members' types.
+#[derive(Debug, Drop, PartialEq)]
+pub struct StructTypeOf<T> {
+    pub name: Text,
+    pub members: Items<StructMemberTypeOf<T>>,
+}
+
+/// A member of a struct, with the size and alignment that its attributes give, in bytes.
+#[derive(Debug, Drop, PartialEq)]
+pub struct StructMemberTypeOf<T> {
+    pub name: Text,
+    pub ty: T,
+    pub size: Option<u32>,
+    pub align: Option<u32>,
+}
+
+pub type StructType = StructTypeOf<ShaderType>;
+
+pub type StructMemberType = StructMemberTypeOf<ShaderType>;
+
+impl StructType {
+    /// A struct. It needs no memory.
+    pub fn new(name: Text, members: Items<StructMemberType>) -> StructType
+        ensures { result ≡ record { name = name; members = members } }
+    {
+        StructType { name, members }
+    }
+}
+
+impl StructMemberType {
+    /// A member whose attributes give neither size nor alignment. It needs no memory.
+    pub fn new(name: Text, ty: Type) -> StructMemberType
+        ensures { result ≡ record { name = name; ty = ty; size = None; align = None } }
+    {
+        StructMemberType {
+            name,
+            ty,
+            size: None,
+            align: None,
+        }
+    }
+}

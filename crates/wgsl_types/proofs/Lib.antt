@@ -1,0 +1,4 @@
+pub mod Emptiness
+pub mod Lawful
+pub mod Making
+pub mod Together

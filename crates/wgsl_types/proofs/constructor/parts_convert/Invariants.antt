@@ -1,0 +1,7 @@
+use Rattle.std.proofs.Common.{All, take}
+use Rattle.wgsl_shader_type.specs.Conversion.{Converts}
+use Rattle.wgsl_types.specs.Constructor.{component_of}
+use Rattle.wgsl_types.proofs.constructor.parts_convert.Given as goal
+
+abbrev pub invariant-loop-arg : goal.invariant-loop-arg
+invariant-loop-arg l = All (λ arg. Converts (component_of arg) l.to) (take l.arg-index l.args)

@@ -1,0 +1,38 @@
+-- Laws of conversions, common types, concrete and loaded types.
+use Rattle.std.specs.Prelude.{◌≡◌, ℕ, ◌+◌, List, [], ◌∷◌, ◌↔◌, IsPermutation}
+use Rattle.wgsl_shader_type.specs.declared.tree.ShaderType.{ShaderType}
+use Rattle.wgsl_shader_type.specs.Conversion.{Converts, IsRank, IsCommonType}
+use Rattle.wgsl_shader_type.specs.Class.{concrete_type, loaded_type}
+
+-- Conversion is a partial order.
+abbrev pub IsReflexive : Type 0
+IsReflexive = (t : ShaderType) → Converts t t
+
+abbrev pub IsTransitive : Type 0
+IsTransitive = (a b c : ShaderType) → Converts a b → Converts b c → Converts a c
+
+abbrev pub IsAntisymmetric : Type 0
+IsAntisymmetric = (a b : ShaderType) → Converts a b → Converts b a → a ≡ b
+
+-- Ranks add along conversions.
+abbrev pub RanksAdd : Type 0
+RanksAdd = (a b c : ShaderType) (m n : ℕ) → IsRank a b m → IsRank b c n → IsRank a c (m + n)
+
+-- A list has one common type at most.
+abbrev pub CommonTypeIsOne : Type 0
+CommonTypeIsOne = (types : List ShaderType) (a b : ShaderType) → IsCommonType types a → IsCommonType types b → a ≡ b
+
+-- The common type of two types is that of the two in the other order.
+abbrev pub CommonTypeIsSymmetric : Type 0
+CommonTypeIsSymmetric = (a b common : ShaderType) → IsCommonType (a ∷ b ∷ []) common → IsCommonType (b ∷ a ∷ []) common
+
+-- The common type of a list is that of its members in any other order.
+abbrev pub CommonTypeIgnoresOrder : Type 0
+CommonTypeIgnoresOrder = (types others : List ShaderType) (common : ShaderType) → IsPermutation types others → IsCommonType types common → IsCommonType others common
+
+-- The concrete type of a concrete type, and the loaded type of a loaded type, is itself.
+abbrev pub ConcreteTwiceIsOnce : Type 0
+ConcreteTwiceIsOnce = (t : ShaderType) → concrete_type (concrete_type t) ≡ concrete_type t
+
+abbrev pub LoadedTwiceIsOnce : Type 0
+LoadedTwiceIsOnce = (t : ShaderType) → loaded_type (loaded_type t) ≡ loaded_type t

@@ -1,0 +1,5 @@
+pub mod Constructor
+pub mod Convert
+pub mod Laws
+pub mod Names
+pub mod Template

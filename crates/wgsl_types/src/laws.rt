@@ -1,0 +1,40 @@
+//! Laws of types, each the contract of a function that does nothing.
+
+ghost use Rattle.wgsl_types.specs.Laws.{IsReflexive, IsTransitive, IsAntisymmetric, RanksAdd, CommonTypeIsOne, CommonTypeIsSymmetric, CommonTypeIgnoresOrder, ConcreteTwiceIsOnce, LoadedTwiceIsOnce};
+
+/// Conversion is a partial order.
+pub fn conversion_is_a_partial_order()
+    ensures reflexive { IsReflexive }
+    ensures transitive { IsTransitive }
+    ensures antisymmetric { IsAntisymmetric }
+{}
+
+/// Ranks add along conversions.
+pub fn ranks_add()
+    ensures { RanksAdd }
+{}
+
+/// A list has one common type at most, so that the answers of `convert_ty` and `convert_all_ty` are determined.
+pub fn common_type_is_one()
+    ensures { CommonTypeIsOne }
+{}
+
+/// `convert_ty` is symmetric.
+pub fn convert_ty_is_symmetric()
+    ensures { CommonTypeIsSymmetric }
+{}
+
+/// `convert_all_ty` ignores the order of its list.
+pub fn convert_all_ty_ignores_order()
+    ensures { CommonTypeIgnoresOrder }
+{}
+
+/// `concretize` twice is once.
+pub fn concretize_twice_is_once()
+    ensures { ConcreteTwiceIsOnce }
+{}
+
+/// `loaded` twice is once.
+pub fn loaded_twice_is_once()
+    ensures { LoadedTwiceIsOnce }
+{}

@@ -1,0 +1,123 @@
+//! What has a type, and what converts to others.
+
+ghost use Rattle.std.specs.Prelude.{◌≡◌, IfOk};
+ghost use Rattle.wgsl_types.specs.Convert as spec;
+
+use std::alloc::{AllocError, Global};
+use wgsl_items::Boxed;
+use wgsl_shader_type::Type;
+
+/// What has a type.
+pub trait Ty {
+    ghost use Rattle.wgsl_shader_type.specs.declared.tree.ShaderType.{ShaderType};
+
+    /// Its type.
+    ghost type_of: { Self → ShaderType };
+
+    /// The type of its components, of its elements, or of what it leads to; else its own.
+    ghost inner_type_of: { Self → ShaderType };
+
+    fn ty(&self, alloc: Global) -> Result<Type, AllocError>
+        ensures { IfOk result (λ ty. ty ≡ type_of self.now) };
+
+    fn inner_ty(&self, alloc: Global) -> Result<Type, AllocError>
+        ensures { IfOk result (λ ty. ty ≡ inner_type_of self.now) };
+}
+
+/// What converts to other types implicitly.
+pub trait Convert: Ty + Sized + Drop {
+    ghost use Rattle.std.specs.Prelude.{Option};
+    ghost use Rattle.wgsl_shader_type.specs.declared.tree.ShaderType.{ShaderType};
+
+    /// It at another type, or nothing where it doesn't convert.
+    ghost converted: { Self → ShaderType → Option Self };
+
+    /// It with its inner type converted to another, or nothing where that doesn't convert.
+    ghost inner_converted: { Self → ShaderType → Option Self };
+
+    /// It at a concrete type.
+    ghost concretized: { Self → Self };
+
+    fn convert_to(&self, alloc: Global, ty: &Type) -> Result<Option<Self>, AllocError>
+        ensures { IfOk result (λ found. found ≡ converted self.now ty.now) };
+
+    fn convert_inner_to(&self, alloc: Global, ty: &Type) -> Result<Option<Self>, AllocError>
+        ensures { IfOk result (λ found. found ≡ inner_converted self.now ty.now) };
+
+    fn concretize(&self, alloc: Global) -> Result<Self, AllocError>
+        ensures { IfOk result (λ made. made ≡ concretized self.now) };
+}
+
+impl Ty for Type {
+    ghost use Rattle.wgsl_types.specs.Convert.{inner_type};
+
+    ghost type_of = { λ t. t };
+
+    ghost inner_type_of = { inner_type };
+
+    fn ty(&self, alloc: Global) -> Result<Type, AllocError> {
+        self.clone(alloc)
+    }
+
+    fn inner_ty(&self, alloc: Global) -> Result<Type, AllocError> {
+        match self {
+            Type::Array(element, _) => element.get().clone(alloc),
+            Type::Vec(_, component) => component.get().clone(alloc),
+            Type::Ptr(_, stored, _) => stored.get().clone(alloc),
+            Type::Ref(_, stored, _) => stored.get().clone(alloc),
+            _ => self.clone(alloc),
+        }
+    }
+}
+
+fn converted_type(alloc: Global, from: &Type, to: &Type) -> Result<Option<Type>, AllocError>
+    ensures { IfOk result (λ found. found ≡ spec.converted_type from.now to.now) }
+{
+    if from.is_convertible_to(to) {
+        Ok(Some(to.clone(alloc)?))
+    } else {
+        Ok(None)
+    }
+}
+
+impl Convert for Type {
+    ghost use Rattle.wgsl_shader_type.specs.Class.{concrete_type};
+
+    ghost converted = { spec.converted_type };
+
+    ghost inner_converted = { spec.inner_converted_type };
+
+    ghost concretized = { concrete_type };
+
+    fn convert_to(&self, alloc: Global, ty: &Type) -> Result<Option<Type>, AllocError> {
+        converted_type(alloc, self, ty)
+    }
+
+    fn convert_inner_to(&self, alloc: Global, ty: &Type) -> Result<Option<Type>, AllocError> {
+        match self {
+            Type::Array(element, count) => {
+                if element.get().is_convertible_to(ty) {
+                    let element = ty.clone(alloc)?;
+                    Ok(Some(Type::Array(Boxed::new(alloc, element)?, *count)))
+                } else {
+                    Ok(None)
+                }
+            }
+            Type::Vec(count, component) => {
+                if component.get().is_convertible_to(ty) {
+                    let component = ty.clone(alloc)?;
+                    Ok(Some(Type::Vec(*count, Boxed::new(alloc, component)?)))
+                } else {
+                    Ok(None)
+                }
+            }
+            Type::Ptr(_, _, _) => Ok(None),
+            Type::Ref(_, _, _) => Ok(None),
+            _ => converted_type(alloc, self, ty),
+        }
+    }
+
+    fn concretize(&self, alloc: Global) -> Result<Type, AllocError> {
+        Type::concretize(self, alloc)
+    }
+}

@@ -1,0 +1,98 @@
+//! Conversions, common types and layouts.
+
+use crate::made::{array, member, struct_of, vector};
+use std::test::Fail;
+use wgsl_items::Items;
+use wgsl_types::{
+    Convert, Type, conversion_rank, convert, convert_all, convert_all_inner_to, convert_all_to,
+    convert_all_ty, convert_inner, convert_ty,
+};
+
+#[test]
+fn common_types(rt: HostRuntime) -> Result<(), Fail> {
+    let types = vec![in rt.alloc(); Type::AbstractInt, Type::F32, Type::AbstractFloat]?;
+    assert_eq!(rt; convert_all_ty(types.as_slice()), Some(&Type::F32));
+    let none = vec![in rt.alloc(); Type::AbstractInt, Type::I32, Type::U32]?;
+    assert_eq!(rt; convert_all_ty(none.as_slice()), None);
+    assert_eq!(rt; convert_ty(&Type::I32, &Type::U32), None);
+    assert_eq!(rt;
+        convert_ty(&Type::AbstractInt, &Type::U32),
+        Some(&Type::U32)
+    );
+    Ok(())
+}
+
+#[test]
+fn ranks(rt: HostRuntime) -> Result<(), Fail> {
+    assert_eq!(rt; conversion_rank(&Type::AbstractInt, &Type::U32), Some(4));
+    let ints = vector(rt.alloc(), 3, Type::AbstractInt)?;
+    let halves = vector(rt.alloc(), 3, Type::F16)?;
+    assert_eq!(rt; conversion_rank(&ints, &halves), Some(7));
+    assert!(rt; ints.is_convertible_to(&halves));
+    assert_eq!(rt; conversion_rank(&Type::I32, &Type::F16), None);
+    Ok(())
+}
+
+#[test]
+fn layouts(rt: HostRuntime) -> Result<(), Fail> {
+    let alloc = rt.alloc();
+    let mut members = Items::new(alloc);
+    members.push(member(alloc, "a", Type::U32)?)?;
+    members.push(member(alloc, "b", vector(alloc, 3, Type::U32)?)?)?;
+    let both = struct_of(alloc, members)?;
+    assert_eq!(rt; both.size_of(), Some(32));
+    assert_eq!(rt; both.align_of(), Some(16));
+    let two = array(alloc, vector(alloc, 3, Type::U32)?, Some(2))?;
+    assert_eq!(rt; two.size_of(), Some(32));
+    let many = array(alloc, vector(alloc, 3, Type::U32)?, None)?;
+    assert_eq!(rt; many.size_of(), None);
+    assert_eq!(rt; many.min_size_of(), Some(16));
+    let large = array(alloc, Type::U32, Some(1073741824))?;
+    assert_eq!(rt; large.size_of(), None);
+    Ok(())
+}
+
+#[test]
+fn alignment_zero(rt: HostRuntime) -> Result<(), Fail> {
+    let alloc = rt.alloc();
+    let mut none = member(alloc, "a", Type::U32)?;
+    none.align = Some(0);
+    let mut members = Items::new(alloc);
+    members.push(none)?;
+    let ty = struct_of(alloc, members)?;
+    assert_eq!(rt; ty.size_of(), None);
+    assert_eq!(rt; ty.align_of(), None);
+    Ok(())
+}
+
+#[test]
+fn conversions(rt: HostRuntime) -> Result<(), Fail> {
+    let alloc = rt.alloc();
+    assert_eq!(rt;
+        convert(alloc, &Type::AbstractInt, &Type::I32)?,
+        Some((Type::I32, Type::I32))
+    );
+    assert_eq!(rt; convert(alloc, &Type::U32, &Type::I32)?, None);
+    let types = vec![in alloc; Type::AbstractInt, Type::U32]?;
+    match convert_all(alloc, types.as_slice())? {
+        Some(all) => assert_eq!(rt; all.len(), 2),
+        None => panic!(rt; "they have a common type"),
+    }
+    let ints = vector(alloc, 2, Type::AbstractInt)?;
+    let some = convert_inner(alloc, &ints, &Type::U32)?;
+    assert_eq!(rt; some, Some((vector(alloc, 2, Type::U32)?, Type::U32)));
+    assert_eq!(rt;
+        ints.convert_inner_to(alloc, &Type::I32)?,
+        Some(vector(alloc, 2, Type::I32)?)
+    );
+    assert_eq!(rt; Convert::concretize(&ints, alloc)?, vector(alloc, 2, Type::I32)?);
+    match convert_all_to(alloc, types.as_slice(), &Type::I32)? {
+        None => {}
+        Some(_) => panic!(rt; "U32 doesn't convert to I32"),
+    }
+    match convert_all_inner_to(alloc, types.as_slice(), &Type::U32)? {
+        Some(all) => assert_eq!(rt; all.as_slice().first(), Some(&Type::U32)),
+        None => panic!(rt; "both convert to U32"),
+    }
+    Ok(())
+}

@@ -1,0 +1,240 @@
+//! Ranks and results of operators over all pairs of scalar and vector types, beside a plain search along the steps and through the candidates.
+
+use crate::made::vector;
+use std::alloc::{AllocError, Global};
+use std::test::Fail;
+use wgsl_types::{BinaryOperator, Error, Type, conversion_rank, convert_ty, type_binary_op};
+
+/// The five single steps, over the numbers of `scalar`, with their weights.
+const STEPS: [(u8, u8, u32); 5] = [(2, 5, 1), (2, 6, 2), (1, 3, 3), (1, 4, 4), (1, 2, 5)];
+
+fn scalar(number: u8) -> Type {
+    match number {
+        0 => Type::Bool,
+        1 => Type::AbstractInt,
+        2 => Type::AbstractFloat,
+        3 => Type::I32,
+        4 => Type::U32,
+        5 => Type::F32,
+        _ => Type::F16,
+    }
+}
+
+/// The least sum of weights along a path of so many steps at most.
+fn least_sum(from: u8, to: u8, steps: u8) -> Option<u32> {
+    if from == to {
+        return Some(0);
+    }
+    if steps == 0 {
+        return None;
+    }
+    let mut best: Option<u32> = None;
+    for (start, next, weight) in STEPS {
+        if start == from {
+            if let Some(rest) = least_sum(next, to, steps - 1) {
+                let sum = weight.saturating_add(rest);
+                best = match best {
+                    Some(other) => Some(other.min(sum)),
+                    None => Some(sum),
+                };
+            }
+        }
+    }
+    best
+}
+
+fn shaped(alloc: Global, n: u8, number: u8) -> Result<Type, AllocError> {
+    if n == 1 {
+        Ok(scalar(number))
+    } else {
+        vector(alloc, n, scalar(number))
+    }
+}
+
+#[test]
+fn ranks_are_least_sums(rt: HostRuntime) -> Result<(), Fail> {
+    for n in 1..5u8 {
+        for m in 1..5u8 {
+            for from in 0..7u8 {
+                for to in 0..7u8 {
+                    let expected = if n == m { least_sum(from, to, 5) } else { None };
+                    let first = shaped(rt.alloc(), n, from)?;
+                    let second = shaped(rt.alloc(), m, to)?;
+                    assert_eq!(rt;
+                        conversion_rank(&first, &second),
+                        expected,
+                        "{first} to {second}"
+                    );
+                }
+            }
+        }
+    }
+    Ok(())
+}
+
+/// Every binary operator.
+const OPERATORS: [BinaryOperator; 18] = [
+    BinaryOperator::ShortCircuitOr,
+    BinaryOperator::ShortCircuitAnd,
+    BinaryOperator::Addition,
+    BinaryOperator::Subtraction,
+    BinaryOperator::Multiplication,
+    BinaryOperator::Division,
+    BinaryOperator::Remainder,
+    BinaryOperator::Equality,
+    BinaryOperator::Inequality,
+    BinaryOperator::LessThan,
+    BinaryOperator::LessThanEqual,
+    BinaryOperator::GreaterThan,
+    BinaryOperator::GreaterThanEqual,
+    BinaryOperator::BitwiseOr,
+    BinaryOperator::BitwiseAnd,
+    BinaryOperator::BitwiseXor,
+    BinaryOperator::ShiftLeft,
+    BinaryOperator::ShiftRight,
+];
+
+/// Whether an operator has a signature at two scalars, over the numbers of `scalar`.
+fn takes(operator: BinaryOperator, left: u8, right: u8) -> bool {
+    let integer = left == 1 || left == 3 || left == 4;
+    match operator {
+        BinaryOperator::ShiftLeft | BinaryOperator::ShiftRight => integer && right == 4,
+        BinaryOperator::ShortCircuitOr | BinaryOperator::ShortCircuitAnd => left == 0 && right == 0,
+        BinaryOperator::BitwiseOr | BinaryOperator::BitwiseAnd => left == right && (integer || left == 0),
+        BinaryOperator::BitwiseXor => left == right && integer,
+        BinaryOperator::Equality | BinaryOperator::Inequality => left == right,
+        _ => left == right && left != 0,
+    }
+}
+
+fn is_arithmetic(operator: BinaryOperator) -> bool {
+    matches!(
+        operator,
+        BinaryOperator::Addition
+            | BinaryOperator::Subtraction
+            | BinaryOperator::Multiplication
+            | BinaryOperator::Division
+            | BinaryOperator::Remainder
+    )
+}
+
+fn is_comparison(operator: BinaryOperator) -> bool {
+    matches!(
+        operator,
+        BinaryOperator::Equality
+            | BinaryOperator::Inequality
+            | BinaryOperator::LessThan
+            | BinaryOperator::LessThanEqual
+            | BinaryOperator::GreaterThan
+            | BinaryOperator::GreaterThanEqual
+    )
+}
+
+/// The scalar that the one candidate of the least sum gives at two scalars.
+fn least_candidate(operator: BinaryOperator, left: u8, right: u8) -> Option<u8> {
+    let mut best: Option<u32> = None;
+    let mut found: Option<u8> = None;
+    for a in 0..7u8 {
+        for b in 0..7u8 {
+            if takes(operator, a, b) {
+                if let Some(first) = least_sum(left, a, 5) {
+                    if let Some(second) = least_sum(right, b, 5) {
+                        let sum = first.saturating_add(second);
+                        let given = if is_comparison(operator) { 0 } else { a };
+                        let better = match best {
+                            None => true,
+                            Some(other) => sum < other,
+                        };
+                        if better {
+                            best = Some(sum);
+                            found = Some(given);
+                        } else if best == Some(sum) {
+                            found = None;
+                        }
+                    }
+                }
+            }
+        }
+    }
+    found
+}
+
+/// How many components the result has: vectors meet equal vectors or, in arithmetic, a scalar.
+fn shape(operator: BinaryOperator, n: u8, m: u8) -> Option<u8> {
+    let logical = matches!(
+        operator,
+        BinaryOperator::ShortCircuitOr | BinaryOperator::ShortCircuitAnd
+    );
+    if n == m {
+        if n > 1 && logical { None } else { Some(n) }
+    } else if is_arithmetic(operator) && n == 1 {
+        Some(m)
+    } else if is_arithmetic(operator) && m == 1 {
+        Some(n)
+    } else {
+        None
+    }
+}
+
+fn given(alloc: Global, operator: BinaryOperator, left: &Type, right: &Type) -> Result<Option<Type>, Error> {
+    match type_binary_op(alloc, operator, left, right) {
+        Ok(given) => Ok(Some(given)),
+        Err(Error::Binary(_, _, _)) => Ok(None),
+        Err(error) => Err(error),
+    }
+}
+
+fn expected(alloc: Global, operator: BinaryOperator, n: u8, left: u8, m: u8, right: u8) -> Result<Option<Type>, AllocError> {
+    match shape(operator, n, m) {
+        None => Ok(None),
+        Some(components) => match least_candidate(operator, left, right) {
+            None => Ok(None),
+            Some(number) => Ok(Some(shaped(alloc, components, number)?)),
+        },
+    }
+}
+
+#[test]
+fn operators_are_least_candidates(rt: HostRuntime) -> Result<(), Fail> {
+    let alloc = rt.alloc();
+    for n in 1..5u8 {
+        for m in 1..5u8 {
+            for from in 0..7u8 {
+                for to in 0..7u8 {
+                    let left = shaped(alloc, n, from)?;
+                    let right = shaped(alloc, m, to)?;
+                    for operator in OPERATORS {
+                        assert_eq!(rt;
+                            given(alloc, operator, &left, &right)?,
+                            expected(alloc, operator, n, from, m, to)?,
+                            "{left} {operator} {right}"
+                        );
+                    }
+                }
+            }
+        }
+    }
+    Ok(())
+}
+
+#[test]
+fn common_types_are_symmetric(rt: HostRuntime) -> Result<(), Fail> {
+    for n in 1..5u8 {
+        for from in 0..7u8 {
+            for to in 0..7u8 {
+                let left = shaped(rt.alloc(), n, from)?;
+                let right = shaped(rt.alloc(), n, to)?;
+                let expected = if least_sum(from, to, 5).is_some() {
+                    Some(&right)
+                } else if least_sum(to, from, 5).is_some() {
+                    Some(&left)
+                } else {
+                    None
+                };
+                assert_eq!(rt; convert_ty(&left, &right), expected);
+                assert_eq!(rt; convert_ty(&right, &left), expected);
+            }
+        }
+    }
+    Ok(())
+}
