@@ -5,3 +5,6 @@ pub mod Programs
 pub mod Order
 pub mod Symbols
 pub mod Linked
+pub mod Distinct
+pub mod Exists
+pub mod Loading

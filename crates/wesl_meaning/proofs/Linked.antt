@@ -5,8 +5,9 @@ use Rattle.std.proofs.lemmas.List.Elements.{Contains-append_left, Contains-appen
 use Rattle.wgsl_path.specs.Paths.{path_text}
 use Rattle.wgsl_syntax.specs.Tree.{Decl, Unit}
 use Rattle.wgsl_meaning.specs.declared.value.Value.{Value}
+use Rattle.wgsl_meaning.specs.Outcome.{Outcome, Done, Failed, Deep}
 use Rattle.wgsl_meaning.specs.Names.{Name, Symbol, find_decl, name_of}
-use Rattle.wgsl_meaning.specs.Programs.{Program, Inputs, run, here, program_of}
+use Rattle.wgsl_meaning.specs.Programs.{Program, Inputs, run, here, program_of, EndsWell}
 use Rattle.wesl_sources.specs.Occurrences.{is_among, declared_name, occurrences, names_before, names_behind, names_in_body, locals}
 use Rattle.wesl_sources.specs.Modules.{Path, Modules, IsModule, IsFree, IsDeclaration, Denotes, Reached, kept, onto}
 use Rattle.wesl_sources.specs.Modules.{Symbol as SourceSymbol}
@@ -15,10 +16,10 @@ use Rattle.wesl_sources.specs.Linked.{renamed_declaration, IsNaming, Selects, Is
 use Rattle.wesl_sources.specs.Loaded.{AreLoaded, IsClashFree}
 use Rattle.wesl_meaning.specs.Alike.{Alike}
 use Rattle.wesl_meaning.specs.SourcePrograms.{source_symbol, declared_symbol, AreHeld, of_none, of_more, IsHeldList, IsProgramOf}
-use Rattle.wesl_meaning.specs.Runs.{AreLinkedWell, IsKept, LinkedUnitsRunAlike}
+use Rattle.wesl_meaning.specs.Runs.{AreLinkedWell, IsKept, LinkedUnitsRunAlike, LinkedUnitsEndWell}
 use Rattle.wesl_meaning.proofs.Members.{first_in, in_cases}
 use Rattle.wesl_meaning.proofs.Renamed.{DeclFits}
-use Rattle.wesl_meaning.proofs.Programs.{Means, of_symbol, of_none as of_no_symbol, Stands, Corresponds, all_there, one_more, runs_alike}
+use Rattle.wesl_meaning.proofs.Programs.{Means, of_symbol, of_none as of_no_symbol, Stands, Corresponds, all_there, next, runs_alike}
 use Rattle.wesl_meaning.proofs.Order.{order_once}
 use Rattle.wesl_meaning.proofs.Symbols.{name_declared, name_renamed, symbol_cases, selected_from, selected_once, found_in, one_unit, printed_once, free_denotes_none, named_as, Origin, origin, name_there}
 
@@ -31,7 +32,7 @@ false_if true h = absurd (h refl)
 false_if false h = refl
 
 is_true : (b : Bool) → b ≡ true → IsTrue b
-is_true true e = tt
+is_true true e = refl
 is_true false e = absurd (cc)
 
 module _ (modules : Modules) (root : Path) (keep : List Name) (unit : Unit) (p : Program) (well : AreLinkedWell modules root keep unit) (program : IsProgramOf modules root keep p) where
@@ -93,11 +94,11 @@ module _ (modules : Modules) (root : Path) (keep : List Name) (unit : Unit) (p :
 
     fits : DeclFits new (Means p unit.declarations IsHeld s.home new) d
     fits = record {
-      before = λ x c. fits_one [] x (Contains-append_left (names_before d) (names_behind d ++ names_in_body d) x c)
+      before = λ x c. fits_one [] x (Contains-append_left (names_before d ++ names_behind d) (names_in_body d) x (Contains-append_left (names_before d) (names_behind d) x c))
           (λ y k. well.clash_free.outside (source_symbol s) d x y reached declares (Contains-append_left (names_before d) (names_behind d) x c) k);
-      behind = λ x c. fits_one [] x (Contains-append_right (names_before d) (names_behind d ++ names_in_body d) x (Contains-append_left (names_behind d) (names_in_body d) x c))
+      behind = λ x c. fits_one [] x (Contains-append_left (names_before d ++ names_behind d) (names_in_body d) x (Contains-append_right (names_before d) (names_behind d) x c))
           (λ y k. well.clash_free.outside (source_symbol s) d x y reached declares (Contains-append_right (names_before d) (names_behind d) x c) k);
-      in_body = λ x c. fits_one (locals d) x (Contains-append_right (names_before d) (names_behind d ++ names_in_body d) x (Contains-append_right (names_behind d) (names_in_body d) x c))
+      in_body = λ x c. fits_one (locals d) x (Contains-append_right (names_before d ++ names_behind d) (names_in_body d) x c)
           (λ y k. well.clash_free.inside (source_symbol s) d x y reached declares c k);
     }
 
@@ -157,7 +158,7 @@ module _ (modules : Modules) (root : Path) (keep : List Name) (unit : Unit) (p :
   corresponds (h ∷ hs) _ _ e (one_pair {ss = ss} {es = es} s d r q rest) =
       let first : source_symbol h ≡ s = cc in
       let others : map source_symbol hs ≡ ss = cc in
-      one_more h d (record { reached = subst (Reached modules root keep) (sym first) r; printed = subst (λ z. IsPrinted modules root z (name_of d)) (sym first) q }) (corresponds hs ss es others rest)
+      next h d (record { reached = subst (Reached modules root keep) (sym first) r; printed = subst (λ z. IsPrinted modules root z (name_of d)) (sym first) q }) (corresponds hs ss es others rest)
 
   all_correspond : Corresponds p unit.declarations IsHeld stands p.held unit.declarations
   all_correspond =
@@ -175,3 +176,20 @@ module _ (modules : Modules) (root : Path) (keep : List Name) (unit : Unit) (p :
 
 pub linked_units_run_alike : LinkedUnitsRunAlike
 linked_units_run_alike modules root keep unit p well program s k bound inputs = run_alike modules root keep unit p well program s k bound inputs
+
+-- ---- runs that end well
+
+forth : (o q : Outcome (Option Value)) (a : Option Value) (n : ℕ) → Alike (Option Value) o q → o ≡ Done a n → q ≡ Done a n
+forth (Done x m) q a n h e = h ∙ e
+forth (Failed f) q a n h e = absurd (cc)
+forth Deep q a n h e = absurd (cc)
+
+back : (o q : Outcome (Option Value)) (a : Option Value) (n : ℕ) → Alike (Option Value) o q → q ≡ Done a n → o ≡ Done a n
+back (Done x m) q a n h e = sym h ∙ e
+back (Failed f) q a n h e = absurd (cc (h.1, e))
+back Deep q a n h e = absurd (cc (h, e))
+
+pub linked_units_end_well : LinkedUnitsEndWell
+linked_units_end_well modules root keep unit p well program s k inputs n answer =
+    (λ e. record { bound = e.bound; steps = e.steps; ends = forth _ _ answer e.steps (run_alike modules root keep unit p well program s k e.bound inputs) e.ends; within = e.within },
+    λ e. record { bound = e.bound; steps = e.steps; ends = back _ _ answer e.steps (run_alike modules root keep unit p well program s k e.bound inputs) e.ends; within = e.within })

@@ -28,20 +28,20 @@ module _ {X : Type 0} where
 
 pub in_map : {X Y : Type 0} (f : X → Y) (xs : List X) (x : X) → Contains xs x → Contains (map f xs) (f x)
 in_map f [] x h = absurd (in_none x h)
-in_map f (y ∷ ys) x h = at (in_cases y ys x h)
+in_map f (y ∷ ys) x h = at (in_map f ys x) (in_cases y ys x h)
   where
-    at : (y ≡ x) ⊎ Contains ys x → Contains (f y ∷ map f ys) (f x)
-    at (inl e) = subst (λ z. Contains (f y ∷ map f ys) (f z)) e (first_in (f y) (map f ys))
-    at (inr c) = later_in (f x) (f y) (map f ys) (in_map f ys x c)
+    at : (Contains ys x → Contains (map f ys) (f x)) → (y ≡ x) ⊎ Contains ys x → Contains (f y ∷ map f ys) (f x)
+    at more (inl e) = subst (λ z. Contains (f y ∷ map f ys) (f z)) e (first_in (f y) (map f ys))
+    at more (inr c) = later_in (f x) (f y) (map f ys) (more c)
 
 -- where a member of a mapped list comes from
 pub from_map : {X Y : Type 0} (f : X → Y) (xs : List X) (y : Y) → Contains (map f xs) y → (x : X) × Contains xs x × (f x ≡ y)
 from_map f [] y h = absurd (in_none y h)
-from_map f (x ∷ xs) y h = at (in_cases (f x) (map f xs) y h)
+from_map {X = X} f (x ∷ xs) y h = at (from_map f xs y) (in_cases (f x) (map f xs) y h)
   where
-    at : (f x ≡ y) ⊎ Contains (map f xs) y → (z : _) × Contains (x ∷ xs) z × (f z ≡ y)
-    at (inl e) = (x, first_in x xs, e)
-    at (inr c) = let r = from_map f xs y c in (r.0, later_in r.0 x xs r.1, r.2)
+    at : (Contains (map f xs) y → (z : X) × Contains xs z × (f z ≡ y)) → (f x ≡ y) ⊎ Contains (map f xs) y → (z : X) × Contains (x ∷ xs) z × (f z ≡ y)
+    at more (inl e) = (x, first_in x xs, e)
+    at more (inr c) = let r = more c in (r.0, later_in r.0 x xs r.1, r.2)
 
 pub length_map : {X Y : Type 0} (f : X → Y) (xs : List X) → length (map f xs) ≡ length xs
 length_map f [] = refl
@@ -70,8 +70,8 @@ find_none x (b ∷ env) e = at (bytes_eq x b.0) (find_none x env) e
 
 pub find_some : {A : Type 0} (x : Name) (env : List (Name × A)) → is_among x (locals_of env) ≡ true → (v : A) × (find x env ≡ Some v)
 find_some x [] e = absurd (cc)
-find_some x (b ∷ env) e = at (bytes_eq x b.0) (find_some x env) e
+find_some {A = A} x (b ∷ env) e = at (bytes_eq x b.0) (find_some x env) e
   where
-    at : (c : Bool) → (is_among x (locals_of env) ≡ true → (v : _) × (find x env ≡ Some v)) → (c || is_among x (locals_of env)) ≡ true → (v : _) × ((if c then Some b.1 else find x env) ≡ Some v)
+    at : (c : Bool) → (is_among x (locals_of env) ≡ true → (v : A) × (find x env ≡ Some v)) → (c || is_among x (locals_of env)) ≡ true → (v : A) × ((if c then Some b.1 else find x env) ≡ Some v)
     at true later e = (b.1, refl)
     at false later e = later e

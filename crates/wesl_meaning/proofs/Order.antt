@@ -14,18 +14,18 @@ use Rattle.wesl_meaning.proofs.Members.{first_in, later_in, in_cases, in_none}
 before_trans : (p q r : Path) → IsBefore p q → IsBefore q r → IsBefore p r
 before_trans p q r a b = nat_list_cmp_total.trans p q r a b
 
-not_before : (p : Path) → IsBefore p p → ⊥
+pub not_before : (p : Path) → IsBefore p p → ⊥
 not_before p a = let e : slice_cmp nat_cmp p p ≡ Equal = tied_itself nat_list_cmp_total p in absurd (cc)
 
-behind_first : (p : Path) (ps : List Path) → IsAscending (p ∷ ps) → (q : Path) → Contains ps q → IsBefore p q
+pub behind_first : (p : Path) (ps : List Path) → IsAscending (p ∷ ps) → (q : Path) → Contains ps q → IsBefore p q
 behind_first p [] one_path q c = absurd (in_none q c)
-behind_first p (r ∷ ps) (one_before b rest) q c = at (in_cases r ps q c)
+behind_first p (r ∷ ps) (one_before b rest) q c = at (behind_first r ps rest q) (in_cases r ps q c)
   where
-    at : (r ≡ q) ⊎ Contains ps q → IsBefore p q
-    at (inl e) = subst (IsBefore p) e b
-    at (inr d) = before_trans p r q b (behind_first r ps rest q d)
+    at : (Contains ps q → IsBefore r q) → (r ≡ q) ⊎ Contains ps q → IsBefore p q
+    at more (inl e) = subst (IsBefore p) e b
+    at more (inr d) = before_trans p r q b (more d)
 
-rest_ascends : (p : Path) (ps : List Path) → IsAscending (p ∷ ps) → IsAscending ps
+pub rest_ascends : (p : Path) (ps : List Path) → IsAscending (p ∷ ps) → IsAscending ps
 rest_ascends p [] one_path = no_path
 rest_ascends p (r ∷ ps) (one_before b rest) = rest
 

@@ -164,11 +164,13 @@ module _ (p : Program) (ds : List Decl) (IsHeld : Symbol → Name → Type 0) wh
     -- the held symbols in order, each with its declaration in the unit
     pub data Corresponds : List Symbol → List Decl → Type 0 where
       all_there : Corresponds [] []
-      one_more : {ss : List Symbol} {es : List Decl} (s : Symbol) (e : Decl) → IsHeld s (name_of e) → Corresponds ss es → Corresponds (s ∷ ss) (e ∷ es)
+      next : {ss : List Symbol} {es : List Decl} (s : Symbol) (e : Decl) → IsHeld s (name_of e) → Corresponds ss es → Corresponds (s ∷ ss) (e ∷ es)
 
     started_alike_in_turn : (k : ℕ) (ss : List Symbol) (es : List Decl) → Corresponds ss es → Alike (Unit {0}) (started p k ss) (started (plain ds) k (map (λ d. here (name_of d)) es))
     started_alike_in_turn k [] [] all_there = refl
-    started_alike_in_turn k (s ∷ ss) (e ∷ es) (one_more s e held rest) =
+    started_alike_in_turn k [] (e ∷ es) h = elim h [ ]
+    started_alike_in_turn k (s ∷ ss) [] h = elim h [ ]
+    started_alike_in_turn k (s ∷ ss) (e ∷ es) (next _ _ held rest) =
         kept_alike.going_on (Unit {0}) (Unit {0}) (started_by (world p k Const s.home) s.called (p.item s)) (started_by (world (plain ds) k Const root) (name_of e) (find_decl (name_of e) ds)) _ _
         (started_of s (name_of e) held (world p k Const s.home) (world (plain ds) k Const root) (worlds_meet k Const s.home)) (λ v. started_alike_in_turn k ss es rest)
 

@@ -1,5 +1,5 @@
 -- What is renamed means the same, in worlds where the names meet.
-use Rattle.std.proofs.Common.{◌≡◌, ℕ, ◌<◌, List, [], ◌∷◌, ◌++◌, map, length, Option, Some, None, Bool, true, false, Result, Ok, Err, refl, sym, ap, ◌∙◌, subst, Contains, flat_map, option_map}
+use Rattle.std.proofs.Common.{◌≡◌, ℕ, ◌<◌, List, [], ◌∷◌, ◌++◌, map, length, Option, Some, None, Bool, true, false, Result, Ok, Err, refl, sym, ap, ◌∙◌, subst, arith, Contains, flat_map, option_map}
 use Rattle.std.specs.Prelude.{if◌then◌else◌, ◌==◌}
 use Rattle.std.proofs.lemmas.List.Elements.{Contains-append_left, Contains-append_right}
 use Rattle.wgsl_syntax.specs.Tree.{Exp, Exps, literal, parenthesized, unary, binary, call, named, nil, cons, Typ, simple, templated, Attr, fragment, location, Stm, returning, Block, Param, Decl, variable, function}
@@ -231,13 +231,13 @@ module _ (new : Name → Name) (Q : Name → Type 0) where
     pub call_alike : (x y : Name) (d : Decl) (vs : List Value) → DeclFits d → Alike Value (call_in w x (Some d) vs) (call_in u y (Some (renamed_declaration new d)) vs)
     call_alike x y (variable attributes kind z t e) vs f = (_, refl)
     call_alike x y (function attributes g ps return_attributes t body) vs f =
-        let parameters_fit : Fit [] (flat_map in_parameter ps) = left [] (flat_map in_parameter ps) (in_attributes [] return_attributes ++ in_some (in_type []) t) f.behind in
-        let rest_fit : Fit [] (in_attributes [] return_attributes ++ in_some (in_type []) t) = right [] (flat_map in_parameter ps) (in_attributes [] return_attributes ++ in_some (in_type []) t) f.behind in
+        let parameters_fit : Fit [] (flat_map in_parameter ps) = left [] (flat_map in_parameter ps) (in_attributes [] return_attributes) (left [] (flat_map in_parameter ps ++ in_attributes [] return_attributes) (in_some (in_type []) t) f.behind) in
+        let type_fit : Fit [] (in_some (in_type []) t) = right [] (flat_map in_parameter ps ++ in_attributes [] return_attributes) (in_some (in_type []) t) f.behind in
         counted_alike x y (length vs) (length ps) (length (map (renamed_parameter new) ps)) _ _ (sym (length_map (renamed_parameter new) ps)) (λ e.
         alike_then Env Value (λ env. locals_of env ≡ parameter_names ps) (bound w ps vs) (bound u (map (renamed_parameter new) ps) vs) _ _
         (bound_names ps vs (equal (length vs) (length ps) e)) (bound_alike ps vs parameters_fit) (λ env is.
         on (Option Value) Value (body_of w x t body.statements env) (body_of u y (option_map (renamed_type new []) t) (renamed_block new (parameter_names ps) body).statements env) _ _
-        (body_alike x y t (right [] (in_attributes [] return_attributes) (in_some (in_type []) t) rest_fit) env (parameter_names ps) is body f.in_body) (λ v. needed_alike x y v)))
+        (body_alike x y t type_fit env (parameter_names ps) is body f.in_body) (λ v. needed_alike x y v)))
       where
         equal : (n m : ℕ) → (n == m) ≡ true → n ≡ m
         equal n m e = grind arith
@@ -246,7 +246,7 @@ module _ (new : Name → Name) (Q : Name → Type 0) where
     call_type_alike x y (variable attributes kind z t e) f = (_, refl)
     call_type_alike x y (function attributes g ps return_attributes None body) f = (_, refl)
     call_type_alike x y (function attributes g ps return_attributes (Some t) body) f =
-        written_alike t (right [] (in_attributes [] return_attributes) (in_type [] t) (right [] (flat_map in_parameter ps) (in_attributes [] return_attributes ++ in_type [] t) f.behind))
+        written_alike t (right [] (flat_map in_parameter ps ++ in_attributes [] return_attributes) (in_type [] t) f.behind)
 
     -- ---- entry points
 
@@ -284,9 +284,9 @@ module _ (new : Name → Name) (Q : Name → Type 0) where
     pub entered_alike : (x y : Name) (d : Decl) (inputs : Inputs) → DeclFits d → Alike (Option Value) (entered early w x (Some d) inputs) (entered early' u y (Some (renamed_declaration new d)) inputs)
     entered_alike x y (variable attributes kind z t e) inputs f = (_, refl)
     entered_alike x y (function attributes g ps return_attributes t body) inputs f =
-        let parameters_fit : Fit [] (flat_map in_parameter ps) = left [] (flat_map in_parameter ps) (in_attributes [] return_attributes ++ in_some (in_type []) t) f.behind in
-        let rest_fit : Fit [] (in_attributes [] return_attributes ++ in_some (in_type []) t) = right [] (flat_map in_parameter ps) (in_attributes [] return_attributes ++ in_some (in_type []) t) f.behind in
+        let parameters_fit : Fit [] (flat_map in_parameter ps) = left [] (flat_map in_parameter ps) (in_attributes [] return_attributes) (left [] (flat_map in_parameter ps ++ in_attributes [] return_attributes) (in_some (in_type []) t) f.behind) in
+        let type_fit : Fit [] (in_some (in_type []) t) = right [] (flat_map in_parameter ps ++ in_attributes [] return_attributes) (in_some (in_type []) t) f.behind in
         staged_alike (has_stage attributes) (has_stage (renamed_attributes new [] attributes)) x y _ _ (stage_kept attributes) (
         alike_then Env (Option Value) (λ env. locals_of env ≡ parameter_names ps) (inputs_bound early w inputs ps) (inputs_bound early' u inputs (map (renamed_parameter new) ps)) _ _
         (inputs_names inputs ps) (inputs_alike inputs ps parameters_fit) (λ env is.
-        body_alike w u meets x y t (right [] (in_attributes [] return_attributes) (in_some (in_type []) t) rest_fit) env (parameter_names ps) is body f.in_body))
+        body_alike w u meets x y t type_fit env (parameter_names ps) is body f.in_body))

@@ -39,28 +39,30 @@ symbol_cases s t = at (bytes_eq s.home t.home) (bytes_eq s.name t.name) refl ref
 
 pub selected_from : {A : Type 0} (P : A → Type 0) (xs ys : List A) → Selects P xs ys → (x : A) → Contains ys x → Contains xs x × P x
 selected_from P [] [] nothing_left x c = absurd (in_none x c)
-selected_from P _ _ (takes {x = y} {xs = xs} {ys = ys} p rest) x c = at (in_cases y ys x c)
+selected_from P _ _ (takes {x = y} {xs = xs} {ys = ys} p rest) x c = at (selected_from P xs ys rest x) (in_cases y ys x c)
   where
-    at : (y ≡ x) ⊎ Contains ys x → Contains (y ∷ xs) x × P x
-    at (inl e) = (subst (Contains (y ∷ xs)) e (first_in y xs), subst P e p)
-    at (inr d) = let r = selected_from P xs ys rest x d in (later_in x y xs r.0, r.1)
+    at : (Contains ys x → Contains xs x × P x) → (y ≡ x) ⊎ Contains ys x → Contains (y ∷ xs) x × P x
+    at more (inl e) = (subst (Contains (y ∷ xs)) e (first_in y xs), subst P e p)
+    at more (inr d) = let r = more d in (later_in x y xs r.0, r.1)
 selected_from P _ ys (leaves {x = y} {xs = xs} n rest) x c = let r = selected_from P xs ys rest x c in (later_in x y xs r.0, r.1)
 
 pub selected_to : {A : Type 0} (P : A → Type 0) (xs ys : List A) → Selects P xs ys → (x : A) → Contains xs x → P x → Contains ys x
 selected_to P [] [] nothing_left x c p = absurd (in_none x c)
-selected_to P _ _ (takes {x = y} {xs = xs} {ys = ys} q rest) x c p = at (in_cases y xs x c)
+selected_to P _ _ (takes {x = y} {xs = xs} {ys = ys} q rest) x c p = at (λ d. selected_to P xs ys rest x d p) (in_cases y xs x c)
   where
-    at : (y ≡ x) ⊎ Contains xs x → Contains (y ∷ ys) x
-    at (inl e) = subst (Contains (y ∷ ys)) e (first_in y ys)
-    at (inr d) = later_in x y ys (selected_to P xs ys rest x d p)
-selected_to P _ ys (leaves {x = y} {xs = xs} n rest) x c p = at (in_cases y xs x c)
+    at : (Contains xs x → Contains ys x) → (y ≡ x) ⊎ Contains xs x → Contains (y ∷ ys) x
+    at more (inl e) = subst (Contains (y ∷ ys)) e (first_in y ys)
+    at more (inr d) = later_in x y ys (more d)
+selected_to P _ ys (leaves {x = y} {xs = xs} n rest) x c p = at (λ d. selected_to P xs ys rest x d p) (in_cases y xs x c)
   where
-    at : (y ≡ x) ⊎ Contains xs x → Contains ys x
-    at (inl e) = absurd (n (subst P (sym e) p))
-    at (inr d) = selected_to P xs ys rest x d p
+    at : (Contains xs x → Contains ys x) → (y ≡ x) ⊎ Contains xs x → Contains ys x
+    at more (inl e) = absurd (n (subst P (sym e) p))
+    at more (inr d) = more d
 
 pub selected_once : {A : Type 0} (P : A → Type 0) (xs ys zs : List A) → Selects P xs ys → Selects P xs zs → ys ≡ zs
-selected_once P [] [] [] nothing_left nothing_left = refl
+selected_once P [] [] [] a b = refl
+selected_once P [] [] (z ∷ zs) a b = elim b [ ]
+selected_once P [] (y ∷ ys) zs a b = elim a [ ]
 selected_once P (x ∷ xs) _ _ (takes {ys = ys} p a) (takes {ys = zs} q b) = ap (λ l. x ∷ l) (selected_once P xs ys zs a b)
 selected_once P (x ∷ xs) _ _ (takes p a) (leaves n b) = absurd (n p)
 selected_once P (x ∷ xs) _ _ (leaves n a) (takes p b) = absurd (n p)
@@ -70,20 +72,20 @@ selected_once P (x ∷ xs) ys zs (leaves n a) (leaves k b) = selected_once P xs 
 
 pub found_in : (y : Name) (ds : List Decl) (e : Decl) → find_decl y ds ≡ Some e → Contains ds e × (name_of e ≡ y)
 found_in y [] e f = absurd (cc)
-found_in y (d ∷ ds) e f = at (bytes_eq y (name_of d)) refl f
+found_in y (d ∷ ds) e f = at (found_in y ds e) (bytes_eq y (name_of d)) refl f
   where
-    at : (b : Bool) → bytes_eq y (name_of d) ≡ b → (if b then Some d else find_decl y ds) ≡ Some e → Contains (d ∷ ds) e × (name_of e ≡ y)
-    at true is g = let s : d ≡ e = cc in (subst (Contains (d ∷ ds)) s (first_in d ds), ap name_of (sym s) ∙ sym (same_bytes y (name_of d) is))
-    at false is g = let r = found_in y ds e g in (later_in e d ds r.0, r.1)
+    at : (find_decl y ds ≡ Some e → Contains ds e × (name_of e ≡ y)) → (b : Bool) → bytes_eq y (name_of d) ≡ b → (if b then Some d else find_decl y ds) ≡ Some e → Contains (d ∷ ds) e × (name_of e ≡ y)
+    at more true is g = let s : d ≡ e = cc in (subst (Contains (d ∷ ds)) s (first_in d ds), ap name_of (sym s) ∙ sym (same_bytes y (name_of d) is))
+    at more false is g = let r = more g in (later_in e d ds r.0, r.1)
 
 pub finds_one : (y : Name) (ds : List Decl) (e : Decl) → Contains ds e → name_of e ≡ y → (f : Decl) × (find_decl y ds ≡ Some f)
 finds_one y [] e c n = absurd (in_none e c)
-finds_one y (d ∷ ds) e c n = at (bytes_eq y (name_of d)) refl (in_cases d ds e c)
+finds_one y (d ∷ ds) e c n = at (λ r. finds_one y ds e r n) (bytes_eq y (name_of d)) refl (in_cases d ds e c)
   where
-    at : (b : Bool) → bytes_eq y (name_of d) ≡ b → (d ≡ e) ⊎ Contains ds e → (f : Decl) × ((if b then Some d else find_decl y ds) ≡ Some f)
-    at true is cases = (d, refl)
-    at false is (inl s) = let t : bytes_eq y (name_of d) ≡ true = ap (bytes_eq y) (ap name_of s ∙ n) ∙ bytes_same y in absurd (cc)
-    at false is (inr r) = finds_one y ds e r n
+    at : (Contains ds e → (f : Decl) × (find_decl y ds ≡ Some f)) → (b : Bool) → bytes_eq y (name_of d) ≡ b → (d ≡ e) ⊎ Contains ds e → (f : Decl) × ((if b then Some d else find_decl y ds) ≡ Some f)
+    at more true is cases = (d, refl)
+    at more false is (inl s) = let t : bytes_eq y (name_of d) ≡ true = ap (bytes_eq y) (ap name_of s ∙ n) ∙ bytes_same y in absurd (cc)
+    at more false is (inr r) = more r
 
 -- ---- modules
 
@@ -156,11 +158,11 @@ module _ (modules : Modules) (root : Path) (keep : List Name) (loaded : AreLoade
 
   pub origin_of : (order : List Path) (ds : List Decl) → AreLinkedModules modules root keep order ds → (e : Decl) → Contains ds e → Origin e
   origin_of [] _ no_module e c = absurd (in_none e c)
-  origin_of (m ∷ ms) _ (a_module {ds = ds} {es = es} l rest) e c = at (Contains-append_cases ds es e c)
+  origin_of (m ∷ ms) _ (a_module {ds = ds} {es = es} l rest) e c = at (origin_of ms es rest e) (Contains-append_cases ds es e c)
     where
-      at : Contains ds e ⊎ Contains es e → Origin e
-      at (inl d) = in_module m ds l e d
-      at (inr d) = origin_of ms es rest e d
+      at : (Contains es e → Origin e) → Contains ds e ⊎ Contains es e → Origin e
+      at more (inl d) = in_module m ds l e d
+      at more (inr d) = more d
 
   -- a reached declaration stands there, renamed
   pub record Copied (m : Path) (ds : List Decl) (d : Decl) : Type 0 where
@@ -176,12 +178,12 @@ module _ (modules : Modules) (root : Path) (keep : List Name) (loaded : AreLoade
 
   copied : (order : List Path) (ds : List Decl) → AreLinkedModules modules root keep order ds → (m : Path) (u : Unit) (d : Decl) → Contains order m → IsModule modules m u → Contains u.declarations d → Reached modules root keep (declared_symbol m d) → Copied m ds d
   copied [] _ no_module m u d at i c r = absurd (in_none m at)
-  copied (n ∷ ns) _ (a_module {ds = ds} {es = es} l rest) m u d at i c r = by (in_cases n ns m at)
+  copied (n ∷ ns) _ (a_module {ds = ds} {es = es} l rest) m u d at i c r = by (λ b. copied ns es rest m u d b i c r) (in_cases n ns m at)
     where
-      by : (n ≡ m) ⊎ Contains ns m → Copied m (ds ++ es) d
-      by (inl e) = let k = copied_in m ds (subst (λ z. IsLinkedModule modules root keep z ds) e l) u d i c r in
+      by : (Contains ns m → Copied m es d) → (n ≡ m) ⊎ Contains ns m → Copied m (ds ++ es) d
+      by more (inl e) = let k = copied_in m ds (subst (λ z. IsLinkedModule modules root keep z ds) e l) u d i c r in
           record { new = k.new; naming = k.naming; stands = Contains-append_left ds es (renamed_declaration k.new d) k.stands }
-      by (inr b) = let k = copied ns es rest m u d b i c r in
+      by more (inr b) = let k = more b in
           record { new = k.new; naming = k.naming; stands = Contains-append_right ds es (renamed_declaration k.new d) k.stands }
 
   module_in_order : (order : List Path) → IsInOrder modules root order → (m : Path) (u : Unit) → IsModule modules m u → Contains order m

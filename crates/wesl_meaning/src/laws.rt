@@ -1,8 +1,23 @@
 //! Laws of linked modules. Each function states its law and does nothing.
 
-ghost use Rattle.wesl_meaning.specs.Runs.{LinkedUnitsRunAlike};
+ghost use Rattle.wesl_meaning.specs.Runs.{LinkedModulesHaveAProgram, LinkedUnitsEndWell, LinkedUnitsRunAlike, WhatIsLoaded};
 
 /// A run of a kept name ends in the linked unit as it does in the modules, with the same answer in the same steps.
 pub fn linked_units_run_alike()
     ensures { LinkedUnitsRunAlike }
+{}
+
+/// A run of a kept name ends well in the linked unit where it does in the modules, and there alone.
+pub fn linked_units_end_well()
+    ensures { LinkedUnitsEndWell }
+{}
+
+/// Modules that are linked have a program.
+pub fn linked_modules_have_a_program()
+    ensures { LinkedModulesHaveAProgram }
+{}
+
+/// Modules that loading comes to are apart, have each name once, and all that occurs in what is reached is there.
+pub fn what_is_loaded()
+    ensures { WhatIsLoaded }
 {}
