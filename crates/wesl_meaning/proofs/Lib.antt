@@ -4,6 +4,8 @@ pub mod Renamed
 pub mod Programs
 pub mod Order
 pub mod Symbols
+pub mod Held
+pub mod Declared
 pub mod Linked
 pub mod Distinct
 pub mod Exists

@@ -21,6 +21,7 @@ use Rattle.wesl_meaning.proofs.Members.{first_in, in_cases}
 use Rattle.wesl_meaning.proofs.Renamed.{DeclFits}
 use Rattle.wesl_meaning.proofs.Programs.{Means, of_symbol, of_none as of_no_symbol, Stands, Corresponds, all_there, next, runs_alike}
 use Rattle.wesl_meaning.proofs.Order.{order_once}
+use Rattle.wesl_meaning.proofs.Held.{origin_same, taken}
 use Rattle.wesl_meaning.proofs.Symbols.{name_declared, name_renamed, symbol_cases, selected_from, selected_once, found_in, one_unit, printed_once, free_denotes_none, named_as, Origin, origin, name_there}
 
 none_if : {A : Type 0} (o : Option A) → ((x : A) → o ≡ Some x → ⊥) → o ≡ None
@@ -44,20 +45,6 @@ module _ (modules : Modules) (root : Path) (keep : List Name) (unit : Unit) (p :
   abbrev From : Decl → Type 0
   From e = Origin modules root keep well.loaded e
 
-  origin_printed : (e : Decl) (o : From e) → IsPrinted modules root (declared_symbol o.home o.declaration) (name_of e)
-  origin_printed e o = subst (IsPrinted modules root (declared_symbol o.home o.declaration)) (sym (name_renamed o.new o.declaration) ∙ ap name_of o.is)
-      (named_as modules root keep well.loaded o.home o.unit o.new o.declaration o.is_module o.naming o.stands)
-
-  -- what has a held symbol's name comes from its declaration
-  origin_same : (s : Symbol) (e : Decl) → IsHeld s (name_of e) → (o : From e) → declared_symbol o.home o.declaration ≡ source_symbol s
-  origin_same s e h o = at (symbol_cases (declared_symbol o.home o.declaration) (source_symbol s))
-    where
-      at : (declared_symbol o.home o.declaration ≡ source_symbol s) ⊎ (declared_symbol o.home o.declaration ≢ source_symbol s) → declared_symbol o.home o.declaration ≡ source_symbol s
-      at (inl e) = e
-      at (inr n) = absurd (well.clash_free.unshared (name_of e) (record {
-        one = declared_symbol o.home o.declaration; other = source_symbol s; differ = n; one_held = o.reached; other_held = h.reached;
-        one_printed = origin_printed e o; other_printed = h.printed }))
-
   -- ---- occurrences
 
   module _ (s : Symbol) (d : Decl) (new : Name → Name) (naming : IsNaming modules root (path_text s.home) new)
@@ -73,16 +60,10 @@ module _ (modules : Modules) (root : Path) (keep : List Name) (unit : Unit) (p :
           reached = subst (Reached modules root keep) (sym f.2) (onto reached declares c den);
           printed = subst (λ z. IsPrinted modules root z (new x)) (sym f.2) (naming.denoting x t den) })
 
-    taken : (x : Name) (e : Decl) → find_decl x unit.declarations ≡ Some e → IsTaken modules root keep x
-    taken x e f =
-        let there = found_in x unit.declarations e f in
-        let o = origin modules root keep well.loaded unit well.linked e there.0 in
-        record { symbol = declared_symbol o.home o.declaration; held = o.reached; printed = subst (IsPrinted modules root (declared_symbol o.home o.declaration)) there.1 (origin_printed e o) }
-
     means_nothing : (hiding : List Name) (x : Name) → Unclashed hiding x → IsFree modules (path_text s.home) x → Means p unit.declarations IsHeld s.home new x
     means_nothing hiding x clear free = of_no_symbol
         (none_if (p.denotes s.home x) (λ t e. free_denotes_none modules root keep well.loaded (path_text s.home) x (source_symbol t) free (program.found s.home x t e)))
-        (none_if (find_decl x unit.declarations) (λ e f. clear x (captured free (taken x e f))))
+        (none_if (find_decl x unit.declarations) (λ e f. clear x (captured free (taken modules root keep unit well x e f))))
         (naming.free x free)
 
     fits_one : (hiding : List Name) (x : Name) → Contains (occurrences d) x → Unclashed hiding x → Means p unit.declarations IsHeld s.home new x × (is_among x hiding ≡ false → is_among (new x) hiding ≡ false)
@@ -122,7 +103,7 @@ module _ (modules : Modules) (root : Path) (keep : List Name) (unit : Unit) (p :
       let f = name_there modules root keep well.loaded unit well.linked (source_symbol s) y h.reached h.printed in
       let there = found_in y unit.declarations f.0 f.1 in
       let o = origin modules root keep well.loaded unit well.linked f.0 there.0 in
-      stands_from s y h f.0 f.1 there.1 o (origin_same s f.0 (record { reached = h.reached; printed = subst (IsPrinted modules root (source_symbol s)) (sym there.1) h.printed }) o)
+      stands_from s y h f.0 f.1 there.1 o (origin_same modules root keep unit well (source_symbol s) f.0 h.reached (subst (IsPrinted modules root (source_symbol s)) (sym there.1) h.printed) o)
 
   -- ---- the start
 

@@ -1,3 +1,4 @@
 pub mod Alike
 pub mod SourcePrograms
 pub mod Runs
+pub mod Declared

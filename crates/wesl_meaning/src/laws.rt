@@ -1,5 +1,6 @@
 //! Laws of linked modules. Each function states its law and does nothing.
 
+ghost use Rattle.wesl_meaning.specs.Declared.{LinkedUnitsDeclareWhatIsHeld};
 ghost use Rattle.wesl_meaning.specs.Runs.{LinkedModulesHaveAProgram, LinkedUnitsEndWell, LinkedUnitsRunAlike, WhatIsLoaded};
 
 /// A run of a kept name ends in the linked unit as it does in the modules, with the same answer in the same steps.
@@ -20,4 +21,9 @@ pub fn linked_modules_have_a_program()
 /// Modules that loading comes to are apart, have each name once, and all that occurs in what is reached is there.
 pub fn what_is_loaded()
     ensures { WhatIsLoaded }
+{}
+
+/// The linked unit declares what is held, each once under its printed name, and scope alone gives each occurrence what it denoted.
+pub fn linked_units_declare_what_is_held()
+    ensures { LinkedUnitsDeclareWhatIsHeld }
 {}
