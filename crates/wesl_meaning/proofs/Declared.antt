@@ -41,7 +41,7 @@ distinct_onto xs (y ∷ ys) d o =
     subst AreDistinct (append_assoc xs (y ∷ []) ys)
     (distinct_onto (xs ++ y ∷ []) ys (another d (away xs y ys o)) (subst Once (sym (append_assoc xs (y ∷ []) ys)) o))
 
-distinct_of : (xs : List Name) → Once xs → AreDistinct xs
+pub distinct_of : (xs : List Name) → Once xs → AreDistinct xs
 distinct_of xs o = distinct_onto [] xs no_names o
 
 once_append : (xs ys : List Name) → Once xs → Once ys → ((x : Name) → Contains xs x → Contains ys x → ⊥) → Once (xs ++ ys)
@@ -94,7 +94,7 @@ module _ (modules : Modules) (root : Path) (keep : List Name) (unit : Unit) (wel
         at (inl b) = well.clash_free.outside s d x y reached declares b (k [])
         at (inr b) = well.clash_free.inside s d x y reached declares b (k (locals d))
 
-  stands_as : (s : Symbol) (y : Name) → IsHeldAs modules root keep unit s y → (e : Decl) → find_decl y unit.declarations ≡ Some e → (o : From modules root keep unit well e) → symbol_of modules root keep unit well e o ≡ s → StandsAs modules root keep unit s y
+  stands_as : (s : Symbol) (y : Name) → IsHeldAs modules root keep s y → (e : Decl) → find_decl y unit.declarations ≡ Some e → (o : From modules root keep unit well e) → symbol_of modules root keep unit well e o ≡ s → StandsAs modules root keep unit s y
   stands_as s y h e f o same =
       let home : o.home ≡ s.home = ap (λ z. z.home) same in
       let declares : IsDeclaration modules s o.declaration =
@@ -110,7 +110,7 @@ module _ (modules : Modules) (root : Path) (keep : List Name) (unit : Unit) (wel
         free = λ x c free. (naming.free x free, none_if (find_decl x unit.declarations) (λ d g. unclashed s o.declaration h.held declares x x c (λ hiding. captured free (taken modules root keep unit well x d g))));
       }
 
-  each_stands : (s : Symbol) (y : Name) → IsHeldAs modules root keep unit s y → StandsAs modules root keep unit s y
+  each_stands : (s : Symbol) (y : Name) → IsHeldAs modules root keep s y → StandsAs modules root keep unit s y
   each_stands s y h =
       let f = name_there modules root keep well.loaded unit well.linked s y h.held h.printed in
       let there = found_in y unit.declarations f.0 f.1 in
@@ -119,7 +119,7 @@ module _ (modules : Modules) (root : Path) (keep : List Name) (unit : Unit) (wel
 
   -- ---- only
 
-  only_held : (y : Name) → Declares unit y → (s : Symbol) × IsHeldAs modules root keep unit s y
+  only_held : (y : Name) → Declares unit y → (s : Symbol) × IsHeldAs modules root keep s y
   only_held y c =
       let d = from_map declared_name unit.declarations y c in
       let o = origin modules root keep well.loaded unit well.linked d.0 d.1 in
