@@ -1,20 +1,20 @@
 -- The linked unit declares what is held.
-use Rattle.std.proofs.Common.{◌≡◌, ◌≢◌, ◌⊎◌, inl, inr, List, [], ◌∷◌, ◌++◌, map, Option, Some, None, Bool, true, false, refl, sym, ap, ◌∙◌, subst, Contains, append_assoc, append-nil}
-use Rattle.std.proofs.lemmas.List.Elements.{Contains-append_left, Contains-append_right, Contains-append_cases}
+use Rattle.std.proofs.Common.{◌≡◌, ◌⊎◌, inl, inr, List, [], ◌∷◌, ◌++◌, map, Option, Some, None, Bool, true, false, refl, sym, ap, ◌∙◌, subst, Contains, append_assoc, append-nil}
+use Rattle.std.proofs.lemmas.List.Elements.{Contains-append_right, Contains-append_cases}
 use Rattle.wgsl_syntax.specs.Tree.{Decl, Unit}
 use Rattle.wgsl_meaning.specs.Names.{Name, find_decl, name_of}
 use Rattle.wesl_sources.specs.Occurrences.{is_among, occurrences, names_before, names_behind, names_in_body, locals, declared_name}
-use Rattle.wesl_sources.specs.Modules.{Path, Symbol, Modules, IsModule, Declares, local_name, IsFree, IsDeclaration, Denotes, Reached, onto}
+use Rattle.wesl_sources.specs.Modules.{Path, Symbol, Modules, Declares, local_name, IsDeclaration, Reached, onto}
 use Rattle.wesl_sources.specs.Names.{IsPrinted}
 use Rattle.wesl_sources.specs.Rounds.{AreDistinct, no_names, another, IsAscending, scope_names}
-use Rattle.wesl_sources.specs.Linked.{renamed_declaration, IsNaming, Selects, nothing_left, takes, leaves, IsLinkedModule, AreLinkedModules, no_module, a_module, IsLinked, Clashes, hidden, captured}
+use Rattle.wesl_sources.specs.Linked.{renamed_declaration, IsNaming, Selects, takes, leaves, IsLinkedModule, AreLinkedModules, no_module, a_module, Clashes, hidden, captured}
 use Rattle.wesl_meaning.specs.SourcePrograms.{declared_symbol}
 use Rattle.wesl_meaning.specs.Runs.{AreLinkedWell}
 use Rattle.wesl_meaning.specs.Declared.{IsHeldAs, StandsAs, DeclaresWhatIsHeld, LinkedUnitsDeclareWhatIsHeld}
 use Rattle.wesl_meaning.proofs.Members.{first_in, later_in, in_cases, in_none, in_map, from_map}
 use Rattle.wesl_meaning.proofs.Order.{behind_first, rest_ascends, not_before}
 use Rattle.wesl_meaning.proofs.Distinct.{Once, once_of, once_right}
-use Rattle.wesl_meaning.proofs.Symbols.{name_declared, name_renamed, selected_from, found_in, named_as, Origin, origin, origin_of, name_there}
+use Rattle.wesl_meaning.proofs.Symbols.{name_declared, name_renamed, selected_from, found_in, named_as, origin, name_there}
 use Rattle.wesl_meaning.proofs.Held.{From, symbol_of, origin_printed, held_once, origin_same, taken}
 
 none_if : {A : Type 0} (o : Option A) → ((x : A) → o ≡ Some x → ⊥) → o ≡ None
@@ -98,7 +98,7 @@ module _ (modules : Modules) (root : Path) (keep : List Name) (unit : Unit) (wel
   stands_as s y h e f o same =
       let home : o.home ≡ s.home = ap (λ z. z.home) same in
       let declares : IsDeclaration modules s o.declaration =
-          subst (λ z. IsDeclaration modules z o.declaration) same (record { unit = o.unit; is_module = o.is_module; stands = o.stands; name = refl }) in
+      subst (λ z. IsDeclaration modules z o.declaration) same (record { unit = o.unit; is_module = o.is_module; stands = o.stands; name = refl }) in
       let naming = subst (λ m. IsNaming modules root m o.new) home o.naming in
       record {
         declaration = o.declaration;
@@ -138,8 +138,12 @@ module _ (modules : Modules) (root : Path) (keep : List Name) (unit : Unit) (wel
       let e = from_map declared_name ds y c in
       let d = from_map (renamed_declaration l.new) l.held e.0 (subst (λ z. Contains z e.0) l.whole e.1) in
       let s = selected_from (λ z. Reached modules root keep (declared_symbol m z)) l.unit.declarations l.held l.selected d.0 d.1 in
-      record { name = declared_name d.0; reached = s.1; printed = subst (IsPrinted modules root (declared_symbol m d.0)) (sym (name_renamed l.new d.0) ∙ ap name_of d.2 ∙ name_declared e.0 ∙ e.2)
-          (named_as modules root keep well.loaded m l.unit l.new d.0 l.is_module l.naming s.0) }
+      record {
+        name = declared_name d.0;
+        reached = s.1;
+        printed = subst (IsPrinted modules root (declared_symbol m d.0)) (sym (name_renamed l.new d.0) ∙ ap name_of d.2 ∙ name_declared e.0 ∙ e.2)
+            (named_as modules root keep well.loaded m l.unit l.new d.0 l.is_module l.naming s.0);
+      }
 
   comes_from_one : (order : List Path) (ds : List Decl) → AreLinkedModules modules root keep order ds → (y : Name) → Contains (map declared_name ds) y → (m : Path) × Contains order m × Comes m y
   comes_from_one [] _ no_module y c = absurd (in_none y c)

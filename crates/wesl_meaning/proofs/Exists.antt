@@ -1,17 +1,17 @@
 -- Loaded modules have a program.
 use Rattle.std.proofs.Common.{◌≡◌, ◌⊎◌, inl, inr, List, [], ◌∷◌, ◌++◌, map, Option, Some, None, Bool, true, false, refl, sym, ap, ◌∙◌, subst, Contains}
-use Rattle.std.specs.Prelude.{if◌then◌else◌, ◌↔◌}
+use Rattle.std.specs.Prelude.{if◌then◌else◌}
 use Rattle.std.specs.Str.{bytes_eq}
 use Rattle.wgsl_path.specs.declared.path.ModulePath.{ModulePath}
 use Rattle.wgsl_path.specs.Paths.{path_text}
 use Rattle.wgsl_syntax.specs.Tree.{Decl, Imp, Unit}
-use Rattle.wgsl_meaning.specs.Names.{Name, Symbol, find_decl, name_of}
+use Rattle.wgsl_meaning.specs.Names.{Name, Symbol, find_decl}
 use Rattle.wgsl_meaning.specs.Programs.{Program}
 use Rattle.wesl_sources.specs.Occurrences.{declared_name}
-use Rattle.wesl_sources.specs.Modules.{Path, Modules, IsModule, Declares, Imports, local_name, IsImport, IsImported, IsDeclaration, Denotes, own, imported, Reached}
+use Rattle.wesl_sources.specs.Modules.{Path, Modules, IsModule, local_name, IsImport, IsDeclaration, Denotes, own, imported}
 use Rattle.wesl_sources.specs.Modules.{Symbol as SourceSymbol}
 use Rattle.wesl_sources.specs.Rounds.{scope_names}
-use Rattle.wesl_sources.specs.Linked.{IsLinkedModule, AreLinkedModules, no_module, a_module, IsLinked}
+use Rattle.wesl_sources.specs.Linked.{AreLinkedModules, no_module, a_module, IsLinked}
 use Rattle.wesl_sources.specs.Loaded.{AreLoaded}
 use Rattle.wesl_meaning.specs.SourcePrograms.{source_symbol, declared_symbol, AreHeld, of_none, of_more, IsHeldList, IsProgramOf, unit_at, import_at, declared_at, item_of, if_declared, import_target, imported_symbol, own_or_imported, denoted_in, sources}
 use Rattle.wesl_meaning.proofs.Members.{first_in, later_in, in_cases, in_none, in_map, from_map, same_bytes, bytes_same}

@@ -1,8 +1,7 @@
 -- Held symbols and the declarations of the linked unit.
-use Rattle.std.proofs.Common.{◌≡◌, ◌≢◌, ◌⊎◌, inl, inr, Some, refl, sym, ap, ◌∙◌, subst, Contains, List}
+use Rattle.std.proofs.Common.{◌≡◌, ◌≢◌, ◌⊎◌, inl, inr, Some, sym, ap, ◌∙◌, subst, List}
 use Rattle.wgsl_syntax.specs.Tree.{Decl, Unit}
 use Rattle.wgsl_meaning.specs.Names.{Name, find_decl, name_of}
-use Rattle.wesl_sources.specs.Occurrences.{declared_name}
 use Rattle.wesl_sources.specs.Modules.{Path, Symbol, Modules, Reached}
 use Rattle.wesl_sources.specs.Names.{IsPrinted}
 use Rattle.wesl_sources.specs.Linked.{IsTaken}

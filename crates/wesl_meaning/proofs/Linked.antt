@@ -1,5 +1,5 @@
 -- The linked unit runs as its modules do.
-use Rattle.std.proofs.Common.{◌≡◌, ◌≢◌, ℕ, ◌⊎◌, inl, inr, List, [], ◌∷◌, ◌++◌, map, Option, Some, None, Bool, true, false, refl, sym, ap, ◌∙◌, subst, Contains}
+use Rattle.std.proofs.Common.{◌≡◌, ℕ, ◌⊎◌, inl, inr, List, [], ◌∷◌, ◌++◌, map, Option, Some, None, Bool, true, false, refl, sym, ap, ◌∙◌, subst, Contains}
 use Rattle.std.specs.Prelude.{IsTrue}
 use Rattle.std.proofs.lemmas.List.Elements.{Contains-append_left, Contains-append_right}
 use Rattle.wgsl_path.specs.Paths.{path_text}
@@ -7,22 +7,21 @@ use Rattle.wgsl_syntax.specs.Tree.{Decl, Unit}
 use Rattle.wgsl_meaning.specs.declared.value.Value.{Value}
 use Rattle.wgsl_meaning.specs.Outcome.{Outcome, Done, Failed, Deep}
 use Rattle.wgsl_meaning.specs.Names.{Name, Symbol, find_decl, name_of}
-use Rattle.wgsl_meaning.specs.Programs.{Program, Inputs, run, here, program_of, EndsWell}
-use Rattle.wesl_sources.specs.Occurrences.{is_among, declared_name, occurrences, names_before, names_behind, names_in_body, locals}
+use Rattle.wgsl_meaning.specs.Programs.{Program, Inputs, run, here, program_of}
+use Rattle.wesl_sources.specs.Occurrences.{is_among, occurrences, names_before, names_behind, names_in_body, locals}
 use Rattle.wesl_sources.specs.Modules.{Path, Modules, IsModule, IsFree, IsDeclaration, Denotes, Reached, kept, onto}
 use Rattle.wesl_sources.specs.Modules.{Symbol as SourceSymbol}
 use Rattle.wesl_sources.specs.Names.{IsPrinted, stays}
-use Rattle.wesl_sources.specs.Linked.{renamed_declaration, IsNaming, Selects, IsLinkedModule, AreLinkedModules, no_module, a_module, IsLinked, IsShared, IsTaken, Clashes, shared, hidden, captured}
-use Rattle.wesl_sources.specs.Loaded.{AreLoaded, IsClashFree}
+use Rattle.wesl_sources.specs.Linked.{renamed_declaration, IsNaming, Selects, AreLinkedModules, no_module, a_module, Clashes, hidden, captured}
 use Rattle.wesl_meaning.specs.Alike.{Alike}
-use Rattle.wesl_meaning.specs.SourcePrograms.{source_symbol, declared_symbol, AreHeld, of_none, of_more, IsHeldList, IsProgramOf}
+use Rattle.wesl_meaning.specs.SourcePrograms.{source_symbol, declared_symbol, AreHeld, of_none, of_more, IsProgramOf}
 use Rattle.wesl_meaning.specs.Runs.{AreLinkedWell, IsKept, LinkedUnitsRunAlike, LinkedUnitsEndWell}
-use Rattle.wesl_meaning.proofs.Members.{first_in, in_cases}
+use Rattle.wesl_meaning.proofs.Members.{first_in}
 use Rattle.wesl_meaning.proofs.Renamed.{DeclFits}
 use Rattle.wesl_meaning.proofs.Programs.{Means, of_symbol, of_none as of_no_symbol, Stands, Corresponds, all_there, next, runs_alike}
 use Rattle.wesl_meaning.proofs.Order.{order_once}
 use Rattle.wesl_meaning.proofs.Held.{origin_same, taken}
-use Rattle.wesl_meaning.proofs.Symbols.{name_declared, name_renamed, symbol_cases, selected_from, selected_once, found_in, one_unit, printed_once, free_denotes_none, named_as, Origin, origin, name_there}
+use Rattle.wesl_meaning.proofs.Symbols.{name_renamed, selected_from, selected_once, found_in, one_unit, free_denotes_none, named_as, Origin, origin, name_there}
 
 none_if : {A : Type 0} (o : Option A) → ((x : A) → o ≡ Some x → ⊥) → o ≡ None
 none_if (Some x) h = absurd (h x refl)
@@ -58,7 +57,8 @@ module _ (modules : Modules) (root : Path) (keep : List Name) (unit : Unit) (p :
         let f = program.finds s.home x t den in
         of_symbol f.0 f.1 (record {
           reached = subst (Reached modules root keep) (sym f.2) (onto reached declares c den);
-          printed = subst (λ z. IsPrinted modules root z (new x)) (sym f.2) (naming.denoting x t den) })
+          printed = subst (λ z. IsPrinted modules root z (new x)) (sym f.2) (naming.denoting x t den);
+        })
 
     means_nothing : (hiding : List Name) (x : Name) → Unclashed hiding x → IsFree modules (path_text s.home) x → Means p unit.declarations IsHeld s.home new x
     means_nothing hiding x clear free = of_no_symbol
@@ -89,7 +89,7 @@ module _ (modules : Modules) (root : Path) (keep : List Name) (unit : Unit) (p :
   stands_from s y h e f n o same =
       let home : o.home ≡ path_text s.home = ap (λ z. z.home) same in
       let declares : IsDeclaration modules (source_symbol s) o.declaration =
-          subst (λ z. IsDeclaration modules z o.declaration) same (record { unit = o.unit; is_module = o.is_module; stands = o.stands; name = refl }) in
+      subst (λ z. IsDeclaration modules z o.declaration) same (record { unit = o.unit; is_module = o.is_module; stands = o.stands; name = refl }) in
       record {
         declaration = o.declaration;
         new = o.new;
@@ -150,7 +150,8 @@ module _ (modules : Modules) (root : Path) (keep : List Name) (unit : Unit) (p :
   pub run_alike : (s : Symbol) → IsKept root keep s → (bound : ℕ) (inputs : Inputs) → Alike (Option Value) (run p bound s inputs) (run (program_of unit) bound (here s.called) inputs)
   run_alike s k bound inputs = runs_alike p unit.declarations IsHeld stands all_correspond bound s s.called inputs (record {
     reached = subst (Reached modules root keep) same (kept k.kept);
-    printed = subst (λ z. IsPrinted modules root z s.called) same stays })
+    printed = subst (λ z. IsPrinted modules root z s.called) same stays;
+  })
     where
       same : record { home = root; name = s.called } ≡ source_symbol s
       same = ap (λ z. record { home = z; name = s.called }) (sym k.home)
@@ -171,6 +172,7 @@ back (Failed f) q a n h e = absurd (cc (h.1, e))
 back Deep q a n h e = absurd (cc (h, e))
 
 pub linked_units_end_well : LinkedUnitsEndWell
-linked_units_end_well modules root keep unit p well program s k inputs n answer =
-    (λ e. record { bound = e.bound; steps = e.steps; ends = forth _ _ answer e.steps (run_alike modules root keep unit p well program s k e.bound inputs) e.ends; within = e.within },
-    λ e. record { bound = e.bound; steps = e.steps; ends = back _ _ answer e.steps (run_alike modules root keep unit p well program s k e.bound inputs) e.ends; within = e.within })
+linked_units_end_well modules root keep unit p well program s k inputs n answer = (
+  λ e. record { bound = e.bound; steps = e.steps; ends = forth _ _ answer e.steps (run_alike modules root keep unit p well program s k e.bound inputs) e.ends; within = e.within },
+  λ e. record { bound = e.bound; steps = e.steps; ends = back _ _ answer e.steps (run_alike modules root keep unit p well program s k e.bound inputs) e.ends; within = e.within },
+)

@@ -1,16 +1,15 @@
 -- What loading comes to is loaded.
-use Rattle.std.proofs.Common.{◌≡◌, ◌≢◌, ℕ, zero, suc, ◌+◌, ◌⊎◌, inl, inr, List, [], ◌∷◌, ◌++◌, map, length, Option, Some, None, Bool, true, false, Result, Ok, Err, refl, sym, ap, ◌∙◌, subst, Contains, slice_get}
-use Rattle.std.specs.Prelude.{if◌then◌else◌}
+use Rattle.std.proofs.Common.{◌≡◌, ℕ, zero, suc, ◌+◌, ◌⊎◌, inl, inr, List, [], ◌∷◌, ◌++◌, map, length, Option, Some, None, Bool, true, false, Ok, refl, sym, ap, ◌∙◌, subst, Contains, slice_get}
 use Rattle.std.specs.Str.{bytes_eq}
-use Rattle.std.proofs.lemmas.List.Elements.{Contains-append_left, Contains-append_right, Contains-append_cases}
+use Rattle.std.proofs.lemmas.List.Elements.{Contains-append_left, Contains-append_cases}
 use Rattle.wgsl_path.specs.declared.path.ModulePath.{ModulePath}
 use Rattle.wgsl_path.specs.Paths.{path_text}
 use Rattle.wgsl_syntax.specs.Tree.{Decl, Imp, Unit}
 use Rattle.wesl_sources.specs.Occurrences.{Name, occurrences, declared_name}
-use Rattle.wesl_sources.specs.Modules.{Path, Symbol, Modules, IsModule, Declares, Imports, local_name, IsImport, IsImported, IsMissing, lacking, bare, IsPrivate, IsFree, IsUnloaded, IsDeclaration, Denotes, own, imported, Reached, kept, onto, IsAsked}
-use Rattle.wesl_sources.specs.Rounds.{Sources, Refusal, missing_decl, private, scope_names, AreDistinct, Loads, all_loaded, loaded, IsAscending, IsNextRound, IsRefusedAt, NoneRefused, Goes, nothing_asked, a_round, ComesTo, goes_on}
+use Rattle.wesl_sources.specs.Modules.{Path, Symbol, Modules, IsModule, Declares, Imports, local_name, IsImport, IsImported, IsMissing, lacking, bare, IsPrivate, IsFree, IsDeclaration, Denotes, own, imported, Reached}
+use Rattle.wesl_sources.specs.Rounds.{Sources, Refusal, missing_decl, private, scope_names, AreDistinct, Loads, all_loaded, loaded, IsAscending, IsNextRound, NoneRefused, Goes, nothing_asked, a_round, ComesTo, goes_on}
 use Rattle.wesl_sources.specs.Loaded.{AreLoaded}
-use Rattle.wesl_meaning.proofs.Members.{first_in, later_in, in_cases, in_none, in_map, from_map, same_bytes, bytes_same}
+use Rattle.wesl_meaning.proofs.Members.{first_in, later_in, in_cases, in_none, from_map, same_bytes, bytes_same}
 use Rattle.wesl_meaning.proofs.Order.{behind_first, rest_ascends, not_before}
 use Rattle.wesl_meaning.proofs.Exists.{unit_is, unit_there, import_is, import_there}
 use Rattle.wesl_meaning.specs.SourcePrograms.{unit_at, import_at}
@@ -119,15 +118,30 @@ module _ (root : Path) (keep : List Name) where
           let place = place_of declares.unit.declarations d declares.stands in
           let at = place_of (occurrences d) x occurs in
           none s.home place.0 at.0 r (record {
-            unit = declares.unit; is_module = declares.is_module; stands = d; is_there = place.1;
+            unit = declares.unit;
+            is_module = declares.is_module;
+            stands = d;
+            is_there = place.1;
             reached = subst (λ z. Reached modules root keep (record { home = s.home; name = z })) (sym declares.name) reached;
-            name = x; occurs = at.1; target = t; why = why })
+            name = x;
+            occurs = at.1;
+            target = t;
+            why = why;
+          })
 
       loaded_target : (t : Symbol) → IsImported modules s.home x t → (o : Option Unit) → unit_at modules t.home ≡ o → (u : Unit) × IsModule modules t.home u
       loaded_target t i (Some u) e = (u, unit_is modules t.home u e)
       loaded_target t i None e = absurd (in_none t.home ((round.asked t.home).1 (record {
-        from = s; declaration = d; name = x; target = t; reached = reached; declares = declares; occurs = occurs; home = refl;
-        unloaded = record { imported = i; unloaded = λ u m. let f = unit_there modules t.home m.path u m.stands m.printed in absurd (cc (e, f.1)) } })))
+        from = s;
+        declaration = d;
+        name = x;
+        target = t;
+        reached = reached;
+        declares = declares;
+        occurs = occurs;
+        home = refl;
+        unloaded = record { imported = i; unloaded = λ u m. let f = unit_there modules t.home m.path u m.stands m.printed in absurd (cc (e, f.1)) };
+      })))
 
       target_denotes : (t : Symbol) → IsImported modules s.home x t → (u : Unit) → IsModule modules t.home u → Denotes modules s.home x t
       target_denotes t i u m = at (decide_in t.name (map declared_name u.declarations)) (decide_in t.name (map local_name u.imports))

@@ -1,11 +1,9 @@
 -- Paths in ascending order: a set of them has one order.
-use Rattle.std.proofs.Common.{◌≡◌, ◌⊎◌, inl, inr, ⊎_elim, List, [], ◌∷◌, map, refl, sym, ap, ◌∙◌, subst, Contains}
-use Rattle.std.specs.Prelude.{◌↔◌}
+use Rattle.std.proofs.Common.{◌≡◌, ◌⊎◌, inl, inr, List, [], ◌∷◌, refl, sym, ap, ◌∙◌, subst, Contains}
 use Rattle.std.specs.Ordering.{nat_cmp}
 use Rattle.std.specs.Cmp.Lexicographic.{slice_cmp}
-use Rattle.std.specs.declared.cmp.Ordering.TheVariants.{Less, Equal}
+use Rattle.std.specs.declared.cmp.Ordering.TheVariants.{Equal}
 use Rattle.std.proofs.lemmas.Cmp.{nat_list_cmp_total, tied_itself}
-use Rattle.wgsl_path.specs.Paths.{path_text}
 use Rattle.wesl_sources.specs.Modules.{Path, Modules}
 use Rattle.wesl_sources.specs.Rounds.{IsBefore, IsAscending, no_path, one_path, one_before}
 use Rattle.wesl_sources.specs.Linked.{IsInOrder}

@@ -1,5 +1,5 @@
 -- Going on keeps outcomes alike.
-use Rattle.std.proofs.Common.{◌≡◌, ℕ, refl, sym, ap, subst}
+use Rattle.std.proofs.Common.{ℕ, refl, sym, ap, subst}
 use Rattle.wgsl_meaning.specs.Outcome.{Outcome, Done, Failed, Deep, after, andthen}
 use Rattle.wgsl_meaning.proofs.Simulates.{Kept}
 use Rattle.wesl_meaning.specs.Alike.{Alike}

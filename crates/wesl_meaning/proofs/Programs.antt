@@ -1,6 +1,5 @@
 -- A program, and a plain unit in which each held symbol stands renamed: runs are alike.
-use Rattle.std.proofs.Common.{◌≡◌, ℕ, zero, suc, List, [], ◌∷◌, ◌++◌, map, Option, Some, None, refl, sym, ap, ◌∙◌, subst, Contains}
-use Rattle.std.proofs.lemmas.List.Elements.{Contains-append_left, Contains-append_right}
+use Rattle.std.proofs.Common.{◌≡◌, ℕ, zero, suc, List, [], ◌∷◌, map, Option, Some, None, refl, sym, ap, ◌∙◌, subst}
 use Rattle.wgsl_path.specs.declared.path.ModulePath.{ModulePath}
 use Rattle.wgsl_syntax.specs.Tree.{Decl}
 use Rattle.wgsl_meaning.specs.declared.value.ShaderStage.{ShaderStage}
@@ -8,13 +7,12 @@ use Rattle.wgsl_meaning.specs.declared.value.ShaderStage.TheVariants.{Const, Ove
 use Rattle.wgsl_meaning.specs.declared.value.Value.{Value}
 use Rattle.wgsl_meaning.specs.declared.value.NumericType.{NumericType}
 use Rattle.wgsl_meaning.specs.declared.fault.Fault.TheVariants.{Name as Named}
-use Rattle.wgsl_meaning.specs.declared.fault.NameFault.TheVariants.{UnknownDecl, NotType, Todo}
-use Rattle.wgsl_meaning.specs.Outcome.{Outcome, Done, Failed, Deep, andthen, at_once}
+use Rattle.wgsl_meaning.specs.declared.fault.NameFault.TheVariants.{UnknownDecl, NotType}
+use Rattle.wgsl_meaning.specs.Outcome.{Failed, at_once}
 use Rattle.wgsl_meaning.specs.Names.{Name, Symbol, find_decl, name_of, built_in_type}
-use Rattle.wgsl_meaning.specs.Meaning.{World, const_in, call_in, call_type, construct, construct_type}
+use Rattle.wgsl_meaning.specs.Meaning.{World, const_in, call_in, call_type}
 use Rattle.wgsl_meaning.specs.Programs.{Program, const_at, called_at, call_type_at, type_at, Inside, opened, inside, world, Inputs, entered, started_by, started, run, root, here, here_if, plain}
 use Rattle.wgsl_meaning.proofs.Simulates.{same_stage}
-use Rattle.wesl_sources.specs.Occurrences.{is_among, occurrences, names_before, names_behind, names_in_body, locals}
 use Rattle.wesl_sources.specs.Linked.{renamed_declaration}
 use Rattle.wesl_meaning.specs.Alike.{Alike}
 use Rattle.wesl_meaning.proofs.Outcomes.{alike_refl, kept_alike}

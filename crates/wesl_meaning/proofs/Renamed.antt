@@ -1,23 +1,23 @@
 -- What is renamed means the same, in worlds where the names meet.
-use Rattle.std.proofs.Common.{◌≡◌, ℕ, ◌<◌, List, [], ◌∷◌, ◌++◌, map, length, Option, Some, None, Bool, true, false, Result, Ok, Err, refl, sym, ap, ◌∙◌, subst, arith, Contains, flat_map, option_map}
+use Rattle.std.proofs.Common.{◌≡◌, ℕ, List, [], ◌∷◌, ◌++◌, map, length, Option, Some, None, Bool, true, false, refl, sym, ap, ◌∙◌, subst, arith, Contains, flat_map, option_map}
 use Rattle.std.specs.Prelude.{if◌then◌else◌, ◌==◌}
 use Rattle.std.proofs.lemmas.List.Elements.{Contains-append_left, Contains-append_right}
 use Rattle.wgsl_syntax.specs.Tree.{Exp, Exps, literal, parenthesized, unary, binary, call, named, nil, cons, Typ, simple, templated, Attr, fragment, location, Stm, returning, Block, Param, Decl, variable, function}
 use Rattle.wgsl_meaning.specs.declared.value.Value.{Value}
 use Rattle.wgsl_meaning.specs.declared.value.NumericType.{NumericType}
-use Rattle.wgsl_meaning.specs.declared.fault.Fault.TheVariants.{Number, Name as Named}
+use Rattle.wgsl_meaning.specs.declared.fault.Fault.TheVariants.{Name as Named}
 use Rattle.wgsl_meaning.specs.declared.fault.NumberFault.TheVariants.{Conversion, ParamType}
-use Rattle.wgsl_meaning.specs.declared.fault.NameFault.TheVariants.{UnknownDecl, NotCallable, UninitConst, UnexpectedTemplate, ParamCount, Void, NotEntrypoint, InvalidEntrypointParam, ReturnType, NoReturn, UnexpectedReturn}
-use Rattle.wgsl_meaning.specs.Values.{Checked, and_then, type_of, literal_value, converts, converted, unary_type, binary_type}
-use Rattle.wgsl_meaning.specs.Outcome.{Outcome, Done, Failed, Deep, after, andthen, at_once, computed}
+use Rattle.wgsl_meaning.specs.declared.fault.NameFault.TheVariants.{NotCallable, ParamCount, NotEntrypoint, ReturnType}
+use Rattle.wgsl_meaning.specs.Values.{type_of, converts, converted, unary_type, binary_type}
+use Rattle.wgsl_meaning.specs.Outcome.{Outcome, Done, Failed, after, andthen, at_once, computed}
 use Rattle.wgsl_meaning.specs.Names.{Name, find, plain_name}
-use Rattle.wgsl_meaning.specs.Meaning.{Env, Types, World, local_or, called_or, value_here, result_here, value, values, type_in_world, type_here, result_type_here, typed, all_typed, type_written, initial, initialized, const_in, bound, returned_by, converted_return, handed_back, return_type_of, body_of, needed, call_in, call_type}
+use Rattle.wgsl_meaning.specs.Meaning.{Env, World, local_or, called_or, value_here, result_here, value, type_here, result_type_here, typed, all_typed, type_written, initial, initialized, const_in, bound, returned_by, handed_back, return_type_of, body_of, needed, call_in, call_type}
 use Rattle.wgsl_meaning.specs.Programs.{Inputs, attribute_number, location_of, input_at, inputs_bound, has_stage, entered, started_by}
-use Rattle.wgsl_meaning.specs.Follows.{Follows, FollowAll, keeps_literal, keeps_parentheses, keeps_unary, keeps_binary, keeps_call, keeps_name, replaces, no_more, one_more}
+use Rattle.wgsl_meaning.specs.Follows.{Follows, FollowAll, keeps_literal, keeps_parentheses, keeps_unary, keeps_binary, keeps_call, keeps_name, no_more, one_more}
 use Rattle.wgsl_meaning.proofs.Simulates.{StagesMeet, simulates}
 use Rattle.wgsl_meaning.proofs.Meets.{one_step}
-use Rattle.wesl_sources.specs.Occurrences.{is_among, unless_local, in_expression, in_expressions, in_type, in_some, in_attribute, in_attributes, in_statement, in_block, in_parameter, parameter_names, names_before, names_behind, locals, names_in_body}
-use Rattle.wesl_sources.specs.Linked.{new_name, renamed, all_renamed, renamed_type, renamed_attribute, renamed_attributes, renamed_statement, renamed_block, renamed_parameter, renamed_declaration}
+use Rattle.wesl_sources.specs.Occurrences.{is_among, unless_local, in_expression, in_expressions, in_type, in_some, in_attributes, in_statement, in_block, in_parameter, parameter_names, names_before, names_behind, locals, names_in_body}
+use Rattle.wesl_sources.specs.Linked.{new_name, renamed, all_renamed, renamed_type, renamed_attributes, renamed_statement, renamed_block, renamed_parameter, renamed_declaration}
 use Rattle.wesl_meaning.specs.Alike.{Alike}
 use Rattle.wesl_meaning.proofs.Outcomes.{alike_refl, kept_alike, Yields, yields_on, yields_then, alike_then}
 use Rattle.wesl_meaning.proofs.Members.{first_in, length_map, locals_of, find_none, find_some}

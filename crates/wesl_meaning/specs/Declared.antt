@@ -1,5 +1,5 @@
 -- What the linked unit declares, and what its names mean by scope alone.
-use Rattle.std.specs.Prelude.{◌≡◌, List, map, Option, Some, None, false, ◌↔◌}
+use Rattle.std.specs.Prelude.{◌≡◌, List, map, Some, None, false}
 use Rattle.std.specs.List.{Contains}
 use Rattle.wgsl_syntax.specs.Tree.{Decl, Unit}
 use Rattle.wgsl_meaning.specs.Names.{find_decl}

@@ -1,5 +1,5 @@
 -- What holds of runs of linked modules.
-use Rattle.std.specs.Prelude.{◌≡◌, ℕ, List, Option, Result, Ok, ◌↔◌}
+use Rattle.std.specs.Prelude.{◌≡◌, ℕ, List, Option, Ok, ◌↔◌}
 use Rattle.std.specs.List.{Contains}
 use Rattle.wgsl_path.specs.Paths.{path_text}
 use Rattle.wgsl_syntax.specs.Tree.{Unit}
