@@ -1,8 +1,8 @@
 -- The lowered unit declares the held functions.
-use Rattle.std.proofs.Common.{◌≡◌, ◌⊎◌, inl, inr, List, [], ◌∷◌, map, Option, Some, None, Bool, true, false, Result, Ok, Err, refl, sym, ap, ◌∙◌, subst, Contains}
+use Rattle.std.proofs.Common.{◌≡◌, ◌⊎◌, inl, inr, List, [], ◌∷◌, map, Option, true, false, Result, Ok, Err, refl, sym, ap, ◌∙◌, subst, Contains}
 use Rattle.wgsl_syntax.specs.Tree.{Attr, Typ, Block, Param, Decl, variable, function, Unit as Module}
 use Rattle.wgsl_meaning.specs.Values.{Checked, and_then}
-use Rattle.wgsl_meaning.specs.Names.{Name, find_decl, name_of}
+use Rattle.wgsl_meaning.specs.Names.{Name}
 use Rattle.wgsl_meaning.specs.ConstStage.{Scope, module_scope}
 use Rattle.wgsl_eval.specs.declared.error.Refusal.{Refusal}
 use Rattle.wgsl_eval.specs.Start.{then_more, consts_of}
@@ -12,7 +12,7 @@ use Rattle.wesl_sources.specs.Modules.{Path, Symbol, Modules, Declares, local_na
 use Rattle.wesl_sources.specs.Names.{IsPrinted}
 use Rattle.wesl_sources.specs.Rounds.{scope_names}
 use Rattle.wesl_sources.specs.Linked.{renamed_declaration}
-use Rattle.wesl_meaning.specs.Declared.{IsHeldAs, StandsAs, DeclaresWhatIsHeld}
+use Rattle.wesl_meaning.specs.Declared.{IsHeldAs, DeclaresWhatIsHeld}
 use Rattle.wesl_meaning.proofs.Members.{first_in, later_in, in_cases, in_none, in_map, from_map}
 use Rattle.wesl_meaning.proofs.Distinct.{Once, once_of, once_right, once_same}
 use Rattle.wesl_meaning.proofs.Symbols.{name_declared, found_in, one_unit, origin}
@@ -80,7 +80,8 @@ lowered_functions s (function attributes f ps rs t b ∷ ds) low e =
     let r = lowered_functions s ds more.0 more.1 in
     subst (AreFunctions (function attributes f ps rs t b ∷ ds)) to (record {
       functions = functions_more d.0 more.0 named.function r.functions;
-      names = ap (λ z. z ∷ map declared_name more.0) named.name ∙ ap (λ l. f ∷ l) r.names })
+      names = ap (λ z. z ∷ map declared_name more.0) named.name ∙ ap (λ l. f ∷ l) r.names;
+    })
 
 record IsLowered (u low : Module) : Type 0 where
   no_imports : low.imports ≡ []
@@ -159,13 +160,15 @@ module _ (modules : Modules) (root : Path) (keep : List Name) (lowered : Module)
   only_there y k =
       let d = from_map declared_name (functions_of c.linked.declarations) y (subst (λ l. Contains l y) low.functions.names k) in
       let there = from_functions c.linked.declarations d.0 d.1 in
-      let o = origin modules root keep c.linked_well.loaded c.linked c.linked_well.linked d.0 there.0 in
-      (symbol_of modules root keep c.linked c.linked_well d.0 o,
-      record { held = o.reached; printed = subst (IsPrinted modules root (symbol_of modules root keep c.linked c.linked_well d.0 o)) (name_declared d.0 ∙ d.2) (origin_printed modules root keep c.linked c.linked_well d.0 o) },
-      record {
-        declaration = o.declaration;
-        declares = record { unit = o.unit; is_module = o.is_module; stands = o.stands; name = refl };
-        function = sym (renamed_function o.new o.declaration) ∙ ap is_function o.is ∙ there.1 })
+      let o = origin modules root keep c.linked_well.loaded c.linked c.linked_well.linked d.0 there.0 in (
+        symbol_of modules root keep c.linked c.linked_well d.0 o,
+        record { held = o.reached; printed = subst (IsPrinted modules root (symbol_of modules root keep c.linked c.linked_well d.0 o)) (name_declared d.0 ∙ d.2) (origin_printed modules root keep c.linked c.linked_well d.0 o) },
+        record {
+          declaration = o.declaration;
+          declares = record { unit = o.unit; is_module = o.is_module; stands = o.stands; name = refl };
+          function = sym (renamed_function o.new o.declaration) ∙ ap is_function o.is ∙ there.1;
+        },
+      )
 
   pub declares_held_functions : DeclaresHeldFunctions modules root keep c.linked lowered
   declares_held_functions = record {

@@ -1,11 +1,10 @@
 -- Linking keeps runs, lowering keeps them, and so does a text that is read again.
-use Rattle.std.proofs.Common.{◌≡◌, ℕ, ◌≤◌, Option, Some, None, Result, Ok, Err, refl, sym, ap, ◌∙◌, subst, arith}
+use Rattle.std.proofs.Common.{◌≡◌, ℕ, ◌≤◌, Option, Ok, sym, subst, arith}
 use Rattle.wgsl_syntax.specs.Tree.{Unit}
-use Rattle.wgsl_syntax.specs.View.{unit_tree}
 use Rattle.wgsl_syntax.specs.Print.{unit_text}
 use Rattle.wgsl_meaning.specs.declared.value.Value.{Value}
-use Rattle.wgsl_meaning.specs.Outcome.{Outcome, Done, Failed, Deep}
-use Rattle.wgsl_meaning.specs.Programs.{Program, Inputs, run, plain, here, program_of, EndsWell}
+use Rattle.wgsl_meaning.specs.Outcome.{Outcome, Done}
+use Rattle.wgsl_meaning.specs.Programs.{Inputs, run, here, program_of, EndsWell}
 use Rattle.wgsl_meaning.specs.Names.{Name}
 use Rattle.wgsl_meaning.specs.Compare.{Better}
 use Rattle.wgsl_lower.specs.Keeps.{Keeps}
@@ -13,7 +12,7 @@ use Rattle.wgsl_lower.proofs.Runs.{keeps_if}
 use Rattle.wgsl_laws.specs.Printing.{StandsFor}
 use Rattle.wgsl_laws.proofs.Declarations.{prints_back}
 use Rattle.wesl_meaning.proofs.Linked.{linked_units_end_well}
-use Rattle.weslc_laws.specs.Compiled.{RunsAsItsSources, AreCompiled, PrintsWell, SourcesRunInTheLoweredUnit, CompiledTextRunsAsItsSources, PrintedTextRunsAsItsSources}
+use Rattle.weslc_laws.specs.Compiled.{RunsAsItsSources, SourcesRunInTheLoweredUnit, CompiledTextRunsAsItsSources, PrintedTextRunsAsItsSources}
 
 better_ends : (o p : Outcome (Option Value)) (a : Option Value) (n : ℕ) → Better (Option Value) o p → o ≡ Done a n → (m : ℕ) × (p ≡ Done a m) × (m ≤ n)
 better_ends o p a n b e = subst (λ q. Better (Option Value) q p) e b
