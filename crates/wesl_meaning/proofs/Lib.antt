@@ -10,3 +10,4 @@ pub mod Linked
 pub mod Distinct
 pub mod Exists
 pub mod Loading
+pub mod Unique

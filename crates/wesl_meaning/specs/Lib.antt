@@ -2,3 +2,4 @@ pub mod Alike
 pub mod SourcePrograms
 pub mod Runs
 pub mod Declared
+pub mod Unique

@@ -2,6 +2,7 @@
 
 ghost use Rattle.wesl_meaning.specs.Declared.{LinkedUnitsDeclareWhatIsHeld};
 ghost use Rattle.wesl_meaning.specs.Runs.{LinkedModulesHaveAProgram, LinkedUnitsEndWell, LinkedUnitsRunAlike, WhatIsLoaded};
+ghost use Rattle.wesl_meaning.specs.Unique.{LinkedUnitsAreOne};
 
 /// A run of a kept name ends in the linked unit as it does in the modules, with the same answer in the same steps.
 pub fn linked_units_run_alike()
@@ -26,4 +27,9 @@ pub fn what_is_loaded()
 /// The linked unit declares what is held, each once under its printed name, and scope alone gives each occurrence what it denoted.
 pub fn linked_units_declare_what_is_held()
     ensures { LinkedUnitsDeclareWhatIsHeld }
+{}
+
+/// Loaded modules are linked into one unit alone.
+pub fn linked_units_are_one()
+    ensures { LinkedUnitsAreOne }
 {}
