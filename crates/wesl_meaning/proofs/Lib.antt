@@ -1,0 +1,13 @@
+pub mod Outcomes
+pub mod Members
+pub mod Renamed
+pub mod Programs
+pub mod Order
+pub mod Symbols
+pub mod Held
+pub mod Declared
+pub mod Linked
+pub mod Distinct
+pub mod Exists
+pub mod Loading
+pub mod Unique

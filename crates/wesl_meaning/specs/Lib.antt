@@ -1,0 +1,5 @@
+pub mod Alike
+pub mod SourcePrograms
+pub mod Runs
+pub mod Declared
+pub mod Unique

@@ -1,0 +1,11 @@
+-- Modules are linked into one unit.
+use Rattle.std.specs.Prelude.{◌≡◌, List}
+use Rattle.wgsl_syntax.specs.Tree.{Unit}
+use Rattle.wesl_sources.specs.Occurrences.{Name}
+use Rattle.wesl_sources.specs.Modules.{Path, Modules}
+use Rattle.wesl_sources.specs.Linked.{IsLinked}
+use Rattle.wesl_sources.specs.Loaded.{AreLoaded}
+
+abbrev pub LinkedUnitsAreOne : Type 0
+LinkedUnitsAreOne = (modules : Modules) (root : Path) (keep : List Name) (unit other : Unit) → AreLoaded modules root keep → IsLinked modules root keep unit
+    → IsLinked modules root keep other → unit ≡ other

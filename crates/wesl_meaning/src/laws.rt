@@ -1,0 +1,35 @@
+//! Laws of linked modules. Each function states its law and does nothing.
+
+ghost use Rattle.wesl_meaning.specs.Declared.{LinkedUnitsDeclareWhatIsHeld};
+ghost use Rattle.wesl_meaning.specs.Runs.{LinkedModulesHaveAProgram, LinkedUnitsEndWell, LinkedUnitsRunAlike, WhatIsLoaded};
+ghost use Rattle.wesl_meaning.specs.Unique.{LinkedUnitsAreOne};
+
+/// A run of a kept name ends in the linked unit as it does in the modules, with the same answer in the same steps.
+pub fn linked_units_run_alike()
+    ensures { LinkedUnitsRunAlike }
+{}
+
+/// A run of a kept name ends well in the linked unit where it does in the modules, and there alone.
+pub fn linked_units_end_well()
+    ensures { LinkedUnitsEndWell }
+{}
+
+/// Modules that are linked have a program.
+pub fn linked_modules_have_a_program()
+    ensures { LinkedModulesHaveAProgram }
+{}
+
+/// Modules that loading comes to are apart, have each name once, and all that occurs in what is reached is there.
+pub fn what_is_loaded()
+    ensures { WhatIsLoaded }
+{}
+
+/// The linked unit declares what is held, each once under its printed name, and scope alone gives each occurrence what it denoted.
+pub fn linked_units_declare_what_is_held()
+    ensures { LinkedUnitsDeclareWhatIsHeld }
+{}
+
+/// Loaded modules are linked into one unit alone.
+pub fn linked_units_are_one()
+    ensures { LinkedUnitsAreOne }
+{}

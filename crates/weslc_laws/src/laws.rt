@@ -1,0 +1,24 @@
+//! Laws of compiled modules. Each function states its law and does nothing.
+
+ghost use Rattle.weslc_laws.specs.Compiled.{CompiledTextRunsAsItsSources, PrintedTextRunsAsItsSources, SourcesRunInTheLoweredUnit};
+ghost use Rattle.weslc_laws.specs.Declared.{CompiledUnitsDeclareHeldFunctions};
+
+/// A run that ends well in the modules, ends well in the lowered unit with the same answer, in no more steps.
+pub fn sources_run_in_the_lowered_unit()
+    ensures { SourcesRunInTheLoweredUnit }
+{}
+
+/// A run that ends well in the modules, ends well in a text of the lowered unit with the same answer, in no more steps.
+pub fn compiled_text_runs_as_its_sources()
+    ensures { CompiledTextRunsAsItsSources }
+{}
+
+/// What is printed of the lowered unit is such a text, where any text is.
+pub fn printed_text_runs_as_its_sources()
+    ensures { PrintedTextRunsAsItsSources }
+{}
+
+/// The lowered unit declares the held functions, each once under its printed name, in the order of the linked unit.
+pub fn compiled_units_declare_held_functions()
+    ensures { CompiledUnitsDeclareHeldFunctions }
+{}
