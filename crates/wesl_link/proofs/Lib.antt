@@ -1,4 +1,7 @@
-pub mod Denoting
-pub mod Hiding
-pub mod Occurring
+pub mod TreeLemmas
+pub mod SetLemmas
+pub mod TableLemmas
+pub mod ScopeLemmas
+pub mod TellLemmas
+pub mod ClosingLemmas
 pub mod Renames

@@ -1,4 +1,7 @@
+pub mod Scopes
+pub mod Meanings
+pub mod Outcomes
+pub mod Tells
+pub mod Closing
+pub mod Printed
 pub mod Renaming
-pub mod Occurrences
-pub mod Views
-pub mod Tables

@@ -1,10 +1,10 @@
 //! The linked unit.
 
-use crate::denote::symbol_at;
-use crate::module::{Module, declared_name};
+use crate::module::Module;
 use crate::naming::ModuleNaming;
 use crate::rename::renamed_declaration;
 use crate::rounds::Resolutions;
+use crate::table::declared_name;
 use std::alloc::{AllocError, Global};
 use std::collections::BTreeMap;
 use wesl_resolve::BasicSourceMap;
@@ -60,11 +60,11 @@ impl Resolutions {
             resolutions: self,
             module: held.module,
         };
-        for (place, name) in held.places {
+        for place in held.places.keys() {
             let Some(node) = held.module.unit.global_declarations.get(*place) else {
                 continue;
             };
-            let new = renamed_declaration(alloc, naming, name.as_str(), node.node())?;
+            let new = renamed_declaration(alloc, naming, node.node())?;
             declarations.push(Spanned::new(alloc, new, node.span)?)?;
         }
         Ok(())
@@ -82,10 +82,10 @@ impl Resolutions {
     pub fn add_decls(&self, alloc: Global, map: &mut BasicSourceMap) -> Result<(), AllocError> {
         for held in self.held_modules(alloc)? {
             for (place, name) in held.places {
-                let Some(symbol) = symbol_at(held.module, *place) else {
+                let Some(declaration) = held.module.declaration(*place) else {
                     continue;
                 };
-                let item = declared_name(symbol.declaration);
+                let item = declared_name(declaration);
                 map.add_decl(name.as_str(), &held.module.path, item)?;
             }
         }

@@ -2,10 +2,10 @@
 use Rattle.std.specs.Prelude.{◌≡◌, ◌≢◌, List, [], ◌∷◌, ◌++◌, map, Some, None, if◌then◌else◌, ◌↔◌, IsTrue}
 use Rattle.std.specs.Option.{option_map}
 use Rattle.std.specs.List.{Contains}
-use Rattle.wgsl_path.specs.declared.path.ModulePath.{ModulePath}
+use Rattle.wgsl_path.specs.Paths.{path_text}
 use Rattle.wgsl_syntax.specs.Tree.{Exp, literal, parenthesized, unary, binary, call, named, Exps, nil, cons, Typ, simple, templated, Attr, fragment, location, Stm, returning, Block, Param, Decl, variable, function, Unit}
 use Rattle.wesl_sources.specs.Occurrences.{Name, is_among, declared_name, parameter_names}
-use Rattle.wesl_sources.specs.Modules.{Symbol, Modules, IsModule, Declares, Imports, Denotes, Reached}
+use Rattle.wesl_sources.specs.Modules.{Path, Symbol, Modules, IsModule, IsFree, Denotes, Reached}
 use Rattle.wesl_sources.specs.Names.{IsPrinted}
 use Rattle.wesl_sources.specs.Rounds.{IsAscending}
 
@@ -59,9 +59,9 @@ module _ (new : Name → Name) where
       (option_map (renamed_type []) type) (renamed_block (parameter_names parameters) body)
 
 -- the new names of a module: what denotes a symbol takes the symbol's printed name, and what is free stays
-pub record IsNaming (modules : Modules) (root m : ModulePath) (new : Name → Name) : Type 0 where
-  pub denoting : (x : Name) (s : Symbol) → Denotes modules m x s → IsPrinted root s (new x)
-  pub free : (x : Name) (u : Unit) → IsModule modules m u → (Declares u x → ⊥) → (Imports u x → ⊥) → new x ≡ x
+pub record IsNaming (modules : Modules) (root m : Path) (new : Name → Name) : Type 0 where
+  pub denoting : (x : Name) (s : Symbol) → Denotes modules m x s → IsPrinted modules root s (new x)
+  pub free : (x : Name) → IsFree modules m x → new x ≡ x
 
 -- What is held
 
@@ -72,16 +72,16 @@ pub data Selects {A : Type 0} (P : A → Type 0) : List A → List A → Type 0 
   leaves : {x : A} {xs ys : List A} → (P x → ⊥) → Selects P xs ys → Selects P (x ∷ xs) ys
 
 -- the loaded modules in the order of the linked unit: the root, then the others in byte order of their printed paths
-pub record IsInOrder (modules : Modules) (root : ModulePath) (order : List ModulePath) : Type 0 where
-  pub others : List ModulePath
+pub record IsInOrder (modules : Modules) (root : Path) (order : List Path) : Type 0 where
+  pub others : List Path
   pub root_first : order ≡ root ∷ others
   pub ascending : IsAscending others
   pub not_root : Contains others root → ⊥
-  pub each : (p : ModulePath) → Contains order p ↔ Contains (map (λ m. m.0) modules) p
+  pub each : (p : Path) → Contains order p ↔ Contains (map (λ m. path_text m.0) modules) p
 
-module _ (modules : Modules) (root : ModulePath) (keep : List Name) where
+module _ (modules : Modules) (root : Path) (keep : List Name) where
   -- a module's held declarations, in text order, each under its printed name and with every occurrence renamed
-  pub record IsLinkedModule (m : ModulePath) (declarations : List Decl) : Type 0 where
+  pub record IsLinkedModule (m : Path) (declarations : List Decl) : Type 0 where
     pub unit : Unit
     pub is_module : IsModule modules m unit
     pub new : Name → Name
@@ -90,14 +90,14 @@ module _ (modules : Modules) (root : ModulePath) (keep : List Name) where
     pub selected : Selects (λ d. Reached modules root keep (record { home = m; name = declared_name d })) unit.declarations held
     pub whole : declarations ≡ map (renamed_declaration new) held
 
-  pub data AreLinkedModules : List ModulePath → List Decl → Type 0 where
+  pub data AreLinkedModules : List Path → List Decl → Type 0 where
     no_module : AreLinkedModules [] []
-    a_module : {m : ModulePath} {ms : List ModulePath} {ds es : List Decl} → IsLinkedModule m ds → AreLinkedModules ms es → AreLinkedModules (m ∷ ms) (ds ++ es)
+    a_module : {m : Path} {ms : List Path} {ds es : List Decl} → IsLinkedModule m ds → AreLinkedModules ms es → AreLinkedModules (m ∷ ms) (ds ++ es)
 
   -- the linked unit: no imports, and what is held
   pub record IsLinked (unit : Unit) : Type 0 where
     pub no_imports : unit.imports ≡ []
-    pub order : List ModulePath
+    pub order : List Path
     pub in_order : IsInOrder modules root order
     pub declares : AreLinkedModules order unit.declarations
 
@@ -110,18 +110,18 @@ module _ (modules : Modules) (root : ModulePath) (keep : List Name) where
     pub differ : one ≢ other
     pub one_held : Reached modules root keep one
     pub other_held : Reached modules root keep other
-    pub one_printed : IsPrinted root one name
-    pub other_printed : IsPrinted root other name
+    pub one_printed : IsPrinted modules root one name
+    pub other_printed : IsPrinted modules root other name
 
   -- some held symbol has this printed name
   pub record IsTaken (name : Name) : Type 0 where
     pub symbol : Symbol
     pub held : Reached modules root keep symbol
-    pub printed : IsPrinted root symbol name
+    pub printed : IsPrinted modules root symbol name
 
   -- An occurrence with these locals clashes as this name: it denotes a symbol whose printed name is shared, or hidden by a
   -- local; or it is free, and some symbol takes its name.
-  pub data Clashes (m : ModulePath) (locals : List Name) (x : Name) : Name → Type 0 where
-    shared : {s : Symbol} {y : Name} → Denotes modules m x s → IsPrinted root s y → IsShared y → Clashes m locals x y
-    hidden : {s : Symbol} {y : Name} → Denotes modules m x s → IsPrinted root s y → IsTrue (is_among y locals) → Clashes m locals x y
-    captured : {u : Unit} → IsModule modules m u → (Declares u x → ⊥) → (Imports u x → ⊥) → IsTaken x → Clashes m locals x x
+  pub data Clashes (m : Path) (locals : List Name) (x : Name) : Name → Type 0 where
+    shared : {s : Symbol} {y : Name} → Denotes modules m x s → IsPrinted modules root s y → IsShared y → Clashes m locals x y
+    hidden : {s : Symbol} {y : Name} → Denotes modules m x s → IsPrinted modules root s y → IsTrue (is_among y locals) → Clashes m locals x y
+    captured : IsFree modules m x → IsTaken x → Clashes m locals x x

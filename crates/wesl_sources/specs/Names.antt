@@ -1,11 +1,15 @@
 -- The names of symbols in the linked text.
 use Rattle.std.specs.Prelude.{◌≡◌}
+use Rattle.std.specs.List.{Contains}
 use Rattle.wgsl_path.specs.declared.path.ModulePath.{ModulePath}
+use Rattle.wgsl_path.specs.Paths.{path_text}
+use Rattle.wgsl_syntax.specs.Tree.{Unit}
 use Rattle.wesl_resolve.specs.Mangling.{mangled}
 use Rattle.wesl_sources.specs.Occurrences.{Name}
-use Rattle.wesl_sources.specs.Modules.{Symbol}
+use Rattle.wesl_sources.specs.Modules.{Path, Symbol, Modules}
 
--- the root's names stay, others are mangled
-pub data IsPrinted (root : ModulePath) : Symbol → Name → Type 0 where
-  stays : {x : Name} → IsPrinted root (record { home = root; name = x }) x
-  is_mangled : {s : Symbol} → (s.home ≡ root → ⊥) → IsPrinted root s (mangled s.home s.name)
+-- the name of a symbol of a loaded module in the linked text: the root's names stay
+pub data IsPrinted (modules : Modules) (root : Path) : Symbol → Name → Type 0 where
+  stays : {x : Name} → IsPrinted modules root (record { home = root; name = x }) x
+  is_mangled : {s : Symbol} {path : ModulePath} {u : Unit} → (s.home ≡ root → ⊥) → Contains modules (path, u) → path_text path ≡ s.home
+      → IsPrinted modules root s (mangled path s.name)

@@ -58,13 +58,30 @@ in_parameter p = in_attributes [] p.attributes ++ in_type [] p.type
 abbrev pub parameter_names : List Param → List Name
 parameter_names parameters = map (λ p. p.name) parameters
 
+-- the names that occur in a declaration before its own name: in its attributes
+abbrev pub names_before : Decl → List Name
+names_before (variable attributes kind x type initializer) = in_attributes [] attributes
+names_before (function attributes x parameters return_attributes type body) = in_attributes [] attributes
+
+-- those behind it, in the scope of the module
+abbrev pub names_behind : Decl → List Name
+names_behind (variable attributes kind x type initializer) = in_some (in_type []) type ++ in_some (in_expression []) initializer
+names_behind (function attributes x parameters return_attributes type body) =
+    flat_map in_parameter parameters ++ in_attributes [] return_attributes ++ in_some (in_type []) type
+
+-- the locals of a declaration's body: a function's parameters
+abbrev pub locals : Decl → List Name
+locals (variable attributes kind x type initializer) = []
+locals (function attributes x parameters return_attributes type body) = parameter_names parameters
+
+-- those in its body, that none of its locals hides
+abbrev pub names_in_body : Decl → List Name
+names_in_body (variable attributes kind x type initializer) = []
+names_in_body (function attributes x parameters return_attributes type body) = in_block (parameter_names parameters) body
+
 -- the names that occur in a declaration and denote something beyond it, in text order
 abbrev pub occurrences : Decl → List Name
-occurrences (variable attributes kind x type initializer) =
-    in_attributes [] attributes ++ in_some (in_type []) type ++ in_some (in_expression []) initializer
-occurrences (function attributes x parameters return_attributes type body) =
-    in_attributes [] attributes ++ flat_map in_parameter parameters ++ in_attributes [] return_attributes ++ in_some (in_type []) type
-    ++ in_block (parameter_names parameters) body
+occurrences d = names_before d ++ names_behind d ++ names_in_body d
 
 abbrev pub declared_name : Decl → Name
 declared_name (variable attributes kind x type initializer) = x

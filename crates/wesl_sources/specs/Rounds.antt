@@ -9,7 +9,7 @@ use Rattle.wgsl_path.specs.Paths.{path_text}
 use Rattle.wgsl_token.specs.declared.error.Error.{Error}
 use Rattle.wgsl_syntax.specs.Tree.{Decl, Unit}
 use Rattle.wesl_sources.specs.Occurrences.{Name, occurrences, declared_name}
-use Rattle.wesl_sources.specs.Modules.{Symbol, Modules, Declares, local_name, IsModule, IsMissing, IsPrivate, Reached, IsAsked}
+use Rattle.wesl_sources.specs.Modules.{Path, Symbol, Modules, Declares, local_name, IsModule, IsMissing, IsPrivate, Reached, IsAsked}
 
 -- what is found at a path
 pub data Answer : Type 0 where
@@ -18,16 +18,16 @@ pub data Answer : Type 0 where
   faulty : Error → Answer
 
 abbrev pub Sources : Type 0
-Sources = ModulePath → Answer
+Sources = Path → Answer
 
 -- why modules are not linked
 pub data Refusal : Type 0 where
-  too_many_modules : ModulePath → Refusal
-  module_not_found : ModulePath → Refusal
-  syntax : ModulePath → Error → Refusal
-  duplicate_symbol : ModulePath → Name → Refusal
-  missing_decl : ModulePath → Name → Refusal
-  private : ModulePath → Name → Refusal
+  too_many_modules : Path → Refusal
+  module_not_found : Path → Refusal
+  syntax : Path → Error → Refusal
+  duplicate_symbol : Path → Name → Refusal
+  missing_decl : Path → Name → Refusal
+  private : Path → Name → Refusal
 
 -- the names that a module's scope has, in text order
 abbrev pub scope_names : Unit → List Name
@@ -49,34 +49,34 @@ pub record IsFirstAgain (names : List Name) (x : Name) : Type 0 where
 -- Modules that are tested one after another, so many being loaded already: each may be one too many, not be found, have a
 -- fault, or have one name twice.
 module _ (sources : Sources) (max : ℕ) where
-  pub data Loads : ℕ → List ModulePath → Result Modules Refusal → Type 0 where
+  pub data Loads : ℕ → List Path → Result Modules Refusal → Type 0 where
     all_loaded : {n : ℕ} → Loads n [] (Ok [])
-    one_too_many : {n : ℕ} {p : ModulePath} {ps : List ModulePath} → max ≤ n → Loads n (p ∷ ps) (Err (too_many_modules p))
-    is_not_found : {n : ℕ} {p : ModulePath} {ps : List ModulePath} → n < max → sources p ≡ not_found → Loads n (p ∷ ps) (Err (module_not_found p))
-    is_faulty : {n : ℕ} {p : ModulePath} {ps : List ModulePath} {e : Error} → n < max → sources p ≡ faulty e → Loads n (p ∷ ps) (Err (syntax p e))
-    has_a_name_twice : {n : ℕ} {p : ModulePath} {ps : List ModulePath} {u : Unit} {x : Name} → n < max → sources p ≡ unit_of u
+    one_too_many : {n : ℕ} {p : Path} {ps : List Path} → max ≤ n → Loads n (p ∷ ps) (Err (too_many_modules p))
+    is_not_found : {n : ℕ} {p : Path} {ps : List Path} → n < max → sources p ≡ not_found → Loads n (p ∷ ps) (Err (module_not_found p))
+    is_faulty : {n : ℕ} {p : Path} {ps : List Path} {e : Error} → n < max → sources p ≡ faulty e → Loads n (p ∷ ps) (Err (syntax p e))
+    has_a_name_twice : {n : ℕ} {p : Path} {ps : List Path} {u : Unit} {x : Name} → n < max → sources p ≡ unit_of u
         → IsFirstAgain (scope_names u) x → Loads n (p ∷ ps) (Err (duplicate_symbol p x))
-    loaded_then_refused : {n : ℕ} {p : ModulePath} {ps : List ModulePath} {u : Unit} {r : Refusal} → n < max → sources p ≡ unit_of u
+    loaded_then_refused : {n : ℕ} {p : Path} {ps : List Path} {u : Unit} {r : Refusal} → n < max → sources p ≡ unit_of u
         → AreDistinct (scope_names u) → Loads (n + 1) ps (Err r) → Loads n (p ∷ ps) (Err r)
-    loaded : {n : ℕ} {p : ModulePath} {ps : List ModulePath} {u : Unit} {modules : Modules} → n < max → sources p ≡ unit_of u
-        → AreDistinct (scope_names u) → Loads (n + 1) ps (Ok modules) → Loads n (p ∷ ps) (Ok ((p, u) ∷ modules))
+    loaded : {n : ℕ} {p : Path} {ps : List Path} {u : Unit} {path : ModulePath} {modules : Modules} → n < max → sources p ≡ unit_of u
+        → AreDistinct (scope_names u) → path_text path ≡ p → Loads (n + 1) ps (Ok modules) → Loads n (p ∷ ps) (Ok ((path, u) ∷ modules))
 
 -- in byte order of what is printed
-abbrev pub IsBefore : ModulePath → ModulePath → Type 0
-IsBefore p q = slice_cmp nat_cmp (path_text p) (path_text q) ≡ Less
+abbrev pub IsBefore : Path → Path → Type 0
+IsBefore p q = slice_cmp nat_cmp p q ≡ Less
 
-pub data IsAscending : List ModulePath → Type 0 where
+pub data IsAscending : List Path → Type 0 where
   no_path : IsAscending []
-  one_path : {p : ModulePath} → IsAscending (p ∷ [])
-  one_before : {p q : ModulePath} {ps : List ModulePath} → IsBefore p q → IsAscending (q ∷ ps) → IsAscending (p ∷ q ∷ ps)
+  one_path : {p : Path} → IsAscending (p ∷ [])
+  one_before : {p q : Path} {ps : List Path} → IsBefore p q → IsAscending (q ∷ ps) → IsAscending (p ∷ q ∷ ps)
 
 -- the modules of the next round: those that are asked for, in byte order
-pub record IsNextRound (modules : Modules) (root : ModulePath) (keep : List Name) (ps : List ModulePath) : Type 0 where
+pub record IsNextRound (modules : Modules) (root : Path) (keep : List Name) (ps : List Path) : Type 0 where
   pub ascending : IsAscending ps
-  pub asked : (p : ModulePath) → Contains ps p ↔ IsAsked modules root keep p
+  pub asked : (p : Path) → Contains ps p ↔ IsAsked modules root keep p
 
 -- at a place in a reached declaration, an occurrence that denotes nothing
-pub record IsRefusedAt (modules : Modules) (root : ModulePath) (keep : List Name) (m : ModulePath) (declaration occurrence : ℕ) (r : Refusal) : Type 0 where
+pub record IsRefusedAt (modules : Modules) (root : Path) (keep : List Name) (m : Path) (declaration occurrence : ℕ) (r : Refusal) : Type 0 where
   pub unit : Unit
   pub is_module : IsModule modules m unit
   pub stands : Decl
@@ -88,30 +88,30 @@ pub record IsRefusedAt (modules : Modules) (root : ModulePath) (keep : List Name
   pub why : (IsMissing modules m name target × (r ≡ missing_decl target.home target.name)) ⊎ (IsPrivate modules m name target × (r ≡ private target.home target.name))
 
 -- one place before another: by the modules' printed paths, then the declarations, then the occurrences
-pub data StandsBefore (m : ModulePath) (d o : ℕ) : ModulePath → ℕ → ℕ → Type 0 where
-  by_module : {n : ModulePath} {e p : ℕ} → IsBefore m n → StandsBefore m d o n e p
+pub data StandsBefore (m : Path) (d o : ℕ) : Path → ℕ → ℕ → Type 0 where
+  by_module : {n : Path} {e p : ℕ} → IsBefore m n → StandsBefore m d o n e p
   by_declaration : {e p : ℕ} → d < e → StandsBefore m d o m e p
   by_occurrence : {p : ℕ} → o < p → StandsBefore m d o m d p
 
-pub record IsFirstRefused (modules : Modules) (root : ModulePath) (keep : List Name) (r : Refusal) : Type 0 where
-  pub home : ModulePath
+pub record IsFirstRefused (modules : Modules) (root : Path) (keep : List Name) (r : Refusal) : Type 0 where
+  pub home : Path
   pub declaration : ℕ
   pub occurrence : ℕ
   pub refused : IsRefusedAt modules root keep home declaration occurrence r
-  pub first : (m : ModulePath) (d o : ℕ) (s : Refusal) → IsRefusedAt modules root keep m d o s → StandsBefore m d o home declaration occurrence → ⊥
+  pub first : (m : Path) (d o : ℕ) (s : Refusal) → IsRefusedAt modules root keep m d o s → StandsBefore m d o home declaration occurrence → ⊥
 
-abbrev pub NoneRefused : Modules → ModulePath → List Name → Type 0
-NoneRefused modules root keep = (m : ModulePath) (d o : ℕ) (r : Refusal) → IsRefusedAt modules root keep m d o r → ⊥
+abbrev pub NoneRefused : Modules → Path → List Name → Type 0
+NoneRefused modules root keep = (m : Path) (d o : ℕ) (r : Refusal) → IsRefusedAt modules root keep m d o r → ⊥
 
 -- From these loaded modules on: the first occurrence that denotes nothing is refused; else what is asked for is loaded, and so
 -- on until nothing is.
-module _ (sources : Sources) (root : ModulePath) (keep : List Name) (max : ℕ) where
+module _ (sources : Sources) (root : Path) (keep : List Name) (max : ℕ) where
   pub data Goes : Modules → Result Modules Refusal → Type 0 where
     an_occurrence_refused : {modules : Modules} {r : Refusal} → IsFirstRefused modules root keep r → Goes modules (Err r)
     nothing_asked : {modules : Modules} → NoneRefused modules root keep → IsNextRound modules root keep [] → Goes modules (Ok modules)
-    a_module_refused : {modules : Modules} {ps : List ModulePath} {r : Refusal} → NoneRefused modules root keep → IsNextRound modules root keep ps
+    a_module_refused : {modules : Modules} {ps : List Path} {r : Refusal} → NoneRefused modules root keep → IsNextRound modules root keep ps
         → Loads sources max (length modules) ps (Err r) → Goes modules (Err r)
-    a_round : {modules more : Modules} {ps : List ModulePath} {o : Result Modules Refusal} → NoneRefused modules root keep → IsNextRound modules root keep ps
+    a_round : {modules more : Modules} {ps : List Path} {o : Result Modules Refusal} → NoneRefused modules root keep → IsNextRound modules root keep ps
         → ps ≢ [] → Loads sources max (length modules) ps (Ok more) → Goes (modules ++ more) o → Goes modules o
 
   -- the first kept name that the root doesn't declare
@@ -125,6 +125,6 @@ module _ (sources : Sources) (root : ModulePath) (keep : List Name) (max : ℕ) 
   -- what loading from the root comes to: the loaded modules, or the first refusal
   pub data ComesTo : Result Modules Refusal → Type 0 where
     root_refused : {r : Refusal} → Loads sources max 0 (root ∷ []) (Err r) → ComesTo (Err r)
-    kept_name_missing : {u : Unit} {x : Name} → Loads sources max 0 (root ∷ []) (Ok ((root, u) ∷ [])) → IsFirstUnkept u x → ComesTo (Err (missing_decl root x))
-    goes_on : {u : Unit} {o : Result Modules Refusal} → Loads sources max 0 (root ∷ []) (Ok ((root, u) ∷ [])) → ((x : Name) → Contains keep x → Declares u x)
-        → Goes ((root, u) ∷ []) o → ComesTo o
+    kept_name_missing : {path : ModulePath} {u : Unit} {x : Name} → Loads sources max 0 (root ∷ []) (Ok ((path, u) ∷ [])) → IsFirstUnkept u x → ComesTo (Err (missing_decl root x))
+    goes_on : {path : ModulePath} {u : Unit} {o : Result Modules Refusal} → Loads sources max 0 (root ∷ []) (Ok ((path, u) ∷ [])) → ((x : Name) → Contains keep x → Declares u x)
+        → Goes ((path, u) ∷ []) o → ComesTo o
