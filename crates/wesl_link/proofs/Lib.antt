@@ -5,3 +5,9 @@ pub mod ScopeLemmas
 pub mod TellLemmas
 pub mod ClosingLemmas
 pub mod Renames
+pub mod ReachLemmas
+pub mod AgreeLemmas
+pub mod LinkLemmas
+pub mod OrderLemmas
+pub mod ResolvedLemmas
+pub mod AssembleLemmas

@@ -44,12 +44,12 @@ map_get f [] i y is = absurd (cc)
 map_get f (x ∷ xs) zero y is = let e : f x ≡ y = cc in (x, refl, e)
 map_get f (x ∷ xs) (suc i) y is = map_get f xs i y is
 
-append_left : {X : Type 0} (xs ys : List X) (i : ℕ) (x : X) → slice_get xs i ≡ Some x → slice_get (xs ++ ys) i ≡ Some x
+pub append_left : {X : Type 0} (xs ys : List X) (i : ℕ) (x : X) → slice_get xs i ≡ Some x → slice_get (xs ++ ys) i ≡ Some x
 append_left [] ys i x is = absurd (cc)
 append_left (y ∷ xs) ys zero x is = is
 append_left (y ∷ xs) ys (suc i) x is = append_left xs ys i x is
 
-append_right : {X : Type 0} (xs ys : List X) (i : ℕ) (x : X) → slice_get ys i ≡ Some x → (j : ℕ) × (slice_get (xs ++ ys) j ≡ Some x)
+pub append_right : {X : Type 0} (xs ys : List X) (i : ℕ) (x : X) → slice_get ys i ≡ Some x → (j : ℕ) × (slice_get (xs ++ ys) j ≡ Some x)
 append_right [] ys i x is = (i, is)
 append_right (y ∷ xs) ys i x is = let r = append_right xs ys i x is in (suc r.0, r.1)
 
@@ -63,7 +63,7 @@ append_cases (y ∷ xs) ys (suc i) x is = ⊎_elim (λ l. inl (suc l.0, l.1)) (�
 pub same_name : (x y : Name) → bytes_eq x y ≡ true → x ≡ y
 same_name x y e = (bytes_eq-Decides x y).0 e
 
-self_name : (x : Name) → bytes_eq x x ≡ true
+pub self_name : (x : Name) → bytes_eq x x ≡ true
 self_name x = nat_list_eq_equiv.refl x
 
 pub among_contains : (x : Name) (xs : List Name) → is_among x xs ≡ true → Contains xs x

@@ -27,10 +27,10 @@ refused path unit (Private p x) t = absurd t
 
 -- ---- one scope
 
-abbrev IsFresh : Unit → Type 0
+abbrev pub IsFresh : Unit → Type 0
 IsFresh u = first_again [] (names (entries u)) ≡ None
 
-declared_known : (u : Unit) (x : Name) → IsFresh u → Declares u x → (j : ℕ) × (known u x ≡ Some (declared j))
+pub declared_known : (u : Unit) (x : Name) → IsFresh u → Declares u x → (j : ℕ) × (known u x ≡ Some (declared j))
 declared_known u x fresh c =
     let p = from_contains (map declared_name u.declarations) x c in
     let d = map_get declared_name u.declarations p.0 x p.1 in
@@ -56,14 +56,14 @@ import_bare : (p : Option ModulePath) (x y : Name) → import_known p x ≡ bare
 import_bare None x y e = (refl, cc)
 import_bare (Some path) x y e = absurd (cc)
 
-name_of : (e : Name × Known) (x : Name) (k : Known) → e ≡ (x, k) → e.0 ≡ x
+pub name_of : (e : Name × Known) (x : Name) (k : Known) → e ≡ (x, k) → e.0 ≡ x
 name_of e x k is = ap (λ (y : Name × Known). y.0) is
 
 meaning_of : (e : Name × Known) (x : Name) (k : Known) → e ≡ (x, k) → e.1 ≡ k
 meaning_of e x k is = ap (λ (y : Name × Known). y.1) is
 
 -- the declaration that a name means
-declares : (u : Unit) (x : Name) (j : ℕ) → known u x ≡ Some (declared j) → (d : Decl) × (slice_get u.declarations j ≡ Some d) × (declared_name d ≡ x)
+pub declares : (u : Unit) (x : Name) (j : ℕ) → known u x ≡ Some (declared j) → (d : Decl) × (slice_get u.declarations j ≡ Some d) × (declared_name d ≡ x)
 declares u x j e =
     let m = meant_at (entries u) x (declared j) e in
     ⊎_elim
@@ -82,7 +82,7 @@ imports u x k other e =
     (λ r. absurd (other r.0 (meaning_of (declared_name r.1, declared r.0) x k r.3)))
     (entry_cases u m.0 (x, k) m.1)
 
-has_declared : (u : Unit) (x : Name) (j : ℕ) → known u x ≡ Some (declared j) → Declares u x
+pub has_declared : (u : Unit) (x : Name) (j : ℕ) → known u x ≡ Some (declared j) → Declares u x
 has_declared u x j e = let d = declares u x j e in to_contains (map declared_name u.declarations) j x (get_map declared_name u.declarations j d.0 d.1 ∙ ap (λ y. Some y) d.2)
 
 not_declared : (u : Unit) (x : Name) (o : Option Known) → IsFresh u → known u x ≡ o → ((j : ℕ) → o ≡ Some (declared j) → ⊥) → Declares u x → ⊥
@@ -91,7 +91,7 @@ not_declared u x o fresh e other c = let k = declared_known u x fresh c in other
 not_imported : (u : Unit) (x : Name) → IsFresh u → known u x ≡ None → Imports u x → ⊥
 not_imported u x fresh e c = let k = imported_known u x fresh c in let both : None ≡ Some (import_known k.0.path k.0.item) = sym e ∙ k.1 in absurd (cc)
 
-has_imported : (u : Unit) (x : Name) (k : Known) → ((j : ℕ) → declared j ≡ k → ⊥) → known u x ≡ Some k → Imports u x
+pub has_imported : (u : Unit) (x : Name) (k : Known) → ((j : ℕ) → declared j ≡ k → ⊥) → known u x ≡ Some k → Imports u x
 has_imported u x k other e =
     let i = imports u x k other e in
     let p = from_contains u.imports i.0 i.1 in

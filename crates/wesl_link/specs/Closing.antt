@@ -10,16 +10,10 @@ use Rattle.std.specs.declared.alloc.Global.{Global}
 use Rattle.wgsl_syntax.specs.Tree.{Decl, Unit}
 use Rattle.wesl_sources.specs.Occurrences.{Name, occurrences}
 use Rattle.wesl_sources.specs.Modules.{Path, Symbol}
-use Rattle.wesl_link.specs.Outcomes.{Loaded, symbol_at, item_at, outcome, loaded}
+use Rattle.wesl_link.specs.Outcomes.{loaded}
+use Rattle.wesl_link.specs.Reach.{ReachedAt}
 use Rattle.wesl_link.specs.declared.denote.Symbol.{Symbol as Found}
 use Rattle.wesl_link.specs.declared.linking.Linking.{Linking}
-
--- what a finite chain of occurrences leads to from the kept names of the root: the declaration at this place of this module
-pub data ReachedAt (find : Loaded) (root : Path) (keep : List Name) : Path → ℕ → Type 0 where
-  kept : {x : Name} {m : Path} {place : ℕ} → Contains keep x → item_at (record { home = root; name = x }) (find root) ≡ symbol_at m place
-      → ReachedAt find root keep m place
-  onto : {m n : Path} {k place : ℕ} {h : Path × Unit} {d : Decl} {x : Name} → ReachedAt find root keep m k → find m ≡ Some h
-      → slice_get h.1.declarations k ≡ Some d → Contains (occurrences d) x → outcome find h x ≡ symbol_at n place → ReachedAt find root keep n place
 
 abbrev pub HeldNames : Type 0
 HeldNames = BTreeMap (String Global) (BTreeMap ℕ Name)

@@ -202,7 +202,8 @@ fn reach<'a>(
     Ok(())
 }
 
-fn is_held(held: &Held, symbol: Symbol<'_>) -> bool
+/// Whether a symbol is held.
+pub fn is_held(held: &Held, symbol: Symbol<'_>) -> bool
     ensures { result ≡ is_some (held_at held.now (string_bytes symbol.entry.«module».now.text) symbol.entry.place) }
 {
     match held.get(symbol.module.text.as_str()) {

@@ -1,9 +1,9 @@
 //! A module that is loaded.
 
-ghost use Rattle.std.specs.Prelude.{◌≡◌, string_bytes};
+ghost use Rattle.std.specs.Prelude.{◌≡◌, [], None, string_bytes};
 ghost use Rattle.wgsl_path.specs.Paths.{path_text};
 ghost use Rattle.wgsl_syntax.specs.View.{unit_tree};
-ghost use Rattle.wesl_link.specs.Meanings.{Answers, entries};
+ghost use Rattle.wesl_link.specs.Meanings.{Answers, entries, names, first_again};
 
 use crate::error::ImportError;
 use crate::table::meanings_of;
@@ -24,6 +24,7 @@ pub struct Module {
     pub meanings: BTreeMap<String, Meaning>,
     ghost printed: { string_bytes text ≡ path_text path },
     ghost tabulated: { Answers meanings (entries (unit_tree unit)) },
+    ghost fresh: { first_again [] (names (entries (unit_tree unit))) ≡ None },
 }
 
 /// The loaded modules, by their printed paths.

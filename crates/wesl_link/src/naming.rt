@@ -31,9 +31,11 @@ pub struct ModuleNaming<'a> {
 }
 
 impl Naming for ModuleNaming<'_> {
-    ghost use Rattle.wesl_link.specs.Printed.{named_or, printed_in};
+    ghost use Rattle.wesl_link.specs.Outcomes.{home_of, loaded};
+    ghost use Rattle.wesl_link.specs.Closing.{held_at};
+    ghost use Rattle.wesl_link.specs.Assembling.{naming};
 
-    ghost gives = { λ n x. named_or (printed_in n.resolutions.now.held n.resolutions.now.modules n.«module».now x) x };
+    ghost gives = { λ n x. naming (loaded n.resolutions.now.modules) (held_at n.resolutions.now.held) (home_of n.«module».now) x };
 
     fn new_name(&self, alloc: Global, name: &str) -> Result<Text, AllocError> {
         match printed(self.resolutions, self.module, name) {

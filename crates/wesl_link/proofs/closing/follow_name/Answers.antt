@@ -1,5 +1,5 @@
 use Rattle.std.proofs.Common.{sym}
-use Rattle.wesl_link.specs.Closing.{onto}
+use Rattle.wesl_link.specs.Reach.{onto}
 use Rattle.wesl_link.proofs.closing.follow_name.Goals as goal
 
 pub returns-in-Declared : goal.returns-in-Declared

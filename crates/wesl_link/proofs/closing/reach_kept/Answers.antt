@@ -1,6 +1,6 @@
 use Rattle.std.proofs.Common.{sym, ap, ◌∙◌}
 use Rattle.wesl_link.specs.Outcomes.{item_at, loaded}
-use Rattle.wesl_link.specs.Closing.{kept}
+use Rattle.wesl_link.specs.Reach.{kept}
 use Rattle.wesl_link.proofs.closing.reach_kept.Goals as goal
 
 pub returns-in_ok-reach-in-Declared : goal.returns-in_ok-reach-in-Declared
