@@ -1,4 +1,13 @@
-pub mod Denoting
-pub mod Hiding
-pub mod Occurring
+pub mod TreeLemmas
+pub mod SetLemmas
+pub mod TableLemmas
+pub mod ScopeLemmas
+pub mod TellLemmas
+pub mod ClosingLemmas
 pub mod Renames
+pub mod ReachLemmas
+pub mod AgreeLemmas
+pub mod LinkLemmas
+pub mod OrderLemmas
+pub mod ResolvedLemmas
+pub mod AssembleLemmas

@@ -1,4 +1,10 @@
+pub mod Scopes
+pub mod Meanings
+pub mod Outcomes
+pub mod Tells
+pub mod Reach
+pub mod Closing
+pub mod Assembling
+pub mod Printed
 pub mod Renaming
-pub mod Occurrences
-pub mod Views
-pub mod Tables
+pub mod Resolved

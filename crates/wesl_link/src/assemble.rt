@@ -1,10 +1,24 @@
 //! The linked unit.
 
-use crate::denote::symbol_at;
-use crate::module::{Module, declared_name};
+ghost use Rattle.std.specs.Prelude.{◌≡◌, ℕ, List, [], ◌∷◌, ◌++◌, IfOk, OnOk, if◌then◌else◌, is_some, string_bytes};
+ghost use Rattle.std.specs.BTreeMap.{IsOrdered};
+ghost use Rattle.std.specs.Str.{bytes_eq};
+ghost use Rattle.std.specs.String.{string_cmp};
+ghost use Rattle.wgsl_syntax.specs.View.{unit_tree, declaration_tree};
+ghost use Rattle.wesl_sources.specs.Occurrences.{Name};
+ghost use Rattle.wesl_sources.specs.Linked.{renamed_declaration, IsLinked};
+ghost use Rattle.wesl_link.specs.Outcomes.{loaded, home_of};
+ghost use Rattle.wesl_link.specs.Closing.{held_at};
+ghost use Rattle.wesl_link.specs.Assembling.{naming, linked_at, linked_module};
+ghost use Rattle.wesl_link.specs.Resolved.{modules_of, declaration_trees, others_linked, assembled, IsResolved};
+
+use crate::closing::is_held;
+use crate::denote::Symbol;
+use crate::module::Module;
 use crate::naming::ModuleNaming;
 use crate::rename::renamed_declaration;
 use crate::rounds::Resolutions;
+use crate::table::declared_name;
 use std::alloc::{AllocError, Global};
 use std::collections::BTreeMap;
 use wesl_resolve::BasicSourceMap;
@@ -39,34 +53,108 @@ impl Resolutions {
 
     /// One unit without imports: the root's held declarations, then those of the other modules in byte order of their
     /// printed paths, each in text order, under their names in the linked unit.
-    pub fn assemble(&self, alloc: Global) -> Result<TranslationUnit, AllocError> {
+    pub fn assemble(&self, alloc: Global) -> Result<TranslationUnit, AllocError>
+        ensures whole { IfOk result (λ unit. unit_tree unit ≡ assembled self.now.modules self.now.held (string_bytes self.now.root)) }
+        ensures linked { IfOk result (λ unit. (keep : List Name) → IsResolved self.now.modules (string_bytes self.now.root) keep self.now.held → IsLinked (modules_of self.now.modules) (string_bytes self.now.root) keep (unit_tree unit)) }
+    {
+        let unit = self.whole_unit(alloc)?;
+        Ok(unit)
+    }
+
+    fn whole_unit(&self, alloc: Global) -> Result<TranslationUnit, AllocError>
+        ensures whole { IfOk result (λ unit. unit_tree unit ≡ assembled self.now.modules self.now.held (string_bytes self.now.root)) }
+        ensures ordered { IfOk result (λ unit. IsOrdered string_cmp self.now.modules) }
+    {
         let mut declarations = Items::new(alloc);
-        for held in self.held_modules(alloc)? {
-            self.add_declarations(alloc, held, &mut declarations)?;
-        }
+        self.add_root(alloc, &mut declarations)?;
+        self.add_others(alloc, &mut declarations)?;
         Ok(TranslationUnit {
             imports: Items::new(alloc),
             global_declarations: declarations,
         })
     }
 
+    fn add_root(
+        &self,
+        alloc: Global,
+        declarations: &mut Items<GlobalDeclarationNode>,
+    ) -> Result<(), AllocError>
+        ensures { OnOk result (declaration_trees declarations.new ≡ declaration_trees declarations.old ++ linked_at (loaded self.now.modules) (held_at self.now.held) (loaded self.now.modules (string_bytes self.now.root))) }
+    {
+        match self.modules.get(self.root.as_str()) {
+            None => Ok(()),
+            Some(root) => self.add_declarations(alloc, root, declarations),
+        }
+    }
+
+    fn add_others(
+        &self,
+        alloc: Global,
+        declarations: &mut Items<GlobalDeclarationNode>,
+    ) -> Result<(), AllocError>
+        ensures trees { OnOk result (declaration_trees declarations.new ≡ declaration_trees declarations.old ++ others_linked self.now.modules self.now.held (string_bytes self.now.root) self.now.modules.entries) }
+        ensures ordered { IsOrdered string_cmp self.now.modules }
+    {
+        for (text, module) in &self.modules {
+            self.add_other(alloc, text.as_str(), module, declarations)?;
+        }
+        Ok(())
+    }
+
+    fn add_other(
+        &self,
+        alloc: Global,
+        text: &str,
+        module: &Module,
+        declarations: &mut Items<GlobalDeclarationNode>,
+    ) -> Result<(), AllocError>
+        ensures { OnOk result (declaration_trees declarations.new ≡ declaration_trees declarations.old ++ (if bytes_eq text.now (string_bytes self.now.root) then [] else linked_module (loaded self.now.modules) (held_at self.now.held) (home_of «module».now))) }
+    {
+        if text == self.root.as_str() {
+            return Ok(());
+        }
+        self.add_declarations(alloc, module, declarations)
+    }
+
     fn add_declarations(
         &self,
         alloc: Global,
-        held: HeldModule<'_>,
+        module: &Module,
         declarations: &mut Items<GlobalDeclarationNode>,
-    ) -> Result<(), AllocError> {
+    ) -> Result<(), AllocError>
+        ensures { OnOk result (declaration_trees declarations.new ≡ declaration_trees declarations.old ++ linked_module (loaded self.now.modules) (held_at self.now.held) (home_of «module».now)) }
+    {
+        for (place, node) in module
+            .unit
+            .global_declarations
+            .as_slice()
+            .iter()
+            .enumerate()
+        {
+            self.add_held(alloc, Symbol { module, place }, node, declarations)?;
+        }
+        Ok(())
+    }
+
+    /// Adds a declaration under its new names, if it is held.
+    fn add_held(
+        &self,
+        alloc: Global,
+        symbol: Symbol<'_>,
+        node: &GlobalDeclarationNode,
+        declarations: &mut Items<GlobalDeclarationNode>,
+    ) -> Result<(), AllocError>
+        ensures { OnOk result (declaration_trees declarations.new ≡ declaration_trees declarations.old ++ (if is_some (held_at self.now.held (string_bytes symbol.entry.«module».now.text) symbol.entry.place) then renamed_declaration (naming (loaded self.now.modules) (held_at self.now.held) (home_of symbol.entry.«module».now)) (declaration_tree node.now.node) ∷ [] else [])) }
+    {
+        if !is_held(&self.held, symbol) {
+            return Ok(());
+        }
         let naming = ModuleNaming {
             resolutions: self,
-            module: held.module,
+            module: symbol.module,
         };
-        for (place, name) in held.places {
-            let Some(node) = held.module.unit.global_declarations.get(*place) else {
-                continue;
-            };
-            let new = renamed_declaration(alloc, naming, name.as_str(), node.node())?;
-            declarations.push(Spanned::new(alloc, new, node.span)?)?;
-        }
+        let new = renamed_declaration(alloc, naming, node.node())?;
+        declarations.push(Spanned::new(alloc, new, node.span)?)?;
         Ok(())
     }
 
@@ -82,10 +170,10 @@ impl Resolutions {
     pub fn add_decls(&self, alloc: Global, map: &mut BasicSourceMap) -> Result<(), AllocError> {
         for held in self.held_modules(alloc)? {
             for (place, name) in held.places {
-                let Some(symbol) = symbol_at(held.module, *place) else {
+                let Some(declaration) = held.module.declaration(*place) else {
                     continue;
                 };
-                let item = declared_name(symbol.declaration);
+                let item = declared_name(declaration);
                 map.add_decl(name.as_str(), &held.module.path, item)?;
             }
         }

@@ -1,11 +1,11 @@
 //! Names of the linked unit that are read otherwise than meant.
 
 use crate::assemble::HeldModule;
-use crate::denote::{Symbol, symbol_at};
 use crate::module::Module;
 use crate::naming::printed;
-use crate::occurrence::{Occurrence, Scope, occurrences_after, occurrences_before};
+use crate::occurrence::{names_before, names_behind, names_in_body};
 use crate::rounds::Resolutions;
+use crate::scope::Scope;
 use std::alloc::{AllocError, Global};
 use std::collections::BTreeMap;
 use wgsl_items::Text;
@@ -35,10 +35,10 @@ impl Resolutions {
         held: HeldModule<'_>,
     ) -> Result<Option<Text>, AllocError> {
         for (place, name) in held.places {
-            let Some(symbol) = symbol_at(held.module, *place) else {
+            let Some(declaration) = held.module.declaration(*place) else {
                 continue;
             };
-            let clash = self.clash_of(alloc, sharing, symbol, name.as_str())?;
+            let clash = self.clash_of(alloc, sharing, held.module, declaration, name.as_str())?;
             if clash.is_some() {
                 return Ok(clash);
             }
@@ -51,20 +51,27 @@ impl Resolutions {
         &self,
         alloc: Global,
         sharing: &Sharing<'_>,
-        symbol: Symbol<'_>,
+        module: &Module,
+        declaration: &GlobalDeclaration,
         name: &str,
     ) -> Result<Option<Text>, AllocError> {
-        let scope = scope_of(alloc, symbol.declaration)?;
-        let before = occurrences_before(alloc, symbol.declaration)?;
-        let clash = self.first_clash(alloc, sharing, symbol.module, &scope, before.as_slice())?;
+        let outside = Scope::module(alloc);
+        let before = names_before(alloc, declaration)?;
+        let clash = self.first_clash(alloc, sharing, module, &outside, before.as_slice())?;
         if clash.is_some() {
             return Ok(clash);
         }
         if is_shared(sharing, name) {
             return Ok(Some(Text::from_str(alloc, name)?));
         }
-        let after = occurrences_after(alloc, symbol.declaration)?;
-        self.first_clash(alloc, sharing, symbol.module, &scope, after.as_slice())
+        let behind = names_behind(alloc, declaration)?;
+        let clash = self.first_clash(alloc, sharing, module, &outside, behind.as_slice())?;
+        if clash.is_some() {
+            return Ok(clash);
+        }
+        let body = scope_of(alloc, declaration)?;
+        let inside = names_in_body(alloc, declaration)?;
+        self.first_clash(alloc, sharing, module, &body, inside.as_slice())
     }
 
     fn first_clash(
@@ -73,20 +80,20 @@ impl Resolutions {
         sharing: &Sharing<'_>,
         module: &Module,
         scope: &Scope<'_>,
-        occurrences: &[Occurrence<'_>],
+        names: &[&str],
     ) -> Result<Option<Text>, AllocError> {
-        for occurrence in occurrences {
-            let clashing = match printed(self, module, occurrence.name) {
+        for occurring in names.iter().copied() {
+            let clashing = match printed(self, module, occurring) {
                 Some(name) => {
-                    if is_shared(sharing, name) || (occurrence.in_body && scope.hides(name)) {
+                    if is_shared(sharing, name) || scope.hides(name) {
                         Some(name)
                     } else {
                         None
                     }
                 }
                 None => {
-                    if sharing.contains_key(occurrence.name) {
-                        Some(occurrence.name)
+                    if sharing.contains_key(occurring) {
+                        Some(occurring)
                     } else {
                         None
                     }

@@ -1,12 +1,14 @@
 //! What names denote.
 
-ghost use Rattle.std.specs.Prelude.{◌≡◌, Option, IfSome, IfNone, None, is_some, string_bytes};
-ghost use Rattle.std.specs.BTreeMap.{get_by_text};
-ghost use Rattle.std.specs.Option.{option_map};
-ghost use Rattle.wesl_link.specs.declared.module.Target.{Target};
-ghost use Rattle.wesl_link.specs.Tables as spec;
+ghost use Rattle.std.specs.Prelude.{◌≡◌, Some, string_bytes};
+ghost use Rattle.wesl_sources.specs.Modules as spec;
+ghost use Rattle.wesl_link.specs.Outcomes.{item_at, item_outcome, outcome, outcome_of, home_of, loaded};
+ghost use Rattle.wesl_link.specs.Tells.{IsFinder, Tells};
 
-use crate::module::{Meaning, Module, Modules, Target};
+use crate::module::{Module, Modules};
+use crate::target::{Meaning, Target};
+use wgsl_items::Text;
+use wgsl_path::ModulePath;
 use wgsl_syntax::GlobalDeclaration;
 
 /// A declaration of a loaded module.
@@ -15,7 +17,12 @@ pub struct Symbol<'a> {
     pub module: &'a Module,
     /// The place of the declaration among those of its module.
     pub place: usize,
-    pub declaration: &'a GlobalDeclaration,
+}
+
+impl<'a> Symbol<'a> {
+    pub fn declaration(&self) -> Option<&'a GlobalDeclaration> {
+        self.module.declaration(self.place)
+    }
 }
 
 /// What a name that no parameter hides denotes.
@@ -24,35 +31,43 @@ pub enum Denoted<'a> {
     Declared(Symbol<'a>),
     /// An item of a module that is not loaded.
     Unloaded(&'a Target),
-    /// Nothing: the module lacks the item.
-    Missing(&'a Target),
-    /// Nothing: the module only imports the item.
-    Private(&'a Target),
+    /// Nothing: the module at this path lacks the item of this name.
+    Missing(&'a ModulePath, &'a Text),
+    /// Nothing: the module at this path only imports the item of this name.
+    Private(&'a ModulePath, &'a Text),
     /// A name that the module neither declares nor imports.
     Free,
 }
 
 /// What a name of a module denotes: its own declaration, else what its import names.
 pub fn denotation<'a>(modules: &'a Modules, module: &'a Module, name: &str) -> Denoted<'a>
-    ensures { spec.answered result ≡ spec.denotation_of modules.now module.now name.now }
+    ensures found { outcome_of result ≡ outcome (loaded modules.now) (home_of module.now) name.now }
+    ensures means { (ms : spec.Modules) → IsFinder ms (loaded modules.now) → loaded modules.now (string_bytes module.now.text) ≡ Some (home_of module.now) → Tells ms (string_bytes module.now.text) name.now (outcome_of result) }
+{
+    looked_up(modules, module, name)
+}
+
+fn looked_up<'a>(modules: &'a Modules, module: &'a Module, name: &str) -> Denoted<'a>
+    ensures { outcome_of result ≡ outcome (loaded modules.now) (home_of module.now) name.now }
 {
     match module.meanings.get(name) {
         None => Denoted::Free,
-        Some(Meaning::Declared(place)) => match symbol_at(module, *place) {
-            None => Denoted::Free,
-            Some(symbol) => Denoted::Declared(symbol),
-        },
+        Some(Meaning::Declared(place)) => Denoted::Declared(Symbol {
+            module,
+            place: *place,
+        }),
         Some(Meaning::Imported(target)) => sought(modules, target),
+        Some(Meaning::Bare(item)) => Denoted::Missing(&module.path, item),
     }
 }
 
 fn sought<'a>(modules: &'a Modules, target: &'a Target) -> Denoted<'a>
-    ensures { spec.answered result ≡ spec.imported_from (get_by_text modules.now (string_bytes target.now.text)) target.now }
+    ensures { outcome_of result ≡ item_at (record { home = string_bytes target.now.text; name = target.now.item }) (loaded modules.now (string_bytes target.now.text)) }
 {
     match item_of(modules, target.text.as_str(), target.item.as_str()) {
         Item::Declared(symbol) => Denoted::Declared(symbol),
-        Item::Imported => Denoted::Private(target),
-        Item::Absent => Denoted::Missing(target),
+        Item::Imported => Denoted::Private(&target.path, &target.item),
+        Item::Absent => Denoted::Missing(&target.path, &target.item),
         Item::Unloaded => Denoted::Unloaded(target),
     }
 }
@@ -69,28 +84,17 @@ pub enum Item<'a> {
 
 /// What the module at a printed path has under a name.
 pub fn item_of<'a>(modules: &'a Modules, text: &str, name: &str) -> Item<'a>
-    ensures { (t : Target) → t.item ≡ name.now → spec.item_answered t result ≡ spec.imported_from (get_by_text modules.now text.now) t }
+    ensures { item_outcome (record { home = text.now; name = name.now }) result ≡ item_at (record { home = text.now; name = name.now }) (loaded modules.now text.now) }
 {
     let Some(module) = modules.get(text) else {
         return Item::Unloaded;
     };
     match module.meanings.get(name) {
         None => Item::Absent,
-        Some(Meaning::Imported(_)) => Item::Imported,
-        Some(Meaning::Declared(place)) => match symbol_at(module, *place) {
-            None => Item::Absent,
-            Some(symbol) => Item::Declared(symbol),
-        },
+        Some(Meaning::Imported(_) | Meaning::Bare(_)) => Item::Imported,
+        Some(Meaning::Declared(place)) => Item::Declared(Symbol {
+            module,
+            place: *place,
+        }),
     }
-}
-
-pub fn symbol_at<'a>(module: &'a Module, place: usize) -> Option<Symbol<'a>>
-    ensures symbol { option_map spec.symbol_denotation result ≡ spec.declared_at module.now place }
-    ensures there { option_map (λ s. s.declaration.now) result ≡ spec.declaration_at module.now place }
-{
-    Some(Symbol {
-        module,
-        place,
-        declaration: module.declaration(place)?,
-    })
 }

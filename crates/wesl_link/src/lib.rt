@@ -3,13 +3,19 @@
 
 mod assemble;
 mod clash;
+mod closing;
 mod denote;
 mod error;
+mod linking;
+mod missing;
 mod module;
 mod naming;
 mod occurrence;
 mod rename;
 mod rounds;
+mod scope;
+mod table;
+mod target;
 
 pub use error::ImportError;
 pub use rounds::{Resolutions, resolve_lazy};

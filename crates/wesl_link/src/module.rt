@@ -1,28 +1,18 @@
-//! A module that is loaded, and what its names mean.
+//! A module that is loaded.
+
+ghost use Rattle.std.specs.Prelude.{◌≡◌, [], None, string_bytes};
+ghost use Rattle.wgsl_path.specs.Paths.{path_text};
+ghost use Rattle.wgsl_syntax.specs.View.{unit_tree};
+ghost use Rattle.wesl_link.specs.Meanings.{Answers, entries, names, first_again};
 
 use crate::error::ImportError;
+use crate::table::meanings_of;
+use crate::target::Meaning;
 use std::alloc::{AllocError, Global};
 use std::collections::BTreeMap;
 use wgsl_items::{CloneIn, Text};
 use wgsl_path::ModulePath;
-use wgsl_syntax::{Attribute, GlobalDeclaration, ImportContent, ImportStatement, TranslationUnit};
-
-/// An item of a module, as an import names it.
-#[derive(Debug, Drop)]
-pub struct Target {
-    pub module: ModulePath,
-    /// The module's path as it is printed.
-    pub text: String,
-    pub item: Text,
-}
-
-/// What a name of a module's own scope means.
-#[derive(Debug, Drop)]
-pub enum Meaning {
-    /// The module's declaration at this place.
-    Declared(usize),
-    Imported(Target),
-}
+use wgsl_syntax::{Attribute, GlobalDeclaration, TranslationUnit};
 
 /// A module that is loaded.
 #[derive(Debug, Drop)]
@@ -32,22 +22,28 @@ pub struct Module {
     pub text: String,
     pub unit: TranslationUnit,
     pub meanings: BTreeMap<String, Meaning>,
+    ghost printed: { string_bytes text ≡ path_text path },
+    ghost tabulated: { Answers meanings (entries (unit_tree unit)) },
+    ghost fresh: { first_again [] (names (entries (unit_tree unit))) ≡ None },
 }
 
 /// The loaded modules, by their printed paths.
 pub type Modules = BTreeMap<String, Module>;
 
 impl Module {
-    ghost use Rattle.std.specs.Prelude.{◌≡◌};
-    ghost use Rattle.std.specs.Option.{option_copied};
-    ghost use Rattle.wesl_link.specs.Tables.{declaration_at};
+    ghost use Rattle.std.specs.Prelude.{◌≡◌, slice_get};
+    ghost use Rattle.std.specs.Option.{option_map};
+    ghost use Rattle.wgsl_syntax.specs.View.{unit_tree, declaration_tree};
+    ghost use Rattle.wesl_link.specs.Tells.{Opens};
 
     /// A module with the table of its names. It is refused where a name is declared or imported twice.
     pub fn new(
         alloc: Global,
         path: &ModulePath,
         unit: TranslationUnit,
-    ) -> Result<Module, ImportError> {
+    ) -> Result<Module, ImportError>
+        ensures { Opens path.now unit result }
+    {
         let meanings = meanings_of(alloc, path, &unit)?;
         Ok(Module {
             path: path.clone_in(alloc)?,
@@ -57,86 +53,15 @@ impl Module {
         })
     }
 
+    /// The declaration at a place.
+    #[tactic(auto, using(crate::proofs::ScopeLemmas::declaration_place))]
     pub fn declaration(&self, place: usize) -> Option<&GlobalDeclaration>
-        ensures { option_copied result ≡ declaration_at self.now place }
+        ensures { option_map (λ d. declaration_tree d.now) result ≡ slice_get (unit_tree self.now.unit).declarations place }
     {
-        Some(self.unit.global_declarations.get(place)?.node())
-    }
-}
-
-fn meanings_of(
-    alloc: Global,
-    path: &ModulePath,
-    unit: &TranslationUnit,
-) -> Result<BTreeMap<String, Meaning>, ImportError> {
-    let mut meanings = BTreeMap::new(alloc);
-    for import in unit.imports.as_slice() {
-        let target = target_of(alloc, path, import)?;
-        add_meaning(
-            alloc,
-            path,
-            &mut meanings,
-            local_name(import),
-            Meaning::Imported(target),
-        )?;
-    }
-    for (place, declaration) in unit.global_declarations.as_slice().iter().enumerate() {
-        let name = declared_name(declaration.node());
-        add_meaning(alloc, path, &mut meanings, name, Meaning::Declared(place))?;
-    }
-    Ok(meanings)
-}
-
-fn add_meaning(
-    alloc: Global,
-    path: &ModulePath,
-    meanings: &mut BTreeMap<String, Meaning>,
-    name: &str,
-    meaning: Meaning,
-) -> Result<(), ImportError> {
-    if meanings.contains_key(name) {
-        let name = Text::from_str(alloc, name)?;
-        return Err(ImportError::DuplicateSymbol(path.clone_in(alloc)?, name));
-    }
-    meanings.insert(String::from_str(alloc, name)?, meaning)?;
-    Ok(())
-}
-
-/// The name that an import brings into scope.
-fn local_name(import: &ImportStatement) -> &str {
-    match &import.content {
-        ImportContent::Item(item) => match &item.rename {
-            Some(name) => name.as_str(),
-            None => item.ident.as_str(),
-        },
-    }
-}
-
-/// What an import names. One without a path names an item of the module itself.
-fn target_of(
-    alloc: Global,
-    path: &ModulePath,
-    import: &ImportStatement,
-) -> Result<Target, AllocError> {
-    let module = match &import.path {
-        Some(path) => path.clone_in(alloc)?,
-        None => path.clone_in(alloc)?,
-    };
-    let item = match &import.content {
-        ImportContent::Item(item) => item.ident.name.clone_in(alloc)?,
-    };
-    Ok(Target {
-        text: module.to_string(alloc)?,
-        module,
-        item,
-    })
-}
-
-/// The name that a declaration declares.
-pub fn declared_name(declaration: &GlobalDeclaration) -> &str {
-    match declaration {
-        GlobalDeclaration::Declaration(declaration) => declaration.ident.as_str(),
-        GlobalDeclaration::Function(function) => function.ident.as_str(),
+        match self.unit.global_declarations.get(place) {
+            None => None,
+            Some(declaration) => Some(declaration.node()),
+        }
     }
 }
 

@@ -2,13 +2,15 @@
 
 ghost use Rattle.std.specs.Prelude.{◌≡◌, ℕ, List, IfOk, if◌then◌else◌, string_bytes};
 ghost use Rattle.std.specs.Option.{option_copied};
-ghost use Rattle.wesl_link.specs.Tables as spec;
-ghost use Rattle.wesl_link.specs.Views.{hidden};
+ghost use Rattle.wesl_sources.specs.Occurrences.{is_among};
+ghost use Rattle.wesl_link.specs.Closing.{held_at};
+ghost use Rattle.wesl_link.specs.Printed.{printed_in};
 
 use crate::denote::{Denoted, Symbol, denotation};
+use crate::linking::Held;
 use crate::module::Module;
-use crate::occurrence::Scope;
-use crate::rounds::{Held, Resolutions};
+use crate::rounds::Resolutions;
+use crate::scope::Scope;
 use std::alloc::{AllocError, Global};
 use wgsl_items::Text;
 
@@ -29,9 +31,11 @@ pub struct ModuleNaming<'a> {
 }
 
 impl Naming for ModuleNaming<'_> {
-    ghost use Rattle.wesl_link.specs.Tables.{named_or, printed_in};
+    ghost use Rattle.wesl_link.specs.Outcomes.{home_of, loaded};
+    ghost use Rattle.wesl_link.specs.Closing.{held_at};
+    ghost use Rattle.wesl_link.specs.Assembling.{naming};
 
-    ghost gives = { λ n x. named_or (printed_in n.resolutions.now.held n.resolutions.now.modules n.module.now x) x };
+    ghost gives = { λ n x. naming (loaded n.resolutions.now.modules) (held_at n.resolutions.now.held) (home_of n.«module».now) x };
 
     fn new_name(&self, alloc: Global, name: &str) -> Result<Text, AllocError> {
         match printed(self.resolutions, self.module, name) {
@@ -49,7 +53,7 @@ pub struct BodyNaming<'s, 'a, N> {
 }
 
 impl<N: Naming> Naming for BodyNaming<'_, '_, N> {
-    ghost gives = { λ n x. if hidden n.scope.now x then x else N.gives n.outer x };
+    ghost gives = { λ n x. if is_among x n.scope.now then x else N.gives n.outer x };
 
     fn new_name(&self, alloc: Global, name: &str) -> Result<Text, AllocError> {
         if self.scope.hides(name) {
@@ -61,17 +65,18 @@ impl<N: Naming> Naming for BodyNaming<'_, '_, N> {
 
 /// The printed name of the held symbol that a name of a module denotes.
 pub fn printed<'a>(resolutions: &'a Resolutions, module: &'a Module, name: &str) -> Option<&'a str>
-    ensures { option_copied result ≡ spec.printed_in resolutions.now.held resolutions.now.modules module.now name.now }
+    ensures { option_copied result ≡ printed_in resolutions.now.held resolutions.now.modules «module».now name.now }
 {
     match denotation(&resolutions.modules, module, name) {
         Denoted::Declared(symbol) => held_name(&resolutions.held, symbol),
-        Denoted::Unloaded(_) | Denoted::Missing(_) | Denoted::Private(_) | Denoted::Free => None,
+        Denoted::Unloaded(_) | Denoted::Missing(_, _) | Denoted::Private(_, _) | Denoted::Free =>
+            None,
     }
 }
 
 /// The printed name of a symbol, where it is held.
 pub fn held_name<'a>(held: &'a Held, symbol: Symbol<'_>) -> Option<&'a str>
-    ensures { option_copied result ≡ spec.held_name_at held.now (string_bytes symbol.entry.module.now.text) symbol.entry.place }
+    ensures { option_copied result ≡ held_at held.now (string_bytes symbol.entry.«module».now.text) symbol.entry.place }
 {
     let name = held.get(symbol.module.text.as_str())?.get(&symbol.place)?;
     Some(name.as_str())

@@ -1,14 +1,16 @@
 //! Copies of trees with new names in the place of names.
 
-ghost use Rattle.std.specs.Prelude.{◌≡◌, map, Some, None, IfOk};
+ghost use Rattle.std.specs.Prelude.{◌≡◌, [], map, Some, None, IfOk};
 ghost use Rattle.std.specs.Option.{option_map};
 ghost use Rattle.wgsl_syntax.specs.View.{tree, node_tree, type_tree, attribute_tree, attributes_tree, block_tree, statement_tree, parameter_tree, declaration_tree};
 ghost use Rattle.wgsl_syntax.specs.declared.declaration.GlobalDeclaration.TheVariants as global;
 ghost use Rattle.wgsl_syntax.specs.declared.expression.Expression.TheVariants as variants;
-ghost use Rattle.wesl_link.specs.Renaming as spec;
+ghost use Rattle.wesl_sources.specs.Occurrences.{parameter_names};
+ghost use Rattle.wesl_sources.specs.Linked as spec;
+ghost use Rattle.wesl_link.specs.Renaming.{renamed_at};
 
 use crate::naming::{BodyNaming, Naming};
-use crate::occurrence::Scope;
+use crate::scope::Scope;
 use std::alloc::{AllocError, Global};
 use wgsl_items::{CloneIn, Items, Text};
 use wgsl_path::{Ident, Spanned};
@@ -19,39 +21,47 @@ use wgsl_syntax::{
     TemplateArgs, TypeExpression, UnaryExpression,
 };
 
-/// A declaration under a new name, every name in it renamed.
+/// A declaration with new names: its own, and every name in it that no parameter hides.
 pub fn renamed_declaration<N: Naming + Copy>(
     alloc: Global,
     naming: N,
-    name: &str,
     declaration: &GlobalDeclaration,
-) -> Result<GlobalDeclaration, AllocError> {
+) -> Result<GlobalDeclaration, AllocError>
+    ensures { IfOk result (λ renamed. declaration_tree renamed ≡ spec.renamed_declaration (N.gives naming) (declaration_tree declaration.now)) }
+{
     match declaration {
         GlobalDeclaration::Declaration(declaration) => Ok(GlobalDeclaration::Declaration(
-            renamed_value(alloc, &naming, name, declaration)?,
+            renamed_value(alloc, &naming, declaration)?,
         )),
         GlobalDeclaration::Function(function) => {
-            Ok(GlobalDeclaration::Function(renamed_function(alloc, naming, name, function)?))
+            Ok(GlobalDeclaration::Function(renamed_function(alloc, naming, function)?))
         }
     }
 }
 
-fn ident_of(alloc: Global, name: &str) -> Result<Ident, AllocError> {
-    Ok(Ident::new(Text::from_str(alloc, name)?))
+fn renamed_ident<N: Naming>(alloc: Global, naming: &N, ident: &Ident) -> Result<Ident, AllocError>
+    ensures { IfOk result (λ renamed. renamed.name ≡ N.gives naming.now ident.now.name) }
+{
+    Ok(Ident::new(naming.new_name(alloc, ident.as_str())?))
 }
 
 fn renamed_value<N: Naming>(
     alloc: Global,
     naming: &N,
-    name: &str,
     declaration: &Declaration,
-) -> Result<Declaration, AllocError> {
+) -> Result<Declaration, AllocError>
+    ensures { IfOk result (λ renamed. declaration_tree (global.Declaration renamed) ≡ spec.renamed_declaration (N.gives naming.now) (declaration_tree (global.Declaration declaration.now))) }
+{
+    let attributes = renamed_attributes(alloc, naming, &declaration.attributes)?;
+    let ident = renamed_ident(alloc, naming, &declaration.ident)?;
+    let ty = renamed_maybe(alloc, naming, &declaration.ty)?;
+    let initializer = renamed_maybe_node(alloc, naming, &declaration.initializer)?;
     Ok(Declaration {
-        attributes: renamed_attributes(alloc, naming, &declaration.attributes)?,
+        attributes,
         kind: declaration.kind,
-        ident: ident_of(alloc, name)?,
-        ty: renamed_maybe(alloc, naming, &declaration.ty)?,
-        initializer: renamed_maybe_node(alloc, naming, &declaration.initializer)?,
+        ident,
+        ty,
+        initializer,
     })
 }
 
@@ -60,7 +70,7 @@ fn renamed_maybe<N: Naming>(
     naming: &N,
     ty: &Option<TypeExpression>,
 ) -> Result<Option<TypeExpression>, AllocError>
-    ensures { IfOk result (λ renamed. option_map type_tree renamed ≡ option_map (spec.renamed_type (N.gives naming.now)) (option_map type_tree ty.now)) }
+    ensures { IfOk result (λ renamed. option_map type_tree renamed ≡ option_map (spec.renamed_type (N.gives naming.now) []) (option_map type_tree ty.now)) }
 {
     match ty {
         None => Ok(None),
@@ -71,16 +81,23 @@ fn renamed_maybe<N: Naming>(
 fn renamed_function<N: Naming + Copy>(
     alloc: Global,
     naming: N,
-    name: &str,
     function: &Function,
-) -> Result<Function, AllocError> {
+) -> Result<Function, AllocError>
+    ensures { IfOk result (λ renamed. declaration_tree (global.Function renamed) ≡ spec.renamed_declaration (N.gives naming) (declaration_tree (global.Function function.now))) }
+{
+    let attributes = renamed_attributes(alloc, &naming, &function.attributes)?;
+    let ident = renamed_ident(alloc, &naming, &function.ident)?;
+    let parameters = renamed_parameters(alloc, &naming, function.parameters.as_slice())?;
+    let return_attributes = renamed_attributes(alloc, &naming, &function.return_attributes)?;
+    let return_type = renamed_maybe(alloc, &naming, &function.return_type)?;
+    let body = renamed_body(alloc, naming, function)?;
     Ok(Function {
-        attributes: renamed_attributes(alloc, &naming, &function.attributes)?,
-        ident: ident_of(alloc, name)?,
-        parameters: renamed_parameters(alloc, &naming, function.parameters.as_slice())?,
-        return_attributes: renamed_attributes(alloc, &naming, &function.return_attributes)?,
-        return_type: renamed_maybe(alloc, &naming, &function.return_type)?,
-        body: renamed_body(alloc, naming, function)?,
+        attributes,
+        ident,
+        parameters,
+        return_attributes,
+        return_type,
+        body,
     })
 }
 
@@ -88,13 +105,16 @@ fn renamed_body<N: Naming + Copy>(
     alloc: Global,
     naming: N,
     function: &Function,
-) -> Result<CompoundStatement, AllocError> {
+) -> Result<CompoundStatement, AllocError>
+    ensures { IfOk result (λ body. block_tree body ≡ spec.renamed_block (N.gives naming) (parameter_names (map parameter_tree function.now.parameters)) (block_tree function.now.body)) }
+{
     let scope = Scope::body(alloc, function.parameters.as_slice())?;
-    let body = BodyNaming {
+    let inside = BodyNaming {
         outer: naming,
         scope: &scope,
     };
-    renamed_block(alloc, &body, &function.body)
+    let body = renamed_block(alloc, &inside, &function.body)?;
+    Ok(body)
 }
 
 fn renamed_parameters<N: Naming>(
@@ -130,7 +150,7 @@ fn renamed_maybe_node<N: Naming>(
     naming: &N,
     node: &Option<ExpressionNode>,
 ) -> Result<Option<ExpressionNode>, AllocError>
-    ensures { IfOk result (λ renamed. option_map node_tree renamed ≡ option_map (spec.renamed (N.gives naming.now)) (option_map node_tree node.now)) }
+    ensures { IfOk result (λ renamed. option_map node_tree renamed ≡ option_map (spec.renamed (N.gives naming.now) []) (option_map node_tree node.now)) }
 {
     match node {
         None => Ok(None),
@@ -142,10 +162,14 @@ fn renamed_block<N: Naming>(
     alloc: Global,
     naming: &N,
     block: &CompoundStatement,
-) -> Result<CompoundStatement, AllocError> {
+) -> Result<CompoundStatement, AllocError>
+    ensures { IfOk result (λ renamed. block_tree renamed ≡ spec.renamed_block (N.gives naming.now) [] (block_tree block.now)) }
+{
+    let attributes = renamed_attributes(alloc, naming, &block.attributes)?;
+    let statements = renamed_statements(alloc, naming, block.statements.as_slice())?;
     Ok(CompoundStatement {
-        attributes: renamed_attributes(alloc, naming, &block.attributes)?,
-        statements: renamed_statements(alloc, naming, block.statements.as_slice())?,
+        attributes,
+        statements,
     })
 }
 
@@ -156,7 +180,7 @@ fn renamed_name<N: Naming>(
     path: &Option<ModulePath>,
     name: &str,
 ) -> Result<Text, AllocError>
-    ensures { IfOk result (λ new. new ≡ spec.renamed_at (N.gives naming.now) path.now name.now) }
+    ensures { IfOk result (λ new. new ≡ renamed_at (N.gives naming.now) path.now name.now) }
 {
     match path {
         None => naming.new_name(alloc, name),
@@ -169,7 +193,7 @@ fn renamed_statements<N: Naming>(
     naming: &N,
     statements: &[StatementNode],
 ) -> Result<Items<StatementNode>, AllocError>
-    ensures { IfOk result (λ renamed. map (λ n. statement_tree n.node) renamed ≡ map (λ n. spec.renamed_statement (N.gives naming.now) (statement_tree n.node)) statements.now) }
+    ensures { IfOk result (λ renamed. map (λ n. statement_tree n.node) renamed ≡ map (λ n. spec.renamed_statement (N.gives naming.now) [] (statement_tree n.node)) statements.now) }
 {
     let mut renamed = Items::new(alloc);
     for statement in statements {
@@ -184,7 +208,7 @@ fn renamed_statement<N: Naming>(
     naming: &N,
     statement: &Statement,
 ) -> Result<Statement, AllocError>
-    ensures { IfOk result (λ renamed. statement_tree renamed ≡ spec.renamed_statement (N.gives naming.now) (statement_tree statement.now)) }
+    ensures { IfOk result (λ renamed. statement_tree renamed ≡ spec.renamed_statement (N.gives naming.now) [] (statement_tree statement.now)) }
 {
     match statement {
         Statement::Return(statement) => {
@@ -201,7 +225,7 @@ fn renamed_attributes<N: Naming>(
     naming: &N,
     attributes: &Attributes,
 ) -> Result<Attributes, AllocError>
-    ensures { IfOk result (λ renamed. attributes_tree renamed ≡ spec.renamed_attributes (N.gives naming.now) (attributes_tree attributes.now)) }
+    ensures { IfOk result (λ renamed. attributes_tree renamed ≡ spec.renamed_attributes (N.gives naming.now) [] (attributes_tree attributes.now)) }
 {
     let renamed = renamed_each_attribute(alloc, naming, attributes.as_slice())?;
     Ok(renamed)
@@ -212,7 +236,7 @@ fn renamed_each_attribute<N: Naming>(
     naming: &N,
     attributes: &[AttributeNode],
 ) -> Result<Attributes, AllocError>
-    ensures { IfOk result (λ renamed. attributes_tree renamed ≡ map (λ n. spec.renamed_attribute (N.gives naming.now) (attribute_tree n.node)) attributes.now) }
+    ensures { IfOk result (λ renamed. attributes_tree renamed ≡ map (λ n. spec.renamed_attribute (N.gives naming.now) [] (attribute_tree n.node)) attributes.now) }
 {
     let mut renamed = Items::new(alloc);
     for attribute in attributes {
@@ -227,7 +251,7 @@ fn renamed_attribute<N: Naming>(
     naming: &N,
     attribute: &Attribute,
 ) -> Result<Attribute, AllocError>
-    ensures { IfOk result (λ renamed. attribute_tree renamed ≡ spec.renamed_attribute (N.gives naming.now) (attribute_tree attribute.now)) }
+    ensures { IfOk result (λ renamed. attribute_tree renamed ≡ spec.renamed_attribute (N.gives naming.now) [] (attribute_tree attribute.now)) }
 {
     match attribute {
         Attribute::Fragment => Ok(Attribute::Fragment),
@@ -242,7 +266,7 @@ fn renamed_expression<N: Naming>(
     naming: &N,
     expression: &Expression,
 ) -> Result<Expression, AllocError>
-    ensures { IfOk result (λ renamed. tree renamed ≡ spec.renamed (N.gives naming.now) (tree expression.now)) }
+    ensures { IfOk result (λ renamed. tree renamed ≡ spec.renamed (N.gives naming.now) [] (tree expression.now)) }
 {
     match expression {
         Expression::Literal(literal) => Ok(Expression::Literal(*literal)),
@@ -269,7 +293,7 @@ fn renamed_node<N: Naming>(
     naming: &N,
     node: &ExpressionNode,
 ) -> Result<ExpressionNode, AllocError>
-    ensures { IfOk result (λ renamed. node_tree renamed ≡ spec.renamed (N.gives naming.now) (node_tree node.now)) }
+    ensures { IfOk result (λ renamed. node_tree renamed ≡ spec.renamed (N.gives naming.now) [] (node_tree node.now)) }
 {
     Spanned::new(
         alloc,
@@ -284,7 +308,7 @@ fn renamed_nodes<N: Naming>(
     naming: &N,
     nodes: &[ExpressionNode],
 ) -> Result<Items<ExpressionNode>, AllocError>
-    ensures { IfOk result (λ renamed. map node_tree renamed ≡ map (λ n. spec.renamed (N.gives naming.now) (node_tree n)) nodes.now) }
+    ensures { IfOk result (λ renamed. map node_tree renamed ≡ map (λ n. spec.renamed (N.gives naming.now) [] (node_tree n)) nodes.now) }
 {
     let mut renamed = Items::new(alloc);
     for node in nodes {
@@ -300,7 +324,7 @@ fn renamed_binary<N: Naming>(
     naming: &N,
     x: &BinaryExpression,
 ) -> Result<BinaryExpression, AllocError>
-    ensures { IfOk result (λ renamed. tree (variants.Binary renamed) ≡ spec.renamed (N.gives naming.now) (tree (variants.Binary x.now))) }
+    ensures { IfOk result (λ renamed. tree (variants.Binary renamed) ≡ spec.renamed (N.gives naming.now) [] (tree (variants.Binary x.now))) }
 {
     Ok(BinaryExpression {
         operator: x.operator,
@@ -316,7 +340,7 @@ fn renamed_call<N: Naming>(
     naming: &N,
     x: &FunctionCall,
 ) -> Result<FunctionCall, AllocError>
-    ensures { IfOk result (λ renamed. tree (variants.FunctionCall renamed) ≡ spec.renamed (N.gives naming.now) (tree (variants.FunctionCall x.now))) }
+    ensures { IfOk result (λ renamed. tree (variants.FunctionCall renamed) ≡ spec.renamed (N.gives naming.now) [] (tree (variants.FunctionCall x.now))) }
 {
     Ok(FunctionCall {
         ty: renamed_type(alloc, naming, &x.ty)?,
@@ -330,7 +354,7 @@ fn renamed_type<N: Naming>(
     naming: &N,
     x: &TypeExpression,
 ) -> Result<TypeExpression, AllocError>
-    ensures { IfOk result (λ renamed. type_tree renamed ≡ spec.renamed_type (N.gives naming.now) (type_tree x.now)) }
+    ensures { IfOk result (λ renamed. type_tree renamed ≡ spec.renamed_type (N.gives naming.now) [] (type_tree x.now)) }
 {
     let path = x.path.clone_in(alloc)?;
     let name = renamed_name(alloc, naming, &x.path, x.ident.as_str())?;
@@ -349,7 +373,7 @@ fn renamed_maybe_template<N: Naming>(
     arguments: &TemplateArgs,
 ) -> Result<TemplateArgs, AllocError>
     ensures { IfOk result (λ renamed. option_map (map (λ a. node_tree a.expression)) renamed
-        ≡ option_map (map (λ a. spec.renamed (N.gives naming.now) (node_tree a.expression))) arguments.now) }
+        ≡ option_map (map (λ a. spec.renamed (N.gives naming.now) [] (node_tree a.expression))) arguments.now) }
 {
     match arguments {
         None => Ok(None),
@@ -363,7 +387,7 @@ fn renamed_template<N: Naming>(
     naming: &N,
     arguments: &[TemplateArg],
 ) -> Result<Items<TemplateArg>, AllocError>
-    ensures { IfOk result (λ renamed. map (λ a. node_tree a.expression) renamed ≡ map (λ a. spec.renamed (N.gives naming.now) (node_tree a.expression)) arguments.now) }
+    ensures { IfOk result (λ renamed. map (λ a. node_tree a.expression) renamed ≡ map (λ a. spec.renamed (N.gives naming.now) [] (node_tree a.expression)) arguments.now) }
 {
     let mut renamed = Items::new(alloc);
     for argument in arguments {

@@ -1,28 +1,14 @@
 //! Loads what the kept names reach, a round of modules after another.
 
-use crate::denote::{Denoted, Item, Symbol, denotation, item_of, symbol_at};
+use crate::closing::{close_asked, close_root};
 use crate::error::ImportError;
-use crate::module::{Module, Modules, Target, declared_name, entry_points};
-use crate::occurrence::occurrences;
+use crate::linking::{Asked, Held, Linking};
+use crate::module::{Module, Modules, entry_points};
 use std::alloc::{AllocError, Global};
-use std::collections::{BTreeMap, BTreeSet};
-use wesl_resolve::{EscapeMangler, Resolver};
+use wesl_resolve::Resolver;
 use wgsl_items::{CloneIn, Items, Text};
 use wgsl_path::ModulePath;
 use wgsl_syntax::TranslationUnit;
-
-/// The reached declarations: for each module, by its printed path, their places there and their names in the linked unit.
-pub type Held = BTreeMap<String, BTreeMap<usize, Text>>;
-
-/// The modules that are asked for and not loaded, by their printed paths.
-type Asked = BTreeMap<String, AskedModule>;
-
-/// A module that is asked for, and the names that are sought there.
-#[derive(Debug, Drop)]
-struct AskedModule {
-    path: ModulePath,
-    names: BTreeSet<String>,
-}
 
 /// The modules that linking loaded, and what is reached in them.
 #[derive(Debug, Drop)]
@@ -54,20 +40,23 @@ pub fn resolve_lazy<R: Resolver>(
     let mut modules = Modules::new(alloc);
     modules.insert(root.clone()?, Module::new(alloc, path, unit)?)?;
     let mut held = Held::new(alloc);
-    let mut asked = close_root(
-        alloc,
-        &modules,
-        root.as_str(),
-        path,
-        kept.as_slice(),
-        &mut held,
-    )?;
+    let start = Linking {
+        modules: &modules,
+        root: root.as_str(),
+        keep: kept.as_slice(),
+    };
+    let mut asked = close_root(alloc, &start, path, &mut held)?;
     for _round in 1..max_modules {
         if asked.is_empty() {
             break;
         }
         load_all(alloc, resolver, &mut modules, &asked, max_modules)?;
-        asked = close_asked(alloc, &modules, root.as_str(), &asked, &mut held)?;
+        let linking = Linking {
+            modules: &modules,
+            root: root.as_str(),
+            keep: kept.as_slice(),
+        };
+        asked = close_asked(alloc, &linking, &asked, &mut held)?;
     }
     match asked.first_key_value() {
         Some((_, module)) => Err(ImportError::TooManyModules(module.path.clone_in(alloc)?)),
@@ -109,207 +98,4 @@ fn load_all<R: Resolver>(
         modules.insert(text.clone()?, Module::new(alloc, &module.path, unit)?)?;
     }
     Ok(())
-}
-
-/// Reaches what the kept names of the root lead to.
-fn close_root(
-    alloc: Global,
-    modules: &Modules,
-    root: &str,
-    path: &ModulePath,
-    kept: &[Text],
-    held: &mut Held,
-) -> Result<Asked, ImportError> {
-    let mut closing = Closing::new(alloc, modules, root, held);
-    for name in kept {
-        match item_of(modules, root, name.as_str()) {
-            Item::Declared(symbol) => closing.reach(symbol)?,
-            Item::Imported | Item::Absent | Item::Unloaded => {
-                return Err(ImportError::MissingDecl(path.clone_in(alloc)?, name.clone_in(alloc)?));
-            }
-        }
-    }
-    closing.finish()
-}
-
-/// Reaches what is sought in newly loaded modules, and what that leads to.
-fn close_asked(
-    alloc: Global,
-    modules: &Modules,
-    root: &str,
-    asked: &Asked,
-    held: &mut Held,
-) -> Result<Asked, ImportError> {
-    let mut closing = Closing::new(alloc, modules, root, held);
-    for (text, module) in asked {
-        for name in &module.names {
-            match item_of(modules, text.as_str(), name.as_str()) {
-                Item::Declared(symbol) => closing.reach(symbol)?,
-                Item::Imported | Item::Absent | Item::Unloaded => closing.is_missing = true,
-            }
-        }
-    }
-    closing.finish()
-}
-
-/// The reached declarations while they are closed over the loaded modules.
-#[derive(Drop)]
-struct Closing<'a> {
-    alloc: Global,
-    modules: &'a Modules,
-    root: &'a str,
-    held: &'a mut Held,
-    /// What was reached in this round, in the order in which it was.
-    reached: Vec<Symbol<'a>>,
-    asked: Asked,
-    /// Whether some reached occurrence denotes nothing.
-    is_missing: bool,
-}
-
-impl<'a> Closing<'a> {
-    fn new(alloc: Global, modules: &'a Modules, root: &'a str, held: &'a mut Held) -> Closing<'a> {
-        Closing {
-            alloc,
-            modules,
-            root,
-            held,
-            reached: Vec::new(alloc),
-            asked: Asked::new(alloc),
-            is_missing: false,
-        }
-    }
-
-    fn reach(&mut self, symbol: Symbol<'a>) -> Result<(), AllocError> {
-        if is_held(self.held, symbol) {
-            return Ok(());
-        }
-        let name = printed_name(self.alloc, self.root, symbol)?;
-        hold(self.alloc, self.held, symbol, name)?;
-        self.reached.push(symbol)?;
-        Ok(())
-    }
-
-    /// Follows the occurrences of what is reached, and answers what is asked for.
-    fn finish(mut self) -> Result<Asked, ImportError> {
-        for at in 0..usize::MAX {
-            let Some(symbol) = self.reached.get(at) else {
-                return self.outcome();
-            };
-            let symbol = *symbol;
-            self.follow(symbol)?;
-        }
-        // Memory has no room for so many.
-        self.outcome()
-    }
-
-    fn outcome(self) -> Result<Asked, ImportError> {
-        if self.is_missing
-            && let Some(error) = first_missing(self.alloc, self.modules, self.held)?
-        {
-            return Err(error);
-        }
-        Ok(self.asked)
-    }
-
-    fn follow(&mut self, symbol: Symbol<'a>) -> Result<(), AllocError> {
-        for occurrence in occurrences(self.alloc, symbol.declaration)? {
-            match denotation(self.modules, symbol.module, occurrence.name) {
-                Denoted::Declared(symbol) => self.reach(symbol)?,
-                Denoted::Unloaded(target) => ask(self.alloc, &mut self.asked, target)?,
-                Denoted::Missing(_) | Denoted::Private(_) => self.is_missing = true,
-                Denoted::Free => {}
-            }
-        }
-        Ok(())
-    }
-}
-
-fn is_held(held: &Held, symbol: Symbol<'_>) -> bool {
-    match held.get(symbol.module.text.as_str()) {
-        None => false,
-        Some(places) => places.contains_key(&symbol.place),
-    }
-}
-
-fn hold(alloc: Global, held: &mut Held, symbol: Symbol<'_>, name: Text) -> Result<(), AllocError> {
-    if let Some(places) = held.get_mut(symbol.module.text.as_str()) {
-        places.insert(symbol.place, name)?;
-        return Ok(());
-    }
-    let mut places = BTreeMap::new(alloc);
-    places.insert(symbol.place, name)?;
-    held.insert(symbol.module.text.clone()?, places)?;
-    Ok(())
-}
-
-/// The name of a symbol in the linked unit: the root's names stay.
-fn printed_name(alloc: Global, root: &str, symbol: Symbol<'_>) -> Result<Text, AllocError> {
-    let name = declared_name(symbol.declaration);
-    if symbol.module.text.as_str() == root {
-        return Text::from_str(alloc, name);
-    }
-    EscapeMangler.mangle(alloc, &symbol.module.path, name)
-}
-
-fn ask(alloc: Global, asked: &mut Asked, target: &Target) -> Result<(), AllocError> {
-    if let Some(module) = asked.get_mut(target.text.as_str()) {
-        if !module.names.contains(target.item.as_str()) {
-            module
-                .names
-                .insert(String::from_str(alloc, target.item.as_str())?)?;
-        }
-        return Ok(());
-    }
-    let mut names = BTreeSet::new(alloc);
-    names.insert(String::from_str(alloc, target.item.as_str())?)?;
-    let module = AskedModule {
-        path: target.module.clone_in(alloc)?,
-        names,
-    };
-    asked.insert(target.text.clone()?, module)?;
-    Ok(())
-}
-
-/// The first occurrence in what is held that denotes nothing, by printed path of the module and then place.
-fn first_missing(
-    alloc: Global,
-    modules: &Modules,
-    held: &Held,
-) -> Result<Option<ImportError>, AllocError> {
-    for (text, places) in held {
-        let Some(module) = modules.get(text.as_str()) else {
-            continue;
-        };
-        for place in places.keys() {
-            let Some(symbol) = symbol_at(module, *place) else {
-                continue;
-            };
-            if let Some(error) = missing_in(alloc, modules, symbol)? {
-                return Ok(Some(error));
-            }
-        }
-    }
-    Ok(None)
-}
-
-/// The first occurrence in a declaration that denotes nothing.
-fn missing_in(
-    alloc: Global,
-    modules: &Modules,
-    symbol: Symbol<'_>,
-) -> Result<Option<ImportError>, AllocError> {
-    for occurrence in occurrences(alloc, symbol.declaration)? {
-        match denotation(modules, symbol.module, occurrence.name) {
-            Denoted::Missing(target) => {
-                let path = target.module.clone_in(alloc)?;
-                return Ok(Some(ImportError::MissingDecl(path, target.item.clone_in(alloc)?)));
-            }
-            Denoted::Private(target) => {
-                let path = target.module.clone_in(alloc)?;
-                return Ok(Some(ImportError::Private(path, target.item.clone_in(alloc)?)));
-            }
-            Denoted::Declared(_) | Denoted::Unloaded(_) | Denoted::Free => {}
-        }
-    }
-    Ok(None)
 }

@@ -1,6 +1,6 @@
-use Rattle.std.proofs.Common.{◌≡◌, ◌+◌, ◌*◌, map, take}
+use Rattle.std.proofs.Common.{◌≡◌, ◌+◌, ◌*◌, map, take, []}
 use Rattle.wgsl_syntax.specs.View.{node_tree}
-use Rattle.wesl_link.specs.Renaming.{renamed}
+use Rattle.wesl_sources.specs.Linked.{renamed}
 use Rattle.wesl_link.proofs.rename.+renaming.Given as goal
 
 abbrev pub decreases-renamed_expression : goal.decreases-renamed_expression
@@ -29,8 +29,8 @@ decreases-renamed_call g l = 8 * goal.size-renamed_call g l + 6
 
 abbrev pub invariant-renamed_nodes-loop-node : goal.invariant-renamed_nodes-loop-node
 invariant-renamed_nodes-loop-node g l =
-    map node_tree l.renamed ≡ map (λ n. renamed (g.N.Naming.gives l.naming) (node_tree n)) (take l.node-index l.nodes)
+    map node_tree l.renamed ≡ map (λ n. renamed (g.N.Naming.gives l.naming) [] (node_tree n)) (take l.node-index l.nodes)
 
 abbrev pub invariant-renamed_template-loop-argument : goal.invariant-renamed_template-loop-argument
 invariant-renamed_template-loop-argument g l =
-    map (λ a. node_tree a.expression) l.renamed ≡ map (λ a. renamed (g.N.Naming.gives l.naming) (node_tree a.expression)) (take l.argument-index l.arguments)
+    map (λ a. node_tree a.expression) l.renamed ≡ map (λ a. renamed (g.N.Naming.gives l.naming) [] (node_tree a.expression)) (take l.argument-index l.arguments)

@@ -1,0 +1,17 @@
+use Rattle.std.proofs.Common.{◌≡◌, ◌++◌, drop, map}
+use Rattle.std.specs.Prelude.{is_some, string_bytes}
+use Rattle.wesl_sources.specs.Linked.{renamed_declaration}
+use Rattle.wesl_link.specs.Outcomes.{loaded, home_of}
+use Rattle.wesl_link.specs.Closing.{held_at}
+use Rattle.wesl_link.specs.Assembling.{naming, held_among}
+use Rattle.wesl_link.specs.Resolved.{declaration_trees}
+use Rattle.wesl_link.proofs.rounds.Resolutions.add_declarations.Given as goal
+
+abbrev pub invariant-loop-place : goal.invariant-loop-place
+invariant-loop-place l =
+    declaration_trees l.declarations
+    ++ map (renamed_declaration (naming (loaded l.self.modules) (held_at l.self.held) (home_of l.«module»)))
+    (held_among (λ k. is_some (held_at l.self.held (string_bytes l.«module».text) k)) l.place (declaration_trees (drop l.place l.«module».unit.global_declarations)))
+    ≡ declaration_trees l.initial.declarations
+    ++ map (renamed_declaration (naming (loaded l.self.modules) (held_at l.self.held) (home_of l.«module»)))
+    (held_among (λ k. is_some (held_at l.self.held (string_bytes l.«module».text) k)) 0 (declaration_trees l.«module».unit.global_declarations))
