@@ -9,7 +9,8 @@ use Rattle.wgsl_syntax.specs.Tree.{Decl, variable, function, Unit}
 use Rattle.wgsl_meaning.specs.Names.{Name, find_decl, name_of}
 use Rattle.wesl_sources.specs.Occurrences.{declared_name}
 use Rattle.wesl_sources.specs.Modules.{Path, Symbol, Modules, IsModule, Declares, Imports, local_name, IsFree, IsDeclaration, Denotes, own, imported, Reached, kept, onto}
-use Rattle.wesl_sources.specs.Names.{IsPrinted, stays, is_mangled, mangled}
+use Rattle.wesl_resolve.specs.Mangling.{mangled}
+use Rattle.wesl_sources.specs.Names.{IsPrinted, stays, is_mangled}
 use Rattle.wesl_sources.specs.Linked.{renamed_declaration, IsNaming, Selects, nothing_left, takes, leaves, IsInOrder, IsLinkedModule, AreLinkedModules, no_module, a_module, IsLinked}
 use Rattle.wesl_sources.specs.Loaded.{AreLoaded}
 use Rattle.wesl_meaning.specs.SourcePrograms.{declared_symbol}
