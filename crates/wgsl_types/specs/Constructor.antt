@@ -176,5 +176,5 @@ abbrev pub AnswersCall : List ℕ → BuiltinName → Option (List TpltParam) �
 AnswersCall text builtin params args answer = MatchResult answer
     (λ made. (by : Constructor) × (named_constructor builtin params ≡ Some by) × IsMadeBy by args made)
     (λ fault. (fault ≡ error.OutOfMemory)
-        ⊎ (((named_constructor builtin params ≡ None) × IsNameFault text builtin params fault)
-        ⊎ ((by : Constructor) × (named_constructor builtin params ≡ Some by) × MakesNothing by args × (fault ≡ made_fault text params by args))))
+    ⊎ (((named_constructor builtin params ≡ None) × IsNameFault text builtin params fault)
+    ⊎ ((by : Constructor) × (named_constructor builtin params ≡ Some by) × MakesNothing by args × (fault ≡ made_fault text params by args))))

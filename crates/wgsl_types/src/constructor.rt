@@ -124,7 +124,13 @@ fn array_length(count: Option<usize>, given: usize) -> Option<usize>
 {
     match count {
         None => { if given > 0 { Some(given) } else { None } }
-        Some(n) => { if n > 0 && (given == 0 || given == n) { Some(n) } else { None } }
+        Some(n) => {
+            if n > 0 && (given == 0 || given == n) {
+                Some(n)
+            } else {
+                None
+            }
+        }
     }
 }
 
@@ -358,7 +364,12 @@ fn bare_component(alloc: Global, n: u8, args: &[Type]) -> Result<Option<Type>, A
 }
 
 /// A vector of components of a given type.
-fn vector_of(alloc: Global, n: u8, component: &Type, args: &[Type]) -> Result<Option<Type>, AllocError>
+fn vector_of(
+    alloc: Global,
+    n: u8,
+    component: &Type,
+    args: &[Type],
+) -> Result<Option<Type>, AllocError>
     ensures { IfOk result (λ found. MatchOption found
         (spec.FitComponent n component.now args.now → ⊥)
         (λ made. (made ≡ type.Vec n component.now) × spec.FitComponent n component.now args.now)) }
@@ -459,7 +470,10 @@ fn plain_constructor(alloc: Global, text: &str, builtin: BuiltinName) -> Result<
 {
     match builtin {
         BuiltinName::Scalar(scalar) => Ok(Constructor::Scalar(scalar)),
-        BuiltinName::Vector(n, Some(component)) => Ok(Constructor::Vector(n, Some(VecTemplate { component }))),
+        BuiltinName::Vector(n, Some(component)) => Ok(Constructor::Vector(
+            n,
+            Some(VecTemplate { component }),
+        )),
         BuiltinName::Vector(n, None) => Ok(Constructor::Vector(n, None)),
         BuiltinName::Array => Ok(Constructor::Array(None)),
         BuiltinName::LeftOut => {
@@ -520,7 +534,14 @@ fn constructor_answer(
 {
     match by {
         Constructor::Scalar(scalar) => scalar_answer(alloc, name, params, scalar, args),
-        Constructor::Vector(n, template) => vector_answer(alloc, name, params, n, template.as_ref(), args),
+        Constructor::Vector(n, template) => vector_answer(
+            alloc,
+            name,
+            params,
+            n,
+            template.as_ref(),
+            args,
+        ),
         Constructor::Array(template) => array_answer(alloc, name, params, template.as_ref(), args),
     }
 }

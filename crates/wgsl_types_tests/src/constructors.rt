@@ -1,6 +1,6 @@
 //! Templates and constructors.
 
-use crate::made::{array, member, vector};
+use crate::made::{array, member, refusal, vector};
 use std::test::Fail;
 use wgsl_items::{Items, Text};
 use wgsl_types::{
@@ -9,30 +9,45 @@ use wgsl_types::{
 };
 
 #[test]
-fn templates(rt: HostRuntime) -> Result<(), Fail> {
+fn a_count(rt: HostRuntime) -> Result<(), Fail> {
     let alloc = rt.alloc();
     let counted = vec![in alloc;
         TpltParam::Ty(Type::U32),
         TpltParam::Instance(LiteralInstance::AbstractInt(2)),
     ]?;
     let read = ArrayTemplate::parse(alloc, counted.as_slice())?;
-    assert_eq!(rt; read.ty(alloc)?, array(alloc, Type::U32, Some(2))?);
+    assert_eq!(rt; read.n(), Some(2));
+    assert_eq!(rt; *read.inner_ty(), Type::U32);
+    Ok(())
+}
+
+#[test]
+fn a_count_of_zero(rt: HostRuntime) -> Result<(), Fail> {
+    let alloc = rt.alloc();
     let zero = vec![in alloc;
         TpltParam::Ty(Type::U32),
         TpltParam::Instance(LiteralInstance::I32(0)),
     ]?;
-    match ArrayTemplate::parse(alloc, zero.as_slice()) {
-        Err(Error::Todo(_)) => {}
-        _ => panic!(rt; "a count of 0"),
-    }
+    let refused = refusal(ArrayTemplate::parse(alloc, zero.as_slice()))?;
+    assert!(rt; matches!(refused, Some(Error::Todo(_))));
+    Ok(())
+}
+
+#[test]
+fn a_count_below_zero(rt: HostRuntime) -> Result<(), Fail> {
+    let alloc = rt.alloc();
     let negative = vec![in alloc;
         TpltParam::Ty(Type::U32),
         TpltParam::Instance(LiteralInstance::AbstractInt(-1)),
     ]?;
-    match ArrayTemplate::parse(alloc, negative.as_slice()) {
-        Err(Error::TemplateArgs(_)) => {}
-        _ => panic!(rt; "a count below 0"),
-    }
+    let refused = refusal(ArrayTemplate::parse(alloc, negative.as_slice()))?;
+    assert!(rt; matches!(refused, Some(Error::TemplateArgs("array"))));
+    Ok(())
+}
+
+#[test]
+fn a_pointer(rt: HostRuntime) -> Result<(), Fail> {
+    let alloc = rt.alloc();
     let places = vec![in alloc;
         TpltParam::Enumerant(Enumerant::AddressSpace(AddressSpace::Storage)),
         TpltParam::Ty(Type::U32),
@@ -46,70 +61,91 @@ fn templates(rt: HostRuntime) -> Result<(), Fail> {
 }
 
 #[test]
-fn constructors(rt: HostRuntime) -> Result<(), Fail> {
+fn built_in_names(rt: HostRuntime) -> Result<(), Fail> {
     let alloc = rt.alloc();
     assert!(rt; is_ctor("vec3u"));
     assert!(rt; !is_ctor("ptr"));
-    assert_eq!(rt; type_ctor(alloc, "i32", None, &[])?, Type::I32);
+    let float = refusal(builtin_type(alloc, "f32", None))?;
+    assert!(rt; matches!(float, Some(Error::Todo(_))));
+    let matrix = refusal(type_ctor(alloc, "mat2x3f", None, &[]))?;
+    assert!(rt; matches!(matrix, Some(Error::Todo(_))));
+    let other = refusal(type_ctor(alloc, "material", None, &[]))?;
+    assert!(rt; matches!(other, Some(Error::UnknownType(_))));
+    Ok(())
+}
+
+#[test]
+fn constructors(rt: HostRuntime) -> Result<(), Fail> {
+    let alloc = rt.alloc();
     let parts = vec![in alloc; Type::AbstractInt, Type::U32]?;
-    assert_eq!(rt;
-        type_ctor(alloc, "vec2", None, parts.as_slice())?,
-        vector(alloc, 2, Type::U32)?
-    );
-    assert_eq!(rt;
-        type_ctor(alloc, "array", None, parts.as_slice())?,
-        array(alloc, Type::U32, Some(2))?
-    );
-    match type_ctor(alloc, "vec4", None, parts.as_slice()) {
-        Err(Error::Signature(_)) => {}
+    let scalar = type_ctor(alloc, "i32", None, &[])?;
+    assert_eq!(rt; scalar, Type::I32);
+    let pair = type_ctor(alloc, "vec2", None, parts.as_slice())?;
+    assert_eq!(rt; pair, vector(alloc, 2, Type::U32)?);
+    let both = type_ctor(alloc, "array", None, parts.as_slice())?;
+    assert_eq!(rt; both, array(alloc, Type::U32, Some(2))?);
+    Ok(())
+}
+
+#[test]
+fn parts_that_do_not_fill(rt: HostRuntime) -> Result<(), Fail> {
+    let alloc = rt.alloc();
+    let parts = vec![in alloc; Type::AbstractInt, Type::U32]?;
+    match refusal(type_ctor(alloc, "vec4", None, parts.as_slice()))? {
+        Some(Error::Signature(call)) => assert_eq!(rt; call.name.as_str(), "vec4"),
         _ => panic!(rt; "two parts of four"),
-    }
-    match builtin_type(alloc, "f32", None) {
-        Err(Error::Todo(_)) => {}
-        _ => panic!(rt; "floats are left out"),
-    }
-    let mut members = Items::new(alloc);
-    members.push(member(alloc, "a", Type::U32)?)?;
-    let made = StructType::new(Text::from_str(alloc, "S")?, members);
-    typecheck_struct_ctor(alloc, &made, &[])?;
-    match typecheck_struct_ctor(alloc, &made, parts.as_slice()) {
-        Err(Error::ParamCount(_, 1, 2)) => {}
-        _ => panic!(rt; "two values for one member"),
     }
     Ok(())
 }
 
 #[test]
-fn calls_of_constructors(rt: HostRuntime) -> Result<(), Fail> {
+fn vectors(rt: HostRuntime) -> Result<(), Fail> {
     let alloc = rt.alloc();
     let parts = vec![in alloc; vector(alloc, 2, Type::AbstractInt)?, Type::U32]?;
-    assert_eq!(rt; vec_t(alloc, 3, None, parts.as_slice())?, vector(alloc, 3, Type::U32)?);
-    let template = VecTemplate { component: Type::I32 };
-    assert_eq!(rt;
-        vec_t(alloc, 2, Some(&template), &[vector(alloc, 2, Type::U32)?])?,
-        vector(alloc, 2, Type::I32)?
-    );
-    match vec_t(alloc, 3, Some(&template), parts.as_slice()) {
-        Err(Error::Signature(call)) => assert_eq!(rt; call.name.as_str(), "vec3"),
+    let three = vec_t(alloc, 3, None, parts.as_slice())?;
+    assert_eq!(rt; three, vector(alloc, 3, Type::U32)?);
+    let template = VecTemplate {
+        component: Type::I32,
+    };
+    match refusal(vec_t(alloc, 3, Some(&template), parts.as_slice()))? {
+        Some(Error::Signature(call)) => assert_eq!(rt; call.name.as_str(), "vec3"),
         _ => panic!(rt; "U32 doesn't convert to I32"),
     }
+    Ok(())
+}
+
+#[test]
+fn a_cast(rt: HostRuntime) -> Result<(), Fail> {
+    let alloc = rt.alloc();
+    let whole = vec![in alloc; vector(alloc, 2, Type::U32)?]?;
+    let template = VecTemplate {
+        component: Type::I32,
+    };
+    let cast = vec_t(alloc, 2, Some(&template), whole.as_slice())?;
+    assert_eq!(rt; cast, vector(alloc, 2, Type::I32)?);
+    Ok(())
+}
+
+#[test]
+fn arrays(rt: HostRuntime) -> Result<(), Fail> {
+    let alloc = rt.alloc();
     let two = ArrayTemplate::new(Type::U32, Some(2));
-    assert_eq!(rt; array_t(alloc, Some(&two), &[])?, array(alloc, Type::U32, Some(2))?);
-    match array_t(alloc, None, &[]) {
-        Err(Error::Todo(name)) => assert_eq!(rt; name.as_str(), "array"),
-        _ => panic!(rt; "an array of no elements"),
-    }
-    match type_ctor(alloc, "vec2i", None, parts.as_slice()) {
-        Err(Error::Signature(call)) => assert_eq!(rt; call.name.as_str(), "vec2i"),
-        _ => panic!(rt; "three components for two"),
-    }
-    match type_ctor(alloc, "material", None, &[]) {
-        Err(Error::UnknownType(name)) => assert_eq!(rt; name.as_str(), "material"),
-        _ => panic!(rt; "no built-in name"),
-    }
-    match type_ctor(alloc, "mat2x3f", None, &[]) {
-        Err(Error::Todo(name)) => assert_eq!(rt; name.as_str(), "mat2x3f"),
-        _ => panic!(rt; "matrices are left out"),
-    }
+    let zero = array_t(alloc, Some(&two), &[])?;
+    assert_eq!(rt; zero, array(alloc, Type::U32, Some(2))?);
+    let none = refusal(array_t(alloc, None, &[]))?;
+    assert!(rt; matches!(none, Some(Error::Todo(_))));
+    Ok(())
+}
+
+#[test]
+fn members(rt: HostRuntime) -> Result<(), Fail> {
+    let alloc = rt.alloc();
+    let mut members = Items::new(alloc);
+    members.push(member(alloc, "a", Type::U32)?)?;
+    let made = StructType::new(Text::from_str(alloc, "S")?, members);
+    let given = vec![in alloc; Type::AbstractInt, Type::U32]?;
+    typecheck_struct_ctor(alloc, &made, &[])?;
+    let refused = refusal(typecheck_struct_ctor(alloc, &made, given.as_slice()))?;
+    assert!(rt; matches!(refused, Some(Error::ParamCount(_, 1, 2))));
     Ok(())
 }

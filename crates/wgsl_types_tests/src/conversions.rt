@@ -11,14 +11,10 @@ use wgsl_types::{
 #[test]
 fn common_types(rt: HostRuntime) -> Result<(), Fail> {
     let types = vec![in rt.alloc(); Type::AbstractInt, Type::F32, Type::AbstractFloat]?;
-    assert_eq!(rt; convert_all_ty(types.as_slice()), Some(&Type::F32));
+    assert!(rt; matches!(convert_all_ty(types.as_slice()), Some(Type::F32)));
     let none = vec![in rt.alloc(); Type::AbstractInt, Type::I32, Type::U32]?;
-    assert_eq!(rt; convert_all_ty(none.as_slice()), None);
-    assert_eq!(rt; convert_ty(&Type::I32, &Type::U32), None);
-    assert_eq!(rt;
-        convert_ty(&Type::AbstractInt, &Type::U32),
-        Some(&Type::U32)
-    );
+    assert!(rt; convert_all_ty(none.as_slice()).is_none());
+    assert!(rt; convert_ty(&Type::I32, &Type::U32).is_none());
     Ok(())
 }
 
@@ -34,7 +30,7 @@ fn ranks(rt: HostRuntime) -> Result<(), Fail> {
 }
 
 #[test]
-fn layouts(rt: HostRuntime) -> Result<(), Fail> {
+fn a_struct(rt: HostRuntime) -> Result<(), Fail> {
     let alloc = rt.alloc();
     let mut members = Items::new(alloc);
     members.push(member(alloc, "a", Type::U32)?)?;
@@ -42,6 +38,12 @@ fn layouts(rt: HostRuntime) -> Result<(), Fail> {
     let both = struct_of(alloc, members)?;
     assert_eq!(rt; both.size_of(), Some(32));
     assert_eq!(rt; both.align_of(), Some(16));
+    Ok(())
+}
+
+#[test]
+fn arrays(rt: HostRuntime) -> Result<(), Fail> {
+    let alloc = rt.alloc();
     let two = array(alloc, vector(alloc, 3, Type::U32)?, Some(2))?;
     assert_eq!(rt; two.size_of(), Some(32));
     let many = array(alloc, vector(alloc, 3, Type::U32)?, None)?;
@@ -66,33 +68,51 @@ fn alignment_zero(rt: HostRuntime) -> Result<(), Fail> {
 }
 
 #[test]
-fn conversions(rt: HostRuntime) -> Result<(), Fail> {
+fn pairs(rt: HostRuntime) -> Result<(), Fail> {
     let alloc = rt.alloc();
-    assert_eq!(rt;
-        convert(alloc, &Type::AbstractInt, &Type::I32)?,
-        Some((Type::I32, Type::I32))
-    );
-    assert_eq!(rt; convert(alloc, &Type::U32, &Type::I32)?, None);
+    let both = convert(alloc, &Type::AbstractInt, &Type::I32)?;
+    assert_eq!(rt; both, Some((Type::I32, Type::I32)));
+    let none = convert(alloc, &Type::U32, &Type::I32)?;
+    assert_eq!(rt; none, None);
+    Ok(())
+}
+
+#[test]
+fn inner_pairs(rt: HostRuntime) -> Result<(), Fail> {
+    let alloc = rt.alloc();
+    let ints = vector(alloc, 2, Type::AbstractInt)?;
+    match convert_inner(alloc, &ints, &Type::U32)? {
+        Some((left, right)) => {
+            assert_eq!(rt; left, vector(alloc, 2, Type::U32)?);
+            assert_eq!(rt; right, Type::U32);
+        }
+        None => panic!(rt; "AbstractInt converts to U32"),
+    }
+    Ok(())
+}
+
+#[test]
+fn one_thing(rt: HostRuntime) -> Result<(), Fail> {
+    let alloc = rt.alloc();
+    let ints = vector(alloc, 2, Type::AbstractInt)?;
+    let concrete = Convert::concretize(&ints, alloc)?;
+    assert_eq!(rt; concrete, vector(alloc, 2, Type::I32)?);
+    let inner = ints.convert_inner_to(alloc, &Type::I32)?;
+    assert_eq!(rt; inner, Some(concrete));
+    Ok(())
+}
+
+#[test]
+fn lists(rt: HostRuntime) -> Result<(), Fail> {
+    let alloc = rt.alloc();
     let types = vec![in alloc; Type::AbstractInt, Type::U32]?;
     match convert_all(alloc, types.as_slice())? {
         Some(all) => assert_eq!(rt; all.len(), 2),
         None => panic!(rt; "they have a common type"),
     }
-    let ints = vector(alloc, 2, Type::AbstractInt)?;
-    let some = convert_inner(alloc, &ints, &Type::U32)?;
-    assert_eq!(rt; some, Some((vector(alloc, 2, Type::U32)?, Type::U32)));
-    assert_eq!(rt;
-        ints.convert_inner_to(alloc, &Type::I32)?,
-        Some(vector(alloc, 2, Type::I32)?)
-    );
-    assert_eq!(rt; Convert::concretize(&ints, alloc)?, vector(alloc, 2, Type::I32)?);
-    match convert_all_to(alloc, types.as_slice(), &Type::I32)? {
-        None => {}
-        Some(_) => panic!(rt; "U32 doesn't convert to I32"),
-    }
-    match convert_all_inner_to(alloc, types.as_slice(), &Type::U32)? {
-        Some(all) => assert_eq!(rt; all.as_slice().first(), Some(&Type::U32)),
-        None => panic!(rt; "both convert to U32"),
-    }
+    let none = convert_all_to(alloc, types.as_slice(), &Type::I32)?;
+    assert!(rt; none.is_none());
+    let inner = convert_all_inner_to(alloc, types.as_slice(), &Type::U32)?;
+    assert!(rt; inner.is_some());
     Ok(())
 }

@@ -2,7 +2,7 @@
 
 use std::alloc::{AllocError, Global};
 use wgsl_items::{Boxed, Items, Text};
-use wgsl_types::{ShaderType, StructMemberType, StructType, Type};
+use wgsl_types::{Error, ShaderType, StructMemberType, StructType, Type};
 
 pub fn vector(alloc: Global, n: u8, component: Type) -> Result<Type, AllocError> {
     Ok(ShaderType::Vec(n, Boxed::new(alloc, component)?))
@@ -19,4 +19,13 @@ pub fn member(alloc: Global, name: &str, ty: Type) -> Result<StructMemberType, A
 pub fn struct_of(alloc: Global, members: Items<StructMemberType>) -> Result<Type, AllocError> {
     let made = StructType::new(Text::from_str(alloc, "S")?, members);
     Ok(ShaderType::Struct(Boxed::new(alloc, made)?))
+}
+
+/// What was refused, where it was not for want of memory.
+pub fn refusal<T: Drop>(answer: Result<T, Error>) -> Result<Option<Error>, AllocError> {
+    match answer {
+        Ok(_) => Ok(None),
+        Err(Error::OutOfMemory) => Err(AllocError),
+        Err(error) => Ok(Some(error)),
+    }
 }

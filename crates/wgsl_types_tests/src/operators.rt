@@ -1,6 +1,6 @@
 //! Operators, and types as text.
 
-use crate::made::{array, vector};
+use crate::made::{array, refusal, vector};
 use std::test::Fail;
 use wgsl_items::Boxed;
 use wgsl_types::{
@@ -9,25 +9,50 @@ use wgsl_types::{
 };
 
 #[test]
-fn operators(rt: HostRuntime) -> Result<(), Fail> {
+fn bits(rt: HostRuntime) -> Result<(), Fail> {
     let alloc = rt.alloc();
-    assert_eq!(rt; Type::AbstractInt.op_bitor(alloc, &Type::U32)?, Type::U32);
-    assert_eq!(rt;
-        Type::AbstractInt.op_shl(alloc, &Type::AbstractInt)?,
-        Type::AbstractInt
-    );
+    let bits = Type::AbstractInt.op_bitor(alloc, &Type::U32)?;
+    assert_eq!(rt; bits, Type::U32);
+    let shifted = Type::AbstractInt.op_shl(alloc, &Type::AbstractInt)?;
+    assert_eq!(rt; shifted, Type::AbstractInt);
+    Ok(())
+}
+
+#[test]
+fn vectors(rt: HostRuntime) -> Result<(), Fail> {
+    let alloc = rt.alloc();
     let ints = vector(alloc, 2, Type::I32)?;
     let truths = vector(alloc, 2, Type::Bool)?;
-    assert_eq!(rt; ints.op_eq(alloc, &ints)?, truths);
-    assert_eq!(rt; ints.op_mul(alloc, &Type::AbstractInt)?, ints);
-    match ints.op_eq(alloc, &Type::I32) {
-        Err(Error::Binary(BinaryOperator::Equality, _, _)) => {}
-        _ => panic!(rt; "`==` of a vector and a scalar"),
-    }
-    match type_binary_op(alloc, BinaryOperator::ShortCircuitAnd, &truths, &truths) {
-        Err(Error::Binary(_, _, _)) => {}
-        _ => panic!(rt; "`&&` of vectors"),
-    }
+    let equal = ints.op_eq(alloc, &ints)?;
+    assert_eq!(rt; equal, truths);
+    let product = ints.op_mul(alloc, &Type::AbstractInt)?;
+    assert_eq!(rt; product, ints);
+    Ok(())
+}
+
+#[test]
+fn refusals(rt: HostRuntime) -> Result<(), Fail> {
+    let alloc = rt.alloc();
+    let ints = vector(alloc, 2, Type::I32)?;
+    let mixed = refusal(ints.op_eq(alloc, &Type::I32))?;
+    assert!(rt; matches!(mixed, Some(Error::Binary(BinaryOperator::Equality, _, _))));
+    let truths = vector(alloc, 2, Type::Bool)?;
+    let both = refusal(type_binary_op(alloc, BinaryOperator::ShortCircuitAnd, &truths, &truths))?;
+    assert!(rt; matches!(both, Some(Error::Binary(_, _, _))));
+    let negated = refusal(Type::U32.op_neg(alloc))?;
+    assert!(rt; matches!(negated, Some(Error::Unary(UnaryOperator::Negation, _))));
+    Ok(())
+}
+
+#[test]
+fn one_operand(rt: HostRuntime) -> Result<(), Fail> {
+    let alloc = rt.alloc();
+    let negated = Type::I32.op_neg(alloc)?;
+    assert_eq!(rt; negated, Type::I32);
+    let not = Type::Bool.op_not(alloc)?;
+    assert_eq!(rt; not, Type::Bool);
+    let bits = type_unary_op(alloc, UnaryOperator::BitwiseComplement, &Type::U32)?;
+    assert_eq!(rt; bits, Type::U32);
     Ok(())
 }
 
@@ -46,10 +71,6 @@ fn pointers(rt: HostRuntime) -> Result<(), Fail> {
     );
     assert_eq!(rt; pointer.op_deref(alloc)?, place);
     assert_eq!(rt; place.loaded(alloc)?, Type::U32);
-    assert!(rt; Type::U32.op_neg(alloc).is_err());
-    assert_eq!(rt; Type::I32.op_neg(alloc)?, Type::I32);
-    assert_eq!(rt; Type::Bool.op_not(alloc)?, Type::Bool);
-    assert_eq!(rt; Type::U32.op_bitnot(alloc)?, Type::U32);
     Ok(())
 }
 
@@ -84,15 +105,14 @@ fn texts(rt: HostRuntime) -> Result<(), Fail> {
 #[test]
 fn zero_values(rt: HostRuntime) -> Result<(), Fail> {
     let alloc = rt.alloc();
-    assert_eq!(rt; LiteralInstance::zero_value(alloc, &Type::U32)?, LiteralInstance::U32(0));
-    match LiteralInstance::zero_value(alloc, &Type::F16) {
-        Err(Error::Todo(name)) => assert_eq!(rt; name.as_str(), "f16"),
+    let zero = LiteralInstance::zero_value(alloc, &Type::U32)?;
+    assert_eq!(rt; zero, LiteralInstance::U32(0));
+    match refusal(LiteralInstance::zero_value(alloc, &Type::F16))? {
+        Some(Error::Todo(name)) => assert_eq!(rt; name.as_str(), "f16"),
         _ => panic!(rt; "floats are left out"),
     }
-    match LiteralInstance::zero_value(alloc, &vector(alloc, 2, Type::U32)?) {
-        Err(Error::NotScalar(_)) => {}
-        _ => panic!(rt; "a vector is no scalar"),
-    }
-    assert_eq!(rt; type_unary_op(alloc, UnaryOperator::Negation, &Type::I32)?, Type::I32);
+    let pair = vector(alloc, 2, Type::U32)?;
+    let refused = refusal(LiteralInstance::zero_value(alloc, &pair))?;
+    assert!(rt; matches!(refused, Some(Error::NotScalar(_))));
     Ok(())
 }

@@ -100,7 +100,8 @@ fn takes(operator: BinaryOperator, left: u8, right: u8) -> bool {
     match operator {
         BinaryOperator::ShiftLeft | BinaryOperator::ShiftRight => integer && right == 4,
         BinaryOperator::ShortCircuitOr | BinaryOperator::ShortCircuitAnd => left == 0 && right == 0,
-        BinaryOperator::BitwiseOr | BinaryOperator::BitwiseAnd => left == right && (integer || left == 0),
+        BinaryOperator::BitwiseOr | BinaryOperator::BitwiseAnd => left == right
+            && (integer || left == 0),
         BinaryOperator::BitwiseXor => left == right && integer,
         BinaryOperator::Equality | BinaryOperator::Inequality => left == right,
         _ => left == right && left != 0,
@@ -176,7 +177,12 @@ fn shape(operator: BinaryOperator, n: u8, m: u8) -> Option<u8> {
     }
 }
 
-fn given(alloc: Global, operator: BinaryOperator, left: &Type, right: &Type) -> Result<Option<Type>, Error> {
+fn given(
+    alloc: Global,
+    operator: BinaryOperator,
+    left: &Type,
+    right: &Type,
+) -> Result<Option<Type>, Error> {
     match type_binary_op(alloc, operator, left, right) {
         Ok(given) => Ok(Some(given)),
         Err(Error::Binary(_, _, _)) => Ok(None),
@@ -184,7 +190,14 @@ fn given(alloc: Global, operator: BinaryOperator, left: &Type, right: &Type) -> 
     }
 }
 
-fn expected(alloc: Global, operator: BinaryOperator, n: u8, left: u8, m: u8, right: u8) -> Result<Option<Type>, AllocError> {
+fn expected(
+    alloc: Global,
+    operator: BinaryOperator,
+    n: u8,
+    left: u8,
+    m: u8,
+    right: u8,
+) -> Result<Option<Type>, AllocError> {
     match shape(operator, n, m) {
         None => Ok(None),
         Some(components) => match least_candidate(operator, left, right) {
