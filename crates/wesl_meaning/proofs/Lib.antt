@@ -11,3 +11,6 @@ pub mod Distinct
 pub mod Exists
 pub mod Loading
 pub mod Unique
+pub mod Splits
+pub mod Moves
+pub mod Refusals

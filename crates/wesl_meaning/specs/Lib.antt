@@ -3,3 +3,4 @@ pub mod SourcePrograms
 pub mod Runs
 pub mod Declared
 pub mod Unique
+pub mod Determined
