@@ -14,3 +14,4 @@ pub mod Unique
 pub mod Splits
 pub mod Moves
 pub mod Refusals
+pub mod Determined

@@ -1,6 +1,7 @@
 //! Laws of linked modules. Each function states its law and does nothing.
 
 ghost use Rattle.wesl_meaning.specs.Declared.{LinkedUnitsDeclareWhatIsHeld};
+ghost use Rattle.wesl_meaning.specs.Determined.{LoadingComesToOne};
 ghost use Rattle.wesl_meaning.specs.Runs.{LinkedModulesHaveAProgram, LinkedUnitsEndWell, LinkedUnitsRunAlike, WhatIsLoaded};
 ghost use Rattle.wesl_meaning.specs.Unique.{LinkedUnitsAreOne};
 
@@ -32,4 +33,9 @@ pub fn linked_units_declare_what_is_held()
 /// Loaded modules are linked into one unit alone.
 pub fn linked_units_are_one()
     ensures { LinkedUnitsAreOne }
+{}
+
+/// Loading comes to one refusal, or to the same units at the same printed paths.
+pub fn loading_comes_to_one()
+    ensures { LoadingComesToOne }
 {}
