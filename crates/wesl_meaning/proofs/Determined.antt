@@ -1,5 +1,5 @@
 -- What loading comes to is determined.
-use Rattle.std.proofs.Common.{◌≡◌, ◌≢◌, ℕ, zero, suc, ◌+◌, ◌<◌, ◌≤◌, ◌⊎◌, inl, inr, List, [], ◌∷◌, ◌++◌, map, length, Result, Ok, Err, refl, sym, ap, ◌∙◌, subst, arith, Contains}
+use Rattle.std.proofs.Common.{◌≡◌, ℕ, ◌+◌, ◌<◌, ◌≤◌, ◌⊎◌, inl, inr, List, [], ◌∷◌, ◌++◌, length, Result, Ok, Err, refl, sym, ap, ◌∙◌, subst, arith, Contains}
 use Rattle.std.proofs.lemmas.List.Elements.{Contains-append_right}
 use Rattle.wgsl_path.specs.declared.path.ModulePath.{ModulePath}
 use Rattle.wgsl_path.specs.Paths.{path_text}
@@ -7,7 +7,7 @@ use Rattle.wgsl_token.specs.declared.error.Error.{Error}
 use Rattle.wgsl_syntax.specs.Tree.{Unit}
 use Rattle.wesl_sources.specs.Occurrences.{Name}
 use Rattle.wesl_sources.specs.Modules.{Path, Modules, Declares}
-use Rattle.wesl_sources.specs.Rounds.{Sources, Answer, unit_of, not_found, faulty, Refusal, too_many_modules, module_not_found, syntax, duplicate_symbol, missing_decl, scope_names, AreDistinct, IsFirstAgain, Loads, all_loaded, one_too_many, is_not_found, is_faulty, has_a_name_twice, loaded_then_refused, loaded, IsNextRound, NoneRefused, IsFirstRefused, Goes, an_occurrence_refused, nothing_asked, a_module_refused, a_round, IsFirstUnkept, ComesTo, root_refused, kept_name_missing, goes_on}
+use Rattle.wesl_sources.specs.Rounds.{Sources, unit_of, not_found, faulty, Refusal, too_many_modules, module_not_found, syntax, duplicate_symbol, missing_decl, scope_names, AreDistinct, IsFirstAgain, Loads, all_loaded, one_too_many, is_not_found, is_faulty, has_a_name_twice, loaded_then_refused, loaded, IsNextRound, NoneRefused, IsFirstRefused, Goes, an_occurrence_refused, nothing_asked, a_module_refused, a_round, IsFirstUnkept, ComesTo, root_refused, kept_name_missing, goes_on}
 use Rattle.wesl_meaning.specs.Determined.{listed, SameOutcome, LoadingComesToOne}
 use Rattle.wesl_meaning.proofs.Members.{first_in, in_cases, in_none, length_map}
 use Rattle.wesl_meaning.proofs.Order.{ascending_same}
@@ -87,7 +87,7 @@ module _ (found : Sources) (max : ℕ) where
       let paths : path_text path ≡ path_text road = t ∙ sym s in
       let rest : listed ms ≡ listed ns = more (Ok ms) (Ok ns) w z in
       let whole : listed ((path, v) ∷ ms) ≡ listed ((road, u) ∷ ns) =
-          ap (λ c. (c, v) ∷ listed ms) paths ∙ ap (λ c. (path_text road, c) ∷ listed ms) (units_same p v u h g) ∙ ap (λ c. (path_text road, u) ∷ c) rest in
+      ap (λ c. (c, v) ∷ listed ms) paths ∙ ap (λ c. (path_text road, c) ∷ listed ms) (units_same p v u h g) ∙ ap (λ c. (path_text road, u) ∷ c) rest in
       subst (λ c. SameOutcome c q) (sym e) (subst (SameOutcome (Ok ((path, v) ∷ ms))) (sym f) whole)
 
   pub loads_once : (n : ℕ) (ps : List Path) (o q : Result Modules Refusal) → Loads found max n ps o → Loads found max n ps q → SameOutcome o q
@@ -144,7 +144,8 @@ module _ (found : Sources) (root : Path) (keep : List Name) (max : ℕ) where
   root_apart : (path : ModulePath) (u : Unit) → Loads found max 0 (root ∷ []) (Ok ((path, u) ∷ [])) → Apart ((path, u) ∷ [])
   root_apart path u l = record {
     apart = λ a b c d e. alone a b (in_cases (path, u) [] a c) (in_cases (path, u) [] b d);
-    distinct = λ a c. (loading found max 0 (root ∷ []) ((path, u) ∷ []) l).names a c }
+    distinct = λ a c. (loading found max 0 (root ∷ []) ((path, u) ∷ []) l).names a c;
+  }
     where
       alone : (a b : ModulePath × Unit) → ((path, u) ≡ a) ⊎ Contains [] a → ((path, u) ≡ b) ⊎ Contains [] b → a ≡ b
       alone a b (inl e) (inl f) = sym e ∙ f

@@ -15,3 +15,4 @@ pub mod Splits
 pub mod Moves
 pub mod Refusals
 pub mod Determined
+pub mod Asked

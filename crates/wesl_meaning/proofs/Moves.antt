@@ -1,6 +1,5 @@
 -- What modules mean depends on their printed paths and units alone.
-use Rattle.std.proofs.Common.{◌≡◌, ℕ, inl, inr, ⊎_elim, List, [], ◌∷◌, map, refl, sym, ap, ◌∙◌, subst, Contains}
-use Rattle.wgsl_path.specs.declared.path.ModulePath.{ModulePath}
+use Rattle.std.proofs.Common.{◌≡◌, ℕ, inl, inr, ⊎_elim, List, sym, ap, ◌∙◌, subst, Contains}
 use Rattle.wgsl_path.specs.Paths.{path_text}
 use Rattle.wgsl_syntax.specs.Tree.{Decl, Imp, Unit}
 use Rattle.wesl_sources.specs.Occurrences.{Name}
@@ -51,27 +50,45 @@ module _ (a b : Modules) (root : Path) (keep : List Name) (e : listed a ≡ list
 
   asked_moves : (p : Path) → IsAsked a root keep p → IsAsked b root keep p
   asked_moves p h = record {
-    from = h.from; declaration = h.declaration; name = h.name; target = h.target;
-    reached = reached_moves h.from h.reached; declares = declaration_moves h.from h.declaration h.declares; occurs = h.occurs;
-    unloaded = unloaded_moves h.from.home h.name h.target h.unloaded; home = h.home }
+    from = h.from;
+    declaration = h.declaration;
+    name = h.name;
+    target = h.target;
+    reached = reached_moves h.from h.reached;
+    declares = declaration_moves h.from h.declaration h.declares;
+    occurs = h.occurs;
+    unloaded = unloaded_moves h.from.home h.name h.target h.unloaded;
+    home = h.home;
+  }
 
   refused_moves : (m : Path) (d o : ℕ) (r : Refusal) → IsRefusedAt a root keep m d o r → IsRefusedAt b root keep m d o r
   refused_moves m d o r h = record {
-    unit = h.unit; is_module = to m h.unit h.is_module; stands = h.stands; is_there = h.is_there; reached = reached_moves _ h.reached;
-    name = h.name; occurs = h.occurs; target = h.target;
-    why = ⊎_elim (λ w. inl (missing_moves m h.name h.target w.0, w.1)) (λ w. inr (private_moves m h.name h.target w.0, w.1)) h.why }
+    unit = h.unit;
+    is_module = to m h.unit h.is_module;
+    stands = h.stands;
+    is_there = h.is_there;
+    reached = reached_moves _ h.reached;
+    name = h.name;
+    occurs = h.occurs;
+    target = h.target;
+    why = ⊎_elim (λ w. inl (missing_moves m h.name h.target w.0, w.1)) (λ w. inr (private_moves m h.name h.target w.0, w.1)) h.why;
+  }
 
 module _ (a b : Modules) (root : Path) (keep : List Name) (e : listed a ≡ listed b) where
   pub round_moves : (ps : List Path) → IsNextRound a root keep ps → IsNextRound b root keep ps
   round_moves ps h = record {
     ascending = h.ascending;
-    asked = λ p. (λ c. asked_moves a b root keep e p ((h.asked p).0 c), λ q. (h.asked p).1 (asked_moves b a root keep (sym e) p q)) }
+    asked = λ p. (λ c. asked_moves a b root keep e p ((h.asked p).0 c), λ q. (h.asked p).1 (asked_moves b a root keep (sym e) p q));
+  }
 
   pub none_moves : NoneRefused a root keep → NoneRefused b root keep
   none_moves h m d o r at = h m d o r (refused_moves b a root keep (sym e) m d o r at)
 
   pub first_moves : (r : Refusal) → IsFirstRefused a root keep r → IsFirstRefused b root keep r
   first_moves r h = record {
-    home = h.home; declaration = h.declaration; occurrence = h.occurrence;
+    home = h.home;
+    declaration = h.declaration;
+    occurrence = h.occurrence;
     refused = refused_moves a b root keep e h.home h.declaration h.occurrence r h.refused;
-    first = λ m d o s at before. h.first m d o s (refused_moves b a root keep (sym e) m d o s at) before }
+    first = λ m d o s at before. h.first m d o s (refused_moves b a root keep (sym e) m d o s at) before;
+  }

@@ -1,5 +1,5 @@
 -- The first refusal is one.
-use Rattle.std.proofs.Common.{◌≡◌, ℕ, zero, suc, ◌<◌, ◌⊎◌, inl, inr, List, [], ◌∷◌, map, Option, Some, None, true, refl, sym, ap, ◌∙◌, subst, arith, Contains, slice_get, is_eq}
+use Rattle.std.proofs.Common.{◌≡◌, ℕ, zero, suc, ◌<◌, ◌⊎◌, inl, inr, List, map, Some, None, refl, sym, ap, ◌∙◌, subst, arith, Contains, slice_get, is_eq}
 use Rattle.std.specs.Ordering.{nat_cmp, ordering_reverse}
 use Rattle.std.specs.Cmp.Lexicographic.{slice_cmp}
 use Rattle.std.specs.declared.cmp.Ordering.{Ordering}
@@ -7,7 +7,7 @@ use Rattle.std.specs.declared.cmp.Ordering.TheVariants.{Less, Equal, Greater}
 use Rattle.std.proofs.lemmas.Cmp.{nat_list_cmp_total}
 use Rattle.std.proofs.lemmas.Map.Text.{is_eq-slice_cmp}
 use Rattle.wgsl_path.specs.Paths.{path_text}
-use Rattle.wgsl_syntax.specs.Tree.{Decl, Imp, Unit}
+use Rattle.wgsl_syntax.specs.Tree.{Imp, Unit}
 use Rattle.wesl_sources.specs.Occurrences.{Name, occurrences, declared_name}
 use Rattle.wesl_sources.specs.Modules.{Path, Symbol, Modules, IsModule, Imports, local_name, IsImport, IsImported, IsMissing, lacking, bare, IsPrivate}
 use Rattle.wesl_sources.specs.Rounds.{Refusal, missing_decl, private, scope_names, IsBefore, IsRefusedAt, StandsBefore, by_module, by_declaration, by_occurrence, IsFirstRefused}

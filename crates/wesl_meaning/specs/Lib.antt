@@ -4,3 +4,4 @@ pub mod Runs
 pub mod Declared
 pub mod Unique
 pub mod Determined
+pub mod Asked

@@ -1,5 +1,6 @@
 //! Laws of linked modules. Each function states its law and does nothing.
 
+ghost use Rattle.wesl_meaning.specs.Asked.{OnlyWhatIsAskedCounts};
 ghost use Rattle.wesl_meaning.specs.Declared.{LinkedUnitsDeclareWhatIsHeld};
 ghost use Rattle.wesl_meaning.specs.Determined.{LoadingComesToOne};
 ghost use Rattle.wesl_meaning.specs.Runs.{LinkedModulesHaveAProgram, LinkedUnitsEndWell, LinkedUnitsRunAlike, WhatIsLoaded};
@@ -38,4 +39,9 @@ pub fn linked_units_are_one()
 /// Loading comes to one refusal, or to the same units at the same printed paths.
 pub fn loading_comes_to_one()
     ensures { LoadingComesToOne }
+{}
+
+/// Sources that agree on the paths that are asked of one of them come to the same refusal, or to the same units.
+pub fn only_what_is_asked_counts()
+    ensures { OnlyWhatIsAskedCounts }
 {}
