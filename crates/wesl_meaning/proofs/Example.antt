@@ -2,11 +2,12 @@
 use Rattle.std.proofs.Common.{◌≡◌, ◌≢◌, ℕ, ◌⊎◌, inl, inr, List, [], ◌∷◌, ◌++◌, map, Option, Some, None, Bool, true, false, refl, sym, ap, ◌∙◌, subst, Contains, codes, arith}
 use Rattle.std.specs.Prelude.{if◌then◌else◌}
 use Rattle.std.specs.Str.{bytes_eq}
+use Rattle.std.proofs.lemmas.List.Elements.{Contains-append_left, Contains-append_right}
 use Rattle.wgsl_path.specs.declared.path.ModulePath.{ModulePath}
 use Rattle.wgsl_path.specs.Paths.{path_text}
 use Rattle.wgsl_syntax.specs.Tree.{Decl, Imp, Unit}
 use Rattle.wgsl_meaning.specs.Names.{Name}
-use Rattle.wesl_sources.specs.Occurrences.{occurrences, declared_name, locals, names_in_body}
+use Rattle.wesl_sources.specs.Occurrences.{occurrences, declared_name, locals, names_before, names_behind, names_in_body}
 use Rattle.wesl_sources.specs.Modules.{Path, Symbol, Modules, IsModule, Declares, Imports, local_name, IsFree, IsDeclaration, Denotes, own, imported, Reached, kept, onto}
 use Rattle.wesl_sources.specs.Names.{IsPrinted, stays, is_mangled, mangled}
 use Rattle.wesl_sources.specs.Rounds.{AreDistinct, no_names, another, one_path, scope_names}
@@ -15,7 +16,7 @@ use Rattle.wesl_sources.specs.Loaded.{AreLoaded, IsClashFree}
 use Rattle.wesl_meaning.specs.SourcePrograms.{of_none, of_more}
 use Rattle.wesl_meaning.specs.Runs.{AreLinkedWell}
 use Rattle.wesl_meaning.specs.Example.{const_of_two, entry_of, root_path, other_path, import_of_two, root_unit, other_unit, two_modules, linked_unit, entry, the_two, the_program, PremisesAreMet}
-use Rattle.wesl_meaning.proofs.Members.{first_in, later_in, in_cases, in_none, bytes_same}
+use Rattle.wesl_meaning.proofs.Members.{first_in, later_in, in_cases, in_none, same_bytes, bytes_same}
 use Rattle.wesl_meaning.proofs.Symbols.{printed_once}
 use Rattle.wesl_meaning.proofs.Exists.{sources_are}
 
@@ -58,24 +59,27 @@ abbrev unit_of_pair : ModulePath × Unit → Unit
 unit_of_pair a = a.1
 
 root_unit_is : (u : Unit) → IsModule two_modules the_root u → root_unit ≡ u
-root_unit_is u i = at (module_cases (i.path, u) i.stands)
+root_unit_is u i = at (i.path, u) (module_cases (i.path, u) i.stands) i.printed
   where
-    at : ((root_path, root_unit) ≡ (i.path, u)) ⊎ ((other_path, other_unit) ≡ (i.path, u)) → root_unit ≡ u
-    at (inl e) = ap unit_of_pair e
-    at (inr e) = absurd (differ the_other the_root refl (ap text_of e ∙ i.printed))
+    at : (a : ModulePath × Unit) → ((root_path, root_unit) ≡ a) ⊎ ((other_path, other_unit) ≡ a) → path_text a.0 ≡ the_root → root_unit ≡ a.1
+    at a (inl e) p = ap unit_of_pair e
+    at a (inr e) p = absurd (differ the_other the_root refl (ap text_of e ∙ p))
 
 other_unit_is : (u : Unit) → IsModule two_modules the_other u → other_unit ≡ u
-other_unit_is u i = at (module_cases (i.path, u) i.stands)
+other_unit_is u i = at (i.path, u) (module_cases (i.path, u) i.stands) i.printed
   where
-    at : ((root_path, root_unit) ≡ (i.path, u)) ⊎ ((other_path, other_unit) ≡ (i.path, u)) → other_unit ≡ u
-    at (inl e) = absurd (differ the_root the_other refl (ap text_of e ∙ i.printed))
-    at (inr e) = ap unit_of_pair e
+    at : (a : ModulePath × Unit) → ((root_path, root_unit) ≡ a) ⊎ ((other_path, other_unit) ≡ a) → path_text a.0 ≡ the_other → other_unit ≡ a.1
+    at a (inl e) p = absurd (differ the_root the_other refl (ap text_of e ∙ p))
+    at a (inr e) p = ap unit_of_pair e
+
+other_stands : Contains two_modules (other_path, other_unit)
+other_stands = later_in (other_path, other_unit) (root_path, root_unit) ((other_path, other_unit) ∷ []) (first_in (other_path, other_unit) [])
 
 root_module : IsModule two_modules the_root root_unit
 root_module = record { path = root_path; stands = first_in (root_path, root_unit) ((other_path, other_unit) ∷ []); printed = refl }
 
 other_module : IsModule two_modules the_other other_unit
-other_module = record { path = other_path; stands = later_in (other_path, other_unit) (root_path, root_unit) ((other_path, other_unit) ∷ []) (first_in (other_path, other_unit) []); printed = refl }
+other_module = record { path = other_path; stands = other_stands; printed = refl }
 
 -- ---- what names denote
 
@@ -198,7 +202,7 @@ all_loaded = record {
 -- ---- names
 
 const_printed : IsPrinted two_modules the_root st (codes "package_m_two")
-const_printed = is_mangled {s = st} {path = other_path} {u = other_unit} (differ the_other the_root refl) other_module.stands refl
+const_printed = is_mangled {s = st} {path = other_path} {u = other_unit} (differ the_other the_root refl) other_stands refl
 
 held_name : (s : Symbol) (y : Name) → Held s → IsPrinted two_modules the_root s y → ((s ≡ sg) × (codes "g" ≡ y)) ⊎ ((s ≡ st) × (codes "package_m_two" ≡ y))
 held_name s y (is_entry e) p = inl (e, printed_once two_modules the_root keeps all_loaded sg (codes "g") y stays (subst (λ z. IsPrinted two_modules the_root z y) e p))
@@ -234,3 +238,73 @@ none_clashes s d x _ (is_entry e) i c (captured f k) = at (names_of_entry x (sub
 no_locals : (s : Symbol) (d : Decl) → Held s → IsDeclaration two_modules s d → locals d ≡ []
 no_locals s d (is_entry e) i = ap locals (sym (entry_declared s d e i))
 no_locals s d (is_const e) i = ap locals (sym (const_declared s d e i))
+
+clash_free : IsClashFree two_modules the_root keeps
+clash_free = record {
+  unshared = none_shared;
+  outside = λ s d x y r i c k. none_clashes s d x y (reached_held s r) i (Contains-append_left (names_before d ++ names_behind d) (names_in_body d) x c) k;
+  inside = λ s d x y r i c k. none_clashes s d x y (reached_held s r) i (Contains-append_right (names_before d ++ names_behind d) (names_in_body d) x c)
+      (subst (λ l. Clashes two_modules the_root keeps s.home l x y) (no_locals s d (reached_held s r) i) k) }
+
+-- ---- linked
+
+abbrev new : Name → Name
+new x = if bytes_eq x (codes "two") then codes "package_m_two" else x
+
+stays_if : (x : Name) → (x ≡ codes "two" → ⊥) → new x ≡ x
+stays_if x n = at (bytes_eq x (codes "two")) refl
+  where
+    at : (b : Bool) → bytes_eq x (codes "two") ≡ b → (if b then codes "package_m_two" else x) ≡ x
+    at true e = absurd (n (same_bytes x (codes "two") e))
+    at false e = refl
+
+root_naming : IsNaming two_modules the_root the_root new
+root_naming = record { denoting = λ x s den. named x s (in_root x s den); free = λ x f. stays_if x (λ e. free x f e) }
+  where
+    named : (x : Name) (s : Symbol) → InRoot x s → IsPrinted two_modules the_root s (new x)
+    named x s (the_entry n e) = subst (λ z. IsPrinted two_modules the_root z (new x)) (sym e) (subst (λ z. IsPrinted two_modules the_root sg (new z)) n stays)
+    named x s (the_const n e) = subst (λ z. IsPrinted two_modules the_root z (new x)) (sym e) (subst (λ z. IsPrinted two_modules the_root st (new z)) n const_printed)
+
+    free : (x : Name) → IsFree two_modules the_root x → x ≡ codes "two" → ⊥
+    free x f e = f.unimported (subst (λ u. Imports u x) (root_unit_is f.unit f.is_module) (subst (Contains (codes "two" ∷ [])) (sym e) (first_in (codes "two") [])))
+
+other_naming : IsNaming two_modules the_root the_other new
+other_naming = record { denoting = λ x s den. named x s (in_other x s den); free = λ x f. stays_if x (λ e. free x f e) }
+  where
+    named : (x : Name) (s : Symbol) → InOther x s → IsPrinted two_modules the_root s (new x)
+    named x s h = subst (λ z. IsPrinted two_modules the_root z (new x)) (sym h.symbol) (subst (λ z. IsPrinted two_modules the_root st (new z)) h.name const_printed)
+
+    free : (x : Name) → IsFree two_modules the_other x → x ≡ codes "two" → ⊥
+    free x f e = f.undeclared (subst (λ u. Declares u x) (other_unit_is f.unit f.is_module) (subst (Contains (codes "two" ∷ [])) (sym e) (first_in (codes "two") [])))
+
+in_order : IsInOrder two_modules the_root (the_root ∷ the_other ∷ [])
+in_order = record {
+  others = the_other ∷ []; root_first = refl; ascending = one_path;
+  not_root = λ c. differ the_other the_root refl (only_one the_other the_root c);
+  each = λ p. (λ c. c, λ c. c) }
+
+root_linked : IsLinkedModule two_modules the_root keeps the_root (entry_of (codes "package_m_two") ∷ [])
+root_linked = record {
+  unit = root_unit; is_module = root_module; new = new; naming = root_naming;
+  held = entry_of (codes "two") ∷ []; selected = takes entry_reached nothing_left; whole = refl }
+
+other_linked : IsLinkedModule two_modules the_root keeps the_other (const_of_two (codes "package_m_two") ∷ [])
+other_linked = record {
+  unit = other_unit; is_module = other_module; new = new; naming = other_naming;
+  held = const_of_two (codes "two") ∷ []; selected = takes const_reached nothing_left; whole = refl }
+
+is_linked : IsLinked two_modules the_root keeps linked_unit
+is_linked = record {
+  no_imports = refl; order = the_root ∷ the_other ∷ []; in_order = in_order;
+  declares = a_module {ds = entry_of (codes "package_m_two") ∷ []} {es = const_of_two (codes "package_m_two") ∷ []} root_linked
+      (a_module {ds = const_of_two (codes "package_m_two") ∷ []} {es = []} other_linked no_module) }
+
+pub premises_are_met : PremisesAreMet
+premises_are_met = record {
+  linked_well = record { loaded = all_loaded; clash_free = clash_free; linked = is_linked };
+  program = sources_are two_modules the_root keeps all_loaded (entry ∷ the_two ∷ []) (record {
+    order = the_root ∷ the_other ∷ []; in_order = in_order;
+    are_held = of_more {ss = st ∷ []} root_unit (entry_of (codes "two") ∷ []) root_module (takes entry_reached nothing_left)
+        (of_more {ss = []} other_unit (const_of_two (codes "two") ∷ []) other_module (takes const_reached nothing_left) of_none) });
+  ends_well = λ inputs. record { bound = 2; steps = 0; ends = refl; within = omega arith };
+}

@@ -16,3 +16,4 @@ pub mod Moves
 pub mod Refusals
 pub mod Determined
 pub mod Asked
+pub mod Example

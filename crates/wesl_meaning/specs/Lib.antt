@@ -5,3 +5,4 @@ pub mod Declared
 pub mod Unique
 pub mod Determined
 pub mod Asked
+pub mod Example

@@ -3,6 +3,7 @@
 ghost use Rattle.wesl_meaning.specs.Asked.{OnlyWhatIsAskedCounts};
 ghost use Rattle.wesl_meaning.specs.Declared.{LinkedUnitsDeclareWhatIsHeld};
 ghost use Rattle.wesl_meaning.specs.Determined.{LoadingComesToOne};
+ghost use Rattle.wesl_meaning.specs.Example.{PremisesAreMet};
 ghost use Rattle.wesl_meaning.specs.Runs.{LinkedModulesHaveAProgram, LinkedUnitsEndWell, LinkedUnitsRunAlike, WhatIsLoaded};
 ghost use Rattle.wesl_meaning.specs.Unique.{LinkedUnitsAreOne};
 
@@ -44,4 +45,9 @@ pub fn loading_comes_to_one()
 /// Sources that agree on the paths that are asked of one of them come to the same refusal, or to the same units.
 pub fn only_what_is_asked_counts()
     ensures { OnlyWhatIsAskedCounts }
+{}
+
+/// There are modules that meet the premises of these laws, with a run that ends well.
+pub fn premises_are_met()
+    ensures { PremisesAreMet }
 {}
