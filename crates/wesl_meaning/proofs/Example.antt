@@ -1,5 +1,5 @@
 -- The premises of the laws are met by two modules.
-use Rattle.std.proofs.Common.{◌≡◌, ◌≢◌, ℕ, ◌⊎◌, inl, inr, List, [], ◌∷◌, ◌++◌, map, Option, Some, None, Bool, true, false, refl, sym, ap, ◌∙◌, subst, Contains, codes, arith}
+use Rattle.std.proofs.Common.{◌≡◌, ◌⊎◌, inl, inr, List, [], ◌∷◌, ◌++◌, Option, Some, Bool, true, false, refl, sym, ap, ◌∙◌, subst, Contains, codes, arith}
 use Rattle.std.specs.Prelude.{if◌then◌else◌}
 use Rattle.std.specs.Str.{bytes_eq}
 use Rattle.std.proofs.lemmas.List.Elements.{Contains-append_left, Contains-append_right}
@@ -7,15 +7,14 @@ use Rattle.wgsl_path.specs.declared.path.ModulePath.{ModulePath}
 use Rattle.wgsl_path.specs.Paths.{path_text}
 use Rattle.wgsl_syntax.specs.Tree.{Decl, Imp, Unit}
 use Rattle.wgsl_meaning.specs.Names.{Name}
-use Rattle.wesl_sources.specs.Occurrences.{occurrences, declared_name, locals, names_before, names_behind, names_in_body}
-use Rattle.wesl_sources.specs.Modules.{Path, Symbol, Modules, IsModule, Declares, Imports, local_name, IsFree, IsDeclaration, Denotes, own, imported, Reached, kept, onto}
-use Rattle.wesl_sources.specs.Names.{IsPrinted, stays, is_mangled, mangled}
+use Rattle.wesl_sources.specs.Occurrences.{occurrences, locals, names_before, names_behind, names_in_body}
+use Rattle.wesl_sources.specs.Modules.{Path, Symbol, IsModule, Declares, Imports, local_name, IsFree, IsDeclaration, Denotes, own, imported, Reached, kept, onto}
+use Rattle.wesl_sources.specs.Names.{IsPrinted, stays, is_mangled}
 use Rattle.wesl_sources.specs.Rounds.{AreDistinct, no_names, another, one_path, scope_names}
 use Rattle.wesl_sources.specs.Linked.{IsNaming, nothing_left, takes, IsInOrder, IsLinkedModule, no_module, a_module, IsLinked, IsShared, IsTaken, Clashes, shared, hidden, captured}
 use Rattle.wesl_sources.specs.Loaded.{AreLoaded, IsClashFree}
 use Rattle.wesl_meaning.specs.SourcePrograms.{of_none, of_more}
-use Rattle.wesl_meaning.specs.Runs.{AreLinkedWell}
-use Rattle.wesl_meaning.specs.Example.{const_of_two, entry_of, root_path, other_path, import_of_two, root_unit, other_unit, two_modules, linked_unit, entry, the_two, the_program, PremisesAreMet}
+use Rattle.wesl_meaning.specs.Example.{const_of_two, entry_of, root_path, other_path, import_of_two, root_unit, other_unit, two_modules, linked_unit, entry, the_two, PremisesAreMet}
 use Rattle.wesl_meaning.proofs.Members.{first_in, later_in, in_cases, in_none, same_bytes, bytes_same}
 use Rattle.wesl_meaning.proofs.Symbols.{printed_once}
 use Rattle.wesl_meaning.proofs.Exists.{sources_are}
@@ -148,7 +147,11 @@ two_denoted : Denotes two_modules the_root (codes "two") st
 two_denoted = imported {u = other_unit} (record {
   import = import_of_two;
   is_import = record { unit = root_unit; is_module = root_module; undeclared = λ c. differ (codes "g") (codes "two") refl (only_one (codes "g") (codes "two") c); stands = first_in import_of_two []; local = refl };
-  path = other_path; is_path = refl; home = refl; item = refl }) other_module (first_in (codes "two") [])
+  path = other_path;
+  is_path = refl;
+  home = refl;
+  item = refl;
+}) other_module (first_in (codes "two") [])
 
 entry_declares : IsDeclaration two_modules sg (entry_of (codes "two"))
 entry_declares = record { unit = root_unit; is_module = root_module; stands = first_in (entry_of (codes "two")) []; name = refl }
@@ -160,9 +163,11 @@ const_reached = onto {x = codes "two"} entry_reached entry_declares (later_in (c
 
 root_free : (x : Name) → bytes_eq (codes "g") x ≡ false → bytes_eq (codes "two") x ≡ false → IsFree two_modules the_root x
 root_free x a b = record {
-  unit = root_unit; is_module = root_module;
+  unit = root_unit;
+  is_module = root_module;
   undeclared = λ c. differ (codes "g") x a (only_one (codes "g") x c);
-  unimported = λ c. differ (codes "two") x b (only_one (codes "two") x c) }
+  unimported = λ c. differ (codes "two") x b (only_one (codes "two") x c);
+}
 
 names_of_entry : (x : Name) → Contains (occurrences (entry_of (codes "two"))) x → (codes "u32" ≡ x) ⊎ (codes "two" ≡ x)
 names_of_entry x c = at (in_cases (codes "u32") (codes "two" ∷ []) x c)
@@ -179,7 +184,8 @@ all_loaded = record {
   apart = λ a b c d e. both a b e (module_cases a c) (module_cases b d);
   distinct = λ a c. names a (module_cases a c);
   kept = λ x c. (root_unit, root_module, c);
-  resolved = λ s d x r i c. resolve s d x i c (reached_held s r) }
+  resolved = λ s d x r i c. resolve s d x i c (reached_held s r);
+}
   where
     both : (a b : ModulePath × Unit) → path_text a.0 ≡ path_text b.0 → ((root_path, root_unit) ≡ a) ⊎ ((other_path, other_unit) ≡ a) → ((root_path, root_unit) ≡ b) ⊎ ((other_path, other_unit) ≡ b) → a ≡ b
     both a b e (inl f) (inl g) = sym f ∙ g
@@ -244,7 +250,8 @@ clash_free = record {
   unshared = none_shared;
   outside = λ s d x y r i c k. none_clashes s d x y (reached_held s r) i (Contains-append_left (names_before d ++ names_behind d) (names_in_body d) x c) k;
   inside = λ s d x y r i c k. none_clashes s d x y (reached_held s r) i (Contains-append_right (names_before d ++ names_behind d) (names_in_body d) x c)
-      (subst (λ l. Clashes two_modules the_root keeps s.home l x y) (no_locals s d (reached_held s r) i) k) }
+      (subst (λ l. Clashes two_modules the_root keeps s.home l x y) (no_locals s d (reached_held s r) i) k);
+}
 
 -- ---- linked
 
@@ -279,32 +286,52 @@ other_naming = record { denoting = λ x s den. named x s (in_other x s den); fre
 
 in_order : IsInOrder two_modules the_root (the_root ∷ the_other ∷ [])
 in_order = record {
-  others = the_other ∷ []; root_first = refl; ascending = one_path;
+  others = the_other ∷ [];
+  root_first = refl;
+  ascending = one_path;
   not_root = λ c. differ the_other the_root refl (only_one the_other the_root c);
-  each = λ p. (λ c. c, λ c. c) }
+  each = λ p. (λ c. c, λ c. c);
+}
 
 root_linked : IsLinkedModule two_modules the_root keeps the_root (entry_of (codes "package_m_two") ∷ [])
 root_linked = record {
-  unit = root_unit; is_module = root_module; new = new; naming = root_naming;
-  held = entry_of (codes "two") ∷ []; selected = takes entry_reached nothing_left; whole = refl }
+  unit = root_unit;
+  is_module = root_module;
+  new = new;
+  naming = root_naming;
+  held = entry_of (codes "two") ∷ [];
+  selected = takes entry_reached nothing_left;
+  whole = refl;
+}
 
 other_linked : IsLinkedModule two_modules the_root keeps the_other (const_of_two (codes "package_m_two") ∷ [])
 other_linked = record {
-  unit = other_unit; is_module = other_module; new = new; naming = other_naming;
-  held = const_of_two (codes "two") ∷ []; selected = takes const_reached nothing_left; whole = refl }
+  unit = other_unit;
+  is_module = other_module;
+  new = new;
+  naming = other_naming;
+  held = const_of_two (codes "two") ∷ [];
+  selected = takes const_reached nothing_left;
+  whole = refl;
+}
 
 is_linked : IsLinked two_modules the_root keeps linked_unit
 is_linked = record {
-  no_imports = refl; order = the_root ∷ the_other ∷ []; in_order = in_order;
+  no_imports = refl;
+  order = the_root ∷ the_other ∷ [];
+  in_order = in_order;
   declares = a_module {ds = entry_of (codes "package_m_two") ∷ []} {es = const_of_two (codes "package_m_two") ∷ []} root_linked
-      (a_module {ds = const_of_two (codes "package_m_two") ∷ []} {es = []} other_linked no_module) }
+      (a_module {ds = const_of_two (codes "package_m_two") ∷ []} {es = []} other_linked no_module);
+}
 
 pub premises_are_met : PremisesAreMet
 premises_are_met = record {
   linked_well = record { loaded = all_loaded; clash_free = clash_free; linked = is_linked };
   program = sources_are two_modules the_root keeps all_loaded (entry ∷ the_two ∷ []) (record {
-    order = the_root ∷ the_other ∷ []; in_order = in_order;
+    order = the_root ∷ the_other ∷ [];
+    in_order = in_order;
     are_held = of_more {ss = st ∷ []} root_unit (entry_of (codes "two") ∷ []) root_module (takes entry_reached nothing_left)
-        (of_more {ss = []} other_unit (const_of_two (codes "two") ∷ []) other_module (takes const_reached nothing_left) of_none) });
+        (of_more {ss = []} other_unit (const_of_two (codes "two") ∷ []) other_module (takes const_reached nothing_left) of_none);
+  });
   ends_well = λ inputs. record { bound = 2; steps = 0; ends = refl; within = omega arith };
 }

@@ -1,15 +1,14 @@
 -- Two modules whose names meet the premises of the laws: a const of one is imported and returned by the other's entry point.
-use Rattle.std.specs.Prelude.{◌≡◌, ℕ, List, [], ◌∷◌, Option, Some, None, codes}
+use Rattle.std.specs.Prelude.{[], ◌∷◌, Some, None, codes}
 use Rattle.wgsl_path.specs.declared.path.ModulePath.{ModulePath}
 use Rattle.wgsl_path.specs.declared.path.PathOrigin.TheVariants.{Absolute}
 use Rattle.wgsl_syntax.specs.declared.expression.LiteralExpression.TheVariants as L
 use Rattle.wgsl_syntax.specs.declared.declaration.DeclarationKind.TheVariants.{Const}
 use Rattle.wgsl_syntax.specs.Tree.{literal, named, simple, fragment, returning, Decl, variable, function, Imp, Unit}
-use Rattle.wgsl_meaning.specs.declared.value.Value.{Value}
 use Rattle.wgsl_meaning.specs.declared.value.Value.TheVariants as V
 use Rattle.wgsl_meaning.specs.Names.{Name, Symbol}
-use Rattle.wgsl_meaning.specs.Programs.{Program, Inputs, here, program_of, EndsWell}
-use Rattle.wesl_sources.specs.Modules.{Path, Modules}
+use Rattle.wgsl_meaning.specs.Programs.{Program, Inputs, EndsWell}
+use Rattle.wesl_sources.specs.Modules.{Modules}
 use Rattle.wesl_meaning.specs.SourcePrograms.{IsProgramOf, sources}
 use Rattle.wesl_meaning.specs.Runs.{AreLinkedWell}
 
