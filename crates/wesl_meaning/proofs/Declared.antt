@@ -27,7 +27,7 @@ false_if false h = refl
 
 -- ---- lists in which each name stands once
 
-away : (xs : List Name) (y : Name) (ys : List Name) → Once (xs ++ y ∷ ys) → Contains xs y → ⊥
+pub away : (xs : List Name) (y : Name) (ys : List Name) → Once (xs ++ y ∷ ys) → Contains xs y → ⊥
 away [] y ys o c = in_none y c
 away (x ∷ xs) y ys o c = at (away xs y ys o.1) (in_cases x xs y c)
   where
@@ -74,7 +74,7 @@ map_map : {A B : Type 0} (f : B → Name) (g : A → B) (h : A → Name) → ((x
 map_map f g h e [] = refl
 map_map f g h e (x ∷ xs) = ap (λ z. z ∷ map f (map g xs)) (e x) ∙ ap (λ l. h x ∷ l) (map_map f g h e xs)
 
-map-append : {A : Type 0} (f : A → Name) (xs ys : List A) → map f (xs ++ ys) ≡ map f xs ++ map f ys
+pub map-append : {A : Type 0} (f : A → Name) (xs ys : List A) → map f (xs ++ ys) ≡ map f xs ++ map f ys
 map-append f [] ys = refl
 map-append f (x ∷ xs) ys = ap (λ l. f x ∷ l) (map-append f xs ys)
 

@@ -11,3 +11,9 @@ pub mod Distinct
 pub mod Exists
 pub mod Loading
 pub mod Unique
+pub mod Splits
+pub mod Moves
+pub mod Refusals
+pub mod Determined
+pub mod Asked
+pub mod Example

@@ -39,16 +39,16 @@ decide_in x (y ∷ ys) = at (bytes_eq x y) refl (decide_in x ys)
 
 -- ---- modules that are loaded one after another
 
-record Apart (modules : Modules) : Type 0 where
-  apart : (a b : ModulePath × Unit) → Contains modules a → Contains modules b → path_text a.0 ≡ path_text b.0 → a ≡ b
-  distinct : (a : ModulePath × Unit) → Contains modules a → AreDistinct (scope_names a.1)
+pub record Apart (modules : Modules) : Type 0 where
+  pub apart : (a b : ModulePath × Unit) → Contains modules a → Contains modules b → path_text a.0 ≡ path_text b.0 → a ≡ b
+  pub distinct : (a : ModulePath × Unit) → Contains modules a → AreDistinct (scope_names a.1)
 
 -- their paths are those that were asked for
-record Loading (ps : List Path) (more : Modules) : Type 0 where
-  asked : (a : ModulePath × Unit) → Contains more a → Contains ps (path_text a.0)
-  names : (a : ModulePath × Unit) → Contains more a → AreDistinct (scope_names a.1)
+pub record Loading (ps : List Path) (more : Modules) : Type 0 where
+  pub asked : (a : ModulePath × Unit) → Contains more a → Contains ps (path_text a.0)
+  pub names : (a : ModulePath × Unit) → Contains more a → AreDistinct (scope_names a.1)
 
-loading : (sources : Sources) (max n : ℕ) (ps : List Path) (more : Modules) → Loads sources max n ps (Ok more) → Loading ps more
+pub loading : (sources : Sources) (max n : ℕ) (ps : List Path) (more : Modules) → Loads sources max n ps (Ok more) → Loading ps more
 loading sources max n [] (m ∷ ms) h = elim h [ ]
 loading sources max n [] [] all_loaded = record { asked = λ a c. absurd (in_none a c); names = λ a c. absurd (in_none a c) }
 loading sources max n (p ∷ ps) _ (loaded {u = u} {path = path} {modules = more} lt is d e rest) =
@@ -66,7 +66,7 @@ loading sources max n (p ∷ ps) _ (loaded {u = u} {path = path} {modules = more
     names_of r a (inl s) = subst (λ z. AreDistinct (scope_names z.1)) s d
     names_of r a (inr c) = r.names a c
 
-loading_apart : (sources : Sources) (max n : ℕ) (ps : List Path) (more : Modules) → IsAscending ps → Loads sources max n ps (Ok more) → (a b : ModulePath × Unit) → Contains more a → Contains more b → path_text a.0 ≡ path_text b.0 → a ≡ b
+pub loading_apart : (sources : Sources) (max n : ℕ) (ps : List Path) (more : Modules) → IsAscending ps → Loads sources max n ps (Ok more) → (a b : ModulePath × Unit) → Contains more a → Contains more b → path_text a.0 ≡ path_text b.0 → a ≡ b
 loading_apart sources max n [] (m ∷ ms) asc h a b c d e = elim h [ ]
 loading_apart sources max n [] [] asc all_loaded a b c d e = absurd (in_none a c)
 loading_apart sources max n (p ∷ ps) _ asc (loaded {u = u} {path = path} {modules = more} lt is ds to rest) a b c d e = at (λ k l. loading_apart sources max (n + 1) ps more (rest_ascends p ps asc) rest a b k l e) (in_cases (path, u) more a c) (in_cases (path, u) more b d)
@@ -82,7 +82,7 @@ loading_apart sources max n (p ∷ ps) _ asc (loaded {u = u} {path = path} {modu
 
 module _ (root : Path) (keep : List Name) where
   -- a round adds modules that weren't there
-  next_apart : (sources : Sources) (max n : ℕ) (modules more : Modules) (ps : List Path) → Apart modules → IsNextRound modules root keep ps → Loads sources max n ps (Ok more) → Apart (modules ++ more)
+  pub next_apart : (sources : Sources) (max n : ℕ) (modules more : Modules) (ps : List Path) → Apart modules → IsNextRound modules root keep ps → Loads sources max n ps (Ok more) → Apart (modules ++ more)
   next_apart sources max n modules more ps old round loads = record {
     apart = λ a b c d e. both a b (Contains-append_cases modules more a c) (Contains-append_cases modules more b d) e;
     distinct = λ a c. names a (Contains-append_cases modules more a c);

@@ -1,6 +1,9 @@
 //! Laws of linked modules. Each function states its law and does nothing.
 
+ghost use Rattle.wesl_meaning.specs.Asked.{OnlyWhatIsAskedCounts};
 ghost use Rattle.wesl_meaning.specs.Declared.{LinkedUnitsDeclareWhatIsHeld};
+ghost use Rattle.wesl_meaning.specs.Determined.{LoadingComesToOne};
+ghost use Rattle.wesl_meaning.specs.Example.{PremisesAreMet};
 ghost use Rattle.wesl_meaning.specs.Runs.{LinkedModulesHaveAProgram, LinkedUnitsEndWell, LinkedUnitsRunAlike, WhatIsLoaded};
 ghost use Rattle.wesl_meaning.specs.Unique.{LinkedUnitsAreOne};
 
@@ -32,4 +35,19 @@ pub fn linked_units_declare_what_is_held()
 /// Loaded modules are linked into one unit alone.
 pub fn linked_units_are_one()
     ensures { LinkedUnitsAreOne }
+{}
+
+/// Loading comes to one refusal, or to the same units at the same printed paths.
+pub fn loading_comes_to_one()
+    ensures { LoadingComesToOne }
+{}
+
+/// Sources that agree on the paths that are asked of one of them come to the same refusal, or to the same units.
+pub fn only_what_is_asked_counts()
+    ensures { OnlyWhatIsAskedCounts }
+{}
+
+/// There are modules that meet the premises of these laws, with a run that ends well.
+pub fn premises_are_met()
+    ensures { PremisesAreMet }
 {}

@@ -1,5 +1,5 @@
 -- What compiled modules are, and what is kept of their runs.
-use Rattle.std.specs.Prelude.{◌≡◌, ℕ, List, Option, Ok}
+use Rattle.std.specs.Prelude.{◌≡◌, ℕ, List, Option, Ok, ◌↔◌}
 use Rattle.wgsl_token.specs.declared.token.SpannedToken.{SpannedToken}
 use Rattle.wgsl_syntax.specs.declared.unit.TranslationUnit.{TranslationUnit}
 use Rattle.wgsl_syntax.specs.Tree.{Unit}
@@ -49,3 +49,10 @@ pub record PrintsWell (modules : Modules) (root : Path) (keep : List Name) (lowe
 abbrev pub PrintedTextRunsAsItsSources : Type 0
 PrintedTextRunsAsItsSources = (modules : Modules) (root : Path) (keep : List Name) (lowered : Unit) → AreCompiled modules root keep lowered
     → (text : List ℕ) → StandsFor text lowered → PrintsWell modules root keep lowered
+
+-- A text of the linked unit: runs end well there exactly where they do in the modules, with the same answer in the same steps.
+abbrev pub LinkedTextRunsAsItsSources : Type 0
+LinkedTextRunsAsItsSources = (modules : Modules) (root : Path) (keep : List Name) (linked : Unit) → AreLinkedWell modules root keep linked
+    → (text : List ℕ) (tokens : List SpannedToken) (unit : TranslationUnit) → IsLexed text tokens → IsUnit tokens unit → unit_tree unit ≡ linked
+    → (p : Program) → IsProgramOf modules root keep p → (s : Symbol) → IsKept root keep s → (inputs : Inputs) (n : ℕ) (answer : Option Value)
+    → EndsWell p s inputs n answer ↔ EndsWell (program_of (unit_tree unit)) (here s.called) inputs n answer

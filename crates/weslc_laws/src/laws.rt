@@ -1,6 +1,6 @@
 //! Laws of compiled modules. Each function states its law and does nothing.
 
-ghost use Rattle.weslc_laws.specs.Compiled.{CompiledTextRunsAsItsSources, PrintedTextRunsAsItsSources, SourcesRunInTheLoweredUnit};
+ghost use Rattle.weslc_laws.specs.Compiled.{CompiledTextRunsAsItsSources, LinkedTextRunsAsItsSources, PrintedTextRunsAsItsSources, SourcesRunInTheLoweredUnit};
 ghost use Rattle.weslc_laws.specs.Declared.{CompiledUnitsDeclareHeldFunctions};
 
 /// A run that ends well in the modules, ends well in the lowered unit with the same answer, in no more steps.
@@ -21,4 +21,9 @@ pub fn printed_text_runs_as_its_sources()
 /// The lowered unit declares the held functions, each once under its printed name, in the order of the linked unit.
 pub fn compiled_units_declare_held_functions()
     ensures { CompiledUnitsDeclareHeldFunctions }
+{}
+
+/// A run ends well in a text of the linked unit exactly where it does in the modules, with the same answer in the same steps.
+pub fn linked_text_runs_as_its_sources()
+    ensures { LinkedTextRunsAsItsSources }
 {}

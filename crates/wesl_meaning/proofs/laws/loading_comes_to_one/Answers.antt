@@ -1,0 +1,5 @@
+use Rattle.wesl_meaning.proofs.Determined.{loading_comes_to_one}
+use Rattle.wesl_meaning.proofs.laws.loading_comes_to_one.Goals as goal
+
+pub returns : goal.returns
+returns c = loading_comes_to_one

@@ -1,0 +1,22 @@
+-- What loading comes to is determined.
+use Rattle.std.specs.Prelude.{◌≡◌, ℕ, List, map, Result, Ok, Err}
+use Rattle.wgsl_path.specs.Paths.{path_text}
+use Rattle.wgsl_syntax.specs.Tree.{Unit}
+use Rattle.wesl_sources.specs.Occurrences.{Name}
+use Rattle.wesl_sources.specs.Modules.{Path, Modules}
+use Rattle.wesl_sources.specs.Rounds.{Sources, Refusal, ComesTo}
+
+-- the modules by their printed paths
+abbrev pub listed : Modules → List (Path × Unit)
+listed modules = map (λ a. (path_text a.0, a.1)) modules
+
+-- the same refusal, or the same units at the same printed paths, in one order
+abbrev pub SameOutcome : Result Modules Refusal → Result Modules Refusal → Type 0
+SameOutcome (Ok a) (Ok b) = listed a ≡ listed b
+SameOutcome (Ok a) (Err r) = ⊥
+SameOutcome (Err r) (Ok b) = ⊥
+SameOutcome (Err r) (Err q) = r ≡ q
+
+abbrev pub LoadingComesToOne : Type 0
+LoadingComesToOne = (found : Sources) (root : Path) (keep : List Name) (max : ℕ) (one other : Result Modules Refusal) → ComesTo found root keep max one
+    → ComesTo found root keep max other → SameOutcome one other

@@ -1,0 +1,58 @@
+-- Two modules whose names meet the premises of the laws: a const of one is imported and returned by the other's entry point.
+use Rattle.std.specs.Prelude.{[], ◌∷◌, Some, None, codes}
+use Rattle.wgsl_path.specs.declared.path.ModulePath.{ModulePath}
+use Rattle.wgsl_path.specs.declared.path.PathOrigin.TheVariants.{Absolute}
+use Rattle.wgsl_syntax.specs.declared.expression.LiteralExpression.TheVariants as L
+use Rattle.wgsl_syntax.specs.declared.declaration.DeclarationKind.TheVariants.{Const}
+use Rattle.wgsl_syntax.specs.Tree.{literal, named, simple, fragment, returning, Decl, variable, function, Imp, Unit}
+use Rattle.wgsl_meaning.specs.declared.value.Value.TheVariants as V
+use Rattle.wgsl_meaning.specs.Names.{Name, Symbol}
+use Rattle.wgsl_meaning.specs.Programs.{Program, Inputs, EndsWell}
+use Rattle.wesl_sources.specs.Modules.{Modules}
+use Rattle.wesl_meaning.specs.SourcePrograms.{IsProgramOf, sources}
+use Rattle.wesl_meaning.specs.Runs.{AreLinkedWell}
+
+-- `const two = 2u;` under a name
+abbrev pub const_of_two : Name → Decl
+const_of_two x = variable [] Const x None (Some (literal (L.U32 2)))
+
+-- `@fragment fn g() -> u32 { return two; }`, where `two` has a name
+abbrev pub entry_of : Name → Decl
+entry_of x = function (fragment ∷ []) (codes "g") [] [] (Some (simple None (codes "u32"))) (record { attributes = []; statements = returning [] (Some (named (simple None x))) ∷ [] })
+
+abbrev pub root_path : ModulePath
+root_path = record { origin = Absolute; components = [] }
+
+abbrev pub other_path : ModulePath
+other_path = record { origin = Absolute; components = codes "m" ∷ [] }
+
+-- `import package::m::two;`
+abbrev pub import_of_two : Imp
+import_of_two = record { attributes = []; path = Some other_path; item = codes "two"; rename = None }
+
+abbrev pub root_unit : Unit
+root_unit = record { imports = import_of_two ∷ []; declarations = entry_of (codes "two") ∷ [] }
+
+abbrev pub other_unit : Unit
+other_unit = record { imports = []; declarations = const_of_two (codes "two") ∷ [] }
+
+abbrev pub two_modules : Modules
+two_modules = (root_path, root_unit) ∷ (other_path, other_unit) ∷ []
+
+abbrev pub linked_unit : Unit
+linked_unit = record { imports = []; declarations = entry_of (codes "package_m_two") ∷ const_of_two (codes "package_m_two") ∷ [] }
+
+abbrev pub entry : Symbol
+entry = record { home = root_path; called = codes "g" }
+
+abbrev pub the_two : Symbol
+the_two = record { home = other_path; called = codes "two" }
+
+abbrev pub the_program : Program
+the_program = sources two_modules (entry ∷ the_two ∷ [])
+
+-- they are linked well into that unit, they have that program, and a run ends well with 2
+pub record PremisesAreMet : Type 0 where
+  pub linked_well : AreLinkedWell two_modules (codes "package") (codes "g" ∷ []) linked_unit
+  pub program : IsProgramOf two_modules (codes "package") (codes "g" ∷ []) the_program
+  pub ends_well : (inputs : Inputs) → EndsWell the_program entry inputs 0 (Some (V.U32 2))
