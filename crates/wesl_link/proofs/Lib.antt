@@ -13,3 +13,4 @@ pub mod ResolvedLemmas
 pub mod AssembleLemmas
 pub mod FollowLemmas
 pub mod StageLemmas
+pub mod PresentLemmas

@@ -21,7 +21,8 @@ use Rattle.wesl_link.specs.declared.denote.Symbol.{Symbol as Place}
 use Rattle.wesl_link.specs.Scopes.{texts}
 use Rattle.wesl_link.specs.Outcomes.{Outcome, Loaded, outcome}
 use Rattle.wesl_link.specs.Closing.{HeldNames, held_at, Holds}
-use Rattle.wesl_link.specs.Following.{Stage, Handled, IsFollowed, Moves}
+use Rattle.wesl_link.specs.Reach.{KeepsOne, KeepsAll}
+use Rattle.wesl_link.specs.Following.{Stage, Handled, IsFollowed, Moves, FollowedTo}
 use Rattle.wesl_link.specs.Stages.{place_of, stage, AskedNames, name_asked, asks}
 use Rattle.wesl_link.proofs.ScopeLemmas.{same_name, self_name, from_contains, get_map, map_get, at_place}
 use Rattle.wesl_link.proofs.ClosingLemmas.{at_default}
@@ -153,3 +154,37 @@ moves_asked held old new missing reached t a = record {
     stays true true o e = refl
     stays true false o e = e
     stays false c o e = e
+
+-- ---- the kept names, one more at a time
+
+abbrev pub KeptBelow : Loaded → Path → List Name → HeldNames → ℕ → Type 0
+KeptBelow find root keep held n = (i : ℕ) (x : Name) → i < n → slice_get keep i ≡ Some x → KeepsOne find root x (held_at held)
+
+pub kept_more : (find : Loaded) (root : Path) (keep : List Name) (old new : HeldNames) (n : ℕ) (x : Name) → slice_get keep n ≡ Some x
+    → ((m : Path) (k : ℕ) → IsSome (held_at old m k) → IsSome (held_at new m k)) → KeptBelow find root keep old n → KeepsOne find root x (held_at new) → KeptBelow find root keep new (n + 1)
+kept_more find root keep old new n x is stays below now i y less there = ⊎_elim
+    (λ before. let k = below i y before there in (k.0, k.1, k.2, stays k.0 k.1 k.3))
+    (λ e. let both : Some x ≡ Some y = sym is ∙ ap (slice_get keep) (sym e) ∙ there in let same : x ≡ y = cc in subst (λ z. KeepsOne find root z (held_at new)) same now)
+    (either i n less)
+  where
+    either : (i n : ℕ) → i < n + 1 → (i < n) ⊎ (i ≡ n)
+    either i n h = grind arith
+
+pub kept_all : (find : Loaded) (root : Path) (keep : List Name) (old new : HeldNames) (n : ℕ) → length keep ≤ n
+    → ((m : Path) (k : ℕ) → IsSome (held_at old m k) → IsSome (held_at new m k)) → KeptBelow find root keep old n → KeepsAll find root keep (held_at new)
+kept_all find root keep old new n long stays below x c =
+    let p = from_contains keep x c in
+    let within : p.0 < length keep = slice_get_within keep p.0 x p.1 in
+    let less : p.0 < n = omega arith in
+    let k = below p.0 x less p.1 in
+    (k.0, k.1, k.2, stays k.0 k.1 k.3)
+
+pub from_nothing : (find : Loaded) (s t : Stage) → ((m : Path) (k : ℕ) → s.held m k ≡ None) → Moves s t → FollowedTo find t 0
+from_nothing find s t empty moves = λ m k h. ⊎_elim
+    (λ old. absurd (none_held (s.held m k) (empty m k) old))
+    (λ l. inr (l.0, omega arith, l.2))
+    (moves.tracked m k h)
+  where
+    none_held : (o : Option Name) → o ≡ None → IsSome o → ⊥
+    none_held None e h = absurd (cc)
+    none_held (Some y) e h = absurd (cc)

@@ -46,3 +46,15 @@ FollowedTo find s at = (m : Path) (k : ℕ) → IsSome (s.held m k) → IsFollow
 
 abbrev pub AllFollowed : Loaded → Stage → Type 0
 AllFollowed find s = (m : Path) (k : ℕ) → IsSome (s.held m k) → IsFollowed find s m k
+
+-- it is not said that a module lacks the item, or only imports it
+abbrev pub IsPresent : Outcome → Type 0
+IsPresent (symbol_at m place) = Prim.Unit {0}
+IsPresent (unloaded t) = Prim.Unit {0}
+IsPresent (missing t) = ⊥
+IsPresent (private t) = ⊥
+IsPresent free = Prim.Unit {0}
+
+-- nothing is missing in the declaration at a place
+abbrev pub ArePresent : Loaded → Path → ℕ → Type 0
+ArePresent find m k = (h : Path × Unit) (d : Decl) (x : Name) → find m ≡ Some h → slice_get h.1.declarations k ≡ Some d → Contains (occurrences d) x → IsPresent (outcome find h x)

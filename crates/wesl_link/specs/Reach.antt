@@ -31,9 +31,13 @@ abbrev pub IsSettled : Loaded → Holding → Type 0
 IsSettled find held = (m : Path) (k : ℕ) (h : Path × Unit) (d : Decl) (x : Name) → IsSome (held m k) → find m ≡ Some h
     → slice_get h.1.declarations k ≡ Some d → Contains (occurrences d) x → Settled held (outcome find h x)
 
+-- a kept name is held
+abbrev pub KeepsOne : Loaded → Path → Name → Holding → Type 0
+KeepsOne find root x held = (m : Path) × (place : ℕ) × (item_at (record { home = root; name = x }) (find root) ≡ symbol_at m place) × IsSome (held m place)
+
 -- the kept names are held
 abbrev pub KeepsAll : Loaded → Path → List Name → Holding → Type 0
-KeepsAll find root keep held = (x : Name) → Contains keep x → (m : Path) × (place : ℕ) × (item_at (record { home = root; name = x }) (find root) ≡ symbol_at m place) × IsSome (held m place)
+KeepsAll find root keep held = (x : Name) → Contains keep x → KeepsOne find root x held
 
 -- the root is loaded and declares what is kept
 abbrev pub IsRooted : Modules → Path → List Name → Type 0

@@ -1,6 +1,6 @@
 //! What the kept names lead to in the loaded modules.
 
-ghost use Rattle.std.specs.Prelude.{◌≡◌, ℕ, [], Some, None, Bool, true, IfOk, OnOk, slice_get, string_bytes, if◌then◌else◌};
+ghost use Rattle.std.specs.Prelude.{◌≡◌, ℕ, [], Some, None, Bool, true, false, IfOk, OnOk, slice_get, string_bytes, if◌then◌else◌};
 ghost use Rattle.std.specs.List.{Contains};
 ghost use Rattle.std.specs.Option.{IsSome, is_some};
 ghost use Rattle.std.specs.Ordering.{nat_cmp};
@@ -11,6 +11,7 @@ ghost use Rattle.wesl_sources.specs.Occurrences as spec;
 ghost use Rattle.wesl_sources.specs.Modules.{Path, Symbol as Sought};
 ghost use Rattle.wesl_link.specs.Outcomes.{loaded, home_of, outcome};
 ghost use Rattle.wesl_link.specs.Following.{Moves, Handled, IsFollowed, FollowedTo, AllFollowed};
+ghost use Rattle.wesl_link.specs.Reach.{KeepsAll, KeepsOne};
 ghost use Rattle.wesl_link.specs.Stages.{asks, name_asked, stage};
 ghost use Rattle.wesl_link.specs.Closing.{IsReached, AllReached, IsSound, Holds, held_at};
 
@@ -57,13 +58,16 @@ pub fn close_root(
     held: &mut Held,
 ) -> Result<Asked, ImportError>
     requires { AllReached linking.now held.old }
-    ensures { OnOk result (AllReached linking.now held.new) }
+    ensures sound { OnOk result (AllReached linking.now held.new) }
+    ensures followed { ((m : Path) (place : ℕ) → held_at held.old m place ≡ None) → IfOk result (λ asked. AllFollowed (loaded linking.now.modules.now) (stage held.new (asks asked) false [])) }
+    ensures kept { OnOk result (KeepsAll (loaded linking.now.modules.now) linking.now.root.now linking.now.keep.now (held_at held.new)) }
 {
     let mut found = found_nothing(alloc);
     for name in linking.keep {
         reach_kept(alloc, linking, path, name, held, &mut found.reached)?;
     }
-    close(alloc, linking, held, found)
+    let asked = close(alloc, linking, held, found)?;
+    Ok(asked)
 }
 
 fn reach_kept<'a>(
@@ -75,7 +79,9 @@ fn reach_kept<'a>(
     reached: &mut Vec<Symbol<'a>>,
 ) -> Result<(), ImportError>
     requires keep { Contains linking.now.keep.now name.now }
-    ensures { IsSound linking.now held.old reached.old.items → OnOk result (IsSound linking.now held.new reached.new.items) }
+    ensures sound { IsSound linking.now held.old reached.old.items → OnOk result (IsSound linking.now held.new reached.new.items) }
+    ensures moves { OnOk result ((asked : Sought → Bool) (missing : Bool) → Moves (stage held.old asked missing reached.old.items) (stage held.new asked missing reached.new.items)) }
+    ensures kept { OnOk result (KeepsOne (loaded linking.now.modules.now) linking.now.root.now name.now (held_at held.new)) }
 {
     match item_of(linking.modules, linking.root, name.as_str()) {
         Item::Declared(symbol) => Ok(reach(alloc, linking, symbol, held, reached)?),
@@ -111,7 +117,9 @@ fn close<'a>(
     held: &mut Held,
     mut found: Found<'a>,
 ) -> Result<Asked, ImportError>
-    ensures { IsSound linking.now held.old found.entry.reached.items → OnOk result (AllReached linking.now held.new) }
+    ensures sound { IsSound linking.now held.old found.entry.reached.items → OnOk result (AllReached linking.now held.new) }
+    ensures followed { FollowedTo (loaded linking.now.modules.now) (stage held.old (asks found.entry.asked) found.entry.is_missing found.entry.reached.items) 0 → IfOk result (λ asked. AllFollowed (loaded linking.now.modules.now) (stage held.new (asks asked) false [])) }
+    ensures stays { OnOk result ((m : Path) (place : ℕ) → IsSome (held_at held.old m place) → IsSome (held_at held.new m place)) }
 {
     follow_all(alloc, linking, held, &mut found)?;
     outcome_of(alloc, linking, held, found)
@@ -145,13 +153,16 @@ fn outcome_of(
     linking: &Linking<'_>,
     held: &Held,
     found: Found<'_>,
-) -> Result<Asked, ImportError> {
-    if found.is_missing
-        && let Some(error) = first_missing(alloc, linking.modules, held)?
-    {
-        return Err(error);
+) -> Result<Asked, ImportError>
+    ensures { AllFollowed (loaded linking.now.modules.now) (stage held.now (asks found.entry.asked) found.entry.is_missing found.entry.reached.items) → IfOk result (λ asked. AllFollowed (loaded linking.now.modules.now) (stage held.now (asks asked) false [])) }
+{
+    if !found.is_missing {
+        return Ok(found.asked);
     }
-    Ok(found.asked)
+    match first_missing(alloc, linking.modules, held)? {
+        Some(error) => Err(error),
+        None => Ok(found.asked),
+    }
 }
 
 fn follow<'a>(
