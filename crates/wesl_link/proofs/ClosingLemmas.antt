@@ -1,5 +1,5 @@
 -- What is held after one more place.
-use Rattle.std.proofs.Common.{◌≡◌, refl, sym, ap, ◌∙◌, subst, ℕ, zero, suc, ◌<◌, List, [], ◌∷◌, ◌++◌, arith, Bool, true, false, Option, Some, None, get_or, length, map}
+use Rattle.std.proofs.Common.{◌≡◌, refl, sym, ap, ◌∙◌, subst, ℕ, zero, suc, ◌<◌, List, [], ◌∷◌, ◌++◌, arith, Bool, true, false, Some, None, get_or, length}
 use Rattle.std.specs.Prelude.{if◌then◌else◌, slice_get, string_bytes, nat_eq}
 use Rattle.std.specs.Str.{bytes_eq}
 use Rattle.std.specs.String.{string_cmp}

@@ -1,5 +1,5 @@
 -- That nothing is missing, one name, one place, one module after another.
-use Rattle.std.proofs.Common.{◌≡◌, refl, sym, ap, ◌∙◌, subst, ℕ, zero, suc, ◌+◌, ◌<◌, ◌≤◌, ◌⊎◌, inl, inr, ⊎_elim, List, [], ◌∷◌, length, map, Bool, true, false, Option, Some, None, arith}
+use Rattle.std.proofs.Common.{◌≡◌, refl, sym, ap, ◌∙◌, subst, ℕ, zero, suc, ◌+◌, ◌<◌, ◌≤◌, ◌⊎◌, inl, inr, ⊎_elim, List, [], ◌∷◌, length, false, Option, Some, None, arith}
 use Rattle.std.specs.Prelude.{slice_get, string_bytes}
 use Rattle.std.specs.Option.{IsSome}
 use Rattle.std.specs.Ordering.{nat_cmp, is_eq}

@@ -1,5 +1,5 @@
 -- One more place that is held, and one more item that is asked for.
-use Rattle.std.proofs.Common.{◌≡◌, refl, sym, ap, ◌∙◌, subst, ℕ, zero, suc, ◌+◌, ◌<◌, ◌≤◌, ◌⊎◌, inl, inr, ⊎_elim, List, [], ◌∷◌, ◌++◌, length, map, get_or, Bool, true, false, ◌&&◌, ◌||◌, Option, Some, None, arith}
+use Rattle.std.proofs.Common.{◌≡◌, refl, sym, ap, ◌∙◌, subst, ℕ, ◌+◌, ◌<◌, ◌≤◌, ◌⊎◌, inl, inr, ⊎_elim, List, [], ◌∷◌, ◌++◌, length, map, get_or, Bool, true, false, Option, Some, None, arith}
 use Rattle.std.specs.Prelude.{if◌then◌else◌, slice_get, string_bytes, nat_eq}
 use Rattle.std.specs.Str.{bytes_eq}
 use Rattle.std.specs.Option.{IsSome}
@@ -8,7 +8,7 @@ use Rattle.std.proofs.lemmas.Option.{slice_get_within}
 use Rattle.std.proofs.lemmas.Bool.{eqb-true, eq-eqb}
 use Rattle.std.proofs.lemmas.Map.Text.{btree_map_updates_text}
 use Rattle.std.specs.String.{string_cmp}
-use Rattle.std.specs.BTreeMap.{BTreeMap, get_by_text, Updates}
+use Rattle.std.specs.BTreeMap.{get_by_text, Updates}
 use Rattle.std.specs.declared.string.String.{String}
 use Rattle.std.specs.declared.alloc.Global.{Global}
 use Rattle.wesl_link.specs.declared.linking.AskedModule.{AskedModule}
@@ -19,7 +19,7 @@ use Rattle.wesl_sources.specs.Occurrences.{Name, occurrences}
 use Rattle.wesl_sources.specs.Modules.{Path, Symbol}
 use Rattle.wesl_link.specs.declared.denote.Symbol.{Symbol as Place}
 use Rattle.wesl_link.specs.Scopes.{texts}
-use Rattle.wesl_link.specs.Outcomes.{Outcome, Loaded, outcome}
+use Rattle.wesl_link.specs.Outcomes.{Loaded, outcome}
 use Rattle.wesl_link.specs.Closing.{HeldNames, held_at, Holds}
 use Rattle.wesl_link.specs.Reach.{KeepsOne, KeepsAll}
 use Rattle.wesl_link.specs.Following.{Stage, Handled, IsFollowed, Moves, FollowedTo}

@@ -1,5 +1,5 @@
 -- What following the occurrences of what is held leaves.
-use Rattle.std.specs.Prelude.{◌≡◌, ℕ, ◌+◌, ◌≤◌, ◌⊎◌, List, ◌++◌, length, Bool, true, Some, slice_get}
+use Rattle.std.specs.Prelude.{◌≡◌, ℕ, ◌≤◌, ◌⊎◌, List, ◌++◌, length, Bool, true, Some, slice_get}
 use Rattle.std.specs.Option.{IsSome}
 use Rattle.std.specs.List.{Contains}
 use Rattle.wgsl_syntax.specs.Tree.{Decl, Unit}

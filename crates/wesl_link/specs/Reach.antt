@@ -1,10 +1,10 @@
 -- What is reached and what is held, by places.
-use Rattle.std.specs.Prelude.{◌≡◌, ℕ, List, Option, Some, None, slice_get}
+use Rattle.std.specs.Prelude.{◌≡◌, ℕ, List, Option, Some, slice_get}
 use Rattle.std.specs.Option.{IsSome}
 use Rattle.std.specs.List.{Contains}
 use Rattle.wgsl_syntax.specs.Tree.{Decl, Unit}
 use Rattle.wesl_sources.specs.Occurrences.{Name, occurrences}
-use Rattle.wesl_sources.specs.Modules.{Path, Symbol, Modules, IsModule, Declares}
+use Rattle.wesl_sources.specs.Modules.{Path, Modules, IsModule, Declares}
 use Rattle.wesl_link.specs.Outcomes.{Outcome, symbol_at, unloaded, missing, private, free, Loaded, item_at, outcome}
 
 -- what a finite chain of occurrences leads to from the kept names of the root: the declaration at this place of this module

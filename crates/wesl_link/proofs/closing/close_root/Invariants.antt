@@ -1,8 +1,6 @@
-use Rattle.std.proofs.Common.{◌≡◌, ℕ, ◌<◌, Some, []}
-use Rattle.std.specs.Prelude.{slice_get}
-use Rattle.wesl_sources.specs.Occurrences.{Name}
+use Rattle.std.proofs.Common.{[]}
 use Rattle.wesl_link.specs.Outcomes.{loaded}
-use Rattle.wesl_link.specs.Closing.{IsSound, held_at}
+use Rattle.wesl_link.specs.Closing.{IsSound}
 use Rattle.wesl_link.proofs.StageLemmas.{KeptBelow}
 use Rattle.wesl_link.specs.Following.{Moves}
 use Rattle.wesl_link.specs.Stages.{asks, stage}

@@ -1,7 +1,7 @@
 use Rattle.wesl_link.specs.Outcomes.{loaded}
 use Rattle.wesl_link.specs.Closing.{IsReached}
 use Rattle.wesl_link.proofs.ClosingLemmas.{held_there}
-use Rattle.wesl_link.proofs.FollowLemmas.{two_moves, followed_more, followed_all}
+use Rattle.wesl_link.proofs.FollowLemmas.{two_moves, followed_more}
 use Rattle.wesl_link.proofs.StageLemmas.{place_there}
 use Rattle.wesl_link.proofs.closing.follow_all.Goals as goal
 

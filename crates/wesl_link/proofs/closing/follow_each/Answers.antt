@@ -1,4 +1,4 @@
-use Rattle.std.proofs.Common.{◌≡◌, ℕ, List, [], get_or, sym, ap, ◌∙◌, subst}
+use Rattle.std.proofs.Common.{ℕ, List, [], get_or, ap, ◌∙◌, subst}
 use Rattle.std.specs.Prelude.{string_bytes}
 use denote.Ref.{Bor}
 use Rattle.std.specs.List.{Contains}

@@ -1,4 +1,3 @@
-use Rattle.std.specs.Prelude.{string_bytes}
 use Rattle.wesl_link.specs.Outcomes.{loaded, home_of}
 use Rattle.wesl_link.specs.Closing.{IsReached, IsSound}
 use Rattle.wesl_link.specs.Following.{Moves}

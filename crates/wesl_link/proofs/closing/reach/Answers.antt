@@ -1,4 +1,3 @@
-use Rattle.std.proofs.Common.{◌≡◌, ◌∙◌, sym}
 use Rattle.std.specs.Prelude.{string_bytes}
 use Rattle.wesl_link.specs.Stages.{stage}
 use Rattle.wesl_link.proofs.ClosingLemmas.{sound_more}

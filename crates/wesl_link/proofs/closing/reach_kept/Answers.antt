@@ -1,6 +1,6 @@
-use Rattle.std.proofs.Common.{◌≡◌, sym, ap, ◌∙◌}
+use Rattle.std.proofs.Common.{sym, ap, ◌∙◌}
 use Rattle.std.specs.Prelude.{string_bytes}
-use Rattle.wesl_link.specs.Outcomes.{Outcome, symbol_at, item_at, loaded}
+use Rattle.wesl_link.specs.Outcomes.{item_at, loaded}
 use Rattle.wesl_link.specs.Reach.{kept}
 use Rattle.wesl_link.proofs.closing.reach_kept.Goals as goal
 

@@ -1,4 +1,4 @@
-use Rattle.std.proofs.Common.{◌≡◌, ◌∙◌, ap, sym, ℕ, subst}
+use Rattle.std.proofs.Common.{ℕ, subst}
 use Rattle.std.specs.Prelude.{string_bytes}
 use Rattle.std.specs.Option.{IsSome}
 use Rattle.std.specs.Ordering.{nat_cmp}
