@@ -1,5 +1,5 @@
 -- What is held after one more place.
-use Rattle.std.proofs.Common.{◌≡◌, refl, sym, ap, ◌∙◌, subst, ℕ, zero, suc, ◌<◌, List, [], ◌∷◌, ◌++◌, arith, Bool, true, false, Option, Some, None, get_or, length, map}
+use Rattle.std.proofs.Common.{◌≡◌, refl, sym, ap, ◌∙◌, subst, ℕ, zero, suc, ◌<◌, List, [], ◌∷◌, ◌++◌, arith, Bool, true, false, Some, None, get_or, length}
 use Rattle.std.specs.Prelude.{if◌then◌else◌, slice_get, string_bytes, nat_eq}
 use Rattle.std.specs.Str.{bytes_eq}
 use Rattle.std.specs.String.{string_cmp}
@@ -43,7 +43,7 @@ holds old mid new places more key m place name taken others added is put = λ n 
         ap (λ o. name_among o k)
         (found n ∙ ap (λ b. if b then Some more else get_by_text mid n) e ∙ others n ∙ ap (λ b. if b then None else get_by_text old n) e)
 
-at_default : {A : Type 0} (xs : List A) (i : ℕ) (d : A) → i < length xs → slice_get xs i ≡ Some (get_or xs i d)
+pub at_default : {A : Type 0} (xs : List A) (i : ℕ) (d : A) → i < length xs → slice_get xs i ≡ Some (get_or xs i d)
 at_default [] i d h = absurd (omega arith)
 at_default (x ∷ xs) zero d h = refl
 at_default (x ∷ xs) (suc i) d h = let less : i < length xs = omega arith in at_default xs i d less

@@ -11,3 +11,6 @@ pub mod LinkLemmas
 pub mod OrderLemmas
 pub mod ResolvedLemmas
 pub mod AssembleLemmas
+pub mod FollowLemmas
+pub mod StageLemmas
+pub mod PresentLemmas

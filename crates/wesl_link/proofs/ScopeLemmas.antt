@@ -1,7 +1,7 @@
 -- The names of a module's scope: what each means, where the scope has each once.
-use Rattle.std.proofs.Common.{◌≡◌, ◌≢◌, refl, sym, ap, ◌∙◌, subst, ℕ, zero, suc, ◌+◌, ◌<◌, ◌⊎◌, inl, inr, ⊎_elim, List, [], ◌∷◌, ◌++◌, get_or, length, map, Bool, true, false, ◌||◌, Option, Some, None, arith, append_assoc}
+use Rattle.std.proofs.Common.{◌≡◌, refl, sym, ap, ◌∙◌, subst, ℕ, zero, suc, ◌+◌, ◌<◌, ◌⊎◌, inl, inr, ⊎_elim, List, [], ◌∷◌, ◌++◌, get_or, length, map, Bool, true, false, ◌||◌, Option, Some, None, arith, append_assoc}
 use Rattle.std.specs.Prelude.{if◌then◌else◌, slice_get}
-use Rattle.std.specs.List.{Contains, list_any}
+use Rattle.std.specs.List.{Contains}
 use Rattle.std.specs.Str.{bytes_eq}
 use Rattle.std.specs.Cmp.Lexicographic.{nat_list_eq_equiv}
 use Rattle.std.proofs.lemmas.Option.{get_or_from_slice_get, slice_get_within}
@@ -9,17 +9,15 @@ use Rattle.std.proofs.lemmas.List.{append-nil, map-append}
 use Rattle.std.proofs.lemmas.List.Folds.{list_any-append}
 use Rattle.std.proofs.lemmas.Slice.Eq.{bytes_eq-Decides}
 use Rattle.std.proofs.lemmas.Map.Views.{list_any-from_Contains, Contains-from_any}
-use Rattle.wgsl_path.specs.declared.path.ModulePath.{ModulePath}
-use Rattle.wgsl_path.specs.Paths.{path_text}
 use Rattle.std.specs.Option.{option_map}
 use Rattle.wgsl_path.specs.declared.span.Spanned.{Spanned}
 use Rattle.wgsl_syntax.specs.declared.declaration.GlobalDeclaration.{GlobalDeclaration}
 use Rattle.wgsl_syntax.specs.View.{declaration_tree}
 use Rattle.wgsl_syntax.specs.Tree.{Decl, Imp, Unit}
 use Rattle.wesl_sources.specs.Occurrences.{Name, is_among, declared_name}
-use Rattle.wesl_sources.specs.Modules.{Symbol, Declares, Imports, local_name}
+use Rattle.wesl_sources.specs.Modules.{local_name}
 use Rattle.wesl_sources.specs.Rounds.{scope_names, AreDistinct, no_names, another, IsFirstAgain}
-use Rattle.wesl_link.specs.Meanings.{Known, declared, imported, bare, meant, known, names, first_again, import_known, import_entry, declared_entries, entries}
+use Rattle.wesl_link.specs.Meanings.{Known, declared, meant, known, names, first_again, import_known, import_entry, declared_entries, entries}
 
 -- ---- elements by their places
 

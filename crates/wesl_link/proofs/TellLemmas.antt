@@ -1,5 +1,5 @@
 -- What the code finds, told in the words of the definitions.
-use Rattle.std.proofs.Common.{◌≡◌, ◌≢◌, refl, sym, ap, ◌∙◌, subst, ℕ, ◌⊎◌, inl, inr, ⊎_elim, List, [], map, Option, Some, None, Ok, Err}
+use Rattle.std.proofs.Common.{◌≡◌, refl, sym, ap, ◌∙◌, subst, ℕ, ⊎_elim, [], map, Option, Some, None, Err}
 use Rattle.std.specs.Prelude.{slice_get}
 use Rattle.std.specs.List.{Contains}
 use Rattle.wgsl_path.specs.declared.path.ModulePath.{ModulePath}
@@ -13,8 +13,8 @@ use Rattle.wesl_sources.specs.Modules as spec
 use Rattle.wesl_link.specs.declared.error.ImportError.{ImportError}
 use Rattle.wesl_link.specs.declared.error.ImportError.TheVariants.{OutOfMemory, DuplicateSymbol, TooManyModules, Resolve, MissingDecl, Private}
 use Rattle.wesl_link.specs.Meanings.{Known, declared, imported, bare, known, names, first_again, import_known, import_entry, entries, Tabulates}
-use Rattle.wesl_link.specs.Outcomes.{Outcome, Loaded, item_in, item_at, meant_as, outcome}
-use Rattle.wesl_link.specs.Tells.{Opens, IsFinder, StandsAt, Tells}
+use Rattle.wesl_link.specs.Outcomes.{Loaded, item_in, item_at, meant_as, outcome}
+use Rattle.wesl_link.specs.Tells.{Opens, IsFinder, Tells}
 use Rattle.wesl_link.proofs.ScopeLemmas.{to_contains, from_contains, get_map, map_get, first_again_named, meant_at, entry_cases, import_means, value_means}
 
 pub refused : (path : ModulePath) (unit : TranslationUnit) (e : ImportError) → Tabulates path (unit_tree unit) (Err e) → Opens path unit (Err e)

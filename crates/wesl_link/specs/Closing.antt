@@ -1,15 +1,14 @@
 -- What is held while declarations are reached, by places.
-use Rattle.std.specs.Prelude.{◌≡◌, ℕ, List, Option, Some, None, slice_get, string_bytes, nat_eq, if◌then◌else◌}
+use Rattle.std.specs.Prelude.{◌≡◌, ℕ, List, Option, Some, None, string_bytes, nat_eq, if◌then◌else◌}
 use Rattle.std.specs.Str.{bytes_eq}
 use Rattle.std.specs.Option.{IsSome}
-use Rattle.std.specs.List.{All, Contains}
+use Rattle.std.specs.List.{All}
 use Rattle.std.specs.Ordering.{nat_cmp}
 use Rattle.std.specs.BTreeMap.{BTreeMap, get, get_by_text}
 use Rattle.std.specs.declared.string.String.{String}
 use Rattle.std.specs.declared.alloc.Global.{Global}
-use Rattle.wgsl_syntax.specs.Tree.{Decl, Unit}
-use Rattle.wesl_sources.specs.Occurrences.{Name, occurrences}
-use Rattle.wesl_sources.specs.Modules.{Path, Symbol}
+use Rattle.wesl_sources.specs.Occurrences.{Name}
+use Rattle.wesl_sources.specs.Modules.{Path}
 use Rattle.wesl_link.specs.Outcomes.{loaded}
 use Rattle.wesl_link.specs.Reach.{ReachedAt}
 use Rattle.wesl_link.specs.declared.denote.Symbol.{Symbol as Found}

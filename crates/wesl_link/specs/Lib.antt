@@ -8,3 +8,5 @@ pub mod Assembling
 pub mod Printed
 pub mod Renaming
 pub mod Resolved
+pub mod Following
+pub mod Stages

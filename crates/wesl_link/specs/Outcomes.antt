@@ -1,5 +1,5 @@
 -- What names denote over the loaded modules, as the code finds it: by places of declarations.
-use Rattle.std.specs.Prelude.{◌≡◌, ℕ, Option, Some, None, string_bytes}
+use Rattle.std.specs.Prelude.{ℕ, Option, Some, None, string_bytes}
 use Rattle.std.specs.Option.{option_map}
 use Rattle.std.specs.BTreeMap.{BTreeMap, get_by_text}
 use Rattle.std.specs.declared.string.String.{String}

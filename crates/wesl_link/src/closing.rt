@@ -1,15 +1,18 @@
 //! What the kept names lead to in the loaded modules.
 
-ghost use Rattle.std.specs.Prelude.{◌≡◌, ℕ, [], Some, None, OnOk, slice_get, string_bytes, if◌then◌else◌};
+ghost use Rattle.std.specs.Prelude.{◌≡◌, ℕ, [], Some, None, Bool, true, false, IfOk, OnOk, slice_get, string_bytes, if◌then◌else◌};
 ghost use Rattle.std.specs.List.{Contains};
-ghost use Rattle.std.specs.Option.{is_some};
+ghost use Rattle.std.specs.Option.{IsSome, is_some};
 ghost use Rattle.std.specs.Ordering.{nat_cmp};
 ghost use Rattle.std.specs.Str.{bytes_eq};
 ghost use Rattle.std.specs.BTreeMap.{get, get_by_text};
 ghost use Rattle.wgsl_syntax.specs.View.{unit_tree, declaration_tree};
 ghost use Rattle.wesl_sources.specs.Occurrences as spec;
-ghost use Rattle.wesl_sources.specs.Modules.{Path};
-ghost use Rattle.wesl_link.specs.Outcomes.{loaded, home_of};
+ghost use Rattle.wesl_sources.specs.Modules.{Path, Symbol as Sought};
+ghost use Rattle.wesl_link.specs.Outcomes.{loaded, home_of, outcome};
+ghost use Rattle.wesl_link.specs.Following.{Moves, Handled, IsFollowed, FollowedTo, AllFollowed};
+ghost use Rattle.wesl_link.specs.Reach.{KeepsAll, KeepsOne};
+ghost use Rattle.wesl_link.specs.Stages.{asks, name_asked, stage};
 ghost use Rattle.wesl_link.specs.Closing.{IsReached, AllReached, IsSound, Holds, held_at};
 
 use crate::denote::{Denoted, Item, Symbol, denotation, item_of};
@@ -55,13 +58,16 @@ pub fn close_root(
     held: &mut Held,
 ) -> Result<Asked, ImportError>
     requires { AllReached linking.now held.old }
-    ensures { OnOk result (AllReached linking.now held.new) }
+    ensures sound { OnOk result (AllReached linking.now held.new) }
+    ensures followed { ((m : Path) (place : ℕ) → held_at held.old m place ≡ None) → IfOk result (λ asked. AllFollowed (loaded linking.now.modules.now) (stage held.new (asks asked) false [])) }
+    ensures kept { OnOk result (KeepsAll (loaded linking.now.modules.now) linking.now.root.now linking.now.keep.now (held_at held.new)) }
 {
     let mut found = found_nothing(alloc);
     for name in linking.keep {
         reach_kept(alloc, linking, path, name, held, &mut found.reached)?;
     }
-    close(alloc, linking, held, found)
+    let asked = close(alloc, linking, held, found)?;
+    Ok(asked)
 }
 
 fn reach_kept<'a>(
@@ -73,7 +79,9 @@ fn reach_kept<'a>(
     reached: &mut Vec<Symbol<'a>>,
 ) -> Result<(), ImportError>
     requires keep { Contains linking.now.keep.now name.now }
-    ensures { IsSound linking.now held.old reached.old.items → OnOk result (IsSound linking.now held.new reached.new.items) }
+    ensures sound { IsSound linking.now held.old reached.old.items → OnOk result (IsSound linking.now held.new reached.new.items) }
+    ensures moves { OnOk result ((asked : Sought → Bool) (missing : Bool) → Moves (stage held.old asked missing reached.old.items) (stage held.new asked missing reached.new.items)) }
+    ensures kept { OnOk result (KeepsOne (loaded linking.now.modules.now) linking.now.root.now name.now (held_at held.new)) }
 {
     match item_of(linking.modules, linking.root, name.as_str()) {
         Item::Declared(symbol) => Ok(reach(alloc, linking, symbol, held, reached)?),
@@ -109,17 +117,35 @@ fn close<'a>(
     held: &mut Held,
     mut found: Found<'a>,
 ) -> Result<Asked, ImportError>
-    ensures { IsSound linking.now held.old found.entry.reached.items → OnOk result (AllReached linking.now held.new) }
+    ensures sound { IsSound linking.now held.old found.entry.reached.items → OnOk result (AllReached linking.now held.new) }
+    ensures followed { FollowedTo (loaded linking.now.modules.now) (stage held.old (asks found.entry.asked) found.entry.is_missing found.entry.reached.items) 0 → IfOk result (λ asked. AllFollowed (loaded linking.now.modules.now) (stage held.new (asks asked) false [])) }
+    ensures stays { OnOk result ((m : Path) (place : ℕ) → IsSome (held_at held.old m place) → IsSome (held_at held.new m place)) }
+{
+    follow_all(alloc, linking, held, &mut found)?;
+    outcome_of(alloc, linking, held, found)
+}
+
+/// Follows the occurrences of what is reached, and of what they reach.
+fn follow_all<'a>(
+    alloc: Global,
+    linking: &Linking<'a>,
+    held: &mut Held,
+    found: &mut Found<'a>,
+) -> Result<(), AllocError>
+    ensures sound { IsSound linking.now held.old found.old.reached.items → OnOk result (IsSound linking.now held.new found.new.reached.items) }
+    ensures moves { OnOk result (Moves (stage held.old (asks found.old.asked) found.old.is_missing found.old.reached.items) (stage held.new (asks found.new.asked) found.new.is_missing found.new.reached.items)) }
+    ensures followed { FollowedTo (loaded linking.now.modules.now) (stage held.old (asks found.old.asked) found.old.is_missing found.old.reached.items) 0 → OnOk result (AllFollowed (loaded linking.now.modules.now) (stage held.new (asks found.new.asked) found.new.is_missing found.new.reached.items)) }
 {
     for at in 0..usize::MAX {
         let Some(symbol) = found.reached.get(at) else {
-            return outcome_of(alloc, linking, held, found);
+            return Ok(());
         };
         let symbol = *symbol;
-        follow(alloc, linking, symbol, held, &mut found)?;
+        follow(alloc, linking, symbol, held, found)?;
     }
-    // Memory has no room for so many.
-    outcome_of(alloc, linking, held, found)
+    // No list is longer.
+    let _count = found.reached.len();
+    Ok(())
 }
 
 fn outcome_of(
@@ -127,13 +153,16 @@ fn outcome_of(
     linking: &Linking<'_>,
     held: &Held,
     found: Found<'_>,
-) -> Result<Asked, ImportError> {
-    if found.is_missing
-        && let Some(error) = first_missing(alloc, linking.modules, held)?
-    {
-        return Err(error);
+) -> Result<Asked, ImportError>
+    ensures { AllFollowed (loaded linking.now.modules.now) (stage held.now (asks found.entry.asked) found.entry.is_missing found.entry.reached.items) → IfOk result (λ asked. AllFollowed (loaded linking.now.modules.now) (stage held.now (asks asked) false [])) }
+{
+    if !found.is_missing {
+        return Ok(found.asked);
     }
-    Ok(found.asked)
+    match first_missing(alloc, linking.modules, held)? {
+        Some(error) => Err(error),
+        None => Ok(found.asked),
+    }
 }
 
 fn follow<'a>(
@@ -143,14 +172,34 @@ fn follow<'a>(
     held: &mut Held,
     found: &mut Found<'a>,
 ) -> Result<(), AllocError>
-    ensures { IsReached linking.now symbol.entry → IsSound linking.now held.old found.old.reached.items → OnOk result (IsSound linking.now held.new found.new.reached.items) }
+    ensures sound { IsReached linking.now symbol.entry → IsSound linking.now held.old found.old.reached.items → OnOk result (IsSound linking.now held.new found.new.reached.items) }
+    ensures moves { OnOk result (Moves (stage held.old (asks found.old.asked) found.old.is_missing found.old.reached.items) (stage held.new (asks found.new.asked) found.new.is_missing found.new.reached.items)) }
+    ensures followed { OnOk result (IsFollowed (loaded linking.now.modules.now) (stage held.new (asks found.new.asked) found.new.is_missing found.new.reached.items) (string_bytes symbol.entry.«module».now.text) symbol.entry.place) }
 {
     let Some(home) = linking.modules.get(symbol.module.text.as_str()) else {
         return Ok(());
     };
-    let Some(declaration) = home.declaration(symbol.place) else {
-        return Ok(());
-    };
+    match home.declaration(symbol.place) {
+        None => Ok(()),
+        Some(declaration) => { follow_each(alloc, linking, symbol, home, declaration, held, found) }
+    }
+}
+
+fn follow_each<'a>(
+    alloc: Global,
+    linking: &Linking<'a>,
+    symbol: Symbol<'a>,
+    home: &'a Module,
+    declaration: &GlobalDeclaration,
+    held: &mut Held,
+    found: &mut Found<'a>,
+) -> Result<(), AllocError>
+    requires home { loaded linking.now.modules.now (string_bytes symbol.«module».now.text) ≡ Some (home_of home.now) }
+    requires declaration { slice_get (unit_tree home.now.unit).declarations symbol.place ≡ Some (declaration_tree declaration.now) }
+    ensures sound { IsReached linking.now symbol.entry → IsSound linking.now held.old found.old.reached.items → OnOk result (IsSound linking.now held.new found.new.reached.items) }
+    ensures moves { OnOk result (Moves (stage held.old (asks found.old.asked) found.old.is_missing found.old.reached.items) (stage held.new (asks found.new.asked) found.new.is_missing found.new.reached.items)) }
+    ensures followed { OnOk result (IsFollowed (loaded linking.now.modules.now) (stage held.new (asks found.new.asked) found.new.is_missing found.new.reached.items) (string_bytes symbol.entry.«module».now.text) symbol.entry.place) }
+{
     let names = occurrences(alloc, declaration)?;
     for name in names.as_slice() {
         follow_name(alloc, linking, symbol, home, declaration, name, held, found)?;
@@ -171,11 +220,16 @@ fn follow_name<'a>(
     requires home { loaded linking.now.modules.now (string_bytes from.«module».now.text) ≡ Some (home_of home.now) }
     requires declaration { slice_get (unit_tree home.now.unit).declarations from.place ≡ Some (declaration_tree declaration.now) }
     requires occurs { Contains (spec.occurrences (declaration_tree declaration.now)) name.now }
-    ensures { IsReached linking.now from.entry → IsSound linking.now held.old found.old.reached.items → OnOk result (IsSound linking.now held.new found.new.reached.items) }
+    ensures sound { IsReached linking.now from.entry → IsSound linking.now held.old found.old.reached.items → OnOk result (IsSound linking.now held.new found.new.reached.items) }
+    ensures moves { OnOk result (Moves (stage held.old (asks found.old.asked) found.old.is_missing found.old.reached.items) (stage held.new (asks found.new.asked) found.new.is_missing found.new.reached.items)) }
+    ensures handled { OnOk result (Handled (stage held.new (asks found.new.asked) found.new.is_missing found.new.reached.items) (outcome (loaded linking.now.modules.now) (home_of home.now) name.now)) }
 {
     match denotation(linking.modules, home, name) {
         Denoted::Declared(symbol) => reach(alloc, linking, symbol, held, &mut found.reached),
-        Denoted::Unloaded(target) => ask(alloc, &mut found.asked, target),
+        Denoted::Unloaded(target) => {
+            ask(alloc, &mut found.asked, target)?;
+            Ok(())
+        }
         Denoted::Missing(_, _) | Denoted::Private(_, _) => {
             found.is_missing = true;
             Ok(())
@@ -191,7 +245,9 @@ fn reach<'a>(
     held: &mut Held,
     reached: &mut Vec<Symbol<'a>>,
 ) -> Result<(), AllocError>
-    ensures { IsReached linking.now symbol.entry → IsSound linking.now held.old reached.old.items → OnOk result (IsSound linking.now held.new reached.new.items) }
+    ensures sound { IsReached linking.now symbol.entry → IsSound linking.now held.old reached.old.items → OnOk result (IsSound linking.now held.new reached.new.items) }
+    ensures moves { OnOk result ((asked : Sought → Bool) (missing : Bool) → Moves (stage held.old asked missing reached.old.items) (stage held.new asked missing reached.new.items)) }
+    ensures held { OnOk result (IsSome (held_at held.new (string_bytes symbol.entry.«module».now.text) symbol.entry.place)) }
 {
     if is_held(held, symbol) {
         return Ok(());
@@ -256,21 +312,27 @@ fn printed_name(alloc: Global, root: &str, symbol: Symbol<'_>) -> Result<Text, A
     EscapeMangler.mangle(alloc, &symbol.module.path, name)
 }
 
-fn ask(alloc: Global, asked: &mut Asked, target: &Target) -> Result<(), AllocError> {
-    if let Some(module) = asked.get_mut(target.text.as_str()) {
-        if !module.names.contains(target.item.as_str()) {
-            module
-                .names
-                .insert(String::from_str(alloc, target.item.as_str())?)?;
-        }
-        return Ok(());
-    }
-    let mut names = BTreeSet::new(alloc);
-    names.insert(String::from_str(alloc, target.item.as_str())?)?;
-    let module = AskedModule {
-        path: target.path.clone_in(alloc)?,
-        names,
-    };
+fn ask(alloc: Global, asked: &mut Asked, target: &Target) -> Result<(), AllocError>
+    ensures { OnOk result ((s : Sought) → asks asked.new s ≡ (if bytes_eq (string_bytes target.now.text) s.home then (if bytes_eq target.now.item s.name then true else asks asked.old s) else asks asked.old s)) }
+{
+    let mut module = take_asked(alloc, asked, target)?;
+    module
+        .names
+        .insert(String::from_str(alloc, target.item.as_str())?)?;
     asked.insert(target.text.clone()?, module)?;
     Ok(())
+}
+
+/// Takes what is asked of a target's module.
+fn take_asked(alloc: Global, asked: &mut Asked, target: &Target) -> Result<AskedModule, AllocError>
+    ensures names { IfOk result (λ m. (x : spec.Name) → name_asked (Some m) x ≡ asks asked.old (record { home = string_bytes target.now.text; name = x })) }
+    ensures others { OnOk result ((m : Path) → get_by_text asked.new m ≡ (if bytes_eq (string_bytes target.now.text) m then None else get_by_text asked.old m)) }
+{
+    match asked.remove(target.text.as_str()) {
+        Some(module) => Ok(module),
+        None => Ok(AskedModule {
+            path: target.path.clone_in(alloc)?,
+            names: BTreeSet::new(alloc),
+        }),
+    }
 }

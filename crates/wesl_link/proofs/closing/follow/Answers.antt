@@ -1,15 +1,14 @@
-use Rattle.std.proofs.Common.{◌≡◌, ℕ, List, [], get_or, sym, ap, ◌∙◌, subst}
-use denote.Ref.{Bor}
-use Rattle.std.specs.List.{Contains}
-use Rattle.wesl_link.specs.Scopes.{texts}
-use Rattle.wesl_link.proofs.ClosingLemmas.{text_contained}
+use Rattle.std.proofs.Common.{sym, ap, ◌∙◌}
+use Rattle.std.specs.Prelude.{string_bytes}
+use Rattle.std.specs.Option.{option_map, option_copied}
+use Rattle.wgsl_syntax.specs.View.{declaration_tree}
+use Rattle.wesl_link.specs.Outcomes.{loaded, home_of}
+use Rattle.wesl_link.specs.Stages.{asks, stage}
+use Rattle.wesl_link.proofs.StageLemmas.{none_there}
 use Rattle.wesl_link.proofs.closing.follow.Goals as goal
 
-pub follow_name-requires-clause-occurs : goal.follow_name-requires-clause-occurs
-follow_name-requires-clause-occurs c =
-    let d : Bor (List ℕ) = record { ref_ptr = (0, 0); now = [] } in
-    subst (λ l. Contains l (get_or c.as_slice-name-items.result.now c.loop-name.name-index d).now) (ap texts c.as_slice-name-items.ensures.value ∙ c.in_ok-names.ensures)
-    (text_contained c.as_slice-name-items.result.now c.loop-name.name-index d c.loop-name-test.true)
-
-pub loop-name-preserved : goal.loop-name-preserved
-loop-name-preserved c = λ reached sound. c.in_ok-follow_name.ensures reached (c.loop-name.invariant reached sound)
+pub returns-in-None-clause-followed : goal.returns-in-None-clause-followed
+returns-in-None-clause-followed c =
+    none_there (loaded c.args.linking.now.modules.now) (stage c.args.held.now (asks c.args.found.now.asked) c.args.found.now.is_missing c.args.found.now.reached.items) (string_bytes c.args.symbol.«module».now.text) c.args.symbol.place (home_of c.in-Some.home.now)
+    (ap (loaded c.args.linking.now.modules.now) (sym c.as_str.ensures.value) ∙ ap (option_map home_of) (sym c.get.ensures.value ∙ ap option_copied c.in-Some.is))
+    (sym c.declaration.ensures ∙ ap (option_map (λ d. declaration_tree d.now)) c.in-None.is)
