@@ -1,0 +1,18 @@
+use Rattle.std.proofs.Common.{◌≡◌, ap, sym, ◌∙◌, subst, map, []}
+use Rattle.wgsl_syntax.specs.Tree.{exps}
+use Rattle.wgsl_syntax.specs.View.{node_tree, type_tree}
+use Rattle.wgsl_meaning.specs.Meaning.{all_typed, called_or}
+use Rattle.wgsl_meaning.specs.Names.{find}
+use Rattle.wgsl_meaning.specs.ConstStage.{stage}
+use Rattle.wgsl_eval.specs.Ends.{Ends}
+use Rattle.wgsl_eval.specs.Scopes.{scope_of}
+use Rattle.wgsl_eval.proofs.Lists.{called_typed}
+use Rattle.wgsl_eval.proofs.typing.+typing.Goals as goal
+
+pub typed_call-returns : goal.typed_call-returns
+typed_call-returns t c =
+    let w = stage (scope_of c.args.scope.now) in
+    called_typed w c.args.scope.now.parameters.now (type_tree c.args.x.now.ty) (exps (map node_tree c.args.x.now.arguments)) c.in_ok-arguments.arguments c.in_ok-name.name.now c.call_type.result
+    (ap (λ l. all_typed w c.args.scope.now.parameters.now (exps (map node_tree l))) (sym c.as_slice.ensures) ∙ c.in_ok-arguments.ensures)
+    c.in_ok-name.ensures
+    (subst (λ l. Ends (called_or c.in_ok-name.name.now (find c.in_ok-name.name.now c.args.scope.now.parameters.now) (w.result_type c.in_ok-name.name.now l)) c.call_type.result) c.as_slice-2.ensures c.call_type.ensures)

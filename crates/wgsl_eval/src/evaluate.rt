@@ -1,0 +1,123 @@
+//! Values of expressions at the const stage.
+
+ghost use Rattle.std.specs.Prelude.{◌≡◌, [], map};
+ghost use Rattle.wgsl_syntax.specs.Tree.{exps};
+ghost use Rattle.wgsl_syntax.specs.View.{tree, node_tree, type_tree, call_layer};
+ghost use Rattle.wgsl_meaning.specs.Meaning as spec;
+ghost use Rattle.wgsl_meaning.specs.Names.{plain_name};
+ghost use Rattle.wgsl_meaning.specs.Programs.{called_at, here_if};
+ghost use Rattle.wgsl_meaning.specs.ConstStage.{stage, callee_of};
+ghost use Rattle.wgsl_eval.specs.Ends.{Ends, Gives};
+ghost use Rattle.wgsl_eval.specs.Scopes.{scope_of};
+
+use crate::error::{EvalError, named};
+use crate::find::{built_in_type, declaration, found, plain_name};
+use crate::scope::Scope;
+use std::alloc::Global;
+use wgsl_items::{Items, Text};
+use wgsl_meaning::{NameFault, NumericType, ShaderStage, Value};
+use wgsl_syntax::{Expression, ExpressionNode, FunctionCall, GlobalDeclaration, TypeExpression};
+use wgsl_value::{call_binary_op, call_unary_op, construct, literal_value};
+
+/// The value of a name: of a const that has one by now.
+pub(crate) fn name_value(alloc: Global, scope: &Scope<'_>, name: &Text) -> Result<Value, EvalError>
+    ensures { Ends ((stage (scope_of scope.now)).value_of name.now) result }
+{
+    if found(name, scope.parameters).is_some() {
+        return Err(named(alloc, NameFault::NotAccessible, name));
+    }
+    if let Some(value) = found(name, scope.consts) {
+        return Ok(value);
+    }
+    match declaration(name, scope.declarations) {
+        Some(GlobalDeclaration::Declaration(_)) => Err(named(alloc, NameFault::CyclicDecl, name)),
+        Some(GlobalDeclaration::Function(_)) | None => Err(named(
+            alloc,
+            NameFault::UnknownDecl,
+            name,
+        )),
+    }
+}
+
+/// The type that a name constructs. Calls of functions aren't evaluated yet.
+pub fn callee(alloc: Global, scope: &Scope<'_>, name: &Text) -> Result<NumericType, EvalError>
+    ensures { Gives (λ t. t) (callee_of (scope_of scope.now) name.now) result }
+{
+    if found(name, scope.parameters).is_some() {
+        Err(named(alloc, NameFault::NotCallable, name))
+    } else if declaration(name, scope.declarations).is_some() {
+        Err(named(alloc, NameFault::Todo, name))
+    } else {
+        built_in_type(alloc, name)
+    }
+}
+
+fn call(
+    alloc: Global,
+    scope: &Scope<'_>,
+    name: &Text,
+    arguments: &[Value],
+) -> Result<Value, EvalError>
+    ensures { Ends ((stage (scope_of scope.now)).result_of name.now arguments.now) result }
+{
+    let ty = callee(alloc, scope, name)?;
+    match arguments {
+        [] => Ok(construct(ty, Value::AbstractInt(0))?),
+        [value] => Ok(construct(ty, *value)?),
+        _ => Err(named(alloc, NameFault::Signature, name)),
+    }
+}
+
+/// The value of an expression at the const stage, or its fault.
+#[cycle(evaluating)]
+#[tactic(auto, using(wgsl_syntax::proofs::Trees::tree_of_call))]
+pub fn eval_value(
+    alloc: Global,
+    scope: &Scope<'_>,
+    expression: &Expression,
+) -> Result<Value, EvalError>
+    ensures { Ends (spec.value (stage (scope_of scope.now)) [] (tree expression.now)) result }
+{
+    match expression {
+        Expression::Literal(literal) => Ok(literal_value(*literal)),
+        Expression::Parenthesized(x) => eval_value(alloc, scope, x.expression.node()),
+        Expression::Unary(x) => {
+            let value = eval_value(alloc, scope, x.operand.node())?;
+            Ok(call_unary_op(ShaderStage::Const, x.operator, value)?)
+        }
+        Expression::Binary(x) => {
+            let left = eval_value(alloc, scope, x.left.node())?;
+            let right = eval_value(alloc, scope, x.right.node())?;
+            Ok(call_binary_op(ShaderStage::Const, x.operator, left, right)?)
+        }
+        Expression::FunctionCall(x) => call_value(alloc, scope, x),
+        Expression::TypeOrIdentifier(x) => {
+            let name = plain_name(alloc, x)?;
+            name_value(alloc, scope, name)
+        }
+    }
+}
+
+#[cycle(evaluating)]
+fn call_value(alloc: Global, scope: &Scope<'_>, x: &FunctionCall) -> Result<Value, EvalError>
+    ensures { Ends (spec.value (stage (scope_of scope.now)) [] (call_layer tree x.now)) result }
+{
+    let arguments = values(alloc, scope, x.arguments.as_slice())?;
+    let name = plain_name(alloc, &x.ty)?;
+    call(alloc, scope, name, arguments.as_slice())
+}
+
+#[cycle(evaluating)]
+fn values(
+    alloc: Global,
+    scope: &Scope<'_>,
+    nodes: &[ExpressionNode],
+) -> Result<Items<Value>, EvalError>
+    ensures { Ends (spec.values (stage (scope_of scope.now)) [] (exps (map node_tree nodes.now))) result }
+{
+    let mut done = Items::new(alloc);
+    for node in nodes {
+        done.push(eval_value(alloc, scope, node.node())?)?;
+    }
+    Ok(done)
+}

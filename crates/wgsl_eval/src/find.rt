@@ -1,0 +1,81 @@
+//! What stands under a name.
+
+ghost use Rattle.std.specs.Prelude.{◌≡◌, codes};
+ghost use Rattle.std.specs.Str.{bytes_eq};
+ghost use Rattle.wgsl_syntax.specs.View.{type_tree, declaration_tree};
+ghost use Rattle.wgsl_meaning.specs.Names as spec;
+ghost use Rattle.wgsl_eval.specs.Ends.{Gives};
+ghost use Rattle.wgsl_eval.specs.Scopes.{decls, seen};
+
+use crate::error::{EvalError, named};
+use std::alloc::Global;
+use wgsl_items::Text;
+use wgsl_meaning::{NameFault, NumericType};
+use wgsl_syntax::{GlobalDeclaration, GlobalDeclarationNode, TypeExpression};
+
+/// What stands first under a name.
+pub(crate) fn found<T: Copy>(name: &Text, entries: &[(Text, T)]) -> Option<T>
+    ensures { result ≡ spec.find name.now entries.now }
+{
+    let mut rest = entries;
+    while let [entry, more @ ..] = rest {
+        if name.as_str() == entry.0.as_str() {
+            return Some(entry.1);
+        }
+        rest = more;
+    }
+    None
+}
+
+/// The name that a declaration declares.
+pub(crate) fn name_of(declaration: &GlobalDeclaration) -> &Text
+    ensures { result.now ≡ spec.name_of (declaration_tree declaration.now) }
+{
+    match declaration {
+        GlobalDeclaration::Declaration(d) => &d.ident.name,
+        GlobalDeclaration::Function(f) => &f.ident.name,
+    }
+}
+
+/// The first declaration of a name.
+pub(crate) fn declaration<'a>(
+    name: &Text,
+    declarations: &'a [GlobalDeclarationNode],
+) -> Option<&'a GlobalDeclaration>
+    ensures { seen result ≡ spec.find_decl name.now (decls declarations.now) }
+{
+    let mut rest = declarations;
+    while let [first, more @ ..] = rest {
+        let declaration = first.node();
+        if name.as_str() == name_of(declaration).as_str() {
+            return Some(declaration);
+        }
+        rest = more;
+    }
+    None
+}
+
+/// The type of a built-in name.
+pub(crate) fn built_in_type(alloc: Global, name: &Text) -> Result<NumericType, EvalError>
+    ensures { Gives (λ t. t) (spec.built_in_type name.now) result }
+{
+    match name.as_str() {
+        "i32" => Ok(NumericType::I32),
+        "u32" => Ok(NumericType::U32),
+        _ => Err(named(alloc, NameFault::Todo, name)),
+    }
+}
+
+/// A plain name, without path and template arguments.
+pub fn plain_name<'a>(alloc: Global, ty: &'a TypeExpression) -> Result<&'a Text, EvalError>
+    ensures { Gives (λ name. name.now) (spec.plain_name (type_tree ty.now)) result }
+{
+    let name = &ty.ident.name;
+    if ty.template_args.is_some() {
+        Err(named(alloc, NameFault::UnexpectedTemplate, name))
+    } else if ty.path.is_some() {
+        Err(named(alloc, NameFault::UnknownDecl, name))
+    } else {
+        Ok(name)
+    }
+}

@@ -1,0 +1,20 @@
+//! The evaluator of the const stage over a plain unit: values and types of expressions, and the consts at the start.
+#![tactic(auto)]
+
+mod error;
+mod evaluate;
+mod find;
+mod scope;
+mod start;
+#[cfg(test)]
+mod tests;
+mod typing;
+
+pub use error::{EvalError, Refusal, UnitError, refused};
+pub use evaluate::{callee, eval_value};
+pub use find::plain_name;
+pub use scope::Scope;
+pub use start::start_values;
+pub use typing::{const_value, eval_ty, ty_eval_ty};
+pub use wgsl_meaning::{Fault, NameFault};
+pub use wgsl_value::{NumberFault, NumericType, ShaderStage, Value};

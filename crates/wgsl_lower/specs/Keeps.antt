@@ -1,0 +1,27 @@
+-- What lowering keeps.
+use Rattle.std.specs.Prelude.{◌≡◌, ℕ, List, [], ◌∷◌, Option, Some, None, Result, Ok, Err, codes}
+use Rattle.wgsl_syntax.specs.Tree.{Attr, Block, Param, Decl, variable, function, Unit as Module}
+use Rattle.wgsl_meaning.specs.Names.{Name, find_decl}
+use Rattle.wgsl_meaning.specs.Programs.{Inputs, plain, here, run}
+use Rattle.wgsl_meaning.specs.Compare.{Better}
+use Rattle.wgsl_meaning.specs.declared.value.Value.{Value}
+
+abbrev pub is_clear : Name → Type 0
+is_clear x = (x ≡ codes "i32" → ⊥) × (x ≡ codes "u32" → ⊥)
+
+-- no declaration and no parameter has the name of a type that is evaluated
+abbrev pub ClearParameters : List Param → Type 0
+ClearParameters [] = Unit {0}
+ClearParameters (p ∷ ps) = is_clear p.name × ClearParameters ps
+
+abbrev pub IsClear : Decl → Type 0
+IsClear (variable attributes kind x type e) = is_clear x
+IsClear (function attributes f parameters return_attributes type body) = is_clear f × ClearParameters parameters
+
+abbrev pub AreClear : List Decl → Type 0
+AreClear [] = Unit {0}
+AreClear (d ∷ ds) = IsClear d × AreClear ds
+
+-- every run of a function that ends well, ends well after with the same answer in no more steps
+abbrev pub Keeps : List Decl → List Decl → Type 0
+Keeps ds low = (f : Name) (k : ℕ) (inputs : Inputs) → Better (Option Value) (run (plain ds) k (here f) inputs) (run (plain low) k (here f) inputs)

@@ -1,0 +1,266 @@
+//! Lowered functions.
+
+ghost use Rattle.std.specs.Prelude.{◌≡◌, map, Some, None, Ok, Err};
+ghost use Rattle.std.specs.Option.{option_map};
+ghost use Rattle.wgsl_syntax.specs.Tree as T;
+ghost use Rattle.wgsl_syntax.specs.View.{tree, node_tree, type_tree, attribute_tree, attributes_tree, statement_tree, block_tree, parameter_tree, declaration_tree};
+ghost use Rattle.wgsl_syntax.specs.declared.declaration.GlobalDeclaration.TheVariants.{Function as TheFunction};
+ghost use Rattle.wgsl_meaning.specs.Values.{and_then};
+ghost use Rattle.wgsl_eval.specs.Ends.{Ends, Gives};
+ghost use Rattle.wgsl_eval.specs.Scopes.{scope_of};
+ghost use Rattle.wgsl_lower.specs.Lowered as spec;
+
+use crate::expression::lowered;
+use std::alloc::Global;
+use wgsl_eval::{EvalError, NumericType, Scope, eval_ty, ty_eval_ty};
+use wgsl_items::{CloneIn, Items, Text};
+use wgsl_syntax::{
+    Attribute, AttributeNode, Attributes, CompoundStatement, Expression, ExpressionNode,
+    FormalParameter, Function, FunctionCall, ReturnStatement, Spanned, Statement, StatementNode,
+    TypeExpression,
+};
+
+fn constructor_call(
+    alloc: Global,
+    ty: &TypeExpression,
+    node: &ExpressionNode,
+) -> Result<ExpressionNode, EvalError>
+    ensures { Gives node_tree (Ok (T.call (type_tree ty.now) (T.cons (node_tree node.now) T.nil))) result }
+{
+    let mut arguments = Items::new(alloc);
+    arguments.push(node.clone_in(alloc)?)?;
+    let call = FunctionCall {
+        ty: ty.clone_in(alloc)?,
+        arguments,
+    };
+    Ok(Spanned::new(alloc, Expression::FunctionCall(call), node.span())?)
+}
+
+// What a function of this type returns: an abstract number gets the constructor of the type.
+fn converted(
+    alloc: Global,
+    scope: &Scope<'_>,
+    ty: &Option<TypeExpression>,
+    node: &ExpressionNode,
+) -> Result<ExpressionNode, EvalError>
+    ensures { Gives node_tree (spec.converted_exp (scope_of scope.now) (option_map type_tree ty.now) (node_tree node.now)) result }
+{
+    let Some(ty) = ty else {
+        return Ok(node.clone_in(alloc)?);
+    };
+    match eval_ty(alloc, scope, node.node())? {
+        NumericType::AbstractInt => constructor_call(alloc, ty, node),
+        NumericType::I32 | NumericType::U32 => Ok(node.clone_in(alloc)?),
+    }
+}
+
+fn lowered_return(
+    alloc: Global,
+    scope: &Scope<'_>,
+    ty: &Option<TypeExpression>,
+    node: &ExpressionNode,
+) -> Result<ExpressionNode, EvalError>
+    ensures { Gives node_tree (spec.lowered_return (scope_of scope.now) (option_map type_tree ty.now) (node_tree node.now)) result }
+{
+    let converted = converted(alloc, scope, ty, node)?;
+    lowered(alloc, scope, &converted)
+}
+
+fn lowered_attribute(
+    alloc: Global,
+    scope: &Scope<'_>,
+    attribute: &Attribute,
+) -> Result<Attribute, EvalError>
+    ensures { Gives attribute_tree (spec.lowered_attribute (scope_of scope.now) (attribute_tree attribute.now)) result }
+{
+    match attribute {
+        Attribute::Fragment => Ok(Attribute::Fragment),
+        Attribute::Location(node) => Ok(Attribute::Location(lowered(alloc, scope, node)?)),
+    }
+}
+
+fn lowered_attributes(
+    alloc: Global,
+    scope: &Scope<'_>,
+    nodes: &[AttributeNode],
+) -> Result<Attributes, EvalError>
+    ensures { Gives attributes_tree (spec.lowered_attributes (scope_of scope.now) (attributes_tree nodes.now)) result }
+{
+    let mut done = Items::new(alloc);
+    for node in nodes {
+        let attribute = lowered_attribute(alloc, scope, node.node())?;
+        done.push(Spanned::new(alloc, attribute, node.span())?)?;
+    }
+    Ok(done)
+}
+
+fn lowered_parameter(
+    alloc: Global,
+    scope: &Scope<'_>,
+    parameter: &FormalParameter,
+) -> Result<FormalParameter, EvalError>
+    ensures { Gives parameter_tree (spec.lowered_parameter (scope_of scope.now) (parameter_tree parameter.now)) result }
+{
+    let attributes = lowered_attributes(alloc, scope, parameter.attributes.as_slice())?;
+    let _ty = ty_eval_ty(alloc, scope, &parameter.ty)?;
+    let ident = parameter.ident.clone_in(alloc)?;
+    let ty = parameter.ty.clone_in(alloc)?;
+    Ok(FormalParameter {
+        attributes,
+        ident,
+        ty,
+    })
+}
+
+fn lowered_parameters(
+    alloc: Global,
+    scope: &Scope<'_>,
+    parameters: &[FormalParameter],
+) -> Result<Items<FormalParameter>, EvalError>
+    ensures { Gives (map parameter_tree) (spec.lowered_parameters (scope_of scope.now) (map parameter_tree parameters.now)) result }
+{
+    let mut done = Items::new(alloc);
+    for parameter in parameters {
+        done.push(lowered_parameter(alloc, scope, parameter)?)?;
+    }
+    Ok(done)
+}
+
+fn parameter_types(
+    alloc: Global,
+    scope: &Scope<'_>,
+    parameters: &[FormalParameter],
+) -> Result<Items<(Text, NumericType)>, EvalError>
+    ensures { Gives (λ types. types) (spec.parameter_types (scope_of scope.now) (map parameter_tree parameters.now)) result }
+{
+    let mut done = Items::new(alloc);
+    for parameter in parameters {
+        let ty = ty_eval_ty(alloc, scope, &parameter.ty)?;
+        done.push((parameter.ident.name.clone_in(alloc)?, ty))?;
+    }
+    Ok(done)
+}
+
+fn checked_type(
+    alloc: Global,
+    scope: &Scope<'_>,
+    ty: &Option<TypeExpression>,
+) -> Result<(), EvalError>
+    ensures { Gives (λ u. tt) (spec.checked_type (scope_of scope.now) (option_map type_tree ty.now)) result }
+{
+    if let Some(ty) = ty {
+        let _ty = ty_eval_ty(alloc, scope, ty)?;
+    }
+    Ok(())
+}
+
+fn lowered_statement(
+    alloc: Global,
+    scope: &Scope<'_>,
+    ty: &Option<TypeExpression>,
+    statement: &Statement,
+) -> Result<Statement, EvalError>
+    ensures { Gives statement_tree (spec.lowered_statement (scope_of scope.now) (option_map type_tree ty.now) (statement_tree statement.now)) result }
+{
+    match statement {
+        Statement::Return(x) => {
+            let attributes = lowered_attributes(alloc, scope, x.attributes.as_slice())?;
+            let expression = match &x.expression {
+                None => None,
+                Some(node) => Some(lowered_return(alloc, scope, ty, node)?),
+            };
+            Ok(Statement::Return(ReturnStatement {
+                attributes,
+                expression,
+            }))
+        }
+    }
+}
+
+fn lowered_statements(
+    alloc: Global,
+    scope: &Scope<'_>,
+    ty: &Option<TypeExpression>,
+    nodes: &[StatementNode],
+) -> Result<Items<StatementNode>, EvalError>
+    ensures { Gives (map (λ n. statement_tree n.node)) (spec.lowered_statements (scope_of scope.now) (option_map type_tree ty.now) (map (λ n. statement_tree n.node) nodes.now)) result }
+{
+    let mut done = Items::new(alloc);
+    for node in nodes {
+        let statement = lowered_statement(alloc, scope, ty, node.node())?;
+        done.push(Spanned::new(alloc, statement, node.span())?)?;
+    }
+    Ok(done)
+}
+
+fn lowered_body(
+    alloc: Global,
+    scope: &Scope<'_>,
+    ty: &Option<TypeExpression>,
+    body: &CompoundStatement,
+) -> Result<CompoundStatement, EvalError>
+    ensures { Gives block_tree (spec.lowered_body (scope_of scope.now) (option_map type_tree ty.now) (block_tree body.now)) result }
+{
+    let attributes = lowered_attributes(alloc, scope, body.attributes.as_slice())?;
+    let statements = lowered_statements(alloc, scope, ty, body.statements.as_slice())?;
+    Ok(CompoundStatement {
+        attributes,
+        statements,
+    })
+}
+
+// The attributes and the type of the result, and the body, after attributes and parameters.
+fn lowered_rest(
+    alloc: Global,
+    scope: &Scope<'_>,
+    attributes: Attributes,
+    parameters: Items<FormalParameter>,
+    types: &[(Text, NumericType)],
+    function: &Function,
+) -> Result<Function, EvalError>
+    ensures { Gives (λ f. declaration_tree (TheFunction f)) (spec.lowered_rest (scope_of scope.now) (attributes_tree attributes) function.now.ident.name (map parameter_tree parameters) types.now (attributes_tree function.now.return_attributes) (option_map type_tree function.now.return_type) (block_tree function.now.body)) result }
+{
+    let return_attributes = lowered_attributes(
+        alloc,
+        scope,
+        function.return_attributes.as_slice(),
+    )?;
+    checked_type(alloc, scope, &function.return_type)?;
+    let inner = Scope {
+        declarations: scope.declarations,
+        consts: scope.consts,
+        parameters: types,
+    };
+    let body = lowered_body(alloc, &inner, &function.return_type, &function.body)?;
+    let ident = function.ident.clone_in(alloc)?;
+    let return_type = function.return_type.clone_in(alloc)?;
+    Ok(Function {
+        attributes,
+        ident,
+        parameters,
+        return_attributes,
+        return_type,
+        body,
+    })
+}
+
+/// A function with its constant expressions written as their values. Nothing but the module is in scope.
+pub fn lowered_function(
+    alloc: Global,
+    scope: &Scope<'_>,
+    function: &Function,
+) -> Result<Function, EvalError>
+    ensures { Gives (λ f. declaration_tree (TheFunction f)) (spec.lowered_declaration (scope_of scope.now) (declaration_tree (TheFunction function.now))) result }
+{
+    let attributes = lowered_attributes(alloc, scope, function.attributes.as_slice())?;
+    let parameters = lowered_parameters(alloc, scope, function.parameters.as_slice())?;
+    let types = parameter_types(alloc, scope, function.parameters.as_slice())?;
+    lowered_rest(
+        alloc,
+        scope,
+        attributes,
+        parameters,
+        types.as_slice(),
+        function,
+    )
+}

@@ -1,0 +1,89 @@
+//! Lowered units.
+
+ghost use Rattle.std.specs.Prelude.{◌≡◌, [], map, IfOk};
+ghost use Rattle.wgsl_syntax.specs.View.{unit_tree, declaration_tree};
+ghost use Rattle.wgsl_meaning.specs.ConstStage.{module_scope};
+ghost use Rattle.wgsl_eval.specs.Refusals.{Answers};
+ghost use Rattle.wgsl_eval.specs.Scopes.{decls, scope_of};
+ghost use Rattle.wgsl_lower.specs.Lowered as spec;
+ghost use Rattle.wgsl_lower.specs.Keeps.{AreClear, Keeps};
+
+use crate::function::lowered_function;
+use std::alloc::Global;
+use wgsl_eval::{Scope, UnitError, refused, start_values};
+use wgsl_items::Items;
+use wgsl_syntax::{GlobalDeclaration, GlobalDeclarationNode, Spanned, TranslationUnit};
+
+// A function is lowered and added, a const left out.
+fn push_lowered(
+    alloc: Global,
+    scope: &Scope<'_>,
+    done: &mut Items<GlobalDeclarationNode>,
+    node: &GlobalDeclarationNode,
+) -> Result<(), UnitError>
+    ensures { Answers (λ u. decls done.new) (spec.pushed (scope_of scope.now) (decls done.old) (declaration_tree node.now.node)) result }
+{
+    if let GlobalDeclaration::Function(function) = node.node() {
+        match lowered_function(alloc, scope, function) {
+            Ok(low) => done.push(Spanned::new(
+                alloc,
+                GlobalDeclaration::Function(low),
+                node.span(),
+            )?)?,
+            Err(error) => return Err(refused(alloc, &function.ident.name, error)),
+        }
+    }
+    Ok(())
+}
+
+fn lowered_in_turn(
+    alloc: Global,
+    scope: &Scope<'_>,
+    nodes: &[GlobalDeclarationNode],
+) -> Result<Items<GlobalDeclarationNode>, UnitError>
+    ensures { Answers decls (spec.all_pushed (scope_of scope.now) [] (decls nodes.now)) result }
+{
+    let mut done = Items::new(alloc);
+    for node in nodes {
+        push_lowered(alloc, scope, &mut done, node)?;
+    }
+    Ok(done)
+}
+
+fn lowered_declarations(
+    alloc: Global,
+    scope: &Scope<'_>,
+    nodes: &[GlobalDeclarationNode],
+) -> Result<Items<GlobalDeclarationNode>, UnitError>
+    ensures { Answers decls (spec.lowered_declarations (scope_of scope.now) (decls nodes.now)) result }
+{
+    lowered_in_turn(alloc, scope, nodes)
+}
+
+fn lowered_unit(alloc: Global, unit: &TranslationUnit) -> Result<TranslationUnit, UnitError>
+    ensures { Answers unit_tree (spec.lowered_unit (unit_tree unit.now)) result }
+{
+    let declarations = unit.global_declarations.as_slice();
+    let consts = start_values(alloc, declarations)?;
+    let scope = Scope {
+        declarations,
+        consts: consts.as_slice(),
+        parameters: &[],
+    };
+    let global_declarations = lowered_declarations(alloc, &scope, declarations)?;
+    Ok(TranslationUnit {
+        imports: Items::new(alloc),
+        global_declarations,
+    })
+}
+
+/// The plain unit without consts: outermost constant expressions are written as their values, and what a function returns is
+/// converted to its type. It is refused at the first fault of a const, then of a function, in text order.
+pub fn lower(alloc: Global, unit: &TranslationUnit) -> Result<TranslationUnit, UnitError>
+    ensures exactly { Answers unit_tree (spec.lowered_unit (unit_tree unit.now)) result }
+
+    // A run that ends well ends well after, with the same answer and in no more steps, where no name is a type's.
+    ensures keeps { AreClear (unit_tree unit.now).declarations → IfOk result (λ low. Keeps (unit_tree unit.now).declarations (unit_tree low).declarations) }
+{
+    lowered_unit(alloc, unit)
+}

@@ -1,0 +1,64 @@
+-- The const stage of a plain unit, where some consts have their values and the parameters of a function are in scope.
+use Rattle.std.specs.Prelude.{◌≡◌, ℕ, List, [], ◌∷◌, ◌++◌, Option, Some, None, Ok, Err}
+use Rattle.wgsl_meaning.specs.Values.{Checked}
+use Rattle.wgsl_syntax.specs.Tree.{Exp, Typ, Attr, Block, Param, Decl, variable, function}
+use Rattle.wgsl_syntax.specs.declared.declaration.DeclarationKind.{DeclarationKind}
+use Rattle.wgsl_meaning.specs.declared.value.ShaderStage.TheVariants.{Const}
+use Rattle.wgsl_meaning.specs.declared.value.Value.{Value}
+use Rattle.wgsl_meaning.specs.declared.value.NumericType.{NumericType}
+use Rattle.wgsl_meaning.specs.declared.fault.Fault.TheVariants.{Name as Named}
+use Rattle.wgsl_meaning.specs.declared.fault.NameFault.TheVariants.{CyclicDecl, UnknownDecl, NotAccessible, NotCallable, Todo}
+use Rattle.wgsl_meaning.specs.Outcome.{Outcome, Done, Failed, Deep}
+use Rattle.wgsl_meaning.specs.Names.{Name, Symbol, find, find_decl, built_in_type}
+use Rattle.wgsl_meaning.specs.Meaning.{World, Types, called_or, const_in}
+use Rattle.wgsl_meaning.specs.Programs.{called_at, call_type_at, type_at, here_if}
+
+-- consts with their values
+abbrev pub Consts : Type 0
+Consts = List (Name × Value)
+
+pub record Scope : Type 0 where
+  pub declarations : List Decl
+  pub consts : Consts
+  pub parameters : Types
+
+-- a parameter has no value at this stage
+abbrev pub hidden : {A B : Type 0} → Name → Option A → Outcome B → Outcome B
+hidden x (Some t) o = Failed (Named NotAccessible x)
+hidden x None o = o
+
+-- a const without a value yet is asked for while its own value is sought
+abbrev pub const_known : Name → Option Value → Option Decl → Outcome Value
+const_known x (Some v) d = Done v 0
+const_known x None (Some (variable attributes kind y type e)) = Failed (Named CyclicDecl x)
+const_known x None (Some (function attributes f parameters return_attributes type body)) = Failed (Named UnknownDecl x)
+const_known x None None = Failed (Named UnknownDecl x)
+
+abbrev pub stage : Scope → World
+stage s = record {
+  stage = Const;
+  value_of = λ x. hidden x (find x s.parameters) (const_known x (find x s.consts) (find_decl x s.declarations));
+  result_of = λ f vs. called_or f (find f s.parameters) (called_at Const f (here_if f (find_decl f s.declarations)) (λ x xs. Deep) vs);
+  result_type = λ f ts. call_type_at Const f (here_if f (find_decl f s.declarations)) (λ x. Deep) ts;
+  type_named = λ x. type_at x (here_if x (find_decl x s.declarations));
+}
+
+-- outside of functions
+abbrev pub module_scope : List Decl → Consts → Scope
+module_scope ds cs = record { declarations = ds; consts = cs; parameters = [] }
+
+-- each const has its value by those before it in the list
+pub data Settled (ds : List Decl) : Consts → Type 0 where
+  nothing : Settled ds []
+  another : (cs : Consts) (x : Name) (v : Value) (n : ℕ) → Settled ds cs → const_in (stage (module_scope ds cs)) x (find_decl x ds) ≡ Done v n →
+      Settled ds (cs ++ (x, v) ∷ [])
+
+-- the type that a name constructs: no parameter and no declaration has the name, and of the built-in types it is one that is
+-- evaluated
+abbrev pub callee_at : Name → Option NumericType → Option Decl → Checked NumericType
+callee_at f (Some t) d = Err (Named NotCallable f)
+callee_at f None (Some d) = Err (Named Todo f)
+callee_at f None None = built_in_type f
+
+abbrev pub callee_of : Scope → Name → Checked NumericType
+callee_of s f = callee_at f (find f s.parameters) (find_decl f s.declarations)

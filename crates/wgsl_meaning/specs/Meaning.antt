@@ -1,0 +1,180 @@
+-- What expressions, consts and functions mean, whatever the names of modules denote.
+use Rattle.std.specs.Prelude.{ℕ, pos, List, [], ◌∷◌, Option, Some, None, Bool, true, false, Result, Ok, Err, if◌then◌else◌, length, ◌==◌}
+use Rattle.wgsl_syntax.specs.Tree.{Exp, Exps, literal, parenthesized, unary, binary, call, named, nil, cons, Typ, Attr, fragment, location, Stm, returning, Block, Param, Decl, variable, function}
+use Rattle.wgsl_syntax.specs.declared.declaration.DeclarationKind.{DeclarationKind}
+use Rattle.wgsl_meaning.specs.declared.value.ShaderStage.{ShaderStage}
+use Rattle.wgsl_meaning.specs.declared.value.Value.{Value}
+use Rattle.wgsl_meaning.specs.declared.value.Value.TheVariants as V
+use Rattle.wgsl_meaning.specs.declared.value.NumericType.{NumericType}
+use Rattle.wgsl_meaning.specs.declared.value.NumericType.TheVariants.{AbstractInt, I32, U32}
+use Rattle.wgsl_meaning.specs.declared.fault.Fault.{Fault}
+use Rattle.wgsl_meaning.specs.declared.fault.Fault.TheVariants.{Number, Name as Named}
+use Rattle.wgsl_meaning.specs.declared.fault.NumberFault.TheVariants.{Conversion, ParamType}
+use Rattle.wgsl_meaning.specs.declared.fault.NameFault.TheVariants.{UnknownDecl, NotCallable, UninitConst, Signature, ParamCount, Void, NoReturn, UnexpectedReturn, ReturnType}
+use Rattle.wgsl_meaning.specs.Values.{Checked, and_then, Numbers, type_of, literal_value, converts, converted, constructed, unary_value, binary_value, unary_type, binary_type}
+use Rattle.wgsl_meaning.specs.Outcome.{Outcome, Done, Failed, Deep, after, andthen, at_once, computed}
+use Rattle.wgsl_meaning.specs.Names.{Name, find, plain_name}
+
+-- ---- expressions
+
+-- the parameters, with their values or with their types
+abbrev pub Env : Type 0
+Env = List (Name × Value)
+
+abbrev pub Types : Type 0
+Types = List (Name × NumericType)
+
+-- what the names of the module mean at a stage
+pub record World : Type 0 where
+  pub stage : ShaderStage
+  -- the value of a const
+  pub value_of : Name → Outcome Value
+  -- a call of a function or a constructor
+  pub result_of : Name → List Value → Outcome Value
+  -- its type, from the arguments' types
+  pub result_type : Name → List NumericType → Outcome NumericType
+  -- a type's name
+  pub type_named : Name → Checked NumericType
+
+-- a parameter's, or what the world says
+abbrev pub local_or : {A : Type 0} → Option A → Outcome A → Outcome A
+local_or (Some v) other = Done v 0
+local_or None other = other
+
+-- a parameter can't be called
+abbrev pub called_or : {A B : Type 0} → Name → Option A → Outcome B → Outcome B
+called_or f (Some v) other = Failed (Named NotCallable f)
+called_or f None other = other
+
+abbrev pub value_here : World → Env → Checked Name → Outcome Value
+value_here w env (Ok x) = local_or (find x env) (w.value_of x)
+value_here w env (Err f) = Failed f
+
+abbrev pub result_here : World → Env → Checked Name → List Value → Outcome Value
+result_here w env (Ok f) vs = called_or f (find f env) (w.result_of f vs)
+result_here w env (Err e) vs = Failed e
+
+-- the value of an expression: left before right, arguments in order, the callee last (WGSL, "Program Order Within an Invocation")
+abbrev mutual
+  pub value : World → Env → Exp → Outcome Value
+  value w env (literal l) = Done (literal_value l) 0
+  value w env (parenthesized e) = value w env e
+  value w env (unary o e) = andthen (value w env e) (λ x. computed (unary_value w.stage o x))
+  value w env (binary o a b) = andthen (value w env a) (λ x. andthen (value w env b) (λ y. computed (binary_value w.stage o x y)))
+  value w env (call f es) = andthen (values w env es) (λ vs. result_here w env (plain_name f) vs)
+  value w env (named x) = value_here w env (plain_name x)
+
+  pub values : World → Env → Exps → Outcome (List Value)
+  values w env nil = Done [] 0
+  values w env (cons e es) = andthen (value w env e) (λ x. andthen (values w env es) (λ xs. Done (x ∷ xs) 0))
+
+-- ---- their types
+
+-- an untyped const has the type of its value
+abbrev pub type_in_world : Outcome Value → Outcome NumericType
+type_in_world o = andthen o (λ v. Done (type_of v) 0)
+
+abbrev pub type_here : World → Types → Checked Name → Outcome NumericType
+type_here w env (Ok x) = local_or (find x env) (type_in_world (w.value_of x))
+type_here w env (Err f) = Failed f
+
+abbrev pub result_type_here : World → Types → Checked Name → List NumericType → Outcome NumericType
+result_type_here w env (Ok f) ts = called_or f (find f env) (w.result_type f ts)
+result_type_here w env (Err e) ts = Failed e
+
+abbrev mutual
+  pub typed : World → Types → Exp → Outcome NumericType
+  typed w env (literal l) = Done (type_of (literal_value l)) 0
+  typed w env (parenthesized e) = typed w env e
+  typed w env (unary o e) = andthen (typed w env e) (λ t. computed (unary_type o t))
+  typed w env (binary o a b) = andthen (typed w env a) (λ s. andthen (typed w env b) (λ t. computed (binary_type o s t)))
+  typed w env (call f es) = andthen (all_typed w env es) (λ ts. result_type_here w env (plain_name f) ts)
+  typed w env (named x) = type_here w env (plain_name x)
+
+  pub all_typed : World → Types → Exps → Outcome (List NumericType)
+  all_typed w env nil = Done [] 0
+  all_typed w env (cons e es) = andthen (typed w env e) (λ t. andthen (all_typed w env es) (λ ts. Done (t ∷ ts) 0))
+
+-- ---- constructors, consts and functions
+
+-- the constructor of a type: of one argument, or of none for zero (WGSL, "Zero Value Built-in Functions")
+abbrev pub construct : Name → NumericType → List Value → Outcome Value
+construct f t [] = computed (constructed t (V.AbstractInt (pos 0)))
+construct f t (v ∷ []) = computed (constructed t v)
+construct f t (v ∷ w ∷ vs) = Failed (Named Signature f)
+
+abbrev pub construct_type : Name → NumericType → List NumericType → Outcome NumericType
+construct_type f t [] = Done t 0
+construct_type f t (s ∷ []) = Done t 0
+construct_type f t (s ∷ u ∷ ts) = Failed (Named Signature f)
+
+-- a written type
+abbrev pub type_written : World → Typ → Outcome NumericType
+type_written w t = at_once (and_then (plain_name t) w.type_named)
+
+-- the value of an initializer, under a written type or its own
+abbrev pub initial : World → Option Typ → Exp → Outcome Value
+initial w (Some t) e = andthen (type_written w t) (λ u. andthen (value w [] e) (λ v. computed (converted (Conversion (type_of v) u) u v)))
+initial w None e = andthen (typed w [] e) (λ u. value w [] e)
+
+abbrev pub initialized : World → Name → Option Typ → Option Exp → Outcome Value
+initialized w x type (Some e) = initial w type e
+initialized w x type None = Failed (Named UninitConst x)
+
+-- a const's value (WGSL, "const Declarations")
+abbrev pub const_in : World → Name → Option Decl → Outcome Value
+const_in w x (Some (variable attributes kind y type e)) = initialized w y type e
+const_in w x (Some (function attributes f parameters return_attributes return_type body)) = Failed (Named UnknownDecl x)
+const_in w x None = Failed (Named UnknownDecl x)
+
+-- the parameters take the values, each converted to the parameter's type
+abbrev pub bound : World → List Param → List Value → Outcome Env
+bound w [] vs = Done [] 0
+bound w (p ∷ ps) [] = Done [] 0
+bound w (p ∷ ps) (v ∷ vs) =
+    andthen (type_written w p.type) (λ t. andthen (computed (converted (ParamType (type_of v) t) t v)) (λ x.
+    andthen (bound w ps vs) (λ env. Done ((p.name, x) ∷ env) 0)))
+
+-- what a body of at most one return hands back
+abbrev pub returned_by : World → Env → List Stm → Outcome (Option Value)
+returned_by w env [] = Done None 0
+returned_by w env (returning attributes None ∷ rest) = Done None 0
+returned_by w env (returning attributes (Some e) ∷ rest) = andthen (value w env e) (λ v. Done (Some v) 0)
+
+abbrev pub converted_return : Name → NumericType → Value → Outcome (Option Value)
+converted_return f t v =
+    if converts (type_of v) t then andthen (computed (converted (Conversion (type_of v) t) t v)) (λ x. Done (Some x) 0)
+    else Failed (Named (ReturnType (type_of v) t) f)
+
+-- it is converted to the function's type
+abbrev pub handed_back : Name → Option NumericType → Option Value → Outcome (Option Value)
+handed_back f None None = Done None 0
+handed_back f None (Some v) = Failed (Named (UnexpectedReturn (type_of v)) f)
+handed_back f (Some t) None = Failed (Named (NoReturn t) f)
+handed_back f (Some t) (Some v) = converted_return f t v
+
+abbrev pub return_type_of : World → Option Typ → Outcome (Option NumericType)
+return_type_of w None = Done None 0
+return_type_of w (Some t) = andthen (type_written w t) (λ u. Done (Some u) 0)
+
+abbrev pub body_of : World → Name → Option Typ → List Stm → Env → Outcome (Option Value)
+body_of w f type body env = andthen (return_type_of w type) (λ t. andthen (returned_by w env body) (λ v. handed_back f t v))
+
+-- a value where one is needed
+abbrev pub needed : Name → Option Value → Outcome Value
+needed f (Some v) = Done v 0
+needed f None = Failed (Named Void f)
+
+-- a call, which is a step (WGSL, "Function Calls")
+abbrev pub call_in : World → Name → Option Decl → List Value → Outcome Value
+call_in w f (Some (function attributes g parameters return_attributes type body)) vs =
+    if length vs == length parameters then after 1 (andthen (bound w parameters vs) (λ env. andthen (body_of w f type body.statements env) (needed f)))
+    else Failed (Named (ParamCount (length vs) (length parameters)) f)
+call_in w f (Some (variable attributes kind x type e)) vs = Failed (Named NotCallable f)
+call_in w f None vs = Failed (Named NotCallable f)
+
+abbrev pub call_type : World → Name → Option Decl → Outcome NumericType
+call_type w f (Some (function attributes g parameters return_attributes (Some t) body)) = type_written w t
+call_type w f (Some (function attributes g parameters return_attributes None body)) = Failed (Named Void f)
+call_type w f (Some (variable attributes kind x type e)) = Failed (Named NotCallable f)
+call_type w f None = Failed (Named NotCallable f)

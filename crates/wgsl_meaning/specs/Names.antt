@@ -1,0 +1,44 @@
+-- Names: of types, of built-in constructors, of parameters (WGSL, "Declaration and Scope").
+use Rattle.std.specs.Prelude.{ℕ, List, [], ◌∷◌, Option, Some, None, Bool, true, false, Result, Ok, Err, codes, if◌then◌else◌}
+use Rattle.std.specs.Str.{bytes_eq}
+use Rattle.wgsl_path.specs.declared.path.ModulePath.{ModulePath}
+use Rattle.wgsl_path.specs.declared.path.PathOrigin.TheVariants.{Absolute}
+use Rattle.wgsl_syntax.specs.Tree.{Exp, Typ, simple, templated, Attr, Stm, Block, Param, Decl, variable, function}
+use Rattle.wgsl_syntax.specs.declared.declaration.DeclarationKind.{DeclarationKind}
+use Rattle.wgsl_meaning.specs.declared.value.NumericType.{NumericType}
+use Rattle.wgsl_meaning.specs.declared.value.NumericType.TheVariants.{I32, U32}
+use Rattle.wgsl_meaning.specs.declared.fault.Fault.TheVariants.{Name as Named}
+use Rattle.wgsl_meaning.specs.declared.fault.NameFault.TheVariants.{Todo, NotType, UnexpectedTemplate, UnknownDecl}
+use Rattle.wgsl_meaning.specs.Values.{Checked}
+
+abbrev pub Name : Type 0
+Name = List ℕ
+
+-- a declaration's module and name
+pub record Symbol : Type 0 where
+  pub home : ModulePath
+  pub called : Name
+
+-- what stands first under a name
+abbrev pub find : {A : Type 0} → Name → List (Name × A) → Option A
+find x [] = None
+find x (b ∷ bs) = if bytes_eq x b.0 then Some b.1 else find x bs
+
+abbrev pub name_of : Decl → Name
+name_of (variable attributes kind x type e) = x
+name_of (function attributes f parameters return_attributes return_type body) = f
+
+-- the first declaration of a name
+abbrev pub find_decl : Name → List Decl → Option Decl
+find_decl x [] = None
+find_decl x (d ∷ ds) = if bytes_eq x (name_of d) then Some d else find_decl x ds
+
+-- the types that texts name (WGSL, "Predeclared Types"). Of the others none is evaluated yet
+abbrev pub built_in_type : Name → Checked NumericType
+built_in_type x = if bytes_eq x (codes "i32") then Ok I32 else if bytes_eq x (codes "u32") then Ok U32 else Err (Named Todo x)
+
+-- a plain name, without path and template arguments
+abbrev pub plain_name : Typ → Checked Name
+plain_name (simple None x) = Ok x
+plain_name (simple (Some path) x) = Err (Named UnknownDecl x)
+plain_name (templated path x arguments) = Err (Named UnexpectedTemplate x)

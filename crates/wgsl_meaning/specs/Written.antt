@@ -1,0 +1,41 @@
+-- How a value is written (this project's own).
+use Rattle.std.specs.Prelude.{◌≡◌, ℕ, suc, pos, negsuc, nat_lt, nat_eq, List, [], ◌∷◌, None, Ok, if◌then◌else◌, codes}
+use Rattle.wgsl_operators.specs.declared.UnaryOperator.TheVariants.{Negation}
+use Rattle.wgsl_operators.specs.declared.BinaryOperator.TheVariants.{Subtraction}
+use Rattle.wgsl_syntax.specs.declared.expression.LiteralExpression.TheVariants.{AbstractInt, I32, U32}
+use Rattle.wgsl_syntax.specs.Tree.{Exp, Exps, literal, parenthesized, unary, binary, call, nil, cons, simple}
+use Rattle.wgsl_meaning.specs.declared.value.Value.{Value}
+use Rattle.wgsl_meaning.specs.Outcome.{Outcome, Done}
+use Rattle.wgsl_meaning.specs.Meaning.{World, Env, result_here}
+use Rattle.wgsl_meaning.specs.declared.value.Value.TheVariants as V
+
+-- `(-n)`
+abbrev pub negative : Exp → Exp
+negative e = parenthesized (unary Negation e)
+
+-- `(-9223372036854775807 - 1)`, since 9223372036854775808 is no literal
+abbrev pub least_abstract : Exp
+least_abstract = parenthesized (binary Subtraction (unary Negation (literal (AbstractInt (pos 9223372036854775807)))) (literal (AbstractInt (pos 1))))
+
+-- `i32(-2147483648)`, since 2147483648i is no literal
+abbrev pub least_signed : Exp
+least_signed = call (simple None (codes "i32")) (cons (unary Negation (literal (AbstractInt (pos 2147483648)))) nil)
+
+-- the expression that is written for a value: a literal, or in parentheses where the number is negative. The last case of each
+-- type doesn't come: no number of the type is as low
+abbrev pub written : Value → Exp
+written (V.AbstractInt (pos n)) = literal (AbstractInt (pos n))
+written (V.AbstractInt (negsuc n)) =
+    if nat_eq n 9223372036854775807 then least_abstract
+    else if nat_lt n 9223372036854775807 then negative (literal (AbstractInt (pos (suc n))))
+    else literal (AbstractInt (negsuc n))
+written (V.I32 (pos n)) = literal (I32 (pos n))
+written (V.I32 (negsuc n)) =
+    if nat_eq n 2147483647 then least_signed
+    else if nat_lt n 2147483647 then negative (literal (I32 (pos (suc n))))
+    else literal (I32 (negsuc n))
+written (V.U32 n) = literal (U32 n)
+
+-- `i32` is the constructor there: neither a parameter nor a declaration has the name
+pub record HasConstructor (w : World) (env : Env) : Type 0 where
+  pub least : result_here w env (Ok (codes "i32")) (V.AbstractInt (negsuc 2147483647) ∷ []) ≡ Done (V.I32 (negsuc 2147483647)) 0
