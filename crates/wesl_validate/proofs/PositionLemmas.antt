@@ -1,9 +1,7 @@
 -- Where a list of names has a name first.
 use Rattle.std.proofs.Common.{◌≡◌, ℕ, ◌+◌, ◌<◌, suc, List, [], ◌∷◌, ◌++◌, length, Option, Some, None, Bool, true, false, cond, refl, sym, ap, ◌∙◌, subst, arith}
 use Rattle.std.specs.Prelude.{position, ◌||◌, not, is_some, nat_lt, if◌then◌else◌}
-use Rattle.std.specs.List.{list_any, position_or_len, Contains}
-use Rattle.std.proofs.lemmas.List.Folds.{Any-from_list_any, list_any_at}
-use Rattle.std.proofs.lemmas.List.{get_or_default}
+use Rattle.std.specs.List.{list_any, position_or_len}
 use Rattle.std.specs.Option.{option_map}
 use Rattle.std.specs.Bool.{Decides}
 use Rattle.std.specs.Str.{bytes_eq}
@@ -81,13 +79,3 @@ pub known_from : (look : Name → Option ℕ) (names : List Name) (x y : Name) (
     → ((q : Name) → look q ≡ position (bytes_eq q) names) → is_some (look x) ≡ b → is_in y names ≡ b
 known_from look names x y b same is found =
     sym (is_some-position y names) ∙ sym (ap is_some (is y)) ∙ ap (λ q. is_some (look q)) (sym same) ∙ found
-
--- `is_in` is membership
-pub contains_from_in : (x : Name) (xs : List Name) → is_in x xs ≡ true → Contains xs x
-contains_from_in x xs h =
-    let any = Any-from_list_any (bytes_eq x) xs h in
-    let same = same_text x any.1 any.4 in
-    (any.0, any.2, get_or_default xs any.0 x any.1 any.2 ∙ any.3 ∙ sym same)
-
-pub in_from_contains : (x : Name) (xs : List Name) → Contains xs x → is_in x xs ≡ true
-in_from_contains x xs c = list_any_at (bytes_eq x) xs c.0 x c.1 (ap (bytes_eq x) c.2 ∙ text_same x)

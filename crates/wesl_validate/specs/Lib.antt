@@ -3,6 +3,5 @@ pub mod Scopes
 pub mod Lookups
 pub mod Rings
 pub mod Searches
-pub mod Builtin
 pub mod Faults
 pub mod Clearness

@@ -8,6 +8,7 @@ use Rattle.wgsl_path.specs.declared.span.Spanned.{Spanned}
 use Rattle.wgsl_syntax.specs.declared.declaration.GlobalDeclaration.{GlobalDeclaration}
 use Rattle.wgsl_syntax.specs.Tree.{Decl}
 use Rattle.wgsl_syntax.specs.View.{declaration_tree}
+pub use Rattle.wgsl_builtin.specs.Names.{texts}
 use Rattle.wesl_validate.specs.Scopes.{Name, name_of}
 
 -- where an index has a name
@@ -23,7 +24,3 @@ trees declarations = map (λ n. declaration_tree n.node) declarations
 
 abbrev pub declared : List (Spanned GlobalDeclaration) → List Name
 declared declarations = map (λ n. name_of (declaration_tree n.node)) declarations
-
--- a table of names
-abbrev pub texts : List (Bor (List ℕ)) → List Name
-texts table = map (λ x. x.now) table

@@ -4,14 +4,11 @@ use Rattle.std.specs.List.{flat_map, list_any}
 use Rattle.std.specs.Str.{bytes_eq}
 use Rattle.wgsl_path.specs.declared.path.ModulePath.{ModulePath}
 use Rattle.wgsl_syntax.specs.Tree.{Exp, literal, parenthesized, unary, binary, call, named, Exps, nil, cons, Typ, simple, templated, Attr, fragment, location, Stm, returning, Block, Param, Decl, variable, function, Unit}
+pub use Rattle.wgsl_builtin.specs.Names.{Name, is_in}
 use Rattle.wesl_validate.specs.declared.place.Meaning.{Meaning}
 use Rattle.wesl_validate.specs.declared.place.Meaning.TheVariants.{Local, Global, Free}
 use Rattle.wesl_validate.specs.declared.place.Place.{Place}
 use Rattle.wesl_validate.specs.declared.place.Row.{Row}
-
--- a name, by its bytes
-abbrev pub Name : Type 0
-Name = List ℕ
 
 -- ---- what is declared
 
@@ -29,9 +26,6 @@ abbrev pub names : Unit → List Name
 names unit = map name_of unit.declarations
 
 -- ---- what a name denotes
-
-abbrev pub is_in : Name → List Name → Bool
-is_in x xs = list_any (bytes_eq x) xs
 
 abbrev pub global_or_free : Option ℕ → Meaning
 global_or_free (Some position) = Global position

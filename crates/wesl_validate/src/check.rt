@@ -1,26 +1,14 @@
 //! Names that nothing declares, and calls.
 
-ghost use Rattle.std.specs.Prelude.{◌≡◌, map};
+ghost use Rattle.std.specs.Prelude.{◌≡◌};
 ghost use Rattle.std.specs.List.{flat_map};
-ghost use Rattle.wesl_validate.specs.Scopes.{is_in};
 ghost use Rattle.wesl_validate.specs.Lookups.{texts};
 ghost use Rattle.wesl_validate.specs.Faults.{undefined_at, miscall_at, call_fault, called_fault, faults_at, Finds};
 
 use crate::error::{Refusal, ValidateError, refused};
 use crate::place::{Meaning, Place, Row};
 use std::alloc::Global;
-
-/// Whether a name is in a table.
-pub fn is_known(name: &str, table: &[&str]) -> bool
-    ensures { result ≡ is_in name.now (texts table.now) }
-{
-    for known in table {
-        if name == *known {
-            return true;
-        }
-    }
-    false
-}
+use wgsl_builtin::is_known;
 
 fn check_name(alloc: Global, holder: &str, place: &Place, table: &[&str]) -> Result<(), Refusal>
     ensures { Finds (undefined_at (texts table.now) holder.now place.now) result }

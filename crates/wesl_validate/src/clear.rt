@@ -9,10 +9,10 @@ ghost use Rattle.wesl_validate.specs.Scopes.{Name, parameters_of};
 ghost use Rattle.wesl_validate.specs.Lookups.{lookup, local_names, texts, trees, declared};
 ghost use Rattle.wesl_validate.specs.Clearness.{sharing_of, is_shared_by, is_declared_by, unclear_in, unclear};
 
-use crate::check::is_known;
 use crate::place::declared_name;
 use std::alloc::{AllocError, Global};
 use std::collections::HashMap;
+use wgsl_builtin::is_known;
 use wgsl_items::Text;
 use wgsl_syntax::{FormalParameter, GlobalDeclaration, GlobalDeclarationNode, TranslationUnit};
 

@@ -7,12 +7,10 @@ mod error;
 mod index;
 mod place;
 mod ring;
-mod table;
 mod validate;
 
 pub use clear::unclear_name;
 pub use error::{Refusal, ValidateError, ValidateFault};
-pub use table::{BUILTIN_COUNT, BUILTIN_NAMES, builtin_names, is_builtin_name};
 pub use validate::validate_wesl;
 
 #[cfg(test)]

@@ -1,9 +1,10 @@
 //! Units by hand, and what is refused of them.
 
-use crate::{Refusal, ValidateError, builtin_names, is_builtin_name, unclear_name, validate_wesl};
+use crate::{Refusal, ValidateError, unclear_name, validate_wesl};
 use std::alloc::{AllocError, Global};
 use std::process::Abort;
 use std::test::Fail;
+use wgsl_builtin::builtin_names;
 use wgsl_items::{Items, Text};
 use wgsl_syntax::{
     Attribute, Attributes, CompoundStatement, Declaration, DeclarationKind, Expression,
@@ -326,10 +327,4 @@ fn a_unit_without_fault(rt: HostRuntime) -> Result<(), Fail> {
     assert!(rt; validate_wesl(alloc, &fine, builtin_names()).is_ok());
     assert!(rt; unclear_name(alloc, &fine, builtin_names())?.is_none());
     Ok(())
-}
-
-#[test]
-fn names_of_wgsl(rt: HostRuntime) {
-    assert!(rt; is_builtin_name("mat2x3f"));
-    assert!(rt; !is_builtin_name("abs"));
 }

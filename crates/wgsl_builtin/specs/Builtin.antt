@@ -1,8 +1,8 @@
 -- The predeclared names of WGSL that a unit may use without declaring them: types and type generators ("Predeclared Types and
 -- Type-Generators Summary"), and enumerants ("Predeclared enumerants"). Built-in functions and the address space `handle`,
 -- which no text writes, are left out (this project's choice).
-use Rattle.std.specs.Prelude.{ℕ, List, [], ◌∷◌, ◌++◌, codes}
-use Rattle.wesl_validate.specs.Scopes.{Name}
+use Rattle.std.specs.Prelude.{List, [], ◌∷◌, ◌++◌, codes}
+use Rattle.wgsl_builtin.specs.Names.{Name}
 
 -- types and type generators whose values are computed
 abbrev pub value_types : List Name

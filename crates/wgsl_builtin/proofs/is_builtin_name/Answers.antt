@@ -1,8 +1,8 @@
 use Rattle.std.proofs.Common.{◌≡◌, true, sym, ap, ◌∙◌}
-use Rattle.wesl_validate.specs.Scopes.{is_in}
-use Rattle.wesl_validate.specs.Builtin.{builtin_names}
-use Rattle.wesl_validate.proofs.PositionLemmas.{contains_from_in, in_from_contains}
-use Rattle.wesl_validate.proofs.table.is_builtin_name.Goals as goal
+use Rattle.wgsl_builtin.specs.Names.{is_in}
+use Rattle.wgsl_builtin.specs.Builtin.{builtin_names}
+use Rattle.wgsl_builtin.proofs.Membership.{contains_from_in, in_from_contains}
+use Rattle.wgsl_builtin.proofs.is_builtin_name.Goals as goal
 
 pub returns : goal.returns
 returns c =

@@ -1,11 +1,22 @@
 //! The names that WGSL declares.
+#![tactic(auto)]
 
 ghost use Rattle.std.specs.Prelude.{◌≡◌, IsTrue, ◌↔◌};
 ghost use Rattle.std.specs.List.{Contains};
-ghost use Rattle.wesl_validate.specs.Lookups.{texts};
-ghost use Rattle.wesl_validate.specs.Builtin.{builtin_names};
+ghost use Rattle.wgsl_builtin.specs.Names.{is_in, texts};
+ghost use Rattle.wgsl_builtin.specs.Builtin.{builtin_names};
 
-use crate::check::is_known;
+/// Whether a name is in a table.
+pub fn is_known(name: &str, table: &[&str]) -> bool
+    ensures { result ≡ is_in name.now (texts table.now) }
+{
+    for known in table {
+        if name == *known {
+            return true;
+        }
+    }
+    false
+}
 
 /// How many names WGSL declares.
 pub const BUILTIN_COUNT: usize = 94;
@@ -120,4 +131,17 @@ pub fn is_builtin_name(name: &str) -> bool
     ensures { IsTrue result ↔ Contains builtin_names name.now }
 {
     is_known(name, builtin_names())
+}
+
+#[cfg(test)]
+mod tests {
+    use super::*;
+
+    #[test]
+    fn names_of_wgsl(rt: HostRuntime) {
+        assert!(rt; is_builtin_name("mat2x3f"));
+        assert!(rt; is_builtin_name("read_write"));
+        assert!(rt; !is_builtin_name("abs"));
+        assert!(rt; !is_builtin_name("handle"));
+    }
 }
