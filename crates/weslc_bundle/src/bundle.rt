@@ -107,7 +107,10 @@ fn check_keys(alloc: Global, members: &Members) -> Result<(), BundleError> {
 }
 
 fn is_key(key: &str) -> bool {
-    matches!(key, "command" | "root" | "modules" | "keep" | "max_modules" | "max_steps")
+    matches!(
+        key,
+        "command" | "root" | "modules" | "keep" | "max_modules" | "max_steps"
+    )
 }
 
 fn read_command(members: &Members) -> Result<Command, BundleError> {

@@ -403,7 +403,8 @@ fn writes_numbers(rt: HostRuntime) -> Result<(), Fail> {
 
 #[test]
 fn tells_two_modules_apart(rt: HostRuntime) -> Result<(), Fail> {
-    let root = "import package::m::f; const two = 5; fn g(x: i32) -> i32 { return x * two; } fn h(x: i32) -> i32 { return x * three; } const three = 3;";
+    let root =
+        "import package::m::f; const two = 5; fn g(x: i32) -> i32 { return x * two; } fn h(x: i32) -> i32 { return x * three; } const three = 3;";
     let m = "const two = 2; const f = two + 1;";
     let bundle = bundle_for(&rt, "compile", root, m, r#","keep":["g","h"]"#)?;
     assert_text(

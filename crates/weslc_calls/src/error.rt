@@ -125,10 +125,7 @@ fn name_of(alloc: Global, fault: &Fault) -> Result<Option<Text>, AllocError>
 }
 
 impl CompileError {
-    pub fn too_many_modules(
-        alloc: Global,
-        module: &ModulePath,
-    ) -> Result<CompileError, AllocError>
+    pub fn too_many_modules(alloc: Global, module: &ModulePath) -> Result<CompileError, AllocError>
         ensures { IfOk result IsOfLinking }
     {
         Ok(CompileError::TooManyModules(Concern::of_module(module.clone_in(alloc)?)))

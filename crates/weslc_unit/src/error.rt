@@ -3,8 +3,8 @@
 use std::alloc::AllocError;
 use thiserror::Error as Message;
 use wesl_validate::ValidateFault;
-use wgsl_items::Text;
 use wgsl_eval::Refusal;
+use wgsl_items::Text;
 
 /// Why a linked unit is not compiled. The first fault is named, in the order of these variants; names are those of the
 /// linked unit.

@@ -45,7 +45,12 @@ fn unprintable_name(alloc: Global, unit: &TranslationUnit) -> Result<Text, Alloc
         if let Err(error) = parse_str(alloc, text.as_str()) {
             return match error.kind {
                 ErrorKind::OutOfMemory => Err(AllocError),
-                ErrorKind::ReservedWord => Text::from_str(alloc, text.as_str().get(error.span.start..error.span.end).unwrap_or("")),
+                ErrorKind::ReservedWord => Text::from_str(
+                    alloc,
+                    text.as_str()
+                        .get(error.span.start..error.span.end)
+                        .unwrap_or(""),
+                ),
                 _ => declared_name(declaration.node()).clone_in(alloc),
             };
         }

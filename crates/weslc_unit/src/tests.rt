@@ -5,10 +5,12 @@ use std::alloc::Global;
 use std::process::Abort;
 use std::test::Fail;
 use wgsl_eval::{Fault, NumberFault, NumericType, Value};
-use wgsl_items::Text;
+use wgsl_items::{Items, Text};
 use wgsl_lower::lower;
 use wgsl_parse::parse_str;
-use wgsl_syntax::{GlobalDeclaration, Ident, TranslationUnit};
+use wgsl_syntax::{
+    CompoundStatement, Function, GlobalDeclaration, Ident, Span, Spanned, TranslationUnit,
+};
 
 fn unit_of(alloc: Global, text: &str) -> Result<TranslationUnit, Fail> {
     Ok(parse_str(alloc, text).map_err(|_| "no module")?)
@@ -62,16 +64,18 @@ fn constants_are_written_as_their_values(rt: HostRuntime) -> Result<(), Fail> {
 #[test]
 fn the_first_fault_is_named(rt: HostRuntime) -> Result<(), Fail> {
     let alloc = rt.alloc();
-    let UnitRefusal::Eval(found) = refusal(
-        alloc,
-        "const k: u32 = -1; fn g() -> u32 { return k; }",
-    )? else {
+    let UnitRefusal::Eval(found) = refusal(alloc, "const k: u32 = -1; fn g() -> u32 { return k; }")?
+    else {
         return Err(Fail::from("another refusal"));
     };
     assert_eq!(rt; found.declaration.as_str(), "k");
     let fault = NumberFault::ConvOverflow(Value::AbstractInt(-1), NumericType::U32);
     assert!(rt; found.fault == Fault::Number(fault));
-    let UnitRefusal::Validate(found) = refusal(alloc, "const k = 1 / 0; fn g() -> u32 { return z; }")? else {
+    let UnitRefusal::Validate(found) = refusal(
+        alloc,
+        "const k = 1 / 0; fn g() -> u32 { return z; }",
+    )?
+    else {
         return Err(Fail::from("another refusal"));
     };
     assert!(rt; found.kind == ValidateError::UndefinedSymbol);
@@ -79,34 +83,43 @@ fn the_first_fault_is_named(rt: HostRuntime) -> Result<(), Fail> {
     let UnitRefusal::UnclearName(found) = refusal(
         alloc,
         "const k = 1 / 0; fn g(k: u32) -> u32 { return k; }",
-    )? else {
+    )?
+    else {
         return Err(Fail::from("another refusal"));
     };
     assert_eq!(rt; found.as_str(), "k");
     Ok(())
 }
 
-/// A declaration under a name that no text has.
-fn renamed(alloc: Global, text: &str, name: &str) -> Result<TranslationUnit, Fail> {
-    let mut unit = unit_of(alloc, text)?;
-    if let Some(node) = unit.global_declarations.get_mut(0) {
-        if let GlobalDeclaration::Function(function) = node.node_mut() {
-            function.ident = Ident::new(Text::from_str(alloc, name)?);
-        }
-    }
+/// `fn NAME() {}`
+fn function_named(alloc: Global, name: &str) -> Result<TranslationUnit, Fail> {
+    let function = Function {
+        attributes: Items::new(alloc),
+        ident: Ident::new(Text::from_str(alloc, name)?),
+        parameters: Items::new(alloc),
+        return_attributes: Items::new(alloc),
+        return_type: None,
+        body: CompoundStatement {
+            attributes: Items::new(alloc),
+            statements: Items::new(alloc),
+        },
+    };
+    let declaration = GlobalDeclaration::Function(function);
+    let mut unit = unit_of(alloc, "fn g() {}")?;
+    unit.global_declarations.push(Spanned::new(alloc, declaration, Span { start: 0, end: 0 })?)?;
     Ok(unit)
 }
 
 #[test]
 fn names_that_no_text_has(rt: HostRuntime) -> Result<(), Fail> {
     let alloc = rt.alloc();
-    let unit = renamed(alloc, "fn g() {} fn h() {}", "thread_local")?;
+    let unit = function_named(alloc, "thread_local")?;
     let Err(UnitRefusal::Unprintable(name)) = compile_unit(alloc, &unit) else {
         return Err(Fail::from("not refused"));
     };
     assert_eq!(rt; name.as_str(), "thread_local");
     assert!(rt; print_unit(alloc, &unit).is_err());
-    let unit = renamed(alloc, "fn g() {} fn h() {}", "two words")?;
+    let unit = function_named(alloc, "two words")?;
     let Err(UnitRefusal::Unprintable(name)) = compile_unit(alloc, &unit) else {
         return Err(Fail::from("not refused"));
     };
@@ -123,7 +136,10 @@ fn memory_refused(rt: HostRuntime) -> Result<(), Fail> {
     };
     match compile_unit(alloc, &unit) {
         Ok(text) => {
-            assert_eq!(rt; text.as_str(), "fn g(x: i32) -> i32 {\n    return x - (-5);\n}\n");
+            assert_eq!(rt;
+                text.as_str(),
+                "fn g(x: i32) -> i32 {\n    return x - (-5);\n}\n"
+            );
             Ok(())
         }
         Err(UnitRefusal::OutOfMemory) => Ok(()),
