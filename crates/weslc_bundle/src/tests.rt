@@ -422,6 +422,20 @@ fn tells_two_modules_apart(rt: HostRuntime) -> Result<(), Fail> {
 }
 
 #[test]
+fn tells_paths_apart_that_join_alike(rt: HostRuntime) -> Result<(), Fail> {
+    let modules =
+        r#""root":"package","modules":[{"path":"package","text":"import package::a_b::c; import package::a::b_c; fn g() -> u32 { return c + b_c; }"},{"path":"package::a_b","text":"const c = 1u;"},{"path":"package::a","text":"const b_c = 2u;"}],"keep":["g"]"#;
+    let bundle = format!(in rt.alloc(); r#"{{"command":"link",{modules}}}"#)?;
+    assert_text(
+        &rt,
+        bundle.as_str(),
+        "fn g() -> u32 {\n    return package__1a_b_c + package_a__1b_c;\n}\nconst package_a__1b_c = 2u;\nconst package__1a_b_c = 1u;\n",
+    )?;
+    let bundle = format!(in rt.alloc(); r#"{{"command":"compile",{modules}}}"#)?;
+    assert_text(&rt, bundle.as_str(), "fn g() -> u32 {\n    return 3u;\n}\n")
+}
+
+#[test]
 fn names_faults_of_the_linked_unit(rt: HostRuntime) -> Result<(), Fail> {
     let cases = [
         (
