@@ -11,6 +11,7 @@ use Rattle.wgsl_syntax.specs.declared.expression.Expression.{Expression}
 use Rattle.wgsl_syntax.specs.declared.expression.TypeExpressionOf.{TypeExpressionOf}
 use Rattle.wgsl_syntax.specs.declared.statement.Statement.{Statement}
 use Rattle.wgsl_syntax.specs.declared.statement.Statement.TheVariants.{Return}
+use Rattle.wgsl_syntax.specs.declared.declaration.Attribute.{Attribute}
 use Rattle.wgsl_syntax.specs.declared.declaration.DeclarationKind.TheVariants.{Const}
 use Rattle.wgsl_syntax.specs.declared.declaration.FormalParameter.{FormalParameter}
 use Rattle.wgsl_syntax.specs.declared.declaration.GlobalDeclaration.{GlobalDeclaration}
@@ -21,6 +22,7 @@ use Rattle.wgsl_syntax.specs.declared.unit.TranslationUnit.{TranslationUnit}
 use Rattle.wgsl_phrases.specs.Languages.{◌⌢◌, OptionallyListed, Repeated}
 use Rattle.wgsl_grammar.specs.Terminals.{fixed, word, IsComma, type_named}
 use Rattle.wgsl_grammar.specs.Expressions.{IsSum}
+use Rattle.wgsl_grammar.specs.Attributes.{IsAttribute}
 
 -- id
 pub data IsIdent : List SpannedToken → Ident → Type 0 where
@@ -30,23 +32,28 @@ pub data IsIdent : List SpannedToken → Ident → Type 0 where
 pub data IsType : List SpannedToken → TypeExpressionOf Expression → Type 0 where
   type : {id : List ℕ} {s : Span} → IsType (word id s ∷ []) (type_named id)
 
-abbrev pub parameter_of : Ident → TypeExpressionOf Expression → FormalParameter
-parameter_of name ty = record { attributes = []; ident = name; ty = ty }
+-- {attribute}
+abbrev pub IsAttributes : List SpannedToken → List (Spanned Attribute) → Type 0
+IsAttributes = Repeated IsAttribute
 
--- id `:` type
+abbrev pub parameter_of : List (Spanned Attribute) → Ident → TypeExpressionOf Expression → FormalParameter
+parameter_of attributes name ty = record { attributes = attributes; ident = name; ty = ty }
+
+-- {attribute} id `:` type
 pub data IsParameter : List SpannedToken → FormalParameter → Type 0 where
-  parameter : {u v : List SpannedToken} (c : Span) {name : Ident} {ty : TypeExpressionOf Expression} → IsIdent u name → IsType v ty
-      → IsParameter (u ⌢ fixed f.Colon c ∷ v) (parameter_of name ty)
+  parameter : {u v w : List SpannedToken} (c : Span) {attributes : List (Spanned Attribute)} {name : Ident} {ty : TypeExpressionOf Expression}
+      → IsAttributes u attributes → IsIdent v name → IsType w ty → IsParameter (u ⌢ v ⌢ fixed f.Colon c ∷ w) (parameter_of attributes name ty)
 
 -- [`:` type]
 pub data IsAnnotation : List SpannedToken → Option (TypeExpressionOf Expression) → Type 0 where
   unannotated : IsAnnotation [] None
   annotated : {u : List SpannedToken} {c : Span} {ty : TypeExpressionOf Expression} → IsType u ty → IsAnnotation (fixed f.Colon c ∷ u) (Some ty)
 
--- [`->` type]
-pub data IsResult : List SpannedToken → Option (TypeExpressionOf Expression) → Type 0 where
-  no_result : IsResult [] None
-  result_of : {u : List SpannedToken} {a : Span} {ty : TypeExpressionOf Expression} → IsType u ty → IsResult (fixed f.Arrow a ∷ u) (Some ty)
+-- [`->` {attribute} type]
+pub data IsResult : List SpannedToken → List (Spanned Attribute) → Option (TypeExpressionOf Expression) → Type 0 where
+  no_result : IsResult [] [] None
+  result_of : {u v : List SpannedToken} {a : Span} {attributes : List (Spanned Attribute)} {ty : TypeExpressionOf Expression} → IsAttributes u attributes → IsType v ty
+      → IsResult (fixed f.Arrow a ∷ u ⌢ v) attributes (Some ty)
 
 -- [expr]
 pub data IsValue : List SpannedToken → Option (Spanned Expression) → Type 0 where
@@ -68,30 +75,36 @@ constant_of first name ty x last = record {
   span = across first last;
 }
 
-abbrev pub function_of : Span → Ident → List FormalParameter → Option (TypeExpressionOf Expression) → List (Spanned Statement) → Span → Spanned GlobalDeclaration
-function_of first name parameters ty statements last = record {
+-- where attributes and a token behind them begin
+abbrev pub led_by : List (Spanned Attribute) → Span → Span
+led_by [] token = token
+led_by (attribute ∷ attributes) token = attribute.span
+
+abbrev pub function_of : List (Spanned Attribute) → Span → Ident → List FormalParameter → List (Spanned Attribute) → Option (TypeExpressionOf Expression)
+    → List (Spanned Statement) → Span → Spanned GlobalDeclaration
+function_of attributes first name parameters return_attributes ty statements last = record {
   node = Function (record {
-    attributes = [];
+    attributes = attributes;
     ident = name;
     parameters = parameters;
-    return_attributes = [];
+    return_attributes = return_attributes;
     return_type = ty;
     body = record { attributes = []; statements = statements };
   });
-  span = across first last;
+  span = across (led_by attributes first) last;
 }
 
 -- `const` id [`:` type] `=` expr `;`
--- `fn` id `(` [id `:` type {`,` id `:` type} [`,`]] `)` [`->` type] `{` [`return` [expr] `;`] `}`
+-- {attribute} `fn` id `(` [parameter {`,` parameter} [`,`]] `)` [`->` {attribute} type] `{` [`return` [expr] `;`] `}`
 pub data IsDeclaration : List SpannedToken → Spanned GlobalDeclaration → Type 0 where
   constant : {u v w : List SpannedToken} {c : Span} (e z : Span) {name : Ident} {ty : Option (TypeExpressionOf Expression)} {x : Spanned Expression}
       → IsIdent u name → IsAnnotation v ty → IsSum w x
       → IsDeclaration (fixed f.Const c ∷ u ⌢ v ⌢ fixed f.Equal e ∷ w ⌢ fixed f.Semicolon z ∷ []) (constant_of c name ty x z)
-  function : {u v w x : List SpannedToken} {n : Span} (p q b z : Span) {name : Ident} {parameters : List FormalParameter} {ty : Option (TypeExpressionOf Expression)}
-      {statements : List (Spanned Statement)}
-      → IsIdent u name → OptionallyListed IsParameter IsComma v parameters → IsResult w ty → IsBody x statements
-      → IsDeclaration (fixed f.Fn n ∷ u ⌢ fixed f.ParenLeft p ∷ v ⌢ fixed f.ParenRight q ∷ w ⌢ fixed f.BraceLeft b ∷ x ⌢ fixed f.BraceRight z ∷ [])
-      (function_of n name parameters ty statements z)
+  function : {t u v w x : List SpannedToken} (n p q b z : Span) {attributes return_attributes : List (Spanned Attribute)} {name : Ident}
+      {parameters : List FormalParameter} {ty : Option (TypeExpressionOf Expression)} {statements : List (Spanned Statement)}
+      → IsAttributes t attributes → IsIdent u name → OptionallyListed IsParameter IsComma v parameters → IsResult w return_attributes ty → IsBody x statements
+      → IsDeclaration (t ⌢ fixed f.Fn n ∷ u ⌢ fixed f.ParenLeft p ∷ v ⌢ fixed f.ParenRight q ∷ w ⌢ fixed f.BraceLeft b ∷ x ⌢ fixed f.BraceRight z ∷ [])
+      (function_of attributes n name parameters return_attributes ty statements z)
 
 -- {id `::`}
 pub data IsComponents : List SpannedToken → List (List ℕ) → Type 0 where

@@ -1,3 +1,4 @@
 pub mod Terminals
 pub mod Expressions
+pub mod Attributes
 pub mod Declarations

@@ -1,5 +1,5 @@
 -- What each phrase of a declaration comes to, by its first token.
-use Rattle.std.proofs.Common.{◌≡◌, ◌≢◌, ◌∙◌, sym, ap, refl, List, [], ◌∷◌, ◌++◌, append-nil, Option, Some, None, Bool, false, ◌&&◌, length, IsTrue, Result, Ok, Err}
+use Rattle.std.proofs.Common.{◌≡◌, ◌≢◌, ◌∙◌, sym, ap, refl, List, [], ◌∷◌, ◌++◌, append-nil, Option, Some, None, Bool, false, ◌&&◌, length, IsTrue, Result, Ok}
 use Rattle.wgsl_path.specs.declared.span.Span.{Span}
 use Rattle.wgsl_path.specs.declared.span.Spanned.{Spanned}
 use Rattle.wgsl_token.specs.declared.token.Token.{Token}
@@ -9,23 +9,30 @@ use Rattle.wgsl_token.specs.declared.token.SpannedToken.{SpannedToken}
 use Rattle.wgsl_syntax.specs.declared.expression.Expression.{Expression}
 use Rattle.wgsl_syntax.specs.declared.expression.TypeExpressionOf.{TypeExpressionOf}
 use Rattle.wgsl_syntax.specs.declared.statement.Statement.{Statement}
+use Rattle.wgsl_syntax.specs.declared.declaration.Attribute.{Attribute}
 use Rattle.wgsl_syntax.specs.declared.declaration.FormalParameter.{FormalParameter}
 use Rattle.wgsl_syntax.specs.declared.declaration.GlobalDeclaration.{GlobalDeclaration}
 use Rattle.wgsl_phrases.specs.declared.Stop.{Stop}
-use Rattle.wgsl_phrases.specs.declared.Stop.TheVariants.{Unexpected}
 use Rattle.wgsl_phrases.specs.Parsing.{first, Parses}
 use Rattle.wgsl_phrases.specs.Parsing.{at_end as at_the_end}
-use Rattle.wgsl_phrases.specs.Languages.{◌⌢◌, OptionallyListed, no_list}
+use Rattle.wgsl_phrases.specs.Languages.{◌⌢◌, OptionallyListed, no_list, no_more, again}
 use Rattle.wgsl_phrases.specs.Sequences.{taken, Done, done, Then, next, Either, left, right}
-use Rattle.wgsl_phrases.proofs.Steps.{Inhabited, IsBarred, at_end, some_injective, nowhere, parses_as, parses_done}
+use Rattle.wgsl_phrases.proofs.Steps.{Inhabited, IsBarred, at_end, some_injective, parses_as, parses_done}
 use Rattle.wgsl_grammar.specs.Terminals.{fixed, word, IsComma, type_named}
 use Rattle.wgsl_grammar.specs.Expressions.{IsSum}
-use Rattle.wgsl_grammar.specs.Declarations.{IsIdent, ident, IsType, type, IsParameter, parameter, parameter_of, IsAnnotation, unannotated, annotated, IsResult, no_result, result_of, IsValue, no_value, value, IsBody, empty_body, returns, return_of, IsDeclaration, constant, function}
+use Rattle.wgsl_grammar.specs.Attributes.{fragment, location}
+use Rattle.wgsl_grammar.specs.Declarations.{IsIdent, ident, IsType, type, IsAttributes, IsParameter, parameter, parameter_of, IsAnnotation, unannotated, annotated, IsResult, no_result, result_of, IsValue, no_value, value, IsBody, empty_body, returns, return_of, IsDeclaration, constant, function}
 use Rattle.wgsl_parse.specs.Marks.{Mark}
 use Rattle.wgsl_parse.specs.Follow.{is_semicolon, no_call, no_factor, no_term, ends_sum, ends_statement}
-use Rattle.wgsl_parse.specs.Rests.{ParameterRest, ReturnRest, ConstantRest, FunctionRest}
+use Rattle.wgsl_parse.specs.Rests.{ParameterRest, IsFunctionResult, ReturnRest, ConstantRest, FunctionRest}
 use Rattle.wgsl_parse.proofs.Marks.{origin, parses_mark}
 use Rattle.wgsl_parse.proofs.Expressions.{sum_barred, inhabited_sum}
+use Rattle.wgsl_parse.proofs.Attributes.{inhabited_attributes}
+use Rattle.wgsl_parse.specs.declared.declaration.FunctionResult.{FunctionResult}
+
+-- what stands behind the parameters of a function
+abbrev pub returned : List (Spanned Attribute) → Option (TypeExpressionOf Expression) → FunctionResult
+returned attributes ty = record { attributes = attributes; ty = ty }
 
 -- some phrase of each language
 
@@ -38,8 +45,8 @@ inhabited_type = record { tokens = _; value = _; stands = type {id = []} {s = or
 pub inhabited_annotation : Inhabited IsAnnotation
 inhabited_annotation = record { tokens = []; value = None; stands = unannotated }
 
-pub inhabited_result : Inhabited IsResult
-inhabited_result = record { tokens = []; value = None; stands = no_result }
+pub inhabited_result : Inhabited IsFunctionResult
+inhabited_result = record { tokens = []; value = returned [] None; stands = no_result }
 
 pub inhabited_value : Inhabited IsValue
 inhabited_value = record { tokens = []; value = None; stands = no_value }
@@ -50,7 +57,7 @@ inhabited_body = record { tokens = []; value = []; stands = empty_body }
 pub inhabited_parameters : Inhabited (OptionallyListed IsParameter IsComma)
 inhabited_parameters = record { tokens = []; value = []; stands = no_list }
 
-pub ruleset inhabited = (inhabited_ident, inhabited_type, inhabited_annotation, inhabited_result, inhabited_value, inhabited_body, inhabited_parameters, inhabited_sum)
+pub ruleset inhabited = (inhabited_attributes, inhabited_ident, inhabited_type, inhabited_annotation, inhabited_result, inhabited_value, inhabited_body, inhabited_parameters, inhabited_sum)
 
 -- types
 
@@ -67,18 +74,22 @@ parses_type p = parses_as type_is (λ u v x h may f. type_out u x h) p
 -- parameters
 
 parameter_is : (u : List SpannedToken) (x : FormalParameter) → ParameterRest u x → IsParameter u x
-parameter_is u x (next {u = a} g (taken {k = k} {o = c} is (next {u = b} h d))) = at_end d (λ e y. IsParameter (a ⌢ k ∷ b ⌢ e) y) (rw (is, append-nil b) (parameter c g h))
+parameter_is u x (next {u = t} l (next {u = a} g (taken {k = k} {o = c} is (next {u = b} h d)))) =
+    at_end d (λ e y. IsParameter (t ⌢ a ⌢ k ∷ b ⌢ e) y) (rw (is, append-nil b) (parameter c l g h))
 
 parameter_out : (u : List SpannedToken) (x : FormalParameter) → IsParameter u x → ParameterRest u x
-parameter_out u x (parameter {v = b} c {name = name} {ty = ty} g h) =
-    let n : Then IsType (λ ty. Done (parameter_of name ty)) (b ++ []) (parameter_of name ty) = next h done in next g (taken refl (rw (append-nil b) at n))
+parameter_out u x (parameter {w = b} c {attributes = attributes} {name = name} {ty = ty} l g h) =
+    let n : Then IsType (λ ty. Done (parameter_of attributes name ty)) (b ++ []) (parameter_of attributes name ty) = next h done in
+    next l (next g (taken refl (rw (append-nil b) at n)))
 
 pub parses_parameter : {F : Option SpannedToken → Bool} {tokens s1 : List SpannedToken} {r : Result FormalParameter Stop} → Parses ParameterRest F tokens r s1
     → Parses IsParameter F tokens r s1
 parses_parameter p = parses_as parameter_is (λ u v x h may f. parameter_out u x h) p
 
 parameter_begun : {p : Span} (tokens u v : List SpannedToken) (x : FormalParameter) → first tokens ≡ Some (fixed f.ParenRight p) → IsParameter u x → first (u ++ v) ≢ first tokens
-parameter_begun tokens u v x is (parameter c ident h) g = let e = ap (λ (k : SpannedToken). k.token) (some_injective (g ∙ is)) in cc
+parameter_begun tokens u v x is (parameter c no_more ident h) g = let e = ap (λ (k : SpannedToken). k.token) (some_injective (g ∙ is)) in cc
+parameter_begun tokens u v x is (parameter c (again fragment l) n h) g = let e = ap (λ (k : SpannedToken). k.token) (some_injective (g ∙ is)) in cc
+parameter_begun tokens u v x is (parameter c (again (location q i j) l) n h) g = let e = ap (λ (k : SpannedToken). k.token) (some_injective (g ∙ is)) in cc
 
 pub parameter_barred : {p : Span} {tokens : List SpannedToken} → first tokens ≡ Some (fixed f.ParenRight p) → IsBarred IsParameter tokens
 parameter_barred {tokens = tokens} is = record { bars = λ u v x h. parameter_begun tokens u v x is h }
@@ -100,20 +111,23 @@ pub parses_annotation : {F : Option SpannedToken → Bool} {tokens s1 : List Spa
     → Parses IsAnnotation F tokens r s1
 parses_annotation p = parses_as annotation_is (λ u v x h may f. annotation_out u x h) p
 
-abbrev pub Resulting : List SpannedToken → Option (TypeExpressionOf Expression) → Type 0
-Resulting = Either (Done None) (Mark f.Arrow (λ c. Then IsType (λ ty. Done (Some ty))))
+abbrev pub Resulting : List SpannedToken → FunctionResult → Type 0
+Resulting = Either (Done (returned [] None)) (Mark f.Arrow (λ c. Then IsAttributes (λ attributes. Then IsType (λ ty. Done (returned attributes (Some ty))))))
 
-result_is : (u : List SpannedToken) (x : Option (TypeExpressionOf Expression)) → Resulting u x → IsResult u x
+result_is : (u : List SpannedToken) (x : FunctionResult) → Resulting u x → IsFunctionResult u x
 result_is u x (left done) = no_result
-result_is u x (right (taken {k = k} is (next {u = a} h d))) = at_end d (λ b y. IsResult (k ∷ a ++ b) y) (rw (is, append-nil a) (result_of h))
+result_is u x (right (taken {k = k} is (next {u = a} l (next {u = b} h d)))) = at_end d (λ e y. IsFunctionResult (k ∷ a ⌢ b ⌢ e) y) (rw (is, append-nil b) (result_of l h))
 
-result_out : (u : List SpannedToken) (x : Option (TypeExpressionOf Expression)) → IsResult u x → Resulting u x
-result_out u x no_result = left done
-result_out u x (result_of {u = a} {ty = ty} h) = let n : Then IsType (λ ty. Done (Some ty)) (a ++ []) (Some ty) = next h done in right (taken refl (rw (append-nil a) at n))
+result_out : (u : List SpannedToken) (attributes : List (Spanned Attribute)) (ty : Option (TypeExpressionOf Expression)) → IsResult u attributes ty
+    → Resulting u (returned attributes ty)
+result_out u attributes ty no_result = left done
+result_out u attributes ty (result_of {v = b} {ty = t} l h) =
+    let n : Then IsType (λ ty. Done (returned attributes (Some ty))) (b ++ []) (returned attributes (Some t)) = next h done in
+    right (taken refl (next l (rw (append-nil b) at n)))
 
-pub parses_result : {F : Option SpannedToken → Bool} {tokens s1 : List SpannedToken} {r : Result (Option (TypeExpressionOf Expression)) Stop} → Parses Resulting F tokens r s1
-    → Parses IsResult F tokens r s1
-parses_result p = parses_as result_is (λ u v x h may f. result_out u x h) p
+pub parses_result : {F : Option SpannedToken → Bool} {tokens s1 : List SpannedToken} {r : Result FunctionResult Stop} → Parses Resulting F tokens r s1
+    → Parses IsFunctionResult F tokens r s1
+parses_result p = parses_as result_is (λ u v x h may f. result_out u x.attributes x.ty h) p
 
 -- [expr] before `;`
 
@@ -183,48 +197,54 @@ constant_is : (u : List SpannedToken) (x : Spanned GlobalDeclaration) → Mark f
 constant_is u x (taken {k = k} {o = c} is (next {u = a} ha (next {u = b} hb (taken {k = i} {o = e} equals (next {u = w} hw (taken {k = j} {o = z} ends d)))))) =
     at_end d (λ r y. IsDeclaration (k ∷ a ⌢ b ⌢ i ∷ w ⌢ j ∷ r) y) (rw (is, equals, ends) (constant e z ha hb hw))
 
-function_is : (u : List SpannedToken) (x : Spanned GlobalDeclaration) → Mark f.Fn FunctionRest u x → IsDeclaration u x
-function_is u x (taken {k = k} {o = n} is (next {u = a} ha (taken {k = i} {o = p} opens (next {u = b} hb (taken {k = j} {o = q} closes (next {u = w} hw (taken {k = l} {o = o} begins (next {u = y} hy (taken {k = m} {o = z} ends d))))))))) =
-    at_end d (λ r y'. IsDeclaration (k ∷ a ⌢ i ∷ b ⌢ j ∷ w ⌢ l ∷ y ⌢ m ∷ r) y') (rw (is, opens, closes, begins, ends) (function p q o z ha hb hw hy))
+-- a function with its attributes
+abbrev pub Attributed : List SpannedToken → Spanned GlobalDeclaration → Type 0
+Attributed = Then IsAttributes (λ attributes. Mark f.Fn (FunctionRest attributes))
+
+function_is : (u : List SpannedToken) (x : Spanned GlobalDeclaration) → Attributed u x → IsDeclaration u x
+function_is u x (next {u = t} ht (taken {k = k} {o = n} is (next {u = a} ha (taken {k = i} {o = p} opens (next {u = b} hb (taken {k = j} {o = q} closes (next {u = w} hw (taken {k = l} {o = o} begins (next {u = y} hy (taken {k = m} {o = z} ends d)))))))))) =
+    at_end d (λ r y'. IsDeclaration (t ⌢ k ∷ a ⌢ i ∷ b ⌢ j ∷ w ⌢ l ∷ y ⌢ m ∷ r) y') (rw (is, opens, closes, begins, ends) (function n p q o z ht ha hb hw hy))
+
+no_const : {p : Span} {t : List SpannedToken} {attributes : List (Spanned Attribute)} (n : Span) (u v : List SpannedToken) → IsAttributes t attributes
+    → first ((t ++ fixed f.Fn n ∷ u) ++ v) ≢ Some (fixed f.Const p)
+no_const n u v no_more g = let e = ap (λ (k : SpannedToken). k.token) (some_injective g) in cc
+no_const n u v (again fragment l) g = let e = ap (λ (k : SpannedToken). k.token) (some_injective g) in cc
+no_const n u v (again (location q i j) l) g = let e = ap (λ (k : SpannedToken). k.token) (some_injective g) in cc
 
 constant_out : {p : Span} (tokens s1 u v : List SpannedToken) (x : Spanned GlobalDeclaration) → tokens ≡ fixed f.Const p ∷ s1 → IsDeclaration u x → first (u ++ v) ≡ first tokens
     → Mark f.Const ConstantRest u x
 constant_out tokens s1 u v x is (constant e z ha hb hw) g = taken refl (next ha (next hb (taken refl (next hw (taken refl done)))))
-constant_out tokens s1 u v x is (function p q b z ha hb hw hx) g = absurd (let e = ap (λ (k : SpannedToken). k.token) (some_injective (g ∙ ap first is)) in cc)
+constant_out tokens s1 u v x is (function n p q b z ht ha hb hw hx) g = absurd (no_const _ _ v ht (g ∙ ap first is))
 
-function_out : {p : Span} (tokens s1 u v : List SpannedToken) (x : Spanned GlobalDeclaration) → tokens ≡ fixed f.Fn p ∷ s1 → IsDeclaration u x → first (u ++ v) ≡ first tokens
-    → Mark f.Fn FunctionRest u x
-function_out tokens s1 u v x is (constant e z ha hb hw) g = absurd (let e = ap (λ (k : SpannedToken). k.token) (some_injective (g ∙ ap first is)) in cc)
-function_out tokens s1 u v x is (function p q b z ha hb hw hx) g =
-    taken refl (next ha (taken refl (next hb (taken refl (next hw (taken refl (next hx (taken refl done))))))))
+function_out : (tokens u v : List SpannedToken) (x : Spanned GlobalDeclaration) → ((p : Span) → first tokens ≢ Some (fixed f.Const p)) → IsDeclaration u x
+    → first (u ++ v) ≡ first tokens → Attributed u x
+function_out tokens u v x differs (constant e z ha hb hw) g = absurd (differs _ (sym g))
+function_out tokens u v x differs (function n p q b z {return_attributes = attributes} {ty = ty} ht ha hb hw hx) g =
+    next ht (taken refl (next ha (taken refl (next hb (taken refl (next {x = returned attributes ty} hw (taken refl (next hx (taken refl done)))))))))
 
 pub parses_constant : {F : Option SpannedToken → Bool} {tokens s1 s2 : List SpannedToken} {p : Span} {r : Result (Spanned GlobalDeclaration) Stop} → tokens ≡ fixed f.Const p ∷ s1
     → Parses (ConstantRest p) F s1 r s2 → Parses IsDeclaration F tokens r s2
 parses_constant {tokens = tokens} {s1 = s1} is q = parses_as constant_is (λ u v x h may f. constant_out tokens s1 u v x is h f) (parses_mark is q)
 
-pub parses_function : {F : Option SpannedToken → Bool} {tokens s1 s2 : List SpannedToken} {p : Span} {r : Result (Spanned GlobalDeclaration) Stop} → tokens ≡ fixed f.Fn p ∷ s1
-    → Parses (FunctionRest p) F s1 r s2 → Parses IsDeclaration F tokens r s2
-parses_function {tokens = tokens} {s1 = s1} is q = parses_as function_is (λ u v x h may f. function_out tokens s1 u v x is h f) (parses_mark is q)
+pub parses_function : {F : Option SpannedToken → Bool} {tokens mid s2 : List SpannedToken} {r : Result (Spanned GlobalDeclaration) Stop} → mid ≡ tokens
+    → ((p : Span) → first tokens ≢ Some (fixed f.Const p)) → Parses Attributed F mid r s2 → Parses IsDeclaration F tokens r s2
+parses_function {tokens = tokens} same differs p = parses_as function_is (λ u v x h may f. function_out tokens u v x differs h f) (rw same at p)
 
-no_declaration_at : (tokens u v : List SpannedToken) (x : Spanned GlobalDeclaration) → ((p : Span) → first tokens ≢ Some (fixed f.Const p))
-    → ((p : Span) → first tokens ≢ Some (fixed f.Fn p)) → IsDeclaration u x → first (u ++ v) ≢ first tokens
-no_declaration_at tokens u v x a b (constant e z ha hb hw) g = a _ (sym g)
-no_declaration_at tokens u v x a b (function p q o z ha hb hw hx) g = b _ (sym g)
-
-inhabited_declaration : Inhabited IsDeclaration
-inhabited_declaration = record { tokens = _; value = _; stands = constant {c = origin} origin origin inhabited_ident.stands inhabited_annotation.stands inhabited_sum.stands }
-
-pub no_declaration : {F : Option SpannedToken → Bool} {old mid new : List SpannedToken} {e : Stop} → mid ≡ old → new ≡ mid → e ≡ Unexpected
-    → ((p : Span) → first old ≢ Some (fixed f.Const p)) → ((p : Span) → first mid ≢ Some (fixed f.Fn p)) → Parses IsDeclaration F old (Err e) new
-no_declaration {old = old} m n is a b =
-    let b2 : (p : Span) → first old ≢ Some (fixed f.Fn p) = rw m at b in
-    rw (is, n, m) (nowhere inhabited_declaration (λ u v x h may. no_declaration_at old u v x a b2 h))
+pub inhabited_function : {attributes : List (Spanned Attribute)} → (n : Span) → Inhabited (FunctionRest attributes n)
+inhabited_function n = record {
+  tokens = _;
+  value = _;
+  stands = next inhabited_ident.stands (taken {k = fixed f.ParenLeft origin} refl (next no_list (taken {k = fixed f.ParenRight origin} refl
+      (next inhabited_result.stands (taken {k = fixed f.BraceLeft origin} refl (next empty_body (taken {k = fixed f.BraceRight origin} refl done)))))));
+}
 
 -- no declaration is empty
 
 declaration_begun : (u v : List SpannedToken) (x : Spanned GlobalDeclaration) → IsDeclaration u x → first (u ++ v) ≢ None
 declaration_begun u v x (constant e z ha hb hw) g = cc
-declaration_begun u v x (function p q o z ha hb hw hx) g = cc
+declaration_begun u v x (function n p q o z no_more ha hb hw hx) g = cc
+declaration_begun u v x (function n p q o z (again fragment l) ha hb hw hx) g = cc
+declaration_begun u v x (function n p q o z (again (location r i j) l) ha hb hw hx) g = cc
 
 pub ended : {tokens : List SpannedToken} → length tokens ≡ 0 → IsBarred IsDeclaration tokens
 ended {tokens = []} h = record { bars = λ u v x d. declaration_begun u v x d }

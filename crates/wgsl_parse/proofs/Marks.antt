@@ -15,7 +15,7 @@ use Rattle.wgsl_phrases.proofs.Steps.{IsSingle, Inhabited, Follows, parses_as, p
 use Rattle.wgsl_grammar.specs.Terminals.{fixed, word}
 use Rattle.wgsl_grammar.specs.Declarations.{IsIdent, ident}
 use Rattle.wgsl_parse.specs.declared.cursor.Word.{Word}
-use Rattle.wgsl_parse.specs.Marks.{IsFixed, Mark, IsName, IsWord, name_of}
+use Rattle.wgsl_parse.specs.Marks.{IsFixed, Mark, IsThisWord, IsName, IsWord, name_of}
 
 -- tokens of one spelling
 
@@ -49,6 +49,11 @@ module _ {A : Type 0} {kind : FixedToken} {H : Span → List SpannedToken → A 
   present_mark {p = p} is stops q = parses_present p is refl stops q single_fixed
 
 pub ruleset marks = (inhabited_mark, parses_mark, refuses_mark, follows_mark, present_mark)
+
+-- a certain identifier
+
+pub single_this : {name : List ℕ} → IsSingle (IsThisWord name)
+single_this = record { same = λ k o p a b. ap (λ (t : SpannedToken). t.span) (sym a ∙ b) }
 
 -- identifiers
 

@@ -11,6 +11,7 @@ use Rattle.wgsl_phrases.specs.Parsing.{at_end as at_the_end}
 use Rattle.wgsl_phrases.specs.Languages.{Repeated, no_more, again}
 use Rattle.wgsl_phrases.specs.Sequences.{Done, done, Then, next}
 use Rattle.wgsl_phrases.proofs.Steps.{Inhabited, Follows, at_end, parses_as}
+use Rattle.wgsl_grammar.specs.Attributes.{fragment, location}
 use Rattle.wgsl_grammar.specs.Declarations.{IsImport, IsDeclaration, constant, function, IsUnit, unit}
 use Rattle.wgsl_parse.specs.Follow.{ends_imports}
 
@@ -36,7 +37,9 @@ parses_unit p = parses_as unit_is (λ u v x h may f. unit_out u x h) p
 
 declaration_after : (u v : List SpannedToken) (x : Spanned GlobalDeclaration) → IsDeclaration u x → IsTrue (ends_imports (first (u ++ v)))
 declaration_after u v x (constant e z ha hb hw) = refl
-declaration_after u v x (function p q o z ha hb hw hx) = refl
+declaration_after u v x (function n p q o z no_more ha hb hw hx) = refl
+declaration_after u v x (function n p q o z (again fragment l) ha hb hw hx) = refl
+declaration_after u v x (function n p q o z (again (location r i j) l) ha hb hw hx) = refl
 
 nothing_after : (t : Option SpannedToken) → IsTrue (at_the_end t) → IsTrue (ends_imports t)
 nothing_after None may = refl

@@ -46,6 +46,10 @@ abbrev pub no_arrow : Token → Bool
 no_arrow (t.Fixed f.Arrow) = false
 no_arrow _ = true
 
+abbrev pub no_attribute : Token → Bool
+no_attribute (t.Fixed f.Attr) = false
+no_attribute _ = true
+
 abbrev pub no_return : Token → Bool
 no_return (t.Fixed f.Return) = false
 no_return _ = true
@@ -78,6 +82,9 @@ ends_annotation = ended_by no_colon
 
 abbrev pub ends_result : Option SpannedToken → Bool
 ends_result = ended_by no_arrow
+
+abbrev pub ends_attributes : Option SpannedToken → Bool
+ends_attributes = ended_by no_attribute
 
 abbrev pub ends_body : Option SpannedToken → Bool
 ends_body = ended_by no_return

@@ -25,6 +25,19 @@ abbrev pub TakesFixed : FixedToken → List SpannedToken → Option Span → Lis
 TakesFixed kind old None new = (new ≡ old) × ((s : Span) → first old ≢ Some (fixed kind s))
 TakesFixed kind old (Some s) new = old ≡ fixed kind s ∷ new
 
+-- this identifier, at this place
+abbrev pub IsThisWord : List ℕ → SpannedToken → Span → Type 0
+IsThisWord name k s = k ≡ word name s
+
+-- such a token, and then a phrase that depends on its place
+abbrev pub ThisWord : {A : Type 0} → List ℕ → (Span → List SpannedToken → A → Type 0) → List SpannedToken → A → Type 0
+ThisWord name H = Taking (IsThisWord name) H
+
+-- What came of looking for such a token: its place, or nothing is taken since it isn't next.
+abbrev pub TakesWord : List ℕ → List SpannedToken → Option Span → List SpannedToken → Type 0
+TakesWord name old None new = (new ≡ old) × ((s : Span) → first old ≢ Some (word name s))
+TakesWord name old (Some s) new = old ≡ word name s ∷ new
+
 abbrev pub IsAdditive : SpannedToken → BinaryOperator → Type 0
 IsAdditive k o = additive k.token ≡ Some o
 

@@ -1,5 +1,5 @@
 -- The rest of a phrase behind the tokens that chose it.
-use Rattle.std.specs.Prelude.{List, [], ◌∷◌, ◌++◌}
+use Rattle.std.specs.Prelude.{List, [], ◌∷◌, ◌++◌, Option, Some, None, codes}
 use Rattle.wgsl_path.specs.declared.span.Span.{Span}
 use Rattle.wgsl_path.specs.declared.span.Spanned.{Spanned}
 use Rattle.wgsl_path.specs.Paths.{across}
@@ -7,6 +7,7 @@ use Rattle.wgsl_token.specs.declared.token.Fixed.TheVariants as f
 use Rattle.wgsl_token.specs.declared.token.SpannedToken.{SpannedToken}
 use Rattle.wgsl_syntax.specs.declared.expression.Expression.{Expression}
 use Rattle.wgsl_syntax.specs.declared.expression.Expression.TheVariants as e
+use Rattle.wgsl_syntax.specs.declared.declaration.Attribute.{Attribute}
 use Rattle.wgsl_syntax.specs.declared.declaration.FormalParameter.{FormalParameter}
 use Rattle.wgsl_syntax.specs.declared.declaration.GlobalDeclaration.{GlobalDeclaration}
 use Rattle.wgsl_syntax.specs.declared.statement.Statement.{Statement}
@@ -15,10 +16,12 @@ use Rattle.wgsl_phrases.specs.Languages.{OptionallyListed}
 use Rattle.wgsl_phrases.specs.Sequences.{Then, Done, Either, Chain}
 use Rattle.wgsl_grammar.specs.Terminals.{IsComma, node, type_named}
 use Rattle.wgsl_grammar.specs.Expressions.{IsSum, IsUnary, IsArguments, negated}
-use Rattle.wgsl_grammar.specs.Declarations.{IsIdent, IsType, IsParameter, parameter_of, IsAnnotation, IsResult, IsValue, IsBody, return_of, constant_of, function_of, import_of}
+use Rattle.wgsl_grammar.specs.Attributes.{fragment_of, location_of}
+use Rattle.wgsl_grammar.specs.Declarations.{IsIdent, IsType, IsAttributes, IsParameter, parameter_of, IsAnnotation, IsResult, IsValue, IsBody, return_of, constant_of, function_of, import_of}
+use Rattle.wgsl_parse.specs.declared.declaration.FunctionResult.{FunctionResult}
 use Rattle.wgsl_parse.specs.declared.cursor.Word.{Word}
 use Rattle.wgsl_parse.specs.declared.import.ItemPath.{ItemPath}
-use Rattle.wgsl_parse.specs.Marks.{IsFixed, Mark}
+use Rattle.wgsl_parse.specs.Marks.{IsFixed, Mark, ThisWord}
 
 -- behind `(` at a place
 abbrev pub Parenthesized : Span → List SpannedToken → Spanned Expression → Type 0
@@ -36,8 +39,24 @@ Named w = Either (Done (node (e.TypeOrIdentifier (type_named w.ident.name)) w.sp
 abbrev pub Negated : Span → List SpannedToken → Spanned Expression → Type 0
 Negated s = Then IsUnary (λ x. Done (negated s x))
 
+-- [`,`], with its place
+abbrev pub OptionalComma : List SpannedToken → Option Span → Type 0
+OptionalComma = Either (Done None) (Mark f.Comma (λ c. Done (Some c)))
+
+-- behind `@` `location`
+abbrev pub LocationRest : Span → List SpannedToken → Spanned Attribute → Type 0
+LocationRest s = Mark f.ParenLeft (λ p. Then IsSum (λ x. Then OptionalComma (λ c. Mark f.ParenRight (λ q. Done (location_of s x q)))))
+
+-- behind `@`
+abbrev pub AttributeRest : Span → List SpannedToken → Spanned Attribute → Type 0
+AttributeRest s = Either (ThisWord (codes "fragment") (λ w. Done (fragment_of s w))) (ThisWord (codes "location") (λ w. LocationRest s))
+
 abbrev pub ParameterRest : List SpannedToken → FormalParameter → Type 0
-ParameterRest = Then IsIdent (λ name. Mark f.Colon (λ c. Then IsType (λ ty. Done (parameter_of name ty))))
+ParameterRest = Then IsAttributes (λ attributes. Then IsIdent (λ name. Mark f.Colon (λ c. Then IsType (λ ty. Done (parameter_of attributes name ty)))))
+
+-- what stands behind the parameters of a function, as one value
+abbrev pub IsFunctionResult : List SpannedToken → FunctionResult → Type 0
+IsFunctionResult u r = IsResult u r.attributes r.ty
 
 -- behind `return`
 abbrev pub ReturnRest : Span → List SpannedToken → Spanned Statement → Type 0
@@ -47,10 +66,10 @@ ReturnRest r = Then IsValue (λ x. Mark f.Semicolon (λ e. Done (return_of r x e
 abbrev pub ConstantRest : Span → List SpannedToken → Spanned GlobalDeclaration → Type 0
 ConstantRest c = Then IsIdent (λ name. Then IsAnnotation (λ ty. Mark f.Equal (λ e. Then IsSum (λ x. Mark f.Semicolon (λ z. Done (constant_of c name ty x z))))))
 
--- behind `fn`
-abbrev pub FunctionRest : Span → List SpannedToken → Spanned GlobalDeclaration → Type 0
-FunctionRest n = Then IsIdent (λ name. Mark f.ParenLeft (λ p. Then (OptionallyListed IsParameter IsComma) (λ parameters. Mark f.ParenRight (λ q.
-    Then IsResult (λ ty. Mark f.BraceLeft (λ b. Then IsBody (λ statements. Mark f.BraceRight (λ z. Done (function_of n name parameters ty statements z)))))))))
+-- behind attributes and `fn`
+abbrev pub FunctionRest : List (Spanned Attribute) → Span → List SpannedToken → Spanned GlobalDeclaration → Type 0
+FunctionRest attributes n = Then IsIdent (λ name. Mark f.ParenLeft (λ p. Then (OptionallyListed IsParameter IsComma) (λ parameters. Mark f.ParenRight (λ q.
+    Then IsFunctionResult (λ r. Mark f.BraceLeft (λ b. Then IsBody (λ statements. Mark f.BraceRight (λ z. Done (function_of attributes n name parameters r.attributes r.ty statements z)))))))))
 
 -- id, as the path of an item
 abbrev pub IsLone : List SpannedToken → ItemPath → Type 0

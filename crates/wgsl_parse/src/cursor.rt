@@ -6,7 +6,7 @@ ghost use Rattle.wgsl_path.specs.declared.span.Span as declared_span;
 ghost use Rattle.wgsl_phrases.specs.Parsing.{first, Takes, Parses, anything};
 ghost use Rattle.wgsl_grammar.specs.Terminals as terminal;
 ghost use Rattle.wgsl_grammar.specs.Declarations.{IsIdent};
-ghost use Rattle.wgsl_parse.specs.Marks.{TakesFixed, IsAdditive, IsMultiplicative, IsNumber, IsWord, name_of};
+ghost use Rattle.wgsl_parse.specs.Marks.{TakesFixed, TakesWord, IsAdditive, IsMultiplicative, IsNumber, IsWord, name_of};
 
 use std::alloc::Global;
 use std::marker::Model;
@@ -52,6 +52,15 @@ fn is_fixed(token: &Token, kind: Fixed) -> bool
 {
     match token {
         Token::Fixed(found) => *found == kind,
+        _ => false,
+    }
+}
+
+fn is_word(token: &Token, name: &str) -> bool
+    ensures { IsTrue result ↔ (token.now ≡ Token.Identifier name.now) }
+{
+    match token {
+        Token::Identifier(found) => found.as_str() == name,
         _ => false,
     }
 }
@@ -169,6 +178,40 @@ impl<'a> Cursor<'a> {
         ensures differs { IfErr result (λ e. (s : declared_span.Span) → first self.old ≢ Some (terminal.fixed kind s)) }
     {
         match self.eat(kind) {
+            Some(span) => Ok(span),
+            None => Err(Stop::Unexpected),
+        }
+    }
+
+    /// The place of the next token, if that is this identifier.
+    fn place_of_word(&self, name: &str) -> Option<Span>
+        ensures { MatchOption result ((s : declared_span.Span) → first self.now ≢ Some (terminal.word name.now s)) (λ s. first self.now ≡ Some (terminal.word name.now s)) }
+    {
+        let next = self.peek()?;
+        if is_word(&next.token, name) {
+            Some(next.span)
+        } else {
+            None
+        }
+    }
+
+    /// Takes the next token if it is this identifier.
+    pub fn eat_word(&mut self, name: &str) -> Option<Span>
+        ensures { TakesWord name.now self.old result self.new }
+    {
+        let span = self.place_of_word(name)?;
+        self.bump();
+        Some(span)
+    }
+
+    /// Takes the next token, which must be this identifier.
+    pub fn expect_word(&mut self, name: &str) -> Result<Span, Stop>
+        ensures ok { IfOk result (λ s. self.old ≡ terminal.word name.now s ∷ self.new) }
+        ensures unexpected { IfErr result (λ e. e ≡ Stop.Unexpected) }
+        ensures err { IfErr result (λ e. self.new ≡ self.old) }
+        ensures differs { IfErr result (λ e. (s : declared_span.Span) → first self.old ≢ Some (terminal.word name.now s)) }
+    {
+        match self.eat_word(name) {
             Some(span) => Ok(span),
             None => Err(Stop::Unexpected),
         }

@@ -4,21 +4,30 @@ ghost use Rattle.std.specs.Prelude.{◌≡◌, [], ◌≤◌, ◌<◌, OnOk, len
 ghost use Rattle.wgsl_phrases.specs.Languages.{OptionallyListed, Repeated};
 ghost use Rattle.wgsl_phrases.specs.Parsing.{Parses, anything, at_end};
 ghost use Rattle.wgsl_grammar.specs.Terminals.{IsComma};
-ghost use Rattle.wgsl_grammar.specs.Declarations.{IsType, IsParameter, IsAnnotation, IsResult, IsValue, IsBody, IsDeclaration};
+ghost use Rattle.wgsl_grammar.specs.Declarations as grammar;
+ghost use Rattle.wgsl_grammar.specs.Declarations.{IsType, IsParameter, IsAnnotation, IsValue, IsBody, IsDeclaration};
 ghost use Rattle.wgsl_parse.specs.Follow.{closes, ends_annotation, ends_result, ends_statement, ends_body};
-ghost use Rattle.wgsl_parse.specs.Rests.{ReturnRest, ConstantRest, FunctionRest};
+ghost use Rattle.wgsl_parse.specs.Rests.{ReturnRest, ConstantRest, FunctionRest, IsFunctionResult};
 
+use crate::attribute::attributes;
 use crate::cursor::Cursor;
 use crate::expression::{sum, type_named};
 use wgsl_items::Items;
 use wgsl_path::{Span, Spanned};
 use wgsl_phrases::Stop;
 use wgsl_syntax::{
-    CompoundStatementOf, Declaration, DeclarationKind, ExpressionNode, FormalParameter, Function,
+    Attributes, CompoundStatementOf, Declaration, DeclarationKind, ExpressionNode, FormalParameter, Function,
     GlobalDeclaration, GlobalDeclarationNode, ReturnStatement, Statement, StatementNode,
     TypeExpression,
 };
 use wgsl_token::Fixed;
+
+/// What stands behind the parameters of a function: the type of its result, and the attributes before that.
+#[derive(Drop)]
+pub struct FunctionResult {
+    pub attributes: Attributes,
+    pub ty: Option<TypeExpression>,
+}
 
 /// A type: a name.
 fn type_expression(cursor: &mut Cursor<'_>) -> Result<TypeExpression, Stop>
@@ -33,11 +42,12 @@ fn parameter(cursor: &mut Cursor<'_>) -> Result<FormalParameter, Stop>
     ensures parses { Parses IsParameter anything cursor.old result cursor.new }
     ensures shrinks { length cursor.new ≤ length cursor.old }
 {
+    let attributes = attributes(cursor)?;
     let ident = cursor.ident()?;
     cursor.expect(Fixed::Colon)?;
     let ty = type_expression(cursor)?;
     Ok(FormalParameter {
-        attributes: Items::new(cursor.alloc()),
+        attributes,
         ident,
         ty,
     })
@@ -70,16 +80,23 @@ fn annotation(cursor: &mut Cursor<'_>) -> Result<Option<TypeExpression>, Stop>
     Ok(Some(ty))
 }
 
-/// `->` and a type, or nothing.
-fn result_type(cursor: &mut Cursor<'_>) -> Result<Option<TypeExpression>, Stop>
-    ensures parses { Parses IsResult ends_result cursor.old result cursor.new }
+/// `->`, attributes and a type, or nothing.
+fn function_result(cursor: &mut Cursor<'_>) -> Result<FunctionResult, Stop>
+    ensures parses { Parses IsFunctionResult ends_result cursor.old result cursor.new }
     ensures shrinks { length cursor.new ≤ length cursor.old }
 {
     let Some(_arrow) = cursor.eat(Fixed::Arrow) else {
-        return Ok(None);
+        return Ok(FunctionResult {
+            attributes: Items::new(cursor.alloc()),
+            ty: None,
+        });
     };
+    let attributes = attributes(cursor)?;
     let ty = type_expression(cursor)?;
-    Ok(Some(ty))
+    Ok(FunctionResult {
+        attributes,
+        ty: Some(ty),
+    })
 }
 
 /// Behind `const`, which stands at `first`.
@@ -142,32 +159,47 @@ fn body(cursor: &mut Cursor<'_>) -> Result<Items<StatementNode>, Stop>
     Ok(statements)
 }
 
-/// Behind `fn`, which stands at `first`.
-fn function(cursor: &mut Cursor<'_>, first: Span) -> Result<GlobalDeclarationNode, Stop>
-    ensures parses { Parses (FunctionRest first) anything cursor.old result cursor.new }
+/// Where attributes and a token behind them begin.
+fn led_by(attributes: &Attributes, token: Span) -> Span
+    ensures { result ≡ grammar.led_by attributes.now token }
+{
+    match attributes.get(0) {
+        Some(first) => first.span(),
+        None => token,
+    }
+}
+
+/// Behind `attributes` and `fn`, which stands at `keyword`.
+fn function(
+    cursor: &mut Cursor<'_>,
+    attributes: Attributes,
+    keyword: Span,
+) -> Result<GlobalDeclarationNode, Stop>
+    ensures parses { Parses (FunctionRest attributes keyword) anything cursor.old result cursor.new }
     ensures shrinks { length cursor.new ≤ length cursor.old }
 {
     let ident = cursor.ident()?;
     cursor.expect(Fixed::ParenLeft)?;
     let parameters = parameters(cursor)?;
     cursor.expect(Fixed::ParenRight)?;
-    let return_type = result_type(cursor)?;
+    let returned = function_result(cursor)?;
     cursor.expect(Fixed::BraceLeft)?;
     let statements = body(cursor)?;
     let last = cursor.expect(Fixed::BraceRight)?;
+    let span = led_by(&attributes, keyword).across(last);
     let body = CompoundStatementOf {
         attributes: Items::new(cursor.alloc()),
         statements,
     };
     let tree = GlobalDeclaration::Function(Function {
-        attributes: Items::new(cursor.alloc()),
+        attributes,
         ident,
         parameters,
-        return_attributes: Items::new(cursor.alloc()),
-        return_type,
+        return_attributes: returned.attributes,
+        return_type: returned.ty,
         body,
     });
-    Ok(Spanned::new(cursor.alloc(), tree, first.across(last))?)
+    Ok(Spanned::new(cursor.alloc(), tree, span)?)
 }
 
 fn declaration(cursor: &mut Cursor<'_>) -> Result<GlobalDeclarationNode, Stop>
@@ -178,8 +210,9 @@ fn declaration(cursor: &mut Cursor<'_>) -> Result<GlobalDeclarationNode, Stop>
     if let Some(first) = cursor.eat(Fixed::Const) {
         return constant(cursor, first);
     }
-    let first = cursor.expect(Fixed::Fn)?;
-    function(cursor, first)
+    let attributes = attributes(cursor)?;
+    let keyword = cursor.expect(Fixed::Fn)?;
+    function(cursor, attributes, keyword)
 }
 
 /// Declarations up to the end.

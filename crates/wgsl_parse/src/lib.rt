@@ -1,6 +1,7 @@
 //! From the text of a module to its syntax tree, or to the fault of the text.
 #![tactic(auto)]
 
+mod attribute;
 mod cursor;
 mod declaration;
 mod expression;

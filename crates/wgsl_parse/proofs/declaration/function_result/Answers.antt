@@ -1,0 +1,19 @@
+use Rattle.wgsl_phrases.proofs.Steps.{outcomes, passes}
+use Rattle.wgsl_parse.proofs.Marks.{marks, absent_mark}
+use Rattle.wgsl_parse.proofs.Attributes.{attributes}
+use Rattle.wgsl_parse.proofs.Declarations.{inhabited, parses_result}
+use Rattle.wgsl_parse.proofs.declaration.function_result.Goals as goal
+
+pub returns-in_default-clause-parses : goal.returns-in_default-clause-parses
+returns-in_default-clause-parses c = let e = c.in_default.ensures in rw c.new.ensures (parses_result (absent_mark e.0 e.1))
+
+pub returns-in_err-attributes-clause-parses : goal.returns-in_err-attributes-clause-parses
+returns-in_err-attributes-clause-parses c = passes c.from_residual.ensures.1
+    (parses_result (search (outcomes, marks, attributes, inhabited, c.in-Some.ensures, c.in_err-attributes.ensures) depth 20))
+
+pub returns-in_err-ty-clause-parses : goal.returns-in_err-ty-clause-parses
+returns-in_err-ty-clause-parses c = passes c.from_residual-in_err-ty.ensures.1
+    (parses_result (search (outcomes, marks, attributes, inhabited, c.in-Some.ensures, c.in_ok-attributes.ensures, c.in_err-ty.ensures) depth 20))
+
+pub returns-clause-parses : goal.returns-clause-parses
+returns-clause-parses c = parses_result (search (outcomes, marks, attributes, inhabited, c.in-Some.ensures, c.in_ok-attributes.ensures, c.in_ok-ty.ensures) depth 20)
