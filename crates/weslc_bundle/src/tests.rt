@@ -422,6 +422,24 @@ fn tells_two_modules_apart(rt: HostRuntime) -> Result<(), Fail> {
 }
 
 #[test]
+fn attributes_keep_entry_points(rt: HostRuntime) -> Result<(), Fail> {
+    let root =
+        "import package::m::two; @fragment fn g(@location(two) x: u32) -> @location(0) u32 { return x * (two + 1); } fn h() {}";
+    let bundle = bundle_for(&rt, "compile", root, "const two = 2;", "")?;
+    assert_text(
+        &rt,
+        bundle.as_str(),
+        "@fragment fn g(@location(2) x: u32) -> @location(0) u32 {\n    return x * 3;\n}\n",
+    )?;
+    let bundle = bundle_for(&rt, "link", root, "const two = 2;", "")?;
+    assert_text(
+        &rt,
+        bundle.as_str(),
+        "@fragment fn g(@location(package_m_two) x: u32) -> @location(0) u32 {\n    return x * (package_m_two + 1);\n}\nconst package_m_two = 2;\n",
+    )
+}
+
+#[test]
 fn tells_paths_apart_that_join_alike(rt: HostRuntime) -> Result<(), Fail> {
     let modules =
         r#""root":"package","modules":[{"path":"package","text":"import package::a_b::c; import package::a::b_c; fn g() -> u32 { return c + b_c; }"},{"path":"package::a_b","text":"const c = 1u;"},{"path":"package::a","text":"const b_c = 2u;"}],"keep":["g"]"#;

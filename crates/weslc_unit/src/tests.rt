@@ -53,6 +53,10 @@ fn constants_are_written_as_their_values(rt: HostRuntime) -> Result<(), Fail> {
             "fn g(x: i32, y: i32) -> i32 { return x - (-y) * -2 + (3); }",
             "fn g(x: i32, y: i32) -> i32 {\n    return x - (-y) * (-2) + 3;\n}\n",
         ),
+        (
+            "const k = -5; @fragment fn g(@location(k + 7) x: i32) -> @location(0) i32 { return k * x; }",
+            "@fragment fn g(@location(2) x: i32) -> @location(0) i32 {\n    return (-5) * x;\n}\n",
+        ),
         ("const k = 1;", ""),
     ];
     for (text, wanted) in cases {
