@@ -43,7 +43,7 @@ pub record IsCompiled (unit : Unit) (text : List ℕ) : Type 0 where
   pub low : Unit
   pub lowered : IsLowered unit low
   pub whole : text ≡ unit_text low
-  pub module : IsModuleText text
+  pub reads : IsModuleText text
   pub keeps : Keeps unit.declarations low.declarations
 
 -- ---- what is refused: each case after those before it don't hold

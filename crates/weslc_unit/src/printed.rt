@@ -16,12 +16,12 @@ fn is_module_text(alloc: Global, text: &str) -> Result<bool, PrintError>
     ensures read { IfOk result (λ b. IsTrue b ↔ IsModuleText text.now) }
     ensures memory { IfErr result (λ e. e ≡ PrintError.OutOfMemory) }
 {
-    match parse_str(alloc, text) {
-        Ok(_) => Ok(true),
-        Err(error) => match error.kind {
-            ErrorKind::OutOfMemory => Err(PrintError::OutOfMemory),
-            _ => Ok(false),
-        },
+    let Err(error) = parse_str(alloc, text) else {
+        return Ok(true);
+    };
+    match error.kind {
+        ErrorKind::OutOfMemory => Err(PrintError::OutOfMemory),
+        _ => Ok(false),
     }
 }
 
