@@ -1,2 +1,1 @@
 pub mod ClearLemmas
-pub mod RefusalLemmas
