@@ -28,7 +28,7 @@ pub fn link<R: Resolver>(
 ) -> Result<(String, BasicSourceMap), CompileError>
     ensures text { IfOk result (λ answer. IsLinkedText (string_bytes answer.0)) }
 {
-    let Linked { unit, map } = linked(alloc, resolver, root, options)?;
+    let Linked { unit, map } = linked_unit(alloc, resolver, root, options)?;
     match print_unit(alloc, &unit) {
         Ok(text) => Ok((text, map)),
         Err(PrintError::Unprintable(name)) => Err(CompileError::unprintable(name)),
@@ -47,7 +47,7 @@ pub fn compile<R: Resolver>(
     ensures text { IfOk result (λ answer. IsCompiledText (string_bytes answer.0)) }
     ensures refusal { IfErr result IsRefusal }
 {
-    let Linked { unit, map } = linked(alloc, resolver, root, options)?;
+    let Linked { unit, map } = linked_unit(alloc, resolver, root, options)?;
     match compile_unit(alloc, &unit) {
         Ok(text) => Ok((text, map)),
         Err(refusal) => Err(CompileError::of_unit(alloc, &map, refusal)),
@@ -56,7 +56,7 @@ pub fn compile<R: Resolver>(
 
 /// What is linked, or the first fault of linking: too many modules, one that isn't found, one whose text is no module's, a
 /// name that is declared twice, missing or private, or a name that is read otherwise than meant.
-fn linked<R: Resolver>(
+fn linked_unit<R: Resolver>(
     alloc: Global,
     resolver: &mut R,
     root: &ModulePath,
