@@ -1,10 +1,22 @@
 //! The calls.
 
+ghost use Rattle.std.specs.Prelude.{IfOk, IfErr, string_bytes};
+ghost use Rattle.weslc_calls.specs.Answers.{IsOfLinking, IsLinkedText, IsCompiledText, IsRefusal};
+
 use crate::error::CompileError;
 use crate::options::Options;
 use std::alloc::Global;
 use wesl_link::{BasicSourceMap, Resolutions, Resolver, resolve_lazy};
+use weslc_unit::{PrintError, compile_unit, print_unit};
 use wgsl_path::ModulePath;
+use wgsl_syntax::TranslationUnit;
+
+/// The one unit that modules are linked into, and the map from it back to them.
+#[derive(Drop)]
+struct Linked {
+    unit: TranslationUnit,
+    map: BasicSourceMap,
+}
 
 /// One text without imports that declares what the kept names of the root reach, and the map from it back to the modules;
 /// or the first fault. The root is not relative.
@@ -13,7 +25,45 @@ pub fn link<R: Resolver>(
     resolver: &mut R,
     root: &ModulePath,
     options: &Options,
-) -> Result<(String, BasicSourceMap), CompileError> {
+) -> Result<(String, BasicSourceMap), CompileError>
+    ensures text { IfOk result (λ answer. IsLinkedText (string_bytes answer.0)) }
+{
+    let Linked { unit, map } = linked_unit(alloc, resolver, root, options)?;
+    match print_unit(alloc, &unit) {
+        Ok(text) => Ok((text, map)),
+        Err(PrintError::Unprintable(name)) => Err(CompileError::unprintable(name)),
+        Err(PrintError::OutOfMemory) => Err(CompileError::OutOfMemory),
+    }
+}
+
+/// One text without imports and consts in which what the kept names of the root reach is validated and lowered, and the map
+/// from it back to the modules; or the first fault. The root is not relative.
+pub fn compile<R: Resolver>(
+    alloc: Global,
+    resolver: &mut R,
+    root: &ModulePath,
+    options: &Options,
+) -> Result<(String, BasicSourceMap), CompileError>
+    ensures text { IfOk result (λ answer. IsCompiledText (string_bytes answer.0)) }
+    ensures refusal { IfErr result IsRefusal }
+{
+    let Linked { unit, map } = linked_unit(alloc, resolver, root, options)?;
+    match compile_unit(alloc, &unit) {
+        Ok(text) => Ok((text, map)),
+        Err(refusal) => Err(CompileError::of_unit(alloc, &map, refusal)),
+    }
+}
+
+/// What is linked, or the first fault of linking: too many modules, one that isn't found, one whose text is no module's, a
+/// name that is declared twice, missing or private, or a name that is read otherwise than meant.
+fn linked_unit<R: Resolver>(
+    alloc: Global,
+    resolver: &mut R,
+    root: &ModulePath,
+    options: &Options,
+) -> Result<Linked, CompileError>
+    ensures { IfErr result IsOfLinking }
+{
     if options.max_modules == 0 {
         return Err(CompileError::too_many_modules(alloc, root)?);
     }
@@ -25,7 +75,7 @@ pub fn link<R: Resolver>(
     }
     let unit = resolutions.assemble(alloc)?;
     let map = source_map(alloc, resolver, root, &resolutions)?;
-    Ok((unit.to_string(alloc)?, map))
+    Ok(Linked { unit, map })
 }
 
 /// The map of what is linked: the held symbols under their names in the linked unit, the loaded modules, and the root's text
@@ -35,7 +85,9 @@ fn source_map<R: Resolver>(
     resolver: &mut R,
     root: &ModulePath,
     resolutions: &Resolutions,
-) -> Result<BasicSourceMap, CompileError> {
+) -> Result<BasicSourceMap, CompileError>
+    ensures { IfErr result IsOfLinking }
+{
     let mut map = BasicSourceMap::new(alloc);
     resolutions.add_decls(alloc, &mut map)?;
     for path in resolutions.paths(alloc)? {

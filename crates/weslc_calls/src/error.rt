@@ -1,9 +1,13 @@
 //! What a call is refused for.
 
+ghost use Rattle.std.specs.Prelude.{◌≡◌, Some, IfOk};
+ghost use Rattle.weslc_calls.specs.Answers.{IsOfLinking, Tells, TellsOfFault, TellsOfEvaluation, fault_name};
+
 use std::alloc::{AllocError, AllocFailed, Global};
 use std::fmt;
 use thiserror::Error as Message;
-use wesl_link::{ImportError, ResolveError};
+use wesl_link::{BasicSourceMap, ImportError, ResolveError, SourceMap};
+use weslc_unit::{Fault, Refusal, UnitRefusal, ValidateError, ValidateFault};
 use wgsl_items::{CloneIn, Text};
 use wgsl_parse::Error;
 use wgsl_path::ModulePath;
@@ -44,6 +48,16 @@ pub enum CompileError {
     Import(Concern, ImportKind),
     #[error("a name of the linked unit is read otherwise than meant")]
     NameClash(Concern),
+    /// A fault of the linked unit that needs no values. The declaration that holds its place is named as its module names it.
+    #[error("the linked unit is at fault: {1}")]
+    Validate(Concern, ValidateError),
+    #[error("a name of the text would be unclear")]
+    UnclearName(Concern),
+    /// A fault of a const's value, or of what is rewritten, in the declaration that is named.
+    #[error("an evaluation goes wrong")]
+    Eval(Concern, Fault),
+    #[error("no text stands for what is left")]
+    Unprintable(Concern),
     /// Memory was refused. This says nothing of the modules.
     #[error("out of memory")]
     OutOfMemory,
@@ -66,25 +80,107 @@ impl Concern {
         }
     }
 
-    fn of_name(name: Text) -> Concern {
+    fn of_name(name: Text) -> Concern
+        ensures { result.name ≡ Some name }
+    {
         Concern {
             module: None,
             decl: None,
             name: Some(name),
         }
     }
+
+    /// Of a declaration of the linked unit, by the module that has it and its name there.
+    fn of_declaration(
+        alloc: Global,
+        map: &BasicSourceMap,
+        declaration: &str,
+        name: Option<Text>,
+    ) -> Result<Concern, AllocError>
+        ensures { IfOk result (λ concern. concern.name ≡ name) }
+    {
+        let Some((module, item)) = map.get_decl(declaration) else {
+            return Ok(Concern {
+                module: None,
+                decl: None,
+                name,
+            });
+        };
+        Ok(Concern {
+            module: Some(module.clone_in(alloc)?),
+            decl: Some(Text::from_str(alloc, item)?),
+            name,
+        })
+    }
+}
+
+/// The name that a fault is about, where it is about a name.
+fn name_of(alloc: Global, fault: &Fault) -> Result<Option<Text>, AllocError>
+    ensures { IfOk result (λ name. name ≡ fault_name fault.now) }
+{
+    match fault {
+        Fault::Number(_) => Ok(None),
+        Fault::Name(_, name) => Ok(Some(name.clone_in(alloc)?)),
+    }
 }
 
 impl CompileError {
-    pub fn too_many_modules(
-        alloc: Global,
-        module: &ModulePath,
-    ) -> Result<CompileError, AllocError> {
+    pub fn too_many_modules(alloc: Global, module: &ModulePath) -> Result<CompileError, AllocError>
+        ensures { IfOk result IsOfLinking }
+    {
         Ok(CompileError::TooManyModules(Concern::of_module(module.clone_in(alloc)?)))
     }
 
-    pub fn name_clash(name: Text) -> CompileError {
+    pub fn name_clash(name: Text) -> CompileError
+        ensures { IsOfLinking result }
+    {
         CompileError::NameClash(Concern::of_name(name))
+    }
+
+    pub fn unprintable(name: Text) -> CompileError
+        ensures { (c : _) × (result ≡ CompileError.Unprintable c) × (c.name ≡ Some name) }
+    {
+        CompileError::Unprintable(Concern::of_name(name))
+    }
+
+    /// The refusal of a linked unit, with its declaration as the module names it that declares it.
+    pub fn of_unit(alloc: Global, map: &BasicSourceMap, refusal: UnitRefusal) -> CompileError
+        ensures { Tells refusal result }
+    {
+        match refusal {
+            UnitRefusal::Validate(fault) => CompileError::of_fault(alloc, map, fault),
+            UnitRefusal::UnclearName(name) => CompileError::UnclearName(Concern::of_name(name)),
+            UnitRefusal::Eval(refusal) => CompileError::of_evaluation(alloc, map, refusal),
+            UnitRefusal::Unprintable(name) => CompileError::Unprintable(Concern::of_name(name)),
+            UnitRefusal::OutOfMemory => CompileError::OutOfMemory,
+        }
+    }
+
+    fn of_fault(alloc: Global, map: &BasicSourceMap, fault: ValidateFault) -> CompileError
+        ensures { TellsOfFault fault result }
+    {
+        let ValidateFault {
+            kind,
+            declaration,
+            name,
+        } = fault;
+        match Concern::of_declaration(alloc, map, declaration.as_str(), Some(name)) {
+            Ok(concern) => CompileError::Validate(concern, kind),
+            Err(_) => CompileError::OutOfMemory,
+        }
+    }
+
+    fn of_evaluation(alloc: Global, map: &BasicSourceMap, refusal: Refusal) -> CompileError
+        ensures { TellsOfEvaluation refusal result }
+    {
+        let Refusal { declaration, fault } = refusal;
+        let Ok(name) = name_of(alloc, &fault) else {
+            return CompileError::OutOfMemory;
+        };
+        match Concern::of_declaration(alloc, map, declaration.as_str(), name) {
+            Ok(concern) => CompileError::Eval(concern, fault),
+            Err(_) => CompileError::OutOfMemory,
+        }
     }
 
     /// What the refusal is about, where it is about something.
@@ -95,6 +191,10 @@ impl CompileError {
             CompileError::Syntax(concern, _) => Some(concern),
             CompileError::Import(concern, _) => Some(concern),
             CompileError::NameClash(concern) => Some(concern),
+            CompileError::Validate(concern, _) => Some(concern),
+            CompileError::UnclearName(concern) => Some(concern),
+            CompileError::Eval(concern, _) => Some(concern),
+            CompileError::Unprintable(concern) => Some(concern),
             CompileError::OutOfMemory => None,
         }
     }
@@ -123,6 +223,10 @@ impl<T: Drop> From<AllocFailed<T>> for CompileError {
 }
 
 impl From<ResolveError> for CompileError {
+    ghost use Rattle.weslc_calls.specs.Answers.{IsOfLinking};
+
+    ghost from_gives = { λ _ e. IsOfLinking e };
+
     fn from(error: ResolveError) -> CompileError {
         match error {
             ResolveError::ModuleNotFound(module) => {
@@ -138,6 +242,10 @@ impl From<ResolveError> for CompileError {
 }
 
 impl From<ImportError> for CompileError {
+    ghost use Rattle.weslc_calls.specs.Answers.{IsOfLinking};
+
+    ghost from_gives = { λ _ e. IsOfLinking e };
+
     fn from(error: ImportError) -> CompileError {
         match error {
             ImportError::TooManyModules(module) => CompileError::TooManyModules(Concern::of_module(

@@ -1,15 +1,22 @@
 //! A bundle: what the program is asked for, in JSON.
 
-use crate::options::Options;
-use crate::resolver::VirtualResolver;
 use serde_json::{Map, Value};
 use std::alloc::{AllocError, AllocFailed, Global};
+use weslc_calls::{Options, VirtualResolver};
 use wgsl_items::{CloneIn, Items, Text};
 use wgsl_path::{ModulePath, ModulePathParseError, PathOrigin};
+
+/// Which call a bundle asks for.
+#[derive(Clone, Copy, Debug, PartialEq, Eq)]
+pub enum Command {
+    Link,
+    Compile,
+}
 
 /// What a bundle asks for.
 #[derive(Debug, Drop)]
 pub struct Bundle {
+    pub command: Command,
     pub root: ModulePath,
     pub resolver: VirtualResolver,
     pub options: Options,
@@ -32,7 +39,7 @@ pub enum BundleError {
 
 impl From<AllocError> for BundleError {
     ghost use Rattle.std.specs.Prelude.{◌≡◌};
-    ghost use Rattle.weslc_calls.specs.declared.bundle.BundleError.TheVariants.{OutOfMemory};
+    ghost use Rattle.weslc_bundle.specs.declared.bundle.BundleError.TheVariants.{OutOfMemory};
 
     ghost from_gives = { λ _ e. e ≡ OutOfMemory };
 
@@ -43,7 +50,7 @@ impl From<AllocError> for BundleError {
 
 impl<T: Drop> From<AllocFailed<T>> for BundleError {
     ghost use Rattle.std.specs.Prelude.{◌≡◌};
-    ghost use Rattle.weslc_calls.specs.declared.bundle.BundleError.TheVariants.{OutOfMemory};
+    ghost use Rattle.weslc_bundle.specs.declared.bundle.BundleError.TheVariants.{OutOfMemory};
 
     ghost from_gives = { λ _ e. e ≡ OutOfMemory };
 
@@ -54,8 +61,8 @@ impl<T: Drop> From<AllocFailed<T>> for BundleError {
 
 type Members = Map<String, Value>;
 
-/// Reads a bundle. Its keys are tested in a fixed order: unknown ones first, then `command`, `root`, `modules`, `keep` and
-/// `max_modules`; a path that is there twice comes last.
+/// Reads a bundle. Its keys are tested in a fixed order: unknown ones first, then `command`, `root`, `modules`, `keep`,
+/// `max_modules` and `max_steps`; a path that is there twice comes last.
 pub fn read_bundle(alloc: Global, bytes: &[u8]) -> Result<Bundle, BundleError> {
     let Ok(text) = str::from_utf8(bytes) else {
         return Err(BundleError::NotAnObject);
@@ -65,15 +72,17 @@ pub fn read_bundle(alloc: Global, bytes: &[u8]) -> Result<Bundle, BundleError> {
         return Err(BundleError::NotAnObject);
     };
     check_keys(alloc, members)?;
-    check_command(members)?;
+    let command = read_command(members)?;
     let root = read_root(alloc, members)?;
     let modules = read_modules(alloc, members)?;
     let options = Options {
         keep: read_keep(alloc, members)?,
         max_modules: read_max_modules(members)?,
+        max_steps: read_max_steps(members)?,
     };
     let resolver = resolver_of(alloc, modules)?;
     Ok(Bundle {
+        command,
         root,
         resolver,
         options,
@@ -98,12 +107,16 @@ fn check_keys(alloc: Global, members: &Members) -> Result<(), BundleError> {
 }
 
 fn is_key(key: &str) -> bool {
-    matches!(key, "command" | "root" | "modules" | "keep" | "max_modules")
+    matches!(
+        key,
+        "command" | "root" | "modules" | "keep" | "max_modules" | "max_steps"
+    )
 }
 
-fn check_command(members: &Members) -> Result<(), BundleError> {
+fn read_command(members: &Members) -> Result<Command, BundleError> {
     match members.get("command").and_then(Value::as_str) {
-        Some("link") => Ok(()),
+        Some("link") => Ok(Command::Link),
+        Some("compile") => Ok(Command::Compile),
         _ => Err(BundleError::Value("command")),
     }
 }
@@ -181,6 +194,16 @@ fn read_max_modules(members: &Members) -> Result<u32, BundleError> {
     match value.as_u64().map(u32::try_from) {
         Some(Ok(max_modules)) => Ok(max_modules),
         _ => Err(BundleError::Value("max_modules")),
+    }
+}
+
+fn read_max_steps(members: &Members) -> Result<u64, BundleError> {
+    let Some(value) = members.get("max_steps") else {
+        return Ok(1_000_000);
+    };
+    match value.as_u64() {
+        Some(max_steps) => Ok(max_steps),
+        None => Err(BundleError::Value("max_steps")),
     }
 }
 

@@ -1,15 +1,14 @@
 //! The program: from a bundle to a text or an error line.
 
-use crate::bundle::{BundleError, read_bundle};
-use crate::calls::link;
-use crate::error::{CompileError, Concern};
+use crate::bundle::{BundleError, Command, read_bundle};
 use crate::input::{InputError, read_input};
+use crate::kinds::{eval_kind, syntax_kind, validate_kind};
 use std::alloc::Global;
 use std::io::{Read, Write};
 use std::{fmt, io};
+use weslc_calls::{CompileError, Concern, compile, link};
 use wgsl_items::Text;
-use wgsl_parse::{ErrorKind, Span};
-use wgsl_path::ModulePath;
+use wgsl_path::{ModulePath, Span};
 
 /// Why the program writes no text.
 #[derive(Debug, Drop)]
@@ -72,7 +71,10 @@ pub fn serve_bundle<R: Read, W: Write, E: Write>(
 fn served<R: Read>(alloc: Global, reader: &mut R) -> Result<String, Refusal> {
     let bytes = read_input(alloc, reader)?;
     let mut bundle = read_bundle(alloc, bytes.as_slice())?;
-    let (text, _) = link(alloc, &mut bundle.resolver, &bundle.root, &bundle.options)?;
+    let (text, _) = match bundle.command {
+        Command::Link => link(alloc, &mut bundle.resolver, &bundle.root, &bundle.options)?,
+        Command::Compile => compile(alloc, &mut bundle.resolver, &bundle.root, &bundle.options)?,
+    };
     Ok(text)
 }
 
@@ -149,17 +151,25 @@ fn write_compile_error<E: Write>(errors: &mut E, error: &CompileError) -> io::Re
             errors.write_all(b"error: NameClash")?;
             write_concern(errors, concern, None)
         }
+        CompileError::Validate(concern, kind) => {
+            let kind = validate_kind(*kind);
+            write!(errors, "error: Validate.{kind}")?;
+            write_concern(errors, concern, None)
+        }
+        CompileError::UnclearName(concern) => {
+            errors.write_all(b"error: UnclearName")?;
+            write_concern(errors, concern, None)
+        }
+        CompileError::Eval(concern, fault) => {
+            let kind = eval_kind(fault);
+            write!(errors, "error: Eval.{kind}")?;
+            write_concern(errors, concern, None)
+        }
+        CompileError::Unprintable(concern) => {
+            errors.write_all(b"error: Unprintable")?;
+            write_concern(errors, concern, None)
+        }
         CompileError::OutOfMemory => errors.write_all(b"error: OutOfMemory - - - -\n"),
-    }
-}
-
-fn syntax_kind(kind: ErrorKind) -> &'static str {
-    match kind {
-        ErrorKind::InvalidToken => "InvalidToken",
-        ErrorKind::ReservedWord => "ReservedWord",
-        ErrorKind::UnexpectedToken => "UnexpectedToken",
-        ErrorKind::UnexpectedEof => "UnexpectedEof",
-        ErrorKind::OutOfMemory => "OutOfMemory",
     }
 }
 

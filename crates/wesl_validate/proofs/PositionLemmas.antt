@@ -1,0 +1,81 @@
+-- Where a list of names has a name first.
+use Rattle.std.proofs.Common.{◌≡◌, ℕ, ◌+◌, ◌<◌, suc, List, [], ◌∷◌, ◌++◌, length, Option, Some, None, Bool, true, false, cond, refl, sym, ap, ◌∙◌, subst, arith}
+use Rattle.std.specs.Prelude.{position, ◌||◌, not, is_some, nat_lt, if◌then◌else◌}
+use Rattle.std.specs.List.{list_any, position_or_len}
+use Rattle.std.specs.Option.{option_map}
+use Rattle.std.specs.Bool.{Decides}
+use Rattle.std.specs.Str.{bytes_eq}
+use Rattle.std.proofs.lemmas.Bool.{cond-true, cond-false, or_parts, false≢true, false_from_ne_true, lt-ltb, le-ltb}
+use Rattle.std.proofs.lemmas.Slice.Eq.{bytes_eq-Decides}
+use Rattle.std.proofs.lemmas.Bool.Decides.{same_from_decides}
+use Rattle.wesl_validate.specs.Scopes.{Name, is_in}
+
+pub same_text : (x y : Name) → bytes_eq x y ≡ true → x ≡ y
+same_text x y = (bytes_eq-Decides x y).0
+
+pub text_same : (x : Name) → bytes_eq x x ≡ true
+text_same x = (bytes_eq-Decides x x).1 refl
+
+pub bytes_eq-comm : (x y : Name) → bytes_eq x y ≡ bytes_eq y x
+bytes_eq-comm x y = same_from_decides (bytes_eq x y) (bytes_eq y x) (bytes_eq-Decides x y) ((λ e. sym (same_text y x e)), (λ e. (bytes_eq-Decides y x).1 (sym e)))
+
+ltb-zero : (b : ℕ) → nat_lt 0 (suc b) ≡ true
+ltb-zero b = lt-ltb 0 (suc b) (omega arith)
+
+ltb-suc : (a b : ℕ) → nat_lt (1 + a) (suc b) ≡ nat_lt a b
+ltb-suc a b = grind arith
+
+-- a choice by a test, through a function
+map_choice : (b : Bool) (n : ℕ) → cond b (Some (1 + n)) None ≡ option_map (λ n. 1 + n) (cond b (Some n) None)
+map_choice true n = refl
+map_choice false n = refl
+
+position-cons : {X : Type 0} (p : X → Bool) (x : X) (xs : List X) → position p (x ∷ xs) ≡ cond (p x) (Some 0) (option_map (λ n. 1 + n) (position p xs))
+position-cons p x xs = at (p x)
+  where
+    at : (b : Bool) →
+        cond (nat_lt (cond (not b) (1 + position_or_len p xs) 0) (suc (length xs))) (Some (cond (not b) (1 + position_or_len p xs) 0)) None
+        ≡ cond b (Some 0) (option_map (λ n. 1 + n) (position p xs))
+    at true = ap (λ t. cond t (Some 0) None) (ltb-zero (length xs))
+    at false = ap (λ t. cond t (Some (1 + position_or_len p xs)) None) (ltb-suc (position_or_len p xs) (length xs))
+        ∙ map_choice (nat_lt (position_or_len p xs) (length xs)) (position_or_len p xs)
+
+is_some-map : {X : Type 0} (f : X → X) (o : Option X) → is_some (option_map f o) ≡ is_some o
+is_some-map f (Some x) = refl
+is_some-map f None = refl
+
+-- a name has a position exactly where it is among the names
+pub is_some-position : (x : Name) (xs : List Name) → is_some (position (bytes_eq x) xs) ≡ is_in x xs
+is_some-position x [] = refl
+is_some-position x (y ∷ ys) =
+    ap is_some (position-cons (bytes_eq x) y ys) ∙ at (is_some-position x ys) (bytes_eq x y)
+  where
+    at : is_some (position (bytes_eq x) ys) ≡ is_in x ys → (b : Bool)
+        → is_some (cond b (Some 0) (option_map (λ n. 1 + n) (position (bytes_eq x) ys))) ≡ (b || is_in x ys)
+    at h true = refl
+    at h false = is_some-map (λ n. 1 + n) (position (bytes_eq x) ys) ∙ h
+
+-- one more name, which was not there
+pub position-push : (xs : List Name) (y x : Name) → is_in y xs ≡ false
+    → position (bytes_eq x) (xs ++ y ∷ []) ≡ cond (bytes_eq y x) (Some (length xs)) (position (bytes_eq x) xs)
+position-push [] y x new =
+    position-cons (bytes_eq x) y [] ∙ ap (λ b. cond b (Some 0) None) (bytes_eq-comm x y)
+position-push (z ∷ zs) y x new =
+    position-cons (bytes_eq x) z (zs ++ y ∷ [])
+    ∙ ap (λ o. cond (bytes_eq x z) (Some 0) (option_map (λ n. 1 + n) o)) (position-push zs y x (or_parts (bytes_eq y z) (is_in y zs) new).1)
+    ∙ at (bytes_eq y x) refl
+    ∙ sym (ap (λ o. cond (bytes_eq y x) (Some (suc (length zs))) o) (position-cons (bytes_eq x) z zs))
+  where
+    at : (b : Bool) → bytes_eq y x ≡ b →
+        cond (bytes_eq x z) (Some 0) (option_map (λ n. 1 + n) (cond b (Some (length zs)) (position (bytes_eq x) zs)))
+        ≡ cond b (Some (suc (length zs))) (cond (bytes_eq x z) (Some 0) (option_map (λ n. 1 + n) (position (bytes_eq x) zs)))
+    at true e =
+        ap (λ b. cond b (Some 0) (Some (1 + length zs))) (ap (λ t. bytes_eq t z) (sym (same_text y x e)) ∙ (or_parts (bytes_eq y z) (is_in y zs) new).0)
+        ∙ ap Some (omega arith)
+    at false e = refl
+
+-- what a look-up of an index says of the names that it holds
+pub known_from : (look : Name → Option ℕ) (names : List Name) (x y : Name) (b : Bool) → x ≡ y
+    → ((q : Name) → look q ≡ position (bytes_eq q) names) → is_some (look x) ≡ b → is_in y names ≡ b
+known_from look names x y b same is found =
+    sym (is_some-position y names) ∙ sym (ap is_some (is y)) ∙ ap (λ q. is_some (look q)) (sym same) ∙ found

@@ -1,0 +1,10 @@
+use Rattle.std.proofs.Common.{◌≡◌, drop, filter}
+use Rattle.wesl_validate.specs.First.{first}
+use Rattle.wesl_validate.specs.Lookups.{lookup, local_names, texts}
+use Rattle.wesl_validate.specs.Clearness.{is_declared_by}
+use Rattle.wesl_validate.proofs.clear.unclear_parameter.Given as goal
+
+abbrev pub invariant-loop-parameter : goal.invariant-loop-parameter
+invariant-loop-parameter l =
+    first (filter (is_declared_by (lookup l.sharing) (texts l.names)) (local_names (drop l.parameter-index l.parameters)))
+    ≡ first (filter (is_declared_by (lookup l.sharing) (texts l.names)) (local_names l.parameters))

@@ -1,0 +1,12 @@
+use Rattle.std.proofs.Common.{◌≡◌, ◌++◌, drop, take, map}
+use Rattle.std.specs.List.{flat_map}
+use Rattle.wgsl_syntax.specs.View.{attributes_tree, statement_tree, parameter_tree, declaration_tree}
+use Rattle.wesl_validate.specs.Scopes.{attributes_places, statement_places, parameter_places, decl_places}
+use Rattle.wesl_validate.specs.Lookups.{lookup, local_names}
+use Rattle.std.proofs.Common.{[]}
+use Rattle.wesl_validate.proofs.place.add_parameters.Given as goal
+
+abbrev pub invariant-loop-parameter : goal.invariant-loop-parameter
+invariant-loop-parameter l =
+    l.places ++ flat_map (parameter_places (lookup l.index) []) (map parameter_tree (drop l.parameter-index l.parameters))
+    ≡ l.initial.places ++ flat_map (parameter_places (lookup l.index) []) (map parameter_tree l.parameters)

@@ -1,0 +1,11 @@
+use Rattle.std.proofs.Common.{◌≡◌, ◌++◌, drop, take, map}
+use Rattle.std.specs.List.{flat_map}
+use Rattle.wgsl_syntax.specs.View.{attributes_tree, statement_tree, parameter_tree, declaration_tree}
+use Rattle.wesl_validate.specs.Scopes.{attributes_places, statement_places, parameter_places, decl_places}
+use Rattle.wesl_validate.specs.Lookups.{lookup, local_names}
+use Rattle.wesl_validate.proofs.place.add_statements.Given as goal
+
+abbrev pub invariant-loop-statement : goal.invariant-loop-statement
+invariant-loop-statement l =
+    l.places ++ flat_map (statement_places (lookup l.index) (local_names l.locals)) (map (λ n. statement_tree n.node) (drop l.statement-index l.statements))
+    ≡ l.initial.places ++ flat_map (statement_places (lookup l.index) (local_names l.locals)) (map (λ n. statement_tree n.node) l.statements)

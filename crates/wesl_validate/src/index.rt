@@ -1,0 +1,63 @@
+//! The names that a unit declares, each once.
+
+ghost use Rattle.std.specs.Prelude.{◌≡◌, [], position, IfOk};
+ghost use Rattle.std.specs.Str.{bytes_eq};
+ghost use Rattle.wgsl_syntax.specs.View.{declaration_tree};
+ghost use Rattle.wesl_validate.specs.Scopes.{Name, name_of, parameters_of};
+ghost use Rattle.wesl_validate.specs.Lookups.{lookup, local_names, trees, declared};
+ghost use Rattle.wesl_validate.specs.Faults.{again, repeats, duplicates, Finds};
+
+use crate::error::{Refusal, ValidateError, refused};
+use crate::place::{Index, declared_name, is_local};
+use std::alloc::Global;
+use std::collections::HashMap;
+use wgsl_syntax::{FormalParameter, GlobalDeclaration, GlobalDeclarationNode};
+
+fn check_parameters(
+    alloc: Global,
+    holder: &str,
+    parameters: &[FormalParameter],
+) -> Result<(), Refusal>
+    ensures { Finds (repeats holder.now [] (local_names parameters.now)) result }
+{
+    for (at, parameter) in parameters.iter().enumerate() {
+        let name = parameter.ident.as_str();
+        if is_local(name, &parameters[..at]) {
+            return Err(refused(alloc, ValidateError::Duplicate, holder, name));
+        }
+    }
+    Ok(())
+}
+
+fn check_inside(alloc: Global, declaration: &GlobalDeclaration) -> Result<(), Refusal>
+    ensures { Finds (repeats (name_of (declaration_tree declaration.now)) [] (parameters_of (declaration_tree declaration.now))) result }
+{
+    match declaration {
+        GlobalDeclaration::Declaration(_) => Ok(()),
+        GlobalDeclaration::Function(x) => check_parameters(
+            alloc,
+            x.ident.as_str(),
+            x.parameters.as_slice(),
+        ),
+    }
+}
+
+/// Where each name is declared, once no scope has a name twice.
+pub fn distinct_names<'a>(
+    alloc: Global,
+    declarations: &'a [GlobalDeclarationNode],
+) -> Result<Index<'a>, Refusal>
+    ensures faults { Finds (duplicates [] (trees declarations.now)) result }
+    ensures index { IfOk result (λ index. (x : Name) → lookup index x ≡ position (bytes_eq x) (declared declarations.now)) }
+{
+    let mut index = HashMap::new(alloc);
+    for (position, declaration) in declarations.iter().enumerate() {
+        let name = declared_name(declaration.node());
+        if index.contains_key(name) {
+            return Err(refused(alloc, ValidateError::Duplicate, name, name));
+        }
+        check_inside(alloc, declaration.node())?;
+        index.insert(name, position)?;
+    }
+    Ok(index)
+}

@@ -1,0 +1,17 @@
+//! Validation of a linked unit: duplicates, free names, calls, rings of declarations, and names that printing would blur.
+#![tactic(auto)]
+
+mod check;
+mod clear;
+mod error;
+mod index;
+mod place;
+mod ring;
+mod validate;
+
+pub use clear::unclear_name;
+pub use error::{Refusal, ValidateError, ValidateFault};
+pub use validate::validate_wesl;
+
+#[cfg(test)]
+mod tests;

@@ -1,0 +1,11 @@
+//! The program: from a bundle on one reader to a text on a writer, or to a line about the first fault.
+#![tactic(auto)]
+
+mod bundle;
+mod input;
+mod kinds;
+mod serve;
+#[cfg(test)]
+mod tests;
+
+pub use serve::serve_bundle;

@@ -1,0 +1,64 @@
+//! What is compiled of a linked unit.
+
+ghost use Rattle.std.specs.Prelude.{◌≡◌, Ok, OnOk, IfOk, IfErr, string_bytes};
+ghost use Rattle.wgsl_syntax.specs.View.{unit_tree};
+ghost use Rattle.wgsl_lower.specs.Keeps.{AreClear, Keeps};
+ghost use Rattle.wgsl_lower.specs.Lowered.{lowered_unit};
+ghost use Rattle.weslc_unit.specs.Compiled.{IsValid, IsClear, IsCompiled, RefusesInvalid, RefusesUnclear, RefusesValues, Refuses};
+
+use crate::error::{PrintError, UnitRefusal};
+use crate::printed::print_unit;
+use std::alloc::Global;
+use wesl_validate::{Refusal, unclear_name, validate_wesl};
+use wgsl_builtin::builtin_names;
+use wgsl_lower::{UnitError, lower};
+use wgsl_syntax::TranslationUnit;
+
+fn check_valid(alloc: Global, unit: &TranslationUnit) -> Result<(), UnitRefusal>
+    ensures ok { OnOk result (IsValid (unit_tree unit.now)) }
+    ensures refusal { IfErr result (RefusesInvalid (unit_tree unit.now)) }
+{
+    match validate_wesl(alloc, unit, builtin_names()) {
+        Ok(()) => Ok(()),
+        Err(Refusal::Fault(fault)) => Err(UnitRefusal::Validate(fault)),
+        Err(Refusal::OutOfMemory) => Err(UnitRefusal::OutOfMemory),
+    }
+}
+
+fn check_clear(alloc: Global, unit: &TranslationUnit) -> Result<(), UnitRefusal>
+    ensures ok { OnOk result (IsClear (unit_tree unit.now)) }
+    ensures refusal { IfErr result (RefusesUnclear (unit_tree unit.now)) }
+{
+    match unclear_name(alloc, unit, builtin_names())? {
+        None => Ok(()),
+        Some(name) => Err(UnitRefusal::UnclearName(name)),
+    }
+}
+
+fn lowered(alloc: Global, unit: &TranslationUnit) -> Result<TranslationUnit, UnitRefusal>
+    ensures exactly { IfOk result (λ low. lowered_unit (unit_tree unit.now) ≡ Ok (unit_tree low)) }
+    ensures keeps { AreClear (unit_tree unit.now).declarations → IfOk result (λ low. Keeps (unit_tree unit.now).declarations (unit_tree low).declarations) }
+    ensures refusal { IfErr result (RefusesValues (unit_tree unit.now)) }
+{
+    match lower(alloc, unit) {
+        Ok(low) => Ok(low),
+        Err(UnitError::Refused(refusal)) => Err(UnitRefusal::Eval(refusal)),
+        Err(UnitError::OutOfMemory) => Err(UnitRefusal::OutOfMemory),
+    }
+}
+
+/// The text of what a linked unit is lowered to, or the unit's first fault: of validation, then a name that is unclear, then
+/// of a const or of what is rewritten, then that no text stands for what is left.
+pub fn compile_unit(alloc: Global, unit: &TranslationUnit) -> Result<String, UnitRefusal>
+    ensures text { IfOk result (λ text. IsCompiled (unit_tree unit.now) (string_bytes text)) }
+    ensures refusal { IfErr result (Refuses (unit_tree unit.now)) }
+{
+    check_valid(alloc, unit)?;
+    check_clear(alloc, unit)?;
+    let low = lowered(alloc, unit)?;
+    match print_unit(alloc, &low) {
+        Ok(text) => Ok(text),
+        Err(PrintError::Unprintable(name)) => Err(UnitRefusal::Unprintable(name)),
+        Err(PrintError::OutOfMemory) => Err(UnitRefusal::OutOfMemory),
+    }
+}

@@ -1,0 +1,60 @@
+//! Why a linked unit has no compiled text.
+
+use std::alloc::AllocError;
+use thiserror::Error as Message;
+use wesl_validate::ValidateFault;
+use wgsl_eval::Refusal;
+use wgsl_items::Text;
+
+/// Why a linked unit is not compiled. The first fault is named, in the order of these variants; names are those of the
+/// linked unit.
+#[derive(Debug, Drop, Message)]
+pub enum UnitRefusal {
+    #[error("{0}")]
+    Validate(ValidateFault),
+    /// Two declarations, or a declaration and a parameter, have this name in the text, or WGSL declares it.
+    #[error("the name {0} is unclear")]
+    UnclearName(Text),
+    /// A const has no value, or what is rewritten is at fault.
+    #[error("an evaluation goes wrong")]
+    Eval(Refusal),
+    /// What is compiled has no text: of its first part that none stands for, the name, else the enclosing declaration's.
+    #[error("no text stands for {0}")]
+    Unprintable(Text),
+    /// Memory was refused. This says nothing of the unit.
+    #[error("out of memory")]
+    OutOfMemory,
+}
+
+/// Why a unit is not printed.
+#[derive(Debug, Drop, Message)]
+pub enum PrintError {
+    /// No text stands for the unit: of its first part that none stands for, the name, else the enclosing declaration's.
+    #[error("no text stands for {0}")]
+    Unprintable(Text),
+    /// Memory was refused. This says nothing of the unit.
+    #[error("out of memory")]
+    OutOfMemory,
+}
+
+impl From<AllocError> for UnitRefusal {
+    ghost use Rattle.std.specs.Prelude.{◌≡◌};
+    ghost use Rattle.weslc_unit.specs.declared.error.UnitRefusal.TheVariants.{OutOfMemory};
+
+    ghost from_gives = { λ _ e. e ≡ OutOfMemory };
+
+    fn from(_: AllocError) -> UnitRefusal {
+        UnitRefusal::OutOfMemory
+    }
+}
+
+impl From<AllocError> for PrintError {
+    ghost use Rattle.std.specs.Prelude.{◌≡◌};
+    ghost use Rattle.weslc_unit.specs.declared.error.PrintError.TheVariants.{OutOfMemory};
+
+    ghost from_gives = { λ _ e. e ≡ OutOfMemory };
+
+    fn from(_: AllocError) -> PrintError {
+        PrintError::OutOfMemory
+    }
+}
