@@ -6,7 +6,7 @@ use Rattle.wgsl_meaning.specs.declared.fault.Fault.{Fault}
 use Rattle.wgsl_meaning.specs.declared.fault.Fault.TheVariants.{Number, Name as Named}
 use Rattle.wesl_validate.specs.declared.error.ValidateFault.{ValidateFault}
 use Rattle.wgsl_eval.specs.declared.error.Refusal.{Refusal}
-use Rattle.weslc_unit.specs.Compiled.{IsModuleText, IsCompiled, Refuses}
+use Rattle.weslc_unit.specs.Compiled.{IsTextOf, IsCompiled, Refuses}
 use Rattle.weslc_unit.specs.declared.error.UnitRefusal.{UnitRefusal}
 use Rattle.weslc_unit.specs.declared.error.UnitRefusal.TheVariants as of
 use Rattle.weslc_calls.specs.declared.error.CompileError.{CompileError}
@@ -60,9 +60,9 @@ Tells of.OutOfMemory e = e ≡ OutOfMemory
 
 -- ---- answers
 
--- the text of a unit, which is a module's
+-- the text of a unit, which is read as that unit
 abbrev pub IsLinkedText : List ℕ → Type 0
-IsLinkedText text = (linked : Unit) × (text ≡ unit_text linked) × IsModuleText text
+IsLinkedText text = (linked : Unit) × (text ≡ unit_text linked) × IsTextOf linked text
 
 -- what a unit is compiled to
 abbrev pub IsCompiledText : List ℕ → Type 0

@@ -2,6 +2,7 @@
 use Rattle.std.specs.Prelude.{◌≡◌, ⊤, List, ℕ, [], Some, Result, Ok, Err}
 use Rattle.wgsl_syntax.specs.declared.unit.TranslationUnit.{TranslationUnit}
 use Rattle.wgsl_syntax.specs.Tree.{Unit}
+use Rattle.wgsl_syntax.specs.View.{unit_tree}
 use Rattle.wgsl_syntax.specs.Print.{unit_text}
 use Rattle.wgsl_parse.specs.Texts.{Derives}
 use Rattle.wgsl_builtin.specs.Builtin.{builtin_names}
@@ -31,19 +32,19 @@ pub record IsLowered (unit low : Unit) : Type 0 where
   pub clear : IsClear unit
   pub lowered : lowered_unit unit ≡ Ok low
 
--- some module's tree has this text
-abbrev pub IsModuleText : List ℕ → Type 0
-IsModuleText text = (unit : TranslationUnit) × Derives text unit
+-- the text is read as this tree
+abbrev pub IsTextOf : Unit → List ℕ → Type 0
+IsTextOf meant text = (unit : TranslationUnit) × Derives text unit × (unit_tree unit ≡ meant)
 
 -- ---- what is answered
 
--- the text of what a unit is lowered to, which is a module's. Every run of the unit that ends well ends well in the lowered
+-- the text of what a unit is lowered to, which is read as that. Every run of the unit that ends well ends well in the lowered
 -- unit, with the same answer and in no more steps.
 pub record IsCompiled (unit : Unit) (text : List ℕ) : Type 0 where
   pub low : Unit
   pub lowered : IsLowered unit low
   pub whole : text ≡ unit_text low
-  pub reads : IsModuleText text
+  pub reads : IsTextOf low text
   pub keeps : Keeps unit.declarations low.declarations
 
 -- ---- what is refused: each case after those before it don't hold
@@ -69,14 +70,14 @@ RefusesValues unit (Validate f) = ⊥
 RefusesValues unit (UnclearName x) = ⊥
 RefusesValues unit (Unprintable x) = ⊥
 
--- memory aside, the printed text is no module's
+-- memory aside, what is printed of the unit is not read as the unit
 abbrev pub IsUnprintable : Unit → PrintError → Type 0
-IsUnprintable unit (print.Unprintable x) = IsModuleText (unit_text unit) → ⊥
+IsUnprintable unit (print.Unprintable x) = IsTextOf unit (unit_text unit) → ⊥
 IsUnprintable unit print.OutOfMemory = ⊤
 
 abbrev pub Refuses : Unit → UnitRefusal → Type 0
 Refuses unit (Validate f) = IsFirstFault unit builtin_names f
 Refuses unit (UnclearName x) = IsValid unit × (first (unclear unit builtin_names) ≡ Some x)
 Refuses unit (Eval r) = IsValid unit × IsClear unit × (lowered_unit unit ≡ Err r)
-Refuses unit (Unprintable x) = (low : Unit) × IsLowered unit low × (IsModuleText (unit_text low) → ⊥)
+Refuses unit (Unprintable x) = (low : Unit) × IsLowered unit low × (IsTextOf low (unit_text low) → ⊥)
 Refuses unit OutOfMemory = ⊤

@@ -3,36 +3,37 @@
 ghost use Rattle.std.specs.Prelude.{◌≡◌, ◌↔◌, IfOk, IfErr, IsTrue, string_bytes};
 ghost use Rattle.wgsl_syntax.specs.View.{unit_tree};
 ghost use Rattle.wgsl_syntax.specs.Print.{unit_text};
-ghost use Rattle.weslc_unit.specs.Compiled.{IsModuleText, IsUnprintable};
+ghost use Rattle.weslc_unit.specs.Compiled.{IsTextOf, IsUnprintable};
 
 use crate::error::PrintError;
 use std::alloc::{AllocError, Global};
 use wgsl_items::{CloneIn, Text};
 use wgsl_parse::{ErrorKind, parse_str};
+use wgsl_same::is_same_unit;
 use wgsl_syntax::{GlobalDeclaration, TranslationUnit};
 
-/// Whether a text is a module's.
-fn is_module_text(alloc: Global, text: &str) -> Result<bool, PrintError>
-    ensures read { IfOk result (λ b. IsTrue b ↔ IsModuleText text.now) }
+/// Whether a text is read as a unit.
+fn is_text_of(alloc: Global, text: &str, unit: &TranslationUnit) -> Result<bool, PrintError>
+    ensures read { IfOk result (λ b. IsTrue b ↔ IsTextOf (unit_tree unit.now) text.now) }
     ensures memory { IfErr result (λ e. e ≡ PrintError.OutOfMemory) }
 {
-    let Err(error) = parse_str(alloc, text) else {
-        return Ok(true);
-    };
-    match error.kind {
-        ErrorKind::OutOfMemory => Err(PrintError::OutOfMemory),
-        _ => Ok(false),
+    match parse_str(alloc, text) {
+        Ok(parsed) => Ok(is_same_unit(&parsed, unit)),
+        Err(error) => match error.kind {
+            ErrorKind::OutOfMemory => Err(PrintError::OutOfMemory),
+            _ => Ok(false),
+        },
     }
 }
 
-/// The text of a unit, where it is a module's: where some text stands for the unit, this one does.
+/// The text of a unit, where it is read as that unit: where some text stands for the unit, this one does.
 pub fn print_unit(alloc: Global, unit: &TranslationUnit) -> Result<String, PrintError>
     ensures text { IfOk result (λ text. string_bytes text ≡ unit_text (unit_tree unit.now)) }
-    ensures module { IfOk result (λ text. IsModuleText (string_bytes text)) }
+    ensures read { IfOk result (λ text. IsTextOf (unit_tree unit.now) (string_bytes text)) }
     ensures refusal { IfErr result (IsUnprintable (unit_tree unit.now)) }
 {
     let text = unit.to_string(alloc)?;
-    if is_module_text(alloc, text.as_str())? {
+    if is_text_of(alloc, text.as_str(), unit)? {
         return Ok(text);
     }
     Err(PrintError::Unprintable(unprintable_name(alloc, unit)?))

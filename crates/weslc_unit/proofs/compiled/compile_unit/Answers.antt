@@ -8,6 +8,6 @@ returns-in-Ok-clause-text c = record {
   low = unit_tree c.in_ok-low.low;
   lowered = record { valid = c.in_ok-check_valid.ensures.ok; clear = c.in_ok-check_clear.ensures.ok; lowered = c.in_ok-low.ensures.exactly };
   whole = c.in-Ok.ensures.text;
-  reads = c.in-Ok.ensures.module;
+  reads = c.in-Ok.ensures.read;
   keeps = c.in_ok-low.ensures.keeps (clear-names (unit_tree c.args.unit.now) c.in_ok-check_clear.ensures.ok);
 }
