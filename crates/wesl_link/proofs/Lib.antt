@@ -14,3 +14,4 @@ pub mod AssembleLemmas
 pub mod FollowLemmas
 pub mod StageLemmas
 pub mod PresentLemmas
+pub mod RoundLemmas
