@@ -24,10 +24,10 @@ parts_Ends [] = tt
 parts_Ends (part ∷ parts) = refl
 
 -- one for an underscore
-abbrev one : ℕ → ℕ
+abbrev pub one : ℕ → ℕ
 one c = cond (c == 95) 1 0
 
-underscores_cons : (c : ℕ) (cs : List ℕ) → underscores (c ∷ cs) ≡ one c + underscores cs
+pub underscores_cons : (c : ℕ) (cs : List ℕ) → underscores (c ∷ cs) ≡ one c + underscores cs
 underscores_cons c cs = sum_by-cons one c cs
 
 pub underscores_append : (a b : List ℕ) → underscores (a ++ b) ≡ underscores a + underscores b
@@ -63,11 +63,11 @@ decimal_model = numerals_by_value (λ ds. all_ascii_digits ds ≡ true) tells_al
 digit_and_none : (c : ℕ) → is_ascii_digit c ≡ true → is_ascii_digit c ≡ false → ⊥
 digit_and_none c digit none = false≢true (sym none ∙ digit)
 
-first_digit : (b c : Bool) → (b && c) ≡ true → b ≡ true
+pub first_digit : (b c : Bool) → (b && c) ≡ true → b ≡ true
 first_digit true c e = refl
 first_digit false c e = e
 
-more_digits : (b c : Bool) → (b && c) ≡ true → c ≡ true
+pub more_digits : (b c : Bool) → (b && c) ≡ true → c ≡ true
 more_digits true c e = e
 more_digits false c e = absurd (false≢true e)
 
@@ -107,14 +107,14 @@ plain_before [] x plain = absurd (plain.0 refl)
 plain_before (c ∷ part) x plain = plain.1
 
 -- a name without underscores does not begin as one with a count
-no_count : (a x rest : List ℕ) → IsPlainName a → underscores a ≡ 0 → a ++ x ≡ 95 ∷ rest → ⊥
+pub no_count : (a x rest : List ℕ) → IsPlainName a → underscores a ≡ 0 → a ++ x ≡ 95 ∷ rest → ⊥
 no_count [] x rest plain none e = plain.0 refl
 no_count (c ∷ a) x rest plain none e =
     let is : c ≡ 95 = cc in
     let some = underscore_counts c a is in
     omega arith
 
-none_or_some : (n : ℕ) → (n ≡ 0) ⊎ (0 < n)
+pub none_or_some : (n : ℕ) → (n ≡ 0) ⊎ (0 < n)
 none_or_some zero = inl refl
 none_or_some (suc n) = inr (omega arith)
 
