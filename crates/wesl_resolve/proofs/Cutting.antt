@@ -1,6 +1,6 @@
 -- What the steps that read a mangled name find: digits, pieces, a part, and the parts that are left.
 use denote.Ref.{Bor}
-use Rattle.std.proofs.Common.{◌≡◌, ◌≢◌, ℕ, zero, suc, ◌+◌, ◌<◌, ◌≤◌, ◌^◌, Bool, true, false, cond, ◌==◌, List, [], ◌∷◌, ◌++◌, length, get_or, take, drop, codes, decimal, Option, Some, None, IsUtf8, IsCharBoundary, ◌⊎◌, inl, inr, refl, sym, ap, ap₂, subst, ◌∙◌, arith, append_assoc, append-nil, length-append, add-one, rules}
+use Rattle.std.proofs.Common.{◌≡◌, ◌≢◌, ℕ, zero, suc, ◌+◌, ◌<◌, ◌≤◌, ◌^◌, Bool, true, false, cond, ◌==◌, List, [], ◌∷◌, ◌++◌, length, get_or, take, drop, codes, decimal, Option, Some, None, IsUtf8, IsCharBoundary, ◌⊎◌, inl, inr, refl, sym, ap, ap₂, subst, ◌∙◌, arith, append_assoc, append-nil, length-append, add-one, rules, Result, Ok, Err, IfOk}
 use Rattle.std.specs.Prelude.{⊤}
 use Rattle.std.specs.List.{AllByRecursion, prefix_len}
 use Rattle.std.specs.Char.{is_ascii_digit}
@@ -31,7 +31,7 @@ boundary_at bs zero is text = IsCharBoundary-start bs text
 boundary_at bs (suc n) is text =
     let some : prefix_len is_ascii_digit bs ≤ length bs = prefix_len-le-length is_ascii_digit bs in
     let last : get_or bs n 0 < 128 = digit_is_ascii (get_or bs n 0) (prefix_len_passes is_ascii_digit bs n 0 (omega arith)) in
-    rw (← add-one) (IsCharBoundary-after_ascii bs n text (omega arith) last)
+    subst (IsCharBoundary bs) (add-one n) (IsCharBoundary-after_ascii bs n text (omega arith) last)
 
 pub digit_boundary : (bs : List ℕ) → IsUtf8 bs → IsCharBoundary bs (prefix_len is_ascii_digit bs)
 digit_boundary bs text = boundary_at bs (prefix_len is_ascii_digit bs) refl text
@@ -115,9 +115,9 @@ few_there part counted after is short =
 
 -- a text with `_` and no count behind it
 pub first_uncounted : (text counted : List ℕ) → text ≡ 95 ∷ counted → length counted < 2 ^ 64 → IsFirstCount counted None → IsFirstPart text None
-first_uncounted text counted begins short no part after plain ends is =
+first_uncounted text counted begins short uncounted part after plain ends is =
     let there = count_there text counted part after begins plain is in
-    no (underscores part) (part ++ after) (few_there part counted after there.1 short) (plain_before part after plain) there.1
+    uncounted (underscores part) (part ++ after) (few_there part counted after there.1 short) (plain_before part after plain) there.1
 
 -- a text with `_` and a count
 pub first_counted : (text counted : List ℕ) (read : ℕ × Bor (List ℕ)) (answer : Option (List ℕ × Option (Bor (List ℕ)))) → text ≡ 95 ∷ counted → length counted < 2 ^ 64
@@ -165,3 +165,7 @@ one_more parts done more part after reads left =
 
 pub no_more : (parts done : List (List ℕ)) (more : List ℕ) → IsFirstPart more None → AreLeft parts done (95 ∷ more) → ⊥
 no_more parts done more reads left = (one_read left.left parts done more None reads left.plain left.is_text).4
+
+pub weaker : {X E : Type 0} (P Q : X → Type 0) (r : Result X E) → ((x : X) → P x → Q x) → IfOk r P → IfOk r Q
+weaker P Q (Ok x) step holds = step x holds
+weaker P Q (Err e) step holds = tt

@@ -1,5 +1,6 @@
 -- A mangled name is its parts, each behind `_`; an item is its parts.
-use Rattle.std.proofs.Common.{◌≡◌, ◌≢◌, ℕ, suc, ◌+◌, ◌<◌, ◌≤◌, ◌^◌, List, [], ◌∷◌, ◌++◌, length, codes, All, refl, sym, ap, ap₂, subst, ◌∙◌, arith, append_assoc}
+use denote.Ref.{Bor}
+use Rattle.std.proofs.Common.{◌≡◌, ◌≢◌, Option, Some, None, ℕ, suc, ◌+◌, ◌<◌, ◌≤◌, ◌^◌, List, [], ◌∷◌, ◌++◌, length, codes, All, refl, sym, ap, ap₂, subst, ◌∙◌, arith, append_assoc}
 use Rattle.std.specs.Prelude.{⊤}
 use Rattle.std.specs.List.{flat_map, AllByRecursion}
 use Rattle.std.proofs.lemmas.List.{same_from_push}
@@ -9,9 +10,9 @@ use Rattle.wgsl_path.specs.declared.path.PathOrigin.{PathOrigin}
 use Rattle.wgsl_path.specs.declared.path.PathOrigin.TheVariants.{Absolute, Relative, Package}
 use Rattle.wgsl_path.specs.declared.path.ModulePath.{ModulePath}
 use Rattle.wesl_resolve.specs.Mangling.{underscores, escaped, escaped_parts, mangled, mangled_origin}
-use Rattle.wesl_resolve.specs.Unmangling.{BeginsNoDigit, IsPlainName, IsPlainOrigin, IsPlainItem, origin_name, parts_of}
+use Rattle.wesl_resolve.specs.Unmangling.{BeginsNoDigit, IsPlainName, IsPlainOrigin, IsPlainItem, IsParts, IsFirstPart, IsRead, Ends, origin_name, parts_of}
 use Rattle.wesl_resolve.specs.Laws.{MangledOnce}
-use Rattle.wesl_resolve.proofs.Reading.{same_parts}
+use Rattle.wesl_resolve.proofs.Reading.{same_parts, parts_Ends}
 
 pub escaped_origin : (origin : PathOrigin) → IsPlainOrigin origin → mangled_origin origin ≡ escaped (origin_name origin)
 escaped_origin Absolute plain = refl
@@ -64,3 +65,26 @@ mangled_once p q i j plain_p plain_q short e =
     let size : suc (length (mangled p i)) ≡ length (escaped_parts (parts_of p i)) = ap length of_p in
     let fits : length (escaped_parts (parts_of p i)) ≤ 2 ^ 64 = omega (arith, size, short) in
     same_item p q i j plain_p plain_q (same_parts (parts_of p i) (parts_of q j) (plain_parts p i plain_p) (plain_parts q j plain_q) fits same)
+
+-- a mangled name begins with its origin
+pub first_named : (path : ModulePath) (item name : List ℕ) (answer : Option (List ℕ × Option (Bor (List ℕ)))) → IsFirstPart name answer → IsPlainItem path item → name ≡ mangled path item
+    → IsRead (origin_name path.origin) (escaped_parts (path.components ++ item ∷ [])) answer
+first_named path item name answer reads plain is =
+    let parts = mangled_parts path item plain.origin in
+    let inner : mangled path item ≡ escaped (origin_name path.origin) ++ escaped_parts (path.components ++ item ∷ []) = cc in
+    reads (origin_name path.origin) (escaped_parts (path.components ++ item ∷ [])) (plain_origin_name path.origin plain.origin) (parts_Ends (path.components ++ item ∷ [])) (is ∙ inner)
+
+-- behind it stand the components and the item
+pub rest_named : (path : ModulePath) (item text : List ℕ) (answer : Option (List (List ℕ))) → IsParts text answer → IsPlainItem path item → text ≡ escaped_parts (path.components ++ item ∷ []) → answer ≡ Some (path.components ++ item ∷ [])
+rest_named path item text answer reads plain is = reads (path.components ++ item ∷ []) (plain_parts path item plain).1 is
+
+pub some_behind : {X : Type 0} (xs : List X) (y : X) → [] ≡ xs ++ y ∷ [] → ⊥
+some_behind [] y e = cc
+some_behind (x ∷ xs) y e = cc
+
+pub whole_item : (path : ModulePath) (item last : List ℕ) (origin : PathOrigin) (components : List (List ℕ)) → origin ≡ path.origin → path.components ++ item ∷ [] ≡ components ++ last ∷ []
+    → ◌≡◌ {A = ModulePath × List ℕ} (record { origin = origin; components = components }, last) (path, item)
+whole_item path item last origin components origins behind =
+    let both = same_from_push path.components components item last behind in
+    let made : PathOrigin → List (List ℕ) → List ℕ → ModulePath × List ℕ = λ o c i. (record { origin = o; components = c }, i) in
+    ap (λ o. made o components last) origins ∙ ap₂ (λ c i. made path.origin c i) (sym both.0) (sym both.1)

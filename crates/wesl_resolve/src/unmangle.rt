@@ -100,6 +100,7 @@ fn read_count(text: &str) -> Option<(usize, &str)>
 }
 
 /// How many digits a text begins with.
+#[tactic(auto, using(crate::proofs::Cutting::digit_boundary))]
 fn digit_run(text: &str) -> usize
     ensures run { result ≡ prefix_len is_ascii_digit text.now }
     ensures boundary { IsCharBoundary text.now result }
