@@ -1,6 +1,6 @@
 //! From a mangled name back to the module and the item.
 
-ghost use Rattle.std.specs.Prelude.{◌≡◌, ◌≤◌, ◌++◌, ℕ, length, IfOk, IfSome, IsCharBoundary};
+ghost use Rattle.std.specs.Prelude.{◌≡◌, ◌≤◌, ◌++◌, ℕ, length, IfOk, IfSome};
 ghost use Rattle.std.specs.Char.{is_ascii_digit};
 ghost use Rattle.std.specs.List.{prefix_len};
 ghost use Rattle.wgsl_path.specs.declared.path.PathOrigin.{PathOrigin};
@@ -100,10 +100,8 @@ fn read_count(text: &str) -> Option<(usize, &str)>
 }
 
 /// How many digits a text begins with.
-#[tactic(auto, using(crate::proofs::Cutting::digit_boundary))]
 fn digit_run(text: &str) -> usize
-    ensures run { result ≡ prefix_len is_ascii_digit text.now }
-    ensures boundary { IsCharBoundary text.now result }
+    ensures { result ≡ prefix_len is_ascii_digit text.now }
 {
     text.bytes()
         .take_while(|byte| byte.is_ascii_digit())
