@@ -68,9 +68,10 @@ pub cut_more : (text part piece after rest : List ℕ) (n : ℕ) → text ≡ pa
     → (text ≡ ((part ++ piece) ++ codes "_") ++ after) × (underscores ((part ++ piece) ++ codes "_") ≡ n + 1)
 cut_more text part piece after rest n is few splits none =
     let pieces : text ≡ part ++ (piece ++ (95 ∷ after)) = is ∙ ap (λ r. part ++ r) splits in
-    let mark : underscores (codes "_") ≡ 1 = refl in
-    (pieces ∙ sym (append_assoc part piece (95 ∷ after)) ∙ sym (append_assoc (part ++ piece) (codes "_") after),
-     omega (arith, underscores_append (part ++ piece) (codes "_"), underscores_append part piece, none, few, mark))
+    let mark : underscores (codes "_") ≡ 1 = refl in (
+      pieces ∙ sym (append_assoc part piece (95 ∷ after)) ∙ sym (append_assoc (part ++ piece) (codes "_") after),
+      omega (arith, underscores_append (part ++ piece) (codes "_"), underscores_append part piece, none, few, mark),
+    )
 
 pub cut_ends : (text part piece after rest : List ℕ) (n : ℕ) → text ≡ part ++ rest → underscores part ≡ n → rest ≡ piece ++ after → underscores piece ≡ 0
     → (text ≡ (part ++ piece) ++ after) × (underscores (part ++ piece) ≡ n)
@@ -95,19 +96,21 @@ read_cut count part after text (Some read) cut few ends is = same_cut read.0 par
 pub first_plain : (text : List ℕ) (answer : Option (List ℕ × Option (Bor (List ℕ)))) → ((rest : List ℕ) → text ≢ 95 ∷ rest) → IsCutAfter 0 text answer → IsFirstPart text answer
 first_plain text answer other cut part after plain ends is =
     elim (none_or_some (underscores part)) [
-      inl none ↦ read_cut 0 part after text answer cut none ends (is ∙ ap (λ s. s ++ after) (escaped_none part none))
-    | inr some ↦ absurd (other ((decimal (underscores part) ++ part) ++ after) (is ∙ ap (λ s. s ++ after) (escaped_some part some))) ]
+      | inl none ↦ read_cut 0 part after text answer cut none ends (is ∙ ap (λ s. s ++ after) (escaped_none part none))
+      | inr some ↦ absurd (other ((decimal (underscores part) ++ part) ++ after) (is ∙ ap (λ s. s ++ after) (escaped_some part some)))
+    ]
 
 -- what stands behind the first `_` of an escaped part
 count_there : (text counted part after : List ℕ) → text ≡ 95 ∷ counted → IsPlainName part → text ≡ escaped part ++ after
     → (0 < underscores part) × (counted ≡ decimal (underscores part) ++ (part ++ after))
 count_there text counted part after begins plain is =
     elim (none_or_some (underscores part)) [
-      inl none ↦ absurd (no_count part after counted plain none (sym (ap (λ s. s ++ after) (escaped_none part none)) ∙ sym is ∙ begins))
-    | inr some ↦
-      let both : 95 ∷ counted ≡ 95 ∷ ((decimal (underscores part) ++ part) ++ after) = sym begins ∙ is ∙ ap (λ s. s ++ after) (escaped_some part some) in
-      let inner : counted ≡ (decimal (underscores part) ++ part) ++ after = cc in
-      (some, inner ∙ append_assoc (decimal (underscores part)) part after) ]
+      | inl none ↦ absurd (no_count part after counted plain none (sym (ap (λ s. s ++ after) (escaped_none part none)) ∙ sym is ∙ begins))
+      | inr some ↦
+          let both : 95 ∷ counted ≡ 95 ∷ ((decimal (underscores part) ++ part) ++ after) = sym begins ∙ is ∙ ap (λ s. s ++ after) (escaped_some part some) in
+          let inner : counted ≡ (decimal (underscores part) ++ part) ++ after = cc in
+          (some, inner ∙ append_assoc (decimal (underscores part)) part after)
+    ]
 
 few_there : (part counted after : List ℕ) → counted ≡ decimal (underscores part) ++ (part ++ after) → length counted < 2 ^ 64 → underscores part < 2 ^ 64
 few_there part counted after is short =

@@ -78,6 +78,8 @@ fn read_part<'a>(
     ensures reads { IfOk result (IsFirstPart text.now) }
     ensures shrinks { IfOk result (λ answer. IfSome answer (λ read. length (behind read.1) ≤ length text.now)) }
 {
+    // A length fits a `usize`, and so does the number of underscores in a part.
+    let _length = text.len();
     match text.strip_prefix('_') {
         None => take_part(alloc, 0, text),
         Some(counted) => match read_count(counted) {
