@@ -1,7 +1,6 @@
 -- What the steps that read a mangled name find: digits, pieces, a part, and the parts that are left.
 use denote.Ref.{Bor}
-use Rattle.std.proofs.Common.{◌≡◌, ◌≢◌, ℕ, zero, suc, ◌+◌, ◌<◌, ◌≤◌, ◌^◌, Bool, true, false, cond, ◌==◌, List, [], ◌∷◌, ◌++◌, length, get_or, take, drop, codes, decimal, Option, Some, None, IsUtf8, IsCharBoundary, ◌⊎◌, inl, inr, refl, sym, ap, ap₂, subst, ◌∙◌, arith, append_assoc, append-nil, length-append, add-one, rules, Result, Ok, Err, IfOk}
-use Rattle.std.specs.Prelude.{⊤}
+use Rattle.std.proofs.Common.{◌≡◌, ◌≢◌, ℕ, zero, suc, ◌+◌, ◌<◌, ◌≤◌, ◌^◌, true, false, cond, ◌==◌, List, [], ◌∷◌, ◌++◌, length, get_or, take, drop, codes, decimal, Option, Some, None, IsUtf8, IsCharBoundary, inl, inr, refl, sym, ap, ap₂, subst, ◌∙◌, arith, append_assoc, append-nil, length-append, add-one, rules, Result, Ok, Err, IfOk}
 use Rattle.std.specs.List.{AllByRecursion, prefix_len}
 use Rattle.std.specs.Char.{is_ascii_digit}
 use Rattle.std.specs.Str.{all_ascii_digits}
@@ -10,7 +9,7 @@ use Rattle.std.proofs.lemmas.Str.{IsCharBoundary-start, IsCharBoundary-after_asc
 use Rattle.std.proofs.lemmas.List.Sums.{prefix_len-le-length, prefix_len_passes, count_by-le-length}
 use Rattle.std.proofs.lemmas.Fmt.{digits_decimal}
 use Rattle.wesl_resolve.specs.Mangling.{underscores, escaped, escaped_parts}
-use Rattle.wesl_resolve.specs.Unmangling.{BeginsNoDigit, IsPlainName, Ends, behind, IsRead, IsFirstPart, IsCutAfter, IsCounted, IsFirstCount}
+use Rattle.wesl_resolve.specs.Unmangling.{BeginsNoDigit, IsPlainName, Ends, behind, IsRead, IsFirstPart, IsCutAfter, IsFirstCount}
 use Rattle.wesl_resolve.proofs.Reading.{one, underscores_cons, underscores_append, decimal_model, first_digit, more_digits, behind_Ends, parts_Ends, same_cut, escaped_none, escaped_some, no_count, none_or_some, plain_before}
 
 pub none_there : (bs : List ℕ) → ((i : ℕ) → i < length bs → get_or bs i 0 ≢ 95) → underscores bs ≡ 0

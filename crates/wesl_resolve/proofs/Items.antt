@@ -1,16 +1,15 @@
 -- A mangled name is its parts, each behind `_`; an item is its parts.
 use denote.Ref.{Bor}
-use Rattle.std.proofs.Common.{◌≡◌, ◌≢◌, Option, Some, None, ℕ, suc, ◌+◌, ◌<◌, ◌≤◌, ◌^◌, List, [], ◌∷◌, ◌++◌, length, codes, All, refl, sym, ap, ap₂, subst, ◌∙◌, arith, append_assoc}
-use Rattle.std.specs.Prelude.{⊤}
-use Rattle.std.specs.List.{flat_map, AllByRecursion}
+use Rattle.std.proofs.Common.{◌≡◌, Option, Some, ℕ, suc, ◌≤◌, ◌^◌, List, [], ◌∷◌, ◌++◌, length, refl, sym, ap, ap₂, ◌∙◌, arith, append_assoc}
+use Rattle.std.specs.List.{AllByRecursion}
 use Rattle.std.proofs.lemmas.List.{same_from_push}
 use Rattle.std.proofs.lemmas.Grind.{flat_map-append}
 use Rattle.std.proofs.lemmas.List.Elements.{recursion_from_All}
 use Rattle.wgsl_path.specs.declared.path.PathOrigin.{PathOrigin}
 use Rattle.wgsl_path.specs.declared.path.PathOrigin.TheVariants.{Absolute, Relative, Package}
 use Rattle.wgsl_path.specs.declared.path.ModulePath.{ModulePath}
-use Rattle.wesl_resolve.specs.Mangling.{underscores, escaped, escaped_parts, mangled, mangled_origin}
-use Rattle.wesl_resolve.specs.Unmangling.{BeginsNoDigit, IsPlainName, IsPlainOrigin, IsPlainItem, IsParts, IsFirstPart, IsRead, Ends, origin_name, parts_of}
+use Rattle.wesl_resolve.specs.Mangling.{escaped, escaped_parts, mangled, mangled_origin}
+use Rattle.wesl_resolve.specs.Unmangling.{IsPlainName, IsPlainOrigin, IsPlainItem, IsParts, IsFirstPart, IsRead, origin_name, parts_of}
 use Rattle.wesl_resolve.specs.Laws.{MangledOnce}
 use Rattle.wesl_resolve.proofs.Reading.{same_parts, parts_Ends}
 

@@ -1,4 +1,4 @@
-use Rattle.std.proofs.Common.{◌≡◌, None, Some, lit<}
+use Rattle.std.proofs.Common.{None, Some, lit<}
 use Rattle.std.proofs.lemmas.Str.Pattern.{split_parts}
 use Rattle.wesl_resolve.proofs.Cutting.{none_there}
 use Rattle.wesl_resolve.proofs.unmangle.first_piece.Goals as goal

@@ -1,4 +1,4 @@
-use Rattle.std.proofs.Common.{◌≡◌, IsCharBoundary, Ok, Err, sym, subst}
+use Rattle.std.proofs.Common.{◌≡◌, IsCharBoundary, sym, subst}
 use Rattle.std.proofs.lemmas.Fmt.{parse-decimal}
 use Rattle.wesl_resolve.proofs.Cutting.{digits_cut, digit_boundary}
 use Rattle.wesl_resolve.proofs.unmangle.read_count.Goals as goal

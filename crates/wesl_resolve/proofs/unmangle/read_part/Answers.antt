@@ -1,4 +1,4 @@
-use Rattle.std.proofs.Common.{◌≡◌, ◌<◌, ◌^◌, List, ℕ, length, None, Some, lit<, ap, arith}
+use Rattle.std.proofs.Common.{◌<◌, ◌^◌, length, None, Some, lit<, ap, arith}
 use Rattle.std.proofs.lemmas.Str.Pattern.{strip_prefix_char}
 use Rattle.wesl_resolve.specs.Unmangling.{IsFirstPart, IsCutAfter}
 use Rattle.wesl_resolve.proofs.Cutting.{weaker, first_plain, first_uncounted, first_counted}

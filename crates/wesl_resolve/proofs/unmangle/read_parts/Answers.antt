@@ -1,5 +1,5 @@
 use denote.Ref.{Bor}
-use Rattle.std.proofs.Common.{◌≡◌, List, [], ◌∷◌, ◌++◌, ℕ, Option, None, Some, ap, sym, subst}
+use Rattle.std.proofs.Common.{List, ℕ, Option, Some, ap, sym, subst}
 use Rattle.wesl_resolve.specs.Unmangling.{IsFirstPart, behind}
 use Rattle.wesl_resolve.proofs.Cutting.{AreLeft, no_more, one_more, all_done}
 use Rattle.wesl_resolve.proofs.unmangle.read_parts.Goals as goal

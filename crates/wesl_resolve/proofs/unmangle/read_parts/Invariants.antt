@@ -1,4 +1,4 @@
-use Rattle.std.proofs.Common.{◌≡◌, ◌<◌, List, ℕ, length}
+use Rattle.std.proofs.Common.{◌≡◌, List, ℕ, length}
 use Rattle.std.specs.List.{AllByRecursion}
 use Rattle.wesl_resolve.specs.Mangling.{escaped_parts}
 use Rattle.wesl_resolve.specs.Unmangling.{IsPlainName, behind}

@@ -1,6 +1,6 @@
 use denote.Ref.{Bor}
-use Rattle.std.proofs.Common.{◌≡◌, List, [], ◌∷◌, ◌++◌, ℕ, Option, None, Some, ap, sym, subst, ◌∙◌}
-use Rattle.wesl_resolve.specs.Unmangling.{IsFirstPart, IsRead, IsParts, behind, origin_name}
+use Rattle.std.proofs.Common.{◌≡◌, List, [], ◌∷◌, ◌++◌, ℕ, Option, subst}
+use Rattle.wesl_resolve.specs.Unmangling.{IsRead, behind, origin_name}
 use Rattle.wesl_resolve.specs.Mangling.{escaped_parts}
 use Rattle.wesl_resolve.proofs.Items.{first_named, rest_named, some_behind, whole_item}
 use Rattle.wesl_resolve.proofs.mangle.EscapeMangler.unmangle.Goals as goal
