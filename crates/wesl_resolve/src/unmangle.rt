@@ -22,7 +22,8 @@ use wgsl_items::{Items, Text};
 use wgsl_path::{ModulePath, PathOrigin};
 
 impl EscapeMangler {
-    /// The module and the item that a name was mangled from. A path that is relative does not come back.
+    /// The module and the item that a name was mangled from. They come back where the path is not relative, its package
+    /// is not called `package`, and no name is empty or begins with an ASCII digit.
     pub fn unmangle(
         &self,
         alloc: Global,
