@@ -8,3 +8,4 @@ pub mod Assembling
 pub mod Printed
 pub mod Renaming
 pub mod Resolved
+pub mod Clashing

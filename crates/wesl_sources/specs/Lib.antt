@@ -3,3 +3,4 @@ pub mod Modules
 pub mod Names
 pub mod Rounds
 pub mod Linked
+pub mod Loaded
