@@ -11,3 +11,4 @@ pub mod LinkLemmas
 pub mod OrderLemmas
 pub mod ResolvedLemmas
 pub mod AssembleLemmas
+pub mod ClashLemmas
