@@ -12,3 +12,4 @@ pub mod OrderLemmas
 pub mod ResolvedLemmas
 pub mod AssembleLemmas
 pub mod ClashLemmas
+pub mod SharedLemmas
