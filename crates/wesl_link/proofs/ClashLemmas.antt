@@ -35,11 +35,11 @@ kept true a t e = refl
 kept false a t e = e
 
 -- what stands twice stands
-twice_among : (x : Name) (ns : List Name) → (is_among x ns || is_twice x ns) ≡ is_among x ns
+pub twice_among : (x : Name) (ns : List Name) → (is_among x ns || is_twice x ns) ≡ is_among x ns
 twice_among x [] = refl
 twice_among x (y ∷ ns) = kept (bytes_eq x y) (is_among x ns) (is_twice x ns) (twice_among x ns)
 
-known_if : (a t : Bool) → a ≡ is_some (if a then Some t else None)
+pub known_if : (a t : Bool) → a ≡ is_some (if a then Some t else None)
 known_if true t = refl
 known_if false t = refl
 

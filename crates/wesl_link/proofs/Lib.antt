@@ -13,3 +13,4 @@ pub mod ResolvedLemmas
 pub mod AssembleLemmas
 pub mod ClashLemmas
 pub mod SharedLemmas
+pub mod MeansLemmas

@@ -139,6 +139,9 @@ module _ (h : ℕ → Option Name) (y : Name) where
       (or_cases (is_among y (names_of (h place)) && is_among y (names_among h (place + 1) ds)) (is_twice y (names_of (h place)) || is_twice y (names_among h (place + 1) ds))
       (sym (twice_append y (names_of (h place)) (names_among h (place + 1) ds)) ∙ e))
 
+from_zero : (h : ℕ → Option Name) (y : Name) (k : ℕ) → h k ≡ Some y → h (0 + k) ≡ Some y
+from_zero h y k e = let n : 0 + k ≡ k = omega arith in ap h n ∙ e
+
 -- ---- in the loaded modules
 
 abbrev pub Entry : Type 0
@@ -155,31 +158,45 @@ module _ (held : HeldNames) (y : Name) where
   of_one e = names_in (held_at held) (home_of e.1)
 
   here_among : (e : Entry) (k : ℕ) → NamedAt held y e k → is_among y (of_one e) ≡ true
-  here_among e k n = among_at (held_at held (string_bytes e.1.text)) y 0 (unit_tree e.1.unit).declarations k n.declaration n.stands n.named
+  here_among e k n = among_at (held_at held (string_bytes e.1.text)) y 0 (unit_tree e.1.unit).declarations k n.declaration n.stands (from_zero (held_at held (string_bytes e.1.text)) y k n.named)
 
   pub among_of : (es : List Entry) (i : ℕ) (e : Entry) (k : ℕ) → slice_get es i ≡ Some e → NamedAt held y e k → is_among y (held_names held es) ≡ true
   among_of [] i e k at n = absurd (cc)
   among_of (f ∷ es) zero e k at n = let same : f ≡ e = cc in among_first y (of_one f) (held_names held es) (here_among f k (subst (λ g. NamedAt held y g k) (sym same) n))
   among_of (f ∷ es) (suc i) e k at n = among_second y (of_one f) (held_names held es) (among_of es i e k at n)
 
+  two_here : (g : Entry) (k l : ℕ) → NamedAt held y g k → NamedAt held y g l → (k ≡ l → ⊥) → is_twice y (of_one g) ≡ true
+  two_here g k l m p apart =
+      twice_at (held_at held (string_bytes g.1.text)) y 0 (unit_tree g.1.unit).declarations k l m.declaration p.declaration m.stands p.stands apart
+      (from_zero (held_at held (string_bytes g.1.text)) y k m.named) (from_zero (held_at held (string_bytes g.1.text)) y l p.named)
+
+  the_entry : (g e : Entry) → Some g ≡ Some e → e ≡ g
+  the_entry g e same = cc
+
+  moved : (g e : Entry) (k : ℕ) → Some g ≡ Some e → NamedAt held y e k → NamedAt held y g k
+  moved g e k same n = subst (λ t. NamedAt held y t k) (the_entry g e same) n
+
+  here_and_there : (g : Entry) (es : List Entry) (j : ℕ) (f : Entry) (k l : ℕ) → NamedAt held y g k → slice_get es j ≡ Some f → NamedAt held y f l
+      → is_twice y (held_names held (g ∷ es)) ≡ true
+  here_and_there g es j f k l n on o = twice_both y (of_one g) (held_names held es) (here_among g k n) (among_of es j f l on o)
+
+  both_here : (g : Entry) (es : List Entry) (k l : ℕ) → NamedAt held y g k → NamedAt held y g l → (k ≡ l → ⊥) → is_twice y (held_names held (g ∷ es)) ≡ true
+  both_here g es k l n o apart = twice_first y (of_one g) (held_names held es) (two_here g k l n o apart)
+
+  abbrev Apart : ℕ → ℕ → ℕ → ℕ → Type 0
+  Apart i j k l = i ≡ j → k ≡ l → ⊥
+
   pub twice_of : (es : List Entry) (i j : ℕ) (e f : Entry) (k l : ℕ) → slice_get es i ≡ Some e → slice_get es j ≡ Some f → NamedAt held y e k → NamedAt held y f l
-      → (i ≡ j → k ≡ l → ⊥) → is_twice y (held_names held es) ≡ true
+      → Apart i j k l → is_twice y (held_names held es) ≡ true
   twice_of [] i j e f k l at on n o apart = absurd (cc)
-  twice_of (g ∷ es) zero zero e f k l at on n o apart =
-      let first : e ≡ g = cc in
-      let second : f ≡ g = cc in
-      let m : NamedAt held y g k = subst (λ t. NamedAt held y t k) first n in
-      let p : NamedAt held y g l = subst (λ t. NamedAt held y t l) second o in
-      twice_first y (of_one g) (held_names held es)
-      (twice_at (held_at held (string_bytes g.1.text)) y 0 (unit_tree g.1.unit).declarations k l m.declaration p.declaration m.stands p.stands (apart refl) m.named p.named)
-  twice_of (g ∷ es) zero (suc j) e f k l at on n o apart =
-      let first : e ≡ g = cc in
-      twice_both y (of_one g) (held_names held es) (here_among g k (subst (λ t. NamedAt held y t k) first n)) (among_of es j f l on o)
-  twice_of (g ∷ es) (suc i) zero e f k l at on n o apart =
-      let second : f ≡ g = cc in
-      twice_both y (of_one g) (held_names held es) (here_among g l (subst (λ t. NamedAt held y t l) second o)) (among_of es i e k at n)
-  twice_of (g ∷ es) (suc i) (suc j) e f k l at on n o apart =
-      twice_second y (of_one g) (held_names held es) (twice_of es i j e f k l at on n o (λ same. apart (ap suc same)))
+  twice_of (g ∷ es) i j e f k l at on n o apart = by i j at on apart (λ a b first second other. twice_of es a b e f k l first second n o other)
+    where
+      by : (i j : ℕ) → slice_get (g ∷ es) i ≡ Some e → slice_get (g ∷ es) j ≡ Some f → Apart i j k l
+          → ((a b : ℕ) → slice_get es a ≡ Some e → slice_get es b ≡ Some f → Apart a b k l → is_twice y (held_names held es) ≡ true) → is_twice y (held_names held (g ∷ es)) ≡ true
+      by zero zero at on apart more = both_here g es k l (moved g e k at n) (moved g f l on o) (apart refl)
+      by zero (suc j) at on apart more = here_and_there g es j f k l (moved g e k at n) on o
+      by (suc i) zero at on apart more = here_and_there g es i e l k (moved g f l on o) at n
+      by (suc i) (suc j) at on apart more = twice_second y (of_one g) (held_names held es) (more i j at on (λ same. apart (ap suc same)))
 
   -- a place of one of the modules that has the name
   pub record Placed (es : List Entry) : Type 0 where
@@ -189,7 +206,7 @@ module _ (held : HeldNames) (y : Name) where
     pub stands : slice_get es index ≡ Some entry
     pub named : held_at held (string_bytes entry.1.text) place ≡ Some y
 
-  later : (e : Entry) (es : List Entry) → Placed es → Placed (e ∷ es)
+  abbrev later : (e : Entry) (es : List Entry) → Placed es → Placed (e ∷ es)
   later e es p = record { index = suc p.index; entry = p.entry; place = p.place; stands = p.stands; named = p.named }
 
   pub placed : (es : List Entry) → is_among y (held_names held es) ≡ true → Placed es
@@ -216,10 +233,11 @@ module _ (held : HeldNames) (y : Name) where
         let b = and_both (is_among y (of_one f)) (is_among y (held_names held es)) both in
         let r = at_among (held_at held (string_bytes f.1.text)) y 0 (unit_tree f.1.unit).declarations b.0 in
         let p = placed es b.1 in
+        let less : 0 < suc p.index = omega arith in
         record {
           one = record { index = zero; entry = f; place = r.0; stands = refl; named = r.2 };
           other = later f es p;
-          apart = inl (omega arith);
+          apart = inl less;
         })
       (λ one.
         ⊎_elim
