@@ -14,3 +14,4 @@ pub mod AssembleLemmas
 pub mod ClashLemmas
 pub mod SharedLemmas
 pub mod MeansLemmas
+pub mod FirstLemmas

@@ -48,7 +48,7 @@ printed_as : {modules : Modules} {root : Path} {s : Symbol} {y : Name} → IsPri
 printed_as (stays {x}) = inl (refl, refl)
 printed_as (is_mangled {s} {path} {u} other stands home) = inr (path, u, other, stands, home, refl)
 
-some_of : (o : Option Name) → IsSome o → (y : Name) × (o ≡ Some y)
+pub some_of : (o : Option Name) → IsSome o → (y : Name) × (o ≡ Some y)
 some_of None is = absurd (cc)
 some_of (Some y) is = (y, refl)
 
@@ -193,13 +193,13 @@ module _ (ms : LoadedModules) (root : Path) (keep : List Name) (held : HeldNames
         (subst (λ h. StandsAt (modules_of ms) h s.place t.other) (sym home) (subst (λ k. StandsAt (modules_of ms) t.other.home k t.other) (sym place) o.at))))
 
   -- the symbol at a place that is held
-  record Symbolic (m : Path) (k : ℕ) (y : Name) : Type 0 where
+  pub record Symbolic (m : Path) (k : ℕ) (y : Name) : Type 0 where
     pub symbol : Symbol
     pub at : StandsAt (modules_of ms) m k symbol
     pub held_there : Reached (modules_of ms) root keep symbol
     pub printed : IsPrinted (modules_of ms) root symbol y
 
-  symbolic : (m : Path) (k : ℕ) (y : Name) → held_at held m k ≡ Some y → Symbolic m k y
+  pub symbolic : (m : Path) (k : ℕ) (y : Name) → held_at held m k ≡ Some y → Symbolic m k y
   symbolic m k y e =
       let t = reached_there (modules_of ms) (loaded ms) finds root keep (r.sound m k (is_some_of (held_at held m k) y e)) in
       record { symbol = t.0; at = t.1; held_there = t.2; printed = r.named m k t.0 y t.1 e }

@@ -86,7 +86,7 @@ module _ (ms : LoadedModules) (keyed : IsKeyed ms) (ordered : IsOrdered string_c
   abbrev Entries : List Entry → Type 0
   Entries es = (i : ℕ) (e : Entry) → slice_get es i ≡ Some e → (j : ℕ) × (slice_get ms.entries j ≡ Some e)
 
-  printed_keys : (es : List Entry) → Entries es → map (λ m. path_text m.0) (map path_and_unit es) ≡ texts_of es
+  pub printed_keys : (es : List Entry) → Entries es → map (λ m. path_text m.0) (map path_and_unit es) ≡ texts_of es
   printed_keys [] each = refl
   printed_keys (e ∷ es) each = let p = each 0 e refl in λ k. key_is p.0 e p.1 k ∷ printed_keys es (λ i d is. each (suc i) d is) k
 
@@ -103,7 +103,7 @@ module _ (ms : LoadedModules) (keyed : IsKeyed ms) (ordered : IsOrdered string_c
       less [] a = a
       less (d ∷ ds) a = (a.0, less ds a.1)
 
-  all_there : (es : List Entry) → Entries es → (p : Path) → Contains (texts_of es) p → (m : Path × Unit) × (loaded ms p ≡ Some m)
+  pub all_there : (es : List Entry) → Entries es → (p : Path) → Contains (texts_of es) p → (m : Path × Unit) × (loaded ms p ≡ Some m)
   all_there es each p c =
       let at = from_contains (texts_of es) p c in
       let e = map_get (λ (e : Entry). string_bytes e.0) es at.0 p at.1 in
