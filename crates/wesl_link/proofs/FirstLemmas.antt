@@ -22,7 +22,7 @@ use Rattle.wesl_link.specs.Reach.{Holding, Settled}
 use Rattle.wesl_link.specs.Closing.{HeldNames, held_at}
 use Rattle.wesl_link.specs.Assembling.{printed_of, without}
 use Rattle.wesl_link.specs.Resolved.{LoadedModules, modules_of, IsResolved}
-use Rattle.wesl_link.specs.Clashing.{or_else, first_some, Sharing, sharing_in, held_names, is_shared, name_clash, own_clash, names_clash, declaration_clash, held_clash, clash_among, module_clash, clash_at, others_clash, unit_clash}
+use Rattle.wesl_link.specs.Clashing.{or_else, first_some, Sharing, sharing_in, held_names, is_shared, name_clash, own_clash, names_clash, declaration_clash, held_clash, clash_among, module_clash, clash_at, others_clash, unit_clash, Judges}
 use Rattle.wesl_link.proofs.ScopeLemmas.{to_contains, from_contains, map_get, get_map, append_left, append_right, append_cases, value_means}
 use Rattle.wesl_link.proofs.ReachLemmas.{found_unit, same_place, there_reached, reached_held, stands_there}
 use Rattle.wesl_link.proofs.LinkLemmas.{one_symbol}
@@ -432,3 +432,7 @@ module _ (ms : LoadedModules) (root : Path) (keep : List Name) (held : HeldNames
           all_free s d reached is (occurs [] x) (⊎_elim (λ l. before_mention d x l) (λ l. behind_mention d x l) (either_in (names_before d) (names_behind d) x c)) y (occurrence q);
       inside = λ s d x y reached is c q. all_free s d reached is (occurs (locals d) x) (body_mention d x c) y (occurrence q);
     }
+
+  pub judged : (o : Option Name) → o ≡ unit_clash ms held root → Judges (modules_of ms) root keep o
+  judged (Some y) e = first_clash y (sym e)
+  judged None e = clash_free (sym e)

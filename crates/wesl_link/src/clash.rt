@@ -1,16 +1,17 @@
 //! Names of the linked unit that are read otherwise than meant.
 
-ghost use Rattle.std.specs.Prelude.{◌≡◌, [], None, IfOk, OnOk, if◌then◌else◌, ◌++◌, string_bytes};
+ghost use Rattle.std.specs.Prelude.{◌≡◌, List, [], None, IfOk, OnOk, if◌then◌else◌, ◌++◌, string_bytes};
 ghost use Rattle.std.specs.BTreeMap.{IsOrdered};
 ghost use Rattle.std.specs.Str.{bytes_eq};
 ghost use Rattle.std.specs.String.{string_cmp};
 ghost use Rattle.wgsl_syntax.specs.View.{declaration_tree};
-ghost use Rattle.wesl_sources.specs.Occurrences.{locals};
+ghost use Rattle.wesl_sources.specs.Occurrences.{Name, locals};
 ghost use Rattle.wesl_link.specs.Clashing as spec;
-ghost use Rattle.wesl_link.specs.Clashing.{sharing_at, sharing_in};
+ghost use Rattle.wesl_link.specs.Clashing.{sharing_at, sharing_in, Judges};
 ghost use Rattle.wesl_link.specs.Closing.{held_at};
 ghost use Rattle.wesl_link.specs.Outcomes.{loaded, home_of};
 ghost use Rattle.wesl_link.specs.Printed.{printed_in};
+ghost use Rattle.wesl_link.specs.Resolved.{modules_of, IsResolved};
 ghost use Rattle.wesl_link.specs.Scopes.{texts};
 
 use crate::denote::Symbol;
@@ -31,7 +32,16 @@ impl Resolutions {
     /// The first name of the linked unit, in its order, that two symbols share or that plain scoping reads otherwise than
     /// meant.
     pub fn names_clash(&self, alloc: Global) -> Result<Option<Text>, AllocError>
-        ensures first { IfOk result (λ clash. clash ≡ spec.unit_clash self.now.modules self.now.held (string_bytes self.now.root)) }
+        ensures whole { IfOk result (λ clash. clash ≡ spec.unit_clash self.now.modules self.now.held (string_bytes self.now.root)) }
+        ensures first { IfOk result (λ clash. (keep : List Name) → IsResolved self.now.modules (string_bytes self.now.root) keep self.now.held → Judges (modules_of self.now.modules) (string_bytes self.now.root) keep clash) }
+    {
+        let clash = self.unit_clash(alloc)?;
+        Ok(clash)
+    }
+
+    fn unit_clash(&self, alloc: Global) -> Result<Option<Text>, AllocError>
+        ensures whole { IfOk result (λ clash. clash ≡ spec.unit_clash self.now.modules self.now.held (string_bytes self.now.root)) }
+        ensures ordered { IfOk result (λ clash. IsOrdered string_cmp self.now.modules) }
     {
         let names = self.held_names(alloc)?;
         let sharing = sharing_of(alloc, names.as_slice())?;
@@ -44,7 +54,8 @@ impl Resolutions {
 
     /// The names in the linked unit of all held symbols.
     fn held_names<'a>(&'a self, alloc: Global) -> Result<Vec<&'a str>, AllocError>
-        ensures { IfOk result (λ found. texts found.items ≡ spec.held_names self.now.held self.now.modules.entries) }
+        ensures names { IfOk result (λ found. texts found.items ≡ spec.held_names self.now.held self.now.modules.entries) }
+        ensures ordered { IfOk result (λ found. IsOrdered string_cmp self.now.modules) }
     {
         let mut found = Vec::new(alloc);
         for (_, module) in &self.modules {

@@ -1,7 +1,6 @@
 use Rattle.std.proofs.Common.{ℕ, List, []}
 use denote.Ref.{Bor}
 use Rattle.wesl_link.proofs.ClashLemmas.{shared_step}
-use Rattle.wesl_link.proofs.FirstLemmas.{clash_free}
 use Rattle.wesl_link.proofs.clash.sharing_of.Goals as goal
 
 pub loop-name-preserved : goal.loop-name-preserved
