@@ -15,3 +15,7 @@ pub mod FollowLemmas
 pub mod StageLemmas
 pub mod PresentLemmas
 pub mod RoundLemmas
+pub mod ClashLemmas
+pub mod SharedLemmas
+pub mod MeansLemmas
+pub mod FirstLemmas

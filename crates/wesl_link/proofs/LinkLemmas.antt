@@ -27,7 +27,7 @@ not_same x y e same = let yes : bytes_eq x y ≡ true = subst (λ t. bytes_eq x 
 
 module _ (modules : Modules) (find : Loaded) (finder : IsFinder modules find) (root : Path) (held : Holding) (names : NamesHeld modules root held) where
   -- two symbols at one place are one
-  one_symbol : (p : Path) (i : ℕ) (s t : Symbol) → StandsAt modules p i s → StandsAt modules p i t → s ≡ t
+  pub one_symbol : (p : Path) (i : ℕ) (s t : Symbol) → StandsAt modules p i s → StandsAt modules p i t → s ≡ t
   one_symbol p i s t at on =
       let unit : (p, on.unit) ≡ (p, at.unit) = found_unit modules find finder p at.unit (p, on.unit) at.is_module (finder.finds p on.unit on.is_module) in
       let there : slice_get at.unit.declarations i ≡ Some on.declaration = subst (λ (h : Path × Unit). slice_get h.1.declarations i ≡ Some on.declaration) unit on.stands in
@@ -93,7 +93,7 @@ module _ (modules : Modules) (find : Loaded) (finder : IsFinder modules find) (r
     abbrev ideal : Name → Name
     ideal x = ideal_of m.0 x (outcome find m x) (tells modules find finder m here x)
 
-    free_outcome : (x : Name) → IsFree modules m.0 x → outcome find m x ≡ free
+    pub free_outcome : (x : Name) → IsFree modules m.0 x → outcome find m x ≡ free
     free_outcome x is = at (known m.1 x) refl
       where
         unit : m ≡ (m.0, is.unit)

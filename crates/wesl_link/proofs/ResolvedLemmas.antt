@@ -44,13 +44,13 @@ found_one (Some v) m e = let same : home_of v ≡ m = cc in (v, refl, same)
 
 module _ (ms : LoadedModules) (keyed : IsKeyed ms) (ordered : IsOrdered string_cmp ms) where
   -- an entry is what is found at its key
-  found_entry : (i : ℕ) (k : String Global) (v : Module) → slice_get ms.entries i ≡ Some (k, v) → get_by_text ms (string_bytes k) ≡ Some v
+  pub found_entry : (i : ℕ) (k : String Global) (v : Module) → slice_get ms.entries i ≡ Some (k, v) → get_by_text ms (string_bytes k) ≡ Some v
   found_entry i k v is = btree_map_get_place string_cmp_total ms i k v ordered is
 
-  key_is : (i : ℕ) (e : Entry) → slice_get ms.entries i ≡ Some e → path_text e.1.path ≡ string_bytes e.0
+  pub key_is : (i : ℕ) (e : Entry) → slice_get ms.entries i ≡ Some e → path_text e.1.path ≡ string_bytes e.0
   key_is i e is = sym e.1.printed ∙ keyed (string_bytes e.0) e.1 (found_entry i e.0 e.1 is)
 
-  found_home : (i : ℕ) (e : Entry) → slice_get ms.entries i ≡ Some e → loaded ms (string_bytes e.0) ≡ Some (home_of e.1)
+  pub found_home : (i : ℕ) (e : Entry) → slice_get ms.entries i ≡ Some e → loaded ms (string_bytes e.0) ≡ Some (home_of e.1)
   found_home i e is = ap (option_map home_of) (found_entry i e.0 e.1 is)
 
   pub finder : IsFinder (modules_of ms) (loaded ms)
@@ -86,7 +86,7 @@ module _ (ms : LoadedModules) (keyed : IsKeyed ms) (ordered : IsOrdered string_c
   abbrev Entries : List Entry → Type 0
   Entries es = (i : ℕ) (e : Entry) → slice_get es i ≡ Some e → (j : ℕ) × (slice_get ms.entries j ≡ Some e)
 
-  printed_keys : (es : List Entry) → Entries es → map (λ m. path_text m.0) (map path_and_unit es) ≡ texts_of es
+  pub printed_keys : (es : List Entry) → Entries es → map (λ m. path_text m.0) (map path_and_unit es) ≡ texts_of es
   printed_keys [] each = refl
   printed_keys (e ∷ es) each = let p = each 0 e refl in λ k. key_is p.0 e p.1 k ∷ printed_keys es (λ i d is. each (suc i) d is) k
 
@@ -94,7 +94,7 @@ module _ (ms : LoadedModules) (keyed : IsKeyed ms) (ordered : IsOrdered string_c
   all_less x [] a = a
   all_less x (k ∷ ks) a = (a.0, all_less x ks a.1)
 
-  sorted_texts : (es : List Entry) → IsStrictlySortedBy string_cmp (map (λ e. e.0) es) → IsStrictlySortedBy (slice_cmp nat_cmp) (texts_of es)
+  pub sorted_texts : (es : List Entry) → IsStrictlySortedBy string_cmp (map (λ e. e.0) es) → IsStrictlySortedBy (slice_cmp nat_cmp) (texts_of es)
   unfolding IsStrictlySortedBy
   sorted_texts [] s = s
   sorted_texts (e ∷ es) s = (less es s.0, sorted_texts es s.1)
@@ -103,7 +103,7 @@ module _ (ms : LoadedModules) (keyed : IsKeyed ms) (ordered : IsOrdered string_c
       less [] a = a
       less (d ∷ ds) a = (a.0, less ds a.1)
 
-  all_there : (es : List Entry) → Entries es → (p : Path) → Contains (texts_of es) p → (m : Path × Unit) × (loaded ms p ≡ Some m)
+  pub all_there : (es : List Entry) → Entries es → (p : Path) → Contains (texts_of es) p → (m : Path × Unit) × (loaded ms p ≡ Some m)
   all_there es each p c =
       let at = from_contains (texts_of es) p c in
       let e = map_get (λ (e : Entry). string_bytes e.0) es at.0 p at.1 in

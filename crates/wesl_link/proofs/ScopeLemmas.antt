@@ -51,7 +51,7 @@ pub append_right : {X : Type 0} (xs ys : List X) (i : ℕ) (x : X) → slice_get
 append_right [] ys i x is = (i, is)
 append_right (y ∷ xs) ys i x is = let r = append_right xs ys i x is in (suc r.0, r.1)
 
-append_cases : {X : Type 0} (xs ys : List X) (i : ℕ) (x : X) → slice_get (xs ++ ys) i ≡ Some x → ((j : ℕ) × (slice_get xs j ≡ Some x)) ⊎ ((j : ℕ) × (slice_get ys j ≡ Some x))
+pub append_cases : {X : Type 0} (xs ys : List X) (i : ℕ) (x : X) → slice_get (xs ++ ys) i ≡ Some x → ((j : ℕ) × (slice_get xs j ≡ Some x)) ⊎ ((j : ℕ) × (slice_get ys j ≡ Some x))
 append_cases [] ys i x is = inr (i, is)
 append_cases (y ∷ xs) ys zero x is = inl (zero, is)
 append_cases (y ∷ xs) ys (suc i) x is = ⊎_elim (λ l. inl (suc l.0, l.1)) (λ r. inr r) (append_cases xs ys i x is)

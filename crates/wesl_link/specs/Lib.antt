@@ -10,3 +10,4 @@ pub mod Renaming
 pub mod Resolved
 pub mod Following
 pub mod Stages
+pub mod Clashing

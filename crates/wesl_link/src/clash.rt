@@ -1,8 +1,22 @@
 //! Names of the linked unit that are read otherwise than meant.
 
-use crate::assemble::HeldModule;
+ghost use Rattle.std.specs.Prelude.{◌≡◌, List, [], None, IfOk, OnOk, if◌then◌else◌, ◌++◌, string_bytes};
+ghost use Rattle.std.specs.BTreeMap.{IsOrdered};
+ghost use Rattle.std.specs.Str.{bytes_eq};
+ghost use Rattle.std.specs.String.{string_cmp};
+ghost use Rattle.wgsl_syntax.specs.View.{declaration_tree};
+ghost use Rattle.wesl_sources.specs.Occurrences.{Name, locals};
+ghost use Rattle.wesl_link.specs.Clashing as spec;
+ghost use Rattle.wesl_link.specs.Clashing.{sharing_at, sharing_in, Judges};
+ghost use Rattle.wesl_link.specs.Closing.{held_at};
+ghost use Rattle.wesl_link.specs.Outcomes.{loaded, home_of};
+ghost use Rattle.wesl_link.specs.Printed.{printed_in};
+ghost use Rattle.wesl_link.specs.Resolved.{modules_of, IsResolved};
+ghost use Rattle.wesl_link.specs.Scopes.{texts};
+
+use crate::denote::Symbol;
 use crate::module::Module;
-use crate::naming::printed;
+use crate::naming::{held_name, printed};
 use crate::occurrence::{names_before, names_behind, names_in_body};
 use crate::rounds::Resolutions;
 use crate::scope::Scope;
@@ -17,33 +31,142 @@ type Sharing<'a> = BTreeMap<&'a str, bool>;
 impl Resolutions {
     /// The first name of the linked unit, in its order, that two symbols share or that plain scoping reads otherwise than
     /// meant.
-    pub fn names_clash(&self, alloc: Global) -> Result<Option<Text>, AllocError> {
-        let modules = self.held_modules(alloc)?;
-        let sharing = sharing_of(alloc, modules.as_slice())?;
-        for held in modules.as_slice() {
-            if let Some(name) = self.clash_in(alloc, &sharing, *held)? {
-                return Ok(Some(name));
+    pub fn names_clash(&self, alloc: Global) -> Result<Option<Text>, AllocError>
+        ensures whole { IfOk result (λ clash. clash ≡ spec.unit_clash self.now.modules self.now.held (string_bytes self.now.root)) }
+        ensures first { IfOk result (λ clash. (keep : List Name) → IsResolved self.now.modules (string_bytes self.now.root) keep self.now.held → Judges (modules_of self.now.modules) (string_bytes self.now.root) keep clash) }
+    {
+        let clash = self.unit_clash(alloc)?;
+        Ok(clash)
+    }
+
+    fn unit_clash(&self, alloc: Global) -> Result<Option<Text>, AllocError>
+        ensures whole { IfOk result (λ clash. clash ≡ spec.unit_clash self.now.modules self.now.held (string_bytes self.now.root)) }
+        ensures ordered { IfOk result (λ clash. IsOrdered string_cmp self.now.modules) }
+    {
+        let names = self.held_names(alloc)?;
+        let sharing = sharing_of(alloc, names.as_slice())?;
+        let clash = self.clash_in_root(alloc, &sharing)?;
+        if clash.is_some() {
+            return Ok(clash);
+        }
+        self.clash_in_others(alloc, &sharing)
+    }
+
+    /// The names in the linked unit of all held symbols.
+    fn held_names<'a>(&'a self, alloc: Global) -> Result<Vec<&'a str>, AllocError>
+        ensures names { IfOk result (λ found. texts found.items ≡ spec.held_names self.now.held self.now.modules.entries) }
+        ensures ordered { IfOk result (λ found. IsOrdered string_cmp self.now.modules) }
+    {
+        let mut found = Vec::new(alloc);
+        for (_, module) in &self.modules {
+            self.add_names(module, &mut found)?;
+        }
+        Ok(found)
+    }
+
+    fn add_names<'a>(
+        &'a self,
+        module: &'a Module,
+        found: &mut Vec<&'a str>,
+    ) -> Result<(), AllocError>
+        ensures { OnOk result (texts found.new.items ≡ texts found.old.items ++ spec.names_in (held_at self.now.held) (home_of «module».now)) }
+    {
+        for (place, _) in module
+            .unit
+            .global_declarations
+            .as_slice()
+            .iter()
+            .enumerate()
+        {
+            if let Some(name) = held_name(&self.held, Symbol { module, place }) {
+                found.push(name)?;
+            }
+        }
+        Ok(())
+    }
+
+    fn clash_in_root(
+        &self,
+        alloc: Global,
+        sharing: &Sharing<'_>,
+    ) -> Result<Option<Text>, AllocError>
+        ensures { IfOk result (λ clash. clash ≡ spec.clash_at (sharing_at sharing.now) (loaded self.now.modules) (held_at self.now.held) (loaded self.now.modules (string_bytes self.now.root))) }
+    {
+        match self.modules.get(self.root.as_str()) {
+            None => Ok(None),
+            Some(root) => self.clash_in(alloc, sharing, root),
+        }
+    }
+
+    fn clash_in_others(
+        &self,
+        alloc: Global,
+        sharing: &Sharing<'_>,
+    ) -> Result<Option<Text>, AllocError>
+        ensures { IfOk result (λ clash. clash ≡ spec.others_clash (sharing_at sharing.now) self.now.modules self.now.held (string_bytes self.now.root) self.now.modules.entries) }
+    {
+        for (text, module) in &self.modules {
+            let clash = self.clash_in_other(alloc, sharing, text.as_str(), module)?;
+            if clash.is_some() {
+                return Ok(clash);
             }
         }
         Ok(None)
+    }
+
+    fn clash_in_other(
+        &self,
+        alloc: Global,
+        sharing: &Sharing<'_>,
+        text: &str,
+        module: &Module,
+    ) -> Result<Option<Text>, AllocError>
+        ensures { IfOk result (λ clash. clash ≡ (if bytes_eq text.now (string_bytes self.now.root) then None else spec.module_clash (sharing_at sharing.now) (loaded self.now.modules) (held_at self.now.held) (home_of «module».now))) }
+    {
+        if text == self.root.as_str() {
+            return Ok(None);
+        }
+        self.clash_in(alloc, sharing, module)
     }
 
     fn clash_in(
         &self,
         alloc: Global,
         sharing: &Sharing<'_>,
-        held: HeldModule<'_>,
-    ) -> Result<Option<Text>, AllocError> {
-        for (place, name) in held.places {
-            let Some(declaration) = held.module.declaration(*place) else {
-                continue;
-            };
-            let clash = self.clash_of(alloc, sharing, held.module, declaration, name.as_str())?;
+        module: &Module,
+    ) -> Result<Option<Text>, AllocError>
+        ensures { IfOk result (λ clash. clash ≡ spec.module_clash (sharing_at sharing.now) (loaded self.now.modules) (held_at self.now.held) (home_of «module».now)) }
+    {
+        for (place, node) in module
+            .unit
+            .global_declarations
+            .as_slice()
+            .iter()
+            .enumerate()
+        {
+            let symbol = Symbol { module, place };
+            let clash = self.clash_of_held(alloc, sharing, symbol, node.node())?;
             if clash.is_some() {
                 return Ok(clash);
             }
         }
         Ok(None)
+    }
+
+    /// The first name that clashes in a declaration, if it is held.
+    fn clash_of_held(
+        &self,
+        alloc: Global,
+        sharing: &Sharing<'_>,
+        symbol: Symbol<'_>,
+        declaration: &GlobalDeclaration,
+    ) -> Result<Option<Text>, AllocError>
+        ensures { IfOk result (λ clash. clash ≡ spec.held_clash (sharing_at sharing.now) (printed_in self.now.held self.now.modules symbol.entry.«module».now) (held_at self.now.held (string_bytes symbol.entry.«module».now.text) symbol.entry.place) (declaration_tree declaration.now)) }
+    {
+        match held_name(&self.held, symbol) {
+            None => Ok(None),
+            Some(name) => self.clash_of(alloc, sharing, symbol.module, declaration, name),
+        }
     }
 
     /// The first name that clashes in a declaration: in its attributes, its own, then the others.
@@ -54,7 +177,9 @@ impl Resolutions {
         module: &Module,
         declaration: &GlobalDeclaration,
         name: &str,
-    ) -> Result<Option<Text>, AllocError> {
+    ) -> Result<Option<Text>, AllocError>
+        ensures { IfOk result (λ clash. clash ≡ spec.declaration_clash (sharing_at sharing.now) (printed_in self.now.held self.now.modules «module».now) name.now (declaration_tree declaration.now)) }
+    {
         let outside = Scope::module(alloc);
         let before = names_before(alloc, declaration)?;
         let clash = self.first_clash(alloc, sharing, module, &outside, before.as_slice())?;
@@ -81,43 +206,58 @@ impl Resolutions {
         module: &Module,
         scope: &Scope<'_>,
         names: &[&str],
-    ) -> Result<Option<Text>, AllocError> {
-        for occurring in names.iter().copied() {
-            let clashing = match printed(self, module, occurring) {
-                Some(name) => {
-                    if is_shared(sharing, name) || scope.hides(name) {
-                        Some(name)
-                    } else {
-                        None
-                    }
+    ) -> Result<Option<Text>, AllocError>
+        ensures { IfOk result (λ clash. clash ≡ spec.names_clash (sharing_at sharing.now) (printed_in self.now.held self.now.modules «module».now) scope.now (texts names.now)) }
+    {
+        for name in names {
+            let clash = self.clash_of_name(alloc, sharing, module, scope, name)?;
+            if clash.is_some() {
+                return Ok(clash);
+            }
+        }
+        Ok(None)
+    }
+
+    /// The name as which an occurrence clashes: the printed name of what it denotes, or its own where it is free.
+    fn clash_of_name(
+        &self,
+        alloc: Global,
+        sharing: &Sharing<'_>,
+        module: &Module,
+        scope: &Scope<'_>,
+        occurring: &str,
+    ) -> Result<Option<Text>, AllocError>
+        ensures { IfOk result (λ clash. clash ≡ spec.name_clash (sharing_at sharing.now) scope.now (printed_in self.now.held self.now.modules «module».now occurring.now) occurring.now) }
+    {
+        match printed(self, module, occurring) {
+            Some(name) => {
+                if is_shared(sharing, name) || scope.hides(name) {
+                    return Ok(Some(Text::from_str(alloc, name)?));
                 }
-                None => {
-                    if sharing.contains_key(occurring) {
-                        Some(occurring)
-                    } else {
-                        None
-                    }
+            }
+            None => {
+                if sharing.contains_key(occurring) {
+                    return Ok(Some(Text::from_str(alloc, occurring)?));
                 }
-            };
-            if let Some(name) = clashing {
-                return Ok(Some(Text::from_str(alloc, name)?));
             }
         }
         Ok(None)
     }
 }
 
-fn is_shared(sharing: &Sharing<'_>, name: &str) -> bool {
+fn is_shared(sharing: &Sharing<'_>, name: &str) -> bool
+    ensures { result ≡ spec.is_shared (sharing_at sharing.now) name.now }
+{
     sharing.get(name).copied().unwrap_or(false)
 }
 
-fn sharing_of<'a>(alloc: Global, modules: &[HeldModule<'a>]) -> Result<Sharing<'a>, AllocError> {
+fn sharing_of<'a>(alloc: Global, names: &[&'a str]) -> Result<Sharing<'a>, AllocError>
+    ensures { IfOk result (λ sharing. sharing_at sharing ≡ sharing_in (texts names.now)) }
+{
     let mut sharing = Sharing::new(alloc);
-    for held in modules {
-        for name in held.places.values() {
-            let is_there = sharing.contains_key(name.as_str());
-            sharing.insert(name.as_str(), is_there)?;
-        }
+    for name in names {
+        let is_there = sharing.contains_key(*name);
+        sharing.insert(*name, is_there)?;
     }
     Ok(sharing)
 }
@@ -126,7 +266,9 @@ fn sharing_of<'a>(alloc: Global, modules: &[HeldModule<'a>]) -> Result<Sharing<'
 fn scope_of<'a>(
     alloc: Global,
     declaration: &'a GlobalDeclaration,
-) -> Result<Scope<'a>, AllocError> {
+) -> Result<Scope<'a>, AllocError>
+    ensures { IfOk result (λ scope. scope ≡ locals (declaration_tree declaration.now)) }
+{
     match declaration {
         GlobalDeclaration::Declaration(_) => Ok(Scope::module(alloc)),
         GlobalDeclaration::Function(function) => Scope::body(alloc, function.parameters.as_slice()),

@@ -4,3 +4,4 @@ pub mod Names
 pub mod Rounds
 pub mod Linked
 pub mod Loaded
+pub mod Clashing

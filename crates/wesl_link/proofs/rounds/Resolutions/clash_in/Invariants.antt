@@ -1,0 +1,14 @@
+use Rattle.std.proofs.Common.{◌≡◌, drop}
+use Rattle.std.specs.Prelude.{string_bytes}
+use Rattle.wesl_link.specs.Clashing.{clash_among, sharing_at}
+use Rattle.wesl_link.specs.Closing.{held_at}
+use Rattle.wesl_link.specs.Printed.{printed_in}
+use Rattle.wesl_link.specs.Resolved.{declaration_trees}
+use Rattle.wesl_link.proofs.rounds.Resolutions.clash_in.Given as goal
+
+abbrev pub invariant-loop-place : goal.invariant-loop-place
+invariant-loop-place l =
+    clash_among (sharing_at l.sharing) (printed_in l.self.held l.self.modules l.«module») (held_at l.self.held (string_bytes l.«module».text)) l.place
+    (declaration_trees (drop l.place l.«module».unit.global_declarations))
+    ≡ clash_among (sharing_at l.sharing) (printed_in l.self.held l.self.modules l.«module») (held_at l.self.held (string_bytes l.«module».text)) 0
+    (declaration_trees l.«module».unit.global_declarations)

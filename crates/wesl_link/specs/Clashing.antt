@@ -1,0 +1,119 @@
+-- The first name of the linked unit that is read otherwise than meant, by the tables that linking keeps.
+use Rattle.std.specs.Prelude.{◌≡◌, ℕ, ◌+◌, List, [], ◌∷◌, ◌++◌, map, Option, Some, None, Bool, true, false, ◌||◌, ◌&&◌, if◌then◌else◌, is_some, string_bytes}
+use Rattle.std.specs.Option.{unwrap_or}
+use Rattle.std.specs.Str.{bytes_eq}
+use Rattle.std.specs.List.{flat_map}
+use Rattle.std.specs.Ordering.{nat_cmp}
+use Rattle.std.specs.Cmp.Lexicographic.{slice_cmp}
+use Rattle.std.specs.BTreeMap.{BTreeMap, get_by}
+use Rattle.std.specs.declared.string.String.{String}
+use Rattle.std.specs.declared.alloc.Global.{Global}
+use denote.Ref.{Bor}
+use Rattle.wgsl_syntax.specs.Tree.{Decl, Unit}
+use Rattle.wesl_sources.specs.Occurrences.{Name, is_among, names_before, names_behind, names_in_body, locals}
+use Rattle.wesl_sources.specs.Modules.{Path, Modules}
+use Rattle.wesl_sources.specs.Loaded.{IsClashFree}
+use Rattle.wesl_sources.specs.Clashing.{IsFirstClash}
+use Rattle.wesl_link.specs.declared.module.Module.{Module}
+use Rattle.wesl_link.specs.Outcomes.{Loaded, outcome, loaded, home_of}
+use Rattle.wesl_link.specs.Reach.{Holding}
+use Rattle.wesl_link.specs.Closing.{HeldNames, held_at}
+use Rattle.wesl_link.specs.Assembling.{printed_of}
+use Rattle.wesl_link.specs.Resolved.{LoadedModules}
+
+-- ---- the first
+
+abbrev pub or_else : Option Name → Option Name → Option Name
+or_else (Some y) o = Some y
+or_else None o = o
+
+abbrev pub first_some : {A : Type 0} → (A → Option Name) → List A → Option Name
+first_some f [] = None
+first_some f (x ∷ xs) = or_else (f x) (first_some f xs)
+
+-- ---- the names of what is held
+
+abbrev pub names_of : Option Name → List Name
+names_of (Some y) = y ∷ []
+names_of None = []
+
+-- the names of what is held among these declarations, where the first stands at this place
+abbrev pub names_among : (ℕ → Option Name) → ℕ → List Decl → List Name
+names_among held place [] = []
+names_among held place (d ∷ ds) = names_of (held place) ++ names_among held (place + 1) ds
+
+abbrev pub names_in : Holding → Path × Unit → List Name
+names_in held m = names_among (held m.0) 0 m.1.declarations
+
+-- the names of all that is held
+abbrev pub held_names : HeldNames → List (String Global × Module) → List Name
+held_names held es = flat_map (λ e. names_in (held_at held) (home_of e.1)) es
+
+-- whether a name stands twice
+abbrev pub is_twice : Name → List Name → Bool
+is_twice x [] = false
+is_twice x (y ∷ ys) = (bytes_eq x y && is_among x ys) || is_twice x ys
+
+-- of each name that something held has, whether more has it
+abbrev pub Sharing : Type 0
+Sharing = Name → Option Bool
+
+abbrev pub sharing_in : List Name → Sharing
+sharing_in names x = if is_among x names then Some (is_twice x names) else None
+
+-- what a table keeps of it
+abbrev pub sharing_at : BTreeMap (Bor (List ℕ)) Bool → Sharing
+sharing_at table x = get_by (λ k. slice_cmp nat_cmp x k.now) table
+
+-- ---- what clashes
+
+module _ (sharing : Sharing) where
+  abbrev pub is_shared : Name → Bool
+  is_shared y = unwrap_or (sharing y) false
+
+  -- a name that denotes what is held under a printed name, or that is free, where these locals are in scope
+  abbrev pub name_clash : List Name → Option Name → Name → Option Name
+  name_clash locals (Some y) x = if is_shared y || is_among y locals then Some y else None
+  name_clash locals None x = if is_some (sharing x) then Some x else None
+
+  abbrev pub own_clash : Name → Option Name
+  own_clash y = if is_shared y then Some y else None
+
+  module _ (printed : Name → Option Name) where
+    abbrev pub names_clash : List Name → List Name → Option Name
+    names_clash locals xs = first_some (λ x. name_clash locals (printed x) x) xs
+
+    -- in a declaration with this printed name: before its name, its name, behind it, in its body
+    abbrev pub declaration_clash : Name → Decl → Option Name
+    declaration_clash y d =
+        or_else (names_clash [] (names_before d)) (or_else (own_clash y) (or_else (names_clash [] (names_behind d)) (names_clash (locals d) (names_in_body d))))
+
+    abbrev pub held_clash : Option Name → Decl → Option Name
+    held_clash (Some y) d = declaration_clash y d
+    held_clash None d = None
+
+    -- in what is held among these declarations, where the first stands at this place
+    abbrev pub clash_among : (ℕ → Option Name) → ℕ → List Decl → Option Name
+    clash_among held place [] = None
+    clash_among held place (d ∷ ds) = or_else (held_clash (held place) d) (clash_among held (place + 1) ds)
+
+  abbrev pub module_clash : Loaded → Holding → Path × Unit → Option Name
+  module_clash find held m = clash_among (λ x. printed_of held (outcome find m x)) (held m.0) 0 m.1.declarations
+
+  abbrev pub clash_at : Loaded → Holding → Option (Path × Unit) → Option Name
+  clash_at find held (Some m) = module_clash find held m
+  clash_at find held None = None
+
+  -- in the modules but the root's
+  abbrev pub others_clash : LoadedModules → HeldNames → Path → List (String Global × Module) → Option Name
+  others_clash ms held root es = first_some (λ e. if bytes_eq (string_bytes e.0) root then None else module_clash (loaded ms) (held_at held) (home_of e.1)) es
+
+-- in what is held in the loaded modules: the root's first
+abbrev pub unit_clash : LoadedModules → HeldNames → Path → Option Name
+unit_clash ms held root =
+    or_else (clash_at (sharing_in (held_names held ms.entries)) (loaded ms) (held_at held) (loaded ms root)) (others_clash (sharing_in (held_names held ms.entries)) ms held root ms.entries)
+
+-- what an answer says: the first name that is read otherwise than meant, or that there is none
+abbrev pub Judges : Modules → Path → List Name → Option Name → Type 0
+Judges modules root keep (Some y) = IsFirstClash modules root keep y
+Judges modules root keep None = IsClashFree modules root keep
