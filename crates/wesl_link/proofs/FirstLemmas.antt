@@ -166,14 +166,14 @@ mention_of d a c =
     ⊎_elim
     (λ first. among_occurs d [] (names_before d) a (before_occurs d) first)
     (λ rest.
-      ⊎_elim
-      (λ same. subst (IsOf d) same refl)
-      (λ more.
-        ⊎_elim
-        (λ second. among_occurs d [] (names_behind d) a (behind_occurs d) second)
-        (λ third. among_occurs d (locals d) (names_in_body d) a (body_occurs d) third)
-        (either_in (map (occurs []) (names_behind d)) (map (occurs (locals d)) (names_in_body d)) a more))
-      (in_cases (declares (declared_name d)) behind a rest))
+    ⊎_elim
+    (λ same. subst (IsOf d) same refl)
+    (λ more.
+    ⊎_elim
+    (λ second. among_occurs d [] (names_behind d) a (behind_occurs d) second)
+    (λ third. among_occurs d (locals d) (names_in_body d) a (body_occurs d) third)
+    (either_in (map (occurs []) (names_behind d)) (map (occurs (locals d)) (names_in_body d)) a more))
+    (in_cases (declares (declared_name d)) behind a rest))
     (either_in (map (occurs []) (names_before d)) (declares (declared_name d) ∷ behind) a c)
 
 before_mention : (d : Decl) (x : Name) → Contains (names_before d) x → Contains (mentions d) (occurs [] x)

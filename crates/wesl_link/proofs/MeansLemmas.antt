@@ -126,10 +126,10 @@ module _ (ms : LoadedModules) (root : Path) (keep : List Name) (held : HeldNames
       ⊎_elim
       (λ here. ⊎_elim (λ there. here.1 ∙ sym there.1) (λ there. absurd (there.2 here.0)) (printed_as q))
       (λ here.
-        ⊎_elim
-        (λ there. absurd (here.2 there.0))
-        (λ there. here.5 ∙ ap (λ p. mangled p s.name) (one_path here.0 there.0 here.1 there.1 here.3 there.3 (here.4 ∙ sym there.4)) ∙ sym there.5)
-        (printed_as q))
+      ⊎_elim
+      (λ there. absurd (here.2 there.0))
+      (λ there. here.5 ∙ ap (λ p. mangled p s.name) (one_path here.0 there.0 here.1 there.1 here.3 there.3 (here.4 ∙ sym there.4)) ∙ sym there.5)
+      (printed_as q))
       (printed_as p)
 
   -- where a held symbol stands, its printed name is held
@@ -187,10 +187,10 @@ module _ (ms : LoadedModules) (root : Path) (keep : List Name) (held : HeldNames
       let o = standing t.other y t.other_held t.other_printed in
       twice_of held y ms.entries s.index o.index s.entry o.entry s.place o.place s.there o.there s.named o.named
       (λ index place.
-        let entry : s.entry ≡ o.entry = same_entry s.index o.index s.entry o.entry s.there o.there index in
-        let home : t.one.home ≡ t.other.home = sym s.text ∙ ap (λ (e : Entry). string_bytes e.1.text) entry ∙ o.text in
-        t.differ (one_symbol (modules_of ms) (loaded ms) finds root (held_at held) r.named t.one.home s.place t.one t.other s.at
-        (subst (λ h. StandsAt (modules_of ms) h s.place t.other) (sym home) (subst (λ k. StandsAt (modules_of ms) t.other.home k t.other) (sym place) o.at))))
+      let entry : s.entry ≡ o.entry = same_entry s.index o.index s.entry o.entry s.there o.there index in
+      let home : t.one.home ≡ t.other.home = sym s.text ∙ ap (λ (e : Entry). string_bytes e.1.text) entry ∙ o.text in
+      t.differ (one_symbol (modules_of ms) (loaded ms) finds root (held_at held) r.named t.one.home s.place t.one t.other s.at
+      (subst (λ h. StandsAt (modules_of ms) h s.place t.other) (sym home) (subst (λ k. StandsAt (modules_of ms) t.other.home k t.other) (sym place) o.at))))
 
   -- the symbol at a place that is held
   pub record Symbolic (m : Path) (k : ℕ) (y : Name) : Type 0 where
@@ -222,16 +222,16 @@ module _ (ms : LoadedModules) (root : Path) (keep : List Name) (held : HeldNames
             let texts : string_bytes p.one.entry.1.text ≡ string_bytes p.other.entry.1.text = sym s.at.home ∙ ap (λ (x : Symbol). x.home) same ∙ t.at.home in
             ⊎_elim
             (λ less.
-              texts_apart (map (λ (e : Entry). string_bytes e.0) ms.entries) (sorted_texts ms r.keyed ordered ms.entries ordered) p.one.index p.other.index _ _ less
-              (get_map (λ (e : Entry). string_bytes e.0) ms.entries p.one.index p.one.entry p.one.stands)
-              (get_map (λ (e : Entry). string_bytes e.0) ms.entries p.other.index p.other.entry p.other.stands)
-              (sym (key_text p.one.index p.one.entry p.one.stands) ∙ texts ∙ key_text p.other.index p.other.entry p.other.stands))
+            texts_apart (map (λ (e : Entry). string_bytes e.0) ms.entries) (sorted_texts ms r.keyed ordered ms.entries ordered) p.one.index p.other.index _ _ less
+            (get_map (λ (e : Entry). string_bytes e.0) ms.entries p.one.index p.one.entry p.one.stands)
+            (get_map (λ (e : Entry). string_bytes e.0) ms.entries p.other.index p.other.entry p.other.stands)
+            (sym (key_text p.one.index p.one.entry p.one.stands) ∙ texts ∙ key_text p.other.index p.other.entry p.other.stands))
             (λ both.
-              let place : p.other.place ≡ p.one.place =
-                  same_place (modules_of ms) (loaded ms) finds (string_bytes p.one.entry.1.text) p.one.place p.other.place s.symbol t.at.unit t.at.declaration s.at
-                  (subst (λ m. IsModule (modules_of ms) m t.at.unit) (sym texts) t.at.is_module) t.at.stands (sym t.at.name ∙ sym (ap (λ (x : Symbol). x.name) same)) in
-              let less : p.one.place < p.other.place = both.1 in
-              absurd (omega (arith, place, less)))
+            let place : p.other.place ≡ p.one.place =
+            same_place (modules_of ms) (loaded ms) finds (string_bytes p.one.entry.1.text) p.one.place p.other.place s.symbol t.at.unit t.at.declaration s.at
+            (subst (λ m. IsModule (modules_of ms) m t.at.unit) (sym texts) t.at.is_module) t.at.stands (sym t.at.name ∙ sym (ap (λ (x : Symbol). x.name) same)) in
+            let less : p.one.place < p.other.place = both.1 in
+            absurd (omega (arith, place, less)))
             p.apart;
         one_held = s.held_there;
         other_held = t.held_there;

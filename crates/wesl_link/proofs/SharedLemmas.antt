@@ -131,10 +131,10 @@ module _ (h : ℕ → Option Name) (y : Name) where
   at_twice place (d ∷ ds) e =
       ⊎_elim
       (λ both.
-        let b = and_both (is_among y (names_of (h place))) (is_among y (names_among h (place + 1) ds)) both in
-        let r = at_among (place + 1) ds b.1 in
-        let less : place < r.0 = omega (arith, r.1) in
-        (place, r.0, less, own_is (h place) b.0, r.2))
+      let b = and_both (is_among y (names_of (h place))) (is_among y (names_among h (place + 1) ds)) both in
+      let r = at_among (place + 1) ds b.1 in
+      let less : place < r.0 = omega (arith, r.1) in
+      (place, r.0, less, own_is (h place) b.0, r.2))
       (λ one. ⊎_elim (λ own. absurd (own_once (h place) own)) (λ rest. at_twice (place + 1) ds rest) (or_cases (is_twice y (names_of (h place))) (is_twice y (names_among h (place + 1) ds)) one))
       (or_cases (is_among y (names_of (h place)) && is_among y (names_among h (place + 1) ds)) (is_twice y (names_of (h place)) || is_twice y (names_among h (place + 1) ds))
       (sym (twice_append y (names_of (h place)) (names_among h (place + 1) ds)) ∙ e))
@@ -214,8 +214,8 @@ module _ (held : HeldNames) (y : Name) where
   placed (f ∷ es) e =
       ⊎_elim
       (λ here.
-        let r = at_among (held_at held (string_bytes f.1.text)) y 0 (unit_tree f.1.unit).declarations here in
-        record { index = zero; entry = f; place = r.0; stands = refl; named = r.2 })
+      let r = at_among (held_at held (string_bytes f.1.text)) y 0 (unit_tree f.1.unit).declarations here in
+      record { index = zero; entry = f; place = r.0; stands = refl; named = r.2 })
       (λ rest. later f es (placed es rest))
       (or_cases (is_among y (of_one f)) (is_among y (held_names held es)) (sym (among_append y (of_one f) (held_names held es)) ∙ e))
 
@@ -230,31 +230,31 @@ module _ (held : HeldNames) (y : Name) where
   placed_twice (f ∷ es) e =
       ⊎_elim
       (λ both.
-        let b = and_both (is_among y (of_one f)) (is_among y (held_names held es)) both in
-        let r = at_among (held_at held (string_bytes f.1.text)) y 0 (unit_tree f.1.unit).declarations b.0 in
-        let p = placed es b.1 in
-        let less : 0 < suc p.index = omega arith in
-        record {
-          one = record { index = zero; entry = f; place = r.0; stands = refl; named = r.2 };
-          other = later f es p;
-          apart = inl less;
-        })
+      let b = and_both (is_among y (of_one f)) (is_among y (held_names held es)) both in
+      let r = at_among (held_at held (string_bytes f.1.text)) y 0 (unit_tree f.1.unit).declarations b.0 in
+      let p = placed es b.1 in
+      let less : 0 < suc p.index = omega arith in
+      record {
+        one = record { index = zero; entry = f; place = r.0; stands = refl; named = r.2 };
+        other = later f es p;
+        apart = inl less;
+      })
       (λ one.
-        ⊎_elim
-        (λ here.
-          let r = at_twice (held_at held (string_bytes f.1.text)) y 0 (unit_tree f.1.unit).declarations here in
-          record {
-            one = record { index = zero; entry = f; place = r.0; stands = refl; named = r.3 };
-            other = record { index = zero; entry = f; place = r.1; stands = refl; named = r.4 };
-            apart = inr (refl, r.2);
-          })
-        (λ rest.
-          let p = placed_twice es rest in
-          record {
-            one = later f es p.one;
-            other = later f es p.other;
-            apart = ⊎_elim (λ less. inl (omega (arith, less))) (λ same. inr same) p.apart;
-          })
-        (or_cases (is_twice y (of_one f)) (is_twice y (held_names held es)) one))
+      ⊎_elim
+      (λ here.
+      let r = at_twice (held_at held (string_bytes f.1.text)) y 0 (unit_tree f.1.unit).declarations here in
+      record {
+        one = record { index = zero; entry = f; place = r.0; stands = refl; named = r.3 };
+        other = record { index = zero; entry = f; place = r.1; stands = refl; named = r.4 };
+        apart = inr (refl, r.2);
+      })
+      (λ rest.
+      let p = placed_twice es rest in
+      record {
+        one = later f es p.one;
+        other = later f es p.other;
+        apart = ⊎_elim (λ less. inl (omega (arith, less))) (λ same. inr same) p.apart;
+      })
+      (or_cases (is_twice y (of_one f)) (is_twice y (held_names held es)) one))
       (or_cases (is_among y (of_one f) && is_among y (held_names held es)) (is_twice y (of_one f) || is_twice y (held_names held es))
       (sym (twice_append y (of_one f) (held_names held es)) ∙ e))

@@ -263,10 +263,7 @@ fn sharing_of<'a>(alloc: Global, names: &[&'a str]) -> Result<Sharing<'a>, Alloc
 }
 
 /// The scope of a declaration's body.
-fn scope_of<'a>(
-    alloc: Global,
-    declaration: &'a GlobalDeclaration,
-) -> Result<Scope<'a>, AllocError>
+fn scope_of<'a>(alloc: Global, declaration: &'a GlobalDeclaration) -> Result<Scope<'a>, AllocError>
     ensures { IfOk result (λ scope. scope ≡ locals (declaration_tree declaration.now)) }
 {
     match declaration {

@@ -5,9 +5,10 @@ use Rattle.wgsl_syntax.specs.View.{unit_tree}
 use Rattle.weslc_unit.proofs.printed.is_text_of.Goals as goal
 
 pub returns-in-Ok-clause-read : goal.returns-in-Ok-clause-read
-returns-in-Ok-clause-read c =
-    ((λ t. (c.in-Ok.parsed, c.in-Ok.ensures.tree, c.is_same_unit.ensures.0 t)),
-     (λ m. c.is_same_unit.ensures.1 (sym (ap unit_tree (c.in-Ok.ensures.only m.0 m.1)) ∙ m.2)))
+returns-in-Ok-clause-read c = (
+  (λ t. (c.in-Ok.parsed, c.in-Ok.ensures.tree, c.is_same_unit.ensures.0 t)),
+  (λ m. c.is_same_unit.ensures.1 (sym (ap unit_tree (c.in-Ok.ensures.only m.0 m.1)) ∙ m.2)),
+)
 
 pub returns-in_default-kind : goal.returns-in_default-kind
 returns-in_default-kind c = record {
