@@ -7,7 +7,6 @@ use Rattle.std.specs.Option.{IsSome}
 use Rattle.std.specs.List.{Contains}
 use Rattle.std.specs.BTreeMap.{IsOrdered}
 use Rattle.wgsl_syntax.specs.Tree.{Decl, Unit}
-use Rattle.wgsl_syntax.specs.View.{unit_tree}
 use Rattle.wgsl_path.specs.declared.path.ModulePath.{ModulePath}
 use Rattle.wgsl_path.specs.Paths.{path_text}
 use Rattle.wesl_sources.specs.Occurrences.{Name, names_before, names_behind, names_in_body, locals, occurrences, declared_name}
@@ -16,9 +15,8 @@ use Rattle.wesl_sources.specs.Names.{IsPrinted}
 use Rattle.wesl_sources.specs.Linked.{IsInOrder, IsShared, Clashes}
 use Rattle.wesl_sources.specs.Loaded.{IsClashFree}
 use Rattle.wesl_sources.specs.Clashing.{IsFirst, Mention, occurs, declares, mentions, MentionClashes, occurrence, own, DeclarationClashes, ModuleClashes, IsFirstClash}
-use Rattle.wesl_link.specs.Outcomes.{Loaded, loaded, home_of, outcome, meant_as}
+use Rattle.wesl_link.specs.Outcomes.{loaded, home_of, outcome, meant_as}
 use Rattle.wesl_link.specs.Tells.{IsFinder, StandsAt}
-use Rattle.wesl_link.specs.Reach.{Holding, Settled}
 use Rattle.wesl_link.specs.Closing.{HeldNames, held_at}
 use Rattle.wesl_link.specs.Assembling.{printed_of, without}
 use Rattle.wesl_link.specs.Resolved.{LoadedModules, modules_of, IsResolved}
