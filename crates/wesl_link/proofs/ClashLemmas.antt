@@ -1,5 +1,5 @@
 -- The names that several held symbols have, one more at a time.
-use Rattle.std.proofs.Common.{◌≡◌, refl, sym, ap, ◌∙◌, subst, ℕ, ◌+◌, ◌<◌, List, [], ◌∷◌, ◌++◌, take, get_or, length, map, Bool, true, false, ◌||◌, ◌&&◌, cond, Option, Some, None}
+use Rattle.std.proofs.Common.{◌≡◌, refl, sym, ap, ◌∙◌, subst, ℕ, ◌+◌, ◌<◌, List, [], ◌∷◌, ◌++◌, take, get_or, length, Bool, true, false, ◌||◌, ◌&&◌, cond, Some, None}
 use Rattle.std.specs.Prelude.{if◌then◌else◌, is_some}
 use Rattle.std.specs.Str.{bytes_eq}
 use Rattle.std.specs.Ordering.{nat_cmp}
@@ -11,7 +11,7 @@ use Rattle.std.proofs.lemmas.List.Folds.{list_any-append}
 use denote.Ref.{Bor}
 use Rattle.wesl_sources.specs.Occurrences.{Name, is_among}
 use Rattle.wesl_link.specs.Scopes.{texts}
-use Rattle.wesl_link.specs.Clashing.{is_twice, Sharing, sharing_in, sharing_at}
+use Rattle.wesl_link.specs.Clashing.{is_twice, sharing_in, sharing_at}
 use Rattle.wesl_link.proofs.ScopeLemmas.{same_name, self_name}
 
 turned : (y n a t : Bool) → ((y && (a || (n || false))) || ((n && a) || t)) ≡ ((n && (y || a)) || ((y && a) || t))

@@ -1,5 +1,5 @@
 -- The first name that clashes, by the tables, is the first by the definitions.
-use Rattle.std.proofs.Common.{◌≡◌, ◌≢◌, refl, sym, ap, ◌∙◌, subst, ℕ, zero, suc, ◌+◌, ◌<◌, ◌⊎◌, inl, inr, ⊎_elim, List, [], ◌∷◌, ◌++◌, map, Bool, true, false, Option, Some, None, arith}
+use Rattle.std.proofs.Common.{◌≡◌, ◌↔◌, refl, sym, ap, ◌∙◌, subst, ℕ, zero, suc, ◌+◌, ◌⊎◌, inl, inr, ⊎_elim, List, [], ◌∷◌, ◌++◌, map, Bool, true, false, Option, Some, None, arith}
 use Rattle.std.specs.Prelude.{if◌then◌else◌, slice_get, string_bytes}
 use Rattle.std.specs.Str.{bytes_eq}
 use Rattle.std.specs.String.{string_cmp}
@@ -7,7 +7,6 @@ use Rattle.std.specs.Option.{IsSome}
 use Rattle.std.specs.List.{Contains}
 use Rattle.std.specs.BTreeMap.{IsOrdered}
 use Rattle.wgsl_syntax.specs.Tree.{Decl, Unit}
-use Rattle.wgsl_syntax.specs.View.{unit_tree}
 use Rattle.wgsl_path.specs.declared.path.ModulePath.{ModulePath}
 use Rattle.wgsl_path.specs.Paths.{path_text}
 use Rattle.wesl_sources.specs.Occurrences.{Name, names_before, names_behind, names_in_body, locals, occurrences, declared_name}
@@ -16,13 +15,12 @@ use Rattle.wesl_sources.specs.Names.{IsPrinted}
 use Rattle.wesl_sources.specs.Linked.{IsInOrder, IsShared, Clashes}
 use Rattle.wesl_sources.specs.Loaded.{IsClashFree}
 use Rattle.wesl_sources.specs.Clashing.{IsFirst, Mention, occurs, declares, mentions, MentionClashes, occurrence, own, DeclarationClashes, ModuleClashes, IsFirstClash}
-use Rattle.wesl_link.specs.Outcomes.{Loaded, loaded, home_of, outcome, meant_as}
+use Rattle.wesl_link.specs.Outcomes.{loaded, home_of, outcome, meant_as}
 use Rattle.wesl_link.specs.Tells.{IsFinder, StandsAt}
-use Rattle.wesl_link.specs.Reach.{Holding, Settled}
 use Rattle.wesl_link.specs.Closing.{HeldNames, held_at}
 use Rattle.wesl_link.specs.Assembling.{printed_of, without}
 use Rattle.wesl_link.specs.Resolved.{LoadedModules, modules_of, IsResolved}
-use Rattle.wesl_link.specs.Clashing.{or_else, first_some, Sharing, sharing_in, held_names, is_shared, name_clash, own_clash, names_clash, declaration_clash, held_clash, clash_among, module_clash, clash_at, others_clash, unit_clash, Judges}
+use Rattle.wesl_link.specs.Clashing.{or_else, first_some, Sharing, sharing_in, held_names, is_shared, name_clash, own_clash, names_clash, declaration_clash, held_clash, clash_among, module_clash, clash_at, others_clash, unit_clash}
 use Rattle.wesl_link.proofs.ScopeLemmas.{to_contains, from_contains, map_get, get_map, append_left, append_right, append_cases, value_means}
 use Rattle.wesl_link.proofs.ReachLemmas.{found_unit, same_place, there_reached, reached_held, stands_there}
 use Rattle.wesl_link.proofs.LinkLemmas.{one_symbol}
@@ -433,6 +431,53 @@ module _ (ms : LoadedModules) (root : Path) (keep : List Name) (held : HeldNames
       inside = λ s d x y reached is c q. all_free s d reached is (occurs (locals d) x) (body_mention d x c) y (occurrence q);
     }
 
-  pub judged : (o : Option Name) → o ≡ unit_clash ms held root → Judges (modules_of ms) root keep o
-  judged (Some y) e = first_clash y (sym e)
-  judged None e = clash_free (sym e)
+-- ---- where something clashes first, something clashes
+
+first_has : {A : Type 0} {C : A → Name → Type 0} {xs : List A} {y : Name} (f : IsFirst C xs y) → Contains xs f.one
+first_has {xs} f = subst (λ l. Contains l f.one) (sym f.whole) (right_in f.before (f.one ∷ f.behind) f.one (first_in f.one f.behind))
+
+module _ (modules : Modules) (root : Path) (keep : List Name) (free : IsClashFree modules root keep) where
+  abbrev Refuted : Path → Mention → Type 0
+  Refuted m a = (y : Name) → MentionClashes modules root keep m a y → ⊥
+
+  among_refuted : (m : Path) (hidden xs : List Name) (a : Mention) → ((x y : Name) → Contains xs x → Clashes modules root keep m hidden x y → ⊥) → Contains (map (occurs hidden) xs) a
+      → Refuted m a
+  among_refuted m hidden xs a none c =
+      let p = from_contains (map (occurs hidden) xs) a c in
+      let e = map_get (occurs hidden) xs p.0 a p.1 in
+      subst (Refuted m) e.2 (λ y q. none e.0 y (to_contains xs p.0 e.0 e.1) (clash_of m hidden e.0 y q))
+    where
+      clash_of : (m : Path) (hidden : List Name) (x z : Name) → MentionClashes modules root keep m (occurs hidden x) z → Clashes modules root keep m hidden x z
+      clash_of m hidden x z (occurrence c) = c
+
+  own_refuted : (m : Path) (x : Name) → Refuted m (declares x)
+  own_refuted m x y (own p q) = free.unshared y q
+
+  mention_refuted : (s : Symbol) (d : Decl) → Reached modules root keep s → IsDeclaration modules s d → (a : Mention) → Contains (mentions d) a → Refuted s.home a
+  mention_refuted s d reached is a c =
+      let behind = map (occurs []) (names_behind d) ++ map (occurs (locals d)) (names_in_body d) in
+      ⊎_elim
+      (λ first. among_refuted s.home [] (names_before d) a (λ x y l. free.outside s d x y reached is (left_in (names_before d) (names_behind d) x l)) first)
+      (λ rest.
+        ⊎_elim
+        (λ same. subst (Refuted s.home) same (own_refuted s.home (declared_name d)))
+        (λ more.
+          ⊎_elim
+          (λ second. among_refuted s.home [] (names_behind d) a (λ x y l. free.outside s d x y reached is (right_in (names_before d) (names_behind d) x l)) second)
+          (λ third. among_refuted s.home (locals d) (names_in_body d) a (λ x y l. free.inside s d x y reached is l) third)
+          (either_in (map (occurs []) (names_behind d)) (map (occurs (locals d)) (names_in_body d)) a more))
+        (in_cases (declares (declared_name d)) behind a rest))
+      (either_in (map (occurs []) (names_before d)) (declares (declared_name d) ∷ behind) a c)
+
+  pub not_first : (y : Name) → IsFirstClash modules root keep y → ⊥
+  not_first y f =
+      let m = f.first.clashes in
+      let d = m.first.clashes in
+      let a = d.first in
+      mention_refuted (record { home = f.first.one; name = declared_name m.first.one }) m.first.one d.reached
+      (record { unit = m.unit; is_module = m.is_module; stands = first_has m.first; name = refl }) a.one (first_has a) y a.clashes
+
+module _ (ms : LoadedModules) (root : Path) (keep : List Name) (held : HeldNames) (r : IsResolved ms root keep held) (ordered : IsOrdered string_cmp ms) where
+  pub none_where_free : (o : Option Name) → o ≡ unit_clash ms held root → (o ≡ None) ↔ IsClashFree (modules_of ms) root keep
+  none_where_free None e = (λ none. clash_free ms root keep held r ordered (sym e), λ free. refl)
+  none_where_free (Some y) e = (λ none. absurd (cc), λ free. absurd (not_first (modules_of ms) root keep free y (first_clash ms root keep held r ordered y (sym e))))

@@ -1,5 +1,5 @@
 -- What the tables say of names, in the words of the definitions.
-use Rattle.std.proofs.Common.{◌≡◌, ◌≢◌, refl, sym, ap, ◌∙◌, subst, ℕ, zero, suc, ◌<◌, ◌⊎◌, inl, inr, ⊎_elim, List, [], ◌∷◌, map, Bool, true, false, ◌||◌, Option, Some, None, arith}
+use Rattle.std.proofs.Common.{◌≡◌, refl, sym, ap, ◌∙◌, subst, ℕ, zero, suc, ◌<◌, ◌⊎◌, inl, inr, ⊎_elim, List, [], ◌∷◌, map, Bool, true, false, ◌||◌, Option, Some, None, arith}
 use Rattle.std.specs.Prelude.{if◌then◌else◌, is_some, slice_get, string_bytes, IsTrue}
 use Rattle.std.specs.Str.{bytes_eq}
 use Rattle.std.specs.String.{string_cmp}
@@ -10,34 +10,31 @@ use Rattle.std.specs.List.{Contains, AllByRecursion}
 use Rattle.std.specs.List.Sorted.{IsStrictlySortedBy}
 use Rattle.std.specs.BTreeMap.{IsOrdered, get_by_text}
 use Rattle.std.specs.declared.cmp.Ordering.TheVariants.{Less}
-use Rattle.std.specs.declared.string.String.{String}
-use Rattle.std.specs.declared.alloc.Global.{Global}
 use Rattle.std.proofs.lemmas.Map.Text.{is_eq-slice_cmp}
 use Rattle.wgsl_path.specs.declared.path.ModulePath.{ModulePath}
 use Rattle.wgsl_path.specs.Paths.{path_text}
-use Rattle.wgsl_syntax.specs.Tree.{Decl, Unit}
+use Rattle.wgsl_syntax.specs.Tree.{Unit}
 use Rattle.wgsl_syntax.specs.View.{unit_tree}
 use Rattle.wesl_resolve.specs.Mangling.{mangled}
-use Rattle.wesl_sources.specs.Occurrences.{Name, is_among, declared_name}
-use Rattle.wesl_sources.specs.Modules as spec
+use Rattle.wesl_sources.specs.Occurrences.{Name, is_among}
 use Rattle.wesl_sources.specs.Modules.{Path, Symbol, Modules, IsModule, Denotes, IsFree, Reached}
 use Rattle.wesl_sources.specs.Names.{IsPrinted, stays, is_mangled}
 use Rattle.wesl_sources.specs.Linked.{IsShared, IsTaken, Clashes, shared, hidden, captured}
 use Rattle.wesl_link.specs.declared.module.Module.{Module}
-use Rattle.wesl_link.specs.Outcomes.{Outcome, symbol_at, unloaded, missing, private, free, Loaded, loaded, home_of, outcome}
+use Rattle.wesl_link.specs.Outcomes.{Outcome, symbol_at, unloaded, missing, private, free, loaded, outcome}
 use Rattle.wesl_link.specs.Tells.{IsFinder, StandsAt, Tells}
 use Rattle.wesl_link.specs.Reach.{Settled}
 use Rattle.wesl_link.specs.Closing.{HeldNames, held_at}
 use Rattle.wesl_link.specs.Assembling.{printed_of}
 use Rattle.wesl_link.specs.Resolved.{LoadedModules, modules_of, IsResolved}
-use Rattle.wesl_link.specs.Clashing.{Sharing, is_twice, sharing_in, held_names, is_shared, name_clash}
-use Rattle.wesl_link.proofs.ScopeLemmas.{from_contains, map_get, get_map, self_name, same_name}
+use Rattle.wesl_link.specs.Clashing.{is_twice, sharing_in, held_names, is_shared, name_clash}
+use Rattle.wesl_link.proofs.ScopeLemmas.{from_contains, map_get, get_map, self_name}
 use Rattle.wesl_link.proofs.TellLemmas.{tells}
 use Rattle.wesl_link.proofs.ReachLemmas.{denoted, same_place, reached_there, there_reached, reached_held}
 use Rattle.wesl_link.proofs.LinkLemmas.{one_symbol, free_outcome}
 use Rattle.wesl_link.proofs.ResolvedLemmas.{finder, found_entry, key_is, sorted_texts}
 use Rattle.wesl_link.proofs.ClashLemmas.{known_if, twice_among}
-use Rattle.wesl_link.proofs.SharedLemmas.{Entry, NamedAt, Placed, PlacedTwice, among_of, twice_of, placed, placed_twice}
+use Rattle.wesl_link.proofs.SharedLemmas.{Entry, NamedAt, among_of, twice_of, placed, placed_twice}
 
 -- ---- printed names
 

@@ -1,5 +1,5 @@
 -- The first name of the linked unit that is read otherwise than meant, by the tables that linking keeps.
-use Rattle.std.specs.Prelude.{◌≡◌, ℕ, ◌+◌, List, [], ◌∷◌, ◌++◌, map, Option, Some, None, Bool, true, false, ◌||◌, ◌&&◌, if◌then◌else◌, is_some, string_bytes}
+use Rattle.std.specs.Prelude.{ℕ, ◌+◌, List, [], ◌∷◌, ◌++◌, Option, Some, None, Bool, false, ◌||◌, ◌&&◌, if◌then◌else◌, is_some, string_bytes}
 use Rattle.std.specs.Option.{unwrap_or}
 use Rattle.std.specs.Str.{bytes_eq}
 use Rattle.std.specs.List.{flat_map}
@@ -11,9 +11,7 @@ use Rattle.std.specs.declared.alloc.Global.{Global}
 use denote.Ref.{Bor}
 use Rattle.wgsl_syntax.specs.Tree.{Decl, Unit}
 use Rattle.wesl_sources.specs.Occurrences.{Name, is_among, names_before, names_behind, names_in_body, locals}
-use Rattle.wesl_sources.specs.Modules.{Path, Modules}
-use Rattle.wesl_sources.specs.Loaded.{IsClashFree}
-use Rattle.wesl_sources.specs.Clashing.{IsFirstClash}
+use Rattle.wesl_sources.specs.Modules.{Path}
 use Rattle.wesl_link.specs.declared.module.Module.{Module}
 use Rattle.wesl_link.specs.Outcomes.{Loaded, outcome, loaded, home_of}
 use Rattle.wesl_link.specs.Reach.{Holding}
@@ -112,8 +110,3 @@ module _ (sharing : Sharing) where
 abbrev pub unit_clash : LoadedModules → HeldNames → Path → Option Name
 unit_clash ms held root =
     or_else (clash_at (sharing_in (held_names held ms.entries)) (loaded ms) (held_at held) (loaded ms root)) (others_clash (sharing_in (held_names held ms.entries)) ms held root ms.entries)
-
--- what an answer says: the first name that is read otherwise than meant, or that there is none
-abbrev pub Judges : Modules → Path → List Name → Option Name → Type 0
-Judges modules root keep (Some y) = IsFirstClash modules root keep y
-Judges modules root keep None = IsClashFree modules root keep

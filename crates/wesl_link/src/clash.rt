@@ -1,13 +1,15 @@
 //! Names of the linked unit that are read otherwise than meant.
 
-ghost use Rattle.std.specs.Prelude.{◌≡◌, List, [], None, IfOk, OnOk, if◌then◌else◌, ◌++◌, string_bytes};
+ghost use Rattle.std.specs.Prelude.{◌≡◌, ◌↔◌, List, [], Some, None, IfOk, OnOk, if◌then◌else◌, ◌++◌, string_bytes};
 ghost use Rattle.std.specs.BTreeMap.{IsOrdered};
 ghost use Rattle.std.specs.Str.{bytes_eq};
 ghost use Rattle.std.specs.String.{string_cmp};
 ghost use Rattle.wgsl_syntax.specs.View.{declaration_tree};
 ghost use Rattle.wesl_sources.specs.Occurrences.{Name, locals};
+ghost use Rattle.wesl_sources.specs.Clashing.{IsFirstClash};
+ghost use Rattle.wesl_sources.specs.Loaded.{IsClashFree};
 ghost use Rattle.wesl_link.specs.Clashing as spec;
-ghost use Rattle.wesl_link.specs.Clashing.{sharing_at, sharing_in, Judges};
+ghost use Rattle.wesl_link.specs.Clashing.{sharing_at, sharing_in};
 ghost use Rattle.wesl_link.specs.Closing.{held_at};
 ghost use Rattle.wesl_link.specs.Outcomes.{loaded, home_of};
 ghost use Rattle.wesl_link.specs.Printed.{printed_in};
@@ -33,7 +35,8 @@ impl Resolutions {
     /// meant.
     pub fn names_clash(&self, alloc: Global) -> Result<Option<Text>, AllocError>
         ensures whole { IfOk result (λ clash. clash ≡ spec.unit_clash self.now.modules self.now.held (string_bytes self.now.root)) }
-        ensures first { IfOk result (λ clash. (keep : List Name) → IsResolved self.now.modules (string_bytes self.now.root) keep self.now.held → Judges (modules_of self.now.modules) (string_bytes self.now.root) keep clash) }
+        ensures free { IfOk result (λ clash. (keep : List Name) → IsResolved self.now.modules (string_bytes self.now.root) keep self.now.held → (clash ≡ None) ↔ IsClashFree (modules_of self.now.modules) (string_bytes self.now.root) keep) }
+        ensures first { IfOk result (λ clash. (keep : List Name) (name : Name) → IsResolved self.now.modules (string_bytes self.now.root) keep self.now.held → clash ≡ Some name → IsFirstClash (modules_of self.now.modules) (string_bytes self.now.root) keep name) }
     {
         let clash = self.unit_clash(alloc)?;
         Ok(clash)
