@@ -459,14 +459,14 @@ module _ (modules : Modules) (root : Path) (keep : List Name) (free : IsClashFre
       ⊎_elim
       (λ first. among_refuted s.home [] (names_before d) a (λ x y l. free.outside s d x y reached is (left_in (names_before d) (names_behind d) x l)) first)
       (λ rest.
-        ⊎_elim
-        (λ same. subst (Refuted s.home) same (own_refuted s.home (declared_name d)))
-        (λ more.
-          ⊎_elim
-          (λ second. among_refuted s.home [] (names_behind d) a (λ x y l. free.outside s d x y reached is (right_in (names_before d) (names_behind d) x l)) second)
-          (λ third. among_refuted s.home (locals d) (names_in_body d) a (λ x y l. free.inside s d x y reached is l) third)
-          (either_in (map (occurs []) (names_behind d)) (map (occurs (locals d)) (names_in_body d)) a more))
-        (in_cases (declares (declared_name d)) behind a rest))
+      ⊎_elim
+      (λ same. subst (Refuted s.home) same (own_refuted s.home (declared_name d)))
+      (λ more.
+      ⊎_elim
+      (λ second. among_refuted s.home [] (names_behind d) a (λ x y l. free.outside s d x y reached is (right_in (names_before d) (names_behind d) x l)) second)
+      (λ third. among_refuted s.home (locals d) (names_in_body d) a (λ x y l. free.inside s d x y reached is l) third)
+      (either_in (map (occurs []) (names_behind d)) (map (occurs (locals d)) (names_in_body d)) a more))
+      (in_cases (declares (declared_name d)) behind a rest))
       (either_in (map (occurs []) (names_before d)) (declares (declared_name d) ∷ behind) a c)
 
   pub not_first : (y : Name) → IsFirstClash modules root keep y → ⊥
