@@ -10,8 +10,8 @@ returns-in-Ok-clause-read c = (
   (λ m. c.is_same_unit.ensures.1 (sym (ap unit_tree (c.in-Ok.ensures.only m.0 m.1)) ∙ m.2)),
 )
 
-pub returns-in_default-kind : goal.returns-in_default-kind
-returns-in_default-kind c = record {
-  read = ((λ t. absurd (false≢true t)), (λ m. absurd (c.in-Err.ensures.apart m.0 m.1 c.in-Err.error (c.in-Err.ensures.fault c.in_default-kind.not-OutOfMemory))));
+pub returns-in_default : goal.returns-in_default
+returns-in_default c = record {
+  read = ((λ t. absurd (false≢true t)), (λ m. absurd (c.in-Err.ensures.apart m.0 m.1 c.in-Err.error (c.in-Err.ensures.fault c.in_default.not-OutOfMemory))));
   memory = tt;
 }
