@@ -1,6 +1,6 @@
 //! From a mangled name back to the module and the item.
 
-ghost use Rattle.std.specs.Prelude.{◌≡◌, ◌≤◌, ◌++◌, ℕ, length, IfOk, IfSome};
+ghost use Rattle.std.specs.Prelude.{drop, ◌<◌, ◌≡◌, ◌≤◌, ◌++◌, ℕ, length, IfOk, IfSome};
 ghost use Rattle.std.specs.Char.{is_ascii_digit};
 ghost use Rattle.std.specs.List.{prefix_len};
 ghost use Rattle.wgsl_path.specs.declared.path.PathOrigin.{PathOrigin};
@@ -93,6 +93,8 @@ fn read_part<'a>(
 /// The decimal number that a text begins with, and what stands behind it.
 fn read_count(text: &str) -> Option<(usize, &str)>
     ensures reads { IsFirstCount text.now result }
+    ensures counted { IfSome result (λ read. 0 < prefix_len is_ascii_digit text.now) }
+    ensures rest { IfSome result (λ read. read.1.now ≡ drop (prefix_len is_ascii_digit text.now) text.now) }
     ensures shrinks { IfSome result (λ read. length read.1.now ≤ length text.now) }
 {
     let (digits, rest) = text.split_at(digit_run(text));

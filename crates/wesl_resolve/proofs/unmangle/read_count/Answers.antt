@@ -1,4 +1,4 @@
-use Rattle.std.proofs.Common.{◌≡◌, IsCharBoundary, sym, subst}
+use Rattle.std.proofs.Common.{arith, ◌≡◌, IsCharBoundary, sym, subst}
 use Rattle.std.proofs.lemmas.Fmt.{parse-decimal}
 use Rattle.wesl_resolve.proofs.Cutting.{digits_cut, digit_boundary}
 use Rattle.wesl_resolve.proofs.unmangle.read_count.Goals as goal
@@ -20,3 +20,8 @@ returns-in-Err-clause-reads c count after small none is =
     let read = parse-decimal 64 count c.split_at.result.0.now c.parse.result small small cut.0 c.parse.ensures.value.0 in
     let was = c.in-Err.is in
     cc
+
+pub returns-in-Ok-clause-counted : goal.returns-in-Ok-clause-counted
+returns-in-Ok-clause-counted c =
+    let digits = c.in-Ok.ensures.value in
+    omega (arith, digits.2.0, c.split_at.ensures.front_len, c.digit_run.ensures)
