@@ -3,8 +3,6 @@
 
 mod expression;
 mod function;
-#[cfg(test)]
-mod tests;
 mod unit;
 mod write;
 
