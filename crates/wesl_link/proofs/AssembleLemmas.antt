@@ -7,7 +7,7 @@ use Rattle.wgsl_syntax.specs.declared.declaration.GlobalDeclaration.{GlobalDecla
 use Rattle.wgsl_syntax.specs.Tree.{Decl}
 use Rattle.wgsl_syntax.specs.View.{declaration_tree}
 use Rattle.wesl_link.specs.Assembling.{held_among}
-use Rattle.wesl_link.specs.Resolved.{declaration_trees}
+use Rattle.wesl_link.specs.Assembling.{declaration_trees}
 
 front : (ds : List (Spanned GlobalDeclaration)) (k : ℕ) (d : Spanned GlobalDeclaration) → k < length ds → d ≡ get_or ds k d → drop k ds ≡ d ∷ drop (k + 1) ds
 front ds k d h is = drop-cons ds k d h ∙ ap (λ x. x ∷ drop (suc k) ds) (sym is) ∙ ap (λ n. d ∷ drop n ds) (sym (add-one k))

@@ -10,9 +10,9 @@ use Rattle.std.proofs.lemmas.List.{take_more, map-append}
 use Rattle.std.proofs.lemmas.List.Folds.{list_any-append}
 use denote.Ref.{Bor}
 use Rattle.wesl_sources.specs.Occurrences.{Name, is_among}
-use Rattle.wesl_link.specs.Scopes.{texts}
+use Rattle.wesl_rename.specs.Scopes.{texts}
 use Rattle.wesl_link.specs.Clashing.{is_twice, sharing_in, sharing_at}
-use Rattle.wesl_link.proofs.ScopeLemmas.{same_name, self_name}
+use Rattle.wesl_scopes.proofs.ScopeLemmas.{same_name, self_name}
 
 turned : (y n a t : Bool) → ((y && (a || (n || false))) || ((n && a) || t)) ≡ ((n && (y || a)) || ((y && a) || t))
 turned false n a t = refl

@@ -15,14 +15,14 @@ use Rattle.wesl_sources.specs.Names.{IsPrinted}
 use Rattle.wesl_sources.specs.Linked.{IsInOrder, IsShared, Clashes}
 use Rattle.wesl_sources.specs.Loaded.{IsClashFree}
 use Rattle.wesl_sources.specs.Clashing.{IsFirst, Mention, occurs, declares, mentions, MentionClashes, occurrence, own, DeclarationClashes, ModuleClashes, IsFirstClash}
-use Rattle.wesl_link.specs.Outcomes.{loaded, home_of, outcome, meant_as}
-use Rattle.wesl_link.specs.Tells.{IsFinder, StandsAt}
-use Rattle.wesl_link.specs.Closing.{HeldNames, held_at}
+use Rattle.wesl_scopes.specs.Outcomes.{loaded, home_of, outcome, meant_as}
+use Rattle.wesl_scopes.specs.Tells.{IsFinder, StandsAt}
+use Rattle.wesl_reach.specs.Closing.{HeldNames, held_at}
 use Rattle.wesl_link.specs.Assembling.{printed_of, without}
-use Rattle.wesl_link.specs.Resolved.{LoadedModules, modules_of, IsResolved}
+use Rattle.wesl_reach.specs.Resolved.{LoadedModules, modules_of, IsResolved}
 use Rattle.wesl_link.specs.Clashing.{or_else, first_some, Sharing, sharing_in, held_names, is_shared, name_clash, own_clash, names_clash, declaration_clash, held_clash, clash_among, module_clash, clash_at, others_clash, unit_clash}
-use Rattle.wesl_link.proofs.ScopeLemmas.{to_contains, from_contains, map_get, get_map, append_left, append_right, append_cases, value_means}
-use Rattle.wesl_link.proofs.ReachLemmas.{found_unit, same_place, there_reached, reached_held, stands_there}
+use Rattle.wesl_scopes.proofs.ScopeLemmas.{to_contains, from_contains, map_get, get_map, append_left, append_right, append_cases, value_means}
+use Rattle.wesl_reach.proofs.ReachLemmas.{found_unit, same_place, there_reached, reached_held, stands_there}
 use Rattle.wesl_link.proofs.LinkLemmas.{one_symbol}
 use Rattle.wesl_link.proofs.OrderLemmas.{ordered as in_order}
 use Rattle.wesl_link.proofs.ResolvedLemmas.{finder, sorted_texts, printed_keys, found_home, all_there}

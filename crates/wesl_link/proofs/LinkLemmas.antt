@@ -12,14 +12,15 @@ use Rattle.wesl_sources.specs.Occurrences.{Name, declared_name, occurrences}
 use Rattle.wesl_sources.specs.Modules.{Path, Symbol, Modules, IsModule, Declares, Imports, Denotes, IsFree, Reached}
 use Rattle.wesl_sources.specs.Names.{IsPrinted, stays, is_mangled}
 use Rattle.wesl_sources.specs.Linked.{renamed_declaration, IsNaming, Selects, nothing_left, takes, leaves, IsLinkedModule, AreLinkedModules, no_module, a_module}
-use Rattle.wesl_link.specs.Meanings.{Known, declared, imported, bare, known, import_known}
-use Rattle.wesl_link.specs.Outcomes.{Outcome, symbol_at, unloaded, missing, private, free, Loaded, item_in, item_at, meant_as, outcome}
-use Rattle.wesl_link.specs.Tells.{IsFinder, StandsAt, Tells}
-use Rattle.wesl_link.specs.Reach.{ReachedAt, Holding, Settled, IsSettled, KeepsAll, IsRooted}
-use Rattle.wesl_link.specs.Assembling.{printed_of, named_or, naming, held_among, linked_module, NamesHeld, HoldsReached}
-use Rattle.wesl_link.proofs.ScopeLemmas.{to_contains, from_contains, same_name, self_name, value_means}
-use Rattle.wesl_link.proofs.TellLemmas.{has_declared, has_imported, tells}
-use Rattle.wesl_link.proofs.ReachLemmas.{found_unit, denoted, same_place, the_declaration, reached_there, there_reached, reached_held}
+use Rattle.wesl_scopes.specs.Meanings.{Known, declared, imported, bare, known, import_known}
+use Rattle.wesl_scopes.specs.Outcomes.{Outcome, symbol_at, unloaded, missing, private, free, Loaded, item_in, item_at, meant_as, outcome}
+use Rattle.wesl_scopes.specs.Tells.{IsFinder, StandsAt, Tells}
+use Rattle.wesl_reach.specs.Reach.{ReachedAt, Holding, Settled, IsSettled, KeepsAll, IsRooted}
+use Rattle.wesl_link.specs.Assembling.{printed_of, named_or, naming, held_among, linked_module}
+use Rattle.wesl_reach.specs.Resolved.{NamesHeld, HoldsReached}
+use Rattle.wesl_scopes.proofs.ScopeLemmas.{to_contains, from_contains, same_name, self_name, value_means}
+use Rattle.wesl_scopes.proofs.TellLemmas.{has_declared, has_imported, tells}
+use Rattle.wesl_reach.proofs.ReachLemmas.{found_unit, denoted, same_place, the_declaration, reached_there, there_reached, reached_held}
 use Rattle.wesl_link.proofs.AgreeLemmas.{same_declaration}
 
 not_same : (x y : Name) → bytes_eq x y ≡ false → x ≡ y → ⊥

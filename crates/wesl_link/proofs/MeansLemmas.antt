@@ -20,17 +20,17 @@ use Rattle.wesl_sources.specs.Occurrences.{Name, is_among}
 use Rattle.wesl_sources.specs.Modules.{Path, Symbol, Modules, IsModule, Denotes, IsFree, Reached}
 use Rattle.wesl_sources.specs.Names.{IsPrinted, stays, is_mangled}
 use Rattle.wesl_sources.specs.Linked.{IsShared, IsTaken, Clashes, shared, hidden, captured}
-use Rattle.wesl_link.specs.declared.module.Module.{Module}
-use Rattle.wesl_link.specs.Outcomes.{Outcome, symbol_at, unloaded, missing, private, free, loaded, outcome}
-use Rattle.wesl_link.specs.Tells.{IsFinder, StandsAt, Tells}
-use Rattle.wesl_link.specs.Reach.{Settled}
-use Rattle.wesl_link.specs.Closing.{HeldNames, held_at}
+use Rattle.wesl_scopes.specs.declared.module.Module.{Module}
+use Rattle.wesl_scopes.specs.Outcomes.{Outcome, symbol_at, unloaded, missing, private, free, loaded, outcome}
+use Rattle.wesl_scopes.specs.Tells.{IsFinder, StandsAt, Tells}
+use Rattle.wesl_reach.specs.Reach.{Settled}
+use Rattle.wesl_reach.specs.Closing.{HeldNames, held_at}
 use Rattle.wesl_link.specs.Assembling.{printed_of}
-use Rattle.wesl_link.specs.Resolved.{LoadedModules, modules_of, IsResolved}
+use Rattle.wesl_reach.specs.Resolved.{LoadedModules, modules_of, IsResolved}
 use Rattle.wesl_link.specs.Clashing.{is_twice, sharing_in, held_names, is_shared, name_clash}
-use Rattle.wesl_link.proofs.ScopeLemmas.{from_contains, map_get, get_map, self_name}
-use Rattle.wesl_link.proofs.TellLemmas.{tells}
-use Rattle.wesl_link.proofs.ReachLemmas.{denoted, same_place, reached_there, there_reached, reached_held}
+use Rattle.wesl_scopes.proofs.ScopeLemmas.{from_contains, map_get, get_map, self_name}
+use Rattle.wesl_scopes.proofs.TellLemmas.{tells}
+use Rattle.wesl_reach.proofs.ReachLemmas.{denoted, same_place, reached_there, there_reached, reached_held}
 use Rattle.wesl_link.proofs.LinkLemmas.{one_symbol, free_outcome}
 use Rattle.wesl_link.proofs.ResolvedLemmas.{finder, found_entry, key_is, sorted_texts}
 use Rattle.wesl_link.proofs.ClashLemmas.{known_if, twice_among}

@@ -16,11 +16,12 @@ use Rattle.wesl_sources.specs.Occurrences.{Name}
 use Rattle.wesl_sources.specs.Modules.{Path, Modules}
 use Rattle.wesl_sources.specs.Rounds.{IsAscending, no_path, one_path, one_before}
 use Rattle.wesl_sources.specs.Linked.{IsInOrder, IsLinkedModule, AreLinkedModules, no_module, a_module, IsLinked}
-use Rattle.wesl_link.specs.Outcomes.{Loaded}
-use Rattle.wesl_link.specs.Tells.{IsFinder}
-use Rattle.wesl_link.specs.Reach.{Holding, IsSettled, KeepsAll, IsRooted}
-use Rattle.wesl_link.specs.Assembling.{linked_module, linked_at, without, linked_unit, NamesHeld, HoldsReached}
-use Rattle.wesl_link.proofs.ScopeLemmas.{to_contains, from_contains, get_map, same_name, self_name}
+use Rattle.wesl_scopes.specs.Outcomes.{Loaded}
+use Rattle.wesl_scopes.specs.Tells.{IsFinder}
+use Rattle.wesl_reach.specs.Reach.{Holding, IsSettled, KeepsAll, IsRooted}
+use Rattle.wesl_link.specs.Assembling.{linked_module, linked_at, without, linked_unit}
+use Rattle.wesl_reach.specs.Resolved.{NamesHeld, HoldsReached}
+use Rattle.wesl_scopes.proofs.ScopeLemmas.{to_contains, from_contains, get_map, same_name, self_name}
 use Rattle.wesl_link.proofs.LinkLemmas.{module_linked}
 
 first_in : {X : Type 0} (y : X) (ys : List X) → Contains (y ∷ ys) y

@@ -21,15 +21,16 @@ use Rattle.wesl_sources.specs.Occurrences.{Name}
 use Rattle.wesl_sources.specs.Modules as spec
 use Rattle.wesl_sources.specs.Modules.{Path, IsModule}
 use Rattle.wesl_sources.specs.Linked.{IsLinked}
-use Rattle.wesl_link.specs.declared.module.Module.{Module}
-use Rattle.wesl_link.specs.Meanings.{names, entries, first_again}
-use Rattle.wesl_link.specs.Outcomes.{Loaded, loaded, home_of}
-use Rattle.wesl_link.specs.Tells.{IsFinder}
-use Rattle.wesl_link.specs.Reach.{Holding}
-use Rattle.wesl_link.specs.Closing.{HeldNames, held_at}
+use Rattle.wesl_scopes.specs.declared.module.Module.{Module}
+use Rattle.wesl_scopes.specs.Meanings.{names, entries, first_again}
+use Rattle.wesl_scopes.specs.Outcomes.{Loaded, loaded, home_of}
+use Rattle.wesl_scopes.specs.Tells.{IsFinder}
+use Rattle.wesl_reach.specs.Reach.{Holding}
+use Rattle.wesl_reach.specs.Closing.{HeldNames, held_at}
 use Rattle.wesl_link.specs.Assembling.{linked_module, linked_at, without, linked_unit}
-use Rattle.wesl_link.specs.Resolved.{LoadedModules, modules_of, IsKeyed, others_linked, assembled, IsResolved}
-use Rattle.wesl_link.proofs.ScopeLemmas.{to_contains, from_contains, get_map, map_get}
+use Rattle.wesl_reach.specs.Resolved.{LoadedModules, modules_of, IsKeyed, IsResolved}
+use Rattle.wesl_link.specs.Assembling.{others_linked, assembled}
+use Rattle.wesl_scopes.proofs.ScopeLemmas.{to_contains, from_contains, get_map, map_get}
 use Rattle.wesl_link.proofs.OrderLemmas.{unit_linked}
 
 abbrev Entry : Type 0

@@ -8,11 +8,11 @@ use Rattle.std.proofs.lemmas.List.Folds.{list_any-append}
 use Rattle.wgsl_syntax.specs.Tree.{Decl}
 use Rattle.wgsl_syntax.specs.View.{unit_tree}
 use Rattle.wesl_sources.specs.Occurrences.{Name, is_among}
-use Rattle.wesl_link.specs.declared.module.Module.{Module}
-use Rattle.wesl_link.specs.Outcomes.{home_of}
-use Rattle.wesl_link.specs.Closing.{HeldNames, held_at}
+use Rattle.wesl_scopes.specs.declared.module.Module.{Module}
+use Rattle.wesl_scopes.specs.Outcomes.{home_of}
+use Rattle.wesl_reach.specs.Closing.{HeldNames, held_at}
 use Rattle.wesl_link.specs.Clashing.{names_of, names_among, names_in, held_names, is_twice}
-use Rattle.wesl_link.proofs.ScopeLemmas.{same_name, self_name}
+use Rattle.wesl_scopes.proofs.ScopeLemmas.{same_name, self_name}
 
 or_cases : (a b : Bool) → (a || b) ≡ true → (a ≡ true) ⊎ (b ≡ true)
 or_cases true b e = inl refl

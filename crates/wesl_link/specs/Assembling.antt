@@ -1,16 +1,21 @@
 -- The linked declarations, by places.
-use Rattle.std.specs.Prelude.{◌≡◌, ℕ, ◌+◌, List, [], ◌∷◌, ◌++◌, map, Option, Some, None, Bool, if◌then◌else◌, is_some, slice_get}
-use Rattle.std.specs.Option.{IsSome}
+use Rattle.std.specs.Prelude.{ℕ, ◌+◌, List, [], ◌∷◌, ◌++◌, map, Option, Some, None, Bool, if◌then◌else◌, is_some, string_bytes}
 use Rattle.std.specs.Str.{bytes_eq}
 use Rattle.std.specs.List.{flat_map}
+use Rattle.std.specs.declared.string.String.{String}
+use Rattle.std.specs.declared.alloc.Global.{Global}
+use Rattle.wgsl_path.specs.declared.span.Spanned.{Spanned}
+use Rattle.wgsl_syntax.specs.declared.declaration.GlobalDeclaration.{GlobalDeclaration}
 use Rattle.wgsl_syntax.specs.Tree.{Decl, Unit}
+use Rattle.wgsl_syntax.specs.View.{declaration_tree}
 use Rattle.wesl_sources.specs.Occurrences.{Name}
-use Rattle.wesl_sources.specs.Modules.{Path, Symbol, Modules}
-use Rattle.wesl_sources.specs.Names.{IsPrinted}
+use Rattle.wesl_sources.specs.Modules.{Path}
 use Rattle.wesl_sources.specs.Linked.{renamed_declaration}
-use Rattle.wesl_link.specs.Outcomes.{Outcome, symbol_at, unloaded, missing, private, free, Loaded, outcome}
-use Rattle.wesl_link.specs.Tells.{StandsAt}
-use Rattle.wesl_link.specs.Reach.{Holding, ReachedAt}
+use Rattle.wesl_scopes.specs.declared.module.Module.{Module}
+use Rattle.wesl_scopes.specs.Outcomes.{Outcome, symbol_at, unloaded, missing, private, free, Loaded, outcome, loaded, home_of}
+use Rattle.wesl_reach.specs.Reach.{Holding}
+use Rattle.wesl_reach.specs.Closing.{HeldNames, held_at}
+use Rattle.wesl_reach.specs.Resolved.{LoadedModules}
 
 -- the printed name of what an outcome denotes, where it is held
 abbrev pub printed_of : Holding → Outcome → Option Name
@@ -37,14 +42,6 @@ held_among is_held place (d ∷ ds) = if is_held place then d ∷ held_among is_
 abbrev pub linked_module : Loaded → Holding → Path × Unit → List Decl
 linked_module find held m = map (renamed_declaration (naming find held m)) (held_among (λ place. is_some (held m.0 place)) 0 m.1.declarations)
 
--- each place that is held has the printed name of what is declared there
-abbrev pub NamesHeld : Modules → Path → Holding → Type 0
-NamesHeld modules root held = (m : Path) (place : ℕ) (s : Symbol) (y : Name) → StandsAt modules m place s → held m place ≡ Some y → IsPrinted modules root s y
-
--- what is held is reached
-abbrev pub HoldsReached : Loaded → Path → List Name → Holding → Type 0
-HoldsReached find root keep held = (m : Path) (place : ℕ) → IsSome (held m place) → ReachedAt find root keep m place
-
 -- what the module that is found, if one is, has in the linked unit
 abbrev pub linked_at : Loaded → Holding → Option (Path × Unit) → List Decl
 linked_at find held None = []
@@ -58,3 +55,14 @@ without root (p ∷ ps) = if bytes_eq p root then without root ps else p ∷ wit
 -- what is held in the modules at these paths: the root's first
 abbrev pub linked_unit : Loaded → Holding → Path → List Path → Unit
 linked_unit find held root ps = record { imports = []; declarations = flat_map (λ p. linked_at find held (find p)) (root ∷ without root ps) }
+
+abbrev pub declaration_trees : List (Spanned GlobalDeclaration) → List Decl
+declaration_trees ds = map (λ n. declaration_tree n.node) ds
+
+-- what the modules but the root's have in the linked unit
+abbrev pub others_linked : LoadedModules → HeldNames → Path → List (String Global × Module) → List Decl
+others_linked ms held root es = flat_map (λ e. if bytes_eq (string_bytes e.0) root then [] else linked_module (loaded ms) (held_at held) (home_of e.1)) es
+
+-- what is held in the loaded modules: the root's first
+abbrev pub assembled : LoadedModules → HeldNames → Path → Unit
+assembled ms held root = record { imports = []; declarations = linked_at (loaded ms) (held_at held) (loaded ms root) ++ others_linked ms held root ms.entries }

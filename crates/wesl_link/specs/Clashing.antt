@@ -12,12 +12,12 @@ use denote.Ref.{Bor}
 use Rattle.wgsl_syntax.specs.Tree.{Decl, Unit}
 use Rattle.wesl_sources.specs.Occurrences.{Name, is_among, names_before, names_behind, names_in_body, locals}
 use Rattle.wesl_sources.specs.Modules.{Path}
-use Rattle.wesl_link.specs.declared.module.Module.{Module}
-use Rattle.wesl_link.specs.Outcomes.{Loaded, outcome, loaded, home_of}
-use Rattle.wesl_link.specs.Reach.{Holding}
-use Rattle.wesl_link.specs.Closing.{HeldNames, held_at}
+use Rattle.wesl_scopes.specs.declared.module.Module.{Module}
+use Rattle.wesl_scopes.specs.Outcomes.{Loaded, outcome, loaded, home_of}
+use Rattle.wesl_reach.specs.Reach.{Holding}
+use Rattle.wesl_reach.specs.Closing.{HeldNames, held_at}
 use Rattle.wesl_link.specs.Assembling.{printed_of}
-use Rattle.wesl_link.specs.Resolved.{LoadedModules}
+use Rattle.wesl_reach.specs.Resolved.{LoadedModules}
 
 -- ---- the first
 

@@ -1,13 +1,3 @@
-pub mod Scopes
-pub mod Meanings
-pub mod Outcomes
-pub mod Tells
-pub mod Reach
-pub mod Closing
 pub mod Assembling
 pub mod Printed
-pub mod Renaming
-pub mod Resolved
-pub mod Following
-pub mod Stages
 pub mod Clashing

@@ -4,10 +4,10 @@ use Rattle.std.specs.BTreeMap.{BTreeMap}
 use Rattle.std.specs.declared.string.String.{String}
 use Rattle.std.specs.declared.alloc.Global.{Global}
 use Rattle.wesl_sources.specs.Occurrences.{Name}
-use Rattle.wesl_link.specs.Outcomes.{outcome, home_of, loaded}
-use Rattle.wesl_link.specs.Closing.{HeldNames, held_at}
+use Rattle.wesl_scopes.specs.Outcomes.{outcome, home_of, loaded}
+use Rattle.wesl_reach.specs.Closing.{HeldNames, held_at}
 use Rattle.wesl_link.specs.Assembling.{printed_of}
-use Rattle.wesl_link.specs.declared.module.Module.{Module}
+use Rattle.wesl_scopes.specs.declared.module.Module.{Module}
 
 -- the printed name of the held declaration that a name of a module denotes
 abbrev pub printed_in : HeldNames → BTreeMap (String Global) Module → Module → Name → Option Name

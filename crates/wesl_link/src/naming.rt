@@ -1,27 +1,17 @@
-//! New names for the names that occur.
+//! Names of the linked unit for the names that occur.
 
-ghost use Rattle.std.specs.Prelude.{◌≡◌, ℕ, List, IfOk, if◌then◌else◌, string_bytes};
+ghost use Rattle.std.specs.Prelude.{◌≡◌, string_bytes};
 ghost use Rattle.std.specs.Option.{option_copied};
-ghost use Rattle.wesl_sources.specs.Occurrences.{is_among};
-ghost use Rattle.wesl_link.specs.Closing.{held_at};
+ghost use Rattle.wesl_reach.specs.Closing.{held_at};
 ghost use Rattle.wesl_link.specs.Printed.{printed_in};
 
-use crate::denote::{Denoted, Symbol, denotation};
-use crate::linking::Held;
-use crate::module::Module;
+use wesl_scopes::{Denoted, Symbol, denotation};
+use wesl_reach::Held;
+use wesl_scopes::Module;
 use crate::rounds::Resolutions;
-use crate::scope::Scope;
+use wesl_rename::Naming;
 use std::alloc::{AllocError, Global};
 use wgsl_items::Text;
-
-/// Gives each name that occurs in a place a new one.
-pub trait Naming {
-    /// The new name of a name.
-    ghost gives: { Self → List ℕ → List ℕ };
-
-    fn new_name(&self, alloc: Global, name: &str) -> Result<Text, AllocError>
-        ensures { IfOk result (λ new. new ≡ gives self.now name.now) };
-}
 
 /// A module's scope: a name that denotes a held symbol gets that symbol's printed name, others stay.
 #[derive(Clone, Copy)]
@@ -31,8 +21,8 @@ pub struct ModuleNaming<'a> {
 }
 
 impl Naming for ModuleNaming<'_> {
-    ghost use Rattle.wesl_link.specs.Outcomes.{home_of, loaded};
-    ghost use Rattle.wesl_link.specs.Closing.{held_at};
+    ghost use Rattle.wesl_scopes.specs.Outcomes.{home_of, loaded};
+    ghost use Rattle.wesl_reach.specs.Closing.{held_at};
     ghost use Rattle.wesl_link.specs.Assembling.{naming};
 
     ghost gives = { λ n x. naming (loaded n.resolutions.now.modules) (held_at n.resolutions.now.held) (home_of n.«module».now) x };
@@ -42,24 +32,6 @@ impl Naming for ModuleNaming<'_> {
             Some(printed) => Text::from_str(alloc, printed),
             None => Text::from_str(alloc, name),
         }
-    }
-}
-
-/// A body's scope: a parameter's name stays.
-#[derive(Clone, Copy)]
-pub struct BodyNaming<'s, 'a, N> {
-    pub outer: N,
-    pub scope: &'s Scope<'a>,
-}
-
-impl<N: Naming> Naming for BodyNaming<'_, '_, N> {
-    ghost gives = { λ n x. if is_among x n.scope.now then x else N.gives n.outer x };
-
-    fn new_name(&self, alloc: Global, name: &str) -> Result<Text, AllocError> {
-        if self.scope.hides(name) {
-            return Text::from_str(alloc, name);
-        }
-        self.outer.new_name(alloc, name)
     }
 }
 

@@ -1,12 +1,10 @@
-//! Loads what the kept names reach, a round of modules after another.
+//! The modules that are linked, and what is reached in them.
 
-use crate::closing::{close_asked, close_root};
-use crate::error::ImportError;
-use crate::linking::{Asked, Held, Linking};
-use crate::module::{Module, Modules, entry_points};
-use std::alloc::{AllocError, Global};
+use std::alloc::Global;
+use wesl_reach::{Held, Reached, load_reached};
 use wesl_resolve::Resolver;
-use wgsl_items::{CloneIn, Items, Text};
+use wesl_scopes::{ImportError, Modules};
+use wgsl_items::Text;
 use wgsl_path::ModulePath;
 use wgsl_syntax::TranslationUnit;
 
@@ -20,10 +18,6 @@ pub struct Resolutions {
 }
 
 /// Loads the modules that the kept names of the root lead to. Where no name is kept, the root's entry points are.
-///
-/// The rounds: each takes the newly asked modules in byte order of their printed paths. Then the reached declarations are
-/// closed over the loaded modules, and the first occurrence in them that denotes nothing is refused, by printed path and
-/// then place. What is still asked for is the next round.
 pub fn resolve_lazy<R: Resolver>(
     alloc: Global,
     keep: &[Text],
@@ -32,70 +26,14 @@ pub fn resolve_lazy<R: Resolver>(
     resolver: &mut R,
     max_modules: u32,
 ) -> Result<Resolutions, ImportError> {
-    if max_modules == 0 {
-        return Err(ImportError::TooManyModules(path.clone_in(alloc)?));
-    }
-    let root = path.to_string(alloc)?;
-    let kept = kept_names(alloc, keep, &unit)?;
-    let mut modules = Modules::new(alloc);
-    modules.insert(root.clone()?, Module::new(alloc, path, unit)?)?;
-    let mut held = Held::new(alloc);
-    let start = Linking {
-        modules: &modules,
-        root: root.as_str(),
-        keep: kept.as_slice(),
-    };
-    let mut asked = close_root(alloc, &start, path, &mut held)?;
-    for _round in 1..max_modules {
-        if asked.is_empty() {
-            break;
-        }
-        load_all(alloc, resolver, &mut modules, &asked, max_modules)?;
-        let linking = Linking {
-            modules: &modules,
-            root: root.as_str(),
-            keep: kept.as_slice(),
-        };
-        asked = close_asked(alloc, &linking, &asked, &mut held)?;
-    }
-    match asked.first_key_value() {
-        Some((_, module)) => Err(ImportError::TooManyModules(module.path.clone_in(alloc)?)),
-        None => Ok(Resolutions {
-            modules,
-            root,
-            held,
-        }),
-    }
-}
-
-fn kept_names(
-    alloc: Global,
-    keep: &[Text],
-    unit: &TranslationUnit,
-) -> Result<Items<Text>, AllocError> {
-    if keep.is_empty() {
-        return Ok(Items::from_vec(entry_points(alloc, unit)?));
-    }
-    let mut names = Items::new(alloc);
-    for name in keep {
-        names.push(name.clone_in(alloc)?)?;
-    }
-    Ok(names)
-}
-
-fn load_all<R: Resolver>(
-    alloc: Global,
-    resolver: &mut R,
-    modules: &mut Modules,
-    asked: &Asked,
-    max_modules: u32,
-) -> Result<(), ImportError> {
-    for (text, module) in asked {
-        if modules.len() >= max_modules as usize {
-            return Err(ImportError::TooManyModules(module.path.clone_in(alloc)?));
-        }
-        let unit = resolver.resolve_module(alloc, &module.path)?;
-        modules.insert(text.clone()?, Module::new(alloc, &module.path, unit)?)?;
-    }
-    Ok(())
+    let Reached {
+        modules,
+        root,
+        held,
+    } = load_reached(alloc, keep, unit, path, resolver, max_modules)?;
+    Ok(Resolutions {
+        modules,
+        root,
+        held,
+    })
 }

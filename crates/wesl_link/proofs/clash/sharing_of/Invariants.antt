@@ -1,6 +1,6 @@
 use Rattle.std.proofs.Common.{◌≡◌, take}
 use Rattle.wesl_link.specs.Clashing.{sharing_at, sharing_in}
-use Rattle.wesl_link.specs.Scopes.{texts}
+use Rattle.wesl_rename.specs.Scopes.{texts}
 use Rattle.wesl_link.proofs.clash.sharing_of.Given as goal
 
 abbrev pub invariant-loop-name : goal.invariant-loop-name

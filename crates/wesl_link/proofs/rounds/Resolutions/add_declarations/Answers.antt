@@ -2,10 +2,10 @@ use Rattle.std.proofs.Common.{◌≡◌, ◌∙◌, ℕ, Bool, ◌≤◌, length
 use Rattle.std.specs.Prelude.{is_some, string_bytes}
 use Rattle.wgsl_syntax.specs.Tree.{Decl}
 use Rattle.wesl_sources.specs.Linked.{renamed_declaration}
-use Rattle.wesl_link.specs.Outcomes.{loaded, home_of}
-use Rattle.wesl_link.specs.Closing.{held_at}
+use Rattle.wesl_scopes.specs.Outcomes.{loaded, home_of}
+use Rattle.wesl_reach.specs.Closing.{held_at}
 use Rattle.wesl_link.specs.Assembling.{naming}
-use Rattle.wesl_link.specs.Resolved.{declaration_trees}
+use Rattle.wesl_link.specs.Assembling.{declaration_trees}
 use Rattle.wesl_link.proofs.AssembleLemmas.{held_step, held_end}
 use Rattle.wesl_link.proofs.rounds.Resolutions.add_declarations.Goals as goal
 

@@ -1,10 +1,10 @@
 use Rattle.std.proofs.Common.{◌≡◌, ◌++◌, drop, map}
 use Rattle.std.specs.Prelude.{is_some, string_bytes}
 use Rattle.wesl_sources.specs.Linked.{renamed_declaration}
-use Rattle.wesl_link.specs.Outcomes.{loaded, home_of}
-use Rattle.wesl_link.specs.Closing.{held_at}
+use Rattle.wesl_scopes.specs.Outcomes.{loaded, home_of}
+use Rattle.wesl_reach.specs.Closing.{held_at}
 use Rattle.wesl_link.specs.Assembling.{naming, held_among}
-use Rattle.wesl_link.specs.Resolved.{declaration_trees}
+use Rattle.wesl_link.specs.Assembling.{declaration_trees}
 use Rattle.wesl_link.proofs.rounds.Resolutions.add_declarations.Given as goal
 
 abbrev pub invariant-loop-place : goal.invariant-loop-place

@@ -1,9 +1,9 @@
 use Rattle.std.proofs.Common.{◌≡◌, ◌++◌, drop}
 use Rattle.std.specs.Prelude.{string_bytes}
 use Rattle.wesl_link.specs.Clashing.{names_among}
-use Rattle.wesl_link.specs.Closing.{held_at}
-use Rattle.wesl_link.specs.Resolved.{declaration_trees}
-use Rattle.wesl_link.specs.Scopes.{texts}
+use Rattle.wesl_reach.specs.Closing.{held_at}
+use Rattle.wesl_link.specs.Assembling.{declaration_trees}
+use Rattle.wesl_rename.specs.Scopes.{texts}
 use Rattle.wesl_link.proofs.rounds.Resolutions.add_names.Given as goal
 
 abbrev pub invariant-loop-place : goal.invariant-loop-place

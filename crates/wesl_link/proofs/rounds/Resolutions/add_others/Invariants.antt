@@ -1,6 +1,6 @@
 use Rattle.std.proofs.Common.{◌≡◌, ◌++◌}
 use Rattle.std.specs.Prelude.{string_bytes}
-use Rattle.wesl_link.specs.Resolved.{declaration_trees, others_linked}
+use Rattle.wesl_link.specs.Assembling.{declaration_trees, others_linked}
 use Rattle.wesl_link.proofs.rounds.Resolutions.add_others.Given as goal
 
 abbrev pub invariant-loop-text : goal.invariant-loop-text

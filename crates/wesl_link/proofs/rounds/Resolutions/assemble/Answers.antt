@@ -1,7 +1,7 @@
 use Rattle.std.proofs.Common.{sym, subst}
 use Rattle.std.specs.Prelude.{string_bytes}
 use Rattle.wesl_sources.specs.Linked.{IsLinked}
-use Rattle.wesl_link.specs.Resolved.{modules_of}
+use Rattle.wesl_reach.specs.Resolved.{modules_of}
 use Rattle.wesl_link.proofs.ResolvedLemmas.{assembled_linked}
 use Rattle.wesl_link.proofs.rounds.Resolutions.assemble.Goals as goal
 

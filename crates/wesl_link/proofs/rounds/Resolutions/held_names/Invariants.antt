@@ -1,6 +1,6 @@
 use Rattle.std.proofs.Common.{◌≡◌, ◌++◌}
 use Rattle.wesl_link.specs.Clashing as spec
-use Rattle.wesl_link.specs.Scopes.{texts}
+use Rattle.wesl_rename.specs.Scopes.{texts}
 use Rattle.wesl_link.proofs.rounds.Resolutions.held_names.Given as goal
 
 abbrev pub invariant-loop-module : goal.invariant-loop-module

@@ -1,0 +1,6 @@
+pub mod ClosingLemmas
+pub mod ReachLemmas
+pub mod FollowLemmas
+pub mod StageLemmas
+pub mod PresentLemmas
+pub mod RoundLemmas

@@ -1,0 +1,138 @@
+-- That nothing is missing, one name, one place, one module after another.
+use Rattle.std.proofs.Common.{◌≡◌, refl, sym, ap, ◌∙◌, subst, ℕ, zero, suc, ◌+◌, ◌<◌, ◌≤◌, ◌⊎◌, inl, inr, ⊎_elim, List, [], ◌∷◌, length, false, Option, Some, None, arith}
+use Rattle.std.specs.Prelude.{slice_get, string_bytes}
+use Rattle.std.specs.Option.{IsSome}
+use Rattle.std.specs.Ordering.{nat_cmp, is_eq}
+use Rattle.std.specs.Cmp.{unsigned_ties}
+use Rattle.std.specs.Cmp.Lexicographic.{slice_cmp}
+use Rattle.std.specs.List.{Contains}
+use Rattle.std.specs.BTreeMap.{BTreeMap, get, get_by_text, is_at, keys}
+use Rattle.std.specs.declared.string.String.{String}
+use Rattle.std.specs.declared.alloc.Global.{Global}
+use Rattle.std.proofs.lemmas.Bool.{eqb-true}
+use Rattle.std.proofs.lemmas.Option.{slice_get_within}
+use Rattle.std.proofs.lemmas.Map.Entries.{place_from_lookup}
+use Rattle.std.proofs.lemmas.Map.Text.{is_eq-slice_cmp}
+use denote.Ref.{Bor}
+use Rattle.wgsl_syntax.specs.Tree.{Decl, Unit}
+use Rattle.wesl_sources.specs.Occurrences.{Name, occurrences}
+use Rattle.wesl_sources.specs.Modules.{Path}
+use Rattle.wesl_rename.specs.Scopes.{texts}
+use Rattle.wesl_scopes.specs.Outcomes.{Outcome, symbol_at, unloaded, missing, private, free, Loaded, outcome}
+use Rattle.wesl_reach.specs.Closing.{HeldNames, name_among, held_at}
+use Rattle.wesl_reach.specs.Following.{Stage, Handled, AllFollowed, IsPresent, ArePresent}
+use Rattle.wesl_scopes.proofs.ScopeLemmas.{to_contains, from_contains, get_map, map_get, same_name}
+
+abbrev pub PresentBelow : Loaded → Path × Unit → List (Bor (List ℕ)) → ℕ → Type 0
+PresentBelow find h names n = (i : ℕ) (x : Name) → i < n → slice_get (texts names) i ≡ Some x → IsPresent (outcome find h x)
+
+pub none_present : (find : Loaded) (h : Path × Unit) (names : List (Bor (List ℕ))) → PresentBelow find h names 0
+none_present find h names i x less is = absurd (omega arith)
+
+pub one_present : (find : Loaded) (h : Path × Unit) (names : List (Bor (List ℕ))) (n : ℕ) (x : Name) → slice_get (texts names) n ≡ Some x
+    → PresentBelow find h names n → IsPresent (outcome find h x) → PresentBelow find h names (n + 1)
+one_present find h names n x is below now i y less there = ⊎_elim
+    (λ before. below i y before there)
+    (λ e. let both : Some x ≡ Some y = sym is ∙ ap (slice_get (texts names)) (sym e) ∙ there in let same : x ≡ y = cc in subst (λ z. IsPresent (outcome find h z)) same now)
+    (either i n less)
+  where
+    either : (i n : ℕ) → i < n + 1 → (i < n) ⊎ (i ≡ n)
+    either i n h = grind arith
+
+pub all_present : (find : Loaded) (m : Path) (k : ℕ) (h : Path × Unit) (d : Decl) (names : List (Bor (List ℕ))) (n : ℕ)
+    → find m ≡ Some h → slice_get h.1.declarations k ≡ Some d → texts names ≡ occurrences d → length names ≤ n → PresentBelow find h names n → ArePresent find m k
+all_present find m k h d names n here there whole all below g e x is at c =
+    let both : Some h ≡ Some g = sym here ∙ is in
+    let same : h ≡ g = cc in
+    let at_home : slice_get h.1.declarations k ≡ Some e = subst (λ (f : Path × Unit). slice_get f.1.declarations k ≡ Some e) (sym same) at in
+    let two : Some d ≡ Some e = sym there ∙ at_home in
+    let declared : d ≡ e = cc in
+    let p = from_contains (occurrences d) x (subst (λ f. Contains (occurrences f) x) (sym declared) c) in
+    let found : slice_get (texts names) p.0 ≡ Some x = ap (λ l. slice_get l p.0) whole ∙ p.1 in
+    let inside = map_get (λ (t : Bor (List ℕ)). t.now) names p.0 x found in
+    let less : p.0 < n = (let within : p.0 < length names = slice_get_within names p.0 inside.0 inside.1 in omega arith) in
+    subst (λ (f : Path × Unit). IsPresent (outcome find f x)) same (below p.0 x less found)
+
+pub not_loaded : (find : Loaded) (m : Path) (k : ℕ) → find m ≡ None → ArePresent find m k
+not_loaded find m k none h d x is there c = let both : None ≡ Some h = sym none ∙ is in absurd (cc)
+
+pub no_declaration : (find : Loaded) (m : Path) (k : ℕ) (g : Path × Unit) → find m ≡ Some g → slice_get g.1.declarations k ≡ None → ArePresent find m k
+no_declaration find m k g here none h d x is there c =
+    let both : Some g ≡ Some h = sym here ∙ is in
+    let same : g ≡ h = cc in
+    let two : None ≡ Some d = sym none ∙ subst (λ (f : Path × Unit). slice_get f.1.declarations k ≡ Some d) (sym same) there in
+    absurd (cc)
+
+-- ---- what is left to look at
+
+-- what is true of each element that is no longer left
+abbrev pub DoneBut : {A : Type 0} → (A → Type 0) → List A → List A → Type 0
+DoneBut P left all = (x : _) → Contains all x → P x ⊎ Contains left x
+
+pub all_left : {A : Type 0} (P : A → Type 0) (all : List A) → DoneBut P all all
+all_left P all x c = inr c
+
+in_cases : {A : Type 0} (y : A) (ys : List A) (x : A) → Contains (y ∷ ys) x → (y ≡ x) ⊎ Contains ys x
+in_cases y ys x c = let p = from_contains (y ∷ ys) x c in at p.0 p.1
+  where
+    at : (i : ℕ) → slice_get (y ∷ ys) i ≡ Some x → (y ≡ x) ⊎ Contains ys x
+    at zero e = inl (cc)
+    at (suc i) e = inr (to_contains ys i x e)
+
+pub one_done : {A : Type 0} (P : A → Type 0) (left rest all : List A) (y : A) → left ≡ y ∷ rest → P y → DoneBut P left all → DoneBut P rest all
+one_done P left rest all y e now before x c = ⊎_elim (λ p. inl p) (λ l. ⊎_elim (λ same. inl (subst P same now)) (λ r. inr r) (in_cases y rest x (subst (λ l. Contains l x) e l))) (before x c)
+
+pub all_done : {A : Type 0} (P : A → Type 0) (left all : List A) → left ≡ [] → DoneBut P left all → (x : A) → Contains all x → P x
+all_done P left all e before x c = ⊎_elim (λ p. p) (λ l. let p = from_contains [] x (subst (λ l. Contains l x) e l) in let no : None ≡ Some x = p.1 in absurd (cc)) (before x c)
+
+some_value : {A : Type 0} (o : Option A) → IsSome o → (x : A) × (o ≡ Some x)
+some_value None s = absurd (cc)
+some_value (Some x) s = (x, refl)
+
+-- the key of what is found
+pub key_found : {X : Type 0} (places : BTreeMap ℕ X) (k : ℕ) → IsSome (get nat_cmp places k) → Contains (keys places) k
+key_found places k s =
+    let v = some_value (get nat_cmp places k) s in
+    let p = place_from_lookup (is_at (nat_cmp k)) places.entries v.0 v.1 in
+    let same : k ≡ p.1 = eqb-true k p.1 (unsigned_ties k p.1 ∙ p.3) in
+    subst (Contains (keys places)) (sym same) (to_contains (keys places) p.0 p.1 (get_map (λ e. e.0) places.entries p.0 (p.1, v.0) p.2))
+
+-- the entry under which a place is held
+pub entry_found : (held : HeldNames) (m : Path) (k : ℕ) → IsSome (held_at held m k)
+    → (key : String Global) × (places : BTreeMap ℕ Name) × Contains held.entries (key, places) × (string_bytes key ≡ m) × IsSome (get nat_cmp places k)
+entry_found held m k s = at (get_by_text held m) refl s
+  where
+    at : (o : Option (BTreeMap ℕ Name)) → get_by_text held m ≡ o → IsSome (name_among o k)
+        → (key : String Global) × (places : BTreeMap ℕ Name) × Contains held.entries (key, places) × (string_bytes key ≡ m) × IsSome (get nat_cmp places k)
+    at None e s = absurd (cc)
+    at (Some places) e s =
+        let p = place_from_lookup (λ l. is_eq (slice_cmp nat_cmp m (string_bytes l))) held.entries places e in
+        (p.1, places, to_contains held.entries p.0 (p.1, places) p.2, sym (same_name m (string_bytes p.1) (sym (is_eq-slice_cmp m (string_bytes p.1)) ∙ p.3)), s)
+
+-- with nothing missing
+abbrev pub surely : Stage → Stage
+surely s = record { held = s.held; asks = s.asks; is_missing = false; reached = [] }
+
+sure_handled : (s : Stage) (o : Outcome) → s.is_missing ≡ false → Handled s o → Handled (surely s) o
+sure_handled s (symbol_at m k) e h = h
+sure_handled s (unloaded u) e h = h
+sure_handled s (missing u) e h = sym e ∙ h
+sure_handled s (private u) e h = sym e ∙ h
+sure_handled s free e h = h
+
+present_handled : (s : Stage) (o : Outcome) → IsPresent o → Handled s o → Handled (surely s) o
+present_handled s (symbol_at m k) p h = h
+present_handled s (unloaded u) p h = h
+present_handled s (missing u) p h = absurd p
+present_handled s (private u) p h = absurd p
+present_handled s free p h = h
+
+pub followed_sure : (find : Loaded) (s : Stage) → s.is_missing ≡ false → AllFollowed find s → AllFollowed find (surely s)
+followed_sure find s e all m k held h d x is there c = sure_handled s (outcome find h x) e (all m k held h d x is there c)
+
+pub followed_present : (find : Loaded) (s : Stage) → ((m : Path) (k : ℕ) → IsSome (s.held m k) → ArePresent find m k) → AllFollowed find s → AllFollowed find (surely s)
+followed_present find s present all m k held h d x is there c = present_handled s (outcome find h x) (present m k held h d x is there c) (all m k held h d x is there c)
+
+pub not_some : {A : Type 0} (o : Option A) → ((x : A) → o ≡ Some x → ⊥) → o ≡ None
+not_some None other = refl
+not_some (Some x) other = absurd (other x refl)

@@ -1,0 +1,5 @@
+pub mod Reach
+pub mod Closing
+pub mod Following
+pub mod Stages
+pub mod Resolved

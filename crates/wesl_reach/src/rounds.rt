@@ -1,0 +1,101 @@
+//! Loads what the kept names reach, a round of modules after another.
+
+use crate::closing::{close_asked, close_root};
+use wesl_scopes::ImportError;
+use crate::linking::{Asked, Held, Linking};
+use wesl_scopes::{Module, Modules, entry_points};
+use std::alloc::{AllocError, Global};
+use wesl_resolve::Resolver;
+use wgsl_items::{CloneIn, Items, Text};
+use wgsl_path::ModulePath;
+use wgsl_syntax::TranslationUnit;
+
+/// The modules that were loaded, and what is reached in them.
+#[derive(Debug, Drop)]
+pub struct Reached {
+    pub modules: Modules,
+    /// The root's printed path.
+    pub root: String,
+    pub held: Held,
+}
+
+/// Loads the modules that the kept names of the root lead to. Where no name is kept, the root's entry points are.
+///
+/// The rounds: each takes the newly asked modules in byte order of their printed paths. Then the reached declarations are
+/// closed over the loaded modules, and the first occurrence in them that denotes nothing is refused, by printed path and
+/// then place. What is still asked for is the next round.
+pub fn load_reached<R: Resolver>(
+    alloc: Global,
+    keep: &[Text],
+    unit: TranslationUnit,
+    path: &ModulePath,
+    resolver: &mut R,
+    max_modules: u32,
+) -> Result<Reached, ImportError> {
+    if max_modules == 0 {
+        return Err(ImportError::TooManyModules(path.clone_in(alloc)?));
+    }
+    let root = path.to_string(alloc)?;
+    let kept = kept_names(alloc, keep, &unit)?;
+    let mut modules = Modules::new(alloc);
+    modules.insert(root.clone()?, Module::new(alloc, path, unit)?)?;
+    let mut held = Held::new(alloc);
+    let start = Linking {
+        modules: &modules,
+        root: root.as_str(),
+        keep: kept.as_slice(),
+    };
+    let mut asked = close_root(alloc, &start, path, &mut held)?;
+    for _round in 1..max_modules {
+        if asked.is_empty() {
+            break;
+        }
+        load_all(alloc, resolver, &mut modules, &asked, max_modules)?;
+        let linking = Linking {
+            modules: &modules,
+            root: root.as_str(),
+            keep: kept.as_slice(),
+        };
+        asked = close_asked(alloc, &linking, &asked, &mut held)?;
+    }
+    match asked.first_key_value() {
+        Some((_, module)) => Err(ImportError::TooManyModules(module.path.clone_in(alloc)?)),
+        None => Ok(Reached {
+            modules,
+            root,
+            held,
+        }),
+    }
+}
+
+fn kept_names(
+    alloc: Global,
+    keep: &[Text],
+    unit: &TranslationUnit,
+) -> Result<Items<Text>, AllocError> {
+    if keep.is_empty() {
+        return Ok(Items::from_vec(entry_points(alloc, unit)?));
+    }
+    let mut names = Items::new(alloc);
+    for name in keep {
+        names.push(name.clone_in(alloc)?)?;
+    }
+    Ok(names)
+}
+
+fn load_all<R: Resolver>(
+    alloc: Global,
+    resolver: &mut R,
+    modules: &mut Modules,
+    asked: &Asked,
+    max_modules: u32,
+) -> Result<(), ImportError> {
+    for (text, module) in asked {
+        if modules.len() >= max_modules as usize {
+            return Err(ImportError::TooManyModules(module.path.clone_in(alloc)?));
+        }
+        let unit = resolver.resolve_module(alloc, &module.path)?;
+        modules.insert(text.clone()?, Module::new(alloc, &module.path, unit)?)?;
+    }
+    Ok(())
+}

@@ -1,0 +1,3 @@
+pub mod TableLemmas
+pub mod ScopeLemmas
+pub mod TellLemmas

@@ -1,0 +1,3 @@
+pub mod Meanings
+pub mod Outcomes
+pub mod Tells

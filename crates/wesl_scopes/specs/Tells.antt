@@ -1,0 +1,44 @@
+-- What the code finds, in the words of the definitions.
+use Rattle.std.specs.Prelude.{◌≡◌, ℕ, [], Some, None, Result, Ok, Err, slice_get}
+use Rattle.wgsl_path.specs.declared.path.ModulePath.{ModulePath}
+use Rattle.wgsl_syntax.specs.Tree.{Decl, Unit}
+use Rattle.wgsl_syntax.specs.declared.unit.TranslationUnit.{TranslationUnit}
+use Rattle.wgsl_syntax.specs.View.{unit_tree}
+use Rattle.wesl_sources.specs.Occurrences.{Name, declared_name}
+use Rattle.wesl_sources.specs.Modules.{Path, Symbol, Modules, IsModule, Denotes, IsMissing, IsPrivate, IsFree, IsUnloaded}
+use Rattle.wesl_sources.specs.Rounds.{scope_names, AreDistinct, IsFirstAgain}
+use Rattle.wesl_scopes.specs.declared.error.ImportError.{ImportError}
+use Rattle.wesl_scopes.specs.declared.error.ImportError.TheVariants.{OutOfMemory, DuplicateSymbol}
+use Rattle.wesl_scopes.specs.declared.module.Module.{Module}
+use Rattle.wesl_scopes.specs.Meanings.{Done, entries, names, first_again}
+use Rattle.wesl_scopes.specs.Outcomes.{Outcome, symbol_at, unloaded, missing, private, free, Loaded}
+
+-- A module is made of its unit, or is refused for the first name that its scope has twice.
+abbrev pub Opens : ModulePath → TranslationUnit → Result Module ImportError → Type 0
+Opens path unit (Ok m) = (m.path ≡ path) × (m.unit ≡ unit) × AreDistinct (scope_names (unit_tree unit))
+Opens path unit (Err OutOfMemory) = Done
+Opens path unit (Err (DuplicateSymbol p x)) = (p ≡ path) × IsFirstAgain (scope_names (unit_tree unit)) x
+Opens path unit (Err e) = ⊥
+
+-- these are the modules that are found at their printed paths, and none has a name twice
+pub record IsFinder (modules : Modules) (find : Loaded) : Type 0 where
+  pub found : (p : Path) (m : Path × Unit) → find p ≡ Some m → IsModule modules p m.1 × (m.0 ≡ p)
+  pub finds : (p : Path) (u : Unit) → IsModule modules p u → find p ≡ Some (p, u)
+  pub fresh : (p : Path) (m : Path × Unit) → find p ≡ Some m → first_again [] (names (entries m.1)) ≡ None
+
+-- the declaration at a place of a loaded module
+pub record StandsAt (modules : Modules) (m : Path) (place : ℕ) (s : Symbol) : Type 0 where
+  pub unit : Unit
+  pub declaration : Decl
+  pub is_module : IsModule modules m unit
+  pub stands : slice_get unit.declarations place ≡ Some declaration
+  pub home : s.home ≡ m
+  pub name : s.name ≡ declared_name declaration
+
+-- what an outcome says of a name of a module
+abbrev pub Tells : Modules → Path → Name → Outcome → Type 0
+Tells modules m x (symbol_at n place) = (s : Symbol) × StandsAt modules n place s × Denotes modules m x s
+Tells modules m x (unloaded s) = IsUnloaded modules m x s
+Tells modules m x (missing s) = IsMissing modules m x s
+Tells modules m x (private s) = IsPrivate modules m x s
+Tells modules m x free = IsFree modules m x

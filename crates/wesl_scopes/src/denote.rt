@@ -1,0 +1,100 @@
+//! What names denote.
+
+ghost use Rattle.std.specs.Prelude.{◌≡◌, Some, string_bytes};
+ghost use Rattle.wesl_sources.specs.Modules as spec;
+ghost use Rattle.wesl_scopes.specs.Outcomes.{item_at, item_outcome, outcome, outcome_of, home_of, loaded};
+ghost use Rattle.wesl_scopes.specs.Tells.{IsFinder, Tells};
+
+use crate::module::{Module, Modules};
+use crate::target::{Meaning, Target};
+use wgsl_items::Text;
+use wgsl_path::ModulePath;
+use wgsl_syntax::GlobalDeclaration;
+
+/// A declaration of a loaded module.
+#[derive(Clone, Copy)]
+pub struct Symbol<'a> {
+    pub module: &'a Module,
+    /// The place of the declaration among those of its module.
+    pub place: usize,
+}
+
+impl<'a> Symbol<'a> {
+    pub fn declaration(&self) -> Option<&'a GlobalDeclaration> {
+        self.module.declaration(self.place)
+    }
+}
+
+/// What a name that no parameter hides denotes.
+#[derive(Clone, Copy)]
+pub enum Denoted<'a> {
+    Declared(Symbol<'a>),
+    /// An item of a module that is not loaded.
+    Unloaded(&'a Target),
+    /// Nothing: the module at this path lacks the item of this name.
+    Missing(&'a ModulePath, &'a Text),
+    /// Nothing: the module at this path only imports the item of this name.
+    Private(&'a ModulePath, &'a Text),
+    /// A name that the module neither declares nor imports.
+    Free,
+}
+
+/// What a name of a module denotes: its own declaration, else what its import names.
+pub fn denotation<'a>(modules: &'a Modules, module: &'a Module, name: &str) -> Denoted<'a>
+    ensures found { outcome_of result ≡ outcome (loaded modules.now) (home_of module.now) name.now }
+    ensures means { (ms : spec.Modules) → IsFinder ms (loaded modules.now) → loaded modules.now (string_bytes module.now.text) ≡ Some (home_of module.now) → Tells ms (string_bytes module.now.text) name.now (outcome_of result) }
+{
+    looked_up(modules, module, name)
+}
+
+fn looked_up<'a>(modules: &'a Modules, module: &'a Module, name: &str) -> Denoted<'a>
+    ensures { outcome_of result ≡ outcome (loaded modules.now) (home_of module.now) name.now }
+{
+    match module.meanings.get(name) {
+        None => Denoted::Free,
+        Some(Meaning::Declared(place)) => Denoted::Declared(Symbol {
+            module,
+            place: *place,
+        }),
+        Some(Meaning::Imported(target)) => sought(modules, target),
+        Some(Meaning::Bare(item)) => Denoted::Missing(&module.path, item),
+    }
+}
+
+fn sought<'a>(modules: &'a Modules, target: &'a Target) -> Denoted<'a>
+    ensures { outcome_of result ≡ item_at (record { home = string_bytes target.now.text; name = target.now.item }) (loaded modules.now (string_bytes target.now.text)) }
+{
+    match item_of(modules, target.text.as_str(), target.item.as_str()) {
+        Item::Declared(symbol) => Denoted::Declared(symbol),
+        Item::Imported => Denoted::Private(&target.path, &target.item),
+        Item::Absent => Denoted::Missing(&target.path, &target.item),
+        Item::Unloaded => Denoted::Unloaded(target),
+    }
+}
+
+/// What a module has under a name.
+#[derive(Clone, Copy)]
+pub enum Item<'a> {
+    Declared(Symbol<'a>),
+    Imported,
+    Absent,
+    /// The module is not loaded.
+    Unloaded,
+}
+
+/// What the module at a printed path has under a name.
+pub fn item_of<'a>(modules: &'a Modules, text: &str, name: &str) -> Item<'a>
+    ensures { item_outcome (record { home = text.now; name = name.now }) result ≡ item_at (record { home = text.now; name = name.now }) (loaded modules.now text.now) }
+{
+    let Some(module) = modules.get(text) else {
+        return Item::Unloaded;
+    };
+    match module.meanings.get(name) {
+        None => Item::Absent,
+        Some(Meaning::Imported(_) | Meaning::Bare(_)) => Item::Imported,
+        Some(Meaning::Declared(place)) => Item::Declared(Symbol {
+            module,
+            place: *place,
+        }),
+    }
+}

@@ -1,0 +1,83 @@
+//! A module that is loaded.
+
+ghost use Rattle.std.specs.Prelude.{◌≡◌, [], None, string_bytes};
+ghost use Rattle.wgsl_path.specs.Paths.{path_text};
+ghost use Rattle.wgsl_syntax.specs.View.{unit_tree};
+ghost use Rattle.wesl_scopes.specs.Meanings.{Answers, entries, names, first_again};
+
+use crate::error::ImportError;
+use crate::table::meanings_of;
+use crate::target::Meaning;
+use std::alloc::{AllocError, Global};
+use std::collections::BTreeMap;
+use wgsl_items::{CloneIn, Text};
+use wgsl_path::ModulePath;
+use wgsl_syntax::{Attribute, GlobalDeclaration, TranslationUnit};
+
+/// A module that is loaded.
+#[derive(Debug, Drop)]
+pub struct Module {
+    pub path: ModulePath,
+    /// The path as it is printed.
+    pub text: String,
+    pub unit: TranslationUnit,
+    pub meanings: BTreeMap<String, Meaning>,
+    ghost printed: { string_bytes text ≡ path_text path },
+    ghost tabulated: { Answers meanings (entries (unit_tree unit)) },
+    ghost fresh: { first_again [] (names (entries (unit_tree unit))) ≡ None },
+}
+
+/// The loaded modules, by their printed paths.
+pub type Modules = BTreeMap<String, Module>;
+
+impl Module {
+    ghost use Rattle.std.specs.Prelude.{◌≡◌, slice_get};
+    ghost use Rattle.std.specs.Option.{option_map};
+    ghost use Rattle.wgsl_syntax.specs.View.{unit_tree, declaration_tree};
+    ghost use Rattle.wesl_scopes.specs.Tells.{Opens};
+
+    /// A module with the table of its names. It is refused where a name is declared or imported twice.
+    pub fn new(
+        alloc: Global,
+        path: &ModulePath,
+        unit: TranslationUnit,
+    ) -> Result<Module, ImportError>
+        ensures { Opens path.now unit result }
+    {
+        let meanings = meanings_of(alloc, path, &unit)?;
+        Ok(Module {
+            path: path.clone_in(alloc)?,
+            text: path.to_string(alloc)?,
+            unit,
+            meanings,
+        })
+    }
+
+    /// The declaration at a place.
+    #[tactic(auto, using(crate::proofs::ScopeLemmas::declaration_place))]
+    pub fn declaration(&self, place: usize) -> Option<&GlobalDeclaration>
+        ensures { option_map (λ d. declaration_tree d.now) result ≡ slice_get (unit_tree self.now.unit).declarations place }
+    {
+        match self.unit.global_declarations.get(place) {
+            None => None,
+            Some(declaration) => Some(declaration.node()),
+        }
+    }
+}
+
+/// The names of a module's entry points: its functions with a stage attribute.
+pub fn entry_points(alloc: Global, unit: &TranslationUnit) -> Result<Vec<Text>, AllocError> {
+    let mut names = Vec::new(alloc);
+    for declaration in unit.global_declarations.as_slice() {
+        if let GlobalDeclaration::Function(function) = declaration.node()
+            && is_stage(function.attributes.as_slice())
+        {
+            names.push(function.ident.name.clone_in(alloc)?)?;
+        }
+    }
+    Ok(names)
+}
+
+fn is_stage(attributes: &[wgsl_syntax::AttributeNode]) -> bool {
+    attributes.iter().any(|attribute| matches!(attribute.node(), Attribute::Fragment))
+}

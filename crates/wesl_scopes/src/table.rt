@@ -1,0 +1,86 @@
+//! The table of a module's names.
+
+ghost use Rattle.std.specs.Prelude.{◌≡◌, Some, IfOk};
+ghost use Rattle.wgsl_syntax.specs.View.{unit_tree, import_tree, declaration_tree};
+ghost use Rattle.wesl_sources.specs.Occurrences as occurrences;
+ghost use Rattle.wesl_sources.specs.Modules as spec;
+ghost use Rattle.wesl_scopes.specs.Meanings.{Adds, Tabulates, known_of, import_known};
+
+use crate::error::ImportError;
+use crate::target::{Meaning, Target};
+use std::alloc::{AllocError, Global};
+use std::collections::BTreeMap;
+use wgsl_items::{CloneIn, Text};
+use wgsl_path::ModulePath;
+use wgsl_syntax::{GlobalDeclaration, ImportContent, ImportStatement, TranslationUnit};
+
+/// What each name of a module means. It is refused where a name is declared or imported twice.
+pub fn meanings_of(
+    alloc: Global,
+    path: &ModulePath,
+    unit: &TranslationUnit,
+) -> Result<BTreeMap<String, Meaning>, ImportError>
+    ensures { Tabulates path.now (unit_tree unit.now) result }
+{
+    let mut meanings = BTreeMap::new(alloc);
+    for import in unit.imports.as_slice() {
+        let meaning = import_meaning(alloc, import)?;
+        add_meaning(alloc, path, &mut meanings, local_name(import), meaning)?;
+    }
+    for (place, declaration) in unit.global_declarations.as_slice().iter().enumerate() {
+        let name = declared_name(declaration.node());
+        add_meaning(alloc, path, &mut meanings, name, Meaning::Declared(place))?;
+    }
+    Ok(meanings)
+}
+
+fn add_meaning(
+    alloc: Global,
+    path: &ModulePath,
+    meanings: &mut BTreeMap<String, Meaning>,
+    name: &str,
+    meaning: Meaning,
+) -> Result<(), ImportError>
+    ensures { Adds path.now meanings.old name.now (known_of meaning) result meanings.new }
+{
+    if meanings.contains_key(name) {
+        let name = Text::from_str(alloc, name)?;
+        return Err(ImportError::DuplicateSymbol(path.clone_in(alloc)?, name));
+    }
+    meanings.insert(String::from_str(alloc, name)?, meaning)?;
+    Ok(())
+}
+
+/// The name that an import brings into scope.
+fn local_name(import: &ImportStatement) -> &str
+    ensures { result.now ≡ spec.local_name (import_tree import.now) }
+{
+    match &import.content {
+        ImportContent::Item(item) => match &item.rename {
+            Some(name) => name.as_str(),
+            None => item.ident.as_str(),
+        },
+    }
+}
+
+/// What an import names.
+fn import_meaning(alloc: Global, import: &ImportStatement) -> Result<Meaning, AllocError>
+    ensures { IfOk result (λ meaning. known_of meaning ≡ import_known (import_tree import.now).path (import_tree import.now).item) }
+{
+    match &import.content {
+        ImportContent::Item(item) => match &import.path {
+            Some(module) => Ok(Meaning::Imported(Target::new(alloc, module, &item.ident.name)?)),
+            None => Ok(Meaning::Bare(item.ident.name.clone_in(alloc)?)),
+        },
+    }
+}
+
+/// The name that a declaration declares.
+pub fn declared_name(declaration: &GlobalDeclaration) -> &str
+    ensures { result.now ≡ occurrences.declared_name (declaration_tree declaration.now) }
+{
+    match declaration {
+        GlobalDeclaration::Declaration(declaration) => declaration.ident.as_str(),
+        GlobalDeclaration::Function(function) => function.ident.as_str(),
+    }
+}
