@@ -1,5 +1,12 @@
 //! The modules that are linked, and what is reached in them.
 
+ghost use Rattle.std.specs.Prelude.{◌≡◌};
+ghost use Rattle.wgsl_path.specs.Paths.{path_text};
+ghost use Rattle.wgsl_syntax.specs.View.{unit_tree};
+ghost use Rattle.wesl_resolve.specs.Found.{unit_of, SameAnswers, SameTexts};
+ghost use Rattle.wesl_sources.specs.Kept.{kept_names};
+ghost use Rattle.wesl_link.specs.Answers.{Resolves};
+
 use std::alloc::Global;
 use wesl_reach::{Held, Reached, load_reached};
 use wesl_resolve::Resolver;
@@ -25,7 +32,11 @@ pub fn resolve_lazy<R: Resolver>(
     path: &ModulePath,
     resolver: &mut R,
     max_modules: u32,
-) -> Result<Resolutions, ImportError> {
+) -> Result<Resolutions, ImportError>
+    ensures resolves { R.answers resolver.old (path_text path.now) (unit_of (unit_tree unit)) → Resolves (R.answers resolver.old) (path_text path.now) (kept_names keep.now (unit_tree unit)) max_modules result }
+    ensures same_answers { SameAnswers (R.answers resolver.old) (R.answers resolver.new) }
+    ensures same_texts { SameTexts (R.texts resolver.old) (R.texts resolver.new) }
+{
     let Reached {
         modules,
         root,

@@ -3,3 +3,6 @@ pub mod Closing
 pub mod Following
 pub mod Stages
 pub mod Resolved
+pub mod Missing
+pub mod Closed
+pub mod Answers

@@ -8,6 +8,7 @@ ghost use Rattle.wesl_sources.specs.Modules.{Path};
 ghost use Rattle.wesl_scopes.specs.Outcomes.{loaded, home_of, outcome};
 ghost use Rattle.wesl_reach.specs.Closing.{held_at};
 ghost use Rattle.wesl_reach.specs.Following.{IsPresent, ArePresent};
+ghost use Rattle.wesl_reach.specs.Missing.{FindsMissing};
 
 use wesl_scopes::{Denoted, Symbol, denotation};
 use wesl_scopes::ImportError;
@@ -24,7 +25,8 @@ pub fn first_missing(
     modules: &Modules,
     held: &Held,
 ) -> Result<Option<ImportError>, AllocError>
-    ensures { IfOk result (λ found. found ≡ None → (m : Path) (place : ℕ) → IsSome (held_at held.now m place) → ArePresent (loaded modules.now) m place) }
+    ensures present { IfOk result (λ found. found ≡ None → (m : Path) (place : ℕ) → IsSome (held_at held.now m place) → ArePresent (loaded modules.now) m place) }
+    ensures first { IfOk result (λ found. FindsMissing (loaded modules.now) (held_at held.now) found) }
 {
     for (text, places) in held {
         if let Some(error) = missing_among(alloc, modules, text.as_str(), places)? {

@@ -1,5 +1,12 @@
 //! Loads what the kept names reach, a round of modules after another.
 
+ghost use Rattle.std.specs.Prelude.{◌≡◌, IfOk};
+ghost use Rattle.wgsl_path.specs.Paths.{path_text};
+ghost use Rattle.wgsl_syntax.specs.View.{unit_tree};
+ghost use Rattle.wesl_resolve.specs.Found.{unit_of, SameAnswers, SameTexts};
+ghost use Rattle.wesl_sources.specs.Kept.{kept_names};
+ghost use Rattle.wesl_reach.specs.Answers.{Loading};
+
 use crate::closing::{close_asked, close_root};
 use wesl_scopes::ImportError;
 use crate::linking::{Asked, Held, Linking};
@@ -31,12 +38,16 @@ pub fn load_reached<R: Resolver>(
     path: &ModulePath,
     resolver: &mut R,
     max_modules: u32,
-) -> Result<Reached, ImportError> {
+) -> Result<Reached, ImportError>
+    ensures loading { R.answers resolver.old (path_text path.now) (unit_of (unit_tree unit)) → Loading (R.answers resolver.old) (path_text path.now) (kept_names keep.now (unit_tree unit)) max_modules result }
+    ensures same_answers { SameAnswers (R.answers resolver.old) (R.answers resolver.new) }
+    ensures same_texts { SameTexts (R.texts resolver.old) (R.texts resolver.new) }
+{
     if max_modules == 0 {
         return Err(ImportError::TooManyModules(path.clone_in(alloc)?));
     }
     let root = path.to_string(alloc)?;
-    let kept = kept_names(alloc, keep, &unit)?;
+    let kept = names_to_keep(alloc, keep, &unit)?;
     let mut modules = Modules::new(alloc);
     modules.insert(root.clone()?, Module::new(alloc, path, unit)?)?;
     let mut held = Held::new(alloc);
@@ -68,11 +79,13 @@ pub fn load_reached<R: Resolver>(
     }
 }
 
-fn kept_names(
+fn names_to_keep(
     alloc: Global,
     keep: &[Text],
     unit: &TranslationUnit,
-) -> Result<Items<Text>, AllocError> {
+) -> Result<Items<Text>, AllocError>
+    ensures { IfOk result (λ names. names ≡ kept_names keep.now (unit_tree unit.now)) }
+{
     if keep.is_empty() {
         return Ok(Items::from_vec(entry_points(alloc, unit)?));
     }

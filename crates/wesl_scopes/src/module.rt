@@ -1,8 +1,9 @@
 //! A module that is loaded.
 
-ghost use Rattle.std.specs.Prelude.{◌≡◌, [], None, string_bytes};
+ghost use Rattle.std.specs.Prelude.{◌≡◌, [], None, IfOk, string_bytes};
 ghost use Rattle.wgsl_path.specs.Paths.{path_text};
 ghost use Rattle.wgsl_syntax.specs.View.{unit_tree};
+ghost use Rattle.wesl_sources.specs.Kept as spec;
 ghost use Rattle.wesl_scopes.specs.Meanings.{Answers, entries, names, first_again};
 
 use crate::error::ImportError;
@@ -66,7 +67,9 @@ impl Module {
 }
 
 /// The names of a module's entry points: its functions with a stage attribute.
-pub fn entry_points(alloc: Global, unit: &TranslationUnit) -> Result<Vec<Text>, AllocError> {
+pub fn entry_points(alloc: Global, unit: &TranslationUnit) -> Result<Vec<Text>, AllocError>
+    ensures { IfOk result (λ names. names.items ≡ spec.entry_points (unit_tree unit.now).declarations) }
+{
     let mut names = Vec::new(alloc);
     for declaration in unit.global_declarations.as_slice() {
         if let GlobalDeclaration::Function(function) = declaration.node()
@@ -78,6 +81,8 @@ pub fn entry_points(alloc: Global, unit: &TranslationUnit) -> Result<Vec<Text>, 
     Ok(names)
 }
 
-fn is_stage(attributes: &[wgsl_syntax::AttributeNode]) -> bool {
+fn is_stage(attributes: &[wgsl_syntax::AttributeNode]) -> bool
+    ensures { result ≡ list_any spec.is_stage (map (λ a. attribute_tree a.node) attributes.now) }
+{
     attributes.iter().any(|attribute| matches!(attribute.node(), Attribute::Fragment))
 }

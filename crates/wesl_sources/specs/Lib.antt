@@ -5,3 +5,5 @@ pub mod Rounds
 pub mod Linked
 pub mod Loaded
 pub mod Clashing
+pub mod Kept
+pub mod Same

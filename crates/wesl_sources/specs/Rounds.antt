@@ -8,17 +8,13 @@ use Rattle.wgsl_path.specs.declared.path.ModulePath.{ModulePath}
 use Rattle.wgsl_path.specs.Paths.{path_text}
 use Rattle.wgsl_token.specs.declared.error.Error.{Error}
 use Rattle.wgsl_syntax.specs.Tree.{Decl, Unit}
+use Rattle.wesl_resolve.specs.Found.{Answer, unit_of, not_found, faulty}
 use Rattle.wesl_sources.specs.Occurrences.{Name, occurrences, declared_name}
 use Rattle.wesl_sources.specs.Modules.{Path, Symbol, Modules, Declares, local_name, IsModule, IsMissing, IsPrivate, Reached, IsAsked}
 
--- what is found at a path
-pub data Answer : Type 0 where
-  unit_of : Unit → Answer
-  not_found : Answer
-  faulty : Error → Answer
-
-abbrev pub Sources : Type 0
-Sources = Path → Answer
+-- what is found at each path
+abbrev pub Sources : Type 1
+Sources = Path → Answer → Type 0
 
 -- why modules are not linked
 pub data Refusal : Type 0 where
@@ -52,13 +48,13 @@ module _ (sources : Sources) (max : ℕ) where
   pub data Loads : ℕ → List Path → Result Modules Refusal → Type 0 where
     all_loaded : {n : ℕ} → Loads n [] (Ok [])
     one_too_many : {n : ℕ} {p : Path} {ps : List Path} → max ≤ n → Loads n (p ∷ ps) (Err (too_many_modules p))
-    is_not_found : {n : ℕ} {p : Path} {ps : List Path} → n < max → sources p ≡ not_found → Loads n (p ∷ ps) (Err (module_not_found p))
-    is_faulty : {n : ℕ} {p : Path} {ps : List Path} {e : Error} → n < max → sources p ≡ faulty e → Loads n (p ∷ ps) (Err (syntax p e))
-    has_a_name_twice : {n : ℕ} {p : Path} {ps : List Path} {u : Unit} {x : Name} → n < max → sources p ≡ unit_of u
+    is_not_found : {n : ℕ} {p : Path} {ps : List Path} → n < max → sources p not_found → Loads n (p ∷ ps) (Err (module_not_found p))
+    is_faulty : {n : ℕ} {p : Path} {ps : List Path} {e : Error} → n < max → sources p (faulty e) → Loads n (p ∷ ps) (Err (syntax p e))
+    has_a_name_twice : {n : ℕ} {p : Path} {ps : List Path} {u : Unit} {x : Name} → n < max → sources p (unit_of u)
         → IsFirstAgain (scope_names u) x → Loads n (p ∷ ps) (Err (duplicate_symbol p x))
-    loaded_then_refused : {n : ℕ} {p : Path} {ps : List Path} {u : Unit} {r : Refusal} → n < max → sources p ≡ unit_of u
+    loaded_then_refused : {n : ℕ} {p : Path} {ps : List Path} {u : Unit} {r : Refusal} → n < max → sources p (unit_of u)
         → AreDistinct (scope_names u) → Loads (n + 1) ps (Err r) → Loads n (p ∷ ps) (Err r)
-    loaded : {n : ℕ} {p : Path} {ps : List Path} {u : Unit} {path : ModulePath} {modules : Modules} → n < max → sources p ≡ unit_of u
+    loaded : {n : ℕ} {p : Path} {ps : List Path} {u : Unit} {path : ModulePath} {modules : Modules} → n < max → sources p (unit_of u)
         → AreDistinct (scope_names u) → path_text path ≡ p → Loads (n + 1) ps (Ok modules) → Loads n (p ∷ ps) (Ok ((path, u) ∷ modules))
 
 -- in byte order of what is printed

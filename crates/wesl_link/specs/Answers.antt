@@ -1,0 +1,15 @@
+-- What linking answers.
+use Rattle.std.specs.Prelude.{◌≡◌, ℕ, List, Result, Ok, Err, string_bytes}
+use Rattle.wesl_sources.specs.Occurrences.{Name}
+use Rattle.wesl_sources.specs.Modules.{Path}
+use Rattle.wesl_sources.specs.Rounds.{Sources}
+use Rattle.wesl_scopes.specs.declared.error.ImportError.{ImportError}
+use Rattle.wesl_reach.specs.Missing.{refusal_of}
+use Rattle.wesl_reach.specs.Answers.{AreLoadedTables, Refuses}
+use Rattle.wesl_link.specs.declared.rounds.Resolutions.{Resolutions}
+
+module _ (sources : Sources) (root : Path) (keep : List Name) (max : ℕ) where
+  -- memory aside, the tables of the modules that loading comes to, or the refusal that it comes to
+  abbrev pub Resolves : Result Resolutions ImportError → Type 0
+  Resolves (Ok r) = (string_bytes r.root ≡ root) × AreLoadedTables sources root keep max r.modules r.held
+  Resolves (Err e) = Refuses sources root keep max (refusal_of e)

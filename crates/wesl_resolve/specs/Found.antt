@@ -1,0 +1,36 @@
+-- What is found at the paths of modules.
+use Rattle.std.specs.Prelude.{◌≡◌, ⊤, ◌↔◌, List, ℕ, Result, Ok, Err}
+use Rattle.wgsl_path.specs.declared.path.ModulePath.{ModulePath}
+use Rattle.wgsl_token.specs.declared.error.Error.{Error}
+use Rattle.wgsl_syntax.specs.Tree.{Unit}
+use Rattle.wgsl_syntax.specs.declared.unit.TranslationUnit.{TranslationUnit}
+use Rattle.wgsl_syntax.specs.View.{unit_tree}
+use Rattle.wesl_resolve.specs.declared.error.ResolveError.{ResolveError}
+use Rattle.wesl_resolve.specs.declared.error.ResolveError.TheVariants.{ModuleNotFound, Syntax, OutOfMemory}
+
+-- a module's unit, that there is none, or what is wrong with its text
+pub data Answer : Type 0 where
+  unit_of : Unit → Answer
+  not_found : Answer
+  faulty : Error → Answer
+
+-- memory aside, a call that asks for the module at a path tells what is found there
+abbrev pub TellsUnit : (Answer → Type 0) → ModulePath → Result TranslationUnit ResolveError → Type 0
+TellsUnit found path (Ok unit) = found (unit_of (unit_tree unit))
+TellsUnit found path (Err (ModuleNotFound p)) = (p ≡ path) × found not_found
+TellsUnit found path (Err (Syntax p e)) = (p ≡ path) × found (faulty e)
+TellsUnit found path (Err OutOfMemory) = ⊤
+
+-- likewise for its text
+abbrev pub TellsText : (Answer → Type 0) → (List ℕ → Type 0) → ModulePath → Result (List ℕ) ResolveError → Type 0
+TellsText found texts path (Ok text) = texts text
+TellsText found texts path (Err (ModuleNotFound p)) = (p ≡ path) × found not_found
+TellsText found texts path (Err (Syntax p e)) = ⊥
+TellsText found texts path (Err OutOfMemory) = ⊤
+
+-- nothing is found otherwise
+abbrev pub SameAnswers : (List ℕ → Answer → Type 0) → (List ℕ → Answer → Type 0) → Type 0
+SameAnswers old new = (p : List ℕ) (a : Answer) → old p a ↔ new p a
+
+abbrev pub SameTexts : (List ℕ → List ℕ → Type 0) → (List ℕ → List ℕ → Type 0) → Type 0
+SameTexts old new = (p text : List ℕ) → old p text ↔ new p text
