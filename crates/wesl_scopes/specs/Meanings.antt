@@ -11,8 +11,10 @@ use Rattle.wgsl_path.specs.Paths.{path_text}
 use Rattle.wgsl_syntax.specs.Tree.{Decl, Imp, Unit}
 use Rattle.wesl_sources.specs.Occurrences.{Name, is_among, declared_name}
 use Rattle.wesl_sources.specs.Modules.{Symbol, local_name}
+use Rattle.wesl_resolve.specs.declared.error.ResolveError.{ResolveError}
+use Rattle.wesl_resolve.specs.declared.error.ResolveError.TheVariants as resolve
 use Rattle.wesl_scopes.specs.declared.error.ImportError.{ImportError}
-use Rattle.wesl_scopes.specs.declared.error.ImportError.TheVariants.{OutOfMemory, DuplicateSymbol}
+use Rattle.wesl_scopes.specs.declared.error.ImportError.TheVariants.{OutOfMemory, DuplicateSymbol, Resolve}
 use Rattle.wesl_scopes.specs.declared.target.Meaning.{Meaning}
 use Rattle.wesl_scopes.specs.declared.target.Meaning.TheVariants.{Declared, Imported, Bare}
 
@@ -79,3 +81,9 @@ Adds path old x k (Ok u) new =
 Adds path old x k (Err OutOfMemory) new = Done
 Adds path old x k (Err (DuplicateSymbol p y)) new = (p ≡ path) × (y ≡ x) × (option_map known_of (get_by_text old x) ≢ None)
 Adds path old x k (Err e) new = ⊥
+
+-- the error of linking for what a resolver refuses
+abbrev pub GivesError : ResolveError → ImportError → Type 0
+GivesError resolve.OutOfMemory e = e ≡ OutOfMemory
+GivesError (resolve.ModuleNotFound p) e = e ≡ Resolve (resolve.ModuleNotFound p)
+GivesError (resolve.Syntax p f) e = e ≡ Resolve (resolve.Syntax p f)

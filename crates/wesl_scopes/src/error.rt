@@ -51,6 +51,10 @@ impl<T: Drop> From<AllocFailed<T>> for ImportError {
 }
 
 impl From<ResolveError> for ImportError {
+    ghost use Rattle.wesl_scopes.specs.Meanings.{GivesError};
+
+    ghost from_gives = { λ error e. GivesError error e };
+
     fn from(error: ResolveError) -> ImportError {
         match error {
             ResolveError::OutOfMemory => ImportError::OutOfMemory,

@@ -1,8 +1,9 @@
 //! A module that is loaded.
 
-ghost use Rattle.std.specs.Prelude.{◌≡◌, [], None, IfOk, string_bytes};
+ghost use Rattle.std.specs.Prelude.{◌≡◌, ◌++◌, [], None, IfOk, OnOk, string_bytes};
+ghost use Rattle.std.specs.List.{list_any};
 ghost use Rattle.wgsl_path.specs.Paths.{path_text};
-ghost use Rattle.wgsl_syntax.specs.View.{unit_tree};
+ghost use Rattle.wgsl_syntax.specs.View.{unit_tree, declaration_tree, attributes_tree, attribute_tree};
 ghost use Rattle.wesl_sources.specs.Kept as spec;
 ghost use Rattle.wesl_scopes.specs.Meanings.{Answers, entries, names, first_again};
 
@@ -13,7 +14,7 @@ use std::alloc::{AllocError, Global};
 use std::collections::BTreeMap;
 use wgsl_items::{CloneIn, Text};
 use wgsl_path::ModulePath;
-use wgsl_syntax::{Attribute, GlobalDeclaration, TranslationUnit};
+use wgsl_syntax::{Attribute, AttributeNode, GlobalDeclaration, TranslationUnit};
 
 /// A module that is loaded.
 #[derive(Debug, Drop)]
@@ -72,17 +73,39 @@ pub fn entry_points(alloc: Global, unit: &TranslationUnit) -> Result<Vec<Text>, 
 {
     let mut names = Vec::new(alloc);
     for declaration in unit.global_declarations.as_slice() {
-        if let GlobalDeclaration::Function(function) = declaration.node()
-            && is_stage(function.attributes.as_slice())
-        {
-            names.push(function.ident.name.clone_in(alloc)?)?;
-        }
+        add_entry_point(alloc, declaration.node(), &mut names)?;
     }
     Ok(names)
 }
 
-fn is_stage(attributes: &[wgsl_syntax::AttributeNode]) -> bool
-    ensures { result ≡ list_any spec.is_stage (map (λ a. attribute_tree a.node) attributes.now) }
+fn add_entry_point(
+    alloc: Global,
+    declaration: &GlobalDeclaration,
+    names: &mut Vec<Text>,
+) -> Result<(), AllocError>
+    ensures { OnOk result (names.new.items ≡ names.old.items ++ spec.entry_name (declaration_tree declaration.now)) }
 {
-    attributes.iter().any(|attribute| matches!(attribute.node(), Attribute::Fragment))
+    if let GlobalDeclaration::Function(function) = declaration
+        && has_stage(function.attributes.as_slice())
+    {
+        names.push(function.ident.name.clone_in(alloc)?)?;
+    }
+    Ok(())
+}
+
+fn has_stage(attributes: &[AttributeNode]) -> bool
+    ensures { result ≡ list_any spec.is_stage (attributes_tree attributes.now) }
+{
+    for attribute in attributes {
+        if is_stage(attribute.node()) {
+            return true;
+        }
+    }
+    false
+}
+
+fn is_stage(attribute: &Attribute) -> bool
+    ensures { result ≡ spec.is_stage (attribute_tree attribute.now) }
+{
+    matches!(attribute, Attribute::Fragment)
 }

@@ -1,6 +1,6 @@
 -- The names of the root that are kept.
 use Rattle.std.specs.Prelude.{List, [], ◌∷◌, Bool, true, false, if◌then◌else◌}
-use Rattle.std.specs.List.{list_any}
+use Rattle.std.specs.List.{list_any, flat_map}
 use Rattle.wgsl_syntax.specs.Tree.{Attr, fragment, location, Decl, variable, function, Unit}
 use Rattle.wesl_sources.specs.Occurrences.{Name, declared_name}
 
@@ -13,10 +13,13 @@ abbrev pub is_entry_point : Decl → Bool
 is_entry_point (variable attributes kind x type initializer) = false
 is_entry_point (function attributes x parameters return_attributes type body) = list_any is_stage attributes
 
+-- its name, if it is an entry point
+abbrev pub entry_name : Decl → List Name
+entry_name d = if is_entry_point d then declared_name d ∷ [] else []
+
 -- the names of the entry points among declarations, in text order
 abbrev pub entry_points : List Decl → List Name
-entry_points [] = []
-entry_points (d ∷ ds) = if is_entry_point d then declared_name d ∷ entry_points ds else entry_points ds
+entry_points ds = flat_map entry_name ds
 
 -- the names that are asked for, or where none is, the root's entry points
 abbrev pub kept_names : List Name → Unit → List Name
