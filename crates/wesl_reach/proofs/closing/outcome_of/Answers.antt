@@ -1,9 +1,9 @@
 use Rattle.std.proofs.Common.{◌≡◌, refl, sym, Bool, true, false}
 use Rattle.std.specs.Prelude.{not}
-use Rattle.wesl_link.specs.Outcomes.{loaded}
-use Rattle.wesl_link.specs.Stages.{asks, stage}
-use Rattle.wesl_link.proofs.PresentLemmas.{followed_sure, followed_present}
-use Rattle.wesl_link.proofs.closing.outcome_of.Goals as goal
+use Rattle.wesl_scopes.specs.Outcomes.{loaded}
+use Rattle.wesl_reach.specs.Stages.{asks, stage}
+use Rattle.wesl_reach.proofs.PresentLemmas.{followed_sure, followed_present}
+use Rattle.wesl_reach.proofs.closing.outcome_of.Goals as goal
 
 turned : (b : Bool) → not b ≡ true → b ≡ false
 turned true e = sym e
