@@ -14,7 +14,7 @@ use Rattle.wesl_meaning.proofs.Members.{first_in, in_cases, in_none, length_map}
 use Rattle.wesl_meaning.proofs.Order.{ascending_same}
 use Rattle.wesl_meaning.proofs.Loading.{Apart, next_apart, loading}
 use Rattle.wesl_meaning.proofs.Splits.{again_once, again_not_distinct, unkept_once}
-use Rattle.wesl_meaning.proofs.Moves.{round_moves, none_moves, first_moves}
+use Rattle.wesl_meaning.proofs.Moves.{same_listed, round_moves, none_moves, first_moves}
 use Rattle.wesl_meaning.proofs.Refusals.{first_once}
 
 listed-append : (a b : Modules) → listed (a ++ b) ≡ listed a ++ listed b
@@ -106,7 +106,7 @@ round_once modules root keep ps qs a b = ascending_same ps qs a.ascending b.asce
 
 module _ (found : Sources) (functional : IsFunctional found) (root : Path) (keep : List Name) (max : ℕ) where
   contradicts : (a b : Modules) → listed a ≡ listed b → (r : Refusal) → NoneRefused a root keep → IsFirstRefused b root keep r → ⊥
-  contradicts a b e r n f = none_moves a b root keep e n f.home f.declaration f.occurrence r f.refused
+  contradicts a b e r n f = none_moves a b root keep (same_listed a b e) n f.home f.declaration f.occurrence r f.refused
 
   loads_here : (a b : Modules) → listed a ≡ listed b → (ps qs : List Path) (o : Result Modules Refusal) → ps ≡ qs → Loads found max (length b) qs o → Loads found max (length a) ps o
   loads_here a b e ps qs o s l = subst (λ n. Loads found max n ps o) (sym (listed_length a b e)) (subst (λ z. Loads found max (length b) z o) (sym s) l)
@@ -115,28 +115,28 @@ module _ (found : Sources) (functional : IsFunctional found) (root : Path) (keep
   none_to_load n r l = elim l [ ]
 
   goes_once : (a b : Modules) (o q : Result Modules Refusal) → listed a ≡ listed b → Apart a → Goes found root keep max a o → Goes found root keep max b q → SameOutcome o q
-  goes_once a b _ _ e apart (an_occurrence_refused {r = r} f) (an_occurrence_refused {r = s} g) = first_once a root keep apart r s f (first_moves b a root keep (sym e) s g)
+  goes_once a b _ _ e apart (an_occurrence_refused {r = r} f) (an_occurrence_refused {r = s} g) = first_once a root keep apart r s f (first_moves b a root keep (same_listed b a (sym e)) s g)
   goes_once a b _ _ e apart (an_occurrence_refused {r = r} f) (nothing_asked n k) = absurd (contradicts b a (sym e) r n f)
   goes_once a b _ _ e apart (an_occurrence_refused {r = r} f) (a_module_refused n k l) = absurd (contradicts b a (sym e) r n f)
   goes_once a b _ _ e apart (an_occurrence_refused {r = r} f) (a_round n k s l rest) = absurd (contradicts b a (sym e) r n f)
   goes_once a b _ _ e apart (nothing_asked m j) (an_occurrence_refused {r = r} f) = absurd (contradicts a b e r m f)
   goes_once a b _ _ e apart (nothing_asked m j) (nothing_asked n k) = e
   goes_once a b _ _ e apart (nothing_asked m j) (a_module_refused {ps = qs} {r = r} n k l) =
-      absurd (none_to_load (length a) r (loads_here a b e [] qs (Err r) (round_once a root keep [] qs j (round_moves b a root keep (sym e) qs k)) l))
-  goes_once a b _ _ e apart (nothing_asked m j) (a_round {ps = qs} n k s l rest) = absurd (s (sym (round_once a root keep [] qs j (round_moves b a root keep (sym e) qs k))))
+      absurd (none_to_load (length a) r (loads_here a b e [] qs (Err r) (round_once a root keep [] qs j (round_moves b a root keep (same_listed b a (sym e)) qs k)) l))
+  goes_once a b _ _ e apart (nothing_asked m j) (a_round {ps = qs} n k s l rest) = absurd (s (sym (round_once a root keep [] qs j (round_moves b a root keep (same_listed b a (sym e)) qs k))))
   goes_once a b _ _ e apart (a_module_refused m j w) (an_occurrence_refused {r = r} f) = absurd (contradicts a b e r m f)
   goes_once a b _ _ e apart (a_module_refused {ps = ps} {r = r} m j w) (nothing_asked n k) =
-      absurd (none_to_load (length a) r (subst (λ z. Loads found max (length a) z (Err r)) (sym (round_once a root keep [] ps (round_moves b a root keep (sym e) [] k) j)) w))
+      absurd (none_to_load (length a) r (subst (λ z. Loads found max (length a) z (Err r)) (sym (round_once a root keep [] ps (round_moves b a root keep (same_listed b a (sym e)) [] k) j)) w))
   goes_once a b _ _ e apart (a_module_refused {ps = ps} {r = r} m j w) (a_module_refused {ps = qs} {r = s} n k l) =
-      loads_once found functional max (length a) ps (Err r) (Err s) w (loads_here a b e ps qs (Err s) (round_once a root keep ps qs j (round_moves b a root keep (sym e) qs k)) l)
+      loads_once found functional max (length a) ps (Err r) (Err s) w (loads_here a b e ps qs (Err s) (round_once a root keep ps qs j (round_moves b a root keep (same_listed b a (sym e)) qs k)) l)
   goes_once a b _ q e apart (a_module_refused {ps = ps} {r = r} m j w) (a_round {more = more} {ps = qs} n k s l rest) =
-      absurd (loads_once found functional max (length a) ps (Err r) (Ok more) w (loads_here a b e ps qs (Ok more) (round_once a root keep ps qs j (round_moves b a root keep (sym e) qs k)) l))
+      absurd (loads_once found functional max (length a) ps (Err r) (Ok more) w (loads_here a b e ps qs (Ok more) (round_once a root keep ps qs j (round_moves b a root keep (same_listed b a (sym e)) qs k)) l))
   goes_once a b o _ e apart (a_round m j t w rest) (an_occurrence_refused {r = r} f) = absurd (contradicts a b e r m f)
-  goes_once a b o _ e apart (a_round {ps = ps} m j t w rest) (nothing_asked n k) = absurd (t (round_once a root keep ps [] j (round_moves b a root keep (sym e) [] k)))
+  goes_once a b o _ e apart (a_round {ps = ps} m j t w rest) (nothing_asked n k) = absurd (t (round_once a root keep ps [] j (round_moves b a root keep (same_listed b a (sym e)) [] k)))
   goes_once a b o _ e apart (a_round {more = more} {ps = ps} m j t w rest) (a_module_refused {ps = qs} {r = r} n k l) =
-      absurd (loads_once found functional max (length a) ps (Ok more) (Err r) w (loads_here a b e ps qs (Err r) (round_once a root keep ps qs j (round_moves b a root keep (sym e) qs k)) l))
+      absurd (loads_once found functional max (length a) ps (Ok more) (Err r) w (loads_here a b e ps qs (Err r) (round_once a root keep ps qs j (round_moves b a root keep (same_listed b a (sym e)) qs k)) l))
   goes_once a b o q e apart (a_round {more = more} {ps = ps} m j t w rest) (a_round {more = others} {ps = qs} n k s l next) =
-      let same : listed more ≡ listed others = loads_once found functional max (length a) ps (Ok more) (Ok others) w (loads_here a b e ps qs (Ok others) (round_once a root keep ps qs j (round_moves b a root keep (sym e) qs k)) l) in
+      let same : listed more ≡ listed others = loads_once found functional max (length a) ps (Ok more) (Ok others) w (loads_here a b e ps qs (Ok others) (round_once a root keep ps qs j (round_moves b a root keep (same_listed b a (sym e)) qs k)) l) in
       let whole : listed (a ++ more) ≡ listed (b ++ others) = listed-append a more ∙ ap (λ z. z ++ listed more) e ∙ ap (λ z. listed b ++ z) same ∙ sym (listed-append b others) in
       goes_once (a ++ more) (b ++ others) o q whole (next_apart root keep found max (length a) a more ps apart j w) rest next
 

@@ -5,6 +5,7 @@ ghost use Rattle.wesl_meaning.specs.Declared.{LinkedUnitsDeclareWhatIsHeld};
 ghost use Rattle.wesl_meaning.specs.Determined.{LoadingComesToOne};
 ghost use Rattle.wesl_meaning.specs.Example.{PremisesAreMet};
 ghost use Rattle.wesl_meaning.specs.Runs.{LinkedModulesHaveAProgram, LinkedUnitsEndWell, LinkedUnitsRunAlike, WhatIsLoaded};
+ghost use Rattle.wesl_meaning.specs.Same.{OrderOfModulesDoesNotCount};
 ghost use Rattle.wesl_meaning.specs.Unique.{LinkedUnitsAreOne};
 
 use wesl_resolve::Resolver;
@@ -47,6 +48,11 @@ pub fn loading_comes_to_one<R: Resolver>()
 /// Sources that agree on the paths that are asked of one of them come to the same refusal, or to the same units.
 pub fn only_what_is_asked_counts<R: Resolver, S: Resolver>()
     ensures { (one : R) (other : S) → OnlyWhatIsAskedCounts (R.answers one) (S.answers other) }
+{}
+
+/// What holds of modules, and what they are refused for, doesn't depend on the order of their list.
+pub fn order_of_modules_does_not_count()
+    ensures { OrderOfModulesDoesNotCount }
 {}
 
 /// There are modules that meet the premises of these laws, with a run that ends well.
