@@ -11,14 +11,14 @@ use Rattle.wgsl_lower.specs.Lowered.{lowered_unit}
 use Rattle.wgsl_lower.specs.Keeps.{AreClear}
 use Rattle.wesl_resolve.specs.Found.{unit_of}
 use Rattle.wesl_sources.specs.Occurrences.{Name}
-use Rattle.wesl_sources.specs.Modules.{Path, Modules}
+use Rattle.wesl_sources.specs.Modules.{Path, Modules, IsModule}
 use Rattle.wesl_sources.specs.Rounds.{Sources, ComesTo}
 use Rattle.wesl_sources.specs.Kept.{kept_names}
 use Rattle.wesl_sources.specs.Linked.{IsLinked}
 use Rattle.wesl_sources.specs.Loaded.{IsClashFree}
 use Rattle.wesl_sources.specs.Same.{SameModules}
 use Rattle.wesl_meaning.specs.Determined.{IsFunctional}
-use Rattle.wesl_meaning.proofs.Loading.{loaded_modules}
+use Rattle.wesl_meaning.proofs.Loading.{loaded_modules, found_modules}
 use Rattle.wesl_meaning.proofs.Declared.{linked_units_declare_what_is_held}
 use Rattle.wesl_meaning.proofs.Same.{same_turned, clash_free_in_any_order, linked_in_any_order}
 use Rattle.weslc_laws.specs.Compiled.{AreCompiled}
@@ -39,6 +39,10 @@ module _ (sources : Sources) (root : Path) (keep : List Name) where
       k.are ∙ ap (kept_names keep) units
 
   module _ (max : ℕ) where
+    -- they are those of the root's unit
+    pub kept_of_root : IsFunctional sources → (linked : Unit) (from : IsLinkedFrom sources root keep max linked) (u : Unit) → IsModule from.modules root u → from.kept ≡ kept_names keep u
+    kept_of_root functional linked from u i = kept_once functional from.kept from.are_kept u (found_modules sources root from.kept max from.modules from.loaded root u i)
+
     -- the clashes and the linked unit may be those of another list with the same modules
     pub linked_from : (kept : List Name) → AreKept sources root keep kept → (modules others : Modules) → ComesTo sources root kept max (Ok modules) → SameModules modules others
         → (linked : Unit) → IsClashFree others root kept → IsLinked others root kept linked → IsLinkedFrom sources root keep max linked
