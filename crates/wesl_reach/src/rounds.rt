@@ -5,7 +5,9 @@ ghost use Rattle.wgsl_path.specs.Paths.{path_text};
 ghost use Rattle.wgsl_syntax.specs.View.{unit_tree};
 ghost use Rattle.wesl_resolve.specs.Found.{unit_of, SameAnswers, SameTexts};
 ghost use Rattle.wesl_sources.specs.Kept.{kept_names};
+ghost use Rattle.wesl_sources.specs.Modules.{Modules as ListedModules};
 ghost use Rattle.wesl_reach.specs.Answers.{Loading};
+ghost use Rattle.wesl_reach.specs.Loading.{AreTabled, AreSought, LoadsOne, LoadsAll};
 
 use crate::closing::{close_asked, close_root};
 use wesl_scopes::ImportError;
@@ -96,19 +98,49 @@ fn names_to_keep(
     Ok(names)
 }
 
+/// Loads the modules that are asked for, in byte order of their printed paths.
 fn load_all<R: Resolver>(
     alloc: Global,
     resolver: &mut R,
     modules: &mut Modules,
     asked: &Asked,
     max_modules: u32,
-) -> Result<(), ImportError> {
+) -> Result<(), ImportError>
+    ensures loads { (listed : ListedModules) → AreTabled modules.old listed → AreSought modules.old asked.now → LoadsAll (R.answers resolver.old) max_modules modules.old listed asked.now modules.new result }
+    ensures same_answers { SameAnswers (R.answers resolver.old) (R.answers resolver.new) }
+    ensures same_texts { SameTexts (R.texts resolver.old) (R.texts resolver.new) }
+{
     for (text, module) in asked {
-        if modules.len() >= max_modules as usize {
-            return Err(ImportError::TooManyModules(module.path.clone_in(alloc)?));
-        }
-        let unit = resolver.resolve_module(alloc, &module.path)?;
-        modules.insert(text.clone()?, Module::new(alloc, &module.path, unit)?)?;
+        load_one(
+            alloc,
+            resolver,
+            modules,
+            text.as_str(),
+            &module.path,
+            max_modules,
+        )?;
     }
+    Ok(())
+}
+
+/// Loads the module at a path, which prints so.
+fn load_one<R: Resolver>(
+    alloc: Global,
+    resolver: &mut R,
+    modules: &mut Modules,
+    text: &str,
+    path: &ModulePath,
+    max_modules: u32,
+) -> Result<(), ImportError>
+    ensures loads { path_text path.now ≡ text.now → LoadsOne (R.answers resolver.old) max_modules modules.old text.now modules.new result }
+    ensures same_answers { SameAnswers (R.answers resolver.old) (R.answers resolver.new) }
+    ensures same_texts { SameTexts (R.texts resolver.old) (R.texts resolver.new) }
+{
+    if modules.len() >= max_modules as usize {
+        return Err(ImportError::TooManyModules(path.clone_in(alloc)?));
+    }
+    let unit = resolver.resolve_module(alloc, path)?;
+    let module = Module::new(alloc, path, unit)?;
+    modules.insert(String::from_str(alloc, text)?, module)?;
     Ok(())
 }

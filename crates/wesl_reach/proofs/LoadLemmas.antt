@@ -1,0 +1,173 @@
+-- Loading what is asked for, one module after another.
+use Rattle.std.proofs.Common.{◌≡◌, refl, sym, ap, ◌∙◌, subst, ℕ, zero, suc, ◌+◌, ◌<◌, ◌≤◌, ◌⊎◌, inl, inr, ⊎_elim, List, [], ◌∷◌, ◌++◌, map, length, Bool, true, false, Option, Some, None, Result, Ok, Err, arith, append_assoc}
+use Rattle.std.specs.Prelude.{if◌then◌else◌, slice_get, string_bytes}
+use Rattle.std.specs.Option.{is_some}
+use Rattle.std.specs.Str.{bytes_eq}
+use Rattle.std.specs.String.{string_cmp, string_cmp_total}
+use Rattle.std.specs.Ordering.{nat_cmp, is_eq}
+use Rattle.std.specs.Cmp.Lexicographic.{slice_cmp}
+use Rattle.std.specs.List.{Contains}
+use Rattle.std.specs.BTreeMap.{BTreeMap, get, get_by_text, IsOrdered, Updates, btree_map_len}
+use Rattle.std.specs.declared.string.String.{String}
+use Rattle.std.specs.declared.alloc.Global.{Global}
+use Rattle.std.proofs.lemmas.List.{length-append, append-nil}
+use Rattle.std.proofs.lemmas.Map.Entries.{place_from_lookup, btree_map_get_place}
+use Rattle.std.proofs.lemmas.Map.Text.{btree_map_updates_text, is_eq-slice_cmp}
+use Rattle.wgsl_path.specs.declared.path.ModulePath.{ModulePath}
+use Rattle.wgsl_path.specs.Paths.{path_text}
+use Rattle.wgsl_syntax.specs.Tree.{Unit}
+use Rattle.wgsl_syntax.specs.declared.unit.TranslationUnit.{TranslationUnit}
+use Rattle.wgsl_syntax.specs.View.{unit_tree}
+use Rattle.wesl_resolve.specs.declared.error.ResolveError.{ResolveError}
+use Rattle.wesl_resolve.specs.declared.error.ResolveError.TheVariants as resolve
+use Rattle.wesl_resolve.specs.Found.{Answer, unit_of, not_found, faulty, TellsUnit, SameAnswers}
+use Rattle.wesl_sources.specs.Occurrences.{Name}
+use Rattle.wesl_sources.specs.Modules.{Path, Modules}
+use Rattle.wesl_sources.specs.Rounds.{Sources, Refusal, too_many_modules, module_not_found, syntax, duplicate_symbol, scope_names, AreDistinct, Loads, all_loaded, one_too_many, is_not_found, is_faulty, has_a_name_twice, loaded_then_refused, loaded}
+use Rattle.wesl_sources.specs.Rounds as rounds
+use Rattle.wesl_scopes.specs.declared.error.ImportError.{ImportError}
+use Rattle.wesl_scopes.specs.declared.error.ImportError.TheVariants as import
+use Rattle.wesl_scopes.specs.declared.module.Module.{Module}
+use Rattle.wesl_scopes.specs.Meanings.{GivesError}
+use Rattle.wesl_scopes.specs.Tells.{Opens}
+use Rattle.wesl_scopes.proofs.ScopeLemmas.{to_contains, from_contains, get_map, map_get, append_left, append_right, append_cases, same_name, self_name}
+use Rattle.wesl_reach.specs.declared.linking.AskedModule.{AskedModule}
+use Rattle.wesl_reach.specs.Missing.{refusal_of}
+use Rattle.wesl_reach.specs.Resolved.{LoadedModules, modules_of}
+use Rattle.wesl_reach.specs.Stages.{AskedNames}
+use Rattle.wesl_reach.specs.Closed.{IsLoadedOn}
+use Rattle.wesl_reach.specs.Loading.{AreTabled, paths_of, AreSought, RefusesLoading, IsLoadedOne, LoadsOne, AreAllLoaded, LoadsAll}
+use Rattle.wesl_reach.proofs.PresentLemmas.{DoneBut}
+
+-- ---- one module
+
+module _ (sources : Sources) (max n : ℕ) (path : ModulePath) (p : Path) (is : path_text path ≡ p) where
+  told : (e : ImportError) (r : Option Refusal) → refusal_of e ≡ r → ((ps : List Path) → RefusesLoading sources max n (p ∷ ps) r) → (ps : List Path) → RefusesLoading sources max n (p ∷ ps) (refusal_of e)
+  told e r same h ps = subst (RefusesLoading sources max n (p ∷ ps)) (sym same) (h ps)
+
+  pub one_more : (q : ModulePath) → q ≡ path → max ≤ n → (ps : List Path) → Loads sources max n (p ∷ ps) (Err (too_many_modules (path_text q)))
+  one_more q same full ps = let text : path_text q ≡ p = ap path_text same ∙ is in subst (λ t. Loads sources max n (p ∷ ps) (Err (too_many_modules t))) (sym text) (one_too_many full)
+
+  pub unit_refused : (f : ResolveError) (e : ImportError) → n < max → TellsUnit (sources (path_text path)) path (Err f) → GivesError f e
+      → (ps : List Path) → RefusesLoading sources max n (p ∷ ps) (refusal_of e)
+  unit_refused resolve.OutOfMemory e less t g = told e None (ap refusal_of g) (λ ps. tt)
+  unit_refused (resolve.ModuleNotFound q) e less t g =
+      let same : path_text q ≡ p = ap path_text t.0 ∙ is in
+      told e (Some (module_not_found p)) (ap refusal_of g ∙ ap (λ x. Some (module_not_found x)) same) (λ ps. is_not_found less (subst (λ x. sources x not_found) is t.1))
+  unit_refused (resolve.Syntax q f) e less t g =
+      let same : path_text q ≡ p = ap path_text t.0 ∙ is in
+      told e (Some (syntax p f)) (ap refusal_of g ∙ ap (λ x. Some (syntax x f)) same) (λ ps. is_faulty less (subst (λ x. sources x (faulty f)) is t.1))
+
+  pub module_refused : (unit : TranslationUnit) (e : ImportError) → n < max → sources (path_text path) (unit_of (unit_tree unit)) → Opens path unit (Err e)
+      → (ps : List Path) → RefusesLoading sources max n (p ∷ ps) (refusal_of e)
+  module_refused unit import.OutOfMemory less s o ps = tt
+  module_refused unit (import.DuplicateSymbol q x) less s o ps =
+      let same : path_text q ≡ p = ap path_text o.0 ∙ is in
+      subst (λ t. Loads sources max n (p ∷ ps) (Err (duplicate_symbol t x))) (sym same)
+      (has_a_name_twice less (subst (λ t. sources t (unit_of (unit_tree unit))) is s) o.1)
+  module_refused unit (import.TooManyModules q) less s o ps = absurd o
+  module_refused unit (import.Resolve f) less s o ps = absurd o
+  module_refused unit (import.MissingDecl q x) less s o ps = absurd o
+  module_refused unit (import.Private q x) less s o ps = absurd o
+
+  pub module_loaded : (old new : LoadedModules) (key : String Global) (unit : TranslationUnit) (one : Module) (o : Option Module) → length old.entries < max
+      → sources (path_text path) (unit_of (unit_tree unit)) → (one.path ≡ path) × (one.unit ≡ unit) × AreDistinct (scope_names (unit_tree unit))
+      → string_bytes key ≡ p → Updates string_cmp old new key (Some one) → o ≡ get string_cmp old key
+      → btree_map_len new ≡ btree_map_len old + (if is_some o then 0 else 1) → IsOrdered string_cmp new → IsLoadedOne sources max old p new
+  module_loaded old new key unit one o less s m k u was many ordered = record {
+    one = one;
+    within = less;
+    found = subst (λ t. sources t (unit_of (unit_tree one.unit))) is (subst (λ t. sources (path_text path) (unit_of (unit_tree t))) (sym m.1) s);
+    distinct = subst (λ t. AreDistinct (scope_names (unit_tree t))) (sym m.1) m.2;
+    printed = ap path_text m.0 ∙ is;
+    stands = λ q. btree_map_updates_text (string_bytes key) old new (Some one) u q ∙ ap (λ t. if bytes_eq t q then Some one else get_by_text old q) k;
+    many = λ none.
+        let nothing : o ≡ None = was ∙ ap (get_by_text old) k ∙ none in
+        many ∙ ap (λ t. length old.entries + (if is_some t then 0 else 1)) nothing;
+    ordered = ordered;
+  }
+
+-- ---- tables and lists
+
+pub in_left : {X : Type 0} (xs ys : List X) (x : X) → Contains xs x → Contains (xs ++ ys) x
+in_left xs ys x c = let p = from_contains xs x c in to_contains (xs ++ ys) p.0 x (append_left xs ys p.0 x p.1)
+
+pub in_right : {X : Type 0} (xs ys : List X) (x : X) → Contains ys x → Contains (xs ++ ys) x
+in_right xs ys x c = let p = from_contains ys x c in let q = append_right xs ys p.0 x p.1 in to_contains (xs ++ ys) q.0 x q.1
+
+pub in_either : {X : Type 0} (xs ys : List X) (x : X) → Contains (xs ++ ys) x → Contains xs x ⊎ Contains ys x
+in_either xs ys x c = let p = from_contains (xs ++ ys) x c in ⊎_elim (λ l. inl (to_contains xs l.0 x l.1)) (λ r. inr (to_contains ys r.0 x r.1)) (append_cases xs ys p.0 x p.1)
+
+in_one : {X : Type 0} (y x : X) → Contains (y ∷ []) x → y ≡ x
+in_one y x c = let p = from_contains (y ∷ []) x c in at p.0 p.1
+  where
+    at : (i : ℕ) → slice_get (y ∷ []) i ≡ Some x → y ≡ x
+    at zero e = cc
+    at (suc i) e = absurd (cc)
+
+one_in : {X : Type 0} (x : X) → Contains (x ∷ []) x
+one_in x = to_contains (x ∷ []) 0 x refl
+
+abbrev Entry : Type 0
+Entry = String Global × Module
+
+abbrev path_and_unit : Module → ModulePath × Unit
+path_and_unit m = (m.path, unit_tree m.unit)
+
+-- the entry of what is found
+pub entry_of : {X : Type 0} (ms : BTreeMap (String Global) X) (p : Path) (m : X) → get_by_text ms p ≡ Some m → (i : ℕ) × (key : String Global) × (slice_get ms.entries i ≡ Some (key, m)) × (string_bytes key ≡ p)
+entry_of ms p m e =
+    let f = place_from_lookup (λ l. is_eq (slice_cmp nat_cmp p (string_bytes l))) ms.entries m e in
+    (f.0, f.1, f.2, sym (same_name p (string_bytes f.1) (sym (is_eq-slice_cmp p (string_bytes f.1)) ∙ f.3)))
+
+pub found_listed : (ms : LoadedModules) (p : Path) (m : Module) → get_by_text ms p ≡ Some m → Contains (modules_of ms) (path_and_unit m)
+found_listed ms p m e = let f = entry_of ms p m e in to_contains (modules_of ms) f.0 (path_and_unit m) (get_map (λ (e : Entry). path_and_unit e.1) ms.entries f.0 (f.1, m) f.2)
+
+pub listed_found : (ms : LoadedModules) → IsOrdered string_cmp ms → (x : ModulePath × Unit) → Contains (modules_of ms) x → (p : Path) × (m : Module) × (get_by_text ms p ≡ Some m) × (path_and_unit m ≡ x)
+listed_found ms ordered x c =
+    let at = from_contains (modules_of ms) x c in
+    let e = map_get (λ (e : Entry). path_and_unit e.1) ms.entries at.0 x at.1 in
+    (string_bytes e.0.0, e.0.1, btree_map_get_place string_cmp_total ms at.0 e.0.0 e.0.1 ordered e.1, e.2)
+
+-- what stands where one module was added
+module _ (old new : LoadedModules) (p : Path) (one : Module) (none : get_by_text old p ≡ None)
+    (stands : (q : Path) → get_by_text new q ≡ (if bytes_eq p q then Some one else get_by_text old q)) where
+  pub added : get_by_text new p ≡ Some one
+  added = stands p ∙ ap (λ b. if b then Some one else get_by_text old p) (self_name p)
+
+  pub stayed : (q : Path) (m : Module) → get_by_text old q ≡ Some m → get_by_text new q ≡ Some m
+  stayed q m e = at (bytes_eq p q) refl
+    where
+      at : (b : Bool) → bytes_eq p q ≡ b → get_by_text new q ≡ Some m
+      at true is = let both : None ≡ Some m = sym none ∙ ap (get_by_text old) (same_name p q is) ∙ e in absurd (cc)
+      at false is = stands q ∙ ap (λ b. if b then Some one else get_by_text old q) is ∙ e
+
+  pub still_none : (q : Path) → bytes_eq p q ≡ false → get_by_text old q ≡ None → get_by_text new q ≡ None
+  still_none q is e = stands q ∙ ap (λ b. if b then Some one else get_by_text old q) is ∙ e
+
+  pub old_or_new : (q : Path) (m : Module) → get_by_text new q ≡ Some m → (get_by_text old q ≡ Some m) ⊎ ((p ≡ q) × (one ≡ m))
+  old_or_new q m e = at (bytes_eq p q) refl
+    where
+      at : (b : Bool) → bytes_eq p q ≡ b → (get_by_text old q ≡ Some m) ⊎ ((p ≡ q) × (one ≡ m))
+      at true is = let both : Some one ≡ Some m = sym (stands q ∙ ap (λ b. if b then Some one else get_by_text old q) is) ∙ e in let same : one ≡ m = cc in inr (same_name p q is, same)
+      at false is = inl (sym (stands q ∙ ap (λ b. if b then Some one else get_by_text old q) is) ∙ e)
+
+pub one_tabled : (sources : Sources) (max : ℕ) (old new : LoadedModules) (modules : Modules) (p : Path) → AreTabled old modules → get_by_text old p ≡ None
+    → (l : IsLoadedOne sources max old p new) → AreTabled new (modules ++ path_and_unit l.one ∷ [])
+one_tabled sources max old new modules p t none l = record {
+  keyed = λ q m e. ⊎_elim (λ before. t.keyed q m before) (λ now. ap (λ (x : Module). string_bytes x.text) (sym now.1) ∙ l.one.printed ∙ l.printed ∙ now.0) (old_or_new old new p l.one none l.stands q m e);
+  ordered = l.ordered;
+  same = λ x. (
+    λ c. ⊎_elim
+        (λ left. let f = listed_found old t.ordered x ((t.same x).0 left) in subst (Contains (modules_of new)) f.3 (found_listed new f.0 f.1 (stayed old new p l.one none l.stands f.0 f.1 f.2)))
+        (λ right. subst (Contains (modules_of new)) (in_one (path_and_unit l.one) x right) (found_listed new p l.one (added old new p l.one none l.stands)))
+        (in_either modules (path_and_unit l.one ∷ []) x c),
+    λ c.
+        let f = listed_found new l.ordered x c in
+        ⊎_elim
+        (λ before. in_left modules (path_and_unit l.one ∷ []) x ((t.same x).1 (subst (Contains (modules_of old)) f.3 (found_listed old f.0 f.1 before))))
+        (λ now. in_right modules (path_and_unit l.one ∷ []) x (subst (Contains (path_and_unit l.one ∷ [])) (ap path_and_unit now.1 ∙ f.3) (one_in (path_and_unit l.one))))
+        (old_or_new old new p l.one none l.stands f.0 f.1 f.2),
+  );
+  many = length-append modules (path_and_unit l.one ∷ []) ∙ ap (λ n. n + 1) t.many ∙ sym (l.many none);
+}
