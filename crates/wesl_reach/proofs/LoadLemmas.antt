@@ -1,12 +1,15 @@
 -- Loading what is asked for, one module after another.
 use Rattle.std.proofs.Common.{◌≡◌, refl, sym, ap, ◌∙◌, subst, ℕ, zero, suc, ◌+◌, ◌<◌, ◌≤◌, ◌⊎◌, inl, inr, ⊎_elim, List, [], ◌∷◌, ◌++◌, map, length, Bool, true, false, Option, Some, None, Result, Ok, Err, arith, append_assoc}
-use Rattle.std.specs.Prelude.{if◌then◌else◌, slice_get, string_bytes}
+use Rattle.std.specs.Prelude.{if◌then◌else◌, slice_get, string_bytes, ◌↔◌}
 use Rattle.std.specs.Option.{is_some}
 use Rattle.std.specs.Str.{bytes_eq}
 use Rattle.std.specs.String.{string_cmp, string_cmp_total}
 use Rattle.std.specs.Ordering.{nat_cmp, is_eq}
 use Rattle.std.specs.Cmp.Lexicographic.{slice_cmp}
-use Rattle.std.specs.List.{Contains}
+use Rattle.std.specs.List.{Contains, AllByRecursion}
+use Rattle.std.specs.List.Sorted.{IsStrictlySortedBy}
+use Rattle.std.specs.declared.cmp.Ordering.TheVariants.{Less}
+use Rattle.std.proofs.lemmas.Map.Keys.{sorted_head, sorted_tail}
 use Rattle.std.specs.BTreeMap.{BTreeMap, get, get_by_text, IsOrdered, Updates, btree_map_len}
 use Rattle.std.specs.declared.string.String.{String}
 use Rattle.std.specs.declared.alloc.Global.{Global}
@@ -37,7 +40,7 @@ use Rattle.wesl_reach.specs.Resolved.{LoadedModules, modules_of}
 use Rattle.wesl_reach.specs.Stages.{AskedNames}
 use Rattle.wesl_reach.specs.Closed.{IsLoadedOn}
 use Rattle.wesl_reach.specs.Loading.{AreTabled, paths_of, AreSought, RefusesLoading, IsLoadedOne, LoadsOne, AreAllLoaded, LoadsAll}
-use Rattle.wesl_reach.proofs.PresentLemmas.{DoneBut}
+use Rattle.wesl_reach.proofs.PresentLemmas.{DoneBut, in_cases, all_done}
 
 -- ---- one module
 
@@ -171,3 +174,147 @@ one_tabled sources max old new modules p t none l = record {
   );
   many = length-append modules (path_and_unit l.one ∷ []) ∙ ap (λ n. n + 1) t.many ∙ sym (l.many none);
 }
+
+-- ---- one module after another
+
+-- what more modules come to behind these
+abbrev pub behind : Modules → Result Modules Refusal → Result Modules Refusal
+behind before (Ok more) = Ok (before ++ more)
+behind before (Err r) = Err r
+
+abbrev pub AskedEntry : Type 0
+AskedEntry = String Global × AskedModule
+
+abbrev pub texts_of : List AskedEntry → List Path
+texts_of es = map (λ e. string_bytes e.0) es
+
+same_loads : (a b : Sources) (max n : ℕ) (ps : List Path) (o : Result Modules Refusal) → SameAnswers a b → Loads b max n ps o → Loads a max n ps o
+same_loads a b max n ps o same (all_loaded) = all_loaded
+same_loads a b max n ps o same (one_too_many full) = one_too_many full
+same_loads a b max n ps o same (is_not_found {p = p} less s) = is_not_found less ((same p not_found).1 s)
+same_loads a b max n ps o same (is_faulty {p = p} {e = e} less s) = is_faulty less ((same p (faulty e)).1 s)
+same_loads a b max n ps o same (has_a_name_twice {p = p} {u = u} less s twice) = has_a_name_twice less ((same p (unit_of u)).1 s) twice
+same_loads a b max n ps o same (loaded_then_refused {n = k} {p = p} {ps = qs} {u = u} {r = r} less s d l) = loaded_then_refused less ((same p (unit_of u)).1 s) d (same_loads a b max (k + 1) qs (Err r) same l)
+same_loads a b max n ps o same (loaded {n = k} {p = p} {ps = qs} {u = u} {modules = m} less s d is l) = loaded less ((same p (unit_of u)).1 s) d is (same_loads a b max (k + 1) qs (Ok m) same l)
+
+pub same_refuses : (a b : Sources) (max n : ℕ) (ps : List Path) (r : Option Refusal) → SameAnswers a b → RefusesLoading b max n ps r → RefusesLoading a max n ps r
+same_refuses a b max n ps None same l = tt
+same_refuses a b max n ps (Some r) same l = same_loads a b max n ps (Err r) same l
+
+pub same_loaded_one : (a b : Sources) (max : ℕ) (old : LoadedModules) (p : Path) (new : LoadedModules) → SameAnswers a b → IsLoadedOne b max old p new → IsLoadedOne a max old p new
+same_loaded_one a b max old p new same l = record {
+  one = l.one; within = l.within; found = (same p (unit_of (unit_tree l.one.unit))).1 l.found; distinct = l.distinct; printed = l.printed; stands = l.stands; many = l.many; ordered = l.ordered;
+}
+
+one_then : (sources : Sources) (max n : ℕ) (old : LoadedModules) (p : Path) (new : LoadedModules) (l : IsLoadedOne sources max old p new) → n ≡ length old.entries → (ps : List Path)
+    → (o : Result Modules Refusal) → Loads sources max (n + 1) ps o → Loads sources max n (p ∷ ps) (behind (path_and_unit l.one ∷ []) o)
+one_then sources max n old p new l same ps (Ok more) rest = let less : n < max = omega (arith, same, l.within) in loaded less l.found l.distinct l.printed rest
+one_then sources max n old p new l same ps (Err r) rest = let less : n < max = omega (arith, same, l.within) in loaded_then_refused less l.found l.distinct rest
+
+two_behind : (a b : Modules) (o : Result Modules Refusal) → behind a (behind b o) ≡ behind (a ++ b) o
+two_behind a b (Ok more) = ap Ok (sym (append_assoc a b more))
+two_behind a b (Err r) = refl
+
+-- what is loaded so far, and which are left
+pub record IsLoadedTo (sources : Sources) (max : ℕ) (old : LoadedModules) (modules : Modules) (asked : AskedNames) (now : LoadedModules) (left : List AskedEntry) : Type 0 where
+  pub more : Modules
+  pub tabled : AreTabled now (modules ++ more)
+  pub goes : (o : Result Modules Refusal) → Loads sources max (length (modules ++ more)) (texts_of left) o → Loads sources max (length modules) (paths_of asked) (behind more o)
+  pub stay : (p : Path) (m : Module) → get_by_text old p ≡ Some m → get_by_text now p ≡ Some m
+  pub come : DoneBut (λ e. (m : Module) × (get_by_text now (string_bytes e.0) ≡ Some m)) left asked.entries
+  pub new : (i : ℕ) (e : AskedEntry) → slice_get left i ≡ Some e → (path_text e.1.path ≡ string_bytes e.0) × (get_by_text now (string_bytes e.0) ≡ None)
+  pub sorted : IsStrictlySortedBy string_cmp (map (λ e. e.0) left)
+
+pub none_loaded : (sources : Sources) (max : ℕ) (old : LoadedModules) (modules : Modules) (asked : AskedNames) → AreTabled old modules → AreSought old asked → IsOrdered string_cmp asked
+    → IsLoadedTo sources max old modules asked old asked.entries
+none_loaded sources max old modules asked t sought ordered = record {
+  more = [];
+  tabled = subst (AreTabled old) (sym (append-nil modules)) t;
+  goes = λ o l. whole o (subst (λ ms. Loads sources max (length ms) (paths_of asked) o) (append-nil modules) l);
+  stay = λ p m e. e;
+  come = λ e c. inr c;
+  new = λ i e is. sought (string_bytes e.0) e.1 (btree_map_get_place string_cmp_total asked i e.0 e.1 ordered is);
+  sorted = ordered;
+}
+  where
+    whole : (o : Result Modules Refusal) → Loads sources max (length modules) (paths_of asked) o → Loads sources max (length modules) (paths_of asked) (behind [] o)
+    whole (Ok more) l = l
+    whole (Err r) l = l
+
+module _ (sources : Sources) (max : ℕ) (old : LoadedModules) (modules : Modules) (asked : AskedNames) (now : LoadedModules) (left rest : List AskedEntry) (e : AskedEntry)
+    (is : left ≡ e ∷ rest) (t : IsLoadedTo sources max old modules asked now left) where
+  first_new : (path_text e.1.path ≡ string_bytes e.0) × (get_by_text now (string_bytes e.0) ≡ None)
+  first_new = t.new 0 e (ap (λ l. slice_get l 0) is)
+
+  pub first_printed : path_text e.1.path ≡ string_bytes e.0
+  first_printed = first_new.0
+
+  pub first_refused : (error : ImportError) → ((ps : List Path) → RefusesLoading sources max (length now.entries) (string_bytes e.0 ∷ ps) (refusal_of error))
+      → RefusesLoading sources max (length modules) (paths_of asked) (refusal_of error)
+  first_refused error told = at (refusal_of error) (told (texts_of rest))
+    where
+      at : (r : Option Refusal) → RefusesLoading sources max (length now.entries) (string_bytes e.0 ∷ texts_of rest) r → RefusesLoading sources max (length modules) (paths_of asked) r
+      at None l = tt
+      at (Some r) l =
+          t.goes (Err r) (subst (λ ps. Loads sources max (length (modules ++ t.more)) ps (Err r)) (sym (ap texts_of is))
+          (subst (λ n. Loads sources max n (string_bytes e.0 ∷ texts_of rest) (Err r)) (sym t.tabled.many) l))
+
+  module _ (new : LoadedModules) (l : IsLoadedOne sources max now (string_bytes e.0) new) where
+    abbrev one : ModulePath × Unit
+    one = path_and_unit l.one
+
+    less_apart : (x y : String Global) → string_cmp x y ≡ Less → bytes_eq (string_bytes x) (string_bytes y) ≡ false
+    less_apart x y less = sym (is_eq-slice_cmp (string_bytes x) (string_bytes y)) ∙ ap is_eq less
+
+    sorted_left : IsStrictlySortedBy string_cmp (e.0 ∷ map (λ e. e.0) rest)
+    sorted_left = subst (λ l. IsStrictlySortedBy string_cmp (map (λ e. e.0) l)) is t.sorted
+
+    all_at : (ks : List (String Global)) (i : ℕ) (k : String Global) → AllByRecursion (λ y. string_cmp e.0 y ≡ Less) ks → slice_get ks i ≡ Some k → string_cmp e.0 k ≡ Less
+    all_at [] i k a here = absurd (cc)
+    all_at (y ∷ ks) zero k a here = let same : y ≡ k = cc in subst (λ z. string_cmp e.0 z ≡ Less) same a.0
+    all_at (y ∷ ks) (suc i) k a here = all_at ks i k a.1 here
+
+    pub one_loaded : IsLoadedTo sources max old modules asked new rest
+    one_loaded = record {
+      more = t.more ++ one ∷ [];
+      tabled = subst (AreTabled new) (append_assoc modules t.more (one ∷ [])) (one_tabled sources max now new (modules ++ t.more) (string_bytes e.0) t.tabled first_new.1 l);
+      goes = λ o rests.
+          let many : length (modules ++ (t.more ++ one ∷ [])) ≡ length (modules ++ t.more) + 1 = ap length (sym (append_assoc modules t.more (one ∷ []))) ∙ length-append (modules ++ t.more) (one ∷ []) in
+          subst (Loads sources max (length modules) (paths_of asked)) (two_behind t.more (one ∷ []) o)
+          (t.goes (behind (one ∷ []) o)
+          (subst (λ es. Loads sources max (length (modules ++ t.more)) (texts_of es) (behind (one ∷ []) o)) (sym is)
+          (one_then sources max (length (modules ++ t.more)) now (string_bytes e.0) new l t.tabled.many (texts_of rest) o
+          (subst (λ n. Loads sources max n (texts_of rest) o) many rests))));
+      stay = λ p m here. stayed now new (string_bytes e.0) l.one first_new.1 l.stands p m (t.stay p m here);
+      come = λ x c. ⊎_elim
+          (λ done. inl (done.0, stayed now new (string_bytes e.0) l.one first_new.1 l.stands (string_bytes x.0) done.0 done.1))
+          (λ more. ⊎_elim
+          (λ same. inl (l.one, subst (λ (y : AskedEntry). get_by_text new (string_bytes y.0) ≡ Some l.one) same (added now new (string_bytes e.0) l.one first_new.1 l.stands)))
+          (λ later. inr later)
+          (in_cases e rest x (subst (λ l. Contains l x) is more)))
+          (t.come x c);
+      new = λ i x here.
+          let before = t.new (suc i) x (ap (λ l. slice_get l (suc i)) is ∙ here) in
+          let less = all_at (map (λ e. e.0) rest) i x.0 (sorted_head string_cmp e.0 (map (λ e. e.0) rest) sorted_left) (get_map (λ (y : AskedEntry). y.0) rest i x here) in
+          (before.0, still_none now new (string_bytes e.0) l.one first_new.1 l.stands (string_bytes x.0) (less_apart e.0 x.0 less) before.1);
+      sorted = sorted_tail string_cmp e.0 (map (λ e. e.0) rest) sorted_left;
+    }
+
+pub all_are_loaded : (sources : Sources) (max : ℕ) (old : LoadedModules) (modules : Modules) (asked : AskedNames) (now : LoadedModules) (left : List AskedEntry)
+    → left ≡ [] → IsLoadedTo sources max old modules asked now left → AreAllLoaded sources max old modules asked now
+all_are_loaded sources max old modules asked now left is t = record {
+  more = t.more;
+  loads = subst (λ ms. Loads sources max (length modules) (paths_of asked) (Ok ms)) (append-nil t.more)
+      (t.goes (Ok []) (subst (λ es. Loads sources max (length (modules ++ t.more)) (texts_of es) (Ok [])) (sym is) all_loaded));
+  tabled = t.tabled;
+  on = record {
+    stay = t.stay;
+    come = λ p a here.
+        let f = entry_of asked p a here in
+        let done = all_done (λ (e : AskedEntry). (m : Module) × (get_by_text now (string_bytes e.0) ≡ Some m)) left asked.entries is t.come (f.1, a) (to_contains asked.entries f.0 (f.1, a) f.2) in
+        (done.0, subst (λ q. get_by_text now q ≡ Some done.0) f.3 done.1);
+  };
+}
+
+pub two_same : {X : Type 0} (a b c : Path → X → Type 0) → ((p : Path) (x : X) → a p x ↔ b p x) → ((p : Path) (x : X) → b p x ↔ c p x) → (p : Path) (x : X) → a p x ↔ c p x
+two_same a b c one two p x = (λ h. (two p x).0 ((one p x).0 h), λ h. (one p x).1 ((two p x).1 h))

@@ -72,7 +72,7 @@ DoneBut P left all = (x : _) → Contains all x → P x ⊎ Contains left x
 pub all_left : {A : Type 0} (P : A → Type 0) (all : List A) → DoneBut P all all
 all_left P all x c = inr c
 
-in_cases : {A : Type 0} (y : A) (ys : List A) (x : A) → Contains (y ∷ ys) x → (y ≡ x) ⊎ Contains ys x
+pub in_cases : {A : Type 0} (y : A) (ys : List A) (x : A) → Contains (y ∷ ys) x → (y ≡ x) ⊎ Contains ys x
 in_cases y ys x c = let p = from_contains (y ∷ ys) x c in at p.0 p.1
   where
     at : (i : ℕ) → slice_get (y ∷ ys) i ≡ Some x → (y ≡ x) ⊎ Contains ys x
