@@ -1,13 +1,14 @@
 -- The loaded modules as a list and as a table, and what loading more makes of them.
-use Rattle.std.specs.Prelude.{◌≡◌, ⊤, ℕ, ◌+◌, ◌<◌, List, ◌∷◌, ◌++◌, map, length, Option, Some, None, Result, Ok, Err, string_bytes, if◌then◌else◌}
+use Rattle.std.specs.Prelude.{◌≡◌, ⊤, ℕ, ◌+◌, ◌<◌, ◌≤◌, List, ◌∷◌, ◌++◌, map, length, Option, Some, None, Result, Ok, Err, string_bytes, if◌then◌else◌}
 use Rattle.std.specs.Str.{bytes_eq}
 use Rattle.std.specs.String.{string_cmp}
 use Rattle.std.specs.BTreeMap.{get_by_text, IsOrdered}
 use Rattle.wgsl_path.specs.Paths.{path_text}
+use Rattle.wgsl_syntax.specs.Tree.{Unit}
 use Rattle.wgsl_syntax.specs.View.{unit_tree}
 use Rattle.wesl_resolve.specs.Found.{unit_of}
 use Rattle.wesl_sources.specs.Occurrences.{Name}
-use Rattle.wesl_sources.specs.Modules.{Path, Modules}
+use Rattle.wesl_sources.specs.Modules.{Path, Modules, IsModule}
 use Rattle.wesl_sources.specs.Rounds.{Sources, Refusal, scope_names, AreDistinct, Loads, Goes, ComesTo}
 use Rattle.wesl_sources.specs.Same.{SameModules}
 use Rattle.wesl_scopes.specs.Meanings.{Done}
@@ -17,10 +18,8 @@ use Rattle.wesl_reach.specs.declared.linking.AskedModule.{AskedModule}
 use Rattle.wesl_reach.specs.declared.rounds.Reached.{Reached}
 use Rattle.wesl_reach.specs.Missing.{refusal_of}
 use Rattle.wesl_reach.specs.Resolved.{LoadedModules, modules_of, IsKeyed}
-use Rattle.wesl_reach.specs.Closing.{HeldNames}
 use Rattle.wesl_reach.specs.Stages.{AskedNames}
 use Rattle.wesl_reach.specs.Closed.{IsClosed, IsLoadedOn}
-use Rattle.wesl_reach.specs.Answers.{Loading, Refuses}
 
 -- the table has these modules, each once and under its printed path
 pub record AreTabled (ms : LoadedModules) (modules : Modules) : Type 0 where
@@ -68,3 +67,14 @@ module _ (sources : Sources) (max : ℕ) where
   abbrev pub LoadsAll : LoadedModules → Modules → AskedNames → LoadedModules → Result Done ImportError → Type 0
   LoadsAll old modules asked new (Ok done) = AreAllLoaded old modules asked new
   LoadsAll old modules asked new (Err e) = RefusesLoading (length modules) (paths_of asked) (refusal_of e)
+
+  -- The end of a round: at least so many modules are loaded, the root among them; what it leads to in them is held, and what
+  -- comes of them is what loading comes to.
+  pub record IsRoundEnd (root : Path) (keep : List Name) (r : Reached) (asked : AskedNames) (n : ℕ) : Type 0 where
+    pub modules : Modules
+    pub tabled : AreTabled r.modules modules
+    pub unit : Unit
+    pub rooted : IsModule modules root unit
+    pub closed : IsClosed r.modules root keep r.held asked
+    pub many : n ≤ length modules
+    pub goes : (o : Result Modules Refusal) → Goes sources root keep max modules o → ComesTo sources root keep max o

@@ -14,7 +14,7 @@ ghost use Rattle.wesl_reach.specs.Following.{Moves, Handled, IsFollowed, Followe
 ghost use Rattle.wesl_reach.specs.Reach.{KeepsAll, KeepsOne};
 ghost use Rattle.wesl_reach.specs.Stages.{asks, name_asked, stage};
 ghost use Rattle.wgsl_path.specs.Paths.{path_text};
-ghost use Rattle.wesl_reach.specs.Resolved.{LoadedModules};
+ghost use Rattle.wesl_reach.specs.Resolved.{LoadedModules, IsKeyed};
 ghost use Rattle.wesl_reach.specs.Closed.{HoldsNothing, IsClosed, IsLoadedOn, RefusesClosing, RefusesRoot};
 ghost use Rattle.wesl_reach.specs.Closing.{IsReached, AllReached, IsSound, Holds, held_at};
 
@@ -64,8 +64,8 @@ pub fn close_root(
     ensures sound { OnOk result (AllReached linking.now held.new) }
     ensures followed { ((m : Path) (place : ℕ) → held_at held.old m place ≡ None) → IfOk result (λ asked. AllFollowed (loaded linking.now.modules.now) (stage held.new (asks asked) false [])) }
     ensures kept { OnOk result (KeepsAll (loaded linking.now.modules.now) linking.now.root.now linking.now.keep.now (held_at held.new)) }
-    ensures closed { HoldsNothing held.old → IfOk result (λ asked. IsClosed linking.now.modules.now linking.now.root.now linking.now.keep.now held.new asked) }
-    ensures refused { path_text path.now ≡ linking.now.root.now → HoldsNothing held.old → IfErr result (RefusesRoot linking.now.modules.now linking.now.root.now linking.now.keep.now held.new) }
+    ensures closed { IsKeyed linking.now.modules.now → HoldsNothing held.old → IfOk result (λ asked. IsClosed linking.now.modules.now linking.now.root.now linking.now.keep.now held.new asked) }
+    ensures refused { IsKeyed linking.now.modules.now → path_text path.now ≡ linking.now.root.now → HoldsNothing held.old → IfErr result (RefusesRoot linking.now.modules.now linking.now.root.now linking.now.keep.now held.new) }
 {
     let mut found = found_nothing(alloc);
     for name in linking.keep {
@@ -103,8 +103,8 @@ pub fn close_asked(
     asked: &Asked,
     held: &mut Held,
 ) -> Result<Asked, ImportError>
-    ensures closed { (old : LoadedModules) → IsClosed old linking.now.root.now linking.now.keep.now held.old asked.now → IsLoadedOn old asked.now linking.now.modules.now → IfOk result (λ more. IsClosed linking.now.modules.now linking.now.root.now linking.now.keep.now held.new more) }
-    ensures refused { (old : LoadedModules) → IsClosed old linking.now.root.now linking.now.keep.now held.old asked.now → IsLoadedOn old asked.now linking.now.modules.now → IfErr result (RefusesClosing linking.now.modules.now linking.now.root.now linking.now.keep.now held.new) }
+    ensures closed { (old : LoadedModules) → IsKeyed linking.now.modules.now → IsClosed old linking.now.root.now linking.now.keep.now held.old asked.now → IsLoadedOn old asked.now linking.now.modules.now → IfOk result (λ more. IsClosed linking.now.modules.now linking.now.root.now linking.now.keep.now held.new more) }
+    ensures refused { (old : LoadedModules) → IsKeyed linking.now.modules.now → IsClosed old linking.now.root.now linking.now.keep.now held.old asked.now → IsLoadedOn old asked.now linking.now.modules.now → IfErr result (RefusesClosing linking.now.modules.now linking.now.root.now linking.now.keep.now held.new) }
 {
     let mut found = found_nothing(alloc);
     for (text, module) in asked {
