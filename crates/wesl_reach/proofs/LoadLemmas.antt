@@ -108,13 +108,13 @@ in_one y x c = let p = from_contains (y ∷ []) x c in at p.0 p.1
     at zero e = cc
     at (suc i) e = absurd (cc)
 
-one_in : {X : Type 0} (x : X) → Contains (x ∷ []) x
+pub one_in : {X : Type 0} (x : X) → Contains (x ∷ []) x
 one_in x = to_contains (x ∷ []) 0 x refl
 
 abbrev Entry : Type 0
 Entry = String Global × Module
 
-abbrev path_and_unit : Module → ModulePath × Unit
+abbrev pub path_and_unit : Module → ModulePath × Unit
 path_and_unit m = (m.path, unit_tree m.unit)
 
 -- the entry of what is found
@@ -206,7 +206,7 @@ same_loaded_one a b max old p new same l = record {
   one = l.one; within = l.within; found = (same p (unit_of (unit_tree l.one.unit))).1 l.found; distinct = l.distinct; printed = l.printed; stands = l.stands; many = l.many; ordered = l.ordered;
 }
 
-one_then : (sources : Sources) (max n : ℕ) (old : LoadedModules) (p : Path) (new : LoadedModules) (l : IsLoadedOne sources max old p new) → n ≡ length old.entries → (ps : List Path)
+pub one_then : (sources : Sources) (max n : ℕ) (old : LoadedModules) (p : Path) (new : LoadedModules) (l : IsLoadedOne sources max old p new) → n ≡ length old.entries → (ps : List Path)
     → (o : Result Modules Refusal) → Loads sources max (n + 1) ps o → Loads sources max n (p ∷ ps) (behind (path_and_unit l.one ∷ []) o)
 one_then sources max n old p new l same ps (Ok more) rest = let less : n < max = omega (arith, same, l.within) in loaded less l.found l.distinct l.printed rest
 one_then sources max n old p new l same ps (Err r) rest = let less : n < max = omega (arith, same, l.within) in loaded_then_refused less l.found l.distinct rest
@@ -318,3 +318,6 @@ all_are_loaded sources max old modules asked now left is t = record {
 
 pub two_same : {X : Type 0} (a b c : Path → X → Type 0) → ((p : Path) (x : X) → a p x ↔ b p x) → ((p : Path) (x : X) → b p x ↔ c p x) → (p : Path) (x : X) → a p x ↔ c p x
 two_same a b c one two p x = (λ h. (two p x).0 ((one p x).0 h), λ h. (one p x).1 ((two p x).1 h))
+
+pub same_all_loaded : (a b : Sources) (max : ℕ) (old : LoadedModules) (modules : Modules) (asked : AskedNames) (new : LoadedModules) → SameAnswers a b → AreAllLoaded b max old modules asked new → AreAllLoaded a max old modules asked new
+same_all_loaded a b max old modules asked new same l = record { more = l.more; loads = same_loads a b max (length modules) (paths_of asked) (Ok l.more) same l.loads; tabled = l.tabled; on = l.on }

@@ -1,6 +1,8 @@
 //! Loads what the kept names reach, a round of modules after another.
 
 ghost use Rattle.std.specs.Prelude.{◌≡◌, IfOk, string_bytes};
+ghost use Rattle.std.specs.String.{string_cmp};
+ghost use Rattle.std.specs.BTreeMap.{IsOrdered};
 ghost use Rattle.wgsl_path.specs.Paths.{path_text};
 ghost use Rattle.wgsl_syntax.specs.View.{unit_tree};
 ghost use Rattle.wesl_resolve.specs.Found.{unit_of, SameAnswers, SameTexts};
@@ -84,7 +86,7 @@ fn load_rounds<R: Resolver>(
     mut asked: Asked,
     max_modules: u32,
 ) -> Result<Reached, ImportError>
-    ensures loading { IsRoundEnd (R.answers resolver.old) max_modules (string_bytes reached.entry.root) keep.now reached.entry asked.entry 1 → Loading (R.answers resolver.old) (string_bytes reached.entry.root) keep.now max_modules result }
+    ensures loading { IsRoundEnd (R.answers resolver.old) max_modules (string_bytes reached.root) keep.now reached asked 1 → Loading (R.answers resolver.old) (string_bytes reached.root) keep.now max_modules result }
     ensures same_answers { SameAnswers (R.answers resolver.old) (R.answers resolver.new) }
     ensures same_texts { SameTexts (R.texts resolver.old) (R.texts resolver.new) }
 {
@@ -100,7 +102,7 @@ fn load_rounds<R: Resolver>(
         };
         asked = close_asked(alloc, &linking, &asked, &mut reached.held)?;
     }
-    match asked.first_key_value() {
+    match asked.iter().next() {
         Some((_, module)) => Err(ImportError::TooManyModules(module.path.clone_in(alloc)?)),
         None => Ok(reached),
     }
@@ -131,6 +133,7 @@ fn load_all<R: Resolver>(
     asked: &Asked,
     max_modules: u32,
 ) -> Result<(), ImportError>
+    ensures ordered { IsOrdered string_cmp asked.now }
     ensures loads { (listed : ListedModules) → AreTabled modules.old listed → AreSought modules.old asked.now → LoadsAll (R.answers resolver.old) max_modules modules.old listed asked.now modules.new result }
     ensures same_answers { SameAnswers (R.answers resolver.old) (R.answers resolver.new) }
     ensures same_texts { SameTexts (R.texts resolver.old) (R.texts resolver.new) }
