@@ -32,10 +32,10 @@ use Rattle.wesl_reach.specs.declared.linking.AskedModule.{AskedModule}
 use Rattle.wesl_reach.specs.declared.rounds.Reached.{Reached}
 use Rattle.wesl_reach.specs.Missing.{refusal_of}
 use Rattle.wesl_reach.specs.Reach.{KeepsAll, KeepsOne}
-use Rattle.wesl_reach.specs.Closing.{HeldNames, held_at}
+use Rattle.wesl_reach.specs.Closing.{HeldNames, name_among, held_at}
 use Rattle.wesl_reach.specs.Resolved.{LoadedModules, modules_of, IsResolved}
 use Rattle.wesl_reach.specs.Stages.{AskedNames, asks, name_asked}
-use Rattle.wesl_reach.specs.Closed.{IsClosed, IsAskedAt, IsFirstUndeclared, IsStopped, RefusesClosing, RefusesRoot}
+use Rattle.wesl_reach.specs.Closed.{HoldsNothing, IsClosed, IsAskedAt, IsFirstUndeclared, IsStopped, RefusesClosing, RefusesRoot}
 use Rattle.wesl_reach.specs.Answers.{AreLoadedTables, Refuses}
 use Rattle.wesl_reach.specs.Loading.{AreTabled, paths_of, AreSought, RefusesLoading, IsLoadedOne, AreAllLoaded, IsRoundEnd}
 use Rattle.wesl_reach.proofs.LoadLemmas.{AskedEntry, texts_of, behind, in_left, one_in, path_and_unit, found_listed, listed_found, one_tabled, one_then}
@@ -223,6 +223,9 @@ module _ (sources : Sources) (max : ℕ) (root : Path) (keep : List Name) (r : R
 
 -- ---- the root's round
 
+pub nothing_held : (held : HeldNames) → held.entries ≡ [] → HoldsNothing held
+nothing_held held empty m place = ap (λ es. name_among (lookup (λ k. is_eq (slice_cmp nat_cmp m (string_bytes k))) es) place) empty
+
 module _ (sources : Sources) (max : ℕ) (root : Path) (keep : List Name) where
   pub root_not_loaded : (o : Option Refusal) → ((ps : List Path) → RefusesLoading sources max 0 (root ∷ ps) o) → Refuses sources root keep max o
   root_not_loaded None l = tt
@@ -246,7 +249,7 @@ module _ (sources : Sources) (max : ℕ) (root : Path) (keep : List Name) where
       many = ap length (sym empty);
     }
 
-    tabled : AreTabled new (path_and_unit l.one ∷ [])
+    pub tabled : AreTabled new (path_and_unit l.one ∷ [])
     tabled = one_tabled sources max old new [] root none_tabled (nowhere root) l
 
     at_root : IsModule (path_and_unit l.one ∷ []) root (unit_tree l.one.unit)
