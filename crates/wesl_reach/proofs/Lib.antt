@@ -3,4 +3,5 @@ pub mod ReachLemmas
 pub mod FollowLemmas
 pub mod StageLemmas
 pub mod PresentLemmas
+pub mod FirstLemmas
 pub mod RoundLemmas
