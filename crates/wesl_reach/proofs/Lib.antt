@@ -4,4 +4,5 @@ pub mod FollowLemmas
 pub mod StageLemmas
 pub mod PresentLemmas
 pub mod FirstLemmas
+pub mod RefusedLemmas
 pub mod RoundLemmas
