@@ -1,24 +1,24 @@
 -- The first occurrence that denotes nothing, one name, one place, one module after another.
-use Rattle.std.proofs.Common.{◌≡◌, refl, sym, ap, ◌∙◌, subst, ℕ, zero, suc, ◌+◌, ◌<◌, ◌≤◌, ◌⊎◌, inl, inr, ⊎_elim, List, [], ◌∷◌, length, map, get_or, Bool, true, false, Option, Some, None, arith}
+use Rattle.std.proofs.Common.{◌≡◌, refl, sym, ap, ◌∙◌, subst, ℕ, zero, suc, ◌<◌, ◌≤◌, ◌⊎◌, inl, inr, ⊎_elim, List, [], ◌∷◌, length, map, Bool, true, false, Some, None, arith}
 use Rattle.std.specs.Prelude.{slice_get, string_bytes, nat_eq, if◌then◌else◌}
 use Rattle.std.specs.Option.{IsSome}
 use Rattle.std.specs.Str.{bytes_eq}
-use Rattle.std.specs.Ordering.{nat_cmp, is_eq, ordering_reverse, MatchOrdering}
-use Rattle.std.specs.Cmp.{IsTotalOrder, nat_cmp_total, ranks, unsigned_ties}
+use Rattle.std.specs.Ordering.{nat_cmp, ordering_reverse, MatchOrdering}
+use Rattle.std.specs.Cmp.{IsTotalOrder, ranks, unsigned_ties}
 use Rattle.std.specs.Cmp.Lexicographic.{slice_cmp, nat_list_cmp_total}
 use Rattle.std.specs.List.{Contains, AllByRecursion}
 use Rattle.std.specs.List.Sorted.{IsStrictlySortedBy}
 use Rattle.std.specs.BTreeMap.{BTreeMap, get, get_by_text, is_at, keys, IsOrdered}
 use Rattle.std.specs.declared.cmp.Ordering.{Ordering}
-use Rattle.std.specs.declared.cmp.Ordering.TheVariants.{Less, Equal, Greater}
+use Rattle.std.specs.declared.cmp.Ordering.TheVariants.{Less, Greater}
 use Rattle.std.specs.declared.string.String.{String}
 use Rattle.std.specs.declared.alloc.Global.{Global}
+use Rattle.std.specs.String.{string_cmp, string_cmp_total}
+use Rattle.std.specs.Map.{lookup}
 use Rattle.std.proofs.lemmas.Bool.{eqb-true, eq-eqb}
 use Rattle.std.proofs.lemmas.Option.{slice_get_within}
 use Rattle.std.proofs.lemmas.Map.Keys.{sorted_head, sorted_tail}
 use Rattle.std.proofs.lemmas.Map.Entries.{btree_map_get_place}
-use Rattle.std.specs.String.{string_cmp, string_cmp_total}
-use Rattle.std.specs.Map.{lookup}
 use denote.Ref.{Bor}
 use Rattle.wgsl_path.specs.declared.path.ModulePath.{ModulePath}
 use Rattle.wgsl_path.specs.Paths.{path_text}
@@ -33,7 +33,7 @@ use Rattle.wesl_scopes.specs.declared.error.ImportError.TheVariants.{MissingDecl
 use Rattle.wesl_reach.specs.Reach.{Holding}
 use Rattle.wesl_reach.specs.Closing.{HeldNames, name_among, held_at}
 use Rattle.wesl_reach.specs.Following.{IsPresent, ArePresent}
-use Rattle.wesl_reach.specs.Missing.{RefusedFor, TellsWhy, held_in, held_alone, refusal_of, IsMissingAt, IsFirstMissing, NoneMissing, FindsMissing}
+use Rattle.wesl_reach.specs.Missing.{RefusedFor, TellsWhy, held_in, held_alone, IsMissingAt, IsFirstMissing, NoneMissing, FindsMissing}
 use Rattle.wesl_scopes.proofs.ScopeLemmas.{same_name, self_name, to_contains, from_contains, get_map, map_get}
 use Rattle.wesl_reach.proofs.PresentLemmas.{PresentBelow, DoneBut, in_cases, one_done, all_done, key_found, entry_found}
 

@@ -1,28 +1,9 @@
 -- From places to names: what is refused, what is asked for, and what is resolved.
-use Rattle.std.proofs.Common.{◌≡◌, refl, sym, ap, ◌∙◌, subst, ℕ, zero, suc, ◌<◌, ◌⊎◌, inl, inr, ⊎_elim, List, [], ◌∷◌, map, Bool, true, false, Option, Some, None}
+use Rattle.std.proofs.Common.{◌≡◌, refl, sym, ap, ◌∙◌, subst, ℕ, ◌⊎◌, inl, inr, ⊎_elim, List, [], ◌∷◌, map, Bool, true, false, Option, Some, None}
 use Rattle.std.specs.Prelude.{slice_get, string_bytes, if◌then◌else◌}
-use Rattle.std.specs.Option.{IsSome}
+use Rattle.std.specs.Option.{IsSome, option_map}
 use Rattle.std.specs.List.{Contains}
-use Rattle.wgsl_path.specs.declared.path.ModulePath.{ModulePath}
-use Rattle.wgsl_path.specs.Paths.{path_text}
-use Rattle.wgsl_syntax.specs.Tree.{Decl, Imp, Unit}
-use Rattle.wesl_sources.specs.Occurrences.{Name, declared_name, occurrences}
-use Rattle.wesl_sources.specs.Modules.{Path, Symbol, Modules, IsModule, Declares, Imports, local_name, IsImport, IsImported, IsMissing, lacking, bare as is_bare, IsPrivate, IsUnloaded, IsDeclaration, Reached, IsAsked}
-use Rattle.wesl_sources.specs.Modules as spec
-use Rattle.wesl_sources.specs.Names.{IsPrinted, stays, is_mangled}
-use Rattle.wesl_sources.specs.Rounds.{Sources, IsFirstUnkept, Refusal, missing_decl, private as is_private, StandsBefore, IsRefusedAt, IsFirstRefused, NoneRefused, IsAscending, no_path, one_path, one_before, IsNextRound}
-use Rattle.wesl_scopes.specs.Meanings.{Known, declared, imported, bare, known, names, first_again, import_known, entries}
-use Rattle.wesl_scopes.specs.Outcomes.{Outcome, symbol_at, unloaded, missing, private, free, Loaded, item_in, item_at, meant_as, outcome}
-use Rattle.wesl_scopes.specs.Tells.{IsFinder, StandsAt, Tells}
-use Rattle.wesl_reach.specs.Reach.{ReachedAt, kept, onto, Holding, Settled, IsSettled, KeepsAll, IsRooted}
-use Rattle.wesl_reach.specs.Missing.{RefusedFor, IsMissingAt, IsFirstMissing, NoneMissing}
-use Rattle.wesl_reach.specs.Following.{Stage, Handled, AllFollowed}
-use Rattle.wesl_scopes.specs.Outcomes.{home_of, loaded}
-use Rattle.wesl_scopes.specs.declared.module.Module.{Module}
-use Rattle.wgsl_syntax.specs.View.{unit_tree}
-use Rattle.wesl_resolve.specs.Mangling.{mangled}
 use Rattle.std.specs.Str.{bytes_eq}
-use Rattle.std.specs.Option.{option_map}
 use Rattle.std.specs.Map.{lookup}
 use Rattle.std.specs.Ordering.{nat_cmp, is_eq}
 use Rattle.std.specs.Cmp.Lexicographic.{slice_cmp}
@@ -34,13 +15,29 @@ use Rattle.std.specs.List.Sorted.{IsStrictlySortedBy}
 use Rattle.std.specs.String.{string_cmp, string_cmp_total}
 use Rattle.std.proofs.lemmas.Map.Keys.{sorted_head, sorted_tail}
 use Rattle.std.proofs.lemmas.Map.Text.{is_eq-slice_cmp}
-use Rattle.wesl_reach.specs.declared.linking.AskedModule.{AskedModule}
 use Rattle.std.proofs.lemmas.Map.Entries.{place_from_lookup, btree_map_get_place}
+use Rattle.wgsl_path.specs.declared.path.ModulePath.{ModulePath}
+use Rattle.wgsl_syntax.specs.Tree.{Imp, Unit}
+use Rattle.wgsl_syntax.specs.View.{unit_tree}
+use Rattle.wesl_resolve.specs.Mangling.{mangled}
+use Rattle.wesl_sources.specs.Occurrences.{Name, declared_name, occurrences}
+use Rattle.wesl_sources.specs.Modules.{Path, Symbol, Modules, IsModule, Declares, Imports, local_name, IsImport, IsImported, IsMissing, lacking, bare as is_bare, IsPrivate, IsUnloaded, IsDeclaration, Reached, IsAsked}
+use Rattle.wesl_sources.specs.Modules as spec
+use Rattle.wesl_sources.specs.Names.{IsPrinted, stays, is_mangled}
+use Rattle.wesl_sources.specs.Rounds.{Sources, IsFirstUnkept, Refusal, missing_decl, private as is_private, IsRefusedAt, IsFirstRefused, NoneRefused, IsAscending, no_path, one_path, one_before, IsNextRound}
+use Rattle.wesl_scopes.specs.Meanings.{Known, declared, imported, bare, known, import_known}
+use Rattle.wesl_scopes.specs.Outcomes.{Outcome, symbol_at, unloaded, missing, private, free, Loaded, item_in, item_at, meant_as, outcome, home_of, loaded}
+use Rattle.wesl_scopes.specs.Tells.{IsFinder, StandsAt, Tells}
+use Rattle.wesl_scopes.specs.declared.module.Module.{Module}
+use Rattle.wesl_reach.specs.Reach.{ReachedAt, kept, onto, Holding, Settled, IsSettled, KeepsAll, IsRooted}
+use Rattle.wesl_reach.specs.Missing.{RefusedFor, IsMissingAt, IsFirstMissing, NoneMissing}
+use Rattle.wesl_reach.specs.Following.{Stage, Handled, AllFollowed}
+use Rattle.wesl_reach.specs.declared.linking.AskedModule.{AskedModule}
 use Rattle.wesl_reach.specs.Closing.{HeldNames, held_at}
 use Rattle.wesl_reach.specs.Stages.{AskedNames, name_asked, asks, stage}
-use Rattle.wesl_reach.specs.Closed.{HoldsAllReached, IsFirstUndeclared, IsClosed, IsNamedAt, AreNamed, IsAskedAt, AreAskedByName}
+use Rattle.wesl_reach.specs.Closed.{HoldsAllReached, IsFirstUndeclared, IsClosed, IsNamedAt, AreNamed, IsAskedAt, IsStopped}
 use Rattle.wesl_reach.specs.Resolved.{HoldsReached, LoadedModules, modules_of, IsKeyed, NamesHeld, IsResolved}
-use Rattle.wesl_scopes.proofs.ScopeLemmas.{to_contains, from_contains, map_get, get_map, import_means, value_means, same_name, self_name}
+use Rattle.wesl_scopes.proofs.ScopeLemmas.{to_contains, from_contains, map_get, get_map, import_means, same_name, self_name}
 use Rattle.wesl_scopes.proofs.TellLemmas.{IsFresh, declared_known, has_declared, has_imported, tells}
 use Rattle.wesl_reach.proofs.ReachLemmas.{found_unit, sought_at, import_found, denoted, same_place, stands_there, reached_there}
 
@@ -90,7 +87,7 @@ module _ (modules : Modules) (find : Loaded) (finder : IsFinder modules find) wh
         let unit : m ≡ (m.0, import.unit) = found_unit modules find finder m.0 import.unit m import.is_module here in
         let means = import_means import.unit i (finder.fresh m.0 (m.0, import.unit) (finder.finds m.0 import.unit import.is_module)) import.stands in
         let is : known m.1 x ≡ Some (bare i.item) =
-            ap (λ (h : Path × Unit). known h.1 x) unit ∙ ap (known import.unit) (sym import.local) ∙ means ∙ ap (λ o. Some (import_known o i.item)) none in
+        ap (λ (h : Path × Unit). known h.1 x) unit ∙ ap (known import.unit) (sym import.local) ∙ means ∙ ap (λ o. Some (import_known o i.item)) none in
         ap (meant_as find m.0) is
 
     private_told : (s : Symbol) → IsPrivate modules m.0 x s → outcome find m x ≡ private s
@@ -362,3 +359,15 @@ module _ (modules : Modules) (ms : LoadedModules) (finder : IsFinder modules (lo
   nothing_asked none =
       subst (λ (es : List (String Global × AskedModule)). IsNextRound modules root keep (map (λ e. string_bytes e.0) es)) none
       (next_round (subst (λ (es : List (String Global × AskedModule)). IsStrictlySortedBy string_cmp (map (λ e. e.0) es)) (sym none) (sorted_nothing string_cmp)))
+
+  -- nothing is refused in a round that closed
+  pub closed_refuses_none : NoneRefused modules root keep
+  closed_refuses_none =
+      none_refused modules (loaded ms) finder root keep (held_at held)
+      (holds_all (loaded ms) root keep (stage held (asks asked) false []) closed.kept closed.followed)
+      (none_missing (loaded ms) (stage held (asks asked) false []) refl closed.followed)
+
+-- what a closing is refused for is the first that is refused
+pub stopped_refused : (modules : Modules) (ms : LoadedModules) → IsFinder modules (loaded ms) → (root : Path) (keep : List Name) (held : HeldNames) (r : Refusal) → IsStopped ms root keep held r
+    → IsFirstRefused modules root keep r
+stopped_refused modules ms finder root keep held r stopped = first_refused modules (loaded ms) finder root keep (held_at held) stopped.sound stopped.whole r stopped.first

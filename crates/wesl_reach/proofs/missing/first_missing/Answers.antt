@@ -1,5 +1,4 @@
 use Rattle.std.proofs.Common.{subst, sym, Some, None}
-use Rattle.std.specs.Prelude.{string_bytes}
 use Rattle.std.specs.Map.Iter.{deref_pair}
 use Rattle.std.proofs.lemmas.Map.Iter.{rest_more, rest_all}
 use Rattle.wesl_scopes.specs.Outcomes.{loaded}

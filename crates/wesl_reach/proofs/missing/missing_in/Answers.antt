@@ -6,7 +6,7 @@ use Rattle.wesl_scopes.specs.Outcomes.{loaded, home_of, outcome}
 use Rattle.wesl_reach.specs.Missing.{TellsWhy}
 use Rattle.wesl_rename.specs.Scopes.{texts}
 use Rattle.wesl_reach.proofs.StageLemmas.{text_there}
-use Rattle.wesl_reach.proofs.PresentLemmas.{one_present, not_some}
+use Rattle.wesl_reach.proofs.PresentLemmas.{one_present}
 use Rattle.wesl_reach.proofs.FirstLemmas.{present_of, none_alone, first_alone}
 use Rattle.wesl_reach.proofs.missing.missing_in.Goals as goal
 
