@@ -3,6 +3,8 @@ pub mod ReachLemmas
 pub mod FollowLemmas
 pub mod StageLemmas
 pub mod PresentLemmas
+pub mod FirstLemmas
+pub mod RefusedLemmas
 pub mod RoundLemmas
 pub mod LoadLemmas
 pub mod GoesLemmas

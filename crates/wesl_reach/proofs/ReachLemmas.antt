@@ -38,7 +38,7 @@ module _ (modules : Modules) (find : Loaded) (finder : IsFinder modules find) wh
       (k.0, k.1, record { unit = u; declaration = d.0; is_module = is; stands = d.1; home = refl; name = sym d.2 })
 
   -- an item that a module declares, where it is sought
-  sought_at : (s : Symbol) (u : Unit) → IsModule modules s.home u → Declares u s.name
+  pub sought_at : (s : Symbol) (u : Unit) → IsModule modules s.home u → Declares u s.name
       → (j : ℕ) × (item_at s (find s.home) ≡ symbol_at s.home j) × StandsAt modules s.home j s
   sought_at s u is has =
       let t = at_home s.home u s.name is has in
@@ -50,7 +50,7 @@ module _ (modules : Modules) (find : Loaded) (finder : IsFinder modules find) wh
         let t = at_home m.0 u x is has in
         (t.0, ap (λ (h : Path × Unit). meant_as find m.0 (known h.1 x)) (found_unit m.0 u m is here) ∙ ap (meant_as find m.0) t.1, t.2)
 
-    import_found : (s : Symbol) → IsImported modules m.0 x s → known m.1 x ≡ Some (imported s)
+    pub import_found : (s : Symbol) → IsImported modules m.0 x s → known m.1 x ≡ Some (imported s)
     import_found s to =
         let i = to.is_import in
         let unit : m ≡ (m.0, i.unit) = found_unit m.0 i.unit m i.is_module here in
