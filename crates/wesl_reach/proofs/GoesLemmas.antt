@@ -11,7 +11,7 @@ use Rattle.std.specs.List.{Contains}
 use Rattle.std.specs.BTreeMap.{BTreeMap, get_by_text, IsOrdered}
 use Rattle.std.specs.declared.string.String.{String}
 use Rattle.std.specs.declared.alloc.Global.{Global}
-use Rattle.std.proofs.lemmas.List.{length-append}
+use Rattle.std.proofs.lemmas.List.{length-append, length-map}
 use Rattle.std.proofs.lemmas.Map.Entries.{btree_map_get_place}
 use Rattle.wgsl_path.specs.declared.path.ModulePath.{ModulePath}
 use Rattle.wgsl_path.specs.Paths.{path_text}
@@ -19,7 +19,8 @@ use Rattle.wgsl_syntax.specs.Tree.{Unit}
 use Rattle.wgsl_syntax.specs.View.{unit_tree}
 use Rattle.wesl_sources.specs.Occurrences.{Name}
 use Rattle.wesl_sources.specs.Modules.{Path, Symbol, Modules, IsModule, Declares}
-use Rattle.wesl_sources.specs.Rounds.{Sources, Refusal, too_many_modules, missing_decl, Loads, all_loaded, one_too_many, is_not_found, is_faulty, has_a_name_twice, loaded_then_refused, loaded as one_loaded, IsNextRound, NoneRefused, IsFirstRefused, Goes, an_occurrence_refused, nothing_asked, a_module_refused, a_round, IsFirstUnkept, ComesTo, root_refused, kept_name_missing, goes_on}
+use Rattle.wesl_sources.specs.Rounds.{Sources, Refusal, too_many_modules, missing_decl, Loads, all_loaded, one_too_many, is_not_found, is_faulty, has_a_name_twice, loaded_then_refused, loaded as one_loaded, IsNextRound, NoneRefused, IsFirstRefused, Goes, an_occurrence_refused, a_module_refused, a_round, IsFirstUnkept, ComesTo, root_refused, kept_name_missing, goes_on}
+use Rattle.wesl_sources.specs.Rounds as rounds
 use Rattle.wesl_scopes.specs.declared.error.ImportError.{ImportError}
 use Rattle.wesl_scopes.specs.declared.error.ImportError.TheVariants.{OutOfMemory}
 use Rattle.wesl_scopes.specs.declared.module.Module.{Module}
@@ -31,13 +32,15 @@ use Rattle.wesl_scopes.proofs.TellLemmas.{has_declared}
 use Rattle.wesl_reach.specs.declared.linking.AskedModule.{AskedModule}
 use Rattle.wesl_reach.specs.declared.rounds.Reached.{Reached}
 use Rattle.wesl_reach.specs.Missing.{refusal_of}
-use Rattle.wesl_reach.specs.Reach.{KeepsAll, KeepsOne}
+use Rattle.wesl_reach.specs.Reach.{KeepsAll, KeepsOne, IsRooted}
 use Rattle.wesl_reach.specs.Closing.{HeldNames, name_among, held_at}
 use Rattle.wesl_reach.specs.Resolved.{LoadedModules, modules_of, IsResolved}
 use Rattle.wesl_reach.specs.Stages.{AskedNames, asks, name_asked}
 use Rattle.wesl_reach.specs.Closed.{HoldsNothing, IsClosed, IsAskedAt, IsFirstUndeclared, IsStopped, RefusesClosing, RefusesRoot}
 use Rattle.wesl_reach.specs.Answers.{AreLoadedTables, Refuses}
 use Rattle.wesl_reach.specs.Loading.{AreTabled, paths_of, AreSought, RefusesLoading, IsLoadedOne, AreAllLoaded, IsRoundEnd}
+use Rattle.wesl_reach.proofs.RefusedLemmas as refused
+use Rattle.wesl_reach.proofs.RefusedLemmas.{closed_refuses_none, stopped_refused}
 use Rattle.wesl_reach.proofs.LoadLemmas.{AskedEntry, texts_of, behind, in_left, one_in, path_and_unit, found_listed, listed_found, one_tabled, one_then}
 
 -- ---- the modules of a table, by their paths
@@ -116,10 +119,6 @@ declares_kept find root keep held u here kept x c =
     let d = declared_there root k.0 s k.1 (known u x) (ap (item_at s) (sym here) ∙ k.2) in
     has_declared u x d.0 d.1
 
-no_keys : IsStrictlySortedBy string_cmp (map (λ (x : AskedEntry). x.0) [])
-unfolding IsStrictlySortedBy
-no_keys = tt
-
 no_modules : IsStrictlySortedBy string_cmp (map (λ (x : String Global × Module). x.0) [])
 unfolding IsStrictlySortedBy
 no_modules = tt
@@ -128,27 +127,44 @@ pub no_entries : {X : Type 0} (xs : List X) → length xs ≡ 0 → xs ≡ []
 no_entries [] e = refl
 no_entries (x ∷ xs) e = absurd (omega arith)
 
--- ---- pending: from places to names
+self_tabled : (ms : LoadedModules) (modules : Modules) → AreTabled ms modules → AreTabled ms (modules_of ms)
+self_tabled ms modules t = record { keyed = t.keyed; ordered = t.ordered; same = λ x. (λ c. c, λ c. c); many = length-map ms.entries (λ (e : String Global × Module). path_and_unit e.1) }
 
-none_refused : (ms : LoadedModules) (modules : Modules) (root : Path) (keep : List Name) (held : HeldNames) (asked : AskedNames)
-    → AreTabled ms modules → IsClosed ms root keep held asked → NoneRefused modules root keep
-none_refused ms modules root keep held asked t c = ?
+-- ---- from places to names
 
-next_round : (ms : LoadedModules) (modules : Modules) (root : Path) (keep : List Name) (held : HeldNames) (asked : AskedNames)
-    → AreTabled ms modules → IsOrdered string_cmp asked → IsClosed ms root keep held asked → IsNextRound modules root keep (paths_of asked)
-next_round ms modules root keep held asked t ordered c = ?
+module _ (ms : LoadedModules) (modules : Modules) (t : AreTabled ms modules) (root : Path) (keep : List Name) where
+  finder : IsFinder modules (loaded ms)
+  finder = tabled_finder ms modules t
 
-first_refused : (ms : LoadedModules) (modules : Modules) (root : Path) (keep : List Name) (held : HeldNames) (r : Refusal)
-    → AreTabled ms modules → IsStopped ms root keep held r → IsFirstRefused modules root keep r
-first_refused ms modules root keep held r t s = ?
+  none_refused : (held : HeldNames) (asked : AskedNames) → IsClosed ms root keep held asked → NoneRefused modules root keep
+  none_refused held asked closed = closed_refuses_none modules ms finder root keep held asked closed
 
-first_unkept : (ms : LoadedModules) (root : Path) (keep : List Name) (u : Unit) (x : Name) → loaded ms root ≡ Some (root, u)
-    → IsFirstUndeclared (loaded ms) root keep x → (sources : Sources) (max : ℕ) → IsFirstUnkept sources root keep max u x
-first_unkept ms root keep u x here f sources max = ?
+  next_round : (held : HeldNames) (asked : AskedNames) → IsClosed ms root keep held asked → IsOrdered string_cmp asked → IsNextRound modules root keep (paths_of asked)
+  next_round held asked closed ordered = refused.next_round modules ms finder root keep held asked closed ordered
 
-is_resolved : (ms : LoadedModules) (modules : Modules) (root : Path) (keep : List Name) (held : HeldNames) (asked : AskedNames) (u : Unit)
-    → AreTabled ms modules → IsModule modules root u → asked.entries ≡ [] → IsClosed ms root keep held asked → IsResolved ms root keep held
-is_resolved ms modules root keep held asked u t at empty c = ?
+  nothing_asked : (held : HeldNames) (asked : AskedNames) → IsClosed ms root keep held asked → asked.entries ≡ [] → IsNextRound modules root keep []
+  nothing_asked held asked closed empty = refused.nothing_asked modules ms finder root keep held asked closed empty
+
+  first_refused : (held : HeldNames) (r : Refusal) → IsStopped ms root keep held r → IsFirstRefused modules root keep r
+  first_refused held r stopped = stopped_refused modules ms finder root keep held r stopped
+
+  module _ (u : Unit) (here : IsModule modules root u) where
+    found_root : loaded ms root ≡ Some (root, u)
+    found_root = finder.finds root u here
+
+    first_unkept : (sources : Sources) (max : ℕ) (x : Name) → IsFirstUndeclared (loaded ms) root keep x → IsFirstUnkept sources root keep max u x
+    first_unkept sources max x first = refused.first_unkept modules (loaded ms) finder sources root keep max (root, u) x found_root first
+
+    rooted : (held : HeldNames) → KeepsAll (loaded ms) root keep (held_at held) → IsRooted (modules_of ms) root keep
+    rooted held kept = (
+      u,
+      record { path = here.path; stands = (t.same (here.path, u)).0 here.stands; printed = here.printed },
+      declares_kept (loaded ms) root keep held u found_root kept,
+    )
+
+    is_resolved : (held : HeldNames) (asked : AskedNames) → IsClosed ms root keep held asked → asked.entries ≡ [] → IsResolved ms root keep held
+    is_resolved held asked closed empty =
+        refused.is_resolved ms root keep held asked t.keyed (tabled_finder ms (modules_of ms) (self_tabled ms modules t)) (rooted held closed.kept) closed empty
 
 -- ---- the rounds
 
@@ -158,14 +174,13 @@ all_of_them sources max n ps more (one_loaded {n = k} {ps = qs} {modules = m} le
 
 module _ (sources : Sources) (max : ℕ) (root : Path) (keep : List Name) (r : Reached) (asked : AskedNames) (n : ℕ) (e : IsRoundEnd sources max root keep r asked n) where
   none : NoneRefused e.modules root keep
-  none = none_refused r.modules e.modules root keep r.held asked e.tabled e.closed
+  none = none_refused r.modules e.modules e.tabled root keep r.held asked e.closed
 
   pub all_ended : asked.entries ≡ [] → AreLoadedTables sources root keep max r.modules r.held
   all_ended empty = record {
-    resolved = is_resolved r.modules e.modules root keep r.held asked e.unit e.tabled e.rooted empty e.closed;
+    resolved = is_resolved r.modules e.modules e.tabled root keep e.unit e.rooted r.held asked e.closed empty;
     modules = e.modules;
-    loaded = e.goes (Ok e.modules) (nothing_asked none
-        (subst (λ es. IsNextRound e.modules root keep (texts_of es)) empty (next_round r.modules e.modules root keep r.held asked e.tabled (subst (λ es. IsStrictlySortedBy string_cmp (map (λ (x : AskedEntry). x.0) es)) (sym empty) no_keys) e.closed)));
+    loaded = e.goes (Ok e.modules) (rounds.nothing_asked none (nothing_asked r.modules e.modules e.tabled root keep r.held asked e.closed empty));
     same = e.tabled.same;
   }
 
@@ -174,7 +189,7 @@ module _ (sources : Sources) (max : ℕ) (root : Path) (keep : List Name) (r : R
 
   module _ (ordered : IsOrdered string_cmp asked) where
     next : IsNextRound e.modules root keep (paths_of asked)
-    next = next_round r.modules e.modules root keep r.held asked e.tabled ordered e.closed
+    next = next_round r.modules e.modules e.tabled root keep r.held asked e.closed ordered
 
     pub loading_refused : (o : Option Refusal) → RefusesLoading sources max (length e.modules) (paths_of asked) o → Refuses sources root keep max o
     loading_refused None l = tt
@@ -207,7 +222,7 @@ module _ (sources : Sources) (max : ℕ) (root : Path) (keep : List Name) (r : R
           (λ told.
           subst (Refuses sources root keep max) (sym told.1)
           (e.goes (Err told.0)
-          (a_round none next (not_empty asked.entries some) l.loads (an_occurrence_refused (first_refused new (e.modules ++ l.more) root keep held told.0 l.tabled told.2)))))
+          (a_round none next (not_empty asked.entries some) l.loads (an_occurrence_refused (first_refused new (e.modules ++ l.more) l.tabled root keep held told.0 told.2)))))
           why
 
       pub one_round : (after : Reached) (more : AskedNames) → after.modules ≡ new → IsClosed new root keep after.held more → IsRoundEnd sources max root keep after more (n + 1)
@@ -255,8 +270,9 @@ module _ (sources : Sources) (max : ℕ) (root : Path) (keep : List Name) where
     at_root : IsModule (path_and_unit l.one ∷ []) root (unit_tree l.one.unit)
     at_root = record { path = l.one.path; stands = one_in (path_and_unit l.one); printed = l.printed }
 
-    found_root : loaded new root ≡ Some (root, unit_tree l.one.unit)
-    found_root = (tabled_finder new (path_and_unit l.one ∷ []) tabled).finds root (unit_tree l.one.unit) at_root
+    kept_there : (held : HeldNames) → KeepsAll (loaded new) root keep (held_at held) → (x : Name) → Contains keep x → Declares (unit_tree l.one.unit) x
+    kept_there held kept =
+        declares_kept (loaded new) root keep held (unit_tree l.one.unit) (found_root new (path_and_unit l.one ∷ []) tabled root keep (unit_tree l.one.unit) at_root) kept
 
     pub root_ended : (r : Reached) (asked : AskedNames) → r.modules ≡ new → IsClosed new root keep r.held asked → IsRoundEnd sources max root keep r asked 1
     root_ended r asked same closed = record {
@@ -266,7 +282,7 @@ module _ (sources : Sources) (max : ℕ) (root : Path) (keep : List Name) where
       rooted = at_root;
       closed = subst (λ ms. IsClosed ms root keep r.held asked) (sym same) closed;
       many = omega arith;
-      goes = λ o g. goes_on there (declares_kept (loaded new) root keep r.held (unit_tree l.one.unit) found_root closed.kept) g;
+      goes = λ o g. goes_on there (kept_there r.held closed.kept) g;
     }
 
     pub root_stopped : (held : HeldNames) (error : ImportError) → RefusesRoot new root keep held error → Refuses sources root keep max (refusal_of error)
@@ -275,11 +291,11 @@ module _ (sources : Sources) (max : ℕ) (root : Path) (keep : List Name) where
         (λ memory. subst (Refuses sources root keep max) (ap refusal_of (sym memory)) tt)
         (λ told.
         subst (Refuses sources root keep max) (sym told.1)
-        (goes_on there (declares_kept (loaded new) root keep held (unit_tree l.one.unit) found_root told.2.kept)
-        (an_occurrence_refused (first_refused new (path_and_unit l.one ∷ []) root keep held told.0 tabled told.2))))
+        (goes_on there (kept_there held told.2.kept)
+        (an_occurrence_refused (first_refused new (path_and_unit l.one ∷ []) tabled root keep held told.0 told.2))))
         closing)
         (λ kept.
         subst (Refuses sources root keep max) (sym kept.2.1)
         (subst (λ why. ComesTo sources root keep max (Err why)) (sym kept.2.2)
-        (kept_name_missing there (first_unkept new root keep (unit_tree l.one.unit) kept.0 found_root kept.1 sources max))))
+        (kept_name_missing there (first_unkept new (path_and_unit l.one ∷ []) tabled root keep (unit_tree l.one.unit) at_root sources max kept.0 kept.1))))
         why

@@ -37,8 +37,8 @@ returns-in_err-asked-clause-loading g c = λ found.
     let sources = g.R.Resolver.answers c.args.resolver.now in
     let root : Path = string_bytes c.in_ok-root.root in
     let keep : List Name = kept_names c.args.keep.now (unit_tree c.args.unit) in
-    let printed : path_text c.args.path.now ≡ root = ? in
-    let key : string_bytes c.in_ok-clone.field-0 ≡ root = ? in
+    let printed : path_text c.args.path.now ≡ root = sym c.in_ok-root.ensures.ok in
+    let key : string_bytes c.in_ok-clone.field-0 ≡ root = c.in_ok-clone.ensures.cases in
     let less : length c.new-modules.result.entries < c.args.max_modules = omega (arith, c.if-max_modules-eq0.false, c.new-modules.ensures.len) in
     let l = module_loaded sources c.args.max_modules 0 c.args.path.now root printed c.new-modules.result c.insert.new.self c.in_ok-clone.field-0 c.args.unit c.in_ok-module.module c.in_ok-insert.field-0
         less found c.in_ok-module.ensures key c.in_ok-insert.ensures.updates c.in_ok-insert.ensures.old c.in_ok-insert.ensures.len c.in_ok-insert.ensures.ordered in
@@ -57,8 +57,8 @@ returns-clause-loading g c = λ found.
     let sources = g.R.Resolver.answers c.args.resolver.now in
     let root : Path = string_bytes c.in_ok-root.root in
     let keep : List Name = kept_names c.args.keep.now (unit_tree c.args.unit) in
-    let printed : path_text c.args.path.now ≡ root = ? in
-    let key : string_bytes c.in_ok-clone.field-0 ≡ root = ? in
+    let printed : path_text c.args.path.now ≡ root = sym c.in_ok-root.ensures.ok in
+    let key : string_bytes c.in_ok-clone.field-0 ≡ root = c.in_ok-clone.ensures.cases in
     let less : length c.new-modules.result.entries < c.args.max_modules = omega (arith, c.if-max_modules-eq0.false, c.new-modules.ensures.len) in
     let l = module_loaded sources c.args.max_modules 0 c.args.path.now root printed c.new-modules.result c.insert.new.self c.in_ok-clone.field-0 c.args.unit c.in_ok-module.module c.in_ok-insert.field-0
         less found c.in_ok-module.ensures key c.in_ok-insert.ensures.updates c.in_ok-insert.ensures.old c.in_ok-insert.ensures.len c.in_ok-insert.ensures.ordered in
