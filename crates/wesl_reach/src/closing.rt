@@ -33,6 +33,26 @@ use wgsl_items::{CloneIn, Text};
 use wgsl_path::ModulePath;
 use wgsl_syntax::GlobalDeclaration;
 
+/// What is found while declarations are reached.
+#[derive(Drop)]
+struct Found<'a> {
+    /// What was reached in this round, in the order in which it was.
+    reached: Vec<Symbol<'a>>,
+    asked: Asked,
+    /// Whether some reached occurrence denotes nothing.
+    is_missing: bool,
+}
+
+fn found_nothing<'a>(alloc: Global) -> Found<'a>
+    ensures { result.reached.items ≡ [] }
+{
+    Found {
+        reached: Vec::new(alloc),
+        asked: Asked::new(alloc),
+        is_missing: false,
+    }
+}
+
 /// Reaches what the kept names of the root lead to.
 pub fn close_root(
     alloc: Global,
@@ -47,7 +67,33 @@ pub fn close_root(
     ensures closed { IsKeyed linking.now.modules.now → HoldsNothing held.old → IfOk result (λ asked. IsClosed linking.now.modules.now linking.now.root.now linking.now.keep.now held.new asked) }
     ensures refused { IsKeyed linking.now.modules.now → path_text path.now ≡ linking.now.root.now → HoldsNothing held.old → IfErr result (RefusesRoot linking.now.modules.now linking.now.root.now linking.now.keep.now held.new) }
 {
-    Err(ImportError::OutOfMemory)
+    let mut found = found_nothing(alloc);
+    for name in linking.keep {
+        reach_kept(alloc, linking, path, name, held, &mut found.reached)?;
+    }
+    let asked = close(alloc, linking, held, found)?;
+    Ok(asked)
+}
+
+fn reach_kept<'a>(
+    alloc: Global,
+    linking: &Linking<'a>,
+    path: &ModulePath,
+    name: &Text,
+    held: &mut Held,
+    reached: &mut Vec<Symbol<'a>>,
+) -> Result<(), ImportError>
+    requires keep { Contains linking.now.keep.now name.now }
+    ensures sound { IsSound linking.now held.old reached.old.items → OnOk result (IsSound linking.now held.new reached.new.items) }
+    ensures moves { OnOk result ((asked : Sought → Bool) (missing : Bool) → Moves (stage held.old asked missing reached.old.items) (stage held.new asked missing reached.new.items)) }
+    ensures kept { OnOk result (KeepsOne (loaded linking.now.modules.now) linking.now.root.now name.now (held_at held.new)) }
+{
+    match item_of(linking.modules, linking.root, name.as_str()) {
+        Item::Declared(symbol) => Ok(reach(alloc, linking, symbol, held, reached)?),
+        Item::Imported | Item::Absent | Item::Unloaded => {
+            Err(ImportError::MissingDecl(path.clone_in(alloc)?, name.clone_in(alloc)?))
+        }
+    }
 }
 
 /// Reaches what is sought in newly loaded modules, and what that leads to.
@@ -60,7 +106,164 @@ pub fn close_asked(
     ensures closed { (old : LoadedModules) → IsKeyed linking.now.modules.now → IsClosed old linking.now.root.now linking.now.keep.now held.old asked.now → IsLoadedOn old asked.now linking.now.modules.now → IfOk result (λ more. IsClosed linking.now.modules.now linking.now.root.now linking.now.keep.now held.new more) }
     ensures refused { (old : LoadedModules) → IsKeyed linking.now.modules.now → IsClosed old linking.now.root.now linking.now.keep.now held.old asked.now → IsLoadedOn old asked.now linking.now.modules.now → IfErr result (RefusesClosing linking.now.modules.now linking.now.root.now linking.now.keep.now held.new) }
 {
-    Err(ImportError::OutOfMemory)
+    let mut found = found_nothing(alloc);
+    for (text, module) in asked {
+        for name in &module.names {
+            match item_of(linking.modules, text.as_str(), name.as_str()) {
+                Item::Declared(symbol) => reach(alloc, linking, symbol, held, &mut found.reached)?,
+                Item::Imported | Item::Absent | Item::Unloaded => found.is_missing = true,
+            }
+        }
+    }
+    close(alloc, linking, held, found)
+}
+
+/// Follows the occurrences of what is reached, and answers what is asked for.
+fn close<'a>(
+    alloc: Global,
+    linking: &Linking<'a>,
+    held: &mut Held,
+    mut found: Found<'a>,
+) -> Result<Asked, ImportError>
+    ensures sound { IsSound linking.now held.old found.entry.reached.items → OnOk result (AllReached linking.now held.new) }
+    ensures followed { FollowedTo (loaded linking.now.modules.now) (stage held.old (asks found.entry.asked) found.entry.is_missing found.entry.reached.items) 0 → IfOk result (λ asked. AllFollowed (loaded linking.now.modules.now) (stage held.new (asks asked) false [])) }
+    ensures stays { OnOk result ((m : Path) (place : ℕ) → IsSome (held_at held.old m place) → IsSome (held_at held.new m place)) }
+{
+    follow_all(alloc, linking, held, &mut found)?;
+    outcome_of(alloc, linking, held, found)
+}
+
+/// Follows the occurrences of what is reached, and of what they reach.
+fn follow_all<'a>(
+    alloc: Global,
+    linking: &Linking<'a>,
+    held: &mut Held,
+    found: &mut Found<'a>,
+) -> Result<(), AllocError>
+    ensures sound { IsSound linking.now held.old found.old.reached.items → OnOk result (IsSound linking.now held.new found.new.reached.items) }
+    ensures moves { OnOk result (Moves (stage held.old (asks found.old.asked) found.old.is_missing found.old.reached.items) (stage held.new (asks found.new.asked) found.new.is_missing found.new.reached.items)) }
+    ensures followed { FollowedTo (loaded linking.now.modules.now) (stage held.old (asks found.old.asked) found.old.is_missing found.old.reached.items) 0 → OnOk result (AllFollowed (loaded linking.now.modules.now) (stage held.new (asks found.new.asked) found.new.is_missing found.new.reached.items)) }
+{
+    for at in 0..usize::MAX {
+        let Some(symbol) = found.reached.get(at) else {
+            return Ok(());
+        };
+        let symbol = *symbol;
+        follow(alloc, linking, symbol, held, found)?;
+    }
+    // No list is longer.
+    let _count = found.reached.len();
+    Ok(())
+}
+
+fn outcome_of(
+    alloc: Global,
+    linking: &Linking<'_>,
+    held: &Held,
+    found: Found<'_>,
+) -> Result<Asked, ImportError>
+    ensures { AllFollowed (loaded linking.now.modules.now) (stage held.now (asks found.entry.asked) found.entry.is_missing found.entry.reached.items) → IfOk result (λ asked. AllFollowed (loaded linking.now.modules.now) (stage held.now (asks asked) false [])) }
+{
+    if !found.is_missing {
+        return Ok(found.asked);
+    }
+    match first_missing(alloc, linking.modules, held)? {
+        Some(error) => Err(error),
+        None => Ok(found.asked),
+    }
+}
+
+fn follow<'a>(
+    alloc: Global,
+    linking: &Linking<'a>,
+    symbol: Symbol<'a>,
+    held: &mut Held,
+    found: &mut Found<'a>,
+) -> Result<(), AllocError>
+    ensures sound { IsReached linking.now symbol.entry → IsSound linking.now held.old found.old.reached.items → OnOk result (IsSound linking.now held.new found.new.reached.items) }
+    ensures moves { OnOk result (Moves (stage held.old (asks found.old.asked) found.old.is_missing found.old.reached.items) (stage held.new (asks found.new.asked) found.new.is_missing found.new.reached.items)) }
+    ensures followed { OnOk result (IsFollowed (loaded linking.now.modules.now) (stage held.new (asks found.new.asked) found.new.is_missing found.new.reached.items) (string_bytes symbol.entry.«module».now.text) symbol.entry.place) }
+{
+    let Some(home) = linking.modules.get(symbol.module.text.as_str()) else {
+        return Ok(());
+    };
+    match home.declaration(symbol.place) {
+        None => Ok(()),
+        Some(declaration) => { follow_each(alloc, linking, symbol, home, declaration, held, found) }
+    }
+}
+
+fn follow_each<'a>(
+    alloc: Global,
+    linking: &Linking<'a>,
+    symbol: Symbol<'a>,
+    home: &'a Module,
+    declaration: &GlobalDeclaration,
+    held: &mut Held,
+    found: &mut Found<'a>,
+) -> Result<(), AllocError>
+    requires home { loaded linking.now.modules.now (string_bytes symbol.«module».now.text) ≡ Some (home_of home.now) }
+    requires declaration { slice_get (unit_tree home.now.unit).declarations symbol.place ≡ Some (declaration_tree declaration.now) }
+    ensures sound { IsReached linking.now symbol.entry → IsSound linking.now held.old found.old.reached.items → OnOk result (IsSound linking.now held.new found.new.reached.items) }
+    ensures moves { OnOk result (Moves (stage held.old (asks found.old.asked) found.old.is_missing found.old.reached.items) (stage held.new (asks found.new.asked) found.new.is_missing found.new.reached.items)) }
+    ensures followed { OnOk result (IsFollowed (loaded linking.now.modules.now) (stage held.new (asks found.new.asked) found.new.is_missing found.new.reached.items) (string_bytes symbol.entry.«module».now.text) symbol.entry.place) }
+{
+    let names = occurrences(alloc, declaration)?;
+    for name in names.as_slice() {
+        follow_name(alloc, linking, symbol, home, declaration, name, held, found)?;
+    }
+    Ok(())
+}
+
+fn follow_name<'a>(
+    alloc: Global,
+    linking: &Linking<'a>,
+    from: Symbol<'a>,
+    home: &'a Module,
+    declaration: &GlobalDeclaration,
+    name: &str,
+    held: &mut Held,
+    found: &mut Found<'a>,
+) -> Result<(), AllocError>
+    requires home { loaded linking.now.modules.now (string_bytes from.«module».now.text) ≡ Some (home_of home.now) }
+    requires declaration { slice_get (unit_tree home.now.unit).declarations from.place ≡ Some (declaration_tree declaration.now) }
+    requires occurs { Contains (spec.occurrences (declaration_tree declaration.now)) name.now }
+    ensures sound { IsReached linking.now from.entry → IsSound linking.now held.old found.old.reached.items → OnOk result (IsSound linking.now held.new found.new.reached.items) }
+    ensures moves { OnOk result (Moves (stage held.old (asks found.old.asked) found.old.is_missing found.old.reached.items) (stage held.new (asks found.new.asked) found.new.is_missing found.new.reached.items)) }
+    ensures handled { OnOk result (Handled (stage held.new (asks found.new.asked) found.new.is_missing found.new.reached.items) (outcome (loaded linking.now.modules.now) (home_of home.now) name.now)) }
+{
+    match denotation(linking.modules, home, name) {
+        Denoted::Declared(symbol) => reach(alloc, linking, symbol, held, &mut found.reached),
+        Denoted::Unloaded(target) => {
+            ask(alloc, &mut found.asked, target)?;
+            Ok(())
+        }
+        Denoted::Missing(_, _) | Denoted::Private(_, _) => {
+            found.is_missing = true;
+            Ok(())
+        }
+        Denoted::Free => Ok(()),
+    }
+}
+
+fn reach<'a>(
+    alloc: Global,
+    linking: &Linking<'a>,
+    symbol: Symbol<'a>,
+    held: &mut Held,
+    reached: &mut Vec<Symbol<'a>>,
+) -> Result<(), AllocError>
+    ensures sound { IsReached linking.now symbol.entry → IsSound linking.now held.old reached.old.items → OnOk result (IsSound linking.now held.new reached.new.items) }
+    ensures moves { OnOk result ((asked : Sought → Bool) (missing : Bool) → Moves (stage held.old asked missing reached.old.items) (stage held.new asked missing reached.new.items)) }
+    ensures held { OnOk result (IsSome (held_at held.new (string_bytes symbol.entry.«module».now.text) symbol.entry.place)) }
+{
+    if is_held(held, symbol) {
+        return Ok(());
+    }
+    let name = printed_name(alloc, linking.root, symbol)?;
+    hold(alloc, held, symbol, name)?;
+    reached.push(symbol)?;
+    Ok(())
 }
 
 /// Whether a symbol is held.
@@ -73,3 +276,71 @@ pub fn is_held(held: &Held, symbol: Symbol<'_>) -> bool
     }
 }
 
+fn hold(alloc: Global, held: &mut Held, symbol: Symbol<'_>, name: Text) -> Result<(), AllocError>
+    ensures { OnOk result (Holds held.old (string_bytes symbol.entry.«module».now.text) symbol.entry.place name held.new) }
+{
+    hold_at(alloc, held, symbol.module.text.as_str(), symbol.place, name)
+}
+
+fn hold_at(
+    alloc: Global,
+    held: &mut Held,
+    text: &str,
+    place: usize,
+    name: Text,
+) -> Result<(), AllocError>
+    ensures { OnOk result (Holds held.old text.now place name held.new) }
+{
+    let mut places = take_places(alloc, held, text);
+    places.insert(place, name)?;
+    held.insert(String::from_str(alloc, text)?, places)?;
+    Ok(())
+}
+
+/// Takes the held places of a module.
+fn take_places(alloc: Global, held: &mut Held, text: &str) -> BTreeMap<usize, Text>
+    ensures places { (place : ℕ) → get nat_cmp result place ≡ held_at held.old text.now place }
+    ensures others { (m : Path) → get_by_text held.new m ≡ (if bytes_eq text.now m then None else get_by_text held.old m) }
+{
+    match held.remove(text) {
+        Some(places) => places,
+        None => BTreeMap::new(alloc),
+    }
+}
+
+/// The name of a symbol in the linked unit: the root's names stay.
+fn printed_name(alloc: Global, root: &str, symbol: Symbol<'_>) -> Result<Text, AllocError> {
+    let Some(declaration) = symbol.declaration() else {
+        return Ok(Text::new(alloc));
+    };
+    let name = declared_name(declaration);
+    if symbol.module.text.as_str() == root {
+        return Text::from_str(alloc, name);
+    }
+    EscapeMangler.mangle(alloc, &symbol.module.path, name)
+}
+
+fn ask(alloc: Global, asked: &mut Asked, target: &Target) -> Result<(), AllocError>
+    ensures { OnOk result ((s : Sought) → asks asked.new s ≡ (if bytes_eq (string_bytes target.now.text) s.home then (if bytes_eq target.now.item s.name then true else asks asked.old s) else asks asked.old s)) }
+{
+    let mut module = take_asked(alloc, asked, target)?;
+    module
+        .names
+        .insert(String::from_str(alloc, target.item.as_str())?)?;
+    asked.insert(target.text.clone()?, module)?;
+    Ok(())
+}
+
+/// Takes what is asked of a target's module.
+fn take_asked(alloc: Global, asked: &mut Asked, target: &Target) -> Result<AskedModule, AllocError>
+    ensures names { IfOk result (λ m. (x : spec.Name) → name_asked (Some m) x ≡ asks asked.old (record { home = string_bytes target.now.text; name = x })) }
+    ensures others { OnOk result ((m : Path) → get_by_text asked.new m ≡ (if bytes_eq (string_bytes target.now.text) m then None else get_by_text asked.old m)) }
+{
+    match asked.remove(target.text.as_str()) {
+        Some(module) => Ok(module),
+        None => Ok(AskedModule {
+            path: target.path.clone_in(alloc)?,
+            names: BTreeSet::new(alloc),
+        }),
+    }
+}

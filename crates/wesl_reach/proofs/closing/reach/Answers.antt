@@ -1,0 +1,21 @@
+use Rattle.std.specs.Prelude.{string_bytes}
+use Rattle.wesl_reach.specs.Stages.{stage}
+use Rattle.wesl_reach.proofs.ClosingLemmas.{sound_more}
+use Rattle.wesl_reach.proofs.FollowLemmas.{no_move}
+use Rattle.wesl_reach.proofs.StageLemmas.{moves_more, now_held}
+use Rattle.wesl_reach.proofs.closing.reach.Goals as goal
+
+pub returns-clause-sound : goal.returns-clause-sound
+returns-clause-sound c = λ reached sound.
+    sound_more c.args.linking.now c.args.held.now c.hold.new.held c.args.reached.now.items c.push.new.self.items c.args.symbol _ reached sound
+    c.in_ok-hold.ensures c.in_ok-push.ensures.items
+
+pub returns-clause-moves : goal.returns-clause-moves
+returns-clause-moves c = λ asked missing.
+    moves_more c.args.held.now c.hold.new.held asked missing c.args.reached.now.items c.push.new.self.items c.args.symbol _ c.in_ok-hold.ensures c.in_ok-push.ensures.items
+
+pub returns-clause-held : goal.returns-clause-held
+returns-clause-held c = now_held c.args.held.now c.hold.new.held (string_bytes c.args.symbol.«module».now.text) c.args.symbol.place _ c.in_ok-hold.ensures
+
+pub returns-then-is_held-clause-moves : goal.returns-then-is_held-clause-moves
+returns-then-is_held-clause-moves c = λ asked missing. no_move (stage c.args.held.now asked missing c.args.reached.now.items)
