@@ -4,3 +4,4 @@ pub mod FollowLemmas
 pub mod StageLemmas
 pub mod PresentLemmas
 pub mod RoundLemmas
+pub mod OrderLemmas

@@ -6,3 +6,4 @@ pub mod Resolved
 pub mod Missing
 pub mod Closed
 pub mod Answers
+pub mod Underway

@@ -9,11 +9,11 @@ turned : (b : Bool) → not b ≡ true → b ≡ false
 turned true e = sym e
 turned false e = refl
 
-pub returns-then-not-found : goal.returns-then-not-found
-returns-then-not-found c = λ all.
+pub returns-then-not-found-clause-followed : goal.returns-then-not-found-clause-followed
+returns-then-not-found-clause-followed c = λ all.
     followed_sure (loaded c.args.linking.now.modules.now) (stage c.args.held.now (asks c.args.found.asked) c.args.found.is_missing c.args.found.reached.items) (turned c.args.found.is_missing c.if-not-found.true) all
 
-pub returns-in-None : goal.returns-in-None
-returns-in-None c = λ all.
+pub returns-in-None-clause-followed : goal.returns-in-None-clause-followed
+returns-in-None-clause-followed c = λ all.
     followed_present (loaded c.args.linking.now.modules.now) (stage c.args.held.now (asks c.args.found.asked) c.args.found.is_missing c.args.found.reached.items)
-    (c.in_ok-error.ensures c.in-None.is) all
+    (c.in_ok-error.ensures.present c.in-None.is) all

@@ -9,7 +9,7 @@ returns-in_ok-reach-in-Declared-clause-sound c = λ sound.
     c.in_ok-reach-in-Declared.ensures.sound
     (kept c.requires.keep
     (ap (λ n. item_at (record { home = c.args.linking.now.root.now; name = n }) (loaded c.args.linking.now.modules.now c.args.linking.now.root.now)) (sym c.as_str.ensures)
-    ∙ sym c.in-Declared.ensures))
+    ∙ sym c.in-Declared.ensures.found))
     sound
 
 pub returns-in_ok-reach-in-Declared-clause-kept : goal.returns-in_ok-reach-in-Declared-clause-kept
@@ -17,6 +17,6 @@ returns-in_ok-reach-in-Declared-clause-kept c = (
   string_bytes c.in-Declared.symbol.«module».now.text,
   c.in-Declared.symbol.place,
   ap (λ n. item_at (record { home = c.args.linking.now.root.now; name = n }) (loaded c.args.linking.now.modules.now c.args.linking.now.root.now)) (sym c.as_str.ensures)
-      ∙ sym c.in-Declared.ensures,
+      ∙ sym c.in-Declared.ensures.found,
   c.in_ok-reach-in-Declared.ensures.held,
 )
