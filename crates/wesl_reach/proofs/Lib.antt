@@ -5,3 +5,4 @@ pub mod StageLemmas
 pub mod PresentLemmas
 pub mod RoundLemmas
 pub mod OrderLemmas
+pub mod SeekLemmas

@@ -1,6 +1,6 @@
 -- What is held has its printed name, and what is asked for is what occurs and is not loaded.
-use Rattle.std.proofs.Common.{◌≡◌, refl, sym, ap, ◌∙◌, subst, ℕ, Bool, true, false, List, [], ◌∷◌, Option, Some, None, Result, Ok, Err}
-use Rattle.std.specs.Prelude.{OnOk, if◌then◌else◌, slice_get, string_bytes, nat_eq}
+use Rattle.std.proofs.Common.{◌≡◌, refl, sym, ap, ◌∙◌, subst, ℕ, Bool, true, false, List, [], ◌∷◌, Option, Some, None}
+use Rattle.std.specs.Prelude.{if◌then◌else◌, slice_get, string_bytes, nat_eq}
 use Rattle.std.specs.Str.{bytes_eq}
 use Rattle.std.specs.Option.{option_map}
 use Rattle.std.specs.List.{Contains}
@@ -117,9 +117,6 @@ placed_denoted ms home p x s keyed is there e =
     placed_there ms s (under_text ms is.0 s.«module».now keyed is.1)
     (outcome_stands (loaded ms) (keyed_finds ms keyed) (home_of home) p x (string_bytes s.«module».now.text) s.place there (sym e))
 
-pub on_ok : {A E : Type 0} (P Q : Type 0) (r : Result A E) → (P → Q) → OnOk r P → OnOk r Q
-on_ok P Q (Ok x) more p = more p
-on_ok P Q (Err e) more p = tt
 
 pub same_order : (l : Linking) (old new : HeldNames) (asked : AskedNames) → IsInOrder l old asked → NamesAll l new → IsInOrder l new asked
 same_order l old new asked before more = record { named = more; asked_at = before.asked_at; by_name = before.by_name }
