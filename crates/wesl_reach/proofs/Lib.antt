@@ -6,3 +6,4 @@ pub mod PresentLemmas
 pub mod RoundLemmas
 pub mod OrderLemmas
 pub mod SeekLemmas
+pub mod CloseLemmas

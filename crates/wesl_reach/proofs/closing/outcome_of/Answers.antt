@@ -3,6 +3,7 @@ use Rattle.std.specs.Prelude.{not}
 use Rattle.wesl_scopes.specs.Outcomes.{loaded}
 use Rattle.wesl_reach.specs.Stages.{asks, stage}
 use Rattle.wesl_reach.proofs.PresentLemmas.{followed_sure, followed_present}
+use Rattle.wesl_reach.proofs.CloseLemmas.{refused_whole}
 use Rattle.wesl_reach.proofs.closing.outcome_of.Goals as goal
 
 turned : (b : Bool) → not b ≡ true → b ≡ false
@@ -17,3 +18,8 @@ pub returns-in-None-clause-followed : goal.returns-in-None-clause-followed
 returns-in-None-clause-followed c = λ all.
     followed_present (loaded c.args.linking.now.modules.now) (stage c.args.held.now (asks c.args.found.asked) c.args.found.is_missing c.args.found.reached.items)
     (c.in_ok-error.ensures.present c.in-None.is) all
+
+pub returns-in-Some-clause-refused : goal.returns-in-Some-clause-refused
+returns-in-Some-clause-refused c =
+    refused_whole c.args.linking.now c.args.held.now c.args.found.asked c.args.found.is_missing c.args.found.reached.items c.in_ok-error.field-0 c.in-Some.error c.in-Some.is
+    c.in_ok-error.ensures.first
