@@ -1,6 +1,7 @@
 -- What a closing comes to.
 use Rattle.std.proofs.Common.{◌≡◌, refl, sym, ap, ◌∙◌, subst, ℕ, ◌⊎◌, inl, inr, ⊎_elim, Bool, true, false, List, [], ◌∷◌, Option, Some, None}
-use Rattle.std.specs.Prelude.{slice_get, string_bytes}
+use Rattle.std.specs.Prelude.{IfErr, Result, Ok, Err, slice_get, string_bytes}
+use Rattle.std.specs.Result.{IsErrAnd}
 use Rattle.std.specs.Option.{IsSome}
 use Rattle.wesl_sources.specs.Occurrences.{Name}
 use Rattle.wesl_sources.specs.Modules.{Path, Symbol}
@@ -68,3 +69,8 @@ module _ (l : Linking) where
     kept = kept_stays (loaded l.modules.now) l.root.now l.keep.now old new moves.stays_held u.kept;
     followed = followed u.followed;
   }
+
+-- an error that is passed on as it is
+pub err_passed : {T E : Type 0} (P : E → Type 0) (e : E) (r : Result T E) → IsErrAnd r (λ f. f ≡ e) → P e → IfErr r P
+err_passed P e (Ok x) is p = tt
+err_passed P e (Err f) is p = subst P (sym is) p

@@ -7,3 +7,4 @@ pub mod RoundLemmas
 pub mod OrderLemmas
 pub mod SeekLemmas
 pub mod CloseLemmas
+pub mod RootLemmas

@@ -2,6 +2,7 @@ use Rattle.std.proofs.Common.{sym, ap, ◌∙◌}
 use Rattle.std.specs.Prelude.{string_bytes}
 use Rattle.wesl_scopes.specs.Outcomes.{item_at, loaded}
 use Rattle.wesl_reach.specs.Reach.{kept}
+use Rattle.wesl_reach.proofs.OrderLemmas.{placed_item}
 use Rattle.wesl_reach.proofs.closing.reach_kept.Goals as goal
 
 pub returns-in_ok-reach-in-Declared-clause-sound : goal.returns-in_ok-reach-in-Declared-clause-sound
@@ -20,3 +21,8 @@ returns-in_ok-reach-in-Declared-clause-kept c = (
       ∙ sym c.in-Declared.ensures.found,
   c.in_ok-reach-in-Declared.ensures.held,
 )
+
+pub returns-in_ok-reach-in-Declared-clause-named : goal.returns-in_ok-reach-in-Declared-clause-named
+returns-in_ok-reach-in-Declared-clause-named c = λ keyed before.
+    c.in_ok-reach-in-Declared.ensures.named
+    (placed_item c.args.linking.now.modules.now c.args.linking.now.root.now c.as_str.result.now c.in-Declared.symbol keyed c.in-Declared.ensures.stands c.in-Declared.ensures.found) before
