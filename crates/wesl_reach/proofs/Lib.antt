@@ -8,3 +8,4 @@ pub mod OrderLemmas
 pub mod SeekLemmas
 pub mod CloseLemmas
 pub mod RootLemmas
+pub mod AskedLemmas
