@@ -117,7 +117,6 @@ placed_denoted ms home p x s keyed is there e =
     placed_there ms s (under_text ms is.0 s.«module».now keyed is.1)
     (outcome_stands (loaded ms) (keyed_finds ms keyed) (home_of home) p x (string_bytes s.«module».now.text) s.place there (sym e))
 
-
 pub same_order : (l : Linking) (old new : HeldNames) (asked : AskedNames) → IsInOrder l old asked → NamesAll l new → IsInOrder l new asked
 same_order l old new asked before more = record { named = more; asked_at = before.asked_at; by_name = before.by_name }
 

@@ -74,7 +74,7 @@ returns-in_err-asked-clause-refused c = λ keyed root nothing.
 pub returns-in_err-reach_kept-clause-refused : goal.returns-in_err-reach_kept-clause-refused
 returns-in_err-reach_kept-clause-refused c = λ keyed root nothing.
     let why = refused_kept c.args.linking.now _ c.reach_kept.new.held c.loop-name.held c.loop-name.name-index c.name-item.result c.in_err-reach_kept.field-0.0 root
-        (at_place c.args.linking.now.keep.now c.loop-name.name-index c.name-item.result c.loop-name-test.true (sym c.name-item.is))
-        c.loop-name.invariant.kept c.in_err-reach_kept.ensures.lacking in
+    (at_place c.args.linking.now.keep.now c.loop-name.name-index c.name-item.result c.loop-name-test.true (sym c.name-item.is))
+    c.loop-name.invariant.kept c.in_err-reach_kept.ensures.lacking in
     err_passed (RefusesRoot c.args.linking.now.modules.now c.args.linking.now.root.now c.args.linking.now.keep.now c.reach_kept.new.held)
     c.in_err-reach_kept.field-0.0 c.from_residual.result c.from_residual.ensures.1 why

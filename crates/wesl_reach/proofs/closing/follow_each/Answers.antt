@@ -11,7 +11,6 @@ use Rattle.wesl_reach.proofs.FollowLemmas.{two_moves, no_move}
 use Rattle.wesl_reach.proofs.StageLemmas.{one_below, none_below, followed_below, text_there}
 use Rattle.wesl_reach.proofs.closing.follow_each.Goals as goal
 
-
 pub follow_name-requires-clause-occurs : goal.follow_name-requires-clause-occurs
 follow_name-requires-clause-occurs c =
     let d : Bor (List ℕ) = record { ref_ptr = (0, 0); now = [] } in

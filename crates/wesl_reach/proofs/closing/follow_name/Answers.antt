@@ -5,7 +5,7 @@ use Rattle.wesl_reach.specs.Following.{Handled}
 use Rattle.wesl_reach.specs.Stages.{asks, stage}
 use Rattle.wesl_reach.proofs.StageLemmas.{moves_asked, now_asked}
 use Rattle.wesl_reach.proofs.closing.follow_name.Goals as goal
-use Rattle.wesl_scopes.specs.Outcomes.{loaded, home_of}
+use Rattle.wesl_scopes.specs.Outcomes.{home_of}
 use Rattle.wgsl_syntax.specs.View.{declaration_tree}
 use Rattle.wesl_reach.proofs.OrderLemmas.{placed_denoted, same_order, order_asked}
 use Rattle.std.proofs.lemmas.Result.{on_ok_weaker}
@@ -27,7 +27,7 @@ returns-in_ok-ask-in-Unloaded-clause-handled c =
 pub returns-in-Declared-clause-in_order : goal.returns-in-Declared-clause-in_order
 returns-in-Declared-clause-in_order c = λ keyed reached before.
     let placed = placed_denoted c.args.linking.now.modules.now c.args.home.now (string_bytes c.args.from.«module».now.text) c.args.name.now c.in-Declared.symbol keyed
-        (c.in-Declared.ensures.in_table c.requires.in_table) c.requires.home c.in-Declared.ensures.found in
+    (c.in-Declared.ensures.in_table c.requires.in_table) c.requires.home c.in-Declared.ensures.found in
     on_ok_weaker c.reach.result
     (same_order c.args.linking.now c.args.held.now c.reach.new.held c.args.found.now.asked before)
     (c.reach.ensures.named placed before.named)
