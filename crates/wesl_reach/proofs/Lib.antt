@@ -8,3 +8,8 @@ pub mod RefusedLemmas
 pub mod RoundLemmas
 pub mod LoadLemmas
 pub mod GoesLemmas
+pub mod OrderLemmas
+pub mod SeekLemmas
+pub mod CloseLemmas
+pub mod RootLemmas
+pub mod AskedLemmas

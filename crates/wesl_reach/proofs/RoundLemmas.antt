@@ -15,11 +15,11 @@ abbrev pub Grows : Loaded → Loaded → Type 0
 Grows find more = (p : Path) (h : Path × Unit) → find p ≡ Some h → more p ≡ Some h
 
 module _ (find more : Loaded) (grows : Grows find more) where
-  item_grown : (t : Symbol) (m : Path) (k : ℕ) (o : Option (Path × Unit)) → find t.home ≡ o → item_at t o ≡ symbol_at m k → item_at t (more t.home) ≡ symbol_at m k
+  pub item_grown : (t : Symbol) (m : Path) (k : ℕ) (o : Option (Path × Unit)) → find t.home ≡ o → item_at t o ≡ symbol_at m k → item_at t (more t.home) ≡ symbol_at m k
   item_grown t m k None is e = absurd (cc)
   item_grown t m k (Some h) is e = ap (item_at t) (grows t.home h is) ∙ e
 
-  meant_grown : (home m : Path) (k : ℕ) (o : Option Known) → meant_as find home o ≡ symbol_at m k → meant_as more home o ≡ symbol_at m k
+  pub meant_grown : (home m : Path) (k : ℕ) (o : Option Known) → meant_as find home o ≡ symbol_at m k → meant_as more home o ≡ symbol_at m k
   meant_grown home m k None e = e
   meant_grown home m k (Some (declared j)) e = e
   meant_grown home m k (Some (imported t)) e = item_grown t m k (find t.home) refl e

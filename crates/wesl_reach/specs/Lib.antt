@@ -7,3 +7,4 @@ pub mod Missing
 pub mod Closed
 pub mod Answers
 pub mod Loading
+pub mod Underway
