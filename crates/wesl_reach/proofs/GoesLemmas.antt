@@ -1,5 +1,5 @@
 -- From the tables of each round to what loading comes to.
-use Rattle.std.proofs.Common.{◌≡◌, refl, sym, ap, ◌∙◌, subst, ℕ, zero, suc, ◌+◌, ◌<◌, ◌≤◌, ◌⊎◌, inl, inr, ⊎_elim, List, [], ◌∷◌, ◌++◌, map, length, Bool, true, false, Option, Some, None, Result, Ok, Err, arith, ◌≢◌}
+use Rattle.std.proofs.Common.{◌≡◌, refl, sym, ap, ◌∙◌, subst, ℕ, suc, ◌+◌, ◌≤◌, ⊎_elim, List, [], ◌∷◌, ◌++◌, map, length, Option, Some, None, Ok, Err, arith, ◌≢◌}
 use Rattle.std.specs.Prelude.{string_bytes, slice_get}
 use Rattle.std.specs.List.Sorted.{IsStrictlySortedBy}
 use Rattle.std.specs.Option.{option_map}
@@ -8,7 +8,7 @@ use Rattle.std.specs.Ordering.{nat_cmp, is_eq}
 use Rattle.std.specs.Cmp.Lexicographic.{slice_cmp}
 use Rattle.std.specs.Map.{lookup}
 use Rattle.std.specs.List.{Contains}
-use Rattle.std.specs.BTreeMap.{BTreeMap, get_by_text, IsOrdered}
+use Rattle.std.specs.BTreeMap.{get_by_text, IsOrdered}
 use Rattle.std.specs.declared.string.String.{String}
 use Rattle.std.specs.declared.alloc.Global.{Global}
 use Rattle.std.proofs.lemmas.List.{length-append, length-map}
@@ -22,26 +22,24 @@ use Rattle.wesl_sources.specs.Modules.{Path, Symbol, Modules, IsModule, Declares
 use Rattle.wesl_sources.specs.Rounds.{Sources, Refusal, too_many_modules, missing_decl, Loads, all_loaded, one_too_many, is_not_found, is_faulty, has_a_name_twice, loaded_then_refused, loaded as one_loaded, IsNextRound, NoneRefused, IsFirstRefused, Goes, an_occurrence_refused, a_module_refused, a_round, IsFirstUnkept, ComesTo, root_refused, kept_name_missing, goes_on}
 use Rattle.wesl_sources.specs.Rounds as rounds
 use Rattle.wesl_scopes.specs.declared.error.ImportError.{ImportError}
-use Rattle.wesl_scopes.specs.declared.error.ImportError.TheVariants.{OutOfMemory}
 use Rattle.wesl_scopes.specs.declared.module.Module.{Module}
 use Rattle.wesl_scopes.specs.Meanings.{Known, declared, imported, bare, known, names, entries, first_again}
-use Rattle.wesl_scopes.specs.Outcomes.{Outcome, symbol_at, unloaded, Loaded, item_in, item_at, meant_as, outcome, loaded, home_of}
+use Rattle.wesl_scopes.specs.Outcomes.{symbol_at, unloaded, Loaded, item_in, item_at, meant_as, loaded, home_of}
 use Rattle.wesl_scopes.specs.Tells.{IsFinder}
-use Rattle.wesl_scopes.proofs.ScopeLemmas.{to_contains}
 use Rattle.wesl_scopes.proofs.TellLemmas.{has_declared}
 use Rattle.wesl_reach.specs.declared.linking.AskedModule.{AskedModule}
 use Rattle.wesl_reach.specs.declared.rounds.Reached.{Reached}
 use Rattle.wesl_reach.specs.Missing.{refusal_of}
-use Rattle.wesl_reach.specs.Reach.{KeepsAll, KeepsOne, IsRooted}
+use Rattle.wesl_reach.specs.Reach.{KeepsAll, IsRooted}
 use Rattle.wesl_reach.specs.Closing.{HeldNames, name_among, held_at}
 use Rattle.wesl_reach.specs.Resolved.{LoadedModules, modules_of, IsResolved}
-use Rattle.wesl_reach.specs.Stages.{AskedNames, asks, name_asked}
-use Rattle.wesl_reach.specs.Closed.{HoldsNothing, IsClosed, IsAskedAt, IsFirstUndeclared, IsStopped, RefusesClosing, RefusesRoot}
+use Rattle.wesl_reach.specs.Stages.{AskedNames, name_asked}
+use Rattle.wesl_reach.specs.Closed.{HoldsNothing, IsClosed, IsFirstUndeclared, IsStopped, RefusesClosing, RefusesRoot}
 use Rattle.wesl_reach.specs.Answers.{AreLoadedTables, Refuses}
 use Rattle.wesl_reach.specs.Loading.{AreTabled, paths_of, AreSought, RefusesLoading, IsLoadedOne, AreAllLoaded, IsRoundEnd}
 use Rattle.wesl_reach.proofs.RefusedLemmas as refused
 use Rattle.wesl_reach.proofs.RefusedLemmas.{closed_refuses_none, stopped_refused}
-use Rattle.wesl_reach.proofs.LoadLemmas.{AskedEntry, texts_of, behind, in_left, one_in, path_and_unit, found_listed, listed_found, one_tabled, one_then}
+use Rattle.wesl_reach.proofs.LoadLemmas.{AskedEntry, texts_of, in_left, one_in, path_and_unit, found_listed, listed_found, one_tabled, one_then}
 
 -- ---- the modules of a table, by their paths
 

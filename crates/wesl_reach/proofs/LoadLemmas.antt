@@ -23,11 +23,9 @@ use Rattle.wgsl_syntax.specs.declared.unit.TranslationUnit.{TranslationUnit}
 use Rattle.wgsl_syntax.specs.View.{unit_tree}
 use Rattle.wesl_resolve.specs.declared.error.ResolveError.{ResolveError}
 use Rattle.wesl_resolve.specs.declared.error.ResolveError.TheVariants as resolve
-use Rattle.wesl_resolve.specs.Found.{Answer, unit_of, not_found, faulty, TellsUnit, SameAnswers}
-use Rattle.wesl_sources.specs.Occurrences.{Name}
+use Rattle.wesl_resolve.specs.Found.{unit_of, not_found, faulty, TellsUnit, SameAnswers}
 use Rattle.wesl_sources.specs.Modules.{Path, Modules}
 use Rattle.wesl_sources.specs.Rounds.{Sources, Refusal, too_many_modules, module_not_found, syntax, duplicate_symbol, scope_names, AreDistinct, Loads, all_loaded, one_too_many, is_not_found, is_faulty, has_a_name_twice, loaded_then_refused, loaded}
-use Rattle.wesl_sources.specs.Rounds as rounds
 use Rattle.wesl_scopes.specs.declared.error.ImportError.{ImportError}
 use Rattle.wesl_scopes.specs.declared.error.ImportError.TheVariants as import
 use Rattle.wesl_scopes.specs.declared.module.Module.{Module}
@@ -38,8 +36,7 @@ use Rattle.wesl_reach.specs.declared.linking.AskedModule.{AskedModule}
 use Rattle.wesl_reach.specs.Missing.{refusal_of}
 use Rattle.wesl_reach.specs.Resolved.{LoadedModules, modules_of}
 use Rattle.wesl_reach.specs.Stages.{AskedNames}
-use Rattle.wesl_reach.specs.Closed.{IsLoadedOn}
-use Rattle.wesl_reach.specs.Loading.{AreTabled, paths_of, AreSought, RefusesLoading, IsLoadedOne, LoadsOne, AreAllLoaded, LoadsAll}
+use Rattle.wesl_reach.specs.Loading.{AreTabled, paths_of, AreSought, RefusesLoading, IsLoadedOne, AreAllLoaded}
 use Rattle.wesl_reach.proofs.PresentLemmas.{DoneBut, in_cases, all_done}
 
 -- ---- one module
@@ -203,7 +200,14 @@ same_refuses a b max n ps (Some r) same l = same_loads a b max n ps (Err r) same
 
 pub same_loaded_one : (a b : Sources) (max : ℕ) (old : LoadedModules) (p : Path) (new : LoadedModules) → SameAnswers a b → IsLoadedOne b max old p new → IsLoadedOne a max old p new
 same_loaded_one a b max old p new same l = record {
-  one = l.one; within = l.within; found = (same p (unit_of (unit_tree l.one.unit))).1 l.found; distinct = l.distinct; printed = l.printed; stands = l.stands; many = l.many; ordered = l.ordered;
+  one = l.one;
+  within = l.within;
+  found = (same p (unit_of (unit_tree l.one.unit))).1 l.found;
+  distinct = l.distinct;
+  printed = l.printed;
+  stands = l.stands;
+  many = l.many;
+  ordered = l.ordered;
 }
 
 pub one_then : (sources : Sources) (max n : ℕ) (old : LoadedModules) (p : Path) (new : LoadedModules) (l : IsLoadedOne sources max old p new) → n ≡ length old.entries → (ps : List Path)

@@ -12,11 +12,10 @@ ghost use Rattle.wesl_reach.specs.Answers.{Loading};
 ghost use Rattle.wesl_reach.specs.Loading.{AreTabled, AreSought, LoadsOne, LoadsAll, IsRoundEnd};
 
 use crate::closing::{close_asked, close_root};
-use wesl_scopes::ImportError;
 use crate::linking::{Asked, Held, Linking};
-use wesl_scopes::{Module, Modules, entry_points};
 use std::alloc::{AllocError, Global};
 use wesl_resolve::Resolver;
+use wesl_scopes::{ImportError, Module, Modules, entry_points};
 use wgsl_items::{CloneIn, Items, Text};
 use wgsl_path::ModulePath;
 use wgsl_syntax::TranslationUnit;

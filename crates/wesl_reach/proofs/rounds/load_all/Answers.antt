@@ -1,12 +1,10 @@
-use Rattle.std.proofs.Common.{ℕ, List, ◌∷◌, length, sym, subst, ap, ◌∙◌, Err}
+use Rattle.std.proofs.Common.{◌∷◌, length, sym, subst, ap, ◌∙◌, Err}
 use Rattle.std.specs.Prelude.{string_bytes}
 use Rattle.std.specs.Map.Iter.{deref_pair}
 use Rattle.std.proofs.lemmas.Map.Iter.{rest_more, rest_all}
 use Rattle.std.proofs.lemmas.Result.{err_from_is_err_and}
-use Rattle.wesl_resolve.specs.Found.{SameAnswers}
-use Rattle.wesl_sources.specs.Modules.{Path}
 use Rattle.wesl_reach.specs.Missing.{refusal_of}
-use Rattle.wesl_reach.specs.Loading.{LoadsAll, LoadsOne, IsLoadedOne, RefusesLoading}
+use Rattle.wesl_reach.specs.Loading.{LoadsAll, IsLoadedOne, RefusesLoading}
 use Rattle.wesl_reach.proofs.LoadLemmas.{AskedEntry, IsLoadedTo, none_loaded, first_printed, first_refused, one_loaded, all_are_loaded, same_refuses, same_loaded_one, two_same}
 use Rattle.wesl_reach.proofs.rounds.load_all.Goals as goal
 
@@ -14,7 +12,7 @@ pub loop-text-init : goal.loop-text-init
 loop-text-init g c = record {
   answers = λ p a. (λ x. x, λ x. x);
   texts = λ p a. (λ x. x, λ x. x);
-  loads = λ listed tabled sought. 
+  loads = λ listed tabled sought.
       subst (IsLoadedTo (g.R.Resolver.answers c.args.resolver.now) c.args.max_modules c.args.modules.now listed c.args.asked.now c.args.modules.now)
       (sym c.into_iter-text-iterator.ensures.into_iter_gives.0)
       (none_loaded (g.R.Resolver.answers c.args.resolver.now) c.args.max_modules c.args.modules.now listed c.args.asked.now tabled sought c.into_iter-text-iterator.ensures.into_iter_gives.5);

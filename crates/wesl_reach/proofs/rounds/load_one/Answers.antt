@@ -1,4 +1,4 @@
-use Rattle.std.proofs.Common.{ℕ, List, ◌∷◌, ◌<◌, length, sym, subst, ap, ◌∙◌, Err, arith}
+use Rattle.std.proofs.Common.{◌<◌, length, sym, subst, ap, ◌∙◌, Err, arith}
 use Rattle.std.proofs.lemmas.Result.{err_from_is_err_and}
 use Rattle.wesl_reach.specs.Loading.{LoadsOne}
 use Rattle.wesl_reach.proofs.LoadLemmas.{one_more, unit_refused, module_refused, module_loaded}

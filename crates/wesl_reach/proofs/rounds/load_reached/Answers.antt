@@ -1,4 +1,4 @@
-use Rattle.std.proofs.Common.{◌≡◌, ℕ, List, [], ◌∷◌, ◌<◌, length, refl, sym, subst, ap, ◌∙◌, Err, arith}
+use Rattle.std.proofs.Common.{◌≡◌, List, ◌<◌, length, refl, sym, subst, ap, ◌∙◌, Err, arith}
 use Rattle.std.specs.Prelude.{string_bytes}
 use Rattle.std.proofs.lemmas.Result.{err_from_is_err_and}
 use Rattle.wgsl_path.specs.Paths.{path_text}
@@ -41,7 +41,7 @@ returns-in_err-asked-clause-loading g c = λ found.
     let key : string_bytes c.in_ok-clone.field-0 ≡ root = c.in_ok-clone.ensures.cases in
     let less : length c.new-modules.result.entries < c.args.max_modules = omega (arith, c.if-max_modules-eq0.false, c.new-modules.ensures.len) in
     let l = module_loaded sources c.args.max_modules 0 c.args.path.now root printed c.new-modules.result c.insert.new.self c.in_ok-clone.field-0 c.args.unit c.in_ok-module.module c.in_ok-insert.field-0
-        less found c.in_ok-module.ensures key c.in_ok-insert.ensures.updates c.in_ok-insert.ensures.old c.in_ok-insert.ensures.len c.in_ok-insert.ensures.ordered in
+    less found c.in_ok-module.ensures key c.in_ok-insert.ensures.updates c.in_ok-insert.ensures.old c.in_ok-insert.ensures.len c.in_ok-insert.ensures.ordered in
     let t = tabled sources c.args.max_modules root keep c.new-modules.result c.insert.new.self c.new-modules.ensures.empty l in
     let p = err_from_is_err_and c.from_residual-in_err-asked.result c.from_residual-in_err-asked.ensures.1 in
     let kept : c.as_slice.result.now ≡ keep = c.as_slice.ensures ∙ c.in_ok-names.ensures in
@@ -61,7 +61,7 @@ returns-clause-loading g c = λ found.
     let key : string_bytes c.in_ok-clone.field-0 ≡ root = c.in_ok-clone.ensures.cases in
     let less : length c.new-modules.result.entries < c.args.max_modules = omega (arith, c.if-max_modules-eq0.false, c.new-modules.ensures.len) in
     let l = module_loaded sources c.args.max_modules 0 c.args.path.now root printed c.new-modules.result c.insert.new.self c.in_ok-clone.field-0 c.args.unit c.in_ok-module.module c.in_ok-insert.field-0
-        less found c.in_ok-module.ensures key c.in_ok-insert.ensures.updates c.in_ok-insert.ensures.old c.in_ok-insert.ensures.len c.in_ok-insert.ensures.ordered in
+    less found c.in_ok-module.ensures key c.in_ok-insert.ensures.updates c.in_ok-insert.ensures.old c.in_ok-insert.ensures.len c.in_ok-insert.ensures.ordered in
     let t = tabled sources c.args.max_modules root keep c.new-modules.result c.insert.new.self c.new-modules.ensures.empty l in
     let kept : c.as_slice.result.now ≡ keep = c.as_slice.ensures ∙ c.in_ok-names.ensures in
     let again : c.as_slice-2.result.now ≡ keep = c.as_slice-2.ensures ∙ c.in_ok-names.ensures in
