@@ -1,20 +1,18 @@
 -- What is reached by places is what is reached.
-use Rattle.std.proofs.Common.{◌≡◌, ◌≢◌, refl, sym, ap, ◌∙◌, subst, ℕ, ◌⊎◌, inl, inr, ⊎_elim, List, [], map, Option, Some, None}
+use Rattle.std.proofs.Common.{◌≡◌, refl, sym, ap, ◌∙◌, subst, ℕ, List, Option, Some, None}
 use Rattle.std.specs.Prelude.{slice_get}
 use Rattle.std.specs.Option.{IsSome}
 use Rattle.std.specs.List.{Contains}
-use Rattle.wgsl_path.specs.declared.path.ModulePath.{ModulePath}
-use Rattle.wgsl_path.specs.Paths.{path_text}
-use Rattle.wgsl_syntax.specs.Tree.{Decl, Imp, Unit}
-use Rattle.wesl_sources.specs.Occurrences.{Name, declared_name, occurrences}
+use Rattle.wgsl_syntax.specs.Tree.{Decl, Unit}
+use Rattle.wesl_sources.specs.Occurrences.{Name, declared_name}
 use Rattle.wesl_sources.specs.Modules.{Path, Symbol, Modules, IsModule, Declares, Imports, local_name, IsImport, IsImported, Denotes, IsDeclaration, Reached}
 use Rattle.wesl_sources.specs.Modules as spec
-use Rattle.wesl_scopes.specs.Meanings.{Known, declared, imported, bare, known, names, first_again, import_known, entries}
-use Rattle.wesl_scopes.specs.Outcomes.{Outcome, symbol_at, Loaded, item_in, item_at, meant_as, outcome}
+use Rattle.wesl_scopes.specs.Meanings.{Known, declared, imported, bare, known, import_known}
+use Rattle.wesl_scopes.specs.Outcomes.{symbol_at, Loaded, item_in, item_at, meant_as, outcome}
 use Rattle.wesl_scopes.specs.Tells.{IsFinder, StandsAt, Tells}
 use Rattle.wesl_reach.specs.Reach.{ReachedAt, kept, onto, Holding, Settled, IsSettled, KeepsAll, IsRooted}
-use Rattle.wesl_scopes.proofs.ScopeLemmas.{to_contains, from_contains, map_get, get_map, import_means, value_means}
-use Rattle.wesl_scopes.proofs.TellLemmas.{IsFresh, declared_known, declares, tells}
+use Rattle.wesl_scopes.proofs.ScopeLemmas.{to_contains, from_contains, import_means, value_means}
+use Rattle.wesl_scopes.proofs.TellLemmas.{declared_known, declares, tells}
 
 the_unit : (o : Option (Path × Unit)) (p : Path) (u : Unit) (h : Path × Unit) → o ≡ Some (p, u) → o ≡ Some h → h ≡ (p, u)
 the_unit o p u h e f = let both : Some h ≡ Some (p, u) = sym f ∙ e in cc

@@ -1,15 +1,13 @@
 -- What stays when more modules are loaded: for the rounds behind the root's.
-use Rattle.std.proofs.Common.{◌≡◌, refl, sym, ap, ◌∙◌, subst, ℕ, ◌⊎◌, inl, inr, ⊎_elim, List, [], Bool, true, false, Option, Some, None}
-use Rattle.std.specs.Prelude.{slice_get}
+use Rattle.std.proofs.Common.{◌≡◌, refl, sym, ap, ◌∙◌, subst, ℕ, List, true, false, Option, Some, None}
 use Rattle.std.specs.Option.{IsSome}
-use Rattle.std.specs.List.{Contains}
-use Rattle.wgsl_syntax.specs.Tree.{Decl, Unit}
-use Rattle.wesl_sources.specs.Occurrences.{Name, occurrences}
+use Rattle.wgsl_syntax.specs.Tree.{Unit}
+use Rattle.wesl_sources.specs.Occurrences.{Name}
 use Rattle.wesl_sources.specs.Modules.{Path, Symbol}
 use Rattle.wesl_scopes.specs.Meanings.{Known, declared, imported, bare, known}
-use Rattle.wesl_scopes.specs.Outcomes.{Outcome, symbol_at, unloaded, missing, private, free, Loaded, item_in, item_at, meant_as, outcome}
-use Rattle.wesl_reach.specs.Reach.{ReachedAt, kept, onto, Holding}
-use Rattle.wesl_reach.specs.Following.{Stage, Handled, IsFollowed, IsLater, Moves, FollowedTo, AllFollowed}
+use Rattle.wesl_scopes.specs.Outcomes.{Outcome, symbol_at, unloaded, missing, private, free, Loaded, item_in, item_at, meant_as}
+use Rattle.wesl_reach.specs.Reach.{ReachedAt, kept, onto}
+use Rattle.wesl_reach.specs.Following.{Stage, Handled, IsFollowed}
 
 abbrev pub Grows : Loaded → Loaded → Type 0
 Grows find more = (p : Path) (h : Path × Unit) → find p ≡ Some h → more p ≡ Some h
