@@ -67,6 +67,7 @@ fn missing_at(
     }
 }
 
+/// The first occurrence in the declaration of a symbol of the module at a printed path that denotes nothing.
 fn missing_in(
     alloc: Global,
     modules: &Modules,
