@@ -1,5 +1,5 @@
 -- The assembled unit is the linked unit.
-use Rattle.std.proofs.Common.{◌≡◌, refl, sym, ap, ◌∙◌, subst, ℕ, zero, suc, List, [], ◌∷◌, ◌++◌, map, Bool, true, false, Option, Some, None}
+use Rattle.std.proofs.Common.{◌≡◌, refl, sym, ap, ◌∙◌, subst, ℕ, suc, List, [], ◌∷◌, ◌++◌, map, Bool, true, false, Some}
 use Rattle.std.specs.Prelude.{if◌then◌else◌, slice_get, string_bytes}
 use Rattle.std.specs.Str.{bytes_eq}
 use Rattle.std.specs.String.{string_cmp, string_cmp_total}
@@ -8,29 +8,28 @@ use Rattle.std.specs.Ordering.{nat_cmp}
 use Rattle.std.specs.Cmp.Lexicographic.{slice_cmp}
 use Rattle.std.specs.List.{Contains, flat_map, AllByRecursion}
 use Rattle.std.specs.List.Sorted.{IsStrictlySortedBy}
-use Rattle.std.specs.BTreeMap.{BTreeMap, get_by_text, IsOrdered, keys, get}
+use Rattle.std.specs.BTreeMap.{get_by_text, IsOrdered}
 use Rattle.std.specs.declared.cmp.Ordering.TheVariants.{Less}
 use Rattle.std.specs.declared.string.String.{String}
 use Rattle.std.specs.declared.alloc.Global.{Global}
-use Rattle.std.proofs.lemmas.Map.Entries.{place_from_lookup, btree_map_get_place}
+use Rattle.std.proofs.lemmas.List.{length-map}
+use Rattle.std.proofs.lemmas.Map.Entries.{btree_map_get_place}
 use Rattle.wgsl_path.specs.declared.path.ModulePath.{ModulePath}
 use Rattle.wgsl_path.specs.Paths.{path_text}
-use Rattle.wgsl_syntax.specs.Tree.{Decl, Unit}
+use Rattle.wgsl_syntax.specs.Tree.{Unit}
 use Rattle.wgsl_syntax.specs.View.{unit_tree}
 use Rattle.wesl_sources.specs.Occurrences.{Name}
-use Rattle.wesl_sources.specs.Modules as spec
-use Rattle.wesl_sources.specs.Modules.{Path, IsModule}
+use Rattle.wesl_sources.specs.Modules.{Path}
 use Rattle.wesl_sources.specs.Linked.{IsLinked}
 use Rattle.wesl_scopes.specs.declared.module.Module.{Module}
-use Rattle.wesl_scopes.specs.Meanings.{names, entries, first_again}
-use Rattle.wesl_scopes.specs.Outcomes.{Loaded, loaded, home_of}
+use Rattle.wesl_scopes.specs.Outcomes.{loaded, home_of}
 use Rattle.wesl_scopes.specs.Tells.{IsFinder}
-use Rattle.wesl_reach.specs.Reach.{Holding}
 use Rattle.wesl_reach.specs.Closing.{HeldNames, held_at}
 use Rattle.wesl_link.specs.Assembling.{linked_module, linked_at, without, linked_unit}
 use Rattle.wesl_reach.specs.Resolved.{LoadedModules, modules_of, IsKeyed, IsResolved}
 use Rattle.wesl_link.specs.Assembling.{others_linked, assembled}
-use Rattle.wesl_scopes.proofs.ScopeLemmas.{to_contains, from_contains, get_map, map_get}
+use Rattle.wesl_scopes.proofs.ScopeLemmas.{from_contains, map_get}
+use Rattle.wesl_reach.proofs.GoesLemmas.{tabled_finder}
 use Rattle.wesl_link.proofs.OrderLemmas.{unit_linked}
 
 abbrev Entry : Type 0
@@ -38,10 +37,6 @@ Entry = String Global × Module
 
 abbrev path_and_unit : Entry → ModulePath × Unit
 path_and_unit e = (e.1.path, unit_tree e.1.unit)
-
-found_one : (o : Option Module) (m : Path × Unit) → option_map home_of o ≡ Some m → (v : Module) × (o ≡ Some v) × (home_of v ≡ m)
-found_one None m e = absurd (cc)
-found_one (Some v) m e = let same : home_of v ≡ m = cc in (v, refl, same)
 
 module _ (ms : LoadedModules) (keyed : IsKeyed ms) (ordered : IsOrdered string_cmp ms) where
   -- an entry is what is found at its key
@@ -55,31 +50,7 @@ module _ (ms : LoadedModules) (keyed : IsKeyed ms) (ordered : IsOrdered string_c
   found_home i e is = ap (option_map home_of) (found_entry i e.0 e.1 is)
 
   pub finder : IsFinder (modules_of ms) (loaded ms)
-  finder = record {
-    found = λ p m e.
-        let f = found_one (get_by_text ms p) m e in
-        let at = place_from_lookup (λ k. _) ms.entries f.0 f.1 in
-        let home : string_bytes f.0.text ≡ p = keyed p f.0 f.1 in (
-          record {
-            path = f.0.path;
-            stands = subst (λ (h : Path × Unit). Contains (modules_of ms) (f.0.path, h.1)) f.2
-                (to_contains (modules_of ms) at.0 (f.0.path, unit_tree f.0.unit) (get_map path_and_unit ms.entries at.0 (at.1, f.0) at.2));
-            printed = sym f.0.printed ∙ home;
-          },
-          ap (λ (h : Path × Unit). h.0) (sym f.2) ∙ home,
-        );
-    finds = λ p u is.
-        let c = from_contains (modules_of ms) (is.path, u) is.stands in
-        let e = map_get path_and_unit ms.entries c.0 (is.path, u) c.1 in
-        let same_path : e.0.1.path ≡ is.path = ap (λ (x : ModulePath × Unit). x.0) e.2 in
-        let same_unit : unit_tree e.0.1.unit ≡ u = ap (λ (x : ModulePath × Unit). x.1) e.2 in
-        let home : string_bytes e.0.1.text ≡ p = e.0.1.printed ∙ ap path_text same_path ∙ is.printed in
-        let key : string_bytes e.0.0 ≡ p = sym (key_is c.0 e.0 e.1) ∙ ap path_text same_path ∙ is.printed in
-        subst (λ q. loaded ms q ≡ Some (p, u)) key (found_home c.0 e.0 e.1 ∙ (λ k. Some (home k, same_unit k)));
-    fresh = λ p m e.
-        let f = found_one (get_by_text ms p) m e in
-        subst (λ (h : Path × Unit). first_again [] (names (entries h.1)) ≡ None) f.2 f.0.fresh;
-  }
+  finder = tabled_finder ms (modules_of ms) (record { keyed = keyed; ordered = ordered; same = λ x. (λ c. c, λ c. c); many = length-map ms.entries path_and_unit })
 
   abbrev texts_of : List Entry → List Path
   texts_of es = map (λ e. string_bytes e.0) es

@@ -3,4 +3,13 @@ pub mod ReachLemmas
 pub mod FollowLemmas
 pub mod StageLemmas
 pub mod PresentLemmas
+pub mod FirstLemmas
+pub mod RefusedLemmas
 pub mod RoundLemmas
+pub mod LoadLemmas
+pub mod GoesLemmas
+pub mod OrderLemmas
+pub mod SeekLemmas
+pub mod CloseLemmas
+pub mod RootLemmas
+pub mod AskedLemmas

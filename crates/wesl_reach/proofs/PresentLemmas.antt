@@ -1,5 +1,5 @@
 -- That nothing is missing, one name, one place, one module after another.
-use Rattle.std.proofs.Common.{◌≡◌, refl, sym, ap, ◌∙◌, subst, ℕ, zero, suc, ◌+◌, ◌<◌, ◌≤◌, ◌⊎◌, inl, inr, ⊎_elim, List, [], ◌∷◌, length, false, Option, Some, None, arith}
+use Rattle.std.proofs.Common.{◌≡◌, refl, sym, ap, ◌∙◌, subst, ℕ, zero, suc, ◌+◌, ◌<◌, ◌⊎◌, inl, inr, ⊎_elim, List, [], ◌∷◌, false, Option, Some, None, arith}
 use Rattle.std.specs.Prelude.{slice_get, string_bytes}
 use Rattle.std.specs.Option.{IsSome}
 use Rattle.std.specs.Ordering.{nat_cmp, is_eq}
@@ -10,24 +10,20 @@ use Rattle.std.specs.BTreeMap.{BTreeMap, get, get_by_text, is_at, keys}
 use Rattle.std.specs.declared.string.String.{String}
 use Rattle.std.specs.declared.alloc.Global.{Global}
 use Rattle.std.proofs.lemmas.Bool.{eqb-true}
-use Rattle.std.proofs.lemmas.Option.{slice_get_within}
 use Rattle.std.proofs.lemmas.Map.Entries.{place_from_lookup}
 use Rattle.std.proofs.lemmas.Map.Text.{is_eq-slice_cmp}
 use denote.Ref.{Bor}
-use Rattle.wgsl_syntax.specs.Tree.{Decl, Unit}
-use Rattle.wesl_sources.specs.Occurrences.{Name, occurrences}
+use Rattle.wgsl_syntax.specs.Tree.{Unit}
+use Rattle.wesl_sources.specs.Occurrences.{Name}
 use Rattle.wesl_sources.specs.Modules.{Path}
 use Rattle.wesl_rename.specs.Scopes.{texts}
 use Rattle.wesl_scopes.specs.Outcomes.{Outcome, symbol_at, unloaded, missing, private, free, Loaded, outcome}
 use Rattle.wesl_reach.specs.Closing.{HeldNames, name_among, held_at}
 use Rattle.wesl_reach.specs.Following.{Stage, Handled, AllFollowed, IsPresent, ArePresent}
-use Rattle.wesl_scopes.proofs.ScopeLemmas.{to_contains, from_contains, get_map, map_get, same_name}
+use Rattle.wesl_scopes.proofs.ScopeLemmas.{to_contains, from_contains, get_map, same_name}
 
 abbrev pub PresentBelow : Loaded → Path × Unit → List (Bor (List ℕ)) → ℕ → Type 0
 PresentBelow find h names n = (i : ℕ) (x : Name) → i < n → slice_get (texts names) i ≡ Some x → IsPresent (outcome find h x)
-
-pub none_present : (find : Loaded) (h : Path × Unit) (names : List (Bor (List ℕ))) → PresentBelow find h names 0
-none_present find h names i x less is = absurd (omega arith)
 
 pub one_present : (find : Loaded) (h : Path × Unit) (names : List (Bor (List ℕ))) (n : ℕ) (x : Name) → slice_get (texts names) n ≡ Some x
     → PresentBelow find h names n → IsPresent (outcome find h x) → PresentBelow find h names (n + 1)
@@ -39,40 +35,13 @@ one_present find h names n x is below now i y less there = ⊎_elim
     either : (i n : ℕ) → i < n + 1 → (i < n) ⊎ (i ≡ n)
     either i n h = grind arith
 
-pub all_present : (find : Loaded) (m : Path) (k : ℕ) (h : Path × Unit) (d : Decl) (names : List (Bor (List ℕ))) (n : ℕ)
-    → find m ≡ Some h → slice_get h.1.declarations k ≡ Some d → texts names ≡ occurrences d → length names ≤ n → PresentBelow find h names n → ArePresent find m k
-all_present find m k h d names n here there whole all below g e x is at c =
-    let both : Some h ≡ Some g = sym here ∙ is in
-    let same : h ≡ g = cc in
-    let at_home : slice_get h.1.declarations k ≡ Some e = subst (λ (f : Path × Unit). slice_get f.1.declarations k ≡ Some e) (sym same) at in
-    let two : Some d ≡ Some e = sym there ∙ at_home in
-    let declared : d ≡ e = cc in
-    let p = from_contains (occurrences d) x (subst (λ f. Contains (occurrences f) x) (sym declared) c) in
-    let found : slice_get (texts names) p.0 ≡ Some x = ap (λ l. slice_get l p.0) whole ∙ p.1 in
-    let inside = map_get (λ (t : Bor (List ℕ)). t.now) names p.0 x found in
-    let less : p.0 < n = (let within : p.0 < length names = slice_get_within names p.0 inside.0 inside.1 in omega arith) in
-    subst (λ (f : Path × Unit). IsPresent (outcome find f x)) same (below p.0 x less found)
-
-pub not_loaded : (find : Loaded) (m : Path) (k : ℕ) → find m ≡ None → ArePresent find m k
-not_loaded find m k none h d x is there c = let both : None ≡ Some h = sym none ∙ is in absurd (cc)
-
-pub no_declaration : (find : Loaded) (m : Path) (k : ℕ) (g : Path × Unit) → find m ≡ Some g → slice_get g.1.declarations k ≡ None → ArePresent find m k
-no_declaration find m k g here none h d x is there c =
-    let both : Some g ≡ Some h = sym here ∙ is in
-    let same : g ≡ h = cc in
-    let two : None ≡ Some d = sym none ∙ subst (λ (f : Path × Unit). slice_get f.1.declarations k ≡ Some d) (sym same) there in
-    absurd (cc)
-
 -- ---- what is left to look at
 
 -- what is true of each element that is no longer left
 abbrev pub DoneBut : {A : Type 0} → (A → Type 0) → List A → List A → Type 0
 DoneBut P left all = (x : _) → Contains all x → P x ⊎ Contains left x
 
-pub all_left : {A : Type 0} (P : A → Type 0) (all : List A) → DoneBut P all all
-all_left P all x c = inr c
-
-in_cases : {A : Type 0} (y : A) (ys : List A) (x : A) → Contains (y ∷ ys) x → (y ≡ x) ⊎ Contains ys x
+pub in_cases : {A : Type 0} (y : A) (ys : List A) (x : A) → Contains (y ∷ ys) x → (y ≡ x) ⊎ Contains ys x
 in_cases y ys x c = let p = from_contains (y ∷ ys) x c in at p.0 p.1
   where
     at : (i : ℕ) → slice_get (y ∷ ys) i ≡ Some x → (y ≡ x) ⊎ Contains ys x

@@ -1,20 +1,18 @@
 -- What is reached by places is what is reached.
-use Rattle.std.proofs.Common.{◌≡◌, ◌≢◌, refl, sym, ap, ◌∙◌, subst, ℕ, ◌⊎◌, inl, inr, ⊎_elim, List, [], map, Option, Some, None}
+use Rattle.std.proofs.Common.{◌≡◌, refl, sym, ap, ◌∙◌, subst, ℕ, List, Option, Some, None}
 use Rattle.std.specs.Prelude.{slice_get}
 use Rattle.std.specs.Option.{IsSome}
 use Rattle.std.specs.List.{Contains}
-use Rattle.wgsl_path.specs.declared.path.ModulePath.{ModulePath}
-use Rattle.wgsl_path.specs.Paths.{path_text}
-use Rattle.wgsl_syntax.specs.Tree.{Decl, Imp, Unit}
-use Rattle.wesl_sources.specs.Occurrences.{Name, declared_name, occurrences}
+use Rattle.wgsl_syntax.specs.Tree.{Decl, Unit}
+use Rattle.wesl_sources.specs.Occurrences.{Name, declared_name}
 use Rattle.wesl_sources.specs.Modules.{Path, Symbol, Modules, IsModule, Declares, Imports, local_name, IsImport, IsImported, Denotes, IsDeclaration, Reached}
 use Rattle.wesl_sources.specs.Modules as spec
-use Rattle.wesl_scopes.specs.Meanings.{Known, declared, imported, bare, known, names, first_again, import_known, entries}
-use Rattle.wesl_scopes.specs.Outcomes.{Outcome, symbol_at, Loaded, item_in, item_at, meant_as, outcome}
+use Rattle.wesl_scopes.specs.Meanings.{Known, declared, imported, bare, known, import_known}
+use Rattle.wesl_scopes.specs.Outcomes.{symbol_at, Loaded, item_in, item_at, meant_as, outcome}
 use Rattle.wesl_scopes.specs.Tells.{IsFinder, StandsAt, Tells}
 use Rattle.wesl_reach.specs.Reach.{ReachedAt, kept, onto, Holding, Settled, IsSettled, KeepsAll, IsRooted}
-use Rattle.wesl_scopes.proofs.ScopeLemmas.{to_contains, from_contains, map_get, get_map, import_means, value_means}
-use Rattle.wesl_scopes.proofs.TellLemmas.{IsFresh, declared_known, declares, tells}
+use Rattle.wesl_scopes.proofs.ScopeLemmas.{to_contains, from_contains, import_means, value_means}
+use Rattle.wesl_scopes.proofs.TellLemmas.{declared_known, declares, tells}
 
 the_unit : (o : Option (Path × Unit)) (p : Path) (u : Unit) (h : Path × Unit) → o ≡ Some (p, u) → o ≡ Some h → h ≡ (p, u)
 the_unit o p u h e f = let both : Some h ≡ Some (p, u) = sym f ∙ e in cc
@@ -38,7 +36,7 @@ module _ (modules : Modules) (find : Loaded) (finder : IsFinder modules find) wh
       (k.0, k.1, record { unit = u; declaration = d.0; is_module = is; stands = d.1; home = refl; name = sym d.2 })
 
   -- an item that a module declares, where it is sought
-  sought_at : (s : Symbol) (u : Unit) → IsModule modules s.home u → Declares u s.name
+  pub sought_at : (s : Symbol) (u : Unit) → IsModule modules s.home u → Declares u s.name
       → (j : ℕ) × (item_at s (find s.home) ≡ symbol_at s.home j) × StandsAt modules s.home j s
   sought_at s u is has =
       let t = at_home s.home u s.name is has in
@@ -50,7 +48,7 @@ module _ (modules : Modules) (find : Loaded) (finder : IsFinder modules find) wh
         let t = at_home m.0 u x is has in
         (t.0, ap (λ (h : Path × Unit). meant_as find m.0 (known h.1 x)) (found_unit m.0 u m is here) ∙ ap (meant_as find m.0) t.1, t.2)
 
-    import_found : (s : Symbol) → IsImported modules m.0 x s → known m.1 x ≡ Some (imported s)
+    pub import_found : (s : Symbol) → IsImported modules m.0 x s → known m.1 x ≡ Some (imported s)
     import_found s to =
         let i = to.is_import in
         let unit : m ≡ (m.0, i.unit) = found_unit m.0 i.unit m i.is_module here in

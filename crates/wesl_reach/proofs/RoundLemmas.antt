@@ -1,25 +1,23 @@
 -- What stays when more modules are loaded: for the rounds behind the root's.
-use Rattle.std.proofs.Common.{◌≡◌, refl, sym, ap, ◌∙◌, subst, ℕ, ◌⊎◌, inl, inr, ⊎_elim, List, [], Bool, true, false, Option, Some, None}
-use Rattle.std.specs.Prelude.{slice_get}
+use Rattle.std.proofs.Common.{◌≡◌, refl, sym, ap, ◌∙◌, subst, ℕ, List, true, false, Option, Some, None}
 use Rattle.std.specs.Option.{IsSome}
-use Rattle.std.specs.List.{Contains}
-use Rattle.wgsl_syntax.specs.Tree.{Decl, Unit}
-use Rattle.wesl_sources.specs.Occurrences.{Name, occurrences}
+use Rattle.wgsl_syntax.specs.Tree.{Unit}
+use Rattle.wesl_sources.specs.Occurrences.{Name}
 use Rattle.wesl_sources.specs.Modules.{Path, Symbol}
 use Rattle.wesl_scopes.specs.Meanings.{Known, declared, imported, bare, known}
-use Rattle.wesl_scopes.specs.Outcomes.{Outcome, symbol_at, unloaded, missing, private, free, Loaded, item_in, item_at, meant_as, outcome}
-use Rattle.wesl_reach.specs.Reach.{ReachedAt, kept, onto, Holding}
-use Rattle.wesl_reach.specs.Following.{Stage, Handled, IsFollowed, IsLater, Moves, FollowedTo, AllFollowed}
+use Rattle.wesl_scopes.specs.Outcomes.{Outcome, symbol_at, unloaded, missing, private, free, Loaded, item_in, item_at, meant_as}
+use Rattle.wesl_reach.specs.Reach.{ReachedAt, kept, onto}
+use Rattle.wesl_reach.specs.Following.{Stage, Handled, IsFollowed}
 
 abbrev pub Grows : Loaded → Loaded → Type 0
 Grows find more = (p : Path) (h : Path × Unit) → find p ≡ Some h → more p ≡ Some h
 
 module _ (find more : Loaded) (grows : Grows find more) where
-  item_grown : (t : Symbol) (m : Path) (k : ℕ) (o : Option (Path × Unit)) → find t.home ≡ o → item_at t o ≡ symbol_at m k → item_at t (more t.home) ≡ symbol_at m k
+  pub item_grown : (t : Symbol) (m : Path) (k : ℕ) (o : Option (Path × Unit)) → find t.home ≡ o → item_at t o ≡ symbol_at m k → item_at t (more t.home) ≡ symbol_at m k
   item_grown t m k None is e = absurd (cc)
   item_grown t m k (Some h) is e = ap (item_at t) (grows t.home h is) ∙ e
 
-  meant_grown : (home m : Path) (k : ℕ) (o : Option Known) → meant_as find home o ≡ symbol_at m k → meant_as more home o ≡ symbol_at m k
+  pub meant_grown : (home m : Path) (k : ℕ) (o : Option Known) → meant_as find home o ≡ symbol_at m k → meant_as more home o ≡ symbol_at m k
   meant_grown home m k None e = e
   meant_grown home m k (Some (declared j)) e = e
   meant_grown home m k (Some (imported t)) e = item_grown t m k (find t.home) refl e

@@ -1,5 +1,5 @@
 -- What a closing leaves: all that is reached in the loaded modules is held, and what it leads to elsewhere is asked for.
-use Rattle.std.specs.Prelude.{◌≡◌, ◌⊎◌, ℕ, List, [], ◌∷◌, ◌++◌, Option, Some, None, Bool, true, false, if◌then◌else◌, slice_get}
+use Rattle.std.specs.Prelude.{◌≡◌, ◌⊎◌, ℕ, List, [], ◌∷◌, ◌++◌, Some, None, true, false, if◌then◌else◌, slice_get}
 use Rattle.std.specs.Option.{IsSome}
 use Rattle.std.specs.List.{Contains}
 use Rattle.std.specs.Str.{bytes_eq}
@@ -14,7 +14,7 @@ use Rattle.wesl_sources.specs.Rounds.{Refusal, missing_decl}
 use Rattle.wesl_scopes.specs.declared.error.ImportError.{ImportError}
 use Rattle.wesl_scopes.specs.declared.error.ImportError.TheVariants.{OutOfMemory}
 use Rattle.wesl_scopes.specs.declared.module.Module.{Module}
-use Rattle.wesl_scopes.specs.Outcomes.{Outcome, symbol_at, unloaded, Loaded, item_at, outcome, loaded}
+use Rattle.wesl_scopes.specs.Outcomes.{symbol_at, unloaded, Loaded, item_at, outcome, loaded}
 use Rattle.wesl_reach.specs.Reach.{Holding, ReachedAt, KeepsAll}
 use Rattle.wesl_reach.specs.Closing.{HeldNames, held_at}
 use Rattle.wesl_reach.specs.Following.{AllFollowed}

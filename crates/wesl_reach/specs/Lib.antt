@@ -6,3 +6,5 @@ pub mod Resolved
 pub mod Missing
 pub mod Closed
 pub mod Answers
+pub mod Loading
+pub mod Underway

@@ -1,6 +1,9 @@
 -- What occurs in what is held and denotes nothing, by places.
-use Rattle.std.specs.Prelude.{◌≡◌, ℕ, Option, Some, None, slice_get}
+use Rattle.std.specs.Prelude.{◌≡◌, ℕ, [], Option, Some, None, nat_eq, if◌then◌else◌, slice_get}
 use Rattle.std.specs.Option.{IsSome}
+use Rattle.std.specs.Ordering.{nat_cmp}
+use Rattle.std.specs.Str.{bytes_eq}
+use Rattle.std.specs.BTreeMap.{BTreeMap, get}
 use Rattle.wgsl_path.specs.Paths.{path_text}
 use Rattle.wgsl_syntax.specs.Tree.{Decl, Unit}
 use Rattle.wesl_resolve.specs.declared.error.ResolveError.TheVariants as resolve
@@ -30,6 +33,18 @@ RefusedFor (unloaded s) r = ⊥
 RefusedFor (missing s) r = r ≡ missing_decl s.home s.name
 RefusedFor (private s) r = r ≡ is_private s.home s.name
 RefusedFor free r = ⊥
+
+-- what is answered where it is asked why an occurrence is refused
+abbrev pub TellsWhy : Outcome → Option ImportError → Type 0
+TellsWhy o None = (r : Refusal) → RefusedFor o r → ⊥
+TellsWhy o (Some e) = (r : Refusal) × (refusal_of e ≡ Some r) × RefusedFor o r
+
+-- what is held of one module, and one declaration alone
+abbrev pub held_in : Path → BTreeMap ℕ Name → Holding
+held_in m places n k = if bytes_eq m n then get nat_cmp places k else None
+
+abbrev pub held_alone : Path → ℕ → Holding
+held_alone m place n k = if bytes_eq m n then (if nat_eq place k then Some [] else None) else None
 
 module _ (find : Loaded) (held : Holding) where
   -- an occurrence in what is held that denotes nothing: of which module, in which declaration, which

@@ -9,26 +9,27 @@ ghost use Rattle.std.specs.BTreeMap.{get, get_by_text};
 ghost use Rattle.wgsl_syntax.specs.View.{unit_tree, declaration_tree};
 ghost use Rattle.wesl_sources.specs.Occurrences as spec;
 ghost use Rattle.wesl_sources.specs.Modules.{Path, Symbol as Sought};
-ghost use Rattle.wesl_scopes.specs.Outcomes.{loaded, home_of, outcome};
+ghost use Rattle.wesl_scopes.specs.Outcomes.{loaded, home_of, outcome, item_at, IsInTable};
 ghost use Rattle.wesl_reach.specs.Following.{Moves, Handled, IsFollowed, FollowedTo, AllFollowed};
 ghost use Rattle.wesl_reach.specs.Reach.{KeepsAll, KeepsOne};
 ghost use Rattle.wesl_reach.specs.Stages.{asks, name_asked, stage};
 ghost use Rattle.wgsl_path.specs.Paths.{path_text};
-ghost use Rattle.wesl_reach.specs.Resolved.{LoadedModules};
-ghost use Rattle.wesl_reach.specs.Closed.{HoldsNothing, IsClosed, IsLoadedOn, RefusesClosing, RefusesRoot};
+ghost use Rattle.wesl_reach.specs.Resolved.{LoadedModules, IsKeyed};
+ghost use Rattle.wesl_reach.specs.Closed.{HoldsNothing, IsClosed, IsLoadedOn, RefusesClosing, RefusesRoot, AreAskedByName};
+ghost use Rattle.wesl_reach.specs.Underway.{IsPlaced, NamesAll, IsInOrder, IsUnderway, IsWhole, LeadsOn, IsSought, EachName, LacksKept};
+ghost use Rattle.wesl_resolve.specs.Mangling.{mangled};
+ghost use Rattle.wgsl_syntax.specs.Tree.{Decl};
 ghost use Rattle.wesl_reach.specs.Closing.{IsReached, AllReached, IsSound, Holds, held_at};
 
-use wesl_scopes::{Denoted, Item, Symbol, denotation, item_of};
-use wesl_scopes::ImportError;
 use crate::linking::{Asked, AskedModule, Held, Linking};
 use crate::missing::first_missing;
-use wesl_scopes::Module;
-use wesl_rename::occurrences;
-use wesl_scopes::declared_name;
-use wesl_scopes::Target;
 use std::alloc::{AllocError, Global};
 use std::collections::{BTreeMap, BTreeSet};
+use wesl_rename::occurrences;
 use wesl_resolve::EscapeMangler;
+use wesl_scopes::{
+    Denoted, ImportError, Item, Module, Symbol, Target, declared_name, denotation, item_of,
+};
 use wgsl_items::{CloneIn, Text};
 use wgsl_path::ModulePath;
 use wgsl_syntax::GlobalDeclaration;
@@ -44,7 +45,9 @@ struct Found<'a> {
 }
 
 fn found_nothing<'a>(alloc: Global) -> Found<'a>
-    ensures { result.reached.items ≡ [] }
+    ensures reached { result.reached.items ≡ [] }
+    ensures asked { result.asked.entries ≡ [] }
+    ensures present { result.is_missing ≡ false }
 {
     Found {
         reached: Vec::new(alloc),
@@ -64,8 +67,8 @@ pub fn close_root(
     ensures sound { OnOk result (AllReached linking.now held.new) }
     ensures followed { ((m : Path) (place : ℕ) → held_at held.old m place ≡ None) → IfOk result (λ asked. AllFollowed (loaded linking.now.modules.now) (stage held.new (asks asked) false [])) }
     ensures kept { OnOk result (KeepsAll (loaded linking.now.modules.now) linking.now.root.now linking.now.keep.now (held_at held.new)) }
-    ensures closed { HoldsNothing held.old → IfOk result (λ asked. IsClosed linking.now.modules.now linking.now.root.now linking.now.keep.now held.new asked) }
-    ensures refused { path_text path.now ≡ linking.now.root.now → HoldsNothing held.old → IfErr result (RefusesRoot linking.now.modules.now linking.now.root.now linking.now.keep.now held.new) }
+    ensures closed { IsKeyed linking.now.modules.now → HoldsNothing held.old → IfOk result (λ asked. IsClosed linking.now.modules.now linking.now.root.now linking.now.keep.now held.new asked) }
+    ensures refused { IsKeyed linking.now.modules.now → path_text path.now ≡ linking.now.root.now → HoldsNothing held.old → IfErr result (RefusesRoot linking.now.modules.now linking.now.root.now linking.now.keep.now held.new) }
 {
     let mut found = found_nothing(alloc);
     for name in linking.keep {
@@ -87,6 +90,8 @@ fn reach_kept<'a>(
     ensures sound { IsSound linking.now held.old reached.old.items → OnOk result (IsSound linking.now held.new reached.new.items) }
     ensures moves { OnOk result ((asked : Sought → Bool) (missing : Bool) → Moves (stage held.old asked missing reached.old.items) (stage held.new asked missing reached.new.items)) }
     ensures kept { OnOk result (KeepsOne (loaded linking.now.modules.now) linking.now.root.now name.now (held_at held.new)) }
+    ensures named { IsKeyed linking.now.modules.now → NamesAll linking.now held.old → OnOk result (NamesAll linking.now held.new) }
+    ensures lacking { IfErr result (LacksKept linking.now (path_text path.now) name.now) }
 {
     match item_of(linking.modules, linking.root, name.as_str()) {
         Item::Declared(symbol) => Ok(reach(alloc, linking, symbol, held, reached)?),
@@ -103,19 +108,64 @@ pub fn close_asked(
     asked: &Asked,
     held: &mut Held,
 ) -> Result<Asked, ImportError>
-    ensures closed { (old : LoadedModules) → IsClosed old linking.now.root.now linking.now.keep.now held.old asked.now → IsLoadedOn old asked.now linking.now.modules.now → IfOk result (λ more. IsClosed linking.now.modules.now linking.now.root.now linking.now.keep.now held.new more) }
-    ensures refused { (old : LoadedModules) → IsClosed old linking.now.root.now linking.now.keep.now held.old asked.now → IsLoadedOn old asked.now linking.now.modules.now → IfErr result (RefusesClosing linking.now.modules.now linking.now.root.now linking.now.keep.now held.new) }
+    ensures closed { (old : LoadedModules) → IsKeyed linking.now.modules.now → IsClosed old linking.now.root.now linking.now.keep.now held.old asked.now → IsLoadedOn old asked.now linking.now.modules.now → IfOk result (λ more. IsClosed linking.now.modules.now linking.now.root.now linking.now.keep.now held.new more) }
+    ensures refused { (old : LoadedModules) → IsKeyed linking.now.modules.now → IsClosed old linking.now.root.now linking.now.keep.now held.old asked.now → IsLoadedOn old asked.now linking.now.modules.now → IfErr result (RefusesClosing linking.now.modules.now linking.now.root.now linking.now.keep.now held.new) }
 {
     let mut found = found_nothing(alloc);
     for (text, module) in asked {
-        for name in &module.names {
-            match item_of(linking.modules, text.as_str(), name.as_str()) {
-                Item::Declared(symbol) => reach(alloc, linking, symbol, held, &mut found.reached)?,
-                Item::Imported | Item::Absent | Item::Unloaded => found.is_missing = true,
-            }
-        }
+        seek_all(
+            alloc,
+            linking,
+            text.as_str(),
+            &module.names,
+            held,
+            &mut found,
+        )?;
     }
     close(alloc, linking, held, found)
+}
+
+/// Reaches what is sought in a module.
+fn seek_all<'a>(
+    alloc: Global,
+    linking: &Linking<'a>,
+    text: &str,
+    names: &BTreeSet<String>,
+    held: &mut Held,
+    found: &mut Found<'a>,
+) -> Result<(), AllocError>
+    ensures sound { EachName (LeadsOn linking.now text.now) names.now → IsSound linking.now held.old found.old.reached.items → OnOk result (IsSound linking.now held.new found.new.reached.items) }
+    ensures in_order { IsKeyed linking.now.modules.now → IsInOrder linking.now held.old found.old.asked → OnOk result (IsInOrder linking.now held.new found.new.asked) }
+    ensures moves { OnOk result (Moves (stage held.old (asks found.old.asked) found.old.is_missing found.old.reached.items) (stage held.new (asks found.new.asked) found.new.is_missing found.new.reached.items)) }
+    ensures handled { OnOk result (EachName (IsSought linking.now (stage held.new (asks found.new.asked) found.new.is_missing found.new.reached.items) text.now) names.now) }
+{
+    for name in names {
+        seek(alloc, linking, text, name.as_str(), held, found)?;
+    }
+    Ok(())
+}
+
+/// Reaches an item that is sought in a module, or notes that it is missing.
+fn seek<'a>(
+    alloc: Global,
+    linking: &Linking<'a>,
+    text: &str,
+    name: &str,
+    held: &mut Held,
+    found: &mut Found<'a>,
+) -> Result<(), AllocError>
+    ensures sound { LeadsOn linking.now text.now name.now → IsSound linking.now held.old found.old.reached.items → OnOk result (IsSound linking.now held.new found.new.reached.items) }
+    ensures in_order { IsKeyed linking.now.modules.now → IsInOrder linking.now held.old found.old.asked → OnOk result (IsInOrder linking.now held.new found.new.asked) }
+    ensures moves { OnOk result (Moves (stage held.old (asks found.old.asked) found.old.is_missing found.old.reached.items) (stage held.new (asks found.new.asked) found.new.is_missing found.new.reached.items)) }
+    ensures handled { OnOk result (IsSought linking.now (stage held.new (asks found.new.asked) found.new.is_missing found.new.reached.items) text.now name.now) }
+{
+    match item_of(linking.modules, text, name) {
+        Item::Declared(symbol) => reach(alloc, linking, symbol, held, &mut found.reached),
+        Item::Imported | Item::Absent | Item::Unloaded => {
+            found.is_missing = true;
+            Ok(())
+        }
+    }
 }
 
 /// Follows the occurrences of what is reached, and answers what is asked for.
@@ -128,6 +178,8 @@ fn close<'a>(
     ensures sound { IsSound linking.now held.old found.entry.reached.items → OnOk result (AllReached linking.now held.new) }
     ensures followed { FollowedTo (loaded linking.now.modules.now) (stage held.old (asks found.entry.asked) found.entry.is_missing found.entry.reached.items) 0 → IfOk result (λ asked. AllFollowed (loaded linking.now.modules.now) (stage held.new (asks asked) false [])) }
     ensures stays { OnOk result ((m : Path) (place : ℕ) → IsSome (held_at held.old m place) → IsSome (held_at held.new m place)) }
+    ensures closed { IsUnderway linking.now held.old found.entry.asked found.entry.is_missing found.entry.reached.items → IfOk result (λ asked. IsClosed linking.now.modules.now linking.now.root.now linking.now.keep.now held.new asked) }
+    ensures refused { IsUnderway linking.now held.old found.entry.asked found.entry.is_missing found.entry.reached.items → IfErr result (RefusesClosing linking.now.modules.now linking.now.root.now linking.now.keep.now held.new) }
 {
     follow_all(alloc, linking, held, &mut found)?;
     outcome_of(alloc, linking, held, found)
@@ -141,6 +193,7 @@ fn follow_all<'a>(
     found: &mut Found<'a>,
 ) -> Result<(), AllocError>
     ensures sound { IsSound linking.now held.old found.old.reached.items → OnOk result (IsSound linking.now held.new found.new.reached.items) }
+    ensures in_order { IsKeyed linking.now.modules.now → IsSound linking.now held.old found.old.reached.items → IsInOrder linking.now held.old found.old.asked → OnOk result (IsInOrder linking.now held.new found.new.asked) }
     ensures moves { OnOk result (Moves (stage held.old (asks found.old.asked) found.old.is_missing found.old.reached.items) (stage held.new (asks found.new.asked) found.new.is_missing found.new.reached.items)) }
     ensures followed { FollowedTo (loaded linking.now.modules.now) (stage held.old (asks found.old.asked) found.old.is_missing found.old.reached.items) 0 → OnOk result (AllFollowed (loaded linking.now.modules.now) (stage held.new (asks found.new.asked) found.new.is_missing found.new.reached.items)) }
 {
@@ -162,7 +215,9 @@ fn outcome_of(
     held: &Held,
     found: Found<'_>,
 ) -> Result<Asked, ImportError>
-    ensures { AllFollowed (loaded linking.now.modules.now) (stage held.now (asks found.entry.asked) found.entry.is_missing found.entry.reached.items) → IfOk result (λ asked. AllFollowed (loaded linking.now.modules.now) (stage held.now (asks asked) false [])) }
+    ensures closed { IsWhole linking.now held.now found.entry.asked found.entry.is_missing found.entry.reached.items → IfOk result (λ asked. IsClosed linking.now.modules.now linking.now.root.now linking.now.keep.now held.now asked) }
+    ensures refused { IsWhole linking.now held.now found.entry.asked found.entry.is_missing found.entry.reached.items → IfErr result (RefusesClosing linking.now.modules.now linking.now.root.now linking.now.keep.now held.now) }
+    ensures followed { AllFollowed (loaded linking.now.modules.now) (stage held.now (asks found.entry.asked) found.entry.is_missing found.entry.reached.items) → IfOk result (λ asked. AllFollowed (loaded linking.now.modules.now) (stage held.now (asks asked) false [])) }
 {
     if !found.is_missing {
         return Ok(found.asked);
@@ -180,6 +235,7 @@ fn follow<'a>(
     held: &mut Held,
     found: &mut Found<'a>,
 ) -> Result<(), AllocError>
+    ensures in_order { IsKeyed linking.now.modules.now → IsReached linking.now symbol.entry → IsInOrder linking.now held.old found.old.asked → OnOk result (IsInOrder linking.now held.new found.new.asked) }
     ensures sound { IsReached linking.now symbol.entry → IsSound linking.now held.old found.old.reached.items → OnOk result (IsSound linking.now held.new found.new.reached.items) }
     ensures moves { OnOk result (Moves (stage held.old (asks found.old.asked) found.old.is_missing found.old.reached.items) (stage held.new (asks found.new.asked) found.new.is_missing found.new.reached.items)) }
     ensures followed { OnOk result (IsFollowed (loaded linking.now.modules.now) (stage held.new (asks found.new.asked) found.new.is_missing found.new.reached.items) (string_bytes symbol.entry.«module».now.text) symbol.entry.place) }
@@ -204,6 +260,8 @@ fn follow_each<'a>(
 ) -> Result<(), AllocError>
     requires home { loaded linking.now.modules.now (string_bytes symbol.«module».now.text) ≡ Some (home_of home.now) }
     requires declaration { slice_get (unit_tree home.now.unit).declarations symbol.place ≡ Some (declaration_tree declaration.now) }
+    requires in_table { IsInTable linking.now.modules.now home.now }
+    ensures in_order { IsKeyed linking.now.modules.now → IsReached linking.now symbol.entry → IsInOrder linking.now held.old found.old.asked → OnOk result (IsInOrder linking.now held.new found.new.asked) }
     ensures sound { IsReached linking.now symbol.entry → IsSound linking.now held.old found.old.reached.items → OnOk result (IsSound linking.now held.new found.new.reached.items) }
     ensures moves { OnOk result (Moves (stage held.old (asks found.old.asked) found.old.is_missing found.old.reached.items) (stage held.new (asks found.new.asked) found.new.is_missing found.new.reached.items)) }
     ensures followed { OnOk result (IsFollowed (loaded linking.now.modules.now) (stage held.new (asks found.new.asked) found.new.is_missing found.new.reached.items) (string_bytes symbol.entry.«module».now.text) symbol.entry.place) }
@@ -228,6 +286,8 @@ fn follow_name<'a>(
     requires home { loaded linking.now.modules.now (string_bytes from.«module».now.text) ≡ Some (home_of home.now) }
     requires declaration { slice_get (unit_tree home.now.unit).declarations from.place ≡ Some (declaration_tree declaration.now) }
     requires occurs { Contains (spec.occurrences (declaration_tree declaration.now)) name.now }
+    requires in_table { IsInTable linking.now.modules.now home.now }
+    ensures in_order { IsKeyed linking.now.modules.now → IsReached linking.now from.entry → IsInOrder linking.now held.old found.old.asked → OnOk result (IsInOrder linking.now held.new found.new.asked) }
     ensures sound { IsReached linking.now from.entry → IsSound linking.now held.old found.old.reached.items → OnOk result (IsSound linking.now held.new found.new.reached.items) }
     ensures moves { OnOk result (Moves (stage held.old (asks found.old.asked) found.old.is_missing found.old.reached.items) (stage held.new (asks found.new.asked) found.new.is_missing found.new.reached.items)) }
     ensures handled { OnOk result (Handled (stage held.new (asks found.new.asked) found.new.is_missing found.new.reached.items) (outcome (loaded linking.now.modules.now) (home_of home.now) name.now)) }
@@ -256,6 +316,7 @@ fn reach<'a>(
     ensures sound { IsReached linking.now symbol.entry → IsSound linking.now held.old reached.old.items → OnOk result (IsSound linking.now held.new reached.new.items) }
     ensures moves { OnOk result ((asked : Sought → Bool) (missing : Bool) → Moves (stage held.old asked missing reached.old.items) (stage held.new asked missing reached.new.items)) }
     ensures held { OnOk result (IsSome (held_at held.new (string_bytes symbol.entry.«module».now.text) symbol.entry.place)) }
+    ensures named { IsPlaced linking.now.modules.now symbol.entry → NamesAll linking.now held.old → OnOk result (NamesAll linking.now held.new) }
 {
     if is_held(held, symbol) {
         return Ok(());
@@ -309,7 +370,9 @@ fn take_places(alloc: Global, held: &mut Held, text: &str) -> BTreeMap<usize, Te
 }
 
 /// The name of a symbol in the linked unit: the root's names stay.
-fn printed_name(alloc: Global, root: &str, symbol: Symbol<'_>) -> Result<Text, AllocError> {
+fn printed_name(alloc: Global, root: &str, symbol: Symbol<'_>) -> Result<Text, AllocError>
+    ensures { IfOk result (λ name. (d : Decl) → slice_get (unit_tree symbol.entry.«module».now.unit).declarations symbol.entry.place ≡ Some d → name ≡ (if bytes_eq (string_bytes symbol.entry.«module».now.text) root.now then spec.declared_name d else mangled symbol.entry.«module».now.path (spec.declared_name d))) }
+{
     let Some(declaration) = symbol.declaration() else {
         return Ok(Text::new(alloc));
     };
@@ -321,7 +384,8 @@ fn printed_name(alloc: Global, root: &str, symbol: Symbol<'_>) -> Result<Text, A
 }
 
 fn ask(alloc: Global, asked: &mut Asked, target: &Target) -> Result<(), AllocError>
-    ensures { OnOk result ((s : Sought) → asks asked.new s ≡ (if bytes_eq (string_bytes target.now.text) s.home then (if bytes_eq target.now.item s.name then true else asks asked.old s) else asks asked.old s)) }
+    ensures by_name { AreAskedByName asked.old → OnOk result (AreAskedByName asked.new) }
+    ensures asks { OnOk result ((s : Sought) → asks asked.new s ≡ (if bytes_eq (string_bytes target.now.text) s.home then (if bytes_eq target.now.item s.name then true else asks asked.old s) else asks asked.old s)) }
 {
     let mut module = take_asked(alloc, asked, target)?;
     module
@@ -334,6 +398,7 @@ fn ask(alloc: Global, asked: &mut Asked, target: &Target) -> Result<(), AllocErr
 /// Takes what is asked of a target's module.
 fn take_asked(alloc: Global, asked: &mut Asked, target: &Target) -> Result<AskedModule, AllocError>
     ensures names { IfOk result (λ m. (x : spec.Name) → name_asked (Some m) x ≡ asks asked.old (record { home = string_bytes target.now.text; name = x })) }
+    ensures paths { AreAskedByName asked.old → IfOk result (λ m. path_text m.path ≡ string_bytes target.now.text) }
     ensures others { OnOk result ((m : Path) → get_by_text asked.new m ≡ (if bytes_eq (string_bytes target.now.text) m then None else get_by_text asked.old m)) }
 {
     match asked.remove(target.text.as_str()) {

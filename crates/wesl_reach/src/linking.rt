@@ -1,7 +1,7 @@
 //! What linking starts from, and what it asks for.
 
-use wesl_scopes::Modules;
 use std::collections::{BTreeMap, BTreeSet};
+use wesl_scopes::Modules;
 use wgsl_items::Text;
 use wgsl_path::ModulePath;
 

@@ -2,21 +2,17 @@
 
 ghost use Rattle.std.specs.Prelude.{◌≡◌, ℕ, Some, None, IfOk};
 ghost use Rattle.std.specs.Option.{IsSome};
-ghost use Rattle.std.specs.Ordering.{nat_cmp};
-ghost use Rattle.std.specs.BTreeMap.{get};
 ghost use Rattle.wesl_sources.specs.Modules.{Path};
 ghost use Rattle.wesl_scopes.specs.Outcomes.{loaded, home_of, outcome};
 ghost use Rattle.wesl_reach.specs.Closing.{held_at};
-ghost use Rattle.wesl_reach.specs.Following.{IsPresent, ArePresent};
-ghost use Rattle.wesl_reach.specs.Missing.{FindsMissing};
+ghost use Rattle.wesl_reach.specs.Following.{ArePresent};
+ghost use Rattle.wesl_reach.specs.Missing.{FindsMissing, TellsWhy, held_in, held_alone};
 
-use wesl_scopes::{Denoted, Symbol, denotation};
-use wesl_scopes::ImportError;
 use crate::linking::Held;
-use wesl_scopes::{Module, Modules};
-use wesl_rename::occurrences;
 use std::alloc::{AllocError, Global};
 use std::collections::BTreeMap;
+use wesl_rename::occurrences;
+use wesl_scopes::{Denoted, ImportError, Module, Modules, Symbol, denotation};
 use wgsl_items::{CloneIn, Text};
 
 /// The first occurrence in what is held that denotes nothing, by printed path of the module and then place.
@@ -43,7 +39,7 @@ fn missing_among(
     text: &str,
     places: &BTreeMap<usize, Text>,
 ) -> Result<Option<ImportError>, AllocError>
-    ensures { IfOk result (λ found. found ≡ None → (place : ℕ) → IsSome (get nat_cmp places.now place) → ArePresent (loaded modules.now) text.now place) }
+    ensures { IfOk result (λ found. FindsMissing (loaded modules.now) (held_in text.now places.now) found) }
 {
     for place in places.keys() {
         if let Some(error) = missing_at(alloc, modules, text, *place)? {
@@ -60,7 +56,7 @@ fn missing_at(
     text: &str,
     place: usize,
 ) -> Result<Option<ImportError>, AllocError>
-    ensures { IfOk result (λ found. found ≡ None → ArePresent (loaded modules.now) text.now place) }
+    ensures { IfOk result (λ found. FindsMissing (loaded modules.now) (held_alone text.now place) found) }
 {
     match modules.get(text) {
         None => Ok(None),
@@ -71,6 +67,7 @@ fn missing_at(
     }
 }
 
+/// The first occurrence in the declaration of a symbol of the module at a printed path that denotes nothing.
 fn missing_in(
     alloc: Global,
     modules: &Modules,
@@ -78,7 +75,7 @@ fn missing_in(
     symbol: Symbol<'_>,
 ) -> Result<Option<ImportError>, AllocError>
     requires { loaded modules.now text.now ≡ Some (home_of symbol.«module».now) }
-    ensures { IfOk result (λ found. found ≡ None → ArePresent (loaded modules.now) text.now symbol.entry.place) }
+    ensures { IfOk result (λ found. FindsMissing (loaded modules.now) (held_alone text.now symbol.entry.place) found) }
 {
     match symbol.module.declaration(symbol.place) {
         None => Ok(None),
@@ -101,7 +98,7 @@ fn missing_name(
     module: &Module,
     name: &str,
 ) -> Result<Option<ImportError>, AllocError>
-    ensures { IfOk result (λ found. found ≡ None → IsPresent (outcome (loaded modules.now) (home_of «module».now) name.now)) }
+    ensures { IfOk result (λ found. TellsWhy (outcome (loaded modules.now) (home_of «module».now) name.now) found) }
 {
     match denotation(modules, module, name) {
         Denoted::Missing(path, item) => {

@@ -1,18 +1,21 @@
 //! Loads what the kept names reach, a round of modules after another.
 
-ghost use Rattle.std.specs.Prelude.{◌≡◌, IfOk};
+ghost use Rattle.std.specs.Prelude.{◌≡◌, IfOk, string_bytes};
+ghost use Rattle.std.specs.String.{string_cmp};
+ghost use Rattle.std.specs.BTreeMap.{IsOrdered};
 ghost use Rattle.wgsl_path.specs.Paths.{path_text};
 ghost use Rattle.wgsl_syntax.specs.View.{unit_tree};
 ghost use Rattle.wesl_resolve.specs.Found.{unit_of, SameAnswers, SameTexts};
 ghost use Rattle.wesl_sources.specs.Kept.{kept_names};
+ghost use Rattle.wesl_sources.specs.Modules.{Modules as ListedModules};
 ghost use Rattle.wesl_reach.specs.Answers.{Loading};
+ghost use Rattle.wesl_reach.specs.Loading.{AreTabled, AreSought, LoadsOne, LoadsAll, IsRoundEnd};
 
 use crate::closing::{close_asked, close_root};
-use wesl_scopes::ImportError;
 use crate::linking::{Asked, Held, Linking};
-use wesl_scopes::{Module, Modules, entry_points};
 use std::alloc::{AllocError, Global};
 use wesl_resolve::Resolver;
+use wesl_scopes::{ImportError, Module, Modules, entry_points};
 use wgsl_items::{CloneIn, Items, Text};
 use wgsl_path::ModulePath;
 use wgsl_syntax::TranslationUnit;
@@ -47,35 +50,60 @@ pub fn load_reached<R: Resolver>(
         return Err(ImportError::TooManyModules(path.clone_in(alloc)?));
     }
     let root = path.to_string(alloc)?;
-    let kept = names_to_keep(alloc, keep, &unit)?;
+    let names = names_to_keep(alloc, keep, &unit)?;
+    let module = Module::new(alloc, path, unit)?;
     let mut modules = Modules::new(alloc);
-    modules.insert(root.clone()?, Module::new(alloc, path, unit)?)?;
+    modules.insert(root.clone()?, module)?;
     let mut held = Held::new(alloc);
     let start = Linking {
         modules: &modules,
         root: root.as_str(),
-        keep: kept.as_slice(),
+        keep: names.as_slice(),
     };
-    let mut asked = close_root(alloc, &start, path, &mut held)?;
+    let asked = close_root(alloc, &start, path, &mut held)?;
+    let reached = Reached {
+        modules,
+        root,
+        held,
+    };
+    load_rounds(
+        alloc,
+        resolver,
+        names.as_slice(),
+        reached,
+        asked,
+        max_modules,
+    )
+}
+
+/// The rounds behind the root's.
+fn load_rounds<R: Resolver>(
+    alloc: Global,
+    resolver: &mut R,
+    keep: &[Text],
+    mut reached: Reached,
+    mut asked: Asked,
+    max_modules: u32,
+) -> Result<Reached, ImportError>
+    ensures loading { IsRoundEnd (R.answers resolver.old) max_modules (string_bytes reached.root) keep.now reached asked 1 → Loading (R.answers resolver.old) (string_bytes reached.root) keep.now max_modules result }
+    ensures same_answers { SameAnswers (R.answers resolver.old) (R.answers resolver.new) }
+    ensures same_texts { SameTexts (R.texts resolver.old) (R.texts resolver.new) }
+{
     for _round in 1..max_modules {
         if asked.is_empty() {
-            break;
+            return Ok(reached);
         }
-        load_all(alloc, resolver, &mut modules, &asked, max_modules)?;
+        load_all(alloc, resolver, &mut reached.modules, &asked, max_modules)?;
         let linking = Linking {
-            modules: &modules,
-            root: root.as_str(),
-            keep: kept.as_slice(),
+            modules: &reached.modules,
+            root: reached.root.as_str(),
+            keep,
         };
-        asked = close_asked(alloc, &linking, &asked, &mut held)?;
+        asked = close_asked(alloc, &linking, &asked, &mut reached.held)?;
     }
-    match asked.first_key_value() {
+    match asked.iter().next() {
         Some((_, module)) => Err(ImportError::TooManyModules(module.path.clone_in(alloc)?)),
-        None => Ok(Reached {
-            modules,
-            root,
-            held,
-        }),
+        None => Ok(reached),
     }
 }
 
@@ -96,19 +124,50 @@ fn names_to_keep(
     Ok(names)
 }
 
+/// Loads the modules that are asked for, in byte order of their printed paths.
 fn load_all<R: Resolver>(
     alloc: Global,
     resolver: &mut R,
     modules: &mut Modules,
     asked: &Asked,
     max_modules: u32,
-) -> Result<(), ImportError> {
+) -> Result<(), ImportError>
+    ensures ordered { IsOrdered string_cmp asked.now }
+    ensures loads { (listed : ListedModules) → AreTabled modules.old listed → AreSought modules.old asked.now → LoadsAll (R.answers resolver.old) max_modules modules.old listed asked.now modules.new result }
+    ensures same_answers { SameAnswers (R.answers resolver.old) (R.answers resolver.new) }
+    ensures same_texts { SameTexts (R.texts resolver.old) (R.texts resolver.new) }
+{
     for (text, module) in asked {
-        if modules.len() >= max_modules as usize {
-            return Err(ImportError::TooManyModules(module.path.clone_in(alloc)?));
-        }
-        let unit = resolver.resolve_module(alloc, &module.path)?;
-        modules.insert(text.clone()?, Module::new(alloc, &module.path, unit)?)?;
+        load_one(
+            alloc,
+            resolver,
+            modules,
+            text.as_str(),
+            &module.path,
+            max_modules,
+        )?;
     }
+    Ok(())
+}
+
+/// Loads the module at a path, which prints so.
+fn load_one<R: Resolver>(
+    alloc: Global,
+    resolver: &mut R,
+    modules: &mut Modules,
+    text: &str,
+    path: &ModulePath,
+    max_modules: u32,
+) -> Result<(), ImportError>
+    ensures loads { path_text path.now ≡ text.now → LoadsOne (R.answers resolver.old) max_modules modules.old text.now modules.new result }
+    ensures same_answers { SameAnswers (R.answers resolver.old) (R.answers resolver.new) }
+    ensures same_texts { SameTexts (R.texts resolver.old) (R.texts resolver.new) }
+{
+    if modules.len() >= max_modules as usize {
+        return Err(ImportError::TooManyModules(path.clone_in(alloc)?));
+    }
+    let unit = resolver.resolve_module(alloc, path)?;
+    let module = Module::new(alloc, path, unit)?;
+    modules.insert(String::from_str(alloc, text)?, module)?;
     Ok(())
 }

@@ -1,5 +1,5 @@
 -- What names denote over the loaded modules, as the code finds it: by places of declarations.
-use Rattle.std.specs.Prelude.{ℕ, Option, Some, None, string_bytes}
+use Rattle.std.specs.Prelude.{◌≡◌, ⊤, ℕ, Option, Some, None, string_bytes}
 use Rattle.std.specs.Option.{option_map}
 use Rattle.std.specs.BTreeMap.{BTreeMap, get_by_text}
 use Rattle.std.specs.declared.string.String.{String}
@@ -66,3 +66,17 @@ item_outcome s (item.Declared found) = symbol_at (string_bytes found.«module».
 item_outcome s item.Imported = private s
 item_outcome s item.Absent = missing s
 item_outcome s item.Unloaded = unloaded s
+
+-- a module of the table
+abbrev pub IsInTable : BTreeMap (String Global) Module → Module → Type 0
+IsInTable modules m = (p : Path) × (get_by_text modules p ≡ Some m)
+
+-- what a name denotes, where it does, is of a module of the table
+abbrev pub DenotesInTable : BTreeMap (String Global) Module → Denoted → Type 0
+DenotesInTable modules (Declared s) = IsInTable modules s.«module».now
+DenotesInTable modules d = ⊤
+
+-- what is found in the module at a path is of that module
+abbrev pub StandsUnder : BTreeMap (String Global) Module → Path → Item → Type 0
+StandsUnder modules path (item.Declared found) = get_by_text modules path ≡ Some found.«module».now
+StandsUnder modules path i = ⊤

@@ -2,7 +2,7 @@
 
 ghost use Rattle.std.specs.Prelude.{◌≡◌, Some, string_bytes};
 ghost use Rattle.wesl_sources.specs.Modules as spec;
-ghost use Rattle.wesl_scopes.specs.Outcomes.{item_at, item_outcome, outcome, outcome_of, home_of, loaded};
+ghost use Rattle.wesl_scopes.specs.Outcomes.{item_at, item_outcome, outcome, outcome_of, home_of, loaded, IsInTable, DenotesInTable, StandsUnder};
 ghost use Rattle.wesl_scopes.specs.Tells.{IsFinder, Tells};
 
 use crate::module::{Module, Modules};
@@ -20,7 +20,13 @@ pub struct Symbol<'a> {
 }
 
 impl<'a> Symbol<'a> {
-    pub fn declaration(&self) -> Option<&'a GlobalDeclaration> {
+    ghost use Rattle.std.specs.Prelude.{◌≡◌, slice_get};
+    ghost use Rattle.std.specs.Option.{option_map};
+    ghost use Rattle.wgsl_syntax.specs.View.{unit_tree, declaration_tree};
+
+    pub fn declaration(&self) -> Option<&'a GlobalDeclaration>
+        ensures { option_map (λ d. declaration_tree d.now) result ≡ slice_get (unit_tree self.now.«module».now.unit).declarations self.now.place }
+    {
         self.module.declaration(self.place)
     }
 }
@@ -43,12 +49,14 @@ pub enum Denoted<'a> {
 pub fn denotation<'a>(modules: &'a Modules, module: &'a Module, name: &str) -> Denoted<'a>
     ensures found { outcome_of result ≡ outcome (loaded modules.now) (home_of module.now) name.now }
     ensures means { (ms : spec.Modules) → IsFinder ms (loaded modules.now) → loaded modules.now (string_bytes module.now.text) ≡ Some (home_of module.now) → Tells ms (string_bytes module.now.text) name.now (outcome_of result) }
+    ensures in_table { IsInTable modules.now module.now → DenotesInTable modules.now result }
 {
     looked_up(modules, module, name)
 }
 
 fn looked_up<'a>(modules: &'a Modules, module: &'a Module, name: &str) -> Denoted<'a>
-    ensures { outcome_of result ≡ outcome (loaded modules.now) (home_of module.now) name.now }
+    ensures in_table { IsInTable modules.now module.now → DenotesInTable modules.now result }
+    ensures found { outcome_of result ≡ outcome (loaded modules.now) (home_of module.now) name.now }
 {
     match module.meanings.get(name) {
         None => Denoted::Free,
@@ -62,7 +70,8 @@ fn looked_up<'a>(modules: &'a Modules, module: &'a Module, name: &str) -> Denote
 }
 
 fn sought<'a>(modules: &'a Modules, target: &'a Target) -> Denoted<'a>
-    ensures { outcome_of result ≡ item_at (record { home = string_bytes target.now.text; name = target.now.item }) (loaded modules.now (string_bytes target.now.text)) }
+    ensures in_table { DenotesInTable modules.now result }
+    ensures found { outcome_of result ≡ item_at (record { home = string_bytes target.now.text; name = target.now.item }) (loaded modules.now (string_bytes target.now.text)) }
 {
     match item_of(modules, target.text.as_str(), target.item.as_str()) {
         Item::Declared(symbol) => Denoted::Declared(symbol),
@@ -84,7 +93,8 @@ pub enum Item<'a> {
 
 /// What the module at a printed path has under a name.
 pub fn item_of<'a>(modules: &'a Modules, text: &str, name: &str) -> Item<'a>
-    ensures { item_outcome (record { home = text.now; name = name.now }) result ≡ item_at (record { home = text.now; name = name.now }) (loaded modules.now text.now) }
+    ensures stands { StandsUnder modules.now text.now result }
+    ensures found { item_outcome (record { home = text.now; name = name.now }) result ≡ item_at (record { home = text.now; name = name.now }) (loaded modules.now text.now) }
 {
     let Some(module) = modules.get(text) else {
         return Item::Unloaded;

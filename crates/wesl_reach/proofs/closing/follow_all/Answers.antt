@@ -7,6 +7,11 @@ use Rattle.wesl_reach.proofs.closing.follow_all.Goals as goal
 
 pub loop-at-preserved : goal.loop-at-preserved
 loop-at-preserved c = record {
+  in_order = λ keyed sound before.
+      c.in_ok-follow.ensures.in_order keyed
+      (held_there (IsReached c.args.linking.now) c.deref.result.now c.loop-at.found.reached.items c.loop-at.at c.in-Some.symbol.now c.deref.ensures.value
+      c.in-Some.ensures.lookup.3.0 c.in-Some.ensures.lookup.1 (c.loop-at.invariant.sound sound).1)
+      (c.loop-at.invariant.in_order keyed sound before);
   sound = λ sound.
       let before = c.loop-at.invariant.sound sound in
       c.in_ok-follow.ensures.sound

@@ -19,6 +19,7 @@ follow_name-requires-clause-occurs c =
 
 pub loop-name-init : goal.loop-name-init
 loop-name-init c = record {
+  in_order = λ keyed reached before. before;
   sound = λ reached sound. sound;
   moves = no_move (stage c.args.held.now (asks c.args.found.now.asked) c.args.found.now.is_missing c.args.found.now.reached.items);
   handled = none_below (loaded c.args.linking.now.modules.now) (stage c.args.held.now (asks c.args.found.now.asked) c.args.found.now.is_missing c.args.found.now.reached.items) (home_of c.args.home.now) c.as_slice-name-items.result.now;
@@ -28,6 +29,7 @@ pub loop-name-preserved : goal.loop-name-preserved
 loop-name-preserved c =
     let d : Bor (List ℕ) = record { ref_ptr = (0, 0); now = [] } in
     record {
+      in_order = λ keyed reached before. c.in_ok-follow_name.ensures.in_order keyed reached (c.loop-name.invariant.in_order keyed reached before);
       sound = λ reached sound. c.in_ok-follow_name.ensures.sound reached (c.loop-name.invariant.sound reached sound);
       moves = two_moves _ _ _ c.loop-name.invariant.moves c.in_ok-follow_name.ensures.moves;
       handled = one_below (loaded c.args.linking.now.modules.now) _ _ (home_of c.args.home.now) c.as_slice-name-items.result.now c.loop-name.name-index
@@ -41,3 +43,6 @@ returns-clause-followed c =
     followed_below (loaded c.args.linking.now.modules.now) (stage c.loop-name.held (asks c.loop-name.found.asked) c.loop-name.found.is_missing c.loop-name.found.reached.items) (string_bytes c.args.symbol.«module».now.text) c.args.symbol.place (home_of c.args.home.now) (declaration_tree c.args.declaration.now)
     c.as_slice-name-items.result.now c.loop-name.name-index c.requires.home c.requires.declaration
     (ap texts c.as_slice-name-items.ensures.value ∙ c.in_ok-names.ensures) c.loop-name-test.false c.loop-name.invariant.handled
+
+pub returns-clause-in_order : goal.returns-clause-in_order
+returns-clause-in_order c = c.loop-name.invariant.in_order

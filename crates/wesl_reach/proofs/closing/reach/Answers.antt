@@ -4,6 +4,7 @@ use Rattle.wesl_reach.proofs.ClosingLemmas.{sound_more}
 use Rattle.wesl_reach.proofs.FollowLemmas.{no_move}
 use Rattle.wesl_reach.proofs.StageLemmas.{moves_more, now_held}
 use Rattle.wesl_reach.proofs.closing.reach.Goals as goal
+use Rattle.wesl_reach.proofs.OrderLemmas.{named_more}
 
 pub returns-clause-sound : goal.returns-clause-sound
 returns-clause-sound c = λ reached sound.
@@ -19,3 +20,7 @@ returns-clause-held c = now_held c.args.held.now c.hold.new.held (string_bytes c
 
 pub returns-then-is_held-clause-moves : goal.returns-then-is_held-clause-moves
 returns-then-is_held-clause-moves c = λ asked missing. no_move (stage c.args.held.now asked missing c.args.reached.now.items)
+
+pub returns-clause-named : goal.returns-clause-named
+returns-clause-named c = λ placed before.
+    named_more c.args.linking.now c.args.held.now c.hold.new.held c.args.symbol c.in_ok-name.name placed before c.in_ok-hold.ensures c.in_ok-name.ensures

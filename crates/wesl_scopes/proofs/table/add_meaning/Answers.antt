@@ -1,4 +1,4 @@
-use Rattle.std.proofs.Common.{◌≡◌, sym, ap, ◌∙◌}
+use Rattle.std.proofs.Common.{sym, ◌∙◌}
 use Rattle.wesl_scopes.proofs.TableLemmas.{updated, none_of}
 use Rattle.wesl_scopes.proofs.table.add_meaning.Goals as goal
 

@@ -1,4 +1,4 @@
-use Rattle.std.proofs.Common.{◌≡◌, refl, sym, ap, ◌∙◌, Ok, Err, ◌≤◌, length, arith}
+use Rattle.std.proofs.Common.{refl, ap, ◌∙◌, Ok, Err}
 use Rattle.std.proofs.lemmas.Result.{err_from_is_err_and}
 use Rattle.wgsl_syntax.specs.View.{declaration_tree}
 use Rattle.wgsl_syntax.specs.declared.declaration.GlobalDeclaration.{GlobalDeclaration}

@@ -1,0 +1,13 @@
+use Rattle.wesl_resolve.specs.Found.{SameAnswers, SameTexts}
+use Rattle.wesl_sources.specs.Modules.{Modules as ListedModules}
+use Rattle.wesl_reach.specs.Loading.{AreTabled, AreSought}
+use Rattle.wesl_reach.proofs.LoadLemmas.{IsLoadedTo}
+use Rattle.wesl_reach.proofs.rounds.load_all.Given as goal
+
+abbrev pub invariant-loop-text : goal.invariant-loop-text
+invariant-loop-text g l = record {
+  answers : SameAnswers (g.R.Resolver.answers l.initial.resolver) (g.R.Resolver.answers l.resolver);
+  texts : SameTexts (g.R.Resolver.texts l.initial.resolver) (g.R.Resolver.texts l.resolver);
+  loads : (listed : ListedModules) → AreTabled l.initial.modules listed → AreSought l.initial.modules l.asked
+      → IsLoadedTo (g.R.Resolver.answers l.initial.resolver) l.max_modules l.initial.modules listed l.asked l.modules l.text-iterator;
+}

@@ -1,0 +1,89 @@
+use Rattle.std.proofs.Common.{◌≡◌, ◌≢◌, refl, true, false, [], length, sym, subst, ap, ◌∙◌, Err}
+use Rattle.std.specs.Prelude.{string_bytes}
+use Rattle.std.specs.Map.Iter.{deref_pair}
+use Rattle.std.proofs.lemmas.Map.Iter.{rest_more, rest_all}
+use Rattle.std.proofs.lemmas.Result.{err_from_is_err_and}
+use Rattle.wesl_sources.specs.Modules.{Path}
+use Rattle.wesl_reach.specs.declared.rounds.Reached.{Reached}
+use Rattle.wesl_reach.specs.Missing.{refusal_of}
+use Rattle.wesl_reach.specs.Answers.{Loading}
+use Rattle.wesl_reach.specs.Closed.{IsClosed, RefusesClosing}
+use Rattle.wesl_reach.proofs.LoadLemmas.{same_refuses, same_all_loaded, two_same}
+use Rattle.wesl_reach.proofs.GoesLemmas.{no_entries, all_ended, sought, loading_refused, too_many, closing_refused, one_round}
+use Rattle.wesl_reach.proofs.rounds.load_rounds.Goals as goal
+
+pub returns-then-is_empty-clause-loading : goal.returns-then-is_empty-clause-loading
+returns-then-is_empty-clause-loading g c = λ start.
+    let empty : c.loop-round.asked.entries ≡ [] = no_entries c.loop-round.asked.entries (c.is_empty.ensures.0 c.if-is_empty.true) in (
+      c.loop-round.invariant.root,
+      all_ended (g.R.Resolver.answers c.args.resolver.now) c.args.max_modules (string_bytes c.args.reached.root) c.args.keep.now c.loop-round.reached c.loop-round.asked c.loop-round._round
+          (c.loop-round.invariant.loading start) empty,
+    )
+
+pub returns-in_err-load_all-clause-loading : goal.returns-in_err-load_all-clause-loading
+returns-in_err-load_all-clause-loading g c = λ start.
+    let sources = g.R.Resolver.answers c.args.resolver.now in
+    let root : Path = string_bytes c.args.reached.root in
+    let e = c.loop-round.invariant.loading start in
+    let p = err_from_is_err_and c.from_residual.result c.from_residual.ensures.1 in
+    let seek = sought sources c.args.max_modules root c.args.keep.now c.loop-round.reached c.loop-round.asked c.loop-round._round e in
+    subst (Loading sources root c.args.keep.now c.args.max_modules) (sym (p.1 ∙ ap Err p.2))
+    (loading_refused sources c.args.max_modules root c.args.keep.now c.loop-round.reached c.loop-round.asked c.loop-round._round e c.in_err-load_all.ensures.ordered
+    (refusal_of c.in_err-load_all.field-0.0)
+    (same_refuses sources (g.R.Resolver.answers c.loop-round.resolver) c.args.max_modules (length e.modules) _ (refusal_of c.in_err-load_all.field-0.0)
+    c.loop-round.invariant.answers (c.in_err-load_all.ensures.loads e.modules e.tabled seek)))
+
+pub returns-in_err-asked-clause-loading : goal.returns-in_err-asked-clause-loading
+returns-in_err-asked-clause-loading g c = λ start.
+    let sources = g.R.Resolver.answers c.args.resolver.now in
+    let root : Path = string_bytes c.args.reached.root in
+    let e = c.loop-round.invariant.loading start in
+    let p = err_from_is_err_and c.from_residual-in_err-asked.result c.from_residual-in_err-asked.ensures.1 in
+    let some : c.loop-round.asked.entries ≢ [] = λ is. (let both : true ≡ false = sym (c.is_empty.ensures.1 (ap length is)) ∙ c.if-is_empty.false in absurd (cc)) in
+    let seek = sought sources c.args.max_modules root c.args.keep.now c.loop-round.reached c.loop-round.asked c.loop-round._round e in
+    let all = same_all_loaded sources (g.R.Resolver.answers c.loop-round.resolver) c.args.max_modules c.loop-round.reached.modules e.modules c.loop-round.asked c.load_all.new.modules
+    c.loop-round.invariant.answers (c.in_ok-load_all.ensures.loads e.modules e.tabled seek) in
+    let here : c.as_str.result.now ≡ root = c.as_str.ensures.value ∙ c.loop-round.invariant.root in
+    subst (Loading sources root c.args.keep.now c.args.max_modules) (sym (p.1 ∙ ap Err p.2))
+    (closing_refused sources c.args.max_modules root c.args.keep.now c.loop-round.reached c.loop-round.asked c.loop-round._round e c.in_ok-load_all.ensures.ordered
+    some c.load_all.new.modules all c.close_asked.new.held c.in_err-asked.field-0.0
+    (subst (λ q. IsClosed c.loop-round.reached.modules q c.args.keep.now c.loop-round.reached.held c.loop-round.asked
+    → RefusesClosing c.load_all.new.modules q c.args.keep.now c.close_asked.new.held c.in_err-asked.field-0.0) here
+    (λ closed. c.in_err-asked.ensures.refused c.loop-round.reached.modules all.tabled.keyed closed all.on) e.closed))
+
+pub loop-round-preserved : goal.loop-round-preserved
+loop-round-preserved g c = record {
+  answers = two_same _ _ _ c.loop-round.invariant.answers c.load_all.ensures.same_answers;
+  texts = two_same _ _ _ c.loop-round.invariant.texts c.load_all.ensures.same_texts;
+  root = c.loop-round.invariant.root;
+  loading = λ start.
+      let sources = g.R.Resolver.answers c.args.resolver.now in
+      let root : Path = string_bytes c.args.reached.root in
+      let e = c.loop-round.invariant.loading start in
+      let some : c.loop-round.asked.entries ≢ [] = λ is. (let both : true ≡ false = sym (c.is_empty.ensures.1 (ap length is)) ∙ c.if-is_empty.false in absurd (cc)) in
+      let seek = sought sources c.args.max_modules root c.args.keep.now c.loop-round.reached c.loop-round.asked c.loop-round._round e in
+      let all = same_all_loaded sources (g.R.Resolver.answers c.loop-round.resolver) c.args.max_modules c.loop-round.reached.modules e.modules c.loop-round.asked c.load_all.new.modules
+      c.loop-round.invariant.answers (c.in_ok-load_all.ensures.loads e.modules e.tabled seek) in
+      let here : c.as_str.result.now ≡ root = c.as_str.ensures.value ∙ c.loop-round.invariant.root in
+      let after : Reached = record { modules = c.load_all.new.modules; root = c.loop-round.reached.root; held = c.close_asked.new.held } in
+      one_round sources c.args.max_modules root c.args.keep.now c.loop-round.reached c.loop-round.asked c.loop-round._round e c.in_ok-load_all.ensures.ordered
+      some c.load_all.new.modules all after c.in_ok-asked.asked refl
+      (subst (λ q. IsClosed c.loop-round.reached.modules q c.args.keep.now c.loop-round.reached.held c.loop-round.asked
+      → IsClosed c.load_all.new.modules q c.args.keep.now c.close_asked.new.held c.in_ok-asked.asked) here
+      (λ closed. c.in_ok-asked.ensures.closed c.loop-round.reached.modules all.tabled.keyed closed all.on) e.closed);
+}
+
+pub returns-in_ok-clone_in-in-Some-clause-loading : goal.returns-in_ok-clone_in-in-Some-clause-loading
+returns-in_ok-clone_in-in-Some-clause-loading g c = λ start.
+    too_many (g.R.Resolver.answers c.args.resolver.now) c.args.max_modules (string_bytes c.args.reached.root) c.args.keep.now c.loop-round.reached c.loop-round.asked c.loop-round._round
+    (c.loop-round.invariant.loading start) c.iter.ensures.ordered c.in-Some.field-0-0.now c.in-Some.«module».now c.next.new.self c.in_ok-clone_in-in-Some.field-0 c.loop-round-test.false
+    (sym c.iter.ensures.rest ∙ rest_more deref_pair c.iter.result c.next.new.self c.next.result (c.in-Some.field-0-0, c.in-Some.«module») c.in-Some.is c.next.ensures.steps)
+    c.in_ok-clone_in-in-Some.ensures
+
+pub returns-in-None-clause-loading : goal.returns-in-None-clause-loading
+returns-in-None-clause-loading g c = λ start.
+    let empty : c.loop-round.asked.entries ≡ [] = sym c.iter.ensures.rest ∙ rest_all deref_pair c.iter.result c.next.new.self c.next.result c.in-None.is c.next.ensures.steps in (
+      c.loop-round.invariant.root,
+      all_ended (g.R.Resolver.answers c.args.resolver.now) c.args.max_modules (string_bytes c.args.reached.root) c.args.keep.now c.loop-round.reached c.loop-round.asked c.loop-round._round
+          (c.loop-round.invariant.loading start) empty,
+    )

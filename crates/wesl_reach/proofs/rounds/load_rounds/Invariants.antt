@@ -1,0 +1,14 @@
+use Rattle.std.proofs.Common.{◌≡◌}
+use Rattle.std.specs.Prelude.{string_bytes}
+use Rattle.wesl_resolve.specs.Found.{SameAnswers, SameTexts}
+use Rattle.wesl_reach.specs.Loading.{IsRoundEnd}
+use Rattle.wesl_reach.proofs.rounds.load_rounds.Given as goal
+
+abbrev pub invariant-loop-round : goal.invariant-loop-round
+invariant-loop-round g l = record {
+  answers : SameAnswers (g.R.Resolver.answers l.initial.resolver) (g.R.Resolver.answers l.resolver);
+  texts : SameTexts (g.R.Resolver.texts l.initial.resolver) (g.R.Resolver.texts l.resolver);
+  root : string_bytes l.reached.root ≡ string_bytes l.initial.reached.root;
+  loading : IsRoundEnd (g.R.Resolver.answers l.initial.resolver) l.max_modules (string_bytes l.initial.reached.root) l.keep l.initial.reached l.initial.asked 1
+      → IsRoundEnd (g.R.Resolver.answers l.initial.resolver) l.max_modules (string_bytes l.initial.reached.root) l.keep l.reached l.asked l._round;
+}
