@@ -1,6 +1,6 @@
 -- A round behind the root's: what it goes on from, once what was asked for is loaded and sought.
-use Rattle.std.proofs.Common.{◌≡◌, refl, sym, ap, ◌∙◌, subst, ℕ, ◌≤◌, inl, inr, ⊎_elim, Bool, true, false, List, [], map, length, Option, Some, None, arith}
-use Rattle.std.specs.Prelude.{slice_get, string_bytes}
+use Rattle.std.proofs.Common.{◌≡◌, refl, sym, ap, ◌∙◌, subst, ℕ, inl, inr, ⊎_elim, Bool, true, false, List, [], map, Option, Some, None, arith}
+use Rattle.std.specs.Prelude.{string_bytes}
 use Rattle.std.specs.Option.{IsSome, option_map}
 use Rattle.std.specs.Str.{bytes_eq}
 use Rattle.std.specs.Ordering.{nat_cmp, is_eq}
@@ -12,20 +12,20 @@ use Rattle.std.specs.declared.alloc.Global.{Global}
 use Rattle.std.proofs.lemmas.List.Folds.{Any-from_list_any, list_any-from_Any}
 use Rattle.std.proofs.lemmas.Map.Entries.{place_from_lookup}
 use Rattle.std.proofs.lemmas.Map.Text.{is_eq-slice_cmp}
-use Rattle.wgsl_syntax.specs.Tree.{Decl, Unit}
+use Rattle.wgsl_syntax.specs.Tree.{Unit}
 use Rattle.wesl_sources.specs.Occurrences.{Name}
 use Rattle.wesl_sources.specs.Modules.{Path, Symbol}
 use Rattle.wesl_scopes.specs.declared.module.Module.{Module}
 use Rattle.wesl_scopes.specs.declared.denote.Symbol.{Symbol as Place}
 use Rattle.wesl_scopes.specs.Meanings.{Known, declared, imported, bare, known}
-use Rattle.wesl_scopes.specs.Outcomes.{symbol_at, unloaded, Loaded, item_in, item_at, meant_as, outcome, home_of, loaded}
+use Rattle.wesl_scopes.specs.Outcomes.{symbol_at, unloaded, Loaded, item_in, item_at, meant_as, home_of, loaded}
 use Rattle.wesl_scopes.proofs.ScopeLemmas.{to_contains, same_name, self_name}
 use Rattle.wesl_reach.specs.declared.linking.Linking.{Linking}
 use Rattle.wesl_reach.specs.declared.linking.AskedModule.{AskedModule}
 use Rattle.wesl_reach.specs.Reach.{ReachedAt, onto, KeepsAll}
 use Rattle.wesl_reach.specs.Following.{Stage, Handled, Moves, FollowedTo}
 use Rattle.wesl_reach.specs.Stages.{place_of, AskedNames, name_asked, asks, stage}
-use Rattle.wesl_reach.specs.Closing.{HeldNames, held_at, LeadsTo, AllReached, IsReached, IsSound}
+use Rattle.wesl_reach.specs.Closing.{HeldNames, held_at, AllReached, IsReached, IsSound}
 use Rattle.wesl_reach.specs.Resolved.{LoadedModules, IsKeyed}
 use Rattle.wesl_reach.specs.Closed.{IsAskedAt, IsClosed, IsLoadedOn}
 use Rattle.wesl_reach.specs.Underway.{NamesAll, IsInOrder, IsUnderway, LeadsOn, IsSought, EachName}

@@ -1,22 +1,21 @@
 -- What a closing comes to.
-use Rattle.std.proofs.Common.{◌≡◌, refl, sym, ap, ◌∙◌, subst, ℕ, ◌⊎◌, inl, inr, ⊎_elim, Bool, true, false, List, [], ◌∷◌, Option, Some, None}
-use Rattle.std.specs.Prelude.{IfErr, Result, Ok, Err, slice_get, string_bytes}
+use Rattle.std.proofs.Common.{◌≡◌, sym, ◌∙◌, subst, ℕ, inr, Bool, false, List, [], Option, Some}
+use Rattle.std.specs.Prelude.{IfErr, Result, Ok, Err}
 use Rattle.std.specs.Result.{IsErrAnd}
 use Rattle.std.specs.Option.{IsSome}
 use Rattle.wesl_sources.specs.Occurrences.{Name}
-use Rattle.wesl_sources.specs.Modules.{Path, Symbol}
-use Rattle.wesl_sources.specs.Rounds.{Refusal}
+use Rattle.wesl_sources.specs.Modules.{Path}
 use Rattle.wesl_scopes.specs.declared.error.ImportError.{ImportError}
 use Rattle.wesl_scopes.specs.declared.denote.Symbol.{Symbol as Place}
-use Rattle.wesl_scopes.specs.Outcomes.{symbol_at, Loaded, loaded}
+use Rattle.wesl_scopes.specs.Outcomes.{Loaded, loaded}
 use Rattle.wesl_reach.specs.declared.linking.Linking.{Linking}
 use Rattle.wesl_reach.specs.Reach.{ReachedAt, kept, onto, KeepsAll}
 use Rattle.wesl_reach.specs.Following.{Stage, Handled, Moves, FollowedTo, AllFollowed}
 use Rattle.wesl_reach.specs.Stages.{AskedNames, asks, stage}
 use Rattle.wesl_reach.specs.Closing.{HeldNames, held_at, IsSound}
-use Rattle.wesl_reach.specs.Missing.{refusal_of, FindsMissing}
+use Rattle.wesl_reach.specs.Missing.{FindsMissing}
 use Rattle.wesl_reach.specs.Resolved.{IsKeyed}
-use Rattle.wesl_reach.specs.Closed.{IsClosed, HoldsAllReached, IsStopped, RefusesClosing}
+use Rattle.wesl_reach.specs.Closed.{IsClosed, RefusesClosing}
 use Rattle.wesl_reach.specs.Underway.{IsInOrder, IsUnderway, IsWhole}
 
 -- what is reached is held, where the kept names are and all is followed

@@ -1,9 +1,8 @@
 -- What is held has its printed name, and what is asked for is what occurs and is not loaded.
-use Rattle.std.proofs.Common.{◌≡◌, refl, sym, ap, ◌∙◌, subst, ℕ, Bool, true, false, List, [], ◌∷◌, Option, Some, None}
+use Rattle.std.proofs.Common.{◌≡◌, refl, sym, ap, ◌∙◌, subst, ℕ, Bool, true, false, Option, Some, None}
 use Rattle.std.specs.Prelude.{if◌then◌else◌, slice_get, string_bytes, nat_eq}
 use Rattle.std.specs.Str.{bytes_eq}
 use Rattle.std.specs.Option.{option_map}
-use Rattle.std.specs.List.{Contains}
 use Rattle.std.specs.String.{string_cmp}
 use Rattle.std.specs.BTreeMap.{get_by_text, Updates}
 use Rattle.std.specs.declared.string.String.{String}
@@ -14,17 +13,16 @@ use Rattle.wgsl_path.specs.Paths.{path_text}
 use Rattle.wgsl_syntax.specs.Tree.{Decl, Unit}
 use Rattle.wgsl_syntax.specs.View.{unit_tree}
 use Rattle.wesl_resolve.specs.Mangling.{mangled}
-use Rattle.wesl_sources.specs.Occurrences.{Name, declared_name, occurrences}
+use Rattle.wesl_sources.specs.Occurrences.{Name, declared_name}
 use Rattle.wesl_sources.specs.Modules.{Path, Symbol}
 use Rattle.wesl_scopes.specs.declared.module.Module.{Module}
 use Rattle.wesl_scopes.specs.declared.denote.Symbol.{Symbol as Place}
 use Rattle.wesl_scopes.specs.Meanings.{Known, declared, imported, bare, known}
-use Rattle.wesl_scopes.specs.Outcomes.{symbol_at, unloaded, Loaded, item_in, item_at, meant_as, outcome, home_of, loaded, IsInTable}
+use Rattle.wesl_scopes.specs.Outcomes.{symbol_at, Loaded, item_in, item_at, meant_as, outcome, home_of, loaded, IsInTable}
 use Rattle.wesl_scopes.proofs.ScopeLemmas.{same_name, self_name}
 use Rattle.wesl_scopes.proofs.TellLemmas.{declares}
 use Rattle.wesl_reach.specs.declared.linking.Linking.{Linking}
 use Rattle.wesl_reach.specs.declared.linking.AskedModule.{AskedModule}
-use Rattle.wesl_reach.specs.Reach.{ReachedAt}
 use Rattle.wesl_reach.specs.Closing.{HeldNames, held_at, Holds}
 use Rattle.wesl_reach.specs.Stages.{AskedNames, name_asked, asks}
 use Rattle.wesl_reach.specs.Resolved.{LoadedModules, IsKeyed}

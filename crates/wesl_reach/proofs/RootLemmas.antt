@@ -1,22 +1,19 @@
 -- The root's round: what it starts from, and the first kept name that the root doesn't declare.
-use Rattle.std.proofs.Common.{◌≡◌, refl, sym, ap, ◌∙◌, subst, ℕ, zero, suc, ◌+◌, ◌<◌, inl, inr, ⊎_elim, Bool, true, false, List, [], ◌∷◌, ◌++◌, Option, Some, None, arith}
+use Rattle.std.proofs.Common.{◌≡◌, sym, ap, ◌∙◌, ℕ, zero, suc, ◌<◌, inl, inr, ⊎_elim, true, false, List, [], ◌∷◌, ◌++◌, Some, None, arith}
 use Rattle.std.specs.Prelude.{slice_get, string_bytes}
 use Rattle.std.specs.Ordering.{nat_cmp, is_eq}
 use Rattle.std.specs.Cmp.Lexicographic.{slice_cmp}
 use Rattle.std.specs.Map.{lookup}
-use Rattle.std.specs.List.{Contains}
 use Rattle.std.specs.BTreeMap.{get_by_text}
-use Rattle.wgsl_path.specs.Paths.{path_text}
 use Rattle.wesl_sources.specs.Occurrences.{Name}
-use Rattle.wesl_sources.specs.Modules.{Path, Symbol}
+use Rattle.wesl_sources.specs.Modules.{Path}
 use Rattle.wesl_sources.specs.Rounds.{missing_decl}
 use Rattle.wesl_scopes.specs.declared.error.ImportError.{ImportError}
 use Rattle.wesl_scopes.specs.Outcomes.{symbol_at, Loaded, item_at, loaded}
 use Rattle.wesl_scopes.proofs.ScopeLemmas.{from_contains}
 use Rattle.wesl_reach.specs.declared.linking.Linking.{Linking}
-use Rattle.wesl_reach.specs.Stages.{AskedNames, name_asked, asks}
-use Rattle.wesl_reach.specs.Closing.{HeldNames, held_at}
-use Rattle.wesl_reach.specs.Missing.{refusal_of}
+use Rattle.wesl_reach.specs.Stages.{AskedNames, name_asked}
+use Rattle.wesl_reach.specs.Closing.{HeldNames}
 use Rattle.wesl_reach.specs.Closed.{HoldsNothing, IsFirstUndeclared, RefusesRoot}
 use Rattle.wesl_reach.specs.Underway.{NamesAll, IsInOrder, LacksKept}
 use Rattle.wesl_reach.proofs.StageLemmas.{KeptBelow}

@@ -1,27 +1,21 @@
 -- Seeking what was asked for in newly loaded modules.
-use Rattle.std.proofs.Common.{◌≡◌, refl, sym, ap, ◌∙◌, subst, ℕ, zero, suc, ◌⊎◌, inl, inr, ⊎_elim, Bool, true, false, List, [], ◌∷◌, map, Option, Some, None}
-use Rattle.std.specs.Prelude.{slice_get, string_bytes}
+use Rattle.std.proofs.Common.{◌≡◌, refl, sym, ap, ◌∙◌, subst, zero, suc, ◌⊎◌, inl, inr, ⊎_elim, Bool, true, List, [], ◌∷◌, map, Option, Some, None}
 use Rattle.std.specs.Option.{option_map}
 use Rattle.std.specs.List.{Contains}
-use Rattle.std.specs.BTreeMap.{get_by_text}
-use Rattle.std.specs.BTreeSet.{BTreeSet}
-use Rattle.std.specs.declared.string.String.{String}
-use Rattle.std.specs.declared.alloc.Global.{Global}
 use Rattle.std.proofs.lemmas.List.{append-nil}
 use Rattle.wesl_sources.specs.Occurrences.{Name}
 use Rattle.wesl_sources.specs.Modules.{Path, Symbol}
-use Rattle.wesl_scopes.specs.declared.module.Module.{Module}
 use Rattle.wesl_scopes.specs.declared.denote.Symbol.{Symbol as Place}
 use Rattle.wesl_scopes.specs.declared.denote.Item.{Item}
 use Rattle.wesl_scopes.specs.declared.denote.Item.TheVariants as item
 use Rattle.wesl_scopes.specs.Meanings.{Known, declared, imported, bare, known}
-use Rattle.wesl_scopes.specs.Outcomes.{symbol_at, unloaded, item_in, item_at, item_outcome, home_of, loaded}
+use Rattle.wesl_scopes.specs.Outcomes.{unloaded, item_in, item_at, item_outcome, home_of, loaded}
 use Rattle.wesl_scopes.proofs.ScopeLemmas.{to_contains, from_contains}
 use Rattle.wesl_reach.specs.declared.linking.Linking.{Linking}
 use Rattle.wesl_reach.specs.Closing.{HeldNames}
 use Rattle.wesl_reach.specs.Following.{Stage, Handled, Moves}
 use Rattle.wesl_reach.specs.Stages.{place_of, stage}
-use Rattle.wesl_reach.specs.Underway.{IsSought, EachName}
+use Rattle.wesl_reach.specs.Underway.{IsSought}
 use Rattle.wesl_reach.proofs.FollowLemmas.{handled_moves}
 use Rattle.wesl_reach.proofs.PresentLemmas.{DoneBut}
 

@@ -1,11 +1,10 @@
 -- What holds while a closing goes on.
-use Rattle.std.specs.Prelude.{◌≡◌, ◌⊎◌, ℕ, List, [], Option, Some, None, Bool, true, string_bytes, slice_get}
+use Rattle.std.specs.Prelude.{◌≡◌, ◌⊎◌, ℕ, List, Some, Bool, true, string_bytes, slice_get}
 use Rattle.std.specs.List.{Contains}
 use Rattle.std.specs.BTreeMap.{get_by_text}
 use Rattle.std.specs.BTreeSet.{BTreeSet}
 use Rattle.std.specs.declared.string.String.{String}
 use Rattle.std.specs.declared.alloc.Global.{Global}
-use Rattle.wgsl_path.specs.Paths.{path_text}
 use Rattle.wgsl_syntax.specs.Tree.{Decl}
 use Rattle.wgsl_syntax.specs.View.{unit_tree}
 use Rattle.wesl_sources.specs.Occurrences.{Name}
@@ -15,7 +14,7 @@ use Rattle.wesl_scopes.specs.declared.error.ImportError.{ImportError}
 use Rattle.wesl_scopes.specs.declared.error.ImportError.TheVariants.{OutOfMemory}
 use Rattle.wesl_scopes.specs.declared.module.Module.{Module}
 use Rattle.wesl_scopes.specs.declared.denote.Symbol.{Symbol as Place}
-use Rattle.wesl_scopes.specs.Outcomes.{Loaded, symbol_at, item_at, loaded}
+use Rattle.wesl_scopes.specs.Outcomes.{symbol_at, item_at, loaded}
 use Rattle.wesl_reach.specs.declared.linking.Linking.{Linking}
 use Rattle.wesl_reach.specs.Reach.{KeepsAll}
 use Rattle.wesl_reach.specs.Following.{Stage, Handled, FollowedTo, AllFollowed}

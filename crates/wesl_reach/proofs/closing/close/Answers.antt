@@ -1,4 +1,3 @@
-use Rattle.wesl_reach.specs.Underway.{IsUnderway, IsWhole}
 use Rattle.wesl_reach.proofs.CloseLemmas.{underway_whole}
 use Rattle.wesl_reach.proofs.closing.close.Goals as goal
 

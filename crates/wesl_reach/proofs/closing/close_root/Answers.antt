@@ -4,12 +4,7 @@ use Rattle.wesl_reach.specs.Stages.{asks, stage}
 use Rattle.wesl_scopes.proofs.ScopeLemmas.{at_place}
 use Rattle.wesl_reach.proofs.FollowLemmas.{two_moves}
 use Rattle.wesl_reach.proofs.StageLemmas.{kept_more, kept_all, from_nothing}
-use Rattle.std.proofs.Common.{◌≡◌, ℕ, None}
-use Rattle.wesl_sources.specs.Modules.{Path}
-use Rattle.wesl_reach.specs.Closing.{held_at}
-use Rattle.wesl_reach.specs.Resolved.{IsKeyed}
-use Rattle.wesl_reach.specs.Closed.{HoldsNothing, RefusesRoot}
-use Rattle.wesl_reach.specs.Underway.{IsUnderway}
+use Rattle.wesl_reach.specs.Closed.{RefusesRoot}
 use Rattle.wesl_reach.proofs.CloseLemmas.{err_passed}
 use Rattle.wesl_reach.proofs.RootLemmas.{names_nothing, asks_nothing, refused_kept}
 use Rattle.wesl_reach.proofs.closing.close_root.Goals as goal
