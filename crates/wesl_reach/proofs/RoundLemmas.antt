@@ -17,7 +17,7 @@ module _ (find more : Loaded) (grows : Grows find more) where
   item_grown t m k None is e = absurd (cc)
   item_grown t m k (Some h) is e = ap (item_at t) (grows t.home h is) ∙ e
 
-  pub meant_grown : (home m : Path) (k : ℕ) (o : Option Known) → meant_as find home o ≡ symbol_at m k → meant_as more home o ≡ symbol_at m k
+  meant_grown : (home m : Path) (k : ℕ) (o : Option Known) → meant_as find home o ≡ symbol_at m k → meant_as more home o ≡ symbol_at m k
   meant_grown home m k None e = e
   meant_grown home m k (Some (declared j)) e = e
   meant_grown home m k (Some (imported t)) e = item_grown t m k (find t.home) refl e
