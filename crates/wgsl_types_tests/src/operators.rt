@@ -4,8 +4,8 @@ use crate::made::{array, refusal, vector};
 use std::test::Fail;
 use wgsl_items::Boxed;
 use wgsl_types::{
-    AccessMode, AddressSpace, BinaryOperator, BuiltinValue, Enumerant, Error, LiteralInstance,
-    ShaderType, Type, UnaryOperator, type_binary_op, type_unary_op,
+    AccessMode, AddressSpace, AssignmentOperator, BinaryOperator, BuiltinValue, Enumerant, Error,
+    LiteralInstance, ShaderType, Type, UnaryOperator, type_binary_op, type_unary_op,
 };
 
 #[test]
@@ -114,5 +114,58 @@ fn zero_values(rt: HostRuntime) -> Result<(), Fail> {
     let pair = vector(alloc, 2, Type::U32)?;
     let refused = refusal(LiteralInstance::zero_value(alloc, &pair))?;
     assert!(rt; matches!(refused, Some(Error::NotScalar(_))));
+    Ok(())
+}
+
+#[test]
+fn methods_on_numbers(rt: HostRuntime) -> Result<(), Fail> {
+    let alloc = rt.alloc();
+    let int = Type::AbstractInt;
+    let word = Type::U32;
+    assert_eq!(rt; int.op_add(alloc, &word)?, word);
+    assert_eq!(rt; int.op_sub(alloc, &word)?, word);
+    assert_eq!(rt; int.op_mul(alloc, &word)?, word);
+    assert_eq!(rt; int.op_div(alloc, &word)?, word);
+    assert_eq!(rt; int.op_rem(alloc, &word)?, word);
+    assert_eq!(rt; int.op_bitand(alloc, &word)?, word);
+    assert_eq!(rt; int.op_bitxor(alloc, &word)?, word);
+    assert_eq!(rt; Type::I32.op_shl(alloc, &word)?, Type::I32);
+    assert_eq!(rt; Type::I32.op_shr(alloc, &int)?, Type::I32);
+    assert_eq!(rt; word.op_bitnot(alloc)?, word);
+    Ok(())
+}
+
+#[test]
+fn methods_on_truths(rt: HostRuntime) -> Result<(), Fail> {
+    let alloc = rt.alloc();
+    let truth = Type::Bool;
+    assert_eq!(rt; truth.op_or(alloc, &truth)?, truth);
+    assert_eq!(rt; truth.op_and(alloc, &truth)?, truth);
+    assert_eq!(rt; truth.op_eq(alloc, &truth)?, truth);
+    assert_eq!(rt; truth.op_ne(alloc, &truth)?, truth);
+    assert_eq!(rt; Type::F32.op_lt(alloc, &Type::AbstractInt)?, truth);
+    assert_eq!(rt; Type::F32.op_le(alloc, &Type::AbstractFloat)?, truth);
+    assert_eq!(rt; Type::I32.op_gt(alloc, &Type::AbstractInt)?, truth);
+    assert_eq!(rt; Type::I32.op_ge(alloc, &Type::I32)?, truth);
+    Ok(())
+}
+
+#[test]
+fn signs(rt: HostRuntime) -> Result<(), Fail> {
+    assert_eq!(rt;
+        "~".parse::<UnaryOperator>().ok(),
+        Some(UnaryOperator::BitwiseComplement)
+    );
+    assert_eq!(rt; "++".parse::<UnaryOperator>().ok(), None);
+    assert_eq!(rt;
+        ">>".parse::<BinaryOperator>().ok(),
+        Some(BinaryOperator::ShiftRight)
+    );
+    assert_eq!(rt; "=".parse::<BinaryOperator>().ok(), None);
+    assert_eq!(rt;
+        "=".parse::<AssignmentOperator>().ok(),
+        Some(AssignmentOperator::Equal)
+    );
+    assert_eq!(rt; "<=".parse::<AssignmentOperator>().ok(), None);
     Ok(())
 }
