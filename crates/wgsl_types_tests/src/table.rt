@@ -51,7 +51,7 @@ struct Entry {
 }
 
 /// The scalars, then the vectors of two, three and four components.
-fn entry(number: u8) -> Entry {
+fn numbered(number: u8) -> Entry {
     Entry {
         components: number / 7 + 1,
         scalar: number % 7,
@@ -221,7 +221,7 @@ fn all_pairs(rt: HostRuntime) -> Result<(), Fail> {
     let alloc = rt.alloc();
     for first in 0..28u8 {
         for second in 0..28u8 {
-            let (from, to) = (entry(first), entry(second));
+            let (from, to) = (numbered(first), numbered(second));
             let left = type_of(alloc, from)?;
             let right = type_of(alloc, to)?;
             assert_eq!(rt;
