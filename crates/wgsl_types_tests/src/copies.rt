@@ -14,7 +14,7 @@ fn a_type(rt: HostRuntime) -> Result<(), Fail> {
     let mut members = Items::new(alloc);
     members.push(member(alloc, "a", array(alloc, Type::U32, Some(4))?)?)?;
     let original = struct_of(alloc, members)?;
-    assert_eq!(rt; original.clone(alloc)?, original);
+    assert!(rt; original.clone(alloc)? == original);
     Ok(())
 }
 
@@ -31,9 +31,9 @@ fn an_error(rt: HostRuntime) -> Result<(), Fail> {
         args,
     };
     let original = Error::Signature(call);
-    assert_eq!(rt; original.clone(alloc)?, original);
+    assert!(rt; original.clone(alloc)? == original);
     let count = Error::ParamCount(Text::from_str(alloc, "S")?, 1, 2);
-    assert_eq!(rt; count.clone_in(alloc)?, count);
+    assert!(rt; count.clone_in(alloc)? == count);
     Ok(())
 }
 
@@ -43,25 +43,22 @@ fn templates(rt: HostRuntime) -> Result<(), Fail> {
     let of_vector = VecTemplate {
         component: Type::Bool,
     };
-    assert_eq!(rt; of_vector.clone(alloc)?, of_vector);
+    assert!(rt; of_vector.clone(alloc)? == of_vector);
     let of_array = ArrayTemplate::new(Type::I32, Some(3));
-    assert_eq!(rt; of_array.clone(alloc)?, of_array);
+    assert!(rt; of_array.clone(alloc)? == of_array);
     let of_pointer = PtrTemplate {
         space: AddressSpace::Storage,
         stored: Type::U32,
         access: AccessMode::ReadWrite,
     };
-    assert_eq!(rt; of_pointer.clone(alloc)?, of_pointer);
+    assert!(rt; of_pointer.clone(alloc)? == of_pointer);
     Ok(())
 }
 
 #[test]
 fn literals(rt: HostRuntime) -> Result<(), Fail> {
     let alloc = rt.alloc();
-    assert_eq!(rt;
-        LiteralInstance::AbstractInt(5).ty(alloc)?,
-        Type::AbstractInt
-    );
-    assert_eq!(rt; LiteralInstance::Bool(true).inner_ty(alloc)?, Type::Bool);
+    assert!(rt; LiteralInstance::AbstractInt(5).ty(alloc)? == Type::AbstractInt);
+    assert!(rt; LiteralInstance::Bool(true).inner_ty(alloc)? == Type::Bool);
     Ok(())
 }

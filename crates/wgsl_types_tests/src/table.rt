@@ -224,21 +224,19 @@ fn all_pairs(rt: HostRuntime) -> Result<(), Fail> {
             let (from, to) = (numbered(first), numbered(second));
             let left = type_of(alloc, from)?;
             let right = type_of(alloc, to)?;
-            assert_eq!(rt;
-                conversion_rank(&left, &right),
-                rank(from, to),
+            assert!(rt;
+                conversion_rank(&left, &right) == rank(from, to),
                 "{left} to {right}"
             );
             let expected = type_of_some(alloc, common(from, to))?;
-            assert_eq!(rt;
-                convert_ty(&left, &right),
-                expected.as_ref(),
+            assert!(rt;
+                convert_ty(&left, &right) == expected.as_ref(),
                 "{left} and {right}"
             );
             for operator in OPERATORS {
-                assert_eq!(rt;
-                    given(alloc, operator, &left, &right)?,
-                    type_of_some(alloc, result(operator, from, to))?,
+                assert!(rt;
+                    given(alloc, operator, &left, &right)?
+                        == type_of_some(alloc, result(operator, from, to))?,
                     "{left} {operator} {right}"
                 );
             }
