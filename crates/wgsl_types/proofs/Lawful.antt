@@ -1,15 +1,15 @@
 -- The laws that no lower proof has.
-use Rattle.std.proofs.Common.{◌≡◌, refl, sym, ap, ◌∙◌, subst, ℕ, Bool, true, false, Option, Some, None, is_some, if◌then◌else◌, List, [], ◌∷◌, All, Contains, IsPermutation, arith}
+use Rattle.std.proofs.Common.{◌≡◌, refl, sym, ap, ◌∙◌, ℕ, Option, Some, None, is_some, if◌then◌else◌, [], ◌∷◌}
 use Rattle.std.proofs.lemmas.List.Elements.{All-contains}
 use Rattle.std.proofs.lemmas.List.Sorted.{All-permutation, Contains-permutation, IsPermutation-reverse}
 use Rattle.wgsl_shader_type.specs.declared.tree.ShaderType.{ShaderType}
 use Rattle.wgsl_shader_type.specs.declared.tree.ShaderType.TheVariants as v
 use Rattle.wgsl_shader_type.specs.Trees.{induction}
-use Rattle.wgsl_shader_type.specs.Conversion.{Converts, IsCommonType}
+use Rattle.wgsl_shader_type.specs.Conversion.{Converts}
 use Rattle.wgsl_shader_type.specs.Class.{concrete_type, loaded_type}
 use Rattle.wgsl_shader_type.proofs.Commons.{converts_back, converts_self, converts_on, ranks_add}
 use Rattle.wgsl_shader_type.proofs.Ranks.{path_if_rank}
-use Rattle.wgsl_shader_type.specs.Rank.{rank_of, common_of}
+use Rattle.wgsl_shader_type.specs.Rank.{rank_of}
 use Rattle.wgsl_shader_type.proofs.Classes as step
 use Rattle.wgsl_types.specs.Laws.{IsReflexive, IsTransitive, IsAntisymmetric, RanksAdd, CommonTypeIsOne, CommonTypeIsSymmetric, CommonOfIsSymmetric, CommonTypeIgnoresOrder, ConcreteTwiceIsOnce, LoadedTwiceIsOnce}
 

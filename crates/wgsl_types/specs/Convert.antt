@@ -1,11 +1,11 @@
 -- Conversions of what has a type: a type itself here, a value above.
-use Rattle.std.specs.Prelude.{◌≡◌, ℕ, List, [], ◌∷◌, map, Option, Some, None, option_and_then, if◌then◌else◌}
+use Rattle.std.specs.Prelude.{◌≡◌, List, [], ◌∷◌, Option, Some, None, option_and_then, if◌then◌else◌}
 use Rattle.wgsl_shader_type.specs.declared.tree.ShaderType.{ShaderType, out-ShaderType}
 use Rattle.wgsl_shader_type.specs.declared.tree.ShaderType.TheVariants as type
 use Rattle.wgsl_shader_type.specs.declared.tree.ShaderType.TheOpen.{ShaderType-F}
 use Rattle.wgsl_shader_type.specs.declared.literal.LiteralInstance.{LiteralInstance}
 use Rattle.wgsl_shader_type.specs.declared.literal.LiteralInstance.TheVariants as literal
-use Rattle.wgsl_shader_type.specs.Rank.{converts, common_of}
+use Rattle.wgsl_shader_type.specs.Rank.{converts}
 use Rattle.wgsl_shader_type.specs.Conversion.{IsCommonType, HasNoCommonType}
 
 infixl 10 ◌>>=◌

@@ -1,5 +1,5 @@
 -- Laws of conversions, common types, concrete and loaded types.
-use Rattle.std.specs.Prelude.{◌≡◌, ℕ, ◌+◌, List, [], ◌∷◌, ◌↔◌, IsPermutation}
+use Rattle.std.specs.Prelude.{◌≡◌, ℕ, ◌+◌, List, [], ◌∷◌, IsPermutation}
 use Rattle.wgsl_shader_type.specs.declared.tree.ShaderType.{ShaderType}
 use Rattle.wgsl_shader_type.specs.Conversion.{Converts, IsRank, IsCommonType}
 use Rattle.wgsl_shader_type.specs.Rank.{common_of}
