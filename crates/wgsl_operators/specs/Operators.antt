@@ -1,9 +1,13 @@
 -- How operators are written (WGSL, "Operator expressions").
-use Rattle.std.specs.Prelude.{ℕ, List, codes}
+use Rattle.std.specs.Prelude.{◌≡◌, ◌≢◌, ℕ, List, Result, MatchResult, codes}
 use Rattle.wgsl_operators.specs.declared.UnaryOperator.{UnaryOperator}
 use Rattle.wgsl_operators.specs.declared.UnaryOperator.TheVariants.{LogicalNegation, Negation, BitwiseComplement, AddressOf, Indirection}
 use Rattle.wgsl_operators.specs.declared.BinaryOperator.{BinaryOperator}
 use Rattle.wgsl_operators.specs.declared.BinaryOperator.TheVariants.{ShortCircuitOr, ShortCircuitAnd, Addition, Subtraction, Multiplication, Division, Remainder, Equality, Inequality, LessThan, LessThanEqual, GreaterThan, GreaterThanEqual, BitwiseOr, BitwiseAnd, BitwiseXor, ShiftLeft, ShiftRight}
+
+-- A sign is read exactly where it is a value's text.
+abbrev pub Reads : {T E : Type 0} → (T → List ℕ) → List ℕ → Result T E → Type 0
+Reads {T} written text result = MatchResult result (λ value. written value ≡ text) (λ _. (value : T) → written value ≢ text)
 
 abbrev pub unary_text : UnaryOperator → List ℕ
 unary_text LogicalNegation = codes "!"

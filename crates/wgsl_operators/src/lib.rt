@@ -2,9 +2,10 @@
 #![tactic(auto)]
 
 ghost use Rattle.std.specs.Prelude.{Some};
-ghost use Rattle.wgsl_operators.specs.Operators.{unary_text, binary_text};
+ghost use Rattle.wgsl_operators.specs.Operators.{Reads, unary_text, binary_text};
 
 use std::fmt;
+use std::str::FromStr;
 
 /// An operator in front of one operand.
 #[derive(Clone, Copy, Debug, PartialEq, Eq)]
@@ -76,6 +77,23 @@ impl fmt::Display for UnaryOperator {
     }
 }
 
+impl FromStr for UnaryOperator {
+    type Err = ();
+
+    ghost from_str_gives = { Reads unary_text };
+
+    fn from_str(text: &str) -> Result<UnaryOperator, ()> {
+        match text {
+            "!" => Ok(UnaryOperator::LogicalNegation),
+            "-" => Ok(UnaryOperator::Negation),
+            "~" => Ok(UnaryOperator::BitwiseComplement),
+            "&" => Ok(UnaryOperator::AddressOf),
+            "*" => Ok(UnaryOperator::Indirection),
+            _ => Err(()),
+        }
+    }
+}
+
 impl fmt::Display for BinaryOperator {
     ghost output = { λ operator. Some (binary_text operator) };
 
@@ -99,6 +117,36 @@ impl fmt::Display for BinaryOperator {
             BinaryOperator::BitwiseXor => f.write_str("^"),
             BinaryOperator::ShiftLeft => f.write_str("<<"),
             BinaryOperator::ShiftRight => f.write_str(">>"),
+        }
+    }
+}
+
+impl FromStr for BinaryOperator {
+    type Err = ();
+
+    ghost from_str_gives = { Reads binary_text };
+
+    fn from_str(text: &str) -> Result<BinaryOperator, ()> {
+        match text {
+            "||" => Ok(BinaryOperator::ShortCircuitOr),
+            "&&" => Ok(BinaryOperator::ShortCircuitAnd),
+            "+" => Ok(BinaryOperator::Addition),
+            "-" => Ok(BinaryOperator::Subtraction),
+            "*" => Ok(BinaryOperator::Multiplication),
+            "/" => Ok(BinaryOperator::Division),
+            "%" => Ok(BinaryOperator::Remainder),
+            "==" => Ok(BinaryOperator::Equality),
+            "!=" => Ok(BinaryOperator::Inequality),
+            "<" => Ok(BinaryOperator::LessThan),
+            "<=" => Ok(BinaryOperator::LessThanEqual),
+            ">" => Ok(BinaryOperator::GreaterThan),
+            ">=" => Ok(BinaryOperator::GreaterThanEqual),
+            "|" => Ok(BinaryOperator::BitwiseOr),
+            "&" => Ok(BinaryOperator::BitwiseAnd),
+            "^" => Ok(BinaryOperator::BitwiseXor),
+            "<<" => Ok(BinaryOperator::ShiftLeft),
+            ">>" => Ok(BinaryOperator::ShiftRight),
+            _ => Err(()),
         }
     }
 }

@@ -1,15 +1,14 @@
 -- What is computed by shapes is the result of the one candidate of the least sum, and where nothing is computed there is no candidate.
-use Rattle.std.proofs.Common.{◌≡◌, refl, sym, ap, ◌∙◌, subst, ℕ, ◌+◌, ◌≤◌, ◌==◌, ◌&&◌, ◌||◌, not, Bool, true, false, cond, Option, Some, None, true≢false, eqb-true, eq-eqb, ◌⊎◌, inl, inr, ⊎_elim, MatchOption, arith}
+use Rattle.std.proofs.Common.{◌≡◌, refl, sym, ap, ◌∙◌, subst, ℕ, ◌+◌, ◌==◌, ◌&&◌, ◌||◌, not, Bool, true, false, cond, Option, Some, None, true≢false, eqb-true, eq-eqb, ◌⊎◌, inl, inr, ⊎_elim, MatchOption, arith}
 use Rattle.std.specs.Option.{is_some}
 use Rattle.std.specs.Prelude.{option_and_then}
-use Rattle.std.specs.Cmp.{first_so, second_so}
 use Rattle.wgsl_operators.specs.declared.BinaryOperator.{BinaryOperator}
 use Rattle.wgsl_operators.specs.declared.BinaryOperator.TheVariants.{ShortCircuitOr, ShortCircuitAnd, Addition, Subtraction, Multiplication, Division, Remainder, Equality, Inequality, LessThan, LessThanEqual, GreaterThan, GreaterThanEqual, BitwiseOr, BitwiseAnd, BitwiseXor, ShiftLeft, ShiftRight}
 use Rattle.wgsl_shader_type.specs.declared.tree.ShaderType.{ShaderType}
 use Rattle.wgsl_shader_type.specs.declared.tree.ShaderType.TheVariants as v
 use Rattle.wgsl_shader_type.specs.Rank.{rank_of, converts, common_of}
-use Rattle.wgsl_shader_type.specs.Conversion.{Path, Converts, IsRank}
-use Rattle.wgsl_shader_type.specs.Class.{is_bool, is_integer, is_float, is_numeric, is_scalar, integer_layer, float_layer, bool_layer}
+use Rattle.wgsl_shader_type.specs.Conversion.{Path, Converts}
+use Rattle.wgsl_shader_type.specs.Class.{is_bool, is_integer, is_float, is_numeric, is_scalar, integer_layer}
 use Rattle.wgsl_shader_type.proofs.Ranks.{joined, in_some, path_if_rank, rank_if_path, rank_if_some, rank_if_least, rank_self, rank_of_vectors}
 use Rattle.wgsl_shader_type.proofs.Commons.{equal_if_zero}
 use Rattle.wgsl_shader_type.specs.Operator.{is_arithmetic, is_shift, is_logical, takes, gives, ScalarSignature, Signature, IsCandidate, IsResult, HasNoCandidate, IsBinaryResult, HasNoBinaryCandidate}

@@ -1,10 +1,9 @@
 -- Conversion is a partial order, ranks add along it, and what a common type is.
-use Rattle.std.proofs.Common.{◌≡◌, refl, sym, ap, ◌∙◌, subst, ℕ, ◌+◌, ◌<◌, ◌≤◌, ◌⊎◌, ⊎_elim, List, [], ◌∷◌, ◌++◌, length, get_or, take, Option, Some, None, All, Contains, arith}
+use Rattle.std.proofs.Common.{◌≡◌, refl, sym, ap, ◌∙◌, subst, ℕ, ◌+◌, ◌<◌, ◌⊎◌, ⊎_elim, List, [], ◌∷◌, ◌++◌, length, get_or, take, Contains, arith}
 use Rattle.std.proofs.lemmas.List.{take_more}
 use Rattle.std.proofs.lemmas.List.Elements.{All-contains, All-from_recursion, Contains-push_cases, Contains-get_or}
 use Rattle.wgsl_shader_type.specs.declared.tree.ShaderType.{ShaderType}
-use Rattle.wgsl_shader_type.specs.Rank.{rank_of}
-use Rattle.wgsl_shader_type.specs.Conversion.{Step, Path, Converts, IsRank, IsCommonType, HasNoCommonType}
+use Rattle.wgsl_shader_type.specs.Conversion.{Step, Path, Converts, IsRank, IsCommonType}
 use Rattle.wgsl_shader_type.proofs.Ranks.{joined, rank_self, rank_if_path, rank_if_some, in_some}
 
 -- each step weighs something

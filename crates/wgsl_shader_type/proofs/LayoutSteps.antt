@@ -4,10 +4,10 @@ use Rattle.wgsl_enumerations.specs.declared.address.AddressSpace.{AddressSpace}
 use Rattle.wgsl_enumerations.specs.declared.address.AccessMode.{AccessMode}
 use Rattle.wgsl_shader_type.specs.declared.tree.StructTypeOf.{StructTypeOf}
 use Rattle.wgsl_shader_type.specs.declared.tree.StructMemberTypeOf.{StructMemberTypeOf}
-use Rattle.wgsl_shader_type.specs.declared.tree.ShaderType.{ShaderType, roll-ShaderType, para-roll-ShaderType}
+use Rattle.wgsl_shader_type.specs.declared.tree.ShaderType.{ShaderType, para-roll-ShaderType}
 use Rattle.wgsl_shader_type.specs.declared.tree.ShaderType.TheVariants as v
 use Rattle.wgsl_shader_type.specs.declared.tree.ShaderType.TheOpen.{ShaderType-F}
-use Rattle.wgsl_shader_type.specs.Trees.{member_at, struct_at}
+use Rattle.wgsl_shader_type.specs.Trees.{member_at}
 use Rattle.wgsl_shader_type.specs.Layout.{count_or}
 use Rattle.wgsl_shader_type.specs.LayoutOf.{◌>>=◌, scalar_size, nonzero, own_align, largest_after, vector_align, align_layer, align_of, vector_size, array_size, member_end, end_after, struct_size, size_layer, size_of}
 

@@ -1,16 +1,14 @@
 -- What is computed of alignments and sizes is what the relations say.
-use Rattle.std.proofs.Common.{◌≡◌, refl, sym, ap, ◌∙◌, subst, ℕ, ◌+◌, ◌*◌, ◌^◌, ◌<◌, ◌≤◌, ◌==◌, max, Bool, true, false, cond, List, [], ◌∷◌, Option, Some, None, true≢false, eqb-true, arith, MatchOption}
+use Rattle.std.proofs.Common.{◌≡◌, refl, sym, ap, ◌∙◌, subst, ℕ, ◌+◌, ◌*◌, ◌<◌, ◌≤◌, ◌==◌, max, Bool, true, false, cond, List, [], ◌∷◌, Option, Some, None, true≢false, eqb-true, arith, MatchOption}
 use Rattle.std.specs.Option.{is_some}
-use Rattle.wgsl_enumerations.specs.declared.address.AddressSpace.{AddressSpace}
-use Rattle.wgsl_enumerations.specs.declared.address.AccessMode.{AccessMode}
 use Rattle.wgsl_shader_type.specs.declared.tree.StructTypeOf.{StructTypeOf}
 use Rattle.wgsl_shader_type.specs.declared.tree.StructMemberTypeOf.{StructMemberTypeOf}
 use Rattle.wgsl_shader_type.specs.declared.tree.ShaderType.{ShaderType, roll-ShaderType, out-ShaderType, roll-out-ShaderType}
 use Rattle.wgsl_shader_type.specs.declared.tree.ShaderType.TheVariants as v
 use Rattle.wgsl_shader_type.specs.declared.tree.ShaderType.TheOpen.{ShaderType-F}
 use Rattle.wgsl_shader_type.specs.Trees.{AllMembers, Cases, induction}
-use Rattle.wgsl_shader_type.specs.Layout.{IsScalarSize, IsVectorAlignment, given_or, IsAlignment, IsLargestAlignment, Fits, IsMultiple, IsRoundedUp, Extent, Placement, IsLeastTotal, count_or, IsSize, HasExtents}
-use Rattle.wgsl_shader_type.specs.LayoutOf.{◌>>=◌, scalar_layer, scalar_size, vector_scalars, nonzero, within, own_align, largest_after, vector_align, align_of, rounded, vector_size, array_size, member_end, end_after, struct_size, size_of}
+use Rattle.wgsl_shader_type.specs.Layout.{IsScalarSize, IsVectorAlignment, given_or, IsAlignment, IsLargestAlignment, Fits, IsMultiple, Extent, Placement, count_or, IsSize, HasExtents}
+use Rattle.wgsl_shader_type.specs.LayoutOf.{◌>>=◌, scalar_layer, scalar_size, vector_scalars, nonzero, within, own_align, largest_after, align_of, rounded, member_end, end_after, struct_size, size_of}
 use Rattle.wgsl_shader_type.proofs.LayoutSteps as step
 use Rattle.std.proofs.Math.Nat.{mul-pos}
 use Rattle.wgsl_shader_type.proofs.Rounding.{round_up, rounds, bound, fits_if_within, within_if_fits, positive_if_nonzero, nonzero_if_positive, rounded_if, rounds_if}

@@ -1,12 +1,10 @@
 -- A rank that the cases give is the sum along each path, and where they give none there is no path.
-use Rattle.std.proofs.Common.{◌≡◌, refl, sym, ap, ◌∙◌, subst, ℕ, ◌+◌, ◌≤◌, ◌==◌, Bool, true, false, cond, List, [], ◌∷◌, map, Option, Some, None, true≢false, eqb-true, eq-eqb, arith, zero-add, add_assoc, MatchOption}
+use Rattle.std.proofs.Common.{◌≡◌, refl, sym, ap, ◌∙◌, subst, ℕ, ◌+◌, ◌==◌, Bool, true, false, cond, Option, Some, None, true≢false, eqb-true, eq-eqb, arith, zero-add, add_assoc, MatchOption}
 use Rattle.std.specs.Option.{option_eq, is_some}
-use Rattle.std.specs.Cmp.Lexicographic.{pointwise}
-use Rattle.wgsl_shader_type.specs.declared.tree.ShaderType.{ShaderType, roll-ShaderType, out-ShaderType, out-roll-ShaderType, roll-out-ShaderType, map-ShaderType, para-ShaderType, para-roll-ShaderType, ind-ShaderType}
+use Rattle.wgsl_shader_type.specs.declared.tree.ShaderType.{ShaderType, roll-ShaderType, out-ShaderType, out-roll-ShaderType, roll-out-ShaderType, map-ShaderType, para-roll-ShaderType, ind-ShaderType}
 use Rattle.wgsl_shader_type.specs.declared.tree.ShaderType.TheVariants as v
 use Rattle.wgsl_shader_type.specs.declared.tree.ShaderType.TheOpen.{ShaderType-F}
-use Rattle.wgsl_shader_type.specs.declared.tree.StructTypeOf.{StructTypeOf}
-use Rattle.wgsl_shader_type.specs.Alike.{same, same_layer, same_struct}
+use Rattle.wgsl_shader_type.specs.Alike.{same, same_layer}
 use Rattle.wgsl_shader_type.specs.Rank.{rank_of, rank_layer}
 use Rattle.wgsl_shader_type.specs.Conversion.{Step, Path, Converts, IsRank}
 use Rattle.wgsl_shader_type.specs.Trees.{Shown, first}

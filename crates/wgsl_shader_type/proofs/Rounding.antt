@@ -1,10 +1,10 @@
 -- Rounding up to a multiple, and the small steps of layouts.
-use Rattle.std.proofs.Common.{◌≡◌, refl, sym, ap, ◌∙◌, subst, ℕ, ◌+◌, ◌-◌, ◌*◌, ◌/◌, ◌%◌, ◌^◌, ◌<◌, ◌≤◌, ◌⊎◌, ⊎_elim, max, cond, true, false, Bool, Option, Some, None, true≢false, arith, nat_lt}
+use Rattle.std.proofs.Common.{◌≡◌, refl, sym, ap, ◌∙◌, subst, ℕ, ◌+◌, ◌-◌, ◌*◌, ◌/◌, ◌^◌, ◌<◌, ◌≤◌, ⊎_elim, cond, true, false, Bool, Option, Some, None, true≢false, arith, nat_lt}
 use Rattle.std.specs.Option.{is_some}
 use Rattle.std.proofs.Math.Nat.{mul-le-mul_left}
 use borrow.Author.Tests.{ltb-true, lt-ltb}
 use Rattle.std.proofs.lemmas.Bool.{cases_lt}
-use Rattle.wgsl_shader_type.specs.Layout.{IsMultiple, IsRoundedUp, Fits}
+use Rattle.wgsl_shader_type.specs.Layout.{IsRoundedUp, Fits}
 use Rattle.wgsl_shader_type.specs.LayoutOf.{◌>>=◌, nonzero, within, rounded}
 
 abbrev pub round_up : ℕ → ℕ → ℕ

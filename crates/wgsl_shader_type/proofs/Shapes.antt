@@ -8,7 +8,7 @@ use Rattle.wgsl_shader_type.specs.declared.tree.ShaderType.TheOpen.{ShaderType-F
 use Rattle.wgsl_shader_type.specs.Alike.{same}
 use Rattle.wgsl_shader_type.specs.Rank.{rank_of, rank_layer}
 use Rattle.wgsl_shader_type.specs.Conversion.{Step, Path, Converts}
-use Rattle.wgsl_shader_type.specs.Class.{bool_layer, integer_layer, float_layer, is_bool, is_integer, is_float, is_numeric, is_scalar, vector_layer, is_vector}
+use Rattle.wgsl_shader_type.specs.Class.{bool_layer, integer_layer, float_layer, is_bool, is_integer, is_numeric, is_scalar, vector_layer, is_vector}
 use Rattle.wgsl_shader_type.proofs.Ranks.{rank_out}
 use Rattle.wgsl_shader_type.specs.Operator.{is_arithmetic, is_logical}
 use Rattle.wgsl_shader_type.specs.ResultOf.{component, in_vector, by_shape, binary_result}

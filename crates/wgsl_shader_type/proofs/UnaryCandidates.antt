@@ -1,5 +1,5 @@
 -- What is computed of one operand is the result of the one candidate of the least rank, and where nothing is computed there is no candidate.
-use Rattle.std.proofs.Common.{◌≡◌, refl, sym, ap, ◌∙◌, subst, ℕ, ◌≤◌, ◌&&◌, ◌||◌, not, Bool, true, false, cond, Option, Some, None, true≢false, MatchOption, arith}
+use Rattle.std.proofs.Common.{◌≡◌, refl, sym, ap, ◌∙◌, subst, ℕ, ◌&&◌, ◌||◌, not, Bool, true, false, cond, Option, Some, None, true≢false, MatchOption, arith}
 use Rattle.wgsl_enumerations.specs.declared.address.AddressSpace.{AddressSpace}
 use Rattle.wgsl_enumerations.specs.declared.address.AddressSpace.TheVariants.{Function, Private, Workgroup, Uniform, Storage, Handle}
 use Rattle.wgsl_enumerations.specs.declared.address.AccessMode.{AccessMode}
@@ -9,13 +9,13 @@ use Rattle.wgsl_shader_type.specs.declared.tree.ShaderType.{ShaderType, roll-Sha
 use Rattle.wgsl_shader_type.specs.declared.tree.ShaderType.TheVariants as v
 use Rattle.wgsl_shader_type.specs.declared.tree.ShaderType.TheOpen.{ShaderType-F}
 use Rattle.wgsl_shader_type.specs.Rank.{rank_of}
-use Rattle.wgsl_shader_type.specs.Conversion.{Step, Path, IsRank}
-use Rattle.wgsl_shader_type.specs.Class.{is_bool, is_integer, is_float, is_numeric, bool_layer, integer_layer, float_layer, vector_layer, handle_layer, is_handle, is_vector}
+use Rattle.wgsl_shader_type.specs.Conversion.{Step, Path}
+use Rattle.wgsl_shader_type.specs.Class.{is_numeric, bool_layer, integer_layer, float_layer, vector_layer, handle_layer, is_handle, is_vector}
 use Rattle.wgsl_shader_type.proofs.Ranks.{path_if_rank, rank_if_path, rank_if_some, rank_self}
 use Rattle.wgsl_shader_type.proofs.Commons.{equal_if_zero}
-use Rattle.wgsl_shader_type.specs.Operator.{is_unsigned, unsigned_layer, unary_takes, UnarySignature, IsUnaryCandidate, IsUnaryResult, HasNoUnaryCandidate}
-use Rattle.wgsl_shader_type.specs.ResultOf.{address_of, referenced, pointed, unary_shape, unary_result}
-use Rattle.wgsl_shader_type.proofs.Shapes.{to_vector, flat_if_not, GoesDown, goes_down, bool_goes, integer_goes, numeric_goes}
+use Rattle.wgsl_shader_type.specs.Operator.{is_unsigned, unsigned_layer, unary_takes, UnarySignature, IsUnaryResult, HasNoUnaryCandidate}
+use Rattle.wgsl_shader_type.specs.ResultOf.{referenced, pointed, unary_shape, unary_result}
+use Rattle.wgsl_shader_type.proofs.Shapes.{to_vector, flat_if_not, GoesDown, goes_down, bool_goes, integer_goes}
 
 second_of : (a b : Bool) → (a && b) ≡ true → b ≡ true
 second_of true b h = h

@@ -1,5 +1,5 @@
 -- Whether two types are equal, as a test.
-use Rattle.std.specs.Prelude.{◌==◌, Bool, true, false, ◌&&◌, List, ℕ}
+use Rattle.std.specs.Prelude.{◌==◌, Bool, true, false, ◌&&◌}
 use Rattle.std.specs.Option.{option_eq}
 use Rattle.std.specs.Str.{bytes_eq}
 use Rattle.std.specs.Cmp.Lexicographic.{pointwise}

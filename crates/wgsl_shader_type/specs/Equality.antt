@@ -1,8 +1,8 @@
 -- The test of equality decides it.
-use Rattle.std.proofs.Common.{◌≡◌, refl, sym, ap, ◌∙◌, subst, ℕ, ◌==◌, Bool, true, false, ◌&&◌, List, [], ◌∷◌, map, Option, Some, None, true≢false, eqb-true, eq-eqb}
+use Rattle.std.proofs.Common.{◌≡◌, refl, sym, ap, ◌∙◌, subst, ℕ, ◌==◌, Bool, true, ◌&&◌, List, [], ◌∷◌, map, Option, Some, None, true≢false, eqb-true, eq-eqb}
 use Rattle.std.specs.Option.{option_eq}
 use Rattle.std.specs.Str.{bytes_eq}
-use Rattle.std.specs.Cmp.{first_so, second_so, both_ways, IsEquivalence, IsPartialEquivalence, partial_equiv_from_equiv}
+use Rattle.std.specs.Cmp.{first_so, second_so, both_ways, IsEquivalence}
 use Rattle.std.specs.Cmp.Lexicographic.{pointwise}
 use Rattle.std.proofs.lemmas.Slice.Eq.{bytes_eq-Decides}
 use denote.Enum.Bare.{same_true, true_same}
@@ -10,15 +10,13 @@ use Rattle.wgsl_enumerations.specs.contracts.address.AddressSpace.{the_type as s
 use Rattle.wgsl_enumerations.specs.contracts.address.AccessMode.{the_type as access_type}
 use Rattle.wgsl_enumerations.specs.contracts.address.AddressSpacePartialEq.TheImpl as space
 use Rattle.wgsl_enumerations.specs.contracts.address.AccessModePartialEq.TheImpl as access
-use Rattle.wgsl_enumerations.specs.declared.address.AddressSpace.{AddressSpace}
-use Rattle.wgsl_enumerations.specs.declared.address.AccessMode.{AccessMode}
 use Rattle.wgsl_shader_type.specs.declared.tree.StructTypeOf.{StructTypeOf}
 use Rattle.wgsl_shader_type.specs.declared.tree.StructMemberTypeOf.{StructMemberTypeOf}
-use Rattle.wgsl_shader_type.specs.declared.tree.ShaderType.{ShaderType, roll-ShaderType, out-ShaderType, out-roll-ShaderType, roll-out-ShaderType, map-ShaderType, fold-ShaderType, fold_out-ShaderType, ind-ShaderType}
+use Rattle.wgsl_shader_type.specs.declared.tree.ShaderType.{ShaderType, roll-ShaderType, out-ShaderType, out-roll-ShaderType, roll-out-ShaderType, map-ShaderType, fold_out-ShaderType, ind-ShaderType}
 use Rattle.wgsl_shader_type.specs.declared.tree.ShaderType.TheVariants as v
 use Rattle.wgsl_shader_type.specs.declared.tree.ShaderType.TheOpen.{ShaderType-F}
 use Rattle.wgsl_shader_type.specs.Alike.{same, same_layer, same_struct, same_member}
-use Rattle.wgsl_shader_type.specs.Trees.{member_at, struct_at, Shown, first}
+use Rattle.wgsl_shader_type.specs.Trees.{member_at, Shown, first}
 
 -- a test of layers looks through a map
 module _ {A B C : Type 0} (E : B → C → Bool) (f : A → B) where

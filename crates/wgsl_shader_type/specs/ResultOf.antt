@@ -1,6 +1,5 @@
 -- The result of an operator, computed by the operands' shapes. That it is what `Operator` says, `Candidates` of the proofs shows.
-use Rattle.std.specs.Prelude.{◌≡◌, ℕ, Bool, true, false, ◌==◌, ◌&&◌, not, Option, Some, None, option_and_then, is_some, if◌then◌else◌}
-use Rattle.std.specs.Option.{option_map}
+use Rattle.std.specs.Prelude.{ℕ, ◌==◌, ◌&&◌, not, Option, Some, None, option_and_then, if◌then◌else◌}
 use Rattle.wgsl_enumerations.specs.declared.address.AddressSpace.{AddressSpace}
 use Rattle.wgsl_enumerations.specs.declared.address.AddressSpace.TheVariants.{Handle}
 use Rattle.wgsl_enumerations.specs.declared.address.AccessMode.{AccessMode}

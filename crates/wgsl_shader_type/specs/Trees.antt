@@ -1,10 +1,10 @@
 -- Induction over types, and what a fold gives at each variant, once for all functions of types.
-use Rattle.std.proofs.Common.{◌≡◌, refl, sym, ap, ◌∙◌, subst, ℕ, List, [], ◌∷◌, map, Option}
+use Rattle.std.proofs.Common.{sym, subst, ℕ, List, [], ◌∷◌, map, Option}
 use Rattle.wgsl_enumerations.specs.declared.address.AddressSpace.{AddressSpace}
 use Rattle.wgsl_enumerations.specs.declared.address.AccessMode.{AccessMode}
 use Rattle.wgsl_shader_type.specs.declared.tree.StructTypeOf.{StructTypeOf}
 use Rattle.wgsl_shader_type.specs.declared.tree.StructMemberTypeOf.{StructMemberTypeOf}
-use Rattle.wgsl_shader_type.specs.declared.tree.ShaderType.{ShaderType, roll-ShaderType, out-ShaderType, map-ShaderType, fold-ShaderType, fold_out-ShaderType, ind-ShaderType}
+use Rattle.wgsl_shader_type.specs.declared.tree.ShaderType.{ShaderType, roll-ShaderType, map-ShaderType, ind-ShaderType}
 use Rattle.wgsl_shader_type.specs.declared.tree.ShaderType.TheVariants as v
 use Rattle.wgsl_shader_type.specs.declared.tree.ShaderType.TheOpen.{ShaderType-F}
 

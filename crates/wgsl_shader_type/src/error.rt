@@ -1,10 +1,12 @@
 //! What the rules of types and operators refuse.
 
+ghost use Rattle.std.specs.Prelude.{◌≡◌, IfOk};
+
 use crate::literal::{CallSignature, LiteralInstance};
 use crate::tree::Type;
-use std::alloc::{AllocError, AllocFailed};
+use std::alloc::{AllocError, AllocFailed, Global};
 use thiserror::Error;
-use wgsl_items::Text;
+use wgsl_items::{CloneIn, Text};
 use wgsl_operators::{BinaryOperator, UnaryOperator};
 
 /// A refusal by a rule of types, values or operators, or for want of memory.
@@ -76,6 +78,82 @@ pub enum Error {
     ParamType(Type, Type),
     #[error("out of memory")]
     OutOfMemory,
+}
+
+impl Error {
+    /// A copy in fresh memory.
+    pub fn clone(&self, alloc: Global) -> Result<Error, AllocError>
+        ensures { IfOk result (λ copy. copy ≡ self.now) }
+    {
+        match self {
+            Error::Todo(name) => Ok(Error::Todo(name.clone_in(alloc)?)),
+            Error::NotScalar(ty) => Ok(Error::NotScalar(ty.clone(alloc)?)),
+            Error::NotConstructible(ty) => Ok(Error::NotConstructible(ty.clone(alloc)?)),
+            Error::UnknownType(name) => Ok(Error::UnknownType(name.clone_in(alloc)?)),
+            Error::UnexpectedTemplate(name) => Ok(Error::UnexpectedTemplate(name.clone_in(alloc)?)),
+            Error::MissingTemplate(what) => Ok(Error::MissingTemplate(*what)),
+            Error::WriteRefType(stored, written) => Ok(Error::WriteRefType(
+                stored.clone(alloc)?,
+                written.clone(alloc)?,
+            )),
+            Error::NotWrite => Ok(Error::NotWrite),
+            Error::NotRead => Ok(Error::NotRead),
+            Error::NotReadWrite => Ok(Error::NotReadWrite),
+            Error::PtrHandle => Ok(Error::PtrHandle),
+            Error::PtrVecComp => Ok(Error::PtrVecComp),
+            Error::Conversion(from, to) => Ok(Error::Conversion(
+                from.clone(alloc)?,
+                to.clone(alloc)?,
+            )),
+            Error::ConvOverflow(literal, ty) => Ok(Error::ConvOverflow(*literal, ty.clone(alloc)?)),
+            Error::Component(ty, name) => Ok(Error::Component(
+                ty.clone(alloc)?,
+                name.clone_in(alloc)?,
+            )),
+            Error::NotIndexable(ty) => Ok(Error::NotIndexable(ty.clone(alloc)?)),
+            Error::OutOfBounds(index, ty, count) => Ok(Error::OutOfBounds(
+                *index,
+                ty.clone(alloc)?,
+                *count,
+            )),
+            Error::Unary(operator, ty) => Ok(Error::Unary(*operator, ty.clone(alloc)?)),
+            Error::Binary(operator, left, right) => Ok(Error::Binary(
+                *operator,
+                left.clone(alloc)?,
+                right.clone(alloc)?,
+            )),
+            Error::CompwiseBinary(left, right) => Ok(Error::CompwiseBinary(
+                left.clone(alloc)?,
+                right.clone(alloc)?,
+            )),
+            Error::AddOverflow => Ok(Error::AddOverflow),
+            Error::SubOverflow => Ok(Error::SubOverflow),
+            Error::MulOverflow => Ok(Error::MulOverflow),
+            Error::DivByZero => Ok(Error::DivByZero),
+            Error::RemZeroDiv => Ok(Error::RemZeroDiv),
+            Error::ShlOverflow(amount, literal) => Ok(Error::ShlOverflow(*amount, *literal)),
+            Error::ShrOverflow(amount, literal) => Ok(Error::ShrOverflow(*amount, *literal)),
+            Error::Signature(call) => Ok(Error::Signature(call.clone(alloc)?)),
+            Error::Builtin(what) => Ok(Error::Builtin(*what)),
+            Error::TemplateArgs(what) => Ok(Error::TemplateArgs(*what)),
+            Error::ParamCount(name, expected, given) => Ok(Error::ParamCount(
+                name.clone_in(alloc)?,
+                *expected,
+                *given,
+            )),
+            Error::ParamType(expected, given) => Ok(Error::ParamType(
+                expected.clone(alloc)?,
+                given.clone(alloc)?,
+            )),
+            Error::OutOfMemory => Ok(Error::OutOfMemory),
+        }
+    }
+}
+
+impl CloneIn for Error {
+    fn clone_in(&self, alloc: Global) -> Result<Error, AllocError> {
+        self.clone(alloc)
+    }
 }
 
 impl From<AllocError> for Error {

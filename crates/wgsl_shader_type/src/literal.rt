@@ -103,3 +103,22 @@ impl CloneIn for TpltParam {
         self.clone(alloc)
     }
 }
+
+impl CallSignature {
+    /// A copy in fresh memory.
+    pub fn clone(&self, alloc: Global) -> Result<CallSignature, AllocError>
+        ensures { IfOk result (λ copy. copy ≡ self.now) }
+    {
+        Ok(CallSignature {
+            name: self.name.clone_in(alloc)?,
+            tplt: self.tplt.clone_in(alloc)?,
+            args: self.args.clone_in(alloc)?,
+        })
+    }
+}
+
+impl CloneIn for CallSignature {
+    fn clone_in(&self, alloc: Global) -> Result<CallSignature, AllocError> {
+        self.clone(alloc)
+    }
+}

@@ -2,8 +2,9 @@
 
 ghost use Rattle.std.specs.Prelude.{◌≡◌, None};
 
+use std::alloc::{AllocError, Global};
 use wgsl_enumerations::{AccessMode, AddressSpace};
-use wgsl_items::{Boxed, Items, Text};
+use wgsl_items::{Boxed, FromIn, Items, Text};
 
 /// A type (WGSL, "Types").
 #[derive(Debug, Drop)]
@@ -67,5 +68,15 @@ impl StructMemberType {
             size: None,
             align: None,
         }
+    }
+}
+
+impl FromIn<StructType> for ShaderType {
+    ghost use Rattle.wgsl_shader_type.specs.declared.tree.ShaderType.TheVariants.{Struct};
+
+    ghost from_in_gives = { λ of made. made ≡ Struct of };
+
+    fn from_in(alloc: Global, value: StructType) -> Result<ShaderType, AllocError> {
+        Ok(ShaderType::Struct(Boxed::new(alloc, value)?))
     }
 }

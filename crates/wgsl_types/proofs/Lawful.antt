@@ -1,15 +1,17 @@
 -- The laws that no lower proof has.
-use Rattle.std.proofs.Common.{◌≡◌, refl, sym, ap, ◌∙◌, subst, List, [], ◌∷◌, All, Contains, IsPermutation, arith}
+use Rattle.std.proofs.Common.{◌≡◌, refl, sym, ap, ◌∙◌, ℕ, Option, Some, None, is_some, if◌then◌else◌, [], ◌∷◌}
 use Rattle.std.proofs.lemmas.List.Elements.{All-contains}
 use Rattle.std.proofs.lemmas.List.Sorted.{All-permutation, Contains-permutation, IsPermutation-reverse}
 use Rattle.wgsl_shader_type.specs.declared.tree.ShaderType.{ShaderType}
 use Rattle.wgsl_shader_type.specs.declared.tree.ShaderType.TheVariants as v
 use Rattle.wgsl_shader_type.specs.Trees.{induction}
-use Rattle.wgsl_shader_type.specs.Conversion.{Converts, IsCommonType}
+use Rattle.wgsl_shader_type.specs.Conversion.{Converts}
 use Rattle.wgsl_shader_type.specs.Class.{concrete_type, loaded_type}
 use Rattle.wgsl_shader_type.proofs.Commons.{converts_back, converts_self, converts_on, ranks_add}
+use Rattle.wgsl_shader_type.proofs.Ranks.{path_if_rank}
+use Rattle.wgsl_shader_type.specs.Rank.{rank_of}
 use Rattle.wgsl_shader_type.proofs.Classes as step
-use Rattle.wgsl_types.specs.Laws.{IsReflexive, IsTransitive, IsAntisymmetric, RanksAdd, CommonTypeIsOne, CommonTypeIsSymmetric, CommonTypeIgnoresOrder, ConcreteTwiceIsOnce, LoadedTwiceIsOnce}
+use Rattle.wgsl_types.specs.Laws.{IsReflexive, IsTransitive, IsAntisymmetric, RanksAdd, CommonTypeIsOne, CommonTypeIsSymmetric, CommonOfIsSymmetric, CommonTypeIgnoresOrder, ConcreteTwiceIsOnce, LoadedTwiceIsOnce}
 
 pub reflexive : IsReflexive
 reflexive = converts_self
@@ -35,6 +37,16 @@ any_order types others common order p = record {
 
 pub symmetric : CommonTypeIsSymmetric
 symmetric a b common = any_order (a ∷ b ∷ []) (b ∷ a ∷ []) common (IsPermutation-reverse (a ∷ b ∷ []))
+
+-- of two types of which each may have a rank to the other, the answer is one
+chosen : (a b : ShaderType) (p q : Option ℕ) → rank_of a b ≡ p → rank_of b a ≡ q
+    → (if is_some p then Some b else (if is_some q then Some a else None)) ≡ (if is_some q then Some a else (if is_some p then Some b else None))
+chosen a b None q h k = refl
+chosen a b (Some m) None h k = refl
+chosen a b (Some m) (Some n) h k = ap Some (converts_back b a (n, path_if_rank b a n k) (m, path_if_rank a b m h))
+
+pub same_answer : CommonOfIsSymmetric
+same_answer a b = chosen a b (rank_of a b) (rank_of b a) refl refl
 
 abbrev Twice : (ShaderType → ShaderType) → ShaderType → Type 0
 Twice f t = f (f t) ≡ f t

@@ -1,12 +1,12 @@
 -- What makes no array and no vector.
-use Rattle.std.proofs.Common.{◌≡◌, refl, sym, ap, ◌∙◌, subst, ℕ, ◌⊎◌, ⊎_elim, inl, inr, List, [], ◌∷◌, length, map, Option, Some, None, true, false, true≢false, All, IsTrue}
+use Rattle.std.proofs.Common.{◌≡◌, sym, ap, ◌∙◌, ℕ, ⊎_elim, List, [], length, map, Some, None, false, true≢false, All}
 use Rattle.std.specs.Option.{is_some}
 use Rattle.wgsl_shader_type.specs.declared.tree.ShaderType.{ShaderType}
-use Rattle.wgsl_shader_type.specs.Conversion.{Converts, IsCommonType, HasNoCommonType}
+use Rattle.wgsl_shader_type.specs.Conversion.{Converts, HasNoCommonType}
 use Rattle.wgsl_types.specs.declared.template.ArrayTemplate.{ArrayTemplate}
 use Rattle.wgsl_types.specs.declared.template.VecTemplate.{VecTemplate}
 use Rattle.wgsl_types.specs.declared.constructor.Constructor.TheVariants as constructor
-use Rattle.wgsl_types.specs.Constructor.{array_length, MakesNothing, component_of, are_parts, FitComponent, IsComponent, HasNoComponent}
+use Rattle.wgsl_types.specs.Constructor.{array_length, MakesNothing, component_of, are_parts, FitComponent, HasNoComponent}
 
 nothing : {A G : Type 0} (n : A) → None ≡ Some n → G
 nothing n h = absurd (true≢false (sym (ap is_some h)))

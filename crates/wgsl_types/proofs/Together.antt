@@ -1,7 +1,7 @@
 -- What is converted to one common type is converted to the common type.
-use Rattle.std.proofs.Common.{◌≡◌, refl, ap, ◌∙◌, List, Option, Some, None, Result, Ok, Err, IfOk}
+use Rattle.std.proofs.Common.{◌≡◌, ap, ◌∙◌, List, Option, Result, Ok, Err, IfOk}
 use Rattle.wgsl_shader_type.specs.declared.tree.ShaderType.{ShaderType}
-use Rattle.wgsl_shader_type.specs.Conversion.{IsCommonType, HasNoCommonType}
+use Rattle.wgsl_shader_type.specs.Conversion.{IsCommonType}
 use Rattle.wgsl_types.specs.Convert.{all_converted, AllAtCommonType}
 use Rattle.wgsl_types.proofs.Lawful.{one_common}
 

@@ -1,9 +1,11 @@
 -- Conversions of what has a type: a type itself here, a value above.
-use Rattle.std.specs.Prelude.{◌≡◌, ℕ, List, [], ◌∷◌, map, Option, Some, None, option_and_then, if◌then◌else◌}
+use Rattle.std.specs.Prelude.{◌≡◌, List, [], ◌∷◌, Option, Some, None, option_and_then, if◌then◌else◌}
 use Rattle.wgsl_shader_type.specs.declared.tree.ShaderType.{ShaderType, out-ShaderType}
 use Rattle.wgsl_shader_type.specs.declared.tree.ShaderType.TheVariants as type
 use Rattle.wgsl_shader_type.specs.declared.tree.ShaderType.TheOpen.{ShaderType-F}
-use Rattle.wgsl_shader_type.specs.Rank.{converts, common_of}
+use Rattle.wgsl_shader_type.specs.declared.literal.LiteralInstance.{LiteralInstance}
+use Rattle.wgsl_shader_type.specs.declared.literal.LiteralInstance.TheVariants as literal
+use Rattle.wgsl_shader_type.specs.Rank.{converts}
 use Rattle.wgsl_shader_type.specs.Conversion.{IsCommonType, HasNoCommonType}
 
 infixl 10 ◌>>=◌
@@ -36,6 +38,15 @@ inner_converted_layer t to x = converted_type t to
 
 abbrev pub inner_converted_type : ShaderType → ShaderType → Option ShaderType
 inner_converted_type t to = inner_converted_layer t to (out-ShaderType t)
+
+-- ---- a literal
+
+-- The type of a literal, which is its inner type too.
+abbrev pub literal_type : LiteralInstance → ShaderType
+literal_type (literal.Bool value) = type.Bool
+literal_type (literal.AbstractInt value) = type.AbstractInt
+literal_type (literal.I32 value) = type.I32
+literal_type (literal.U32 value) = type.U32
 
 -- ---- what is converted: `convert` gives a thing of another type, or nothing
 

@@ -1,7 +1,8 @@
 -- Laws of conversions, common types, concrete and loaded types.
-use Rattle.std.specs.Prelude.{◌≡◌, ℕ, ◌+◌, List, [], ◌∷◌, ◌↔◌, IsPermutation}
+use Rattle.std.specs.Prelude.{◌≡◌, ℕ, ◌+◌, List, [], ◌∷◌, IsPermutation}
 use Rattle.wgsl_shader_type.specs.declared.tree.ShaderType.{ShaderType}
 use Rattle.wgsl_shader_type.specs.Conversion.{Converts, IsRank, IsCommonType}
+use Rattle.wgsl_shader_type.specs.Rank.{common_of}
 use Rattle.wgsl_shader_type.specs.Class.{concrete_type, loaded_type}
 
 -- Conversion is a partial order.
@@ -25,6 +26,10 @@ CommonTypeIsOne = (types : List ShaderType) (a b : ShaderType) → IsCommonType 
 -- The common type of two types is that of the two in the other order.
 abbrev pub CommonTypeIsSymmetric : Type 0
 CommonTypeIsSymmetric = (a b common : ShaderType) → IsCommonType (a ∷ b ∷ []) common → IsCommonType (b ∷ a ∷ []) common
+
+-- So is what is answered of two types.
+abbrev pub CommonOfIsSymmetric : Type 0
+CommonOfIsSymmetric = (a b : ShaderType) → common_of a b ≡ common_of b a
 
 -- The common type of a list is that of its members in any other order.
 abbrev pub CommonTypeIgnoresOrder : Type 0

@@ -1,6 +1,6 @@
 //! Laws of types, each the contract of a function that does nothing.
 
-ghost use Rattle.wgsl_types.specs.Laws.{IsReflexive, IsTransitive, IsAntisymmetric, RanksAdd, CommonTypeIsOne, CommonTypeIsSymmetric, CommonTypeIgnoresOrder, ConcreteTwiceIsOnce, LoadedTwiceIsOnce};
+ghost use Rattle.wgsl_types.specs.Laws.{IsReflexive, IsTransitive, IsAntisymmetric, RanksAdd, CommonTypeIsOne, CommonTypeIsSymmetric, CommonOfIsSymmetric, CommonTypeIgnoresOrder, ConcreteTwiceIsOnce, LoadedTwiceIsOnce};
 
 /// Conversion is a partial order.
 pub fn conversion_is_a_partial_order()
@@ -21,7 +21,8 @@ pub fn common_type_is_one()
 
 /// `convert_ty` is symmetric.
 pub fn convert_ty_is_symmetric()
-    ensures { CommonTypeIsSymmetric }
+    ensures common { CommonTypeIsSymmetric }
+    ensures answer { CommonOfIsSymmetric }
 {}
 
 /// `convert_all_ty` ignores the order of its list.

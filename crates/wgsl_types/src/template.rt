@@ -6,7 +6,7 @@ ghost use Rattle.wgsl_types.specs.Template as spec;
 
 use std::alloc::{AllocError, Global};
 use wgsl_enumerations::{AccessMode, AddressSpace, Enumerant};
-use wgsl_items::{Boxed, Text};
+use wgsl_items::{Boxed, CloneIn, Text};
 use wgsl_shader_type::{Error, LiteralInstance, TpltParam, Type};
 
 /// The template of a vector: the type of its components.
@@ -63,6 +63,21 @@ impl VecTemplate {
         ensures { result.now ≡ self.now.component }
     {
         &self.component
+    }
+
+    /// A copy in fresh memory.
+    pub fn clone(&self, alloc: Global) -> Result<VecTemplate, AllocError>
+        ensures { IfOk result (λ copy. copy ≡ self.now) }
+    {
+        Ok(VecTemplate {
+            component: self.component.clone(alloc)?,
+        })
+    }
+}
+
+impl CloneIn for VecTemplate {
+    fn clone_in(&self, alloc: Global) -> Result<VecTemplate, AllocError> {
+        self.clone(alloc)
     }
 }
 
@@ -142,6 +157,22 @@ impl ArrayTemplate {
     {
         self.count
     }
+
+    /// A copy in fresh memory.
+    pub fn clone(&self, alloc: Global) -> Result<ArrayTemplate, AllocError>
+        ensures { IfOk result (λ copy. copy ≡ self.now) }
+    {
+        Ok(ArrayTemplate {
+            element: self.element.clone(alloc)?,
+            count: self.count,
+        })
+    }
+}
+
+impl CloneIn for ArrayTemplate {
+    fn clone_in(&self, alloc: Global) -> Result<ArrayTemplate, AllocError> {
+        self.clone(alloc)
+    }
 }
 
 impl PtrTemplate {
@@ -179,5 +210,22 @@ impl PtrTemplate {
     {
         let stored = self.stored.clone(alloc)?;
         Ok(Type::Ptr(self.space, Boxed::new(alloc, stored)?, self.access))
+    }
+
+    /// A copy in fresh memory.
+    pub fn clone(&self, alloc: Global) -> Result<PtrTemplate, AllocError>
+        ensures { IfOk result (λ copy. copy ≡ self.now) }
+    {
+        Ok(PtrTemplate {
+            space: self.space,
+            stored: self.stored.clone(alloc)?,
+            access: self.access,
+        })
+    }
+}
+
+impl CloneIn for PtrTemplate {
+    fn clone_in(&self, alloc: Global) -> Result<PtrTemplate, AllocError> {
+        self.clone(alloc)
     }
 }

@@ -5,7 +5,7 @@ ghost use Rattle.wgsl_types.specs.Convert as spec;
 
 use std::alloc::{AllocError, Global};
 use wgsl_items::Boxed;
-use wgsl_shader_type::Type;
+use wgsl_shader_type::{LiteralInstance, Type};
 
 /// What has a type.
 pub trait Ty {
@@ -67,6 +67,33 @@ impl Ty for Type {
             Type::Ref(_, stored, _) => stored.get().clone(alloc),
             _ => self.clone(alloc),
         }
+    }
+}
+
+fn literal_type(literal: LiteralInstance) -> Type
+    ensures { result ≡ spec.literal_type literal }
+{
+    match literal {
+        LiteralInstance::Bool(_) => Type::Bool,
+        LiteralInstance::AbstractInt(_) => Type::AbstractInt,
+        LiteralInstance::I32(_) => Type::I32,
+        LiteralInstance::U32(_) => Type::U32,
+    }
+}
+
+impl Ty for LiteralInstance {
+    ghost use Rattle.wgsl_types.specs.Convert.{literal_type};
+
+    ghost type_of = { literal_type };
+
+    ghost inner_type_of = { literal_type };
+
+    fn ty(&self, _alloc: Global) -> Result<Type, AllocError> {
+        Ok(literal_type(*self))
+    }
+
+    fn inner_ty(&self, _alloc: Global) -> Result<Type, AllocError> {
+        Ok(literal_type(*self))
     }
 }
 

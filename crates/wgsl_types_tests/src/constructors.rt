@@ -16,8 +16,8 @@ fn a_count(rt: HostRuntime) -> Result<(), Fail> {
         TpltParam::Instance(LiteralInstance::AbstractInt(2)),
     ]?;
     let read = ArrayTemplate::parse(alloc, counted.as_slice())?;
-    assert_eq!(rt; read.n(), Some(2));
-    assert_eq!(rt; *read.inner_ty(), Type::U32);
+    assert!(rt; read.n() == Some(2));
+    assert!(rt; *read.inner_ty() == Type::U32);
     Ok(())
 }
 
@@ -53,10 +53,7 @@ fn a_pointer(rt: HostRuntime) -> Result<(), Fail> {
         TpltParam::Ty(Type::U32),
     ]?;
     let pointer = builtin_type(alloc, "ptr", Some(places.as_slice()))?;
-    assert_eq!(rt;
-        pointer.to_string(alloc)?.as_str(),
-        "ptr<storage, u32, read>"
-    );
+    assert!(rt; pointer.to_string(alloc)?.as_str() == "ptr<storage, u32, read>");
     Ok(())
 }
 
@@ -79,11 +76,11 @@ fn constructors(rt: HostRuntime) -> Result<(), Fail> {
     let alloc = rt.alloc();
     let parts = vec![in alloc; Type::AbstractInt, Type::U32]?;
     let scalar = type_ctor(alloc, "i32", None, &[])?;
-    assert_eq!(rt; scalar, Type::I32);
+    assert!(rt; scalar == Type::I32);
     let pair = type_ctor(alloc, "vec2", None, parts.as_slice())?;
-    assert_eq!(rt; pair, vector(alloc, 2, Type::U32)?);
+    assert!(rt; pair == vector(alloc, 2, Type::U32)?);
     let both = type_ctor(alloc, "array", None, parts.as_slice())?;
-    assert_eq!(rt; both, array(alloc, Type::U32, Some(2))?);
+    assert!(rt; both == array(alloc, Type::U32, Some(2))?);
     Ok(())
 }
 
@@ -92,7 +89,7 @@ fn parts_that_do_not_fill(rt: HostRuntime) -> Result<(), Fail> {
     let alloc = rt.alloc();
     let parts = vec![in alloc; Type::AbstractInt, Type::U32]?;
     match refusal(type_ctor(alloc, "vec4", None, parts.as_slice()))? {
-        Some(Error::Signature(call)) => assert_eq!(rt; call.name.as_str(), "vec4"),
+        Some(Error::Signature(call)) => assert!(rt; call.name.as_str() == "vec4"),
         _ => panic!(rt; "two parts of four"),
     }
     Ok(())
@@ -103,12 +100,12 @@ fn vectors(rt: HostRuntime) -> Result<(), Fail> {
     let alloc = rt.alloc();
     let parts = vec![in alloc; vector(alloc, 2, Type::AbstractInt)?, Type::U32]?;
     let three = vec_t(alloc, 3, None, parts.as_slice())?;
-    assert_eq!(rt; three, vector(alloc, 3, Type::U32)?);
+    assert!(rt; three == vector(alloc, 3, Type::U32)?);
     let template = VecTemplate {
         component: Type::I32,
     };
     match refusal(vec_t(alloc, 3, Some(&template), parts.as_slice()))? {
-        Some(Error::Signature(call)) => assert_eq!(rt; call.name.as_str(), "vec3"),
+        Some(Error::Signature(call)) => assert!(rt; call.name.as_str() == "vec3"),
         _ => panic!(rt; "U32 doesn't convert to I32"),
     }
     Ok(())
@@ -122,7 +119,7 @@ fn a_cast(rt: HostRuntime) -> Result<(), Fail> {
         component: Type::I32,
     };
     let cast = vec_t(alloc, 2, Some(&template), whole.as_slice())?;
-    assert_eq!(rt; cast, vector(alloc, 2, Type::I32)?);
+    assert!(rt; cast == vector(alloc, 2, Type::I32)?);
     Ok(())
 }
 
@@ -131,7 +128,7 @@ fn arrays(rt: HostRuntime) -> Result<(), Fail> {
     let alloc = rt.alloc();
     let two = ArrayTemplate::new(Type::U32, Some(2));
     let zero = array_t(alloc, Some(&two), &[])?;
-    assert_eq!(rt; zero, array(alloc, Type::U32, Some(2))?);
+    assert!(rt; zero == array(alloc, Type::U32, Some(2))?);
     let none = refusal(array_t(alloc, None, &[]))?;
     assert!(rt; matches!(none, Some(Error::Todo(_))));
     Ok(())

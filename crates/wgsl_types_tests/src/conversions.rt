@@ -20,12 +20,12 @@ fn common_types(rt: HostRuntime) -> Result<(), Fail> {
 
 #[test]
 fn ranks(rt: HostRuntime) -> Result<(), Fail> {
-    assert_eq!(rt; conversion_rank(&Type::AbstractInt, &Type::U32), Some(4));
+    assert!(rt; conversion_rank(&Type::AbstractInt, &Type::U32) == Some(4));
     let ints = vector(rt.alloc(), 3, Type::AbstractInt)?;
     let halves = vector(rt.alloc(), 3, Type::F16)?;
-    assert_eq!(rt; conversion_rank(&ints, &halves), Some(7));
+    assert!(rt; conversion_rank(&ints, &halves) == Some(7));
     assert!(rt; ints.is_convertible_to(&halves));
-    assert_eq!(rt; conversion_rank(&Type::I32, &Type::F16), None);
+    assert!(rt; conversion_rank(&Type::I32, &Type::F16) == None);
     Ok(())
 }
 
@@ -36,8 +36,8 @@ fn a_struct(rt: HostRuntime) -> Result<(), Fail> {
     members.push(member(alloc, "a", Type::U32)?)?;
     members.push(member(alloc, "b", vector(alloc, 3, Type::U32)?)?)?;
     let both = struct_of(alloc, members)?;
-    assert_eq!(rt; both.size_of(), Some(32));
-    assert_eq!(rt; both.align_of(), Some(16));
+    assert!(rt; both.size_of() == Some(32));
+    assert!(rt; both.align_of() == Some(16));
     Ok(())
 }
 
@@ -45,12 +45,12 @@ fn a_struct(rt: HostRuntime) -> Result<(), Fail> {
 fn arrays(rt: HostRuntime) -> Result<(), Fail> {
     let alloc = rt.alloc();
     let two = array(alloc, vector(alloc, 3, Type::U32)?, Some(2))?;
-    assert_eq!(rt; two.size_of(), Some(32));
+    assert!(rt; two.size_of() == Some(32));
     let many = array(alloc, vector(alloc, 3, Type::U32)?, None)?;
-    assert_eq!(rt; many.size_of(), None);
-    assert_eq!(rt; many.min_size_of(), Some(16));
+    assert!(rt; many.size_of() == None);
+    assert!(rt; many.min_size_of() == Some(16));
     let large = array(alloc, Type::U32, Some(1073741824))?;
-    assert_eq!(rt; large.size_of(), None);
+    assert!(rt; large.size_of() == None);
     Ok(())
 }
 
@@ -62,8 +62,8 @@ fn alignment_zero(rt: HostRuntime) -> Result<(), Fail> {
     let mut members = Items::new(alloc);
     members.push(none)?;
     let ty = struct_of(alloc, members)?;
-    assert_eq!(rt; ty.size_of(), None);
-    assert_eq!(rt; ty.align_of(), None);
+    assert!(rt; ty.size_of() == None);
+    assert!(rt; ty.align_of() == None);
     Ok(())
 }
 
@@ -71,9 +71,9 @@ fn alignment_zero(rt: HostRuntime) -> Result<(), Fail> {
 fn pairs(rt: HostRuntime) -> Result<(), Fail> {
     let alloc = rt.alloc();
     let both = convert(alloc, &Type::AbstractInt, &Type::I32)?;
-    assert_eq!(rt; both, Some((Type::I32, Type::I32)));
+    assert!(rt; both == Some((Type::I32, Type::I32)));
     let none = convert(alloc, &Type::U32, &Type::I32)?;
-    assert_eq!(rt; none, None);
+    assert!(rt; none == None);
     Ok(())
 }
 
@@ -83,8 +83,8 @@ fn inner_pairs(rt: HostRuntime) -> Result<(), Fail> {
     let ints = vector(alloc, 2, Type::AbstractInt)?;
     match convert_inner(alloc, &ints, &Type::U32)? {
         Some((left, right)) => {
-            assert_eq!(rt; left, vector(alloc, 2, Type::U32)?);
-            assert_eq!(rt; right, Type::U32);
+            assert!(rt; left == vector(alloc, 2, Type::U32)?);
+            assert!(rt; right == Type::U32);
         }
         None => panic!(rt; "AbstractInt converts to U32"),
     }
@@ -96,9 +96,9 @@ fn one_thing(rt: HostRuntime) -> Result<(), Fail> {
     let alloc = rt.alloc();
     let ints = vector(alloc, 2, Type::AbstractInt)?;
     let concrete = Convert::concretize(&ints, alloc)?;
-    assert_eq!(rt; concrete, vector(alloc, 2, Type::I32)?);
+    assert!(rt; concrete == vector(alloc, 2, Type::I32)?);
     let inner = ints.convert_inner_to(alloc, &Type::I32)?;
-    assert_eq!(rt; inner, Some(concrete));
+    assert!(rt; inner == Some(concrete));
     Ok(())
 }
 
@@ -107,7 +107,7 @@ fn lists(rt: HostRuntime) -> Result<(), Fail> {
     let alloc = rt.alloc();
     let types = vec![in alloc; Type::AbstractInt, Type::U32]?;
     match convert_all(alloc, types.as_slice())? {
-        Some(all) => assert_eq!(rt; all.len(), 2),
+        Some(all) => assert!(rt; all.len() == 2),
         None => panic!(rt; "they have a common type"),
     }
     let none = convert_all_to(alloc, types.as_slice(), &Type::I32)?;

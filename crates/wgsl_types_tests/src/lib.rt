@@ -6,6 +6,8 @@ mod constructors;
 #[cfg(test)]
 mod conversions;
 #[cfg(test)]
+mod copies;
+#[cfg(test)]
 mod made;
 #[cfg(test)]
 mod operators;

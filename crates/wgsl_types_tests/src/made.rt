@@ -1,7 +1,7 @@
 //! Types and values that the tests make.
 
 use std::alloc::{AllocError, Global};
-use wgsl_items::{Boxed, Items, Text};
+use wgsl_items::{Boxed, FromIn, Items, Text};
 use wgsl_types::{Error, ShaderType, StructMemberType, StructType, Type};
 
 pub fn vector(alloc: Global, n: u8, component: Type) -> Result<Type, AllocError> {
@@ -18,7 +18,7 @@ pub fn member(alloc: Global, name: &str, ty: Type) -> Result<StructMemberType, A
 
 pub fn struct_of(alloc: Global, members: Items<StructMemberType>) -> Result<Type, AllocError> {
     let made = StructType::new(Text::from_str(alloc, "S")?, members);
-    Ok(ShaderType::Struct(Boxed::new(alloc, made)?))
+    ShaderType::from_in(alloc, made)
 }
 
 /// What was refused, where it was not for want of memory.

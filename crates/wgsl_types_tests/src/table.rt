@@ -1,4 +1,4 @@
-//! Ranks and results of operators over all pairs of scalar and vector types, beside a plain search along the steps and through the candidates.
+//! Ranks, common types and results of operators over all pairs of scalar and vector types, beside a plain search along the steps and through the candidates.
 
 use crate::made::vector;
 use std::alloc::{AllocError, Global};
@@ -43,33 +43,46 @@ fn least_sum(from: u8, to: u8, steps: u8) -> Option<u32> {
     best
 }
 
-fn shaped(alloc: Global, n: u8, number: u8) -> Result<Type, AllocError> {
-    if n == 1 {
-        Ok(scalar(number))
-    } else {
-        vector(alloc, n, scalar(number))
+/// A type of the table: a scalar where it has one component, else a vector.
+#[derive(Clone, Copy)]
+struct Entry {
+    components: u8,
+    scalar: u8,
+}
+
+/// The scalars, then the vectors of two, three and four components.
+fn numbered(number: u8) -> Entry {
+    Entry {
+        components: number / 7 + 1,
+        scalar: number % 7,
     }
 }
 
-#[test]
-fn ranks_are_least_sums(rt: HostRuntime) -> Result<(), Fail> {
-    for n in 1..5u8 {
-        for m in 1..5u8 {
-            for from in 0..7u8 {
-                for to in 0..7u8 {
-                    let expected = if n == m { least_sum(from, to, 5) } else { None };
-                    let first = shaped(rt.alloc(), n, from)?;
-                    let second = shaped(rt.alloc(), m, to)?;
-                    assert_eq!(rt;
-                        conversion_rank(&first, &second),
-                        expected,
-                        "{first} to {second}"
-                    );
-                }
-            }
-        }
+fn type_of(alloc: Global, entry: Entry) -> Result<Type, AllocError> {
+    if entry.components == 1 {
+        Ok(scalar(entry.scalar))
+    } else {
+        vector(alloc, entry.components, scalar(entry.scalar))
     }
-    Ok(())
+}
+
+fn rank(from: Entry, to: Entry) -> Option<u32> {
+    if from.components == to.components {
+        least_sum(from.scalar, to.scalar, 5)
+    } else {
+        None
+    }
+}
+
+/// The one of two types to which the other converts.
+fn common(left: Entry, right: Entry) -> Option<Entry> {
+    if rank(left, right).is_some() {
+        Some(right)
+    } else if rank(right, left).is_some() {
+        Some(left)
+    } else {
+        None
+    }
 }
 
 /// Every binary operator.
@@ -190,62 +203,42 @@ fn given(
     }
 }
 
-fn expected(
-    alloc: Global,
-    operator: BinaryOperator,
-    n: u8,
-    left: u8,
-    m: u8,
-    right: u8,
-) -> Result<Option<Type>, AllocError> {
-    match shape(operator, n, m) {
+fn result(operator: BinaryOperator, left: Entry, right: Entry) -> Option<Entry> {
+    let components = shape(operator, left.components, right.components)?;
+    let scalar = least_candidate(operator, left.scalar, right.scalar)?;
+    Some(Entry { components, scalar })
+}
+
+fn type_of_some(alloc: Global, entry: Option<Entry>) -> Result<Option<Type>, AllocError> {
+    match entry {
+        Some(entry) => Ok(Some(type_of(alloc, entry)?)),
         None => Ok(None),
-        Some(components) => match least_candidate(operator, left, right) {
-            None => Ok(None),
-            Some(number) => Ok(Some(shaped(alloc, components, number)?)),
-        },
     }
 }
 
 #[test]
-fn operators_are_least_candidates(rt: HostRuntime) -> Result<(), Fail> {
+fn all_pairs(rt: HostRuntime) -> Result<(), Fail> {
     let alloc = rt.alloc();
-    for n in 1..5u8 {
-        for m in 1..5u8 {
-            for from in 0..7u8 {
-                for to in 0..7u8 {
-                    let left = shaped(alloc, n, from)?;
-                    let right = shaped(alloc, m, to)?;
-                    for operator in OPERATORS {
-                        assert_eq!(rt;
-                            given(alloc, operator, &left, &right)?,
-                            expected(alloc, operator, n, from, m, to)?,
-                            "{left} {operator} {right}"
-                        );
-                    }
-                }
-            }
-        }
-    }
-    Ok(())
-}
-
-#[test]
-fn common_types_are_symmetric(rt: HostRuntime) -> Result<(), Fail> {
-    for n in 1..5u8 {
-        for from in 0..7u8 {
-            for to in 0..7u8 {
-                let left = shaped(rt.alloc(), n, from)?;
-                let right = shaped(rt.alloc(), n, to)?;
-                let expected = if least_sum(from, to, 5).is_some() {
-                    Some(&right)
-                } else if least_sum(to, from, 5).is_some() {
-                    Some(&left)
-                } else {
-                    None
-                };
-                assert_eq!(rt; convert_ty(&left, &right), expected);
-                assert_eq!(rt; convert_ty(&right, &left), expected);
+    for first in 0..28u8 {
+        for second in 0..28u8 {
+            let (from, to) = (numbered(first), numbered(second));
+            let left = type_of(alloc, from)?;
+            let right = type_of(alloc, to)?;
+            assert!(rt;
+                conversion_rank(&left, &right) == rank(from, to),
+                "{left} to {right}"
+            );
+            let expected = type_of_some(alloc, common(from, to))?;
+            assert!(rt;
+                convert_ty(&left, &right) == expected.as_ref(),
+                "{left} and {right}"
+            );
+            for operator in OPERATORS {
+                assert!(rt;
+                    given(alloc, operator, &left, &right)?
+                        == type_of_some(alloc, result(operator, from, to))?,
+                    "{left} {operator} {right}"
+                );
             }
         }
     }

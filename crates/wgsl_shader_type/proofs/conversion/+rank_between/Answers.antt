@@ -1,5 +1,4 @@
-use Rattle.std.proofs.Common.{◌≡◌, sym, ap, ◌∙◌, refl, true, false, cond, Some, None, is_some}
-use Rattle.wgsl_shader_type.specs.Alike.{same}
+use Rattle.std.proofs.Common.{sym, ap, ◌∙◌, cond, Some, None}
 use Rattle.wgsl_shader_type.proofs.Ranks.{rank_otherwise}
 use Rattle.wgsl_shader_type.proofs.conversion.+rank_between.Goals as goal
 

@@ -1,4 +1,4 @@
-use Rattle.std.proofs.Common.{◌≡◌, sym, ◌∙◌, inr}
+use Rattle.std.proofs.Common.{sym, ◌∙◌, inr}
 use Rattle.wgsl_shader_type.specs.declared.error.Error.TheVariants.{Binary}
 use Rattle.wgsl_shader_type.proofs.Candidates.{none_found}
 use Rattle.wgsl_shader_type.proofs.operator.type_binary_op.Goals as goal

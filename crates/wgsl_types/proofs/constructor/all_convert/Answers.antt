@@ -1,4 +1,4 @@
-use Rattle.std.proofs.Common.{◌≡◌, refl, sym, subst, All, true≢false}
+use Rattle.std.proofs.Common.{refl, sym, subst, All, true≢false}
 use Rattle.std.proofs.lemmas.List.{take_all}
 use Rattle.std.proofs.lemmas.List.Elements.{All-contains, All-more}
 use Rattle.wgsl_shader_type.specs.declared.tree.ShaderType.{ShaderType}

@@ -1,4 +1,4 @@
-use Rattle.std.proofs.Common.{◌≡◌, refl, sym, ◌∙◌, subst, map}
+use Rattle.std.proofs.Common.{refl, sym, ◌∙◌, subst, map}
 use Rattle.wgsl_shader_type.specs.Conversion.{IsCommonType}
 use Rattle.wgsl_types.proofs.Together.{at_common}
 use Rattle.wgsl_types.proofs.conversions.convert_all.Goals as goal

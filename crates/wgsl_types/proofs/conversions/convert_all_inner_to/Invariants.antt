@@ -1,4 +1,4 @@
-use Rattle.std.proofs.Common.{◌≡◌, ◌++◌, Option, Some, None, List, drop}
+use Rattle.std.proofs.Common.{◌≡◌, ◌++◌, Some, drop}
 use Rattle.wgsl_types.specs.Convert.{all_converted, ◌>>=◌}
 use Rattle.wgsl_types.proofs.conversions.convert_all_inner_to.Given as goal
 
