@@ -1,6 +1,8 @@
 -- Only what is asked for counts.
-use Rattle.std.proofs.Common.{◌≡◌, ℕ, ◌+◌, List, [], ◌∷◌, ◌++◌, length, Result, Ok, Err, sym, ◌∙◌}
+use Rattle.std.specs.Prelude.{◌↔◌}
+use Rattle.std.proofs.Common.{ℕ, ◌+◌, List, [], ◌∷◌, ◌++◌, length, Result, Ok, Err}
 use Rattle.wgsl_syntax.specs.Tree.{Unit}
+use Rattle.wesl_resolve.specs.Found.{Answer}
 use Rattle.wesl_sources.specs.Occurrences.{Name}
 use Rattle.wesl_sources.specs.Modules.{Path, Modules}
 use Rattle.wesl_sources.specs.Rounds.{Sources, Refusal, Loads, all_loaded, one_too_many, is_not_found, is_faulty, has_a_name_twice, loaded_then_refused, loaded, Goes, an_occurrence_refused, nothing_asked, a_module_refused, a_round, IsFirstUnkept, ComesTo, root_refused, kept_name_missing, goes_on}
@@ -8,19 +10,19 @@ use Rattle.wesl_meaning.specs.Asked.{AsksAmong, asks_first, asks_next, AsksFrom,
 use Rattle.wesl_meaning.proofs.Determined.{loading_comes_to_one}
 
 module _ (found other : Sources) (max : ℕ) where
-  loads_too : (n : ℕ) (ps : List Path) (o : Result Modules Refusal) → ((p : Path) → AsksAmong found max n ps p → found p ≡ other p) → Loads found max n ps o → Loads other max n ps o
+  loads_too : (n : ℕ) (ps : List Path) (o : Result Modules Refusal) → ((p : Path) → AsksAmong found max n ps p → (a : Answer) → found p a ↔ other p a) → Loads found max n ps o → Loads other max n ps o
   loads_too n [] _ agree all_loaded = all_loaded
   loads_too n (p ∷ ps) _ agree (one_too_many l) = one_too_many l
-  loads_too n (p ∷ ps) _ agree (is_not_found l f) = is_not_found l (sym (agree p (asks_first l)) ∙ f)
-  loads_too n (p ∷ ps) _ agree (is_faulty l f) = is_faulty l (sym (agree p (asks_first l)) ∙ f)
-  loads_too n (p ∷ ps) _ agree (has_a_name_twice l f a) = has_a_name_twice l (sym (agree p (asks_first l)) ∙ f) a
+  loads_too n (p ∷ ps) _ agree (is_not_found l f) = is_not_found l ((agree p (asks_first l) _).0 f)
+  loads_too n (p ∷ ps) _ agree (is_faulty l f) = is_faulty l ((agree p (asks_first l) _).0 f)
+  loads_too n (p ∷ ps) _ agree (has_a_name_twice l f a) = has_a_name_twice l ((agree p (asks_first l) _).0 f) a
   loads_too n (p ∷ ps) _ agree (loaded_then_refused {r = r} l f d rest) =
-      loaded_then_refused l (sym (agree p (asks_first l)) ∙ f) d (loads_too (n + 1) ps (Err r) (λ q a. agree q (asks_next l f d a)) rest)
+      loaded_then_refused l ((agree p (asks_first l) _).0 f) d (loads_too (n + 1) ps (Err r) (λ q a. agree q (asks_next l f d a)) rest)
   loads_too n (p ∷ ps) _ agree (loaded {modules = ms} l f d t rest) =
-      loaded l (sym (agree p (asks_first l)) ∙ f) d t (loads_too (n + 1) ps (Ok ms) (λ q a. agree q (asks_next l f d a)) rest)
+      loaded l ((agree p (asks_first l) _).0 f) d t (loads_too (n + 1) ps (Ok ms) (λ q a. agree q (asks_next l f d a)) rest)
 
 module _ (found other : Sources) (root : Path) (keep : List Name) (max : ℕ) where
-  goes_too : (modules : Modules) (o : Result Modules Refusal) → ((p : Path) → AsksFrom found root keep max modules p → found p ≡ other p) → Goes found root keep max modules o → Goes other root keep max modules o
+  goes_too : (modules : Modules) (o : Result Modules Refusal) → ((p : Path) → AsksFrom found root keep max modules p → (a : Answer) → found p a ↔ other p a) → Goes found root keep max modules o → Goes other root keep max modules o
   goes_too modules _ agree (an_occurrence_refused f) = an_occurrence_refused f
   goes_too modules _ agree (nothing_asked n k) = nothing_asked n k
   goes_too modules _ agree (a_module_refused {ps = ps} {r = r} n k l) = a_module_refused n k (loads_too found other max (length modules) ps (Err r) (λ p a. agree p (in_this_round n k a)) l)
@@ -31,11 +33,11 @@ module _ (found other : Sources) (root : Path) (keep : List Name) (max : ℕ) wh
   unkept_too : (u : Unit) (x : Name) → IsFirstUnkept found root keep max u x → IsFirstUnkept other root keep max u x
   unkept_too u x f = record { before = f.before; behind = f.behind; whole = f.whole; declared = f.declared; undeclared = f.undeclared }
 
-  comes_too : (o : Result Modules Refusal) → ((p : Path) → Asks found root keep max p → found p ≡ other p) → ComesTo found root keep max o → ComesTo other root keep max o
+  comes_too : (o : Result Modules Refusal) → ((p : Path) → Asks found root keep max p → (a : Answer) → found p a ↔ other p a) → ComesTo found root keep max o → ComesTo other root keep max o
   comes_too _ agree (root_refused {r = r} l) = root_refused (loads_too found other max 0 (root ∷ []) (Err r) (λ p a. agree p (for_the_root a)) l)
   comes_too _ agree (kept_name_missing {path = path} {u = u} {x = x} l f) = kept_name_missing (loads_too found other max 0 (root ∷ []) (Ok ((path, u) ∷ [])) (λ p a. agree p (for_the_root a)) l) (unkept_too u x f)
   comes_too o agree (goes_on {path = path} {u = u} l h g) =
       goes_on (loads_too found other max 0 (root ∷ []) (Ok ((path, u) ∷ [])) (λ p a. agree p (for_the_root a)) l) h (goes_too ((path, u) ∷ []) o (λ p a. agree p (onward l h a)) g)
 
-pub only_what_is_asked_counts : OnlyWhatIsAskedCounts
-only_what_is_asked_counts found other root keep max agree one two a b = loading_comes_to_one other root keep max one two (comes_too found other root keep max one agree a) b
+pub only_what_is_asked_counts : (found other : Sources) → OnlyWhatIsAskedCounts found other
+only_what_is_asked_counts found other functional root keep max agree one two a b = loading_comes_to_one other functional root keep max one two (comes_too found other root keep max one agree a) b

@@ -7,13 +7,14 @@ use Rattle.wgsl_token.specs.declared.error.Error.{Error}
 use Rattle.wgsl_syntax.specs.Tree.{Unit}
 use Rattle.wesl_sources.specs.Occurrences.{Name}
 use Rattle.wesl_sources.specs.Modules.{Path, Modules, Declares}
-use Rattle.wesl_sources.specs.Rounds.{Sources, unit_of, not_found, faulty, Refusal, too_many_modules, module_not_found, syntax, duplicate_symbol, missing_decl, scope_names, AreDistinct, IsFirstAgain, Loads, all_loaded, one_too_many, is_not_found, is_faulty, has_a_name_twice, loaded_then_refused, loaded, IsNextRound, NoneRefused, IsFirstRefused, Goes, an_occurrence_refused, nothing_asked, a_module_refused, a_round, IsFirstUnkept, ComesTo, root_refused, kept_name_missing, goes_on}
-use Rattle.wesl_meaning.specs.Determined.{listed, SameOutcome, LoadingComesToOne}
+use Rattle.wesl_resolve.specs.Found.{unit_of, not_found, faulty}
+use Rattle.wesl_sources.specs.Rounds.{Sources, Refusal, too_many_modules, module_not_found, syntax, duplicate_symbol, missing_decl, scope_names, AreDistinct, IsFirstAgain, Loads, all_loaded, one_too_many, is_not_found, is_faulty, has_a_name_twice, loaded_then_refused, loaded, IsNextRound, NoneRefused, IsFirstRefused, Goes, an_occurrence_refused, nothing_asked, a_module_refused, a_round, IsFirstUnkept, ComesTo, root_refused, kept_name_missing, goes_on}
+use Rattle.wesl_meaning.specs.Determined.{listed, IsFunctional, SameOutcome, LoadingComesToOne}
 use Rattle.wesl_meaning.proofs.Members.{first_in, in_cases, in_none, length_map}
 use Rattle.wesl_meaning.proofs.Order.{ascending_same}
 use Rattle.wesl_meaning.proofs.Loading.{Apart, next_apart, loading}
 use Rattle.wesl_meaning.proofs.Splits.{again_once, again_not_distinct, unkept_once}
-use Rattle.wesl_meaning.proofs.Moves.{round_moves, none_moves, first_moves}
+use Rattle.wesl_meaning.proofs.Moves.{same_listed, round_moves, none_moves, first_moves}
 use Rattle.wesl_meaning.proofs.Refusals.{first_once}
 
 listed-append : (a b : Modules) → listed (a ++ b) ≡ listed a ++ listed b
@@ -23,15 +24,15 @@ listed-append (x ∷ a) b = ap (λ l. (path_text x.0, x.1) ∷ l) (listed-append
 listed_length : (a b : Modules) → listed a ≡ listed b → length a ≡ length b
 listed_length a b e = sym (length_map (λ z. (path_text z.0, z.1)) a) ∙ ap length e ∙ length_map (λ z. (path_text z.0, z.1)) b
 
-module _ (found : Sources) (max : ℕ) where
+module _ (found : Sources) (functional : IsFunctional found) (max : ℕ) where
   -- what the first of some paths comes to
   data Step (n : ℕ) (p : Path) (ps : List Path) (o : Result Modules Refusal) : Type 0 where
     too_many : max ≤ n → o ≡ Err (too_many_modules p) → Step n p ps o
-    missing : n < max → found p ≡ not_found → o ≡ Err (module_not_found p) → Step n p ps o
-    bad : (e : Error) → n < max → found p ≡ faulty e → o ≡ Err (syntax p e) → Step n p ps o
-    twice : (u : Unit) (x : Name) → n < max → found p ≡ unit_of u → IsFirstAgain (scope_names u) x → o ≡ Err (duplicate_symbol p x) → Step n p ps o
-    then_refused : (u : Unit) (r : Refusal) → n < max → found p ≡ unit_of u → AreDistinct (scope_names u) → Loads found max (n + 1) ps (Err r) → o ≡ Err r → Step n p ps o
-    then_loaded : (u : Unit) (path : ModulePath) (ms : Modules) → n < max → found p ≡ unit_of u → AreDistinct (scope_names u) → path_text path ≡ p → Loads found max (n + 1) ps (Ok ms) → o ≡ Ok ((path, u) ∷ ms) → Step n p ps o
+    missing : n < max → found p not_found → o ≡ Err (module_not_found p) → Step n p ps o
+    bad : (e : Error) → n < max → found p (faulty e) → o ≡ Err (syntax p e) → Step n p ps o
+    twice : (u : Unit) (x : Name) → n < max → found p (unit_of u) → IsFirstAgain (scope_names u) x → o ≡ Err (duplicate_symbol p x) → Step n p ps o
+    then_refused : (u : Unit) (r : Refusal) → n < max → found p (unit_of u) → AreDistinct (scope_names u) → Loads found max (n + 1) ps (Err r) → o ≡ Err r → Step n p ps o
+    then_loaded : (u : Unit) (path : ModulePath) (ms : Modules) → n < max → found p (unit_of u) → AreDistinct (scope_names u) → path_text path ≡ p → Loads found max (n + 1) ps (Ok ms) → o ≡ Ok ((path, u) ∷ ms) → Step n p ps o
 
   step_of : (n : ℕ) (p : Path) (ps : List Path) (o : Result Modules Refusal) → Loads found max n (p ∷ ps) o → Step n p ps o
   step_of n p ps _ (one_too_many l) = too_many l refl
@@ -41,8 +42,8 @@ module _ (found : Sources) (max : ℕ) where
   step_of n p ps _ (loaded_then_refused {u = u} {r = r} l f d rest) = then_refused u r l f d rest refl
   step_of n p ps _ (loaded {u = u} {path = path} {modules = ms} l f d t rest) = then_loaded u path ms l f d t rest refl
 
-  units_same : (p : Path) (u v : Unit) → found p ≡ unit_of u → found p ≡ unit_of v → u ≡ v
-  units_same p u v e f = let s : unit_of u ≡ unit_of v = sym e ∙ f in cc
+  units_same : (p : Path) (u v : Unit) → found p (unit_of u) → found p (unit_of v) → u ≡ v
+  units_same p u v e f = let s : unit_of u ≡ unit_of v = functional p _ _ e f in cc
 
   same_refusal : (o q : Result Modules Refusal) (r s : Refusal) → o ≡ Err r → q ≡ Err s → r ≡ s → SameOutcome o q
   same_refusal o q r s e f t = subst (λ z. SameOutcome z q) (sym e) (subst (SameOutcome (Err r)) (sym f) t)
@@ -56,31 +57,31 @@ module _ (found : Sources) (max : ℕ) where
   steps_same n p ps o q more (too_many l e) (then_loaded u path ms k g d t z f) = absurd (omega arith)
   steps_same n p ps o q more (missing l h e) (too_many k f) = absurd (omega arith)
   steps_same n p ps o q more (missing l h e) (missing k g f) = same_refusal o q _ _ e f refl
-  steps_same n p ps o q more (missing l h e) (bad x k g f) = absurd (cc (h, g))
-  steps_same n p ps o q more (missing l h e) (twice u x k g a f) = absurd (cc (h, g))
-  steps_same n p ps o q more (missing l h e) (then_refused u r k g d z f) = absurd (cc (h, g))
-  steps_same n p ps o q more (missing l h e) (then_loaded u path ms k g d t z f) = absurd (cc (h, g))
+  steps_same n p ps o q more (missing l h e) (bad x k g f) = absurd (cc (functional p _ _ h g))
+  steps_same n p ps o q more (missing l h e) (twice u x k g a f) = absurd (cc (functional p _ _ h g))
+  steps_same n p ps o q more (missing l h e) (then_refused u r k g d z f) = absurd (cc (functional p _ _ h g))
+  steps_same n p ps o q more (missing l h e) (then_loaded u path ms k g d t z f) = absurd (cc (functional p _ _ h g))
   steps_same n p ps o q more (bad y l h e) (too_many k f) = absurd (omega arith)
-  steps_same n p ps o q more (bad y l h e) (missing k g f) = absurd (cc (h, g))
-  steps_same n p ps o q more (bad y l h e) (bad x k g f) = let s : faulty y ≡ faulty x = sym h ∙ g in let t : y ≡ x = cc in same_refusal o q _ _ e f (ap (syntax p) t)
-  steps_same n p ps o q more (bad y l h e) (twice u x k g a f) = absurd (cc (h, g))
-  steps_same n p ps o q more (bad y l h e) (then_refused u r k g d z f) = absurd (cc (h, g))
-  steps_same n p ps o q more (bad y l h e) (then_loaded u path ms k g d t z f) = absurd (cc (h, g))
+  steps_same n p ps o q more (bad y l h e) (missing k g f) = absurd (cc (functional p _ _ h g))
+  steps_same n p ps o q more (bad y l h e) (bad x k g f) = let s : faulty y ≡ faulty x = functional p _ _ h g in let t : y ≡ x = cc in same_refusal o q _ _ e f (ap (syntax p) t)
+  steps_same n p ps o q more (bad y l h e) (twice u x k g a f) = absurd (cc (functional p _ _ h g))
+  steps_same n p ps o q more (bad y l h e) (then_refused u r k g d z f) = absurd (cc (functional p _ _ h g))
+  steps_same n p ps o q more (bad y l h e) (then_loaded u path ms k g d t z f) = absurd (cc (functional p _ _ h g))
   steps_same n p ps o q more (twice v y l h b e) (too_many k f) = absurd (omega arith)
-  steps_same n p ps o q more (twice v y l h b e) (missing k g f) = absurd (cc (h, g))
-  steps_same n p ps o q more (twice v y l h b e) (bad x k g f) = absurd (cc (h, g))
+  steps_same n p ps o q more (twice v y l h b e) (missing k g f) = absurd (cc (functional p _ _ h g))
+  steps_same n p ps o q more (twice v y l h b e) (bad x k g f) = absurd (cc (functional p _ _ h g))
   steps_same n p ps o q more (twice v y l h b e) (twice u x k g a f) = same_refusal o q _ _ e f (ap (duplicate_symbol p) (again_once (scope_names u) y x (subst (λ w. IsFirstAgain (scope_names w) y) (units_same p v u h g) b) a))
   steps_same n p ps o q more (twice v y l h b e) (then_refused u r k g d z f) = absurd (again_not_distinct (scope_names u) y (subst (λ w. IsFirstAgain (scope_names w) y) (units_same p v u h g) b) d)
   steps_same n p ps o q more (twice v y l h b e) (then_loaded u path ms k g d t z f) = absurd (again_not_distinct (scope_names u) y (subst (λ w. IsFirstAgain (scope_names w) y) (units_same p v u h g) b) d)
   steps_same n p ps o q more (then_refused v s l h b w e) (too_many k f) = absurd (omega arith)
-  steps_same n p ps o q more (then_refused v s l h b w e) (missing k g f) = absurd (cc (h, g))
-  steps_same n p ps o q more (then_refused v s l h b w e) (bad x k g f) = absurd (cc (h, g))
+  steps_same n p ps o q more (then_refused v s l h b w e) (missing k g f) = absurd (cc (functional p _ _ h g))
+  steps_same n p ps o q more (then_refused v s l h b w e) (bad x k g f) = absurd (cc (functional p _ _ h g))
   steps_same n p ps o q more (then_refused v s l h b w e) (twice u x k g a f) = absurd (again_not_distinct (scope_names v) x (subst (λ z. IsFirstAgain (scope_names z) x) (units_same p u v g h) a) b)
   steps_same n p ps o q more (then_refused v s l h b w e) (then_refused u r k g d z f) = same_refusal o q s r e f (more (Err s) (Err r) w z)
   steps_same n p ps o q more (then_refused v s l h b w e) (then_loaded u path ms k g d t z f) = absurd (more (Err s) (Ok ms) w z)
   steps_same n p ps o q more (then_loaded v path ms l h b t w e) (too_many k f) = absurd (omega arith)
-  steps_same n p ps o q more (then_loaded v path ms l h b t w e) (missing k g f) = absurd (cc (h, g))
-  steps_same n p ps o q more (then_loaded v path ms l h b t w e) (bad x k g f) = absurd (cc (h, g))
+  steps_same n p ps o q more (then_loaded v path ms l h b t w e) (missing k g f) = absurd (cc (functional p _ _ h g))
+  steps_same n p ps o q more (then_loaded v path ms l h b t w e) (bad x k g f) = absurd (cc (functional p _ _ h g))
   steps_same n p ps o q more (then_loaded v path ms l h b t w e) (twice u x k g a f) = absurd (again_not_distinct (scope_names v) x (subst (λ z. IsFirstAgain (scope_names z) x) (units_same p u v g h) a) b)
   steps_same n p ps o q more (then_loaded v path ms l h b t w e) (then_refused u r k g d z f) = absurd (more (Ok ms) (Err r) w z)
   steps_same n p ps o q more (then_loaded v path ms l h b t w e) (then_loaded u road ns k g d s z f) =
@@ -103,9 +104,9 @@ first_unit u (a ∷ rest) = a.1
 round_once : (modules : Modules) (root : Path) (keep : List Name) (ps qs : List Path) → IsNextRound modules root keep ps → IsNextRound modules root keep qs → ps ≡ qs
 round_once modules root keep ps qs a b = ascending_same ps qs a.ascending b.ascending (λ x c. (b.asked x).1 ((a.asked x).0 c)) (λ x c. (a.asked x).1 ((b.asked x).0 c))
 
-module _ (found : Sources) (root : Path) (keep : List Name) (max : ℕ) where
+module _ (found : Sources) (functional : IsFunctional found) (root : Path) (keep : List Name) (max : ℕ) where
   contradicts : (a b : Modules) → listed a ≡ listed b → (r : Refusal) → NoneRefused a root keep → IsFirstRefused b root keep r → ⊥
-  contradicts a b e r n f = none_moves a b root keep e n f.home f.declaration f.occurrence r f.refused
+  contradicts a b e r n f = none_moves a b root keep (same_listed a b e) n f.home f.declaration f.occurrence r f.refused
 
   loads_here : (a b : Modules) → listed a ≡ listed b → (ps qs : List Path) (o : Result Modules Refusal) → ps ≡ qs → Loads found max (length b) qs o → Loads found max (length a) ps o
   loads_here a b e ps qs o s l = subst (λ n. Loads found max n ps o) (sym (listed_length a b e)) (subst (λ z. Loads found max (length b) z o) (sym s) l)
@@ -114,28 +115,28 @@ module _ (found : Sources) (root : Path) (keep : List Name) (max : ℕ) where
   none_to_load n r l = elim l [ ]
 
   goes_once : (a b : Modules) (o q : Result Modules Refusal) → listed a ≡ listed b → Apart a → Goes found root keep max a o → Goes found root keep max b q → SameOutcome o q
-  goes_once a b _ _ e apart (an_occurrence_refused {r = r} f) (an_occurrence_refused {r = s} g) = first_once a root keep apart r s f (first_moves b a root keep (sym e) s g)
+  goes_once a b _ _ e apart (an_occurrence_refused {r = r} f) (an_occurrence_refused {r = s} g) = first_once a root keep apart r s f (first_moves b a root keep (same_listed b a (sym e)) s g)
   goes_once a b _ _ e apart (an_occurrence_refused {r = r} f) (nothing_asked n k) = absurd (contradicts b a (sym e) r n f)
   goes_once a b _ _ e apart (an_occurrence_refused {r = r} f) (a_module_refused n k l) = absurd (contradicts b a (sym e) r n f)
   goes_once a b _ _ e apart (an_occurrence_refused {r = r} f) (a_round n k s l rest) = absurd (contradicts b a (sym e) r n f)
   goes_once a b _ _ e apart (nothing_asked m j) (an_occurrence_refused {r = r} f) = absurd (contradicts a b e r m f)
   goes_once a b _ _ e apart (nothing_asked m j) (nothing_asked n k) = e
   goes_once a b _ _ e apart (nothing_asked m j) (a_module_refused {ps = qs} {r = r} n k l) =
-      absurd (none_to_load (length a) r (loads_here a b e [] qs (Err r) (round_once a root keep [] qs j (round_moves b a root keep (sym e) qs k)) l))
-  goes_once a b _ _ e apart (nothing_asked m j) (a_round {ps = qs} n k s l rest) = absurd (s (sym (round_once a root keep [] qs j (round_moves b a root keep (sym e) qs k))))
+      absurd (none_to_load (length a) r (loads_here a b e [] qs (Err r) (round_once a root keep [] qs j (round_moves b a root keep (same_listed b a (sym e)) qs k)) l))
+  goes_once a b _ _ e apart (nothing_asked m j) (a_round {ps = qs} n k s l rest) = absurd (s (sym (round_once a root keep [] qs j (round_moves b a root keep (same_listed b a (sym e)) qs k))))
   goes_once a b _ _ e apart (a_module_refused m j w) (an_occurrence_refused {r = r} f) = absurd (contradicts a b e r m f)
   goes_once a b _ _ e apart (a_module_refused {ps = ps} {r = r} m j w) (nothing_asked n k) =
-      absurd (none_to_load (length a) r (subst (λ z. Loads found max (length a) z (Err r)) (sym (round_once a root keep [] ps (round_moves b a root keep (sym e) [] k) j)) w))
+      absurd (none_to_load (length a) r (subst (λ z. Loads found max (length a) z (Err r)) (sym (round_once a root keep [] ps (round_moves b a root keep (same_listed b a (sym e)) [] k) j)) w))
   goes_once a b _ _ e apart (a_module_refused {ps = ps} {r = r} m j w) (a_module_refused {ps = qs} {r = s} n k l) =
-      loads_once found max (length a) ps (Err r) (Err s) w (loads_here a b e ps qs (Err s) (round_once a root keep ps qs j (round_moves b a root keep (sym e) qs k)) l)
+      loads_once found functional max (length a) ps (Err r) (Err s) w (loads_here a b e ps qs (Err s) (round_once a root keep ps qs j (round_moves b a root keep (same_listed b a (sym e)) qs k)) l)
   goes_once a b _ q e apart (a_module_refused {ps = ps} {r = r} m j w) (a_round {more = more} {ps = qs} n k s l rest) =
-      absurd (loads_once found max (length a) ps (Err r) (Ok more) w (loads_here a b e ps qs (Ok more) (round_once a root keep ps qs j (round_moves b a root keep (sym e) qs k)) l))
+      absurd (loads_once found functional max (length a) ps (Err r) (Ok more) w (loads_here a b e ps qs (Ok more) (round_once a root keep ps qs j (round_moves b a root keep (same_listed b a (sym e)) qs k)) l))
   goes_once a b o _ e apart (a_round m j t w rest) (an_occurrence_refused {r = r} f) = absurd (contradicts a b e r m f)
-  goes_once a b o _ e apart (a_round {ps = ps} m j t w rest) (nothing_asked n k) = absurd (t (round_once a root keep ps [] j (round_moves b a root keep (sym e) [] k)))
+  goes_once a b o _ e apart (a_round {ps = ps} m j t w rest) (nothing_asked n k) = absurd (t (round_once a root keep ps [] j (round_moves b a root keep (same_listed b a (sym e)) [] k)))
   goes_once a b o _ e apart (a_round {more = more} {ps = ps} m j t w rest) (a_module_refused {ps = qs} {r = r} n k l) =
-      absurd (loads_once found max (length a) ps (Ok more) (Err r) w (loads_here a b e ps qs (Err r) (round_once a root keep ps qs j (round_moves b a root keep (sym e) qs k)) l))
+      absurd (loads_once found functional max (length a) ps (Ok more) (Err r) w (loads_here a b e ps qs (Err r) (round_once a root keep ps qs j (round_moves b a root keep (same_listed b a (sym e)) qs k)) l))
   goes_once a b o q e apart (a_round {more = more} {ps = ps} m j t w rest) (a_round {more = others} {ps = qs} n k s l next) =
-      let same : listed more ≡ listed others = loads_once found max (length a) ps (Ok more) (Ok others) w (loads_here a b e ps qs (Ok others) (round_once a root keep ps qs j (round_moves b a root keep (sym e) qs k)) l) in
+      let same : listed more ≡ listed others = loads_once found functional max (length a) ps (Ok more) (Ok others) w (loads_here a b e ps qs (Ok others) (round_once a root keep ps qs j (round_moves b a root keep (same_listed b a (sym e)) qs k)) l) in
       let whole : listed (a ++ more) ≡ listed (b ++ others) = listed-append a more ∙ ap (λ z. z ++ listed more) e ∙ ap (λ z. listed b ++ z) same ∙ sym (listed-append b others) in
       goes_once (a ++ more) (b ++ others) o q whole (next_apart root keep found max (length a) a more ps apart j w) rest next
 
@@ -159,22 +160,22 @@ module _ (found : Sources) (root : Path) (keep : List Name) (max : ℕ) where
   all_kept u x f h = f.undeclared (h x (subst (λ l. Contains l x) (sym f.whole) (Contains-append_right f.before (x ∷ f.behind) x (first_in x f.behind))))
 
   comes_once : (o q : Result Modules Refusal) → ComesTo found root keep max o → ComesTo found root keep max q → SameOutcome o q
-  comes_once _ _ (root_refused {r = r} a) (root_refused {r = s} b) = loads_once found max 0 (root ∷ []) (Err r) (Err s) a b
-  comes_once _ _ (root_refused {r = r} a) (kept_name_missing {path = path} {u = u} b f) = absurd (loads_once found max 0 (root ∷ []) (Err r) (Ok ((path, u) ∷ [])) a b)
-  comes_once _ q (root_refused {r = r} a) (goes_on {path = path} {u = u} b h g) = absurd (loads_once found max 0 (root ∷ []) (Err r) (Ok ((path, u) ∷ [])) a b)
-  comes_once _ _ (kept_name_missing {path = path} {u = u} a f) (root_refused {r = s} b) = absurd (loads_once found max 0 (root ∷ []) (Ok ((path, u) ∷ [])) (Err s) a b)
+  comes_once _ _ (root_refused {r = r} a) (root_refused {r = s} b) = loads_once found functional max 0 (root ∷ []) (Err r) (Err s) a b
+  comes_once _ _ (root_refused {r = r} a) (kept_name_missing {path = path} {u = u} b f) = absurd (loads_once found functional max 0 (root ∷ []) (Err r) (Ok ((path, u) ∷ [])) a b)
+  comes_once _ q (root_refused {r = r} a) (goes_on {path = path} {u = u} b h g) = absurd (loads_once found functional max 0 (root ∷ []) (Err r) (Ok ((path, u) ∷ [])) a b)
+  comes_once _ _ (kept_name_missing {path = path} {u = u} a f) (root_refused {r = s} b) = absurd (loads_once found functional max 0 (root ∷ []) (Ok ((path, u) ∷ [])) (Err s) a b)
   comes_once _ _ (kept_name_missing {path = path} {u = u} {x = x} a f) (kept_name_missing {path = road} {u = v} {x = y} b g) =
-      let same : u ≡ v = root_units path road u v (loads_once found max 0 (root ∷ []) (Ok ((path, u) ∷ [])) (Ok ((road, v) ∷ [])) a b) in
+      let same : u ≡ v = root_units path road u v (loads_once found functional max 0 (root ∷ []) (Ok ((path, u) ∷ [])) (Ok ((road, v) ∷ [])) a b) in
       ap (missing_decl root) (unkept_once found root keep max v x y (subst (λ z. IsFirstUnkept found root keep max z x) same f) g)
   comes_once _ q (kept_name_missing {path = path} {u = u} {x = x} a f) (goes_on {path = road} {u = v} b h g) =
-      let same : u ≡ v = root_units path road u v (loads_once found max 0 (root ∷ []) (Ok ((path, u) ∷ [])) (Ok ((road, v) ∷ [])) a b) in
+      let same : u ≡ v = root_units path road u v (loads_once found functional max 0 (root ∷ []) (Ok ((path, u) ∷ [])) (Ok ((road, v) ∷ [])) a b) in
       absurd (all_kept v x (subst (λ z. IsFirstUnkept found root keep max z x) same f) h)
-  comes_once o _ (goes_on {path = path} {u = u} a h g) (root_refused {r = s} b) = absurd (loads_once found max 0 (root ∷ []) (Ok ((path, u) ∷ [])) (Err s) a b)
+  comes_once o _ (goes_on {path = path} {u = u} a h g) (root_refused {r = s} b) = absurd (loads_once found functional max 0 (root ∷ []) (Ok ((path, u) ∷ [])) (Err s) a b)
   comes_once o _ (goes_on {path = path} {u = u} a h g) (kept_name_missing {path = road} {u = v} {x = y} b f) =
-      let same : u ≡ v = root_units path road u v (loads_once found max 0 (root ∷ []) (Ok ((path, u) ∷ [])) (Ok ((road, v) ∷ [])) a b) in
+      let same : u ≡ v = root_units path road u v (loads_once found functional max 0 (root ∷ []) (Ok ((path, u) ∷ [])) (Ok ((road, v) ∷ [])) a b) in
       absurd (all_kept v y f (subst (λ z. (w : Name) → Contains keep w → Declares z w) same h))
   comes_once o q (goes_on {path = path} {u = u} a h g) (goes_on {path = road} {u = v} b k l) =
-      goes_once ((path, u) ∷ []) ((road, v) ∷ []) o q (loads_once found max 0 (root ∷ []) (Ok ((path, u) ∷ [])) (Ok ((road, v) ∷ [])) a b) (root_apart path u a) g l
+      goes_once ((path, u) ∷ []) ((road, v) ∷ []) o q (loads_once found functional max 0 (root ∷ []) (Ok ((path, u) ∷ [])) (Ok ((road, v) ∷ [])) a b) (root_apart path u a) g l
 
-pub loading_comes_to_one : LoadingComesToOne
-loading_comes_to_one found root keep max o q a b = comes_once found root keep max o q a b
+pub loading_comes_to_one : (found : Sources) → LoadingComesToOne found
+loading_comes_to_one found functional root keep max o q a b = comes_once found functional root keep max o q a b

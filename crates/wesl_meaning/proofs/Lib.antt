@@ -13,6 +13,7 @@ pub mod Loading
 pub mod Unique
 pub mod Splits
 pub mod Moves
+pub mod Same
 pub mod Refusals
 pub mod Determined
 pub mod Asked

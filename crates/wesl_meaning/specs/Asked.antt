@@ -1,18 +1,19 @@
 -- The paths that are asked for, up to the first refusal; and that nothing else counts.
-use Rattle.std.specs.Prelude.{◌≡◌, ◌≢◌, ℕ, ◌+◌, ◌<◌, List, [], ◌∷◌, ◌++◌, length, Result, Ok}
+use Rattle.std.specs.Prelude.{◌≢◌, ℕ, ◌+◌, ◌<◌, List, [], ◌∷◌, ◌++◌, length, Result, Ok, ◌↔◌}
 use Rattle.std.specs.List.{Contains}
 use Rattle.wgsl_path.specs.declared.path.ModulePath.{ModulePath}
 use Rattle.wgsl_syntax.specs.Tree.{Unit}
+use Rattle.wesl_resolve.specs.Found.{Answer, unit_of}
 use Rattle.wesl_sources.specs.Occurrences.{Name}
 use Rattle.wesl_sources.specs.Modules.{Path, Modules, Declares}
-use Rattle.wesl_sources.specs.Rounds.{Sources, unit_of, Refusal, scope_names, AreDistinct, Loads, IsNextRound, NoneRefused, ComesTo}
-use Rattle.wesl_meaning.specs.Determined.{SameOutcome}
+use Rattle.wesl_sources.specs.Rounds.{Sources, Refusal, scope_names, AreDistinct, Loads, IsNextRound, NoneRefused, ComesTo}
+use Rattle.wesl_meaning.specs.Determined.{IsFunctional, SameOutcome}
 
 module _ (found : Sources) (max : ℕ) where
   -- among modules that are tested one after another: one is asked for unless it is one too many, and the next ones once it is loaded
   pub data AsksAmong : ℕ → List Path → Path → Type 0 where
     asks_first : {n : ℕ} {p : Path} {ps : List Path} → n < max → AsksAmong n (p ∷ ps) p
-    asks_next : {n : ℕ} {p q : Path} {ps : List Path} {u : Unit} → n < max → found p ≡ unit_of u → AreDistinct (scope_names u) → AsksAmong (n + 1) ps q
+    asks_next : {n : ℕ} {p q : Path} {ps : List Path} {u : Unit} → n < max → found p (unit_of u) → AreDistinct (scope_names u) → AsksAmong (n + 1) ps q
         → AsksAmong n (p ∷ ps) q
 
 module _ (found : Sources) (root : Path) (keep : List Name) (max : ℕ) where
@@ -29,7 +30,8 @@ module _ (found : Sources) (root : Path) (keep : List Name) (max : ℕ) where
     onward : {path : ModulePath} {u : Unit} {p : Path} → Loads found max 0 (root ∷ []) (Ok ((path, u) ∷ [])) → ((x : Name) → Contains keep x → Declares u x)
         → AsksFrom ((path, u) ∷ []) p → Asks p
 
--- Two sources that agree on what is asked of one of them come to the same.
-abbrev pub OnlyWhatIsAskedCounts : Type 0
-OnlyWhatIsAskedCounts = (found other : Sources) (root : Path) (keep : List Name) (max : ℕ) → ((p : Path) → Asks found root keep max p → found p ≡ other p)
+-- Two sources that agree on what is asked of one of them come to the same, where the other has one answer at each path.
+abbrev pub OnlyWhatIsAskedCounts : Sources → Sources → Type 0
+OnlyWhatIsAskedCounts found other = IsFunctional other → (root : Path) (keep : List Name) (max : ℕ)
+    → ((p : Path) → Asks found root keep max p → (a : Answer) → found p a ↔ other p a)
     → (one two : Result Modules Refusal) → ComesTo found root keep max one → ComesTo other root keep max two → SameOutcome one two

@@ -2,6 +2,7 @@
 use Rattle.std.specs.Prelude.{◌≡◌, ℕ, List, map, Result, Ok, Err}
 use Rattle.wgsl_path.specs.Paths.{path_text}
 use Rattle.wgsl_syntax.specs.Tree.{Unit}
+use Rattle.wesl_resolve.specs.Found.{Answer}
 use Rattle.wesl_sources.specs.Occurrences.{Name}
 use Rattle.wesl_sources.specs.Modules.{Path, Modules}
 use Rattle.wesl_sources.specs.Rounds.{Sources, Refusal, ComesTo}
@@ -17,6 +18,11 @@ SameOutcome (Ok a) (Err r) = ⊥
 SameOutcome (Err r) (Ok b) = ⊥
 SameOutcome (Err r) (Err q) = r ≡ q
 
-abbrev pub LoadingComesToOne : Type 0
-LoadingComesToOne = (found : Sources) (root : Path) (keep : List Name) (max : ℕ) (one other : Result Modules Refusal) → ComesTo found root keep max one
-    → ComesTo found root keep max other → SameOutcome one other
+-- at each path one answer is found at most
+abbrev pub IsFunctional : Sources → Type 0
+IsFunctional found = (p : Path) (a b : Answer) → found p a → found p b → a ≡ b
+
+-- for what is found at each path
+abbrev pub LoadingComesToOne : Sources → Type 0
+LoadingComesToOne found = IsFunctional found → (root : Path) (keep : List Name) (max : ℕ) (one other : Result Modules Refusal)
+    → ComesTo found root keep max one → ComesTo found root keep max other → SameOutcome one other

@@ -6,3 +6,4 @@ pub mod Unique
 pub mod Determined
 pub mod Asked
 pub mod Example
+pub mod Same

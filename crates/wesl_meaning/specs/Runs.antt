@@ -44,6 +44,6 @@ LinkedUnitsEndWell = (modules : Modules) (root : Path) (keep : List Name) (unit 
     → IsProgramOf modules root keep p → (s : Symbol) → IsKept root keep s → (inputs : Inputs) (n : ℕ) (answer : Option Value)
     → EndsWell p s inputs n answer ↔ EndsWell (program_of unit) (here s.called) inputs n answer
 
--- What loading comes to is loaded.
-abbrev pub WhatIsLoaded : Type 0
-WhatIsLoaded = (found : Sources) (root : Path) (keep : List Name) (max : ℕ) (modules : Modules) → ComesTo found root keep max (Ok modules) → AreLoaded modules root keep
+-- What loading comes to is loaded, whatever is found at each path.
+abbrev pub WhatIsLoaded : Sources → Type 0
+WhatIsLoaded found = (root : Path) (keep : List Name) (max : ℕ) (modules : Modules) → ComesTo found root keep max (Ok modules) → AreLoaded modules root keep

@@ -5,7 +5,10 @@ ghost use Rattle.wesl_meaning.specs.Declared.{LinkedUnitsDeclareWhatIsHeld};
 ghost use Rattle.wesl_meaning.specs.Determined.{LoadingComesToOne};
 ghost use Rattle.wesl_meaning.specs.Example.{PremisesAreMet};
 ghost use Rattle.wesl_meaning.specs.Runs.{LinkedModulesHaveAProgram, LinkedUnitsEndWell, LinkedUnitsRunAlike, WhatIsLoaded};
+ghost use Rattle.wesl_meaning.specs.Same.{OrderOfModulesDoesNotCount};
 ghost use Rattle.wesl_meaning.specs.Unique.{LinkedUnitsAreOne};
+
+use wesl_resolve::Resolver;
 
 /// A run of a kept name ends in the linked unit as it does in the modules, with the same answer in the same steps.
 pub fn linked_units_run_alike()
@@ -23,8 +26,8 @@ pub fn linked_modules_have_a_program()
 {}
 
 /// Modules that loading comes to are apart, have each name once, and all that occurs in what is reached is there.
-pub fn what_is_loaded()
-    ensures { WhatIsLoaded }
+pub fn what_is_loaded<R: Resolver>()
+    ensures { (resolver : R) → WhatIsLoaded (R.answers resolver) }
 {}
 
 /// The linked unit declares what is held, each once under its printed name, and scope alone gives each occurrence what it denoted.
@@ -38,13 +41,18 @@ pub fn linked_units_are_one()
 {}
 
 /// Loading comes to one refusal, or to the same units at the same printed paths.
-pub fn loading_comes_to_one()
-    ensures { LoadingComesToOne }
+pub fn loading_comes_to_one<R: Resolver>()
+    ensures { (resolver : R) → LoadingComesToOne (R.answers resolver) }
 {}
 
 /// Sources that agree on the paths that are asked of one of them come to the same refusal, or to the same units.
-pub fn only_what_is_asked_counts()
-    ensures { OnlyWhatIsAskedCounts }
+pub fn only_what_is_asked_counts<R: Resolver, S: Resolver>()
+    ensures { (one : R) (other : S) → OnlyWhatIsAskedCounts (R.answers one) (S.answers other) }
+{}
+
+/// What holds of modules, and what they are refused for, doesn't depend on the order of their list.
+pub fn order_of_modules_does_not_count()
+    ensures { OrderOfModulesDoesNotCount }
 {}
 
 /// There are modules that meet the premises of these laws, with a run that ends well.
