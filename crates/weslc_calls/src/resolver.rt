@@ -1,5 +1,10 @@
 //! Modules whose texts are handed in.
 
+ghost use Rattle.std.specs.Prelude.{◌≡◌, [], None, IfOk, OnOk, OnErr, map};
+ghost use Rattle.std.specs.Option.{is_some};
+ghost use Rattle.wgsl_path.specs.Paths.{path_text};
+ghost use Rattle.weslc_calls.specs.Stored.{text_at, texts_added, IsAdded, TellsStored};
+
 use indexmap::IndexMap;
 use std::alloc::{AllocError, Global};
 use wesl_link::{ResolveError, Resolver};
@@ -23,7 +28,9 @@ pub struct VirtualResolver {
 
 impl VirtualResolver {
     /// No modules.
-    pub fn new(alloc: Global) -> VirtualResolver {
+    pub fn new(alloc: Global) -> VirtualResolver
+        ensures { texts_added result ≡ [] }
+    {
         VirtualResolver {
             alloc,
             modules: IndexMap::new(alloc),
@@ -31,14 +38,19 @@ impl VirtualResolver {
     }
 
     /// Adds the text of a module, in place of the one that was there. Where memory is refused nothing is changed.
-    pub fn add_module(&mut self, path: ModulePath, text: Text) -> Result<(), AllocError> {
+    pub fn add_module(&mut self, path: ModulePath, text: Text) -> Result<(), AllocError>
+        ensures added { OnOk result (IsAdded self.old (path_text path) text self.new) }
+        ensures refused { OnErr result (texts_added self.new ≡ texts_added self.old) }
+    {
         let key = path.to_string(self.alloc)?;
         self.modules.insert(key, VirtualModule { path, text })?;
         Ok(())
     }
 
     /// The text of a module.
-    pub fn get_module(&self, path: &ModulePath) -> Result<&str, ResolveError> {
+    pub fn get_module(&self, path: &ModulePath) -> Result<&str, ResolveError>
+        ensures { TellsStored self.now path.now result }
+    {
         let key = path.to_string(self.alloc)?;
         match self.modules.get(key.as_str()) {
             Some(module) => Ok(module.text.as_str()),
@@ -47,7 +59,9 @@ impl VirtualResolver {
     }
 
     /// The paths and texts of the modules, the first added first.
-    pub fn modules(&self) -> Result<Vec<(&ModulePath, &str)>, AllocError> {
+    pub fn modules(&self) -> Result<Vec<(&ModulePath, &str)>, AllocError>
+        ensures { IfOk result (λ modules. map (λ m. (m.0.now, m.1.now)) modules.items ≡ texts_added self.now) }
+    {
         let mut modules = Vec::new(self.alloc);
         for module in self.modules.values() {
             modules.push((&module.path, module.text.as_str()))?;
@@ -56,13 +70,23 @@ impl VirtualResolver {
     }
 
     /// Whether there is a module at a path.
-    pub fn contains(&self, path: &ModulePath) -> Result<bool, AllocError> {
+    pub fn contains(&self, path: &ModulePath) -> Result<bool, AllocError>
+        ensures { IfOk result (λ found. found ≡ is_some (text_at self.now (path_text path.now))) }
+    {
         let key = path.to_string(self.alloc)?;
         Ok(self.modules.contains_key(key.as_str()))
     }
 }
 
 impl Resolver for VirtualResolver {
+    ghost use Rattle.std.specs.Prelude.{◌≡◌, Some, None};
+    ghost use Rattle.wesl_resolve.specs.Found.{unit_of, not_found};
+    ghost use Rattle.weslc_calls.specs.Stored.{text_at, found_in};
+
+    ghost answers = { λ r p a. found_in (text_at r p) a };
+
+    ghost texts = { λ r p text. text_at r p ≡ Some text };
+
     fn resolve_source(&mut self, alloc: Global, path: &ModulePath) -> Result<Text, ResolveError> {
         Ok(Text::from_str(alloc, self.get_module(path)?)?)
     }
@@ -80,4 +104,6 @@ impl Resolver for VirtualResolver {
             },
         }
     }
+
+    ghost apart = { λ r p u. elim (text_at r p) as (λ o. found_in o (unit_of u) → found_in o not_found → ⊥) [ None ↦ λ h _. h | Some text ↦ λ _ h. h ] };
 }
