@@ -1,73 +1,142 @@
 -- What the calls answer.
-use Rattle.std.specs.Prelude.{◌≡◌, ⊤, ◌⊎◌, ℕ, List, Option, Some, None}
+use Rattle.std.specs.Prelude.{◌≡◌, ⊤, ◌⊎◌, ◌↔◌, ℕ, List, [], ◌∷◌, Option, Ok, Err, string_bytes}
+use Rattle.wgsl_path.specs.declared.path.ModulePath.{ModulePath}
+use Rattle.wgsl_path.specs.Paths.{path_text}
 use Rattle.wgsl_syntax.specs.Tree.{Unit}
 use Rattle.wgsl_syntax.specs.Print.{unit_text}
-use Rattle.wgsl_meaning.specs.declared.fault.Fault.{Fault}
-use Rattle.wgsl_meaning.specs.declared.fault.Fault.TheVariants.{Number, Name as Named}
-use Rattle.wesl_validate.specs.declared.error.ValidateFault.{ValidateFault}
-use Rattle.wgsl_eval.specs.declared.error.Refusal.{Refusal}
+use Rattle.wesl_resolve.specs.Found.{unit_of}
+use Rattle.wesl_sources.specs.Occurrences.{Name}
+use Rattle.wesl_sources.specs.Modules.{Path, Modules}
+use Rattle.wesl_sources.specs.Rounds.{Sources, Refusal, too_many_modules, module_not_found, syntax, duplicate_symbol, missing_decl, private, Loads, ComesTo}
+use Rattle.wesl_sources.specs.Kept.{kept_names}
+use Rattle.wesl_sources.specs.Linked.{IsLinked}
+use Rattle.wesl_sources.specs.Loaded.{IsClashFree}
+use Rattle.wesl_sources.specs.Clashing.{IsFirstClash}
+use Rattle.wesl_sources.specs.Same.{SameModules}
+use Rattle.wgsl_meaning.specs.declared.value.Value.{Value}
+use Rattle.wgsl_meaning.specs.Names.{Symbol}
+use Rattle.wgsl_meaning.specs.Programs.{Program, Inputs, here, program_of, EndsWell}
+use Rattle.wesl_meaning.specs.SourcePrograms.{IsProgramOf}
+use Rattle.wesl_meaning.specs.Runs.{IsKept}
+use Rattle.wesl_meaning.specs.Declared.{DeclaresWhatIsHeld}
+use Rattle.wesl_reach.specs.Resolved.{modules_of, IsResolved}
+use Rattle.wesl_link.specs.declared.rounds.Resolutions.{Resolutions}
 use Rattle.weslc_unit.specs.Compiled.{IsTextOf, IsCompiled, Refuses}
 use Rattle.weslc_unit.specs.declared.error.UnitRefusal.{UnitRefusal}
-use Rattle.weslc_unit.specs.declared.error.UnitRefusal.TheVariants as of
+use Rattle.weslc_laws.specs.Compiled.{RunsAsItsSources}
+use Rattle.weslc_laws.specs.Declared.{DeclaresHeldFunctions}
+use Rattle.weslc_calls.specs.Told.{about_module, about_item, about_name, Tells}
+use Rattle.weslc_calls.specs.declared.error.ResolveKind.TheVariants.{ModuleNotFound}
+use Rattle.weslc_calls.specs.declared.error.ImportKind.TheVariants.{DuplicateSymbol, MissingDecl, Private}
 use Rattle.weslc_calls.specs.declared.error.CompileError.{CompileError}
 use Rattle.weslc_calls.specs.declared.error.CompileError.TheVariants.{TooManyModules, Resolve, Syntax, Import, NameClash, Validate, UnclearName, Eval, Unprintable, OutOfMemory}
 
--- ---- refusals
+-- A run of a kept name ends well in the modules exactly where it does in the unit, with the same answer in the same steps.
+abbrev pub RunsLikeItsSources : Modules → Path → List Name → Unit → Type 0
+RunsLikeItsSources modules root kept unit = (p : Program) → IsProgramOf modules root kept p → (s : Symbol) → IsKept root kept s
+    → (inputs : Inputs) (n : ℕ) (answer : Option Value) → EndsWell p s inputs n answer ↔ EndsWell (program_of unit) (here s.called) inputs n answer
 
--- a refusal of linking, or that memory was refused
-abbrev pub IsOfLinking : CompileError → Type 0
-IsOfLinking (TooManyModules c) = ⊤
-IsOfLinking (Resolve c kind) = ⊤
-IsOfLinking (Syntax c e) = ⊤
-IsOfLinking (Import c kind) = ⊤
-IsOfLinking (NameClash c) = ⊤
-IsOfLinking OutOfMemory = ⊤
-IsOfLinking (Validate c kind) = ⊥
-IsOfLinking (UnclearName c) = ⊥
-IsOfLinking (Eval c fault) = ⊥
-IsOfLinking (Unprintable c) = ⊥
+-- What is found at each path, the root's path, the names that are asked for, and how many modules may be loaded.
+module _ (found : Sources) (root : Path) (asked : List Name) (max : ℕ) where
+  -- ---- what is loaded and linked
 
--- the name that a fault is about
-abbrev pub fault_name : Fault → Option (List ℕ)
-fault_name (Number f) = None
-fault_name (Named f x) = Some x
+  -- The modules that loading comes to. These names of the root are kept: those that are asked for, else its entry points.
+  pub record AreLoadedFrom (kept : List Name) (modules : Modules) : Type 0 where
+    pub unit : Unit
+    pub is_root : found root (unit_of unit)
+    pub names : kept ≡ kept_names asked unit
+    pub loaded : ComesTo found root kept max (Ok modules)
 
--- memory aside, what is said of a refusal of a unit: its kind, and the name concerned
-abbrev pub TellsOfFault : ValidateFault → CompileError → Type 0
-TellsOfFault f (Validate c kind) = (kind ≡ f.kind) × (c.name ≡ Some f.name)
-TellsOfFault f OutOfMemory = ⊤
-TellsOfFault f _ = ⊥
+  -- No name of the loaded modules clashes, and they are linked into this unit.
+  pub record AreLinkedFrom (kept : List Name) (modules : Modules) (linked : Unit) : Type 0 where
+    pub loaded : AreLoadedFrom kept modules
+    pub clash_free : IsClashFree modules root kept
+    pub whole : IsLinked modules root kept linked
 
-abbrev pub TellsOfEvaluation : Refusal → CompileError → Type 0
-TellsOfEvaluation r (Eval c fault) = (fault ≡ r.fault) × (c.name ≡ fault_name r.fault)
-TellsOfEvaluation r OutOfMemory = ⊤
-TellsOfEvaluation r _ = ⊥
+  -- the unit that the loaded modules are linked into
+  pub record IsLinkedUnit (linked : Unit) : Type 0 where
+    pub kept : List Name
+    pub modules : Modules
+    pub are_linked : AreLinkedFrom kept modules linked
 
-abbrev pub TellsOfUnclear : List ℕ → CompileError → Type 0
-TellsOfUnclear x (UnclearName c) = c.name ≡ Some x
-TellsOfUnclear x _ = ⊥
+  -- the tables of loaded modules none of whose names clashes
+  pub record AreTablesOf (r : Resolutions) : Type 0 where
+    pub kept : List Name
+    pub modules : Modules
+    pub loaded : AreLoadedFrom kept modules
+    pub clash_free : IsClashFree modules root kept
+    pub same : SameModules modules (modules_of r.modules)
+    pub is_root : string_bytes r.root ≡ root
+    pub resolved : IsResolved r.modules root kept r.held
 
-abbrev pub TellsOfUnprintable : List ℕ → CompileError → Type 0
-TellsOfUnprintable x (Unprintable c) = c.name ≡ Some x
-TellsOfUnprintable x _ = ⊥
+  -- ---- refusals
 
-abbrev pub Tells : UnitRefusal → CompileError → Type 0
-Tells (of.Validate f) e = TellsOfFault f e
-Tells (of.UnclearName x) e = TellsOfUnclear x e
-Tells (of.Eval r) e = TellsOfEvaluation r e
-Tells (of.Unprintable x) e = TellsOfUnprintable x e
-Tells of.OutOfMemory e = e ≡ OutOfMemory
+  -- what loading is refused for: the root, or something behind it
+  pub data IsRefusedLoading (r : Refusal) : Type 0 where
+    of_the_root : Loads found max 0 (root ∷ []) (Err r) → IsRefusedLoading r
+    behind_the_root : {unit : Unit} → found root (unit_of unit) → ComesTo found root (kept_names asked unit) max (Err r) → IsRefusedLoading r
 
--- ---- answers
+  -- the first name of the linked unit that is read otherwise than meant
+  pub record IsFirstClashFrom (y : Name) : Type 0 where
+    pub kept : List Name
+    pub modules : Modules
+    pub loaded : AreLoadedFrom kept modules
+    pub clash : IsFirstClash modules root kept y
 
--- the text of a unit, which is read as that unit
-abbrev pub IsLinkedText : List ℕ → Type 0
-IsLinkedText text = (linked : Unit) × (text ≡ unit_text linked) × IsTextOf linked text
+  -- memory aside, an error of linking tells the first refusal: of loading, else the first name that clashes
+  abbrev pub RefusesLinking : CompileError → Type 0
+  RefusesLinking (TooManyModules c) = (m : ModulePath) × (c ≡ about_module m) × IsRefusedLoading (too_many_modules (path_text m))
+  RefusesLinking (Resolve c ModuleNotFound) = (m : ModulePath) × (c ≡ about_module m) × IsRefusedLoading (module_not_found (path_text m))
+  RefusesLinking (Syntax c f) = (m : ModulePath) × (c ≡ about_module m) × IsRefusedLoading (syntax (path_text m) f)
+  RefusesLinking (Import c DuplicateSymbol) = (m : ModulePath) × (x : Name) × (c ≡ about_item m x) × IsRefusedLoading (duplicate_symbol (path_text m) x)
+  RefusesLinking (Import c MissingDecl) = (m : ModulePath) × (x : Name) × (c ≡ about_item m x) × IsRefusedLoading (missing_decl (path_text m) x)
+  RefusesLinking (Import c Private) = (m : ModulePath) × (x : Name) × (c ≡ about_item m x) × IsRefusedLoading (private (path_text m) x)
+  RefusesLinking (NameClash c) = (y : Name) × (c ≡ about_name y) × IsFirstClashFrom y
+  RefusesLinking OutOfMemory = ⊤
+  RefusesLinking (Validate c kind) = ⊥
+  RefusesLinking (UnclearName c) = ⊥
+  RefusesLinking (Eval c fault) = ⊥
+  RefusesLinking (Unprintable c) = ⊥
 
--- what a unit is compiled to
-abbrev pub IsCompiledText : List ℕ → Type 0
-IsCompiledText text = (linked : Unit) × IsCompiled linked text
+  -- the linked unit is not read from its text, of which some name is told
+  pub record IsUnprintable (e : CompileError) : Type 0 where
+    pub linked : Unit
+    pub is_linked : IsLinkedUnit linked
+    pub unread : IsTextOf linked (unit_text linked) → ⊥
+    pub name : Name
+    pub told : e ≡ Unprintable (about_name name)
 
--- of linking, or told of the first fault of a unit
-abbrev pub IsRefusal : CompileError → Type 0
-IsRefusal e = IsOfLinking e ⊎ ((linked : Unit) × (refusal : UnitRefusal) × Refuses linked refusal × Tells refusal e)
+  -- the first refusal of the linked unit, as the error tells it
+  pub record IsRefusedUnit (e : CompileError) : Type 0 where
+    pub linked : Unit
+    pub is_linked : IsLinkedUnit linked
+    pub refusal : UnitRefusal
+    pub refused : Refuses linked refusal
+    pub told : Tells refusal e
+
+  -- ---- texts
+
+  -- The text of the unit that the loaded modules are linked into, which is read as that unit. It declares what is held, each once
+  -- under its printed name, and its runs end well exactly where those of the modules do.
+  pub record IsLinkedText (text : List ℕ) : Type 0 where
+    pub kept : List Name
+    pub modules : Modules
+    pub linked : Unit
+    pub are_linked : AreLinkedFrom kept modules linked
+    pub whole : text ≡ unit_text linked
+    pub reads : IsTextOf linked text
+    pub declares : DeclaresWhatIsHeld modules root kept linked
+    pub runs : RunsLikeItsSources modules root kept linked
+    pub has_program : (p : Program) × IsProgramOf modules root kept p
+
+  -- The compiled text of the unit that the loaded modules are linked into. What it is read as declares the held functions, each
+  -- once under its printed name, and every run that ends well in the modules ends well there, with the same answer in no more steps.
+  pub record IsCompiledText (text : List ℕ) : Type 0 where
+    pub kept : List Name
+    pub modules : Modules
+    pub linked : Unit
+    pub are_linked : AreLinkedFrom kept modules linked
+    pub compiled : IsCompiled linked text
+    pub declares : DeclaresHeldFunctions modules root kept linked compiled.low
+    pub runs : RunsAsItsSources modules root kept compiled.low
+    pub has_program : (p : Program) × IsProgramOf modules root kept p

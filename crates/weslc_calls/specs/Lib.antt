@@ -1,2 +1,3 @@
-pub mod Answers
+pub mod Told
 pub mod Stored
+pub mod Answers

@@ -1,7 +1,11 @@
 //! The calls.
 
-ghost use Rattle.std.specs.Prelude.{IfOk, IfErr, string_bytes};
-ghost use Rattle.weslc_calls.specs.Answers.{IsOfLinking, IsLinkedText, IsCompiledText, IsRefusal};
+ghost use Rattle.std.specs.Prelude.{◌≡◌, ◌⊎◌, List, IfOk, IfErr, string_bytes};
+ghost use Rattle.wgsl_path.specs.Paths.{path_text};
+ghost use Rattle.wgsl_syntax.specs.View.{unit_tree};
+ghost use Rattle.wesl_resolve.specs.Found.{unit_of, SameAnswers, SameTexts};
+ghost use Rattle.wesl_sources.specs.Occurrences.{Name};
+ghost use Rattle.weslc_calls.specs.Answers.{RefusesLinking, AreTablesOf, IsLinkedUnit, IsLinkedText, IsCompiledText, IsUnprintable, IsRefusedUnit};
 
 use crate::error::CompileError;
 use crate::options::Options;
@@ -26,7 +30,8 @@ pub fn link<R: Resolver>(
     root: &ModulePath,
     options: &Options,
 ) -> Result<(String, BasicSourceMap), CompileError>
-    ensures text { IfOk result (λ answer. IsLinkedText (string_bytes answer.0)) }
+    ensures text { IfOk result (λ answer. IsLinkedText (R.answers resolver.old) (path_text root.now) options.now.keep options.now.max_modules (string_bytes answer.0)) }
+    ensures refusal { IfErr result (λ e. RefusesLinking (R.answers resolver.old) (path_text root.now) options.now.keep options.now.max_modules e ⊎ IsUnprintable (R.answers resolver.old) (path_text root.now) options.now.keep options.now.max_modules e) }
 {
     let Linked { unit, map } = linked_unit(alloc, resolver, root, options)?;
     match print_unit(alloc, &unit) {
@@ -44,8 +49,8 @@ pub fn compile<R: Resolver>(
     root: &ModulePath,
     options: &Options,
 ) -> Result<(String, BasicSourceMap), CompileError>
-    ensures text { IfOk result (λ answer. IsCompiledText (string_bytes answer.0)) }
-    ensures refusal { IfErr result IsRefusal }
+    ensures text { IfOk result (λ answer. IsCompiledText (R.answers resolver.old) (path_text root.now) options.now.keep options.now.max_modules (string_bytes answer.0)) }
+    ensures refusal { IfErr result (λ e. RefusesLinking (R.answers resolver.old) (path_text root.now) options.now.keep options.now.max_modules e ⊎ IsRefusedUnit (R.answers resolver.old) (path_text root.now) options.now.keep options.now.max_modules e) }
 {
     let Linked { unit, map } = linked_unit(alloc, resolver, root, options)?;
     match compile_unit(alloc, &unit) {
@@ -62,20 +67,52 @@ fn linked_unit<R: Resolver>(
     root: &ModulePath,
     options: &Options,
 ) -> Result<Linked, CompileError>
-    ensures { IfErr result IsOfLinking }
+    ensures unit { IfOk result (λ linked. IsLinkedUnit (R.answers resolver.old) (path_text root.now) options.now.keep options.now.max_modules (unit_tree linked.unit)) }
+    ensures refusal { IfErr result (RefusesLinking (R.answers resolver.old) (path_text root.now) options.now.keep options.now.max_modules) }
 {
-    if options.max_modules == 0 {
-        return Err(CompileError::too_many_modules(alloc, root)?);
-    }
-    let unit = resolver.resolve_module(alloc, root)?;
-    let keep = options.keep.as_slice();
-    let resolutions = resolve_lazy(alloc, keep, unit, root, resolver, options.max_modules)?;
-    if let Some(name) = resolutions.names_clash(alloc)? {
-        return Err(CompileError::name_clash(name));
-    }
+    let resolutions = loaded(alloc, resolver, root, options)?;
     let unit = resolutions.assemble(alloc)?;
     let map = source_map(alloc, resolver, root, &resolutions)?;
     Ok(Linked { unit, map })
+}
+
+/// The modules that the kept names of the root lead to, where no name clashes.
+fn loaded<R: Resolver>(
+    alloc: Global,
+    resolver: &mut R,
+    root: &ModulePath,
+    options: &Options,
+) -> Result<Resolutions, CompileError>
+    ensures tables { IfOk result (AreTablesOf (R.answers resolver.old) (path_text root.now) options.now.keep options.now.max_modules) }
+    ensures refusal { IfErr result (RefusesLinking (R.answers resolver.old) (path_text root.now) options.now.keep options.now.max_modules) }
+    ensures same_answers { SameAnswers (R.answers resolver.old) (R.answers resolver.new) }
+    ensures same_texts { SameTexts (R.texts resolver.old) (R.texts resolver.new) }
+{
+    let unit = root_unit(alloc, resolver, root, options.max_modules)?;
+    let keep = options.keep.as_slice();
+    let resolutions = resolve_lazy(alloc, keep, unit, root, resolver, options.max_modules)?;
+    match resolutions.names_clash(alloc)? {
+        Some(name) => Err(CompileError::name_clash(name)),
+        None => Ok(resolutions),
+    }
+}
+
+/// The root's unit.
+fn root_unit<R: Resolver>(
+    alloc: Global,
+    resolver: &mut R,
+    root: &ModulePath,
+    max_modules: u32,
+) -> Result<TranslationUnit, CompileError>
+    ensures unit { IfOk result (λ unit. R.answers resolver.old (path_text root.now) (unit_of (unit_tree unit))) }
+    ensures refusal { IfErr result (λ e. (asked : List Name) → RefusesLinking (R.answers resolver.old) (path_text root.now) asked max_modules e) }
+    ensures same_answers { SameAnswers (R.answers resolver.old) (R.answers resolver.new) }
+    ensures same_texts { SameTexts (R.texts resolver.old) (R.texts resolver.new) }
+{
+    if max_modules == 0 {
+        return Err(CompileError::too_many_modules(alloc, root)?);
+    }
+    Ok(resolver.resolve_module(alloc, root)?)
 }
 
 /// The map of what is linked: the held symbols under their names in the linked unit, the loaded modules, and the root's text
@@ -86,7 +123,7 @@ fn source_map<R: Resolver>(
     root: &ModulePath,
     resolutions: &Resolutions,
 ) -> Result<BasicSourceMap, CompileError>
-    ensures { IfErr result IsOfLinking }
+    ensures { IfErr result (λ e. e ≡ CompileError.OutOfMemory) }
 {
     let mut map = BasicSourceMap::new(alloc);
     resolutions.add_decls(alloc, &mut map)?;

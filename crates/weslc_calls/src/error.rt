@@ -1,7 +1,7 @@
 //! What a call is refused for.
 
-ghost use Rattle.std.specs.Prelude.{◌≡◌, Some, IfOk};
-ghost use Rattle.weslc_calls.specs.Answers.{IsOfLinking, Tells, TellsOfFault, TellsOfEvaluation, fault_name};
+ghost use Rattle.std.specs.Prelude.{◌≡◌, IfOk};
+ghost use Rattle.weslc_calls.specs.Told.{about_module, about_item, about_name, Tells, TellsOfFault, TellsOfEvaluation, fault_name};
 
 use std::alloc::{AllocError, AllocFailed, Global};
 use std::fmt;
@@ -64,7 +64,9 @@ pub enum CompileError {
 }
 
 impl Concern {
-    fn of_module(module: ModulePath) -> Concern {
+    fn of_module(module: ModulePath) -> Concern
+        ensures { result ≡ about_module «module» }
+    {
         Concern {
             module: Some(module),
             decl: None,
@@ -72,7 +74,9 @@ impl Concern {
         }
     }
 
-    fn of_item(module: ModulePath, name: Text) -> Concern {
+    fn of_item(module: ModulePath, name: Text) -> Concern
+        ensures { result ≡ about_item «module» name }
+    {
         Concern {
             module: Some(module),
             decl: None,
@@ -81,7 +85,7 @@ impl Concern {
     }
 
     fn of_name(name: Text) -> Concern
-        ensures { result.name ≡ Some name }
+        ensures { result ≡ about_name name }
     {
         Concern {
             module: None,
@@ -126,19 +130,19 @@ fn name_of(alloc: Global, fault: &Fault) -> Result<Option<Text>, AllocError>
 
 impl CompileError {
     pub fn too_many_modules(alloc: Global, module: &ModulePath) -> Result<CompileError, AllocError>
-        ensures { IfOk result IsOfLinking }
+        ensures { IfOk result (λ e. e ≡ CompileError.TooManyModules (about_module «module».now)) }
     {
         Ok(CompileError::TooManyModules(Concern::of_module(module.clone_in(alloc)?)))
     }
 
     pub fn name_clash(name: Text) -> CompileError
-        ensures { IsOfLinking result }
+        ensures { result ≡ CompileError.NameClash (about_name name) }
     {
         CompileError::NameClash(Concern::of_name(name))
     }
 
     pub fn unprintable(name: Text) -> CompileError
-        ensures { (c : _) × (result ≡ CompileError.Unprintable c) × (c.name ≡ Some name) }
+        ensures { result ≡ CompileError.Unprintable (about_name name) }
     {
         CompileError::Unprintable(Concern::of_name(name))
     }
@@ -223,9 +227,10 @@ impl<T: Drop> From<AllocFailed<T>> for CompileError {
 }
 
 impl From<ResolveError> for CompileError {
-    ghost use Rattle.weslc_calls.specs.Answers.{IsOfLinking};
+    ghost use Rattle.std.specs.Prelude.{◌≡◌};
+    ghost use Rattle.weslc_calls.specs.Told.{of_resolving};
 
-    ghost from_gives = { λ _ e. IsOfLinking e };
+    ghost from_gives = { λ error e. e ≡ of_resolving error };
 
     fn from(error: ResolveError) -> CompileError {
         match error {
@@ -242,9 +247,10 @@ impl From<ResolveError> for CompileError {
 }
 
 impl From<ImportError> for CompileError {
-    ghost use Rattle.weslc_calls.specs.Answers.{IsOfLinking};
+    ghost use Rattle.std.specs.Prelude.{◌≡◌};
+    ghost use Rattle.weslc_calls.specs.Told.{of_loading};
 
-    ghost from_gives = { λ _ e. IsOfLinking e };
+    ghost from_gives = { λ error e. e ≡ of_loading error };
 
     fn from(error: ImportError) -> CompileError {
         match error {

@@ -1,0 +1,151 @@
+-- What loading comes to, and the error that tells it.
+use Rattle.std.specs.Prelude.{◌↔◌, string_bytes}
+use Rattle.std.proofs.Common.{◌≡◌, ℕ, ◌+◌, ◌<◌, List, [], ◌∷◌, ◌++◌, length, Option, Result, Ok, Err, Some, None, refl, sym, subst, Contains}
+use Rattle.wgsl_path.specs.declared.path.ModulePath.{ModulePath}
+use Rattle.wgsl_path.specs.Paths.{path_text}
+use Rattle.wgsl_token.specs.declared.error.Error.{Error}
+use Rattle.wgsl_syntax.specs.Tree.{Unit as Module}
+use Rattle.wesl_resolve.specs.Found.{Answer, unit_of, not_found, faulty, TellsUnit, SameAnswers}
+use Rattle.wesl_resolve.specs.declared.error.ResolveError.{ResolveError}
+use Rattle.wesl_resolve.specs.declared.error.ResolveError.TheVariants as resolve
+use Rattle.wesl_sources.specs.Occurrences.{Name}
+use Rattle.wesl_sources.specs.Modules.{Path, Modules, Declares}
+use Rattle.wesl_sources.specs.Rounds.{Sources, Refusal, module_not_found, syntax, Loads, all_loaded, one_too_many, is_not_found, is_faulty, has_a_name_twice, loaded_then_refused, loaded, Goes, an_occurrence_refused, nothing_asked, a_module_refused, a_round, ComesTo, root_refused, kept_name_missing, goes_on}
+use Rattle.wesl_sources.specs.Kept.{kept_names}
+use Rattle.wesl_sources.specs.Linked.{IsLinked}
+use Rattle.wesl_sources.specs.Loaded.{IsClashFree}
+use Rattle.wesl_sources.specs.Clashing.{IsFirstClash}
+use Rattle.wesl_sources.specs.Same.{SameModules}
+use Rattle.wesl_scopes.specs.declared.error.ImportError.{ImportError}
+use Rattle.wesl_scopes.specs.declared.error.ImportError.TheVariants as import
+use Rattle.wesl_meaning.proofs.Same.{same_turned, clash_free_in_any_order, linked_in_any_order, first_clash_in_any_order}
+use Rattle.wesl_reach.specs.Missing.{refusal_of}
+use Rattle.wesl_reach.specs.Answers.{Refuses}
+use Rattle.wesl_reach.specs.Resolved.{modules_of, IsResolved}
+use Rattle.wesl_link.specs.declared.rounds.Resolutions.{Resolutions}
+use Rattle.wesl_link.specs.Answers.{Resolves}
+use Rattle.weslc_calls.specs.Told.{of_resolving, of_loading}
+use Rattle.weslc_calls.specs.Answers.{AreLoadedFrom, IsRefusedLoading, of_the_root, behind_the_root, IsFirstClashFrom, RefusesLinking, AreTablesOf, IsLinkedUnit}
+
+-- ---- what is found is the same: loading comes to the same
+
+module _ (found other : Sources) (same : SameAnswers found other) (max : ℕ) where
+  pub loads_moves : {n : ℕ} {ps : List Path} {o : Result Modules Refusal} → Loads found max n ps o → Loads other max n ps o
+  loads_moves all_loaded = all_loaded
+  loads_moves (one_too_many m) = one_too_many m
+  loads_moves (is_not_found {p = p} m f) = is_not_found m ((same p not_found).0 f)
+  loads_moves (is_faulty {p = p} {e = e} m f) = is_faulty m ((same p (faulty e)).0 f)
+  loads_moves (has_a_name_twice {p = p} {u = u} m f again) = has_a_name_twice m ((same p (unit_of u)).0 f) again
+  loads_moves (loaded_then_refused {p = p} {u = u} m f d more) = loaded_then_refused m ((same p (unit_of u)).0 f) d (loads_moves more)
+  loads_moves (loaded {p = p} {u = u} m f d t more) = loaded m ((same p (unit_of u)).0 f) d t (loads_moves more)
+
+  module _ (root : Path) (keep : List Name) where
+    goes_moves : {modules : Modules} {o : Result Modules Refusal} → Goes found root keep max modules o → Goes other root keep max modules o
+    goes_moves (an_occurrence_refused r) = an_occurrence_refused r
+    goes_moves (nothing_asked none next) = nothing_asked none next
+    goes_moves (a_module_refused none next l) = a_module_refused none next (loads_moves l)
+    goes_moves (a_round none next some l more) = a_round none next some (loads_moves l) (goes_moves more)
+
+    pub comes_moves : {o : Result Modules Refusal} → ComesTo found root keep max o → ComesTo other root keep max o
+    comes_moves (root_refused l) = root_refused (loads_moves l)
+    comes_moves (kept_name_missing l u) = kept_name_missing (loads_moves l) (record { before = u.before; behind = u.behind; whole = u.whole; declared = u.declared; undeclared = u.undeclared })
+    comes_moves (goes_on l k g) = goes_on (loads_moves l) k (goes_moves g)
+
+turned : (found other : Sources) → SameAnswers found other → SameAnswers other found
+turned found other same p a = ((same p a).1, (same p a).0)
+
+-- ---- the error that tells a refusal
+
+module _ (found : Sources) (root : Path) (asked : List Name) (max : ℕ) where
+  -- the root is not found, or its text is at fault
+  root_not_found : 0 < max → (path m : ModulePath) → path_text path ≡ root → m ≡ path → found root not_found → IsRefusedLoading found root asked max (module_not_found (path_text m))
+  root_not_found some path m is same f = rw same (rw is (of_the_root (is_not_found some f)))
+
+  root_faulty : 0 < max → (path m : ModulePath) (e : Error) → path_text path ≡ root → m ≡ path → found root (faulty e) → IsRefusedLoading found root asked max (syntax (path_text m) e)
+  root_faulty some path m e is same f = rw same (rw is (of_the_root (is_faulty some f)))
+
+  pub root_told : 0 < max → (path : ModulePath) → path_text path ≡ root → (e : ResolveError) → TellsUnit (found root) path (Err e) → RefusesLinking found root asked max (of_resolving e)
+  root_told some path is (resolve.ModuleNotFound m) t = (m, refl, root_not_found some path m is t.0 t.1)
+  root_told some path is (resolve.Syntax m f) t = (m, refl, root_faulty some path m f is t.0 t.1)
+  root_told some path is resolve.OutOfMemory t = tt
+
+  -- something behind the root is refused, in what is found after the root was asked for
+  behind : (after : Sources) → SameAnswers found after → (unit : Module) → found root (unit_of unit) → (r : Refusal) → ComesTo after root (kept_names asked unit) max (Err r)
+      → IsRefusedLoading found root asked max r
+  behind after same unit is r c = behind_the_root is (comes_moves after found (turned found after same) max root (kept_names asked unit) c)
+
+  pub loading_told : (after : Sources) → SameAnswers found after → (unit : Module) → found root (unit_of unit) → (e : ImportError)
+      → Refuses after root (kept_names asked unit) max (refusal_of e) → RefusesLinking found root asked max (of_loading e)
+  loading_told after same unit is (import.TooManyModules m) r = (m, refl, behind after same unit is _ r)
+  loading_told after same unit is (import.Resolve (resolve.ModuleNotFound m)) r = (m, refl, behind after same unit is _ r)
+  loading_told after same unit is (import.Resolve (resolve.Syntax m f)) r = (m, refl, behind after same unit is _ r)
+  loading_told after same unit is (import.Resolve resolve.OutOfMemory) r = tt
+  loading_told after same unit is (import.DuplicateSymbol m x) r = (m, x, refl, behind after same unit is _ r)
+  loading_told after same unit is (import.MissingDecl m x) r = (m, x, refl, behind after same unit is _ r)
+  loading_told after same unit is (import.Private m x) r = (m, x, refl, behind after same unit is _ r)
+  loading_told after same unit is import.OutOfMemory r = tt
+
+  -- the tables of what is loaded
+  pub record AreTables (kept : List Name) (r : Resolutions) : Type 0 where
+    pub modules : Modules
+    pub loaded : AreLoadedFrom found root asked max kept modules
+    pub same : SameModules modules (modules_of r.modules)
+    pub is_root : string_bytes r.root ≡ root
+    pub resolved : IsResolved r.modules root kept r.held
+
+  pub tables : (after : Sources) → SameAnswers found after → (unit : Module) → found root (unit_of unit) → (r : Resolutions)
+      → Resolves after root (kept_names asked unit) max (Ok r) → AreTables (kept_names asked unit) r
+  tables after same unit is r t = record {
+    modules = t.1.modules;
+    loaded = record { unit = unit; is_root = is; names = refl; loaded = comes_moves after found (turned found after same) max root (kept_names asked unit) t.1.loaded };
+    same = t.1.same;
+    is_root = t.0;
+    resolved = t.1.resolved;
+  }
+
+  -- ---- names that clash, and the linked unit
+
+  record_moved : (kept : List Name) (r : Resolutions) → AreTables kept r → IsResolved r.modules (string_bytes r.root) kept r.held
+  record_moved kept r t = subst (λ m. IsResolved r.modules m kept r.held) (sym t.is_root) t.resolved
+
+  pub free_of_clashes : (kept : List Name) (r : Resolutions) → AreTables kept r → IsClashFree (modules_of r.modules) (string_bytes r.root) kept → AreTablesOf found root asked max r
+  free_of_clashes kept r t free = record {
+    kept = kept;
+    modules = t.modules;
+    loaded = t.loaded;
+    clash_free = clash_free_in_any_order (modules_of r.modules) t.modules (same_turned t.modules (modules_of r.modules) t.same) root kept
+        (subst (λ m. IsClashFree (modules_of r.modules) m kept) t.is_root free);
+    same = t.same;
+    is_root = t.is_root;
+    resolved = t.resolved;
+  }
+
+  pub none_clashes : (kept : List Name) (r : Resolutions) → AreTables kept r → (clash : Option Name) → clash ≡ None
+      → ((keep : List Name) → IsResolved r.modules (string_bytes r.root) keep r.held → (clash ≡ None) ↔ IsClashFree (modules_of r.modules) (string_bytes r.root) keep)
+      → AreTablesOf found root asked max r
+  none_clashes kept r t clash none decides = free_of_clashes kept r t ((decides kept (record_moved kept r t)).0 none)
+
+  pub first_clashes : (kept : List Name) (r : Resolutions) → AreTables kept r → (clash : Option Name) (y : Name) → clash ≡ Some y
+      → ((keep : List Name) (name : Name) → IsResolved r.modules (string_bytes r.root) keep r.held → clash ≡ Some name → IsFirstClash (modules_of r.modules) (string_bytes r.root) keep name)
+      → IsFirstClashFrom found root asked max y
+  first_clashes kept r t clash y some first = record {
+    kept = kept;
+    modules = t.modules;
+    loaded = t.loaded;
+    clash = first_clash_in_any_order y (modules_of r.modules) t.modules (same_turned t.modules (modules_of r.modules) t.same) root kept
+        (subst (λ m. IsFirstClash (modules_of r.modules) m kept y) t.is_root (first kept y (record_moved kept r t) some));
+  }
+
+  pub linked : (r : Resolutions) → AreTablesOf found root asked max r → (unit : Module)
+      → ((keep : List Name) → IsResolved r.modules (string_bytes r.root) keep r.held → IsLinked (modules_of r.modules) (string_bytes r.root) keep unit)
+      → IsLinkedUnit found root asked max unit
+  linked r t unit is_linked = record {
+    kept = t.kept;
+    modules = t.modules;
+    are_linked = record {
+      loaded = t.loaded;
+      clash_free = t.clash_free;
+      whole = linked_in_any_order unit (modules_of r.modules) t.modules (same_turned t.modules (modules_of r.modules) t.same) root t.kept
+          (subst (λ m. IsLinked (modules_of r.modules) m t.kept unit) t.is_root (is_linked t.kept (subst (λ m. IsResolved r.modules m t.kept r.held) (sym t.is_root) t.resolved)));
+    };
+  }

@@ -1,0 +1,58 @@
+-- What is loaded, and the first refusal.
+use Rattle.std.proofs.Common.{◌≡◌, List, Option, Some, None, Ok, Err, refl, sym, subst, rules}
+use Rattle.std.specs.Prelude.{IfErr}
+use Rattle.std.proofs.lemmas.Result.{err_from_is_err_and}
+use Rattle.wgsl_path.specs.Paths.{path_text}
+use Rattle.wgsl_syntax.specs.View.{unit_tree}
+use Rattle.wesl_sources.specs.Kept.{kept_names}
+use Rattle.wesl_resolve.specs.Found.{unit_of}
+use Rattle.wesl_reach.specs.Missing.{refusal_of}
+use Rattle.wesl_reach.specs.Answers.{Refuses}
+use Rattle.wesl_link.specs.Answers.{Resolves}
+use Rattle.weslc_calls.proofs.Loading.{loading_told, tables, none_clashes, first_clashes}
+use Rattle.weslc_calls.proofs.calls.loaded.Goals as goal
+
+pub returns-in_err-unit-clause-refusal : goal.returns-in_err-unit-clause-refusal
+returns-in_err-unit-clause-refusal g c =
+    let p = err_from_is_err_and c.from_residual.result c.from_residual.ensures.1 in
+    rw (p.1, p.2) (c.in_err-unit.ensures.refusal c.args.options.now.keep)
+
+pub returns-in_err-resolutions-clause-refusal : goal.returns-in_err-resolutions-clause-refusal
+returns-in_err-resolutions-clause-refusal g c =
+    let p = err_from_is_err_and c.from_residual-in_err-resolutions.result c.from_residual-in_err-resolutions.ensures.1 in
+    let found = g.R.Resolver.answers c.args.resolver.now in
+    let after = g.R.Resolver.answers c.root_unit.new.resolver in
+    let root = path_text c.args.root.now in
+    let unit = unit_tree c.in_ok-unit.unit in
+    let max = c.args.options.now.max_modules in
+    let e = c.in_err-resolutions.field-0.0 in
+    let is = (c.in_ok-unit.ensures.same_answers root (unit_of unit)).0 c.in_ok-unit.ensures.unit in
+    let refused = subst (λ k. Refuses after root (kept_names k unit) max (refusal_of e)) c.as_slice-keep.ensures (c.in_err-resolutions.ensures.resolves is) in
+    rw (p.1, p.2) (loading_told found root c.args.options.now.keep max after c.in_ok-unit.ensures.same_answers unit c.in_ok-unit.ensures.unit e refused)
+
+pub returns-in-Some-clause-refusal : goal.returns-in-Some-clause-refusal
+returns-in-Some-clause-refusal g c =
+    let found = g.R.Resolver.answers c.args.resolver.now in
+    let after = g.R.Resolver.answers c.root_unit.new.resolver in
+    let root = path_text c.args.root.now in
+    let unit = unit_tree c.in_ok-unit.unit in
+    let max = c.args.options.now.max_modules in
+    let r = c.in_ok-resolutions.resolutions in
+    let is = (c.in_ok-unit.ensures.same_answers root (unit_of unit)).0 c.in_ok-unit.ensures.unit in
+    let resolved = subst (λ k. Resolves after root (kept_names k unit) max (Ok r)) c.as_slice-keep.ensures (c.in_ok-resolutions.ensures.resolves is) in
+    let t = tables found root c.args.options.now.keep max after c.in_ok-unit.ensures.same_answers unit c.in_ok-unit.ensures.unit r resolved in
+    let first = first_clashes found root c.args.options.now.keep max (kept_names c.args.options.now.keep unit) r t c.in_ok-name.field-0 c.in-Some.name c.in-Some.is c.in_ok-name.ensures.first in
+    rw c.name_clash.ensures (c.in-Some.name, refl, first)
+
+pub returns-in-None-clause-tables : goal.returns-in-None-clause-tables
+returns-in-None-clause-tables g c =
+    let found = g.R.Resolver.answers c.args.resolver.now in
+    let after = g.R.Resolver.answers c.root_unit.new.resolver in
+    let root = path_text c.args.root.now in
+    let unit = unit_tree c.in_ok-unit.unit in
+    let max = c.args.options.now.max_modules in
+    let r = c.in_ok-resolutions.resolutions in
+    let is = (c.in_ok-unit.ensures.same_answers root (unit_of unit)).0 c.in_ok-unit.ensures.unit in
+    let resolved = subst (λ k. Resolves after root (kept_names k unit) max (Ok r)) c.as_slice-keep.ensures (c.in_ok-resolutions.ensures.resolves is) in
+    let t = tables found root c.args.options.now.keep max after c.in_ok-unit.ensures.same_answers unit c.in_ok-unit.ensures.unit r resolved in
+    none_clashes found root c.args.options.now.keep max (kept_names c.args.options.now.keep unit) r t c.in_ok-name.field-0 c.in-None.is c.in_ok-name.ensures.free

@@ -1,0 +1,21 @@
+-- The root is one module too many, not found or at fault.
+use Rattle.std.proofs.Common.{◌≡◌, ℕ, ◌<◌, ◌≤◌, List, refl, sym, subst, arith, rules}
+use Rattle.std.specs.Prelude.{IfErr}
+use Rattle.std.proofs.lemmas.Result.{err_from_is_err_and}
+use Rattle.wgsl_path.specs.Paths.{path_text}
+use Rattle.wesl_sources.specs.Rounds.{one_too_many}
+use Rattle.weslc_calls.specs.Told.{about_module}
+use Rattle.weslc_calls.specs.Answers.{of_the_root, RefusesLinking}
+use Rattle.weslc_calls.proofs.Loading.{root_told}
+use Rattle.weslc_calls.proofs.calls.root_unit.Goals as goal
+
+pub returns-then-max_modules-eq0-clause-refusal : goal.returns-then-max_modules-eq0-clause-refusal
+returns-then-max_modules-eq0-clause-refusal g c asked =
+    let zero : c.args.max_modules ≤ 0 = omega (arith, c.if-max_modules-eq0.true) in
+    rw c.in_ok-too_many_modules.ensures (c.args.root.now, refl, of_the_root (one_too_many zero))
+
+pub returns-in_err-resolve_module-clause-refusal : goal.returns-in_err-resolve_module-clause-refusal
+returns-in_err-resolve_module-clause-refusal g c =
+    let p = err_from_is_err_and c.from_residual-in_err-resolve_module.result c.from_residual-in_err-resolve_module.ensures.1 in
+    let some : 0 < c.args.max_modules = omega (arith, c.if-max_modules-eq0.false) in
+    rw (p.1, p.2) (λ asked. root_told (g.R.Resolver.answers c.args.resolver.now) (path_text c.args.root.now) asked c.args.max_modules some c.args.root.now refl c.in_err-resolve_module.field-0.0 c.in_err-resolve_module.ensures.unit)

@@ -1,0 +1,71 @@
+-- What errors are about, and which error is told for a refusal.
+use Rattle.std.specs.Prelude.{◌≡◌, ⊤, ℕ, List, Option, Some, None}
+use Rattle.wgsl_path.specs.declared.path.ModulePath.{ModulePath}
+use Rattle.wesl_resolve.specs.declared.error.ResolveError.{ResolveError}
+use Rattle.wesl_resolve.specs.declared.error.ResolveError.TheVariants as resolve
+use Rattle.wesl_sources.specs.Occurrences.{Name}
+use Rattle.wesl_scopes.specs.declared.error.ImportError.{ImportError}
+use Rattle.wesl_scopes.specs.declared.error.ImportError.TheVariants as import
+use Rattle.wgsl_meaning.specs.declared.fault.Fault.{Fault}
+use Rattle.wgsl_meaning.specs.declared.fault.Fault.TheVariants.{Number, Name as Named}
+use Rattle.wesl_validate.specs.declared.error.ValidateFault.{ValidateFault}
+use Rattle.wgsl_eval.specs.declared.error.Refusal.{Refusal}
+use Rattle.weslc_unit.specs.declared.error.UnitRefusal.{UnitRefusal}
+use Rattle.weslc_unit.specs.declared.error.UnitRefusal.TheVariants as of
+use Rattle.weslc_calls.specs.declared.error.Concern.{Concern}
+use Rattle.weslc_calls.specs.declared.error.ResolveKind.TheVariants.{ModuleNotFound}
+use Rattle.weslc_calls.specs.declared.error.ImportKind.TheVariants.{DuplicateSymbol, MissingDecl, Private}
+use Rattle.weslc_calls.specs.declared.error.CompileError.{CompileError}
+use Rattle.weslc_calls.specs.declared.error.CompileError.TheVariants.{TooManyModules, Resolve, Syntax, Import, NameClash, Validate, UnclearName, Eval, Unprintable, OutOfMemory}
+
+-- ---- what an error is about
+
+abbrev pub about_module : ModulePath → Concern
+about_module m = record { «module» = Some m; decl = None; name = None }
+
+-- a name that is sought in a module, or that stands twice there
+abbrev pub about_item : ModulePath → Name → Concern
+about_item m x = record { «module» = Some m; decl = None; name = Some x }
+
+abbrev pub about_name : Name → Concern
+about_name x = record { «module» = None; decl = None; name = Some x }
+
+-- ---- the error for what a resolver, or loading, refuses
+
+abbrev pub of_resolving : ResolveError → CompileError
+of_resolving (resolve.ModuleNotFound m) = Resolve (about_module m) ModuleNotFound
+of_resolving (resolve.Syntax m f) = Syntax (about_module m) f
+of_resolving resolve.OutOfMemory = OutOfMemory
+
+abbrev pub of_loading : ImportError → CompileError
+of_loading (import.TooManyModules m) = TooManyModules (about_module m)
+of_loading (import.Resolve e) = of_resolving e
+of_loading (import.DuplicateSymbol m x) = Import (about_item m x) DuplicateSymbol
+of_loading (import.MissingDecl m x) = Import (about_item m x) MissingDecl
+of_loading (import.Private m x) = Import (about_item m x) Private
+of_loading import.OutOfMemory = OutOfMemory
+
+-- ---- refusals of a linked unit
+
+-- the name that a fault is about
+abbrev pub fault_name : Fault → Option Name
+fault_name (Number f) = None
+fault_name (Named f x) = Some x
+
+-- memory aside, what is said of a refusal of a unit: its kind, and the name concerned
+abbrev pub TellsOfFault : ValidateFault → CompileError → Type 0
+TellsOfFault f (Validate c kind) = (kind ≡ f.kind) × (c.name ≡ Some f.name)
+TellsOfFault f OutOfMemory = ⊤
+TellsOfFault f _ = ⊥
+
+abbrev pub TellsOfEvaluation : Refusal → CompileError → Type 0
+TellsOfEvaluation r (Eval c fault) = (fault ≡ r.fault) × (c.name ≡ fault_name r.fault)
+TellsOfEvaluation r OutOfMemory = ⊤
+TellsOfEvaluation r _ = ⊥
+
+abbrev pub Tells : UnitRefusal → CompileError → Type 0
+Tells (of.Validate f) e = TellsOfFault f e
+Tells (of.UnclearName x) e = e ≡ UnclearName (about_name x)
+Tells (of.Eval r) e = TellsOfEvaluation r e
+Tells (of.Unprintable x) e = e ≡ Unprintable (about_name x)
+Tells of.OutOfMemory e = e ≡ OutOfMemory
