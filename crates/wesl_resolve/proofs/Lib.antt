@@ -1,3 +1,4 @@
 pub mod Cutting
 pub mod Items
 pub mod Reading
+pub mod Maps

@@ -1,5 +1,11 @@
 //! From the linked unit back to the modules.
 
+ghost use Rattle.std.specs.Prelude.{◌≡◌, ℕ, List, Option, Some, None, IfOk, OnOk};
+ghost use Rattle.std.specs.Option.{option_map, option_copied};
+ghost use Rattle.wgsl_path.specs.declared.path.ModulePath.{ModulePath as Path};
+ghost use Rattle.wgsl_path.specs.Paths.{path_text};
+ghost use Rattle.wesl_resolve.specs.SourceMaps.{decl_at, source_at, display_name_at, IsSet};
+
 use std::alloc::{AllocError, Global};
 use std::collections::BTreeMap;
 use wgsl_items::{CloneIn, Text};
@@ -7,21 +13,35 @@ use wgsl_path::ModulePath;
 
 /// From names and paths of the linked unit back to declarations and texts.
 pub trait SourceMap {
+    /// The module and the item that a name stands for.
+    ghost decls: { Self → List ℕ → Option (Path × List ℕ) };
+
+    /// The text of the module at a printed path, and the name that a message gives it.
+    ghost sources: { Self → List ℕ → Option (List ℕ) };
+
+    ghost display_names: { Self → List ℕ → Option (List ℕ) };
+
+    ghost default_source: { Self → Option (List ℕ) };
+
     /// The module and the item that a name of the linked unit stands for.
-    fn get_decl(&self, decl: &str) -> Option<(&ModulePath, &str)>;
+    fn get_decl(&self, decl: &str) -> Option<(&ModulePath, &str)>
+        ensures { option_map (λ found. (found.0.now, found.1.now)) result ≡ decls self.now decl.now };
 
     /// The text of a module.
-    fn get_source(&self, alloc: Global, path: &ModulePath) -> Result<Option<&str>, AllocError>;
+    fn get_source(&self, alloc: Global, path: &ModulePath) -> Result<Option<&str>, AllocError>
+        ensures { IfOk result (λ found. option_copied found ≡ sources self.now (path_text path.now)) };
 
     /// The name that a message gives a module.
     fn get_display_name(
         &self,
         alloc: Global,
         path: &ModulePath,
-    ) -> Result<Option<&str>, AllocError>;
+    ) -> Result<Option<&str>, AllocError>
+        ensures { IfOk result (λ found. option_copied found ≡ display_names self.now (path_text path.now)) };
 
     /// The text that a place belongs to where no module is named.
-    fn get_default_source(&self) -> Option<&str>;
+    fn get_default_source(&self) -> Option<&str>
+        ensures { option_copied result ≡ default_source self.now };
 }
 
 #[derive(Debug, Drop)]
@@ -47,7 +67,11 @@ pub struct BasicSourceMap {
 
 impl BasicSourceMap {
     /// An empty map.
-    pub fn new(alloc: Global) -> BasicSourceMap {
+    pub fn new(alloc: Global) -> BasicSourceMap
+        ensures decls { (x : List ℕ) → decl_at result x ≡ None }
+        ensures sources { (p : List ℕ) → source_at result p ≡ None }
+        ensures default_source { result.default_source ≡ None }
+    {
         BasicSourceMap {
             alloc,
             decls: BTreeMap::new(alloc),
@@ -62,7 +86,11 @@ impl BasicSourceMap {
         decl: &str,
         module: &ModulePath,
         item: &str,
-    ) -> Result<(), AllocError> {
+    ) -> Result<(), AllocError>
+        ensures recorded { OnOk result (IsSet (decl_at self.old) decl.now (Some («module».now, item.now)) (decl_at self.new)) }
+        ensures sources { self.new.sources ≡ self.old.sources }
+        ensures default_source { self.new.default_source ≡ self.old.default_source }
+    {
         let value = SourceDecl {
             module: module.clone_in(self.alloc)?,
             item: Text::from_str(self.alloc, item)?,
@@ -78,18 +106,35 @@ impl BasicSourceMap {
         path: &ModulePath,
         display_name: Option<Text>,
         text: Text,
-    ) -> Result<(), AllocError> {
+    ) -> Result<(), AllocError>
+        ensures text { OnOk result (IsSet (source_at self.old) (path_text path.now) (Some text) (source_at self.new)) }
+        ensures display_name { OnOk result (IsSet (display_name_at self.old) (path_text path.now) display_name (display_name_at self.new)) }
+        ensures decls { self.new.decls ≡ self.old.decls }
+        ensures default_source { self.new.default_source ≡ self.old.default_source }
+    {
         let value = Source { text, display_name };
         self.sources.insert(path.to_string(self.alloc)?, value)?;
         Ok(())
     }
 
-    pub fn set_default_source(&mut self, text: Text) {
+    pub fn set_default_source(&mut self, text: Text)
+        ensures { self.new ≡ record self.old { default_source = Some text } }
+    {
         self.default_source = Some(text);
     }
 }
 
 impl SourceMap for BasicSourceMap {
+    ghost use Rattle.wesl_resolve.specs.SourceMaps.{decl_at, source_at, display_name_at};
+
+    ghost decls = { decl_at };
+
+    ghost sources = { source_at };
+
+    ghost display_names = { display_name_at };
+
+    ghost default_source = { λ map. map.default_source };
+
     fn get_decl(&self, decl: &str) -> Option<(&ModulePath, &str)> {
         let found = self.decls.get(decl)?;
         Some((&found.module, found.item.as_str()))
