@@ -1,6 +1,6 @@
 //! The linked unit.
 
-ghost use Rattle.std.specs.Prelude.{◌≡◌, ℕ, List, [], ◌∷◌, ◌++◌, IfOk, OnOk, if◌then◌else◌, is_some, string_bytes};
+ghost use Rattle.std.specs.Prelude.{◌≡◌, ℕ, List, [], ◌∷◌, ◌++◌, map, IfOk, OnOk, if◌then◌else◌, is_some, string_bytes};
 ghost use Rattle.std.specs.BTreeMap.{IsOrdered};
 ghost use Rattle.std.specs.Str.{bytes_eq};
 ghost use Rattle.std.specs.String.{string_cmp};
@@ -160,11 +160,14 @@ impl Resolutions {
     }
 
     /// The paths of the loaded modules.
-    pub fn paths<'a>(&'a self, alloc: Global) -> Result<Vec<&'a ModulePath>, AllocError> {
-        self.modules
-            .values()
-            .map(|module| &module.path)
-            .collect(alloc)
+    pub fn paths<'a>(&'a self, alloc: Global) -> Result<Vec<&'a ModulePath>, AllocError>
+        ensures { IfOk result (λ paths. map (λ p. p.now) paths.items ≡ map (λ e. e.1.path) self.now.modules.entries) }
+    {
+        let mut paths = Vec::new(alloc);
+        for (_, module) in &self.modules {
+            paths.push(&module.path)?;
+        }
+        Ok(paths)
     }
 
     /// Records each held symbol under its name in the linked unit.

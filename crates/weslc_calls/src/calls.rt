@@ -1,10 +1,12 @@
 //! The calls.
 
-ghost use Rattle.std.specs.Prelude.{◌≡◌, ◌⊎◌, List, IfOk, IfErr, string_bytes};
+ghost use Rattle.std.specs.Prelude.{◌≡◌, ◌⊎◌, List, map, IfOk, IfErr, OnOk, string_bytes};
 ghost use Rattle.wgsl_path.specs.Paths.{path_text};
 ghost use Rattle.wgsl_syntax.specs.View.{unit_tree};
 ghost use Rattle.wesl_resolve.specs.Found.{unit_of, SameAnswers, SameTexts};
 ghost use Rattle.wesl_sources.specs.Occurrences.{Name};
+ghost use Rattle.wgsl_path.specs.declared.path.ModulePath.{ModulePath as Path};
+ghost use Rattle.weslc_calls.specs.Mapped.{IsFound, AreAllFound, AreFound, HasText, HaveTexts, HasDefault};
 ghost use Rattle.weslc_calls.specs.Answers.{RefusesLinking, AreTablesOf, IsLinkedUnit, IsLinkedText, IsCompiledText, IsUnprintable, IsRefusedUnit};
 
 use crate::error::CompileError;
@@ -123,15 +125,52 @@ fn source_map<R: Resolver>(
     root: &ModulePath,
     resolutions: &Resolutions,
 ) -> Result<BasicSourceMap, CompileError>
-    ensures { IfErr result (λ e. e ≡ CompileError.OutOfMemory) }
+    ensures memory { AreFound (R.answers resolver.old) (path_text root.now) (map (λ e. e.1.path) resolutions.now.modules.entries) → IfErr result (λ e. e ≡ CompileError.OutOfMemory) }
+    ensures texts { IfOk result (λ new. HaveTexts (R.texts resolver.old) new (map (λ e. e.1.path) resolutions.now.modules.entries)) }
+    ensures default_source { IfOk result (HasDefault (R.texts resolver.old) (path_text root.now)) }
 {
     let mut map = BasicSourceMap::new(alloc);
     resolutions.add_decls(alloc, &mut map)?;
-    for path in resolutions.paths(alloc)? {
-        let name = resolver.display_name(alloc, path)?;
-        let text = resolver.resolve_source(alloc, path)?;
-        map.add_source(path, name, text)?;
-    }
+    let paths = resolutions.paths(alloc)?;
+    add_sources(alloc, resolver, paths.as_slice(), &mut map)?;
     map.set_default_source(resolver.resolve_source(alloc, root)?);
     Ok(map)
+}
+
+/// Records the texts of modules.
+fn add_sources<R: Resolver>(
+    alloc: Global,
+    resolver: &mut R,
+    paths: &[&ModulePath],
+    recorded: &mut BasicSourceMap,
+) -> Result<(), CompileError>
+    ensures memory { AreAllFound (R.answers resolver.old) (map (λ p. p.now) paths.now) → IfErr result (λ e. e ≡ CompileError.OutOfMemory) }
+    ensures texts { OnOk result (HaveTexts (R.texts resolver.old) recorded.new (map (λ p. p.now) paths.now)) }
+    ensures decls { recorded.new.decls ≡ recorded.old.decls }
+    ensures same_answers { SameAnswers (R.answers resolver.old) (R.answers resolver.new) }
+    ensures same_texts { SameTexts (R.texts resolver.old) (R.texts resolver.new) }
+{
+    for path in paths {
+        add_source(alloc, resolver, path, recorded)?;
+    }
+    Ok(())
+}
+
+fn add_source<R: Resolver>(
+    alloc: Global,
+    resolver: &mut R,
+    path: &ModulePath,
+    recorded: &mut BasicSourceMap,
+) -> Result<(), CompileError>
+    ensures memory { IsFound (R.answers resolver.old) (path_text path.now) → IfErr result (λ e. e ≡ CompileError.OutOfMemory) }
+    ensures text { OnOk result (HasText (R.texts resolver.old) recorded.new path.now) }
+    ensures texts { OnOk result ((q : Path) → HasText (R.texts resolver.old) recorded.old q → HasText (R.texts resolver.old) recorded.new q) }
+    ensures decls { recorded.new.decls ≡ recorded.old.decls }
+    ensures same_answers { SameAnswers (R.answers resolver.old) (R.answers resolver.new) }
+    ensures same_texts { SameTexts (R.texts resolver.old) (R.texts resolver.new) }
+{
+    let name = resolver.display_name(alloc, path)?;
+    let text = resolver.resolve_source(alloc, path)?;
+    recorded.add_source(path, name, text)?;
+    Ok(())
 }

@@ -1,0 +1,57 @@
+-- What is recorded of the modules' texts.
+use Rattle.std.specs.Prelude.{◌↔◌, string_bytes, slice_get}
+use Rattle.std.proofs.Common.{◌≡◌, ℕ, ◌+◌, ◌<◌, ◌⊎◌, inl, inr, List, map, get_or, length, Option, Some, None, Bor, refl, sym, ap, ◌∙◌, subst, Contains, arith}
+use Rattle.std.proofs.lemmas.Option.{slice_get_read, slice_get_within}
+use Rattle.wgsl_path.specs.Paths.{path_text}
+use Rattle.wgsl_path.specs.declared.path.ModulePath.{ModulePath}
+use Rattle.wesl_resolve.specs.declared.source_map.BasicSourceMap.{BasicSourceMap}
+use Rattle.wesl_resolve.specs.Found.{SameAnswers, SameTexts}
+use Rattle.wesl_scopes.proofs.ScopeLemmas.{to_contains, from_contains, get_map, map_get}
+use Rattle.wesl_sources.specs.Rounds.{Sources}
+use Rattle.weslc_calls.specs.Mapped.{Texts, HasText, HaveTexts, IsFound, AreAllFound}
+
+pub same_before : (a b c : Sources) → SameAnswers a b → SameAnswers b c → SameAnswers a c
+same_before a b c one two p x = (λ h. (two p x).0 ((one p x).0 h), λ h. (one p x).1 ((two p x).1 h))
+
+pub texts_before : (a b c : Texts) → SameTexts a b → SameTexts b c → SameTexts a c
+texts_before a b c one two p x = (λ h. (two p x).0 ((one p x).0 h), λ h. (one p x).1 ((two p x).1 h))
+
+pub text_moved : (a b : Texts) → SameTexts a b → (m : BasicSourceMap) (p : ModulePath) → HasText b m p → HasText a m p
+text_moved a b same m p h = record { text = h.text; is_text = (same _ h.text).1 h.is_text; stands = h.stands }
+
+pub text_back : (a b : Texts) → SameTexts a b → (m : BasicSourceMap) (p : ModulePath) → HasText a m p → HasText b m p
+text_back a b same m p h = record { text = h.text; is_text = (same _ h.text).0 h.is_text; stands = h.stands }
+
+at_or_before : (k i : ℕ) → k < i + 1 → (k < i) ⊎ (k ≡ i)
+at_or_before k i less = grind (arith, less)
+
+-- one more text is recorded
+pub texts_more : (texts : Texts) (old new : BasicSourceMap) (ps : List (Bor ModulePath)) (i : ℕ) (item : Bor ModulePath) → i < length ps → item ≡ get_or ps i item
+    → ((k : ℕ) (q : Bor ModulePath) → k < i → slice_get ps k ≡ Some q → HasText texts old q.now) → HasText texts new item.now → ((p : ModulePath) → HasText texts old p → HasText texts new p)
+    → (k : ℕ) (q : Bor ModulePath) → k < i + 1 → slice_get ps k ≡ Some q → HasText texts new q.now
+texts_more texts old new ps i item inside is so_far here stays k q less at = by (at_or_before k i less)
+  where
+    by : (k < i) ⊎ (k ≡ i) → HasText texts new q.now
+    by (inl before) = stays q.now (so_far k q before at)
+    by (inr same) =
+        let e : slice_get ps i ≡ Some q = subst (λ j. slice_get ps j ≡ Some q) same at in
+        let f : slice_get ps i ≡ Some item = slice_get_read ps (length ps) i item refl inside is in
+        let s : item ≡ q = cc in
+        subst (λ (b : Bor ModulePath). HasText texts new b.now) s here
+
+pub texts_all : (texts : Texts) (m : BasicSourceMap) (ps : List (Bor ModulePath))
+    → ((k : ℕ) (q : Bor ModulePath) → k < length ps → slice_get ps k ≡ Some q → HasText texts m q.now) → HaveTexts texts m (map (λ p. p.now) ps)
+texts_all texts m ps each p among =
+    let at = from_contains (map (λ p. p.now) ps) p among in
+    let q = map_get (λ (p : Bor ModulePath). p.now) ps at.0 p at.1 in
+    subst (HasText texts m) q.2 (each at.0 q.0 (slice_get_within ps at.0 q.0 q.1) q.1)
+
+-- a path of the list is found
+pub found_item : (found : Sources) (ps : List (Bor ModulePath)) (i : ℕ) (item : Bor ModulePath) → i < length ps → item ≡ get_or ps i item
+    → AreAllFound found (map (λ p. p.now) ps) → IsFound found (path_text item.now)
+found_item found ps i item inside is all =
+    let at = slice_get_read ps (length ps) i item refl inside is in
+    all item.now (to_contains (map (λ p. p.now) ps) i item.now (get_map (λ (p : Bor ModulePath). p.now) ps i item at))
+
+pub found_moved : (a b : Sources) → SameAnswers a b → (p : List ℕ) → IsFound a p → IsFound b p
+found_moved a b same p f = (f.0, (same p _).0 f.1)

@@ -1,0 +1,42 @@
+-- What the source map of a text says.
+use Rattle.std.specs.Prelude.{◌≡◌, ℕ, List, Some}
+use Rattle.std.specs.List.{Contains}
+use Rattle.wgsl_path.specs.declared.path.ModulePath.{ModulePath}
+use Rattle.wgsl_path.specs.Paths.{path_text}
+use Rattle.wgsl_syntax.specs.Tree.{Unit}
+use Rattle.wesl_resolve.specs.Found.{unit_of}
+use Rattle.wesl_sources.specs.Modules.{Path}
+use Rattle.wesl_sources.specs.Rounds.{Sources}
+use Rattle.wesl_resolve.specs.SourceMaps.{source_at}
+use Rattle.wesl_resolve.specs.declared.source_map.BasicSourceMap.{BasicSourceMap}
+
+-- a module is found at a printed path
+abbrev pub IsFound : Sources → Path → Type 0
+IsFound found p = (u : Unit) × found p (unit_of u)
+
+-- at each of these paths, and at the root
+abbrev pub AreAllFound : Sources → List ModulePath → Type 0
+AreAllFound found paths = (p : ModulePath) → Contains paths p → IsFound found (path_text p)
+
+abbrev pub AreFound : Sources → Path → List ModulePath → Type 0
+AreFound found root paths = IsFound found root × AreAllFound found paths
+
+-- the texts of the modules at printed paths
+abbrev pub Texts : Type 1
+Texts = List ℕ → List ℕ → Type 0
+
+-- a module's text is in the map
+pub record HasText (texts : Texts) (map : BasicSourceMap) (path : ModulePath) : Type 0 where
+  pub text : List ℕ
+  pub is_text : texts (path_text path) text
+  pub stands : source_at map (path_text path) ≡ Some text
+
+-- the texts of all these modules are in the map
+abbrev pub HaveTexts : Texts → BasicSourceMap → List ModulePath → Type 0
+HaveTexts texts map paths = (p : ModulePath) → Contains paths p → HasText texts map p
+
+-- the root's text is the default
+pub record HasDefault (texts : Texts) (root : List ℕ) (map : BasicSourceMap) : Type 0 where
+  pub text : List ℕ
+  pub is_text : texts root text
+  pub stands : map.default_source ≡ Some text
