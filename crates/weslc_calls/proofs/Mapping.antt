@@ -55,3 +55,9 @@ found_item found ps i item inside is all =
 
 pub found_moved : (a b : Sources) → SameAnswers a b → (p : List ℕ) → IsFound a p → IsFound b p
 found_moved a b same p f = (f.0, (same p _).0 f.1)
+
+-- another default text leaves the modules' texts
+pub text_kept : (texts : Texts) (old new : BasicSourceMap) (text : List ℕ) → new ≡ record old { default_source = Some text } → (p : ModulePath) → HasText texts old p → HasText texts new p
+text_kept texts old new text is p h =
+    let kept : HasText texts (record old { default_source = Some text }) p = record { text = h.text; is_text = h.is_text; stands = h.stands } in
+    subst (λ m. HasText texts m p) (sym is) kept
