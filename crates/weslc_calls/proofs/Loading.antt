@@ -1,6 +1,11 @@
 -- What loading comes to, and the error that tells it.
 use Rattle.std.specs.Prelude.{◌↔◌, string_bytes}
-use Rattle.std.proofs.Common.{◌≡◌, ℕ, ◌+◌, ◌<◌, List, [], ◌∷◌, ◌++◌, length, Option, Result, Ok, Err, Some, None, refl, sym, subst, Contains}
+use Rattle.std.proofs.Common.{◌≡◌, ℕ, ◌+◌, ◌<◌, ◌⊎◌, inl, inr, List, map, [], ◌∷◌, ◌++◌, length, Option, Result, Ok, Err, Some, None, refl, sym, subst, Contains}
+use Rattle.std.proofs.lemmas.List.Elements.{Contains-append_cases}
+use Rattle.std.specs.declared.string.String.{String}
+use Rattle.std.specs.declared.alloc.Global.{Global}
+use Rattle.wgsl_syntax.specs.View.{unit_tree}
+use Rattle.weslc_calls.specs.Mapped.{IsFound, AreFound}
 use Rattle.wgsl_path.specs.declared.path.ModulePath.{ModulePath}
 use Rattle.wgsl_path.specs.Paths.{path_text}
 use Rattle.wgsl_token.specs.declared.error.Error.{Error}
@@ -16,8 +21,11 @@ use Rattle.wesl_sources.specs.Linked.{IsLinked}
 use Rattle.wesl_sources.specs.Loaded.{IsClashFree}
 use Rattle.wesl_sources.specs.Clashing.{IsFirstClash}
 use Rattle.wesl_sources.specs.Same.{SameModules}
+use Rattle.wesl_scopes.specs.declared.module.Module.{Module as Loaded}
+use Rattle.wesl_scopes.proofs.ScopeLemmas.{to_contains, from_contains, get_map, map_get}
 use Rattle.wesl_scopes.specs.declared.error.ImportError.{ImportError}
 use Rattle.wesl_scopes.specs.declared.error.ImportError.TheVariants as import
+use Rattle.wesl_meaning.proofs.Members.{in_none, in_cases}
 use Rattle.wesl_meaning.proofs.Same.{same_turned, clash_free_in_any_order, linked_in_any_order, first_clash_in_any_order}
 use Rattle.wesl_reach.specs.Missing.{refusal_of}
 use Rattle.wesl_reach.specs.Answers.{Refuses}
@@ -26,6 +34,12 @@ use Rattle.wesl_link.specs.declared.rounds.Resolutions.{Resolutions}
 use Rattle.wesl_link.specs.Answers.{Resolves}
 use Rattle.weslc_calls.specs.Told.{of_resolving, of_loading}
 use Rattle.weslc_calls.specs.Answers.{AreLoadedFrom, IsRefusedLoading, of_the_root, behind_the_root, IsFirstClashFrom, RefusesLinking, AreTablesOf, IsLinkedUnit}
+
+abbrev Entry : Type 0
+Entry = String Global × Loaded
+
+abbrev path_and_unit : Entry → ModulePath × Module
+path_and_unit e = (e.1.path, unit_tree e.1.unit)
 
 -- ---- what is found is the same: loading comes to the same
 
@@ -149,3 +163,59 @@ module _ (found : Sources) (root : Path) (asked : List Name) (max : ℕ) where
           (subst (λ m. IsLinked (modules_of r.modules) m t.kept unit) t.is_root (is_linked t.kept (subst (λ m. IsResolved r.modules m t.kept r.held) (sym t.is_root) t.resolved)));
     };
   }
+
+-- ---- what is loaded was found
+
+module _ (found : Sources) (root : Path) (keep : List Name) (max : ℕ) where
+  abbrev AllIn : Result Modules Refusal → Type 0
+  AllIn (Ok modules) = (a : ModulePath × Module) → Contains modules a → IsFound found (path_text a.0)
+  AllIn (Err r) = Prim.Unit {0}
+
+  one_more : (a : ModulePath × Module) (modules : Modules) → IsFound found (path_text a.0) → AllIn (Ok modules) → AllIn (Ok (a ∷ modules))
+  one_more a modules here rest b among = by (in_cases a modules b among)
+    where
+      by : (a ≡ b) ⊎ Contains modules b → IsFound found (path_text b.0)
+      by (inl same) = subst (λ (c : ModulePath × Module). IsFound found (path_text c.0)) same here
+      by (inr behind) = rest b behind
+
+  both : (one more : Modules) → AllIn (Ok one) → AllIn (Ok more) → AllIn (Ok (one ++ more))
+  both one more first then b among = by (Contains-append_cases one more b among)
+    where
+      by : Contains one b ⊎ Contains more b → IsFound found (path_text b.0)
+      by (inl before) = first b before
+      by (inr behind) = then b behind
+
+  loads_found : {n : ℕ} {ps : List Path} {o : Result Modules Refusal} → Loads found max n ps o → AllIn o
+  loads_found all_loaded = λ a among. absurd (in_none a among)
+  loads_found (one_too_many m) = tt
+  loads_found (is_not_found m f) = tt
+  loads_found (is_faulty m f) = tt
+  loads_found (has_a_name_twice m f again) = tt
+  loads_found (loaded_then_refused m f d more) = tt
+  loads_found (loaded {u = u} {path = path} {modules = modules} m f d t more) =
+      one_more (path, u) modules (u, subst (λ p. found p (unit_of u)) (sym t) f) (loads_found more)
+
+  goes_found : {modules : Modules} {o : Result Modules Refusal} → Goes found root keep max modules o → AllIn (Ok modules) → AllIn o
+  goes_found (an_occurrence_refused r) all = tt
+  goes_found (nothing_asked none next) all = all
+  goes_found (a_module_refused none next l) all = tt
+  goes_found (a_round {modules = modules} {more = more} none next some l go) all = goes_found go (both modules more all (loads_found l))
+
+  comes_found : {o : Result Modules Refusal} → ComesTo found root keep max o → AllIn o
+  comes_found (root_refused l) = tt
+  comes_found (kept_name_missing l u) = tt
+  comes_found (goes_on l k g) = goes_found g (loads_found l)
+
+  pub modules_found : (modules : Modules) → ComesTo found root keep max (Ok modules) → (a : ModulePath × Module) → Contains modules a → IsFound found (path_text a.0)
+  modules_found modules comes = comes_found comes
+
+module _ (found : Sources) (root : Path) (asked : List Name) (max : ℕ) where
+  pub paths_found : (r : Resolutions) → AreTablesOf found root asked max r → AreFound found root (map (λ e. e.1.path) r.modules.entries)
+  paths_found r t = (
+    (t.loaded.unit, t.loaded.is_root),
+    λ p among.
+        let at = from_contains (map (λ e. e.1.path) r.modules.entries) p among in
+        let e = map_get (λ (e : Entry). e.1.path) r.modules.entries at.0 p at.1 in
+        let there = to_contains (modules_of r.modules) at.0 (path_and_unit e.0) (get_map path_and_unit r.modules.entries at.0 e.0 e.1) in
+        subst (λ q. IsFound found (path_text q)) e.2 (modules_found found root t.kept max t.modules t.loaded.loaded (path_and_unit e.0) ((t.same (path_and_unit e.0)).1 there)),
+  )

@@ -1,0 +1,24 @@
+-- The unit is the linked one; once it is loaded and free of clashes, only want of memory refuses it.
+use Rattle.std.proofs.Common.{◌≡◌, List, map, sym, subst}
+use Rattle.std.proofs.lemmas.Result.{err_from_is_err_and}
+use Rattle.wgsl_path.specs.Paths.{path_text}
+use Rattle.wgsl_syntax.specs.View.{unit_tree}
+use Rattle.weslc_calls.specs.declared.error.CompileError.TheVariants.{OutOfMemory}
+use Rattle.weslc_calls.proofs.Loading.{linked, paths_found}
+use Rattle.weslc_calls.proofs.Mapping.{found_moved}
+use Rattle.weslc_calls.proofs.calls.linked_unit.Goals as goal
+
+pub returns-in_err-map-clause-refusal : goal.returns-in_err-map-clause-refusal
+returns-in_err-map-clause-refusal g c =
+    let p = err_from_is_err_and c.from_residual-in_err-map.result c.from_residual-in_err-map.ensures.1 in
+    let found = g.R.Resolver.answers c.args.resolver.now in
+    let after = g.R.Resolver.answers c.loaded.new.resolver in
+    let same = c.in_ok-resolutions.ensures.same_answers in
+    let all = paths_found found (path_text c.args.root.now) c.args.options.now.keep c.args.options.now.max_modules c.in_ok-resolutions.resolutions c.in_ok-resolutions.ensures.tables in
+    let memory : c.in_err-map.field-0.0 ≡ OutOfMemory = c.in_err-map.ensures.memory (found_moved found after same (path_text c.args.root.now) all.0, λ p among. found_moved found after same (path_text p) (all.1 p among)) in
+    rw (p.1, p.2, memory) tt
+
+pub returns-clause-unit : goal.returns-clause-unit
+returns-clause-unit g c =
+    linked (g.R.Resolver.answers c.args.resolver.now) (path_text c.args.root.now) c.args.options.now.keep c.args.options.now.max_modules c.in_ok-resolutions.resolutions c.in_ok-resolutions.ensures.tables
+    (unit_tree c.in_ok-unit.unit) c.in_ok-unit.ensures.linked
