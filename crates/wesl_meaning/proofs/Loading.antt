@@ -1,10 +1,11 @@
 -- What loading comes to is loaded.
-use Rattle.std.proofs.Common.{◌≡◌, ℕ, zero, suc, ◌+◌, ◌⊎◌, inl, inr, List, [], ◌∷◌, ◌++◌, map, length, Option, Some, None, Bool, true, false, Ok, refl, sym, ap, ◌∙◌, subst, Contains, slice_get}
+use Rattle.std.proofs.Common.{◌≡◌, ℕ, zero, suc, ◌+◌, ◌⊎◌, inl, inr, ⊎_elim, List, [], ◌∷◌, ◌++◌, map, length, Option, Some, None, Bool, true, false, Ok, refl, sym, ap, ◌∙◌, subst, Contains, slice_get}
 use Rattle.std.specs.Str.{bytes_eq}
 use Rattle.std.proofs.lemmas.List.Elements.{Contains-append_left, Contains-append_cases}
 use Rattle.wgsl_path.specs.declared.path.ModulePath.{ModulePath}
 use Rattle.wgsl_path.specs.Paths.{path_text}
 use Rattle.wgsl_syntax.specs.Tree.{Decl, Imp, Unit}
+use Rattle.wesl_resolve.specs.Found.{unit_of}
 use Rattle.wesl_sources.specs.Occurrences.{Name, occurrences, declared_name}
 use Rattle.wesl_sources.specs.Modules.{Path, Symbol, Modules, IsModule, Declares, Imports, local_name, IsImport, IsImported, IsMissing, lacking, bare, IsPrivate, IsFree, IsDeclaration, Denotes, own, imported, Reached}
 use Rattle.wesl_sources.specs.Rounds.{Sources, Refusal, missing_decl, private, scope_names, AreDistinct, Loads, all_loaded, loaded, IsAscending, IsNextRound, NoneRefused, Goes, nothing_asked, a_round, ComesTo, goes_on}
@@ -12,6 +13,7 @@ use Rattle.wesl_sources.specs.Loaded.{AreLoaded}
 use Rattle.wesl_meaning.proofs.Members.{first_in, later_in, in_cases, in_none, from_map, same_bytes, bytes_same}
 use Rattle.wesl_meaning.proofs.Order.{behind_first, rest_ascends, not_before}
 use Rattle.wesl_meaning.proofs.Exists.{unit_is, unit_there, import_is, import_there}
+use Rattle.wesl_meaning.specs.Runs.{AreFound, WhatIsLoaded}
 use Rattle.wesl_meaning.specs.SourcePrograms.{unit_at, import_at}
 
 -- ---- members by place
@@ -211,3 +213,30 @@ loaded_modules sources root keep max modules (goes_on {path = path} {u = u} load
     alone a b (inl e) (inl f) = sym e ∙ f
     alone a b (inl e) (inr c) = absurd (in_none b c)
     alone a b (inr c) f = absurd (in_none a c)
+
+-- ---- what is loaded is found
+
+module _ (sources : Sources) where
+  abbrev AllFound : Modules → Type 0
+  AllFound modules = (a : ModulePath × Unit) → Contains modules a → sources (path_text a.0) (unit_of a.1)
+
+  found_loading : (max n : ℕ) (ps : List Path) (more : Modules) → Loads sources max n ps (Ok more) → AllFound more
+  found_loading max n [] (m ∷ ms) h a c = elim h [ ]
+  found_loading max n [] [] all_loaded a c = absurd (in_none a c)
+  found_loading max n (p ∷ ps) _ (loaded {u = u} {path = path} {modules = more} lt is d e rest) a c = at (found_loading max (n + 1) ps more rest) (in_cases (path, u) more a c)
+    where
+      at : AllFound more → ((path, u) ≡ a) ⊎ Contains more a → sources (path_text a.0) (unit_of a.1)
+      at later (inl s) = subst (λ z. sources (path_text z.0) (unit_of z.1)) s (subst (λ z. sources z (unit_of u)) (sym e) is)
+      at later (inr b) = later a b
+
+  found_going : (root : Path) (keep : List Name) (max : ℕ) (before after : Modules) → Goes sources root keep max before (Ok after) → AllFound before → AllFound after
+  found_going root keep max before _ (nothing_asked none round) found = found
+  found_going root keep max before after (a_round {more = more} {ps = ps} none round some loads rest) found =
+      found_going root keep max (before ++ more) after rest (λ a c. ⊎_elim (found a) (found_loading max (length before) ps more loads a) (Contains-append_cases before more a c))
+
+  pub found_modules : (root : Path) (keep : List Name) (max : ℕ) (modules : Modules) → ComesTo sources root keep max (Ok modules) → AreFound sources modules
+  found_modules root keep max modules (goes_on {path = path} {u = u} loads keeps goes) m v i =
+      subst (λ z. sources z (unit_of v)) i.printed (found_going root keep max ((path, u) ∷ []) modules goes (found_loading max 0 (root ∷ []) ((path, u) ∷ []) loads) (i.path, v) i.stands)
+
+pub what_is_loaded : (sources : Sources) → WhatIsLoaded sources
+what_is_loaded sources root keep max modules loads = (loaded_modules sources root keep max modules loads, found_modules sources root keep max modules loads)

@@ -3,8 +3,9 @@ use Rattle.std.specs.Prelude.{◌≡◌, ℕ, List, Option, Ok, ◌↔◌}
 use Rattle.std.specs.List.{Contains}
 use Rattle.wgsl_path.specs.Paths.{path_text}
 use Rattle.wgsl_syntax.specs.Tree.{Unit}
+use Rattle.wesl_resolve.specs.Found.{unit_of}
 use Rattle.wesl_sources.specs.Occurrences.{Name}
-use Rattle.wesl_sources.specs.Modules.{Path, Modules}
+use Rattle.wesl_sources.specs.Modules.{Path, Modules, IsModule}
 use Rattle.wesl_sources.specs.Rounds.{Sources, ComesTo}
 use Rattle.wesl_sources.specs.Linked.{IsLinked}
 use Rattle.wesl_sources.specs.Loaded.{AreLoaded, IsClashFree}
@@ -44,6 +45,11 @@ LinkedUnitsEndWell = (modules : Modules) (root : Path) (keep : List Name) (unit 
     → IsProgramOf modules root keep p → (s : Symbol) → IsKept root keep s → (inputs : Inputs) (n : ℕ) (answer : Option Value)
     → EndsWell p s inputs n answer ↔ EndsWell (program_of unit) (here s.called) inputs n answer
 
--- What loading comes to is loaded, whatever is found at each path.
+-- each module's unit is what is found at its path
+abbrev pub AreFound : Sources → Modules → Type 0
+AreFound found modules = (m : Path) (u : Unit) → IsModule modules m u → found m (unit_of u)
+
+-- What loading comes to is loaded, and is what is found, whatever that is at each path.
 abbrev pub WhatIsLoaded : Sources → Type 0
-WhatIsLoaded found = (root : Path) (keep : List Name) (max : ℕ) (modules : Modules) → ComesTo found root keep max (Ok modules) → AreLoaded modules root keep
+WhatIsLoaded found = (root : Path) (keep : List Name) (max : ℕ) (modules : Modules) → ComesTo found root keep max (Ok modules)
+    → AreLoaded modules root keep × AreFound found modules

@@ -25,7 +25,8 @@ pub fn linked_modules_have_a_program()
     ensures { LinkedModulesHaveAProgram }
 {}
 
-/// Modules that loading comes to are apart, have each name once, and all that occurs in what is reached is there.
+/// Modules that loading comes to are what is found at their paths; they are apart, have each name once, and all that occurs in what
+/// is reached is there.
 pub fn what_is_loaded<R: Resolver>()
     ensures { (resolver : R) → WhatIsLoaded (R.answers resolver) }
 {}

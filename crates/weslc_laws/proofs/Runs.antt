@@ -1,6 +1,5 @@
 -- Linking keeps runs, lowering keeps them, and so does a text that is read again.
-use Rattle.std.specs.Prelude.{◌↔◌}
-use Rattle.std.proofs.Common.{◌≡◌, ℕ, ◌≤◌, Option, Ok, sym, subst, arith}
+use Rattle.std.proofs.Common.{◌≡◌, ℕ, ◌≤◌, List, Option, Ok, sym, subst, arith}
 use Rattle.wgsl_syntax.specs.Tree.{Unit}
 use Rattle.wgsl_syntax.specs.Print.{unit_text}
 use Rattle.wgsl_meaning.specs.declared.value.Value.{Value}
@@ -12,8 +11,10 @@ use Rattle.wgsl_lower.specs.Keeps.{Keeps}
 use Rattle.wgsl_lower.proofs.Runs.{keeps_if}
 use Rattle.wgsl_laws.specs.Printing.{StandsFor}
 use Rattle.wgsl_laws.proofs.Declarations.{prints_back}
+use Rattle.wesl_sources.specs.Modules.{Path, Modules}
+use Rattle.wesl_meaning.specs.Runs.{AreLinkedWell}
 use Rattle.wesl_meaning.proofs.Linked.{linked_units_end_well}
-use Rattle.weslc_laws.specs.Compiled.{RunsAsItsSources, SourcesRunInTheLoweredUnit, CompiledTextRunsAsItsSources, PrintedTextRunsAsItsSources, LinkedTextRunsAsItsSources}
+use Rattle.weslc_laws.specs.Compiled.{RunsAsItsSources, RunsExactlyAsItsSources, SourcesRunInTheLoweredUnit, CompiledTextRunsAsItsSources, PrintedTextRunsAsItsSources, LinkedTextRunsAsItsSources}
 
 better_ends : (o p : Outcome (Option Value)) (a : Option Value) (n : ℕ) → Better (Option Value) o p → o ≡ Done a n → (m : ℕ) × (p ≡ Done a m) × (m ≤ n)
 better_ends o p a n b e = subst (λ q. Better (Option Value) q p) e b
@@ -40,7 +41,9 @@ printed_text_runs_as_its_sources modules root keep lowered c text s =
     let back : StandsFor (unit_text lowered) lowered = subst (λ t. StandsFor (unit_text t) t) s.same (prints_back text s.tokens s.unit s.lexed s.derived) in
     record { stands = back; runs = compiled_text_runs_as_its_sources modules root keep lowered c (unit_text lowered) back.tokens back.unit back.lexed back.derived back.same }
 
+pub linked_unit_runs_exactly : (modules : Modules) (root : Path) (keep : List Name) (linked : Unit) → AreLinkedWell modules root keep linked → RunsExactlyAsItsSources modules root keep linked
+linked_unit_runs_exactly modules root keep linked well p program s k inputs n answer = linked_units_end_well modules root keep linked p well program s k inputs n answer
+
 pub linked_text_runs_as_its_sources : LinkedTextRunsAsItsSources
-linked_text_runs_as_its_sources modules root keep linked well text tokens unit lexed derived same p program s k inputs n answer =
-    subst (λ u. EndsWell p s inputs n answer ↔ EndsWell (program_of u) (here s.called) inputs n answer) (sym same)
-    (linked_units_end_well modules root keep linked p well program s k inputs n answer)
+linked_text_runs_as_its_sources modules root keep linked well text tokens unit lexed derived same =
+    subst (RunsExactlyAsItsSources modules root keep) (sym same) (linked_unit_runs_exactly modules root keep linked well)

@@ -50,9 +50,14 @@ abbrev pub PrintedTextRunsAsItsSources : Type 0
 PrintedTextRunsAsItsSources = (modules : Modules) (root : Path) (keep : List Name) (lowered : Unit) → AreCompiled modules root keep lowered
     → (text : List ℕ) → StandsFor text lowered → PrintsWell modules root keep lowered
 
--- A text of the linked unit: runs end well there exactly where they do in the modules, with the same answer in the same steps.
+-- Every run of a kept name ends well in the plain unit exactly where it does in the modules, with the same answer in the same
+-- steps.
+abbrev pub RunsExactlyAsItsSources : Modules → Path → List Name → Unit → Type 0
+RunsExactlyAsItsSources modules root keep unit = (p : Program) → IsProgramOf modules root keep p → (s : Symbol) → IsKept root keep s
+    → (inputs : Inputs) (n : ℕ) (answer : Option Value) → EndsWell p s inputs n answer ↔ EndsWell (program_of unit) (here s.called) inputs n answer
+
+-- So it is with a text of the linked unit.
 abbrev pub LinkedTextRunsAsItsSources : Type 0
 LinkedTextRunsAsItsSources = (modules : Modules) (root : Path) (keep : List Name) (linked : Unit) → AreLinkedWell modules root keep linked
     → (text : List ℕ) (tokens : List SpannedToken) (unit : TranslationUnit) → IsLexed text tokens → IsUnit tokens unit → unit_tree unit ≡ linked
-    → (p : Program) → IsProgramOf modules root keep p → (s : Symbol) → IsKept root keep s → (inputs : Inputs) (n : ℕ) (answer : Option Value)
-    → EndsWell p s inputs n answer ↔ EndsWell (program_of (unit_tree unit)) (here s.called) inputs n answer
+    → RunsExactlyAsItsSources modules root keep (unit_tree unit)

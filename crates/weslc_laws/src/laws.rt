@@ -2,6 +2,9 @@
 
 ghost use Rattle.weslc_laws.specs.Compiled.{CompiledTextRunsAsItsSources, LinkedTextRunsAsItsSources, PrintedTextRunsAsItsSources, SourcesRunInTheLoweredUnit};
 ghost use Rattle.weslc_laws.specs.Declared.{CompiledUnitsDeclareHeldFunctions};
+ghost use Rattle.weslc_laws.specs.Headline.{CompiledTextsAreOfTheirSources, LinkedTextsAreOfTheirSources};
+
+use wesl_resolve::Resolver;
 
 /// A run that ends well in the modules, ends well in the lowered unit with the same answer, in no more steps.
 pub fn sources_run_in_the_lowered_unit()
@@ -26,4 +29,16 @@ pub fn compiled_units_declare_held_functions()
 /// A run ends well in a text of the linked unit exactly where it does in the modules, with the same answer in the same steps.
 pub fn linked_text_runs_as_its_sources()
     ensures { LinkedTextRunsAsItsSources }
+{}
+
+/// What is linked from what a resolver finds, and lowered with clear names: its text declares the held functions, and each run that
+/// ends well in the sources ends well there.
+pub fn compiled_texts_are_of_their_sources<R: Resolver>()
+    ensures { (resolver : R) → CompiledTextsAreOfTheirSources (R.answers resolver) }
+{}
+
+/// What is linked from what a resolver finds: its text declares what is held, and runs end well there exactly where they do in the
+/// sources.
+pub fn linked_texts_are_of_their_sources<R: Resolver>()
+    ensures { (resolver : R) → LinkedTextsAreOfTheirSources (R.answers resolver) }
 {}

@@ -1,0 +1,92 @@
+-- What is linked and compiled is of its sources.
+use Rattle.std.proofs.Common.{◌≡◌, ℕ, List, Ok, ap, ◌∙◌}
+use Rattle.wgsl_token.specs.declared.token.SpannedToken.{SpannedToken}
+use Rattle.wgsl_syntax.specs.declared.unit.TranslationUnit.{TranslationUnit}
+use Rattle.wgsl_syntax.specs.Tree.{Unit}
+use Rattle.wgsl_syntax.specs.View.{unit_tree}
+use Rattle.wgsl_lex.specs.Tokens.{IsLexed}
+use Rattle.wgsl_grammar.specs.Declarations.{IsUnit}
+use Rattle.wgsl_laws.specs.Printing.{StandsFor}
+use Rattle.wgsl_lower.specs.Lowered.{lowered_unit}
+use Rattle.wgsl_lower.specs.Keeps.{AreClear}
+use Rattle.wesl_resolve.specs.Found.{unit_of}
+use Rattle.wesl_sources.specs.Occurrences.{Name}
+use Rattle.wesl_sources.specs.Modules.{Path, Modules, IsModule}
+use Rattle.wesl_sources.specs.Rounds.{Sources, ComesTo}
+use Rattle.wesl_sources.specs.Kept.{kept_names}
+use Rattle.wesl_sources.specs.Linked.{IsLinked}
+use Rattle.wesl_sources.specs.Loaded.{IsClashFree}
+use Rattle.wesl_sources.specs.Same.{SameModules}
+use Rattle.wesl_meaning.specs.Determined.{IsFunctional}
+use Rattle.wesl_meaning.proofs.Loading.{loaded_modules, found_modules}
+use Rattle.wesl_meaning.proofs.Declared.{linked_units_declare_what_is_held}
+use Rattle.wesl_meaning.proofs.Same.{same_turned, clash_free_in_any_order, linked_in_any_order}
+use Rattle.weslc_laws.specs.Compiled.{AreCompiled}
+use Rattle.weslc_laws.specs.Headline.{AreKept, IsLinkedFrom, RunsAsSources, RunsExactlyAsSources, CompiledTextsAreOfTheirSources, LinkedTextsAreOfTheirSources}
+use Rattle.weslc_laws.proofs.Runs.{sources_run_in_the_lowered_unit, linked_unit_runs_exactly}
+use Rattle.weslc_laws.proofs.Declared.{declares_held_functions}
+
+-- a text that lexes and parses to a unit with this tree stands for it
+pub stands_for : (text : List ℕ) (tokens : List SpannedToken) (unit : TranslationUnit) (tree : Unit) → IsLexed text tokens → IsUnit tokens unit → unit_tree unit ≡ tree → StandsFor text tree
+stands_for text tokens unit tree lexed derived same = record { tokens = tokens; unit = unit; lexed = lexed; derived = derived; same = same }
+
+module _ (sources : Sources) (root : Path) (keep : List Name) where
+  -- where one answer is found at each path, there is one list of kept names
+  pub kept_once : IsFunctional sources → (kept : List Name) → AreKept sources root keep kept → (u : Unit) → sources root (unit_of u) → kept ≡ kept_names keep u
+  kept_once functional kept k u found =
+      let answers : unit_of k.unit ≡ unit_of u = functional root _ _ k.found found in
+      let units : k.unit ≡ u = cc in
+      k.are ∙ ap (kept_names keep) units
+
+  module _ (max : ℕ) where
+    -- they are those of the root's unit
+    pub kept_of_root : IsFunctional sources → (linked : Unit) (from : IsLinkedFrom sources root keep max linked) (u : Unit) → IsModule from.modules root u → from.kept ≡ kept_names keep u
+    kept_of_root functional linked from u i = kept_once functional from.kept from.are_kept u (found_modules sources root from.kept max from.modules from.loaded root u i)
+
+    -- the clashes and the linked unit may be those of another list with the same modules
+    pub linked_from : (kept : List Name) → AreKept sources root keep kept → (modules others : Modules) → ComesTo sources root kept max (Ok modules) → SameModules modules others
+        → (linked : Unit) → IsClashFree others root kept → IsLinked others root kept linked → IsLinkedFrom sources root keep max linked
+    linked_from kept are modules others loaded same linked free is = record {
+      kept = kept;
+      are_kept = are;
+      modules = modules;
+      loaded = loaded;
+      linked_well = record {
+        loaded = loaded_modules sources root kept max modules loaded;
+        clash_free = clash_free_in_any_order others modules (same_turned modules others same) root kept free;
+        linked = linked_in_any_order linked others modules (same_turned modules others same) root kept is;
+      };
+    }
+
+    pub runs_as_sources : (linked lowered : Unit) (from : IsLinkedFrom sources root keep max linked) → AreClear linked.declarations → lowered_unit linked ≡ Ok lowered
+        → RunsAsSources from.modules root from.kept linked lowered
+    runs_as_sources linked lowered from clear is =
+        let c : AreCompiled from.modules root from.kept lowered = record { linked = linked; linked_well = from.linked_well; clear = clear; is_lowered = is } in
+        record {
+          runs = sources_run_in_the_lowered_unit from.modules root from.kept lowered c;
+          declares = declares_held_functions from.modules root from.kept lowered c;
+        }
+
+    pub runs_exactly_as_sources : (linked : Unit) (from : IsLinkedFrom sources root keep max linked) → RunsExactlyAsSources from.modules root from.kept linked
+    runs_exactly_as_sources linked from = record {
+      runs = linked_unit_runs_exactly from.modules root from.kept linked from.linked_well;
+      declares = linked_units_declare_what_is_held from.modules root from.kept linked from.linked_well;
+    }
+
+pub compiled_texts_are_of_their_sources : (sources : Sources) → CompiledTextsAreOfTheirSources sources
+compiled_texts_are_of_their_sources sources root keep max linked lowered from clear is text stands = record {
+  linked = linked;
+  from = from;
+  lowered = lowered;
+  is_lowered = is;
+  stands = stands;
+  keeps = runs_as_sources sources root keep max linked lowered from clear is;
+}
+
+pub linked_texts_are_of_their_sources : (sources : Sources) → LinkedTextsAreOfTheirSources sources
+linked_texts_are_of_their_sources sources root keep max linked from text stands = record {
+  linked = linked;
+  from = from;
+  stands = stands;
+  keeps = runs_exactly_as_sources sources root keep max linked from;
+}
