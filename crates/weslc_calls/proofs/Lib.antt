@@ -1,2 +1,3 @@
 pub mod Loading
 pub mod Mapping
+pub mod Texts

@@ -1,7 +1,6 @@
 -- What loading comes to, and the error that tells it.
 use Rattle.std.specs.Prelude.{◌↔◌, string_bytes}
-use Rattle.std.proofs.Common.{◌≡◌, ℕ, ◌+◌, ◌<◌, ◌⊎◌, inl, inr, List, map, [], ◌∷◌, ◌++◌, length, Option, Result, Ok, Err, Some, None, refl, sym, subst, Contains}
-use Rattle.std.proofs.lemmas.List.Elements.{Contains-append_cases}
+use Rattle.std.proofs.Common.{◌≡◌, ℕ, ◌+◌, ◌<◌, List, map, [], ◌∷◌, ◌++◌, length, Option, Result, Ok, Err, Some, None, refl, sym, subst, Contains}
 use Rattle.std.specs.declared.string.String.{String}
 use Rattle.std.specs.declared.alloc.Global.{Global}
 use Rattle.wgsl_syntax.specs.View.{unit_tree}
@@ -14,7 +13,7 @@ use Rattle.wesl_resolve.specs.Found.{Answer, unit_of, not_found, faulty, TellsUn
 use Rattle.wesl_resolve.specs.declared.error.ResolveError.{ResolveError}
 use Rattle.wesl_resolve.specs.declared.error.ResolveError.TheVariants as resolve
 use Rattle.wesl_sources.specs.Occurrences.{Name}
-use Rattle.wesl_sources.specs.Modules.{Path, Modules, Declares}
+use Rattle.wesl_sources.specs.Modules.{Path, Modules, IsModule}
 use Rattle.wesl_sources.specs.Rounds.{Sources, Refusal, module_not_found, syntax, Loads, all_loaded, one_too_many, is_not_found, is_faulty, has_a_name_twice, loaded_then_refused, loaded, Goes, an_occurrence_refused, nothing_asked, a_module_refused, a_round, ComesTo, root_refused, kept_name_missing, goes_on}
 use Rattle.wesl_sources.specs.Kept.{kept_names}
 use Rattle.wesl_sources.specs.Linked.{IsLinked}
@@ -25,7 +24,8 @@ use Rattle.wesl_scopes.specs.declared.module.Module.{Module as Loaded}
 use Rattle.wesl_scopes.proofs.ScopeLemmas.{to_contains, from_contains, get_map, map_get}
 use Rattle.wesl_scopes.specs.declared.error.ImportError.{ImportError}
 use Rattle.wesl_scopes.specs.declared.error.ImportError.TheVariants as import
-use Rattle.wesl_meaning.proofs.Members.{in_none, in_cases}
+use Rattle.wesl_meaning.proofs.Loading.{loaded_modules, found_modules}
+use Rattle.weslc_laws.specs.Headline.{IsLinkedFrom}
 use Rattle.wesl_meaning.proofs.Same.{same_turned, clash_free_in_any_order, linked_in_any_order, first_clash_in_any_order}
 use Rattle.wesl_reach.specs.Missing.{refusal_of}
 use Rattle.wesl_reach.specs.Answers.{Refuses}
@@ -33,7 +33,7 @@ use Rattle.wesl_reach.specs.Resolved.{modules_of, IsResolved}
 use Rattle.wesl_link.specs.declared.rounds.Resolutions.{Resolutions}
 use Rattle.wesl_link.specs.Answers.{Resolves}
 use Rattle.weslc_calls.specs.Told.{of_resolving, of_loading}
-use Rattle.weslc_calls.specs.Answers.{AreLoadedFrom, IsRefusedLoading, of_the_root, behind_the_root, IsFirstClashFrom, RefusesLinking, AreTablesOf, IsLinkedUnit}
+use Rattle.weslc_calls.specs.Answers.{AreLoadedFrom, IsRefusedLoading, of_the_root, behind_the_root, IsFirstClashFrom, RefusesLinking, AreTablesOf}
 
 abbrev Entry : Type 0
 Entry = String Global × Loaded
@@ -111,7 +111,7 @@ module _ (found : Sources) (root : Path) (asked : List Name) (max : ℕ) where
       → Resolves after root (kept_names asked unit) max (Ok r) → AreTables (kept_names asked unit) r
   tables after same unit is r t = record {
     modules = t.1.modules;
-    loaded = record { unit = unit; is_root = is; names = refl; loaded = comes_moves after found (turned found after same) max root (kept_names asked unit) t.1.loaded };
+    loaded = record { are_kept = record { unit = unit; found = is; are = refl }; loaded = comes_moves after found (turned found after same) max root (kept_names asked unit) t.1.loaded };
     same = t.1.same;
     is_root = t.0;
     resolved = t.1.resolved;
@@ -152,70 +152,30 @@ module _ (found : Sources) (root : Path) (asked : List Name) (max : ℕ) where
 
   pub linked : (r : Resolutions) → AreTablesOf found root asked max r → (unit : Module)
       → ((keep : List Name) → IsResolved r.modules (string_bytes r.root) keep r.held → IsLinked (modules_of r.modules) (string_bytes r.root) keep unit)
-      → IsLinkedUnit found root asked max unit
+      → IsLinkedFrom found root asked max unit
   linked r t unit is_linked = record {
     kept = t.kept;
+    are_kept = t.loaded.are_kept;
     modules = t.modules;
-    are_linked = record {
-      loaded = t.loaded;
+    loaded = t.loaded.loaded;
+    linked_well = record {
+      loaded = loaded_modules found root t.kept max t.modules t.loaded.loaded;
       clash_free = t.clash_free;
-      whole = linked_in_any_order unit (modules_of r.modules) t.modules (same_turned t.modules (modules_of r.modules) t.same) root t.kept
+      linked = linked_in_any_order unit (modules_of r.modules) t.modules (same_turned t.modules (modules_of r.modules) t.same) root t.kept
           (subst (λ m. IsLinked (modules_of r.modules) m t.kept unit) t.is_root (is_linked t.kept (subst (λ m. IsResolved r.modules m t.kept r.held) (sym t.is_root) t.resolved)));
     };
   }
 
 -- ---- what is loaded was found
 
-module _ (found : Sources) (root : Path) (keep : List Name) (max : ℕ) where
-  abbrev AllIn : Result Modules Refusal → Type 0
-  AllIn (Ok modules) = (a : ModulePath × Module) → Contains modules a → IsFound found (path_text a.0)
-  AllIn (Err r) = Prim.Unit {0}
-
-  one_more : (a : ModulePath × Module) (modules : Modules) → IsFound found (path_text a.0) → AllIn (Ok modules) → AllIn (Ok (a ∷ modules))
-  one_more a modules here rest b among = by (in_cases a modules b among)
-    where
-      by : (a ≡ b) ⊎ Contains modules b → IsFound found (path_text b.0)
-      by (inl same) = subst (λ (c : ModulePath × Module). IsFound found (path_text c.0)) same here
-      by (inr behind) = rest b behind
-
-  both : (one more : Modules) → AllIn (Ok one) → AllIn (Ok more) → AllIn (Ok (one ++ more))
-  both one more first then b among = by (Contains-append_cases one more b among)
-    where
-      by : Contains one b ⊎ Contains more b → IsFound found (path_text b.0)
-      by (inl before) = first b before
-      by (inr behind) = then b behind
-
-  loads_found : {n : ℕ} {ps : List Path} {o : Result Modules Refusal} → Loads found max n ps o → AllIn o
-  loads_found all_loaded = λ a among. absurd (in_none a among)
-  loads_found (one_too_many m) = tt
-  loads_found (is_not_found m f) = tt
-  loads_found (is_faulty m f) = tt
-  loads_found (has_a_name_twice m f again) = tt
-  loads_found (loaded_then_refused m f d more) = tt
-  loads_found (loaded {u = u} {path = path} {modules = modules} m f d t more) =
-      one_more (path, u) modules (u, subst (λ p. found p (unit_of u)) (sym t) f) (loads_found more)
-
-  goes_found : {modules : Modules} {o : Result Modules Refusal} → Goes found root keep max modules o → AllIn (Ok modules) → AllIn o
-  goes_found (an_occurrence_refused r) all = tt
-  goes_found (nothing_asked none next) all = all
-  goes_found (a_module_refused none next l) all = tt
-  goes_found (a_round {modules = modules} {more = more} none next some l go) all = goes_found go (both modules more all (loads_found l))
-
-  comes_found : {o : Result Modules Refusal} → ComesTo found root keep max o → AllIn o
-  comes_found (root_refused l) = tt
-  comes_found (kept_name_missing l u) = tt
-  comes_found (goes_on l k g) = goes_found g (loads_found l)
-
-  pub modules_found : (modules : Modules) → ComesTo found root keep max (Ok modules) → (a : ModulePath × Module) → Contains modules a → IsFound found (path_text a.0)
-  modules_found modules comes = comes_found comes
-
 module _ (found : Sources) (root : Path) (asked : List Name) (max : ℕ) where
   pub paths_found : (r : Resolutions) → AreTablesOf found root asked max r → AreFound found root (map (λ e. e.1.path) r.modules.entries)
   paths_found r t = (
-    (t.loaded.unit, t.loaded.is_root),
+    (t.loaded.are_kept.unit, t.loaded.are_kept.found),
     λ p among.
         let at = from_contains (map (λ e. e.1.path) r.modules.entries) p among in
         let e = map_get (λ (e : Entry). e.1.path) r.modules.entries at.0 p at.1 in
         let there = to_contains (modules_of r.modules) at.0 (path_and_unit e.0) (get_map path_and_unit r.modules.entries at.0 e.0 e.1) in
-        subst (λ q. IsFound found (path_text q)) e.2 (modules_found found root t.kept max t.modules t.loaded.loaded (path_and_unit e.0) ((t.same (path_and_unit e.0)).1 there)),
+        let is : IsModule t.modules (path_text e.0.1.path) (unit_tree e.0.1.unit) = record { path = e.0.1.path; stands = (t.same (path_and_unit e.0)).1 there; printed = refl } in
+        subst (λ q. IsFound found (path_text q)) e.2 (unit_tree e.0.1.unit, found_modules found root t.kept max t.modules t.loaded.loaded (path_text e.0.1.path) (unit_tree e.0.1.unit) is),
   )

@@ -1,5 +1,5 @@
 -- What the calls answer.
-use Rattle.std.specs.Prelude.{◌≡◌, ⊤, ◌⊎◌, ◌↔◌, ℕ, List, [], ◌∷◌, Option, Ok, Err, string_bytes}
+use Rattle.std.specs.Prelude.{◌≡◌, ⊤, ℕ, List, [], ◌∷◌, Ok, Err, string_bytes}
 use Rattle.wgsl_path.specs.declared.path.ModulePath.{ModulePath}
 use Rattle.wgsl_path.specs.Paths.{path_text}
 use Rattle.wgsl_syntax.specs.Tree.{Unit}
@@ -9,55 +9,30 @@ use Rattle.wesl_sources.specs.Occurrences.{Name}
 use Rattle.wesl_sources.specs.Modules.{Path, Modules}
 use Rattle.wesl_sources.specs.Rounds.{Sources, Refusal, too_many_modules, module_not_found, syntax, duplicate_symbol, missing_decl, private, Loads, ComesTo}
 use Rattle.wesl_sources.specs.Kept.{kept_names}
-use Rattle.wesl_sources.specs.Linked.{IsLinked}
 use Rattle.wesl_sources.specs.Loaded.{IsClashFree}
 use Rattle.wesl_sources.specs.Clashing.{IsFirstClash}
 use Rattle.wesl_sources.specs.Same.{SameModules}
-use Rattle.wgsl_meaning.specs.declared.value.Value.{Value}
-use Rattle.wgsl_meaning.specs.Names.{Symbol}
-use Rattle.wgsl_meaning.specs.Programs.{Program, Inputs, here, program_of, EndsWell}
+use Rattle.wgsl_meaning.specs.Programs.{Program}
 use Rattle.wesl_meaning.specs.SourcePrograms.{IsProgramOf}
-use Rattle.wesl_meaning.specs.Runs.{IsKept}
-use Rattle.wesl_meaning.specs.Declared.{DeclaresWhatIsHeld}
 use Rattle.wesl_reach.specs.Resolved.{modules_of, IsResolved}
 use Rattle.wesl_link.specs.declared.rounds.Resolutions.{Resolutions}
 use Rattle.weslc_unit.specs.Compiled.{IsTextOf, IsCompiled, Refuses}
 use Rattle.weslc_unit.specs.declared.error.UnitRefusal.{UnitRefusal}
-use Rattle.weslc_laws.specs.Compiled.{RunsAsItsSources}
-use Rattle.weslc_laws.specs.Declared.{DeclaresHeldFunctions}
+use Rattle.weslc_laws.specs.Headline.{AreKept, IsLinkedFrom, RunsAsSources, RunsExactlyAsSources}
 use Rattle.weslc_calls.specs.Told.{about_module, about_item, about_name, Tells}
 use Rattle.weslc_calls.specs.declared.error.ResolveKind.TheVariants.{ModuleNotFound}
 use Rattle.weslc_calls.specs.declared.error.ImportKind.TheVariants.{DuplicateSymbol, MissingDecl, Private}
 use Rattle.weslc_calls.specs.declared.error.CompileError.{CompileError}
 use Rattle.weslc_calls.specs.declared.error.CompileError.TheVariants.{TooManyModules, Resolve, Syntax, Import, NameClash, Validate, UnclearName, Eval, Unprintable, OutOfMemory}
 
--- A run of a kept name ends well in the modules exactly where it does in the unit, with the same answer in the same steps.
-abbrev pub RunsLikeItsSources : Modules → Path → List Name → Unit → Type 0
-RunsLikeItsSources modules root kept unit = (p : Program) → IsProgramOf modules root kept p → (s : Symbol) → IsKept root kept s
-    → (inputs : Inputs) (n : ℕ) (answer : Option Value) → EndsWell p s inputs n answer ↔ EndsWell (program_of unit) (here s.called) inputs n answer
-
 -- What is found at each path, the root's path, the names that are asked for, and how many modules may be loaded.
 module _ (found : Sources) (root : Path) (asked : List Name) (max : ℕ) where
   -- ---- what is loaded and linked
 
-  -- The modules that loading comes to. These names of the root are kept: those that are asked for, else its entry points.
+  -- the modules that loading comes to, where these names of the root are kept
   pub record AreLoadedFrom (kept : List Name) (modules : Modules) : Type 0 where
-    pub unit : Unit
-    pub is_root : found root (unit_of unit)
-    pub names : kept ≡ kept_names asked unit
+    pub are_kept : AreKept found root asked kept
     pub loaded : ComesTo found root kept max (Ok modules)
-
-  -- No name of the loaded modules clashes, and they are linked into this unit.
-  pub record AreLinkedFrom (kept : List Name) (modules : Modules) (linked : Unit) : Type 0 where
-    pub loaded : AreLoadedFrom kept modules
-    pub clash_free : IsClashFree modules root kept
-    pub whole : IsLinked modules root kept linked
-
-  -- the unit that the loaded modules are linked into
-  pub record IsLinkedUnit (linked : Unit) : Type 0 where
-    pub kept : List Name
-    pub modules : Modules
-    pub are_linked : AreLinkedFrom kept modules linked
 
   -- the tables of loaded modules none of whose names clashes
   pub record AreTablesOf (r : Resolutions) : Type 0 where
@@ -101,7 +76,7 @@ module _ (found : Sources) (root : Path) (asked : List Name) (max : ℕ) where
   -- the linked unit is not read from its text, of which some name is told
   pub record IsUnprintable (e : CompileError) : Type 0 where
     pub linked : Unit
-    pub is_linked : IsLinkedUnit linked
+    pub from : IsLinkedFrom found root asked max linked
     pub unread : IsTextOf linked (unit_text linked) → ⊥
     pub name : Name
     pub told : e ≡ Unprintable (about_name name)
@@ -109,7 +84,7 @@ module _ (found : Sources) (root : Path) (asked : List Name) (max : ℕ) where
   -- the first refusal of the linked unit, as the error tells it
   pub record IsRefusedUnit (e : CompileError) : Type 0 where
     pub linked : Unit
-    pub is_linked : IsLinkedUnit linked
+    pub from : IsLinkedFrom found root asked max linked
     pub refusal : UnitRefusal
     pub refused : Refuses linked refusal
     pub told : Tells refusal e
@@ -119,24 +94,18 @@ module _ (found : Sources) (root : Path) (asked : List Name) (max : ℕ) where
   -- The text of the unit that the loaded modules are linked into, which is read as that unit. It declares what is held, each once
   -- under its printed name, and its runs end well exactly where those of the modules do.
   pub record IsLinkedText (text : List ℕ) : Type 0 where
-    pub kept : List Name
-    pub modules : Modules
     pub linked : Unit
-    pub are_linked : AreLinkedFrom kept modules linked
+    pub from : IsLinkedFrom found root asked max linked
     pub whole : text ≡ unit_text linked
     pub reads : IsTextOf linked text
-    pub declares : DeclaresWhatIsHeld modules root kept linked
-    pub runs : RunsLikeItsSources modules root kept linked
-    pub has_program : (p : Program) × IsProgramOf modules root kept p
+    pub keeps : RunsExactlyAsSources from.modules root from.kept linked
+    pub has_program : (p : Program) × IsProgramOf from.modules root from.kept p
 
   -- The compiled text of the unit that the loaded modules are linked into. What it is read as declares the held functions, each
   -- once under its printed name, and every run that ends well in the modules ends well there, with the same answer in no more steps.
   pub record IsCompiledText (text : List ℕ) : Type 0 where
-    pub kept : List Name
-    pub modules : Modules
     pub linked : Unit
-    pub are_linked : AreLinkedFrom kept modules linked
+    pub from : IsLinkedFrom found root asked max linked
     pub compiled : IsCompiled linked text
-    pub declares : DeclaresHeldFunctions modules root kept linked compiled.low
-    pub runs : RunsAsItsSources modules root kept compiled.low
-    pub has_program : (p : Program) × IsProgramOf modules root kept p
+    pub keeps : RunsAsSources from.modules root from.kept linked compiled.low
+    pub has_program : (p : Program) × IsProgramOf from.modules root from.kept p

@@ -6,8 +6,9 @@ ghost use Rattle.wgsl_syntax.specs.View.{unit_tree};
 ghost use Rattle.wesl_resolve.specs.Found.{unit_of, SameAnswers, SameTexts};
 ghost use Rattle.wesl_sources.specs.Occurrences.{Name};
 ghost use Rattle.wgsl_path.specs.declared.path.ModulePath.{ModulePath as Path};
+ghost use Rattle.weslc_laws.specs.Headline.{IsLinkedFrom};
 ghost use Rattle.weslc_calls.specs.Mapped.{IsFound, AreAllFound, AreFound, HasText, HaveTexts, HasDefault};
-ghost use Rattle.weslc_calls.specs.Answers.{RefusesLinking, AreTablesOf, IsLinkedUnit, IsLinkedText, IsCompiledText, IsUnprintable, IsRefusedUnit};
+ghost use Rattle.weslc_calls.specs.Answers.{RefusesLinking, AreTablesOf, IsLinkedText, IsCompiledText, IsUnprintable, IsRefusedUnit};
 
 use crate::error::CompileError;
 use crate::options::Options;
@@ -69,7 +70,7 @@ fn linked_unit<R: Resolver>(
     root: &ModulePath,
     options: &Options,
 ) -> Result<Linked, CompileError>
-    ensures unit { IfOk result (λ linked. IsLinkedUnit (R.answers resolver.old) (path_text root.now) options.now.keep options.now.max_modules (unit_tree linked.unit)) }
+    ensures unit { IfOk result (λ linked. IsLinkedFrom (R.answers resolver.old) (path_text root.now) options.now.keep options.now.max_modules (unit_tree linked.unit)) }
     ensures refusal { IfErr result (RefusesLinking (R.answers resolver.old) (path_text root.now) options.now.keep options.now.max_modules) }
 {
     let resolutions = loaded(alloc, resolver, root, options)?;
