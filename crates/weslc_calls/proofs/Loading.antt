@@ -4,7 +4,8 @@ use Rattle.std.proofs.Common.{◌≡◌, ℕ, ◌+◌, ◌<◌, List, map, [], �
 use Rattle.std.specs.declared.string.String.{String}
 use Rattle.std.specs.declared.alloc.Global.{Global}
 use Rattle.wgsl_syntax.specs.View.{unit_tree}
-use Rattle.weslc_calls.specs.Mapped.{IsFound, AreFound}
+use Rattle.weslc_calls.specs.Mapped.{IsFound, AreFound, Texts, HasText, HaveTexts, HasDefault}
+use Rattle.wesl_resolve.specs.declared.source_map.BasicSourceMap.{BasicSourceMap}
 use Rattle.wgsl_path.specs.declared.path.ModulePath.{ModulePath}
 use Rattle.wgsl_path.specs.Paths.{path_text}
 use Rattle.wgsl_token.specs.declared.error.Error.{Error}
@@ -33,7 +34,7 @@ use Rattle.wesl_reach.specs.Resolved.{modules_of, IsResolved}
 use Rattle.wesl_link.specs.declared.rounds.Resolutions.{Resolutions}
 use Rattle.wesl_link.specs.Answers.{Resolves}
 use Rattle.weslc_calls.specs.Told.{of_resolving, of_loading}
-use Rattle.weslc_calls.specs.Answers.{AreLoadedFrom, IsRefusedLoading, of_the_root, behind_the_root, IsFirstClashFrom, RefusesLinking, AreTablesOf}
+use Rattle.weslc_calls.specs.Answers.{AreLoadedFrom, IsRefusedLoading, of_the_root, behind_the_root, IsFirstClashFrom, RefusesLinking, AreTablesOf, IsMapped}
 
 abbrev Entry : Type 0
 Entry = String Global × Loaded
@@ -179,3 +180,18 @@ module _ (found : Sources) (root : Path) (asked : List Name) (max : ℕ) where
         let is : IsModule t.modules (path_text e.0.1.path) (unit_tree e.0.1.unit) = record { path = e.0.1.path; stands = (t.same (path_and_unit e.0)).1 there; printed = refl } in
         subst (λ q. IsFound found (path_text q)) e.2 (unit_tree e.0.1.unit, found_modules found root t.kept max t.modules t.loaded.loaded (path_text e.0.1.path) (unit_tree e.0.1.unit) is),
   )
+
+  -- the texts that are recorded are those of the loaded modules
+  pub texts_mapped : (texts : Texts) (m : BasicSourceMap) (r : Resolutions) → AreTablesOf found root asked max r → HaveTexts texts m (map (λ e. e.1.path) r.modules.entries)
+      → HasDefault texts root m → IsMapped found root asked max texts m
+  texts_mapped texts m r t each default = record {
+    kept = t.kept;
+    modules = t.modules;
+    loaded = t.loaded;
+    each = λ a among.
+        let at = from_contains (modules_of r.modules) a ((t.same a).0 among) in
+        let e = map_get path_and_unit r.modules.entries at.0 a at.1 in
+        let there = to_contains (map (λ (e : Entry). e.1.path) r.modules.entries) at.0 e.0.1.path (get_map (λ (e : Entry). e.1.path) r.modules.entries at.0 e.0 e.1) in
+        subst (λ (b : ModulePath × Module). HasText texts m b.0) e.2 (each e.0.1.path there);
+    default_text = default;
+  }

@@ -8,7 +8,7 @@ use Rattle.wesl_resolve.specs.declared.source_map.BasicSourceMap.{BasicSourceMap
 use Rattle.wesl_resolve.specs.Found.{SameAnswers, SameTexts}
 use Rattle.wesl_scopes.proofs.ScopeLemmas.{to_contains, from_contains, get_map, map_get}
 use Rattle.wesl_sources.specs.Rounds.{Sources}
-use Rattle.weslc_calls.specs.Mapped.{Texts, HasText, HaveTexts, IsFound, AreAllFound}
+use Rattle.weslc_calls.specs.Mapped.{Texts, HasText, HaveTexts, HasDefault, IsFound, AreAllFound}
 
 pub same_before : (a b c : Sources) → SameAnswers a b → SameAnswers b c → SameAnswers a c
 same_before a b c one two p x = (λ h. (two p x).0 ((one p x).0 h), λ h. (one p x).1 ((two p x).1 h))
@@ -61,3 +61,6 @@ pub text_kept : (texts : Texts) (old new : BasicSourceMap) (text : List ℕ) →
 text_kept texts old new text is p h =
     let kept : HasText texts (record old { default_source = Some text }) p = record { text = h.text; is_text = h.is_text; stands = h.stands } in
     subst (λ m. HasText texts m p) (sym is) kept
+
+pub default_moved : (a b : Texts) → SameTexts a b → (root : List ℕ) (m : BasicSourceMap) → HasDefault b root m → HasDefault a root m
+default_moved a b same root m h = record { text = h.text; is_text = (same root h.text).1 h.is_text; stands = h.stands }

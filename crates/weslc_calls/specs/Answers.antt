@@ -19,6 +19,9 @@ use Rattle.wesl_link.specs.declared.rounds.Resolutions.{Resolutions}
 use Rattle.weslc_unit.specs.Compiled.{IsTextOf, IsCompiled, Refuses}
 use Rattle.weslc_unit.specs.declared.error.UnitRefusal.{UnitRefusal}
 use Rattle.weslc_laws.specs.Headline.{AreKept, IsLinkedFrom, RunsAsSources, RunsExactlyAsSources}
+use Rattle.std.specs.List.{Contains}
+use Rattle.wesl_resolve.specs.declared.source_map.BasicSourceMap.{BasicSourceMap}
+use Rattle.weslc_calls.specs.Mapped.{Texts, HasText, HasDefault}
 use Rattle.weslc_calls.specs.Told.{about_module, about_item, about_name, Tells}
 use Rattle.weslc_calls.specs.declared.error.ResolveKind.TheVariants.{ModuleNotFound}
 use Rattle.weslc_calls.specs.declared.error.ImportKind.TheVariants.{DuplicateSymbol, MissingDecl, Private}
@@ -43,6 +46,16 @@ module _ (found : Sources) (root : Path) (asked : List Name) (max : ℕ) where
     pub same : SameModules modules (modules_of r.modules)
     pub is_root : string_bytes r.root ≡ root
     pub resolved : IsResolved r.modules root kept r.held
+
+  -- ---- the source map
+
+  -- the map has the text of each loaded module, and the root's text as default
+  pub record IsMapped (texts : Texts) (map : BasicSourceMap) : Type 0 where
+    pub kept : List Name
+    pub modules : Modules
+    pub loaded : AreLoadedFrom kept modules
+    pub each : (m : ModulePath × Unit) → Contains modules m → HasText texts map m.0
+    pub default_text : HasDefault texts root map
 
   -- ---- refusals
 

@@ -8,7 +8,7 @@ ghost use Rattle.wesl_sources.specs.Occurrences.{Name};
 ghost use Rattle.wgsl_path.specs.declared.path.ModulePath.{ModulePath as Path};
 ghost use Rattle.weslc_laws.specs.Headline.{IsLinkedFrom};
 ghost use Rattle.weslc_calls.specs.Mapped.{IsFound, AreAllFound, AreFound, HasText, HaveTexts, HasDefault};
-ghost use Rattle.weslc_calls.specs.Answers.{RefusesLinking, AreTablesOf, IsLinkedText, IsCompiledText, IsUnprintable, IsRefusedUnit};
+ghost use Rattle.weslc_calls.specs.Answers.{RefusesLinking, AreTablesOf, IsMapped, IsLinkedText, IsCompiledText, IsUnprintable, IsRefusedUnit};
 
 use crate::error::CompileError;
 use crate::options::Options;
@@ -34,6 +34,7 @@ pub fn link<R: Resolver>(
     options: &Options,
 ) -> Result<(String, BasicSourceMap), CompileError>
     ensures text { IfOk result (λ answer. IsLinkedText (R.answers resolver.old) (path_text root.now) options.now.keep options.now.max_modules (string_bytes answer.0)) }
+    ensures map { IfOk result (λ answer. IsMapped (R.answers resolver.old) (path_text root.now) options.now.keep options.now.max_modules (R.texts resolver.old) answer.1) }
     ensures refusal { IfErr result (λ e. RefusesLinking (R.answers resolver.old) (path_text root.now) options.now.keep options.now.max_modules e ⊎ IsUnprintable (R.answers resolver.old) (path_text root.now) options.now.keep options.now.max_modules e) }
 {
     let Linked { unit, map } = linked_unit(alloc, resolver, root, options)?;
@@ -53,6 +54,7 @@ pub fn compile<R: Resolver>(
     options: &Options,
 ) -> Result<(String, BasicSourceMap), CompileError>
     ensures text { IfOk result (λ answer. IsCompiledText (R.answers resolver.old) (path_text root.now) options.now.keep options.now.max_modules (string_bytes answer.0)) }
+    ensures map { IfOk result (λ answer. IsMapped (R.answers resolver.old) (path_text root.now) options.now.keep options.now.max_modules (R.texts resolver.old) answer.1) }
     ensures refusal { IfErr result (λ e. RefusesLinking (R.answers resolver.old) (path_text root.now) options.now.keep options.now.max_modules e ⊎ IsRefusedUnit (R.answers resolver.old) (path_text root.now) options.now.keep options.now.max_modules e) }
 {
     let Linked { unit, map } = linked_unit(alloc, resolver, root, options)?;
@@ -71,6 +73,7 @@ fn linked_unit<R: Resolver>(
     options: &Options,
 ) -> Result<Linked, CompileError>
     ensures unit { IfOk result (λ linked. IsLinkedFrom (R.answers resolver.old) (path_text root.now) options.now.keep options.now.max_modules (unit_tree linked.unit)) }
+    ensures map { IfOk result (λ linked. IsMapped (R.answers resolver.old) (path_text root.now) options.now.keep options.now.max_modules (R.texts resolver.old) linked.map) }
     ensures refusal { IfErr result (RefusesLinking (R.answers resolver.old) (path_text root.now) options.now.keep options.now.max_modules) }
 {
     let resolutions = loaded(alloc, resolver, root, options)?;
