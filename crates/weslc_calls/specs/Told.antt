@@ -1,5 +1,5 @@
 -- What errors are about, and which error is told for a refusal.
-use Rattle.std.specs.Prelude.{◌≡◌, ⊤, ℕ, List, Option, Some, None}
+use Rattle.std.specs.Prelude.{◌≡◌, ⊤, ℕ, List, codes, Option, Some, None}
 use Rattle.wgsl_path.specs.declared.path.ModulePath.{ModulePath}
 use Rattle.wesl_resolve.specs.declared.error.ResolveError.{ResolveError}
 use Rattle.wesl_resolve.specs.declared.error.ResolveError.TheVariants as resolve
@@ -13,6 +13,8 @@ use Rattle.wgsl_eval.specs.declared.error.Refusal.{Refusal}
 use Rattle.weslc_unit.specs.declared.error.UnitRefusal.{UnitRefusal}
 use Rattle.weslc_unit.specs.declared.error.UnitRefusal.TheVariants as of
 use Rattle.weslc_calls.specs.declared.error.Concern.{Concern}
+use Rattle.weslc_calls.specs.declared.error.ResolveKind.{ResolveKind}
+use Rattle.weslc_calls.specs.declared.error.ImportKind.{ImportKind}
 use Rattle.weslc_calls.specs.declared.error.ResolveKind.TheVariants.{ModuleNotFound}
 use Rattle.weslc_calls.specs.declared.error.ImportKind.TheVariants.{DuplicateSymbol, MissingDecl, Private}
 use Rattle.weslc_calls.specs.declared.error.CompileError.{CompileError}
@@ -29,6 +31,28 @@ about_item m x = record { «module» = Some m; decl = None; name = Some x }
 
 abbrev pub about_name : Name → Concern
 about_name x = record { «module» = None; decl = None; name = Some x }
+
+-- what an error is about, if it is about something
+abbrev pub concern_of : CompileError → Option Concern
+concern_of (TooManyModules c) = Some c
+concern_of (Resolve c kind) = Some c
+concern_of (Syntax c fault) = Some c
+concern_of (Import c kind) = Some c
+concern_of (NameClash c) = Some c
+concern_of (Validate c kind) = Some c
+concern_of (UnclearName c) = Some c
+concern_of (Eval c fault) = Some c
+concern_of (Unprintable c) = Some c
+concern_of OutOfMemory = None
+
+-- the words of what is wrong with an import or a module
+abbrev pub resolve_text : ResolveKind → List ℕ
+resolve_text ModuleNotFound = codes "ModuleNotFound"
+
+abbrev pub import_text : ImportKind → List ℕ
+import_text DuplicateSymbol = codes "DuplicateSymbol"
+import_text MissingDecl = codes "MissingDecl"
+import_text Private = codes "Private"
 
 -- ---- the error for what a resolver, or loading, refuses
 

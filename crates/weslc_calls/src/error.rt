@@ -1,7 +1,8 @@
 //! What a call is refused for.
 
 ghost use Rattle.std.specs.Prelude.{◌≡◌, IfOk};
-ghost use Rattle.weslc_calls.specs.Told.{about_module, about_item, about_name, Tells, TellsOfFault, TellsOfEvaluation, fault_name};
+ghost use Rattle.std.specs.Option.{option_copied};
+ghost use Rattle.weslc_calls.specs.Told.{concern_of, about_module, about_item, about_name, Tells, TellsOfFault, TellsOfEvaluation, fault_name};
 
 use std::alloc::{AllocError, AllocFailed, Global};
 use std::fmt;
@@ -188,7 +189,9 @@ impl CompileError {
     }
 
     /// What the refusal is about, where it is about something.
-    pub fn concern(&self) -> Option<&Concern> {
+    pub fn concern(&self) -> Option<&Concern>
+        ensures { option_copied result ≡ concern_of self.now }
+    {
         match self {
             CompileError::TooManyModules(concern) => Some(concern),
             CompileError::Resolve(concern, _) => Some(concern),
@@ -273,6 +276,11 @@ impl From<ImportError> for CompileError {
 }
 
 impl fmt::Display for ResolveKind {
+    ghost use Rattle.std.specs.Prelude.{Some};
+    ghost use Rattle.weslc_calls.specs.Told.{resolve_text};
+
+    ghost output = { λ kind. Some (resolve_text kind) };
+
     fn fmt<W: fmt::Write>(&self, f: &mut fmt::Formatter<W>) -> fmt::Result {
         match self {
             ResolveKind::ModuleNotFound => f.write_str("ModuleNotFound"),
@@ -281,6 +289,11 @@ impl fmt::Display for ResolveKind {
 }
 
 impl fmt::Display for ImportKind {
+    ghost use Rattle.std.specs.Prelude.{Some};
+    ghost use Rattle.weslc_calls.specs.Told.{import_text};
+
+    ghost output = { λ kind. Some (import_text kind) };
+
     fn fmt<W: fmt::Write>(&self, f: &mut fmt::Formatter<W>) -> fmt::Result {
         match self {
             ImportKind::DuplicateSymbol => f.write_str("DuplicateSymbol"),

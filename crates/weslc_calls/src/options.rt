@@ -1,5 +1,7 @@
 //! What a call is asked for.
 
+ghost use Rattle.std.specs.Prelude.{◌≡◌, []};
+
 use std::alloc::Global;
 use wgsl_items::{Items, Text};
 
@@ -17,7 +19,9 @@ pub struct Options {
 
 impl Options {
     /// No name, 256 modules and a million steps.
-    pub fn new(alloc: Global) -> Options {
+    pub fn new(alloc: Global) -> Options
+        ensures { result ≡ record { keep = []; max_modules = 256; max_steps = 1000000 } }
+    {
         Options {
             keep: Items::new(alloc),
             max_modules: 256,

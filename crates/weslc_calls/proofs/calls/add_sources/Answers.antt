@@ -11,7 +11,7 @@ loop-path-init g c = record {
   texts = λ k q less at. absurd (omega (arith, less));
   decls = refl;
   same_answers = λ p a. (λ h. h, λ h. h);
-  same_texts = λ p a. (λ h. h, λ h. h)
+  same_texts = λ p a. (λ h. h, λ h. h);
 }
 
 pub returns-in_err-add_source-clause-memory : goal.returns-in_err-add_source-clause-memory

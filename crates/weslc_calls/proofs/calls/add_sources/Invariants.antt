@@ -11,5 +11,5 @@ invariant-loop-path g l = record {
   texts : (k : ℕ) (q : Bor Path) → k < l.path-index → slice_get l.paths k ≡ Some q → HasText (g.R.Resolver.texts l.initial.resolver) l.recorded q.now;
   decls : l.recorded.decls ≡ l.initial.recorded.decls;
   same_answers : SameAnswers (g.R.Resolver.answers l.initial.resolver) (g.R.Resolver.answers l.resolver);
-  same_texts : SameTexts (g.R.Resolver.texts l.initial.resolver) (g.R.Resolver.texts l.resolver)
+  same_texts : SameTexts (g.R.Resolver.texts l.initial.resolver) (g.R.Resolver.texts l.resolver);
 }

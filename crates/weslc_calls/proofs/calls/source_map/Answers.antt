@@ -10,12 +10,12 @@ pub returns-in_err-add_sources-clause-memory : goal.returns-in_err-add_sources-c
 returns-in_err-add_sources-clause-memory g c found =
     let p = err_from_is_err_and c.from_residual-in_err-add_sources.result c.from_residual-in_err-add_sources.ensures.1 in
     let paths : map (λ (p : Bor Path). p.now) c.as_slice.result.now ≡ map (λ e. e.1.path) c.args.resolutions.now.modules.entries
-        = ap (map (λ (p : Bor Path). p.now)) c.as_slice.ensures.value ∙ c.in_ok-paths.ensures in
+    = ap (map (λ (p : Bor Path). p.now)) c.as_slice.ensures.value ∙ c.in_ok-paths.ensures in
     rw (p.1, p.2) (c.in_err-add_sources.ensures.memory (subst (AreAllFound (g.R.Resolver.answers c.args.resolver.now)) (sym paths) found.1))
 
 pub returns-clause-texts : goal.returns-clause-texts
 returns-clause-texts g c p among =
     let paths : map (λ (p : Bor Path). p.now) c.as_slice.result.now ≡ map (λ e. e.1.path) c.args.resolutions.now.modules.entries
-        = ap (map (λ (p : Bor Path). p.now)) c.as_slice.ensures.value ∙ c.in_ok-paths.ensures in
+    = ap (map (λ (p : Bor Path). p.now)) c.as_slice.ensures.value ∙ c.in_ok-paths.ensures in
     let texts = subst (HaveTexts (g.R.Resolver.texts c.args.resolver.now) c.add_sources.new.recorded) paths c.in_ok-add_sources.ensures.texts in
     text_kept (g.R.Resolver.texts c.args.resolver.now) c.add_sources.new.recorded c.set_default_source.new.self c.in_ok-resolve_source.field-0 c.set_default_source.ensures p (texts p among)
