@@ -16,14 +16,12 @@ ghost use Rattle.wesl_link.specs.Printed.{printed_in};
 ghost use Rattle.wesl_reach.specs.Resolved.{modules_of, IsResolved};
 ghost use Rattle.wesl_rename.specs.Scopes.{texts};
 
-use wesl_scopes::Symbol;
-use wesl_scopes::Module;
 use crate::naming::{held_name, printed};
-use wesl_rename::{names_before, names_behind, names_in_body};
 use crate::rounds::Resolutions;
-use wesl_rename::Scope;
 use std::alloc::{AllocError, Global};
 use std::collections::BTreeMap;
+use wesl_rename::{Scope, names_before, names_behind, names_in_body};
+use wesl_scopes::{Module, Symbol};
 use wgsl_items::Text;
 use wgsl_syntax::GlobalDeclaration;
 

@@ -5,12 +5,11 @@ ghost use Rattle.std.specs.Option.{option_copied};
 ghost use Rattle.wesl_reach.specs.Closing.{held_at};
 ghost use Rattle.wesl_link.specs.Printed.{printed_in};
 
-use wesl_scopes::{Denoted, Symbol, denotation};
-use wesl_reach::Held;
-use wesl_scopes::Module;
 use crate::rounds::Resolutions;
-use wesl_rename::Naming;
 use std::alloc::{AllocError, Global};
+use wesl_reach::Held;
+use wesl_rename::Naming;
+use wesl_scopes::{Denoted, Module, Symbol, denotation};
 use wgsl_items::Text;
 
 /// A module's scope: a name that denotes a held symbol gets that symbol's printed name, others stay.

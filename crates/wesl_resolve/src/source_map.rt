@@ -32,11 +32,7 @@ pub trait SourceMap {
         ensures { IfOk result (λ found. option_copied found ≡ sources self.now (path_text path.now)) };
 
     /// The name that a message gives a module.
-    fn get_display_name(
-        &self,
-        alloc: Global,
-        path: &ModulePath,
-    ) -> Result<Option<&str>, AllocError>
+    fn get_display_name(&self, alloc: Global, path: &ModulePath) -> Result<Option<&str>, AllocError>
         ensures { IfOk result (λ found. option_copied found ≡ display_names self.now (path_text path.now)) };
 
     /// The text that a place belongs to where no module is named.

@@ -1,6 +1,6 @@
 -- What loading comes to, and the error that tells it.
 use Rattle.std.specs.Prelude.{◌↔◌, string_bytes}
-use Rattle.std.proofs.Common.{◌≡◌, ℕ, ◌+◌, ◌<◌, List, map, [], ◌∷◌, ◌++◌, length, Option, Result, Ok, Err, Some, None, refl, sym, subst, Contains}
+use Rattle.std.proofs.Common.{◌≡◌, ℕ, ◌<◌, List, map, Option, Result, Ok, Err, Some, None, refl, sym, subst}
 use Rattle.std.specs.declared.string.String.{String}
 use Rattle.std.specs.declared.alloc.Global.{Global}
 use Rattle.wgsl_syntax.specs.View.{unit_tree}
@@ -10,7 +10,7 @@ use Rattle.wgsl_path.specs.declared.path.ModulePath.{ModulePath}
 use Rattle.wgsl_path.specs.Paths.{path_text}
 use Rattle.wgsl_token.specs.declared.error.Error.{Error}
 use Rattle.wgsl_syntax.specs.Tree.{Unit as Module}
-use Rattle.wesl_resolve.specs.Found.{Answer, unit_of, not_found, faulty, TellsUnit, SameAnswers}
+use Rattle.wesl_resolve.specs.Found.{unit_of, not_found, faulty, TellsUnit, SameAnswers}
 use Rattle.wesl_resolve.specs.declared.error.ResolveError.{ResolveError}
 use Rattle.wesl_resolve.specs.declared.error.ResolveError.TheVariants as resolve
 use Rattle.wesl_sources.specs.Occurrences.{Name}

@@ -1,6 +1,6 @@
 -- What is recorded of the modules' texts.
-use Rattle.std.specs.Prelude.{◌↔◌, string_bytes, slice_get}
-use Rattle.std.proofs.Common.{◌≡◌, ℕ, ◌+◌, ◌<◌, ◌⊎◌, inl, inr, List, map, get_or, length, Option, Some, None, Bor, refl, sym, ap, ◌∙◌, subst, Contains, arith}
+use Rattle.std.specs.Prelude.{slice_get}
+use Rattle.std.proofs.Common.{◌≡◌, ℕ, ◌+◌, ◌<◌, ◌⊎◌, inl, inr, List, map, get_or, length, Some, Bor, refl, sym, subst, arith}
 use Rattle.std.proofs.lemmas.Option.{slice_get_read, slice_get_within}
 use Rattle.wgsl_path.specs.Paths.{path_text}
 use Rattle.wgsl_path.specs.declared.path.ModulePath.{ModulePath}

@@ -1,8 +1,7 @@
 -- Each text is recorded, and only want of memory refuses one.
-use Rattle.std.proofs.Common.{rules, ◌≡◌, ℕ, ◌+◌, ◌<◌, ◌≤◌, length, refl, sym, ◌∙◌, subst, List, map, arith}
+use Rattle.std.proofs.Common.{◌<◌, length, refl, ◌∙◌, arith}
 use Rattle.std.proofs.lemmas.Result.{err_from_is_err_and}
 use Rattle.wgsl_path.specs.Paths.{path_text}
-use Rattle.weslc_calls.specs.Mapped.{HasText}
 use Rattle.weslc_calls.proofs.Mapping.{same_before, texts_before, text_moved, text_back, texts_more, texts_all, found_item, found_moved}
 use Rattle.weslc_calls.proofs.calls.add_sources.Goals as goal
 

@@ -1,5 +1,5 @@
 -- The unit is the linked one; once it is loaded and free of clashes, only want of memory refuses it.
-use Rattle.std.proofs.Common.{◌≡◌, List, map, sym, subst}
+use Rattle.std.proofs.Common.{◌≡◌}
 use Rattle.std.proofs.lemmas.Result.{err_from_is_err_and}
 use Rattle.wgsl_path.specs.Paths.{path_text}
 use Rattle.wgsl_syntax.specs.View.{unit_tree}

@@ -1,11 +1,9 @@
 -- The root is one module too many, not found or at fault.
-use Rattle.std.proofs.Common.{◌≡◌, ℕ, ◌<◌, ◌≤◌, List, refl, sym, subst, arith, rules}
-use Rattle.std.specs.Prelude.{IfErr}
+use Rattle.std.proofs.Common.{◌<◌, ◌≤◌, refl, arith}
 use Rattle.std.proofs.lemmas.Result.{err_from_is_err_and}
 use Rattle.wgsl_path.specs.Paths.{path_text}
 use Rattle.wesl_sources.specs.Rounds.{one_too_many}
-use Rattle.weslc_calls.specs.Told.{about_module}
-use Rattle.weslc_calls.specs.Answers.{of_the_root, RefusesLinking}
+use Rattle.weslc_calls.specs.Answers.{of_the_root}
 use Rattle.weslc_calls.proofs.Loading.{root_told}
 use Rattle.weslc_calls.proofs.calls.root_unit.Goals as goal
 

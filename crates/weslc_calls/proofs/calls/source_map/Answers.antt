@@ -1,5 +1,5 @@
 -- The texts of the loaded modules are recorded, and only want of memory refuses that.
-use Rattle.std.proofs.Common.{◌≡◌, List, map, sym, ap, ◌∙◌, subst, Bor}
+use Rattle.std.proofs.Common.{◌≡◌, map, sym, ap, ◌∙◌, subst, Bor}
 use Rattle.std.proofs.lemmas.Result.{err_from_is_err_and}
 use Rattle.wgsl_path.specs.declared.path.ModulePath.{ModulePath as Path}
 use Rattle.weslc_calls.specs.Mapped.{AreAllFound, HaveTexts}
