@@ -1,24 +1,21 @@
 -- What is linked by places is the linked unit.
-use Rattle.std.proofs.Common.{◌≡◌, ◌≢◌, refl, sym, ap, ◌∙◌, subst, ℕ, zero, suc, ◌+◌, arith, List, [], ◌∷◌, ◌++◌, map, Bool, true, false, Option, Some, None}
+use Rattle.std.proofs.Common.{◌≡◌, refl, sym, ap, ◌∙◌, subst, ℕ, zero, suc, ◌+◌, arith, List, [], ◌∷◌, map, Bool, true, false, Option, Some, None}
 use Rattle.std.specs.Prelude.{if◌then◌else◌, slice_get, is_some}
 use Rattle.std.specs.Option.{IsSome}
 use Rattle.std.specs.Str.{bytes_eq}
-use Rattle.std.specs.List.{Contains, flat_map}
-use Rattle.wgsl_path.specs.declared.path.ModulePath.{ModulePath}
-use Rattle.wgsl_path.specs.Paths.{path_text}
 use Rattle.wgsl_syntax.specs.Tree.{Decl, Unit}
 use Rattle.wesl_resolve.specs.Mangling.{mangled}
-use Rattle.wesl_sources.specs.Occurrences.{Name, declared_name, occurrences}
-use Rattle.wesl_sources.specs.Modules.{Path, Symbol, Modules, IsModule, Declares, Imports, Denotes, IsFree, Reached}
+use Rattle.wesl_sources.specs.Occurrences.{Name, declared_name}
+use Rattle.wesl_sources.specs.Modules.{Path, Symbol, Modules, IsModule, Declares, Imports, IsFree, Reached}
 use Rattle.wesl_sources.specs.Names.{IsPrinted, stays, is_mangled}
-use Rattle.wesl_sources.specs.Linked.{renamed_declaration, IsNaming, Selects, nothing_left, takes, leaves, IsLinkedModule, AreLinkedModules, no_module, a_module}
-use Rattle.wesl_scopes.specs.Meanings.{Known, declared, imported, bare, known, import_known}
-use Rattle.wesl_scopes.specs.Outcomes.{Outcome, symbol_at, unloaded, missing, private, free, Loaded, item_in, item_at, meant_as, outcome}
+use Rattle.wesl_sources.specs.Linked.{renamed_declaration, IsNaming, Selects, nothing_left, takes, leaves, IsLinkedModule}
+use Rattle.wesl_scopes.specs.Meanings.{Known, declared, imported, bare, known}
+use Rattle.wesl_scopes.specs.Outcomes.{Outcome, symbol_at, unloaded, missing, private, free, Loaded, meant_as, outcome}
 use Rattle.wesl_scopes.specs.Tells.{IsFinder, StandsAt, Tells}
-use Rattle.wesl_reach.specs.Reach.{ReachedAt, Holding, Settled, IsSettled, KeepsAll, IsRooted}
+use Rattle.wesl_reach.specs.Reach.{Holding, Settled, IsSettled, KeepsAll, IsRooted}
 use Rattle.wesl_link.specs.Assembling.{printed_of, named_or, naming, held_among, linked_module}
 use Rattle.wesl_reach.specs.Resolved.{NamesHeld, HoldsReached}
-use Rattle.wesl_scopes.proofs.ScopeLemmas.{to_contains, from_contains, same_name, self_name, value_means}
+use Rattle.wesl_scopes.proofs.ScopeLemmas.{same_name, self_name, value_means}
 use Rattle.wesl_scopes.proofs.TellLemmas.{has_declared, has_imported, tells}
 use Rattle.wesl_reach.proofs.ReachLemmas.{found_unit, denoted, same_place, the_declaration, reached_there, there_reached, reached_held}
 use Rattle.wesl_link.proofs.AgreeLemmas.{same_declaration}

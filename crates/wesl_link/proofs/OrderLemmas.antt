@@ -1,7 +1,6 @@
 -- The modules in the order of the linked unit.
-use Rattle.std.proofs.Common.{◌≡◌, refl, sym, ap, ◌∙◌, subst, ℕ, zero, suc, ◌+◌, ◌⊎◌, inl, inr, ⊎_elim, ◌↔◌, List, [], ◌∷◌, ◌++◌, map, Bool, true, false, Option, Some, None}
-use Rattle.std.specs.Prelude.{if◌then◌else◌, slice_get, is_some}
-use Rattle.std.specs.Option.{IsSome}
+use Rattle.std.proofs.Common.{◌≡◌, refl, sym, ap, ◌∙◌, subst, ℕ, zero, suc, ◌⊎◌, inl, inr, ⊎_elim, List, [], ◌∷◌, map, Bool, true, false, Option, Some, None}
+use Rattle.std.specs.Prelude.{if◌then◌else◌, slice_get}
 use Rattle.std.specs.Str.{bytes_eq}
 use Rattle.std.specs.List.{Contains, flat_map, AllByRecursion}
 use Rattle.std.specs.List.Sorted.{IsStrictlySortedBy}
@@ -11,7 +10,7 @@ use Rattle.std.specs.declared.cmp.Ordering.{Ordering}
 use Rattle.std.specs.declared.cmp.Ordering.TheVariants.{Less}
 use Rattle.wgsl_path.specs.declared.path.ModulePath.{ModulePath}
 use Rattle.wgsl_path.specs.Paths.{path_text}
-use Rattle.wgsl_syntax.specs.Tree.{Decl, Unit}
+use Rattle.wgsl_syntax.specs.Tree.{Unit}
 use Rattle.wesl_sources.specs.Occurrences.{Name}
 use Rattle.wesl_sources.specs.Modules.{Path, Modules}
 use Rattle.wesl_sources.specs.Rounds.{IsAscending, no_path, one_path, one_before}

@@ -1,5 +1,5 @@
 -- The assembled unit is the linked unit.
-use Rattle.std.proofs.Common.{◌≡◌, refl, sym, ap, ◌∙◌, subst, ℕ, zero, suc, List, [], ◌∷◌, ◌++◌, map, Bool, true, false, Option, Some, None}
+use Rattle.std.proofs.Common.{◌≡◌, refl, sym, ap, ◌∙◌, subst, ℕ, suc, List, [], ◌∷◌, ◌++◌, map, Bool, true, false, Option, Some, None}
 use Rattle.std.specs.Prelude.{if◌then◌else◌, slice_get, string_bytes}
 use Rattle.std.specs.Str.{bytes_eq}
 use Rattle.std.specs.String.{string_cmp, string_cmp_total}
@@ -8,24 +8,22 @@ use Rattle.std.specs.Ordering.{nat_cmp}
 use Rattle.std.specs.Cmp.Lexicographic.{slice_cmp}
 use Rattle.std.specs.List.{Contains, flat_map, AllByRecursion}
 use Rattle.std.specs.List.Sorted.{IsStrictlySortedBy}
-use Rattle.std.specs.BTreeMap.{BTreeMap, get_by_text, IsOrdered, keys, get}
+use Rattle.std.specs.BTreeMap.{get_by_text, IsOrdered}
 use Rattle.std.specs.declared.cmp.Ordering.TheVariants.{Less}
 use Rattle.std.specs.declared.string.String.{String}
 use Rattle.std.specs.declared.alloc.Global.{Global}
 use Rattle.std.proofs.lemmas.Map.Entries.{place_from_lookup, btree_map_get_place}
 use Rattle.wgsl_path.specs.declared.path.ModulePath.{ModulePath}
 use Rattle.wgsl_path.specs.Paths.{path_text}
-use Rattle.wgsl_syntax.specs.Tree.{Decl, Unit}
+use Rattle.wgsl_syntax.specs.Tree.{Unit}
 use Rattle.wgsl_syntax.specs.View.{unit_tree}
 use Rattle.wesl_sources.specs.Occurrences.{Name}
-use Rattle.wesl_sources.specs.Modules as spec
-use Rattle.wesl_sources.specs.Modules.{Path, IsModule}
+use Rattle.wesl_sources.specs.Modules.{Path}
 use Rattle.wesl_sources.specs.Linked.{IsLinked}
 use Rattle.wesl_scopes.specs.declared.module.Module.{Module}
 use Rattle.wesl_scopes.specs.Meanings.{names, entries, first_again}
-use Rattle.wesl_scopes.specs.Outcomes.{Loaded, loaded, home_of}
+use Rattle.wesl_scopes.specs.Outcomes.{loaded, home_of}
 use Rattle.wesl_scopes.specs.Tells.{IsFinder}
-use Rattle.wesl_reach.specs.Reach.{Holding}
 use Rattle.wesl_reach.specs.Closing.{HeldNames, held_at}
 use Rattle.wesl_link.specs.Assembling.{linked_module, linked_at, without, linked_unit}
 use Rattle.wesl_reach.specs.Resolved.{LoadedModules, modules_of, IsKeyed, IsResolved}

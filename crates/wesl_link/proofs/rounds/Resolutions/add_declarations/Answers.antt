@@ -1,4 +1,4 @@
-use Rattle.std.proofs.Common.{◌≡◌, ◌∙◌, ℕ, Bool, ◌≤◌, length}
+use Rattle.std.proofs.Common.{◌∙◌, ℕ, Bool}
 use Rattle.std.specs.Prelude.{is_some, string_bytes}
 use Rattle.wgsl_syntax.specs.Tree.{Decl}
 use Rattle.wesl_sources.specs.Linked.{renamed_declaration}
