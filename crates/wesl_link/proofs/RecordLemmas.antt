@@ -1,5 +1,5 @@
 -- What is recorded of held symbols, and what that tells of names.
-use Rattle.std.proofs.Common.{◌≡◌, refl, sym, ap, ◌∙◌, subst, ℕ, zero, suc, ◌+◌, ◌<◌, ◌≤◌, ◌⊎◌, inl, inr, ⊎_elim, List, [], ◌∷◌, ◌++◌, drop, length, get_or, Bool, true, false, Option, Some, None, drop-cons, add-one, Contains, slice_index_or, arith}
+use Rattle.std.proofs.Common.{◌≡◌, refl, sym, ap, ◌∙◌, subst, ℕ, zero, suc, ◌+◌, ◌<◌, ◌≤◌, ◌⊎◌, inl, inr, ⊎_elim, List, [], ◌∷◌, ◌++◌, map, drop, length, get_or, Bool, true, false, Option, Some, None, drop-cons, add-one, Contains, slice_index_or, arith}
 use Rattle.std.specs.Prelude.{if◌then◌else◌, slice_get, string_bytes}
 use Rattle.std.specs.Str.{bytes_eq}
 use Rattle.std.specs.String.{string_cmp}
@@ -21,7 +21,7 @@ use Rattle.wesl_scopes.specs.Tells.{StandsAt}
 use Rattle.wesl_reach.specs.Closing.{HeldNames, held_at}
 use Rattle.wesl_reach.specs.Resolved.{LoadedModules, modules_of, IsResolved}
 use Rattle.wesl_link.specs.Assembling.{declaration_trees}
-use Rattle.wesl_link.specs.Recording.{Source, Telling, source_symbol, record_of, records_among, records_in, records_of, AreRecorded, IsHeldAs, AreTold}
+use Rattle.wesl_link.specs.Recording.{Source, Telling, source_symbol, record_of, records_among, records_in, records_of, AreRecorded, IsHeldAs, IsSourceOf, AreTold}
 use Rattle.wesl_scopes.proofs.ScopeLemmas.{to_contains, get_map, same_name, self_name}
 use Rattle.wesl_link.proofs.LinkLemmas.{one_symbol}
 use Rattle.wesl_link.proofs.ResolvedLemmas.{finder}
@@ -202,7 +202,7 @@ module _ (held : HeldNames) where
 
 module _ (ms : LoadedModules) (root : Path) (keep : List Name) (held : HeldNames) (r : IsResolved ms root keep held) (ordered : IsOrdered string_cmp ms) where
   -- a record is of a held symbol
-  of_held : (y : Name) (v : Source) → Contains (records_of held ms.entries) (y, v) → IsHeldAs (modules_of ms) root keep y (source_symbol v)
+  of_held : (y : Name) (v : Source) → Contains (records_of held ms.entries) (y, v) → IsSourceOf (modules_of ms) root keep y v
   of_held y v c =
       let f = of_entries held ms.entries y v c in
       let m = f.entry.1 in
@@ -218,8 +218,15 @@ module _ (ms : LoadedModules) (root : Path) (keep : List Name) (held : HeldNames
       let one : s.symbol ≡ record { home = home; name = declared_name d }
       = one_symbol (modules_of ms) (loaded ms) (finder ms r.keyed ordered) root (held_at held) r.named home k s.symbol (record { home = home; name = declared_name d }) s.at at in
       let printed : record { home = home; name = declared_name d } ≡ source_symbol (m.path, declared_name d) = ap (λ h. record { home = h; name = declared_name d }) m.printed in
-      let all : s.symbol ≡ source_symbol v = one ∙ printed ∙ ap source_symbol (sym f.at.3) in
-      record { reached = subst (Reached (modules_of ms) root keep) all s.held_there; printed = subst (λ t. IsPrinted (modules_of ms) root t y) all s.printed }
+      let all : s.symbol ≡ source_symbol (m.path, declared_name d) = one ∙ printed in
+      let ds = (unit_tree m.unit).declarations in
+      let source : IsSourceOf (modules_of ms) root keep y (m.path, declared_name d) = record {
+        unit = unit_tree m.unit;
+        loaded = there;
+        declares = to_contains (map declared_name ds) k (declared_name d) (get_map declared_name ds k d f.at.2);
+        held = record { reached = subst (Reached (modules_of ms) root keep) all s.held_there; printed = subst (λ t. IsPrinted (modules_of ms) root t y) all s.printed };
+      } in
+      subst (IsSourceOf (modules_of ms) root keep y) (sym f.at.3) source
 
   -- each held symbol has a record
   has_record : (y : Name) (s : Symbol) → IsHeldAs (modules_of ms) root keep y s → (v : Source) × Contains (records_of held ms.entries) (y, v)

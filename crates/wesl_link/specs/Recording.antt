@@ -6,10 +6,10 @@ use Rattle.std.specs.declared.string.String.{String}
 use Rattle.std.specs.declared.alloc.Global.{Global}
 use Rattle.wgsl_path.specs.declared.path.ModulePath.{ModulePath}
 use Rattle.wgsl_path.specs.Paths.{path_text}
-use Rattle.wgsl_syntax.specs.Tree.{Decl}
+use Rattle.wgsl_syntax.specs.Tree.{Decl, Unit}
 use Rattle.wgsl_syntax.specs.View.{unit_tree}
 use Rattle.wesl_sources.specs.Occurrences.{Name, declared_name}
-use Rattle.wesl_sources.specs.Modules.{Path, Symbol, Modules, Reached}
+use Rattle.wesl_sources.specs.Modules.{Path, Symbol, Modules, Declares, Reached}
 use Rattle.wesl_sources.specs.Names.{IsPrinted}
 use Rattle.wesl_scopes.specs.declared.module.Module.{Module}
 use Rattle.wesl_reach.specs.Closing.{HeldNames, held_at}
@@ -56,7 +56,14 @@ pub record IsHeldAs (modules : Modules) (root : Path) (keep : List Name) (y : Na
   pub reached : Reached modules root keep s
   pub printed : IsPrinted modules root s y
 
+-- a loaded module and a name that it declares, which is held under this printed name
+pub record IsSourceOf (modules : Modules) (root : Path) (keep : List Name) (y : Name) (v : Source) : Type 0 where
+  pub unit : Unit
+  pub loaded : Contains modules (v.0, unit)
+  pub declares : Declares unit v.1
+  pub held : IsHeldAs modules root keep y (source_symbol v)
+
 -- what is told of a name is a held symbol that is printed so, or was told before; and of each held symbol's name something is told
 pub record AreTold (modules : Modules) (root : Path) (keep : List Name) (old new : Telling) : Type 0 where
-  pub held : (y : Name) (v : Source) → new y ≡ Some v → (old y ≡ Some v) ⊎ IsHeldAs modules root keep y (source_symbol v)
+  pub held : (y : Name) (v : Source) → new y ≡ Some v → (old y ≡ Some v) ⊎ IsSourceOf modules root keep y v
   pub each : (y : Name) (s : Symbol) → IsHeldAs modules root keep y s → IsSome (new y)

@@ -6,14 +6,14 @@ use Rattle.std.specs.BTreeMap.{get_by_text}
 use Rattle.wesl_resolve.specs.SourceMaps.{decl_at}
 use Rattle.wesl_resolve.specs.declared.source_map.BasicSourceMap.{BasicSourceMap}
 use Rattle.wesl_sources.specs.Occurrences.{Name}
-use Rattle.wesl_sources.specs.Modules.{Path, Symbol, Modules}
+use Rattle.wesl_sources.specs.Modules.{Path, Symbol, Modules, Declares}
 use Rattle.wesl_sources.specs.Names.{IsPrinted, stays, is_mangled}
 use Rattle.wesl_sources.specs.Loaded.{IsClashFree}
 use Rattle.wesl_sources.specs.Same.{SameModules}
 use Rattle.wesl_scopes.proofs.ScopeLemmas.{same_name, self_name}
 use Rattle.wesl_meaning.proofs.Same.{same_turned, same_units}
 use Rattle.wesl_meaning.proofs.Moves.{reached_moves}
-use Rattle.wesl_link.specs.Recording.{Source, Telling, source_symbol, IsHeldAs, AreTold}
+use Rattle.wesl_link.specs.Recording.{Source, Telling, source_symbol, IsHeldAs, IsSourceOf, AreTold}
 use Rattle.weslc_calls.specs.Mapped.{nothing_told, TellsHeld}
 
 -- ---- the map's declarations alone count
@@ -37,9 +37,17 @@ module _ (a b : Modules) (e : SameModules a b) (root : Path) (keep : List Name) 
   held_moves : (y : Name) (s : Symbol) → IsHeldAs a root keep y s → IsHeldAs b root keep y s
   held_moves y s h = record { reached = reached_moves a b root keep (same_units a b e) s h.reached; printed = printed_moves s y h.printed }
 
+source_moves : (a b : Modules) → SameModules a b → (root : Path) (keep : List Name) (y : Name) (v : Source) → IsSourceOf a root keep y v → IsSourceOf b root keep y v
+source_moves a b e root keep y v h = record {
+  unit = h.unit;
+  loaded = (e (v.0, h.unit)).0 h.loaded;
+  declares = h.declares;
+  held = held_moves a b e root keep y (source_symbol v) h.held;
+}
+
 told_moves : (a b : Modules) → SameModules a b → (root : Path) (keep : List Name) (old new : Telling) → AreTold a root keep old new → AreTold b root keep old new
 told_moves a b e root keep old new t = record {
-  held = λ y v is. ⊎_elim (λ before. inl before) (λ h. inr (held_moves a b e root keep y (source_symbol v) h)) (t.held y v is);
+  held = λ y v is. ⊎_elim (λ before. inl before) (λ h. inr (source_moves a b e root keep y v h)) (t.held y v is);
   each = λ y s h. t.each y s (held_moves b a (same_turned a b e) root keep y s h);
 }
 
@@ -67,15 +75,23 @@ module _ (modules : Modules) (root : Path) (keep : List Name) (free : IsClashFre
   some_told None is = absurd (cc)
   some_told (Some v) is = (v, refl)
 
-  told_held : (tell : Telling) → AreTold modules root keep nothing_told tell → (y : Name) (v : Source) → tell y ≡ Some v → IsHeldAs modules root keep y (source_symbol v)
+  told_held : (tell : Telling) → AreTold modules root keep nothing_told tell → (y : Name) (v : Source) → tell y ≡ Some v → IsSourceOf modules root keep y v
   told_held tell t y v is = ⊎_elim (λ before. absurd (cc)) (λ h. h) (t.held y v is)
 
   tells_held : (tell : Telling) → AreTold modules root keep nothing_told tell → TellsHeld modules root keep tell
   tells_held tell t = record {
     each = λ y s h.
         let v = some_told (tell y) (t.each y s h) in
-        let same : source_symbol v.0 ≡ s = one_held y (source_symbol v.0) s (told_held tell t y v.0 v.1) h in
-        record { path = v.0.0; home = ap (λ (x : Symbol). x.home) same; stands = v.1 ∙ ap (λ (x : Symbol). Some (v.0.0, x.name)) same };
+        let source = told_held tell t y v.0 v.1 in
+        let same : source_symbol v.0 ≡ s = one_held y (source_symbol v.0) s source.held h in
+        record {
+          path = v.0.0;
+          unit = source.unit;
+          loaded = source.loaded;
+          home = ap (λ (x : Symbol). x.home) same;
+          declares = subst (λ (x : Symbol). Declares source.unit x.name) same source.declares;
+          stands = v.1 ∙ ap (λ (x : Symbol). Some (v.0.0, x.name)) same;
+        };
     only = told_held tell t;
   }
 
