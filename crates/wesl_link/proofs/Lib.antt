@@ -7,3 +7,4 @@ pub mod ClashLemmas
 pub mod SharedLemmas
 pub mod MeansLemmas
 pub mod FirstLemmas
+pub mod RecordLemmas

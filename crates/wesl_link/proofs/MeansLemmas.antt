@@ -145,7 +145,7 @@ module _ (ms : LoadedModules) (root : Path) (keep : List Name) (held : HeldNames
       (c.0, e.0, e.1, e.0.1.printed ∙ ap (λ (x : ModulePath × Unit). path_text x.0) e.2 ∙ is.printed, ap (λ (x : ModulePath × Unit). x.1) e.2)
 
   -- the entry and the place of a held symbol
-  record Standing (s : Symbol) (y : Name) : Type 0 where
+  pub record Standing (s : Symbol) (y : Name) : Type 0 where
     pub index : ℕ
     pub entry : Entry
     pub place : ℕ
@@ -154,7 +154,7 @@ module _ (ms : LoadedModules) (root : Path) (keep : List Name) (held : HeldNames
     pub at : StandsAt (modules_of ms) s.home place s
     pub named : NamedAt held y entry place
 
-  standing : (s : Symbol) (y : Name) → Reached (modules_of ms) root keep s → IsPrinted (modules_of ms) root s y → Standing s y
+  pub standing : (s : Symbol) (y : Name) → Reached (modules_of ms) root keep s → IsPrinted (modules_of ms) root s y → Standing s y
   standing s y reached printed =
       let p = named_place s y reached printed in
       let e = entry_of s.home p.1.unit p.1.is_module in

@@ -12,44 +12,21 @@ ghost use Rattle.wesl_reach.specs.Closing.{held_at};
 ghost use Rattle.wesl_link.specs.Assembling.{naming, linked_at, linked_module};
 ghost use Rattle.wesl_reach.specs.Resolved.{modules_of, IsResolved};
 ghost use Rattle.wesl_link.specs.Assembling.{declaration_trees, others_linked, assembled};
+ghost use Rattle.wesl_resolve.specs.SourceMaps.{decl_at};
+ghost use Rattle.wesl_link.specs.Recording.{record_of, records_in, records_of, AreRecorded, AreTold};
 
-use crate::naming::ModuleNaming;
+use crate::naming::{ModuleNaming, held_name};
 use crate::rounds::Resolutions;
 use std::alloc::{AllocError, Global};
-use std::collections::BTreeMap;
 use wesl_reach::is_held;
 use wesl_rename::renamed_declaration;
 use wesl_resolve::BasicSourceMap;
 use wesl_scopes::{Module, Symbol, declared_name};
-use wgsl_items::{Items, Text};
+use wgsl_items::Items;
 use wgsl_path::{ModulePath, Spanned};
 use wgsl_syntax::{GlobalDeclarationNode, TranslationUnit};
 
-/// A module and the places of what is held there, with the names that it has in the linked unit.
-#[derive(Clone, Copy)]
-pub struct HeldModule<'a> {
-    pub module: &'a Module,
-    pub places: &'a BTreeMap<usize, Text>,
-}
-
 impl Resolutions {
-    /// The modules with held declarations: the root, then the others in byte order of their printed paths.
-    pub(crate) fn held_modules<'a>(
-        &'a self,
-        alloc: Global,
-    ) -> Result<Vec<HeldModule<'a>>, AllocError> {
-        let mut modules = Vec::new(alloc);
-        if let Some(places) = self.held.get(self.root.as_str()) {
-            push_module(&mut modules, self, self.root.as_str(), places)?;
-        }
-        for (text, places) in &self.held {
-            if text.as_str() != self.root.as_str() {
-                push_module(&mut modules, self, text.as_str(), places)?;
-            }
-        }
-        Ok(modules)
-    }
-
     /// One unit without imports: the root's held declarations, then those of the other modules in byte order of their
     /// printed paths, each in text order, under their names in the linked unit.
     pub fn assemble(&self, alloc: Global) -> Result<TranslationUnit, AllocError>
@@ -169,28 +146,58 @@ impl Resolutions {
     }
 
     /// Records each held symbol under its name in the linked unit.
-    pub fn add_decls(&self, alloc: Global, map: &mut BasicSourceMap) -> Result<(), AllocError> {
-        for held in self.held_modules(alloc)? {
-            for (place, name) in held.places {
-                let Some(declaration) = held.module.declaration(*place) else {
-                    continue;
-                };
-                let item = declared_name(declaration);
-                map.add_decl(name.as_str(), &held.module.path, item)?;
-            }
+    pub fn add_decls(&self, map: &mut BasicSourceMap) -> Result<(), AllocError>
+        ensures told { OnOk result ((keep : List Name) → IsResolved self.now.modules (string_bytes self.now.root) keep self.now.held → AreTold (modules_of self.now.modules) (string_bytes self.now.root) keep (decl_at map.old) (decl_at map.new)) }
+        ensures sources { map.new.sources ≡ map.old.sources }
+        ensures default_source { map.new.default_source ≡ map.old.default_source }
+    {
+        self.record_held(map)?;
+        Ok(())
+    }
+
+    fn record_held(&self, map: &mut BasicSourceMap) -> Result<(), AllocError>
+        ensures recorded { OnOk result (AreRecorded (records_of self.now.held self.now.modules.entries) (decl_at map.old) (decl_at map.new)) }
+        ensures ordered { IsOrdered string_cmp self.now.modules }
+        ensures sources { map.new.sources ≡ map.old.sources }
+        ensures default_source { map.new.default_source ≡ map.old.default_source }
+    {
+        for (_, module) in &self.modules {
+            self.record_held_in(module, map)?;
         }
         Ok(())
     }
-}
 
-fn push_module<'a>(
-    modules: &mut Vec<HeldModule<'a>>,
-    resolutions: &'a Resolutions,
-    text: &str,
-    places: &'a BTreeMap<usize, Text>,
-) -> Result<(), AllocError> {
-    if let Some(module) = resolutions.modules.get(text) {
-        modules.push(HeldModule { module, places })?;
+    fn record_held_in(&self, module: &Module, map: &mut BasicSourceMap) -> Result<(), AllocError>
+        ensures recorded { OnOk result (AreRecorded (records_in self.now.held «module».now) (decl_at map.old) (decl_at map.new)) }
+        ensures sources { map.new.sources ≡ map.old.sources }
+        ensures default_source { map.new.default_source ≡ map.old.default_source }
+    {
+        for (place, node) in module
+            .unit
+            .global_declarations
+            .as_slice()
+            .iter()
+            .enumerate()
+        {
+            self.record_symbol(Symbol { module, place }, node, map)?;
+        }
+        Ok(())
     }
-    Ok(())
+
+    /// Records a declaration under its printed name, if it is held.
+    fn record_symbol(
+        &self,
+        symbol: Symbol<'_>,
+        node: &GlobalDeclarationNode,
+        map: &mut BasicSourceMap,
+    ) -> Result<(), AllocError>
+        ensures recorded { OnOk result (AreRecorded (record_of symbol.entry.«module».now.path (declaration_tree node.now.node) (held_at self.now.held (string_bytes symbol.entry.«module».now.text) symbol.entry.place)) (decl_at map.old) (decl_at map.new)) }
+        ensures sources { map.new.sources ≡ map.old.sources }
+        ensures default_source { map.new.default_source ≡ map.old.default_source }
+    {
+        match held_name(&self.held, symbol) {
+            None => Ok(()),
+            Some(name) => map.add_decl(name, &symbol.module.path, declared_name(node.node())),
+        }
+    }
 }

@@ -1,3 +1,4 @@
 pub mod Loading
 pub mod Mapping
 pub mod Texts
+pub mod Recorded

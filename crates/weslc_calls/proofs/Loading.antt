@@ -4,7 +4,7 @@ use Rattle.std.proofs.Common.{◌≡◌, ℕ, ◌<◌, List, map, Option, Result
 use Rattle.std.specs.declared.string.String.{String}
 use Rattle.std.specs.declared.alloc.Global.{Global}
 use Rattle.wgsl_syntax.specs.View.{unit_tree}
-use Rattle.weslc_calls.specs.Mapped.{IsFound, AreFound, Texts, HasText, HaveTexts, HasDefault}
+use Rattle.weslc_calls.specs.Mapped.{IsFound, AreFound, Texts, HasText, HaveTexts, HasDefault, nothing_told, TellsHeld}
 use Rattle.wesl_resolve.specs.declared.source_map.BasicSourceMap.{BasicSourceMap}
 use Rattle.wgsl_path.specs.declared.path.ModulePath.{ModulePath}
 use Rattle.wgsl_path.specs.Paths.{path_text}
@@ -34,7 +34,10 @@ use Rattle.wesl_reach.specs.Resolved.{modules_of, IsResolved}
 use Rattle.wesl_link.specs.declared.rounds.Resolutions.{Resolutions}
 use Rattle.wesl_link.specs.Answers.{Resolves}
 use Rattle.weslc_calls.specs.Told.{of_resolving, of_loading}
-use Rattle.weslc_calls.specs.Answers.{AreLoadedFrom, IsRefusedLoading, of_the_root, behind_the_root, IsFirstClashFrom, RefusesLinking, AreTablesOf, IsMapped}
+use Rattle.weslc_calls.specs.Answers.{AreLoadedFrom, IsRefusedLoading, of_the_root, behind_the_root, IsFirstClashFrom, RefusesLinking, AreTablesOf, IsMapped, IsToldFrom}
+use Rattle.wesl_resolve.specs.SourceMaps.{decl_at}
+use Rattle.wesl_link.specs.Recording.{AreTold}
+use Rattle.weslc_calls.proofs.Recorded.{held_told}
 
 abbrev Entry : Type 0
 Entry = String Global × Loaded
@@ -181,10 +184,25 @@ module _ (found : Sources) (root : Path) (asked : List Name) (max : ℕ) where
         subst (λ q. IsFound found (path_text q)) e.2 (unit_tree e.0.1.unit, found_modules found root t.kept max t.modules t.loaded.loaded (path_text e.0.1.path) (unit_tree e.0.1.unit) is),
   )
 
+  -- what the tables tell, they tell of the modules
+  abbrev pub TablesTold : Resolutions → BasicSourceMap → Type 0
+  TablesTold r m = (keep : List Name) → IsResolved r.modules (string_bytes r.root) keep r.held → AreTold (modules_of r.modules) (string_bytes r.root) keep nothing_told (decl_at m)
+
+  names_told : (m : BasicSourceMap) (r : Resolutions) (t : AreTablesOf found root asked max r) → TablesTold r m → TellsHeld t.modules root t.kept (decl_at m)
+  names_told m r t told =
+      held_told (modules_of r.modules) t.modules t.same root t.kept t.clash_free (decl_at m)
+      (subst (λ p. AreTold (modules_of r.modules) p t.kept nothing_told (decl_at m)) t.is_root (told t.kept (subst (λ p. IsResolved r.modules p t.kept r.held) (sym t.is_root) t.resolved)))
+
+  pub linked_and_told : (r : Resolutions) → AreTablesOf found root asked max r → (unit : Module)
+      → ((keep : List Name) → IsResolved r.modules (string_bytes r.root) keep r.held → IsLinked (modules_of r.modules) (string_bytes r.root) keep unit)
+      → (m : BasicSourceMap) → TablesTold r m → IsToldFrom found root asked max unit m
+  unfolding linked
+  linked_and_told r t unit is_linked m told = record { from = linked found root asked max r t unit is_linked; decls = names_told m r t told }
+
   -- the texts that are recorded are those of the loaded modules
   pub texts_mapped : (texts : Texts) (m : BasicSourceMap) (r : Resolutions) → AreTablesOf found root asked max r → HaveTexts texts m (map (λ e. e.1.path) r.modules.entries)
-      → HasDefault texts root m → IsMapped found root asked max texts m
-  texts_mapped texts m r t each default = record {
+      → HasDefault texts root m → TablesTold r m → IsMapped found root asked max texts m
+  texts_mapped texts m r t each default told = record {
     kept = t.kept;
     modules = t.modules;
     loaded = t.loaded;
@@ -194,4 +212,5 @@ module _ (found : Sources) (root : Path) (asked : List Name) (max : ℕ) where
         let there = to_contains (map (λ (e : Entry). e.1.path) r.modules.entries) at.0 e.0.1.path (get_map (λ (e : Entry). e.1.path) r.modules.entries at.0 e.0 e.1) in
         subst (λ (b : ModulePath × Module). HasText texts m b.0) e.2 (each e.0.1.path there);
     default_text = default;
+    decls = names_told m r t told;
   }

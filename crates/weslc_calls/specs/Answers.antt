@@ -21,7 +21,8 @@ use Rattle.weslc_unit.specs.declared.error.UnitRefusal.{UnitRefusal}
 use Rattle.weslc_laws.specs.Headline.{AreKept, IsLinkedFrom, RunsAsSources, RunsExactlyAsSources}
 use Rattle.std.specs.List.{Contains}
 use Rattle.wesl_resolve.specs.declared.source_map.BasicSourceMap.{BasicSourceMap}
-use Rattle.weslc_calls.specs.Mapped.{Texts, HasText, HasDefault}
+use Rattle.wesl_resolve.specs.SourceMaps.{decl_at}
+use Rattle.weslc_calls.specs.Mapped.{Texts, HasText, HasDefault, TellsHeld}
 use Rattle.weslc_calls.specs.Told.{about_module, about_item, about_name, Tells}
 use Rattle.weslc_calls.specs.declared.error.ResolveKind.TheVariants.{ModuleNotFound}
 use Rattle.weslc_calls.specs.declared.error.ImportKind.TheVariants.{DuplicateSymbol, MissingDecl, Private}
@@ -49,13 +50,15 @@ module _ (found : Sources) (root : Path) (asked : List Name) (max : ℕ) where
 
   -- ---- the source map
 
-  -- the map has the text of each loaded module, and the root's text as default
+  -- The map has the text of each loaded module, and the root's text as default. Of the printed name of each held symbol it has the
+  -- module and the name there, and nothing of other names.
   pub record IsMapped (texts : Texts) (map : BasicSourceMap) : Type 0 where
     pub kept : List Name
     pub modules : Modules
     pub loaded : AreLoadedFrom kept modules
     pub each : (m : ModulePath × Unit) → Contains modules m → HasText texts map m.0
     pub default_text : HasDefault texts root map
+    pub decls : TellsHeld modules root kept (decl_at map)
 
   -- ---- refusals
 
@@ -94,13 +97,19 @@ module _ (found : Sources) (root : Path) (asked : List Name) (max : ℕ) where
     pub name : Name
     pub told : e ≡ Unprintable (about_name name)
 
-  -- the first refusal of the linked unit, as the error tells it
+  -- a unit that the loaded modules are linked into, and where its names come from
+  pub record IsToldFrom (linked : Unit) (map : BasicSourceMap) : Type 0 where
+    pub from : IsLinkedFrom found root asked max linked
+    pub decls : TellsHeld from.modules root from.kept (decl_at map)
+
+  -- the first refusal of the linked unit, as the error tells it, which names a declaration as its module does
   pub record IsRefusedUnit (e : CompileError) : Type 0 where
     pub linked : Unit
-    pub from : IsLinkedFrom found root asked max linked
+    pub map : BasicSourceMap
+    pub from : IsToldFrom linked map
     pub refusal : UnitRefusal
     pub refused : Refuses linked refusal
-    pub told : Tells refusal e
+    pub told : Tells (decl_at map) refusal e
 
   -- ---- texts
 

@@ -1,14 +1,16 @@
 -- What the source map of a text says.
-use Rattle.std.specs.Prelude.{◌≡◌, ℕ, List, Some}
+use Rattle.std.specs.Prelude.{◌≡◌, ℕ, List, Some, None}
 use Rattle.std.specs.List.{Contains}
 use Rattle.wgsl_path.specs.declared.path.ModulePath.{ModulePath}
 use Rattle.wgsl_path.specs.Paths.{path_text}
 use Rattle.wgsl_syntax.specs.Tree.{Unit}
 use Rattle.wesl_resolve.specs.Found.{unit_of}
-use Rattle.wesl_sources.specs.Modules.{Path}
+use Rattle.wesl_sources.specs.Occurrences.{Name}
+use Rattle.wesl_sources.specs.Modules.{Path, Symbol, Modules, Declares}
 use Rattle.wesl_sources.specs.Rounds.{Sources}
 use Rattle.wesl_resolve.specs.SourceMaps.{source_at}
 use Rattle.wesl_resolve.specs.declared.source_map.BasicSourceMap.{BasicSourceMap}
+use Rattle.wesl_link.specs.Recording.{Source, Telling, IsHeldAs, IsSourceOf}
 
 -- a module is found at a printed path
 abbrev pub IsFound : Sources → Path → Type 0
@@ -40,3 +42,23 @@ pub record HasDefault (texts : Texts) (root : List ℕ) (map : BasicSourceMap) :
   pub text : List ℕ
   pub is_text : texts root text
   pub stands : map.default_source ≡ Some text
+
+-- ---- declarations
+
+-- nothing is told of any name
+abbrev pub nothing_told : Telling
+nothing_told y = None
+
+-- this symbol is told of a name: the loaded module that declares it, and its name there
+pub record IsTold (modules : Modules) (tell : Telling) (y : Name) (s : Symbol) : Type 0 where
+  pub path : ModulePath
+  pub unit : Unit
+  pub loaded : Contains modules (path, unit)
+  pub home : path_text path ≡ s.home
+  pub declares : Declares unit s.name
+  pub stands : tell y ≡ Some (path, s.name)
+
+-- of the printed name of each held symbol that symbol is told, and nothing is told of other names
+pub record TellsHeld (modules : Modules) (root : Path) (kept : List Name) (tell : Telling) : Type 0 where
+  pub each : (y : Name) (s : Symbol) → IsHeldAs modules root kept y s → IsTold modules tell y s
+  pub only : (y : Name) (v : Source) → tell y ≡ Some v → IsSourceOf modules root kept y v

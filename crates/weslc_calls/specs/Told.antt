@@ -12,6 +12,7 @@ use Rattle.wesl_validate.specs.declared.error.ValidateFault.{ValidateFault}
 use Rattle.wgsl_eval.specs.declared.error.Refusal.{Refusal}
 use Rattle.weslc_unit.specs.declared.error.UnitRefusal.{UnitRefusal}
 use Rattle.weslc_unit.specs.declared.error.UnitRefusal.TheVariants as of
+use Rattle.wesl_link.specs.Recording.{Source, Telling}
 use Rattle.weslc_calls.specs.declared.error.Concern.{Concern}
 use Rattle.weslc_calls.specs.declared.error.ResolveKind.{ResolveKind}
 use Rattle.weslc_calls.specs.declared.error.ImportKind.{ImportKind}
@@ -31,6 +32,11 @@ about_item m x = record { «module» = Some m; decl = None; name = Some x }
 
 abbrev pub about_name : Name → Concern
 about_name x = record { «module» = None; decl = None; name = Some x }
+
+-- a declaration of the linked unit, by what is told of its name: the module that has it and its name there
+abbrev pub about_declaration : Option Source → Option Name → Concern
+about_declaration (Some v) x = record { «module» = Some v.0; decl = Some v.1; name = x }
+about_declaration None x = record { «module» = None; decl = None; name = x }
 
 -- what an error is about, if it is about something
 abbrev pub concern_of : CompileError → Option Concern
@@ -76,20 +82,20 @@ abbrev pub fault_name : Fault → Option Name
 fault_name (Number f) = None
 fault_name (Named f x) = Some x
 
--- memory aside, what is said of a refusal of a unit: its kind, and the name concerned
-abbrev pub TellsOfFault : ValidateFault → CompileError → Type 0
-TellsOfFault f (Validate c kind) = (kind ≡ f.kind) × (c.name ≡ Some f.name)
-TellsOfFault f OutOfMemory = ⊤
-TellsOfFault f _ = ⊥
+-- memory aside, what is said of a refusal of a unit: its kind, the declaration and the name concerned
+abbrev pub TellsOfFault : Telling → ValidateFault → CompileError → Type 0
+TellsOfFault tell f (Validate c kind) = (kind ≡ f.kind) × (c ≡ about_declaration (tell f.declaration) (Some f.name))
+TellsOfFault tell f OutOfMemory = ⊤
+TellsOfFault tell f _ = ⊥
 
-abbrev pub TellsOfEvaluation : Refusal → CompileError → Type 0
-TellsOfEvaluation r (Eval c fault) = (fault ≡ r.fault) × (c.name ≡ fault_name r.fault)
-TellsOfEvaluation r OutOfMemory = ⊤
-TellsOfEvaluation r _ = ⊥
+abbrev pub TellsOfEvaluation : Telling → Refusal → CompileError → Type 0
+TellsOfEvaluation tell r (Eval c fault) = (fault ≡ r.fault) × (c ≡ about_declaration (tell r.declaration) (fault_name r.fault))
+TellsOfEvaluation tell r OutOfMemory = ⊤
+TellsOfEvaluation tell r _ = ⊥
 
-abbrev pub Tells : UnitRefusal → CompileError → Type 0
-Tells (of.Validate f) e = TellsOfFault f e
-Tells (of.UnclearName x) e = e ≡ UnclearName (about_name x)
-Tells (of.Eval r) e = TellsOfEvaluation r e
-Tells (of.Unprintable x) e = e ≡ Unprintable (about_name x)
-Tells of.OutOfMemory e = e ≡ OutOfMemory
+abbrev pub Tells : Telling → UnitRefusal → CompileError → Type 0
+Tells tell (of.Validate f) e = TellsOfFault tell f e
+Tells tell (of.UnclearName x) e = e ≡ UnclearName (about_name x)
+Tells tell (of.Eval r) e = TellsOfEvaluation tell r e
+Tells tell (of.Unprintable x) e = e ≡ Unprintable (about_name x)
+Tells tell of.OutOfMemory e = e ≡ OutOfMemory

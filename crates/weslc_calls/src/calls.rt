@@ -7,8 +7,11 @@ ghost use Rattle.wesl_resolve.specs.Found.{unit_of, SameAnswers, SameTexts};
 ghost use Rattle.wesl_sources.specs.Occurrences.{Name};
 ghost use Rattle.wgsl_path.specs.declared.path.ModulePath.{ModulePath as Path};
 ghost use Rattle.weslc_laws.specs.Headline.{IsLinkedFrom};
-ghost use Rattle.weslc_calls.specs.Mapped.{IsFound, AreAllFound, AreFound, HasText, HaveTexts, HasDefault};
-ghost use Rattle.weslc_calls.specs.Answers.{RefusesLinking, AreTablesOf, IsMapped, IsLinkedText, IsCompiledText, IsUnprintable, IsRefusedUnit};
+ghost use Rattle.weslc_calls.specs.Mapped.{IsFound, AreAllFound, AreFound, HasText, HaveTexts, HasDefault, nothing_told};
+ghost use Rattle.wesl_resolve.specs.SourceMaps.{decl_at};
+ghost use Rattle.wesl_reach.specs.Resolved.{modules_of, IsResolved};
+ghost use Rattle.wesl_link.specs.Recording.{AreTold};
+ghost use Rattle.weslc_calls.specs.Answers.{RefusesLinking, AreTablesOf, IsMapped, IsLinkedText, IsCompiledText, IsUnprintable, IsToldFrom, IsRefusedUnit};
 
 use crate::error::CompileError;
 use crate::options::Options;
@@ -74,6 +77,7 @@ fn linked_unit<R: Resolver>(
 ) -> Result<Linked, CompileError>
     ensures unit { IfOk result (λ linked. IsLinkedFrom (R.answers resolver.old) (path_text root.now) options.now.keep options.now.max_modules (unit_tree linked.unit)) }
     ensures map { IfOk result (λ linked. IsMapped (R.answers resolver.old) (path_text root.now) options.now.keep options.now.max_modules (R.texts resolver.old) linked.map) }
+    ensures told { IfOk result (λ linked. IsToldFrom (R.answers resolver.old) (path_text root.now) options.now.keep options.now.max_modules (unit_tree linked.unit) linked.map) }
     ensures refusal { IfErr result (RefusesLinking (R.answers resolver.old) (path_text root.now) options.now.keep options.now.max_modules) }
 {
     let resolutions = loaded(alloc, resolver, root, options)?;
@@ -132,9 +136,10 @@ fn source_map<R: Resolver>(
     ensures memory { AreFound (R.answers resolver.old) (path_text root.now) (map (λ e. e.1.path) resolutions.now.modules.entries) → IfErr result (λ e. e ≡ CompileError.OutOfMemory) }
     ensures texts { IfOk result (λ new. HaveTexts (R.texts resolver.old) new (map (λ e. e.1.path) resolutions.now.modules.entries)) }
     ensures default_source { IfOk result (HasDefault (R.texts resolver.old) (path_text root.now)) }
+    ensures decls { IfOk result (λ new. (keep : List Name) → IsResolved resolutions.now.modules (string_bytes resolutions.now.root) keep resolutions.now.held → AreTold (modules_of resolutions.now.modules) (string_bytes resolutions.now.root) keep nothing_told (decl_at new)) }
 {
     let mut map = BasicSourceMap::new(alloc);
-    resolutions.add_decls(alloc, &mut map)?;
+    resolutions.add_decls(&mut map)?;
     let paths = resolutions.paths(alloc)?;
     add_sources(alloc, resolver, paths.as_slice(), &mut map)?;
     map.set_default_source(resolver.resolve_source(alloc, root)?);

@@ -2,7 +2,8 @@
 
 ghost use Rattle.std.specs.Prelude.{◌≡◌, IfOk};
 ghost use Rattle.std.specs.Option.{option_copied};
-ghost use Rattle.weslc_calls.specs.Told.{concern_of, about_module, about_item, about_name, Tells, TellsOfFault, TellsOfEvaluation, fault_name};
+ghost use Rattle.wesl_resolve.specs.SourceMaps.{decl_at};
+ghost use Rattle.weslc_calls.specs.Told.{concern_of, about_module, about_item, about_name, about_declaration, Tells, TellsOfFault, TellsOfEvaluation, fault_name};
 
 use std::alloc::{AllocError, AllocFailed, Global};
 use std::fmt;
@@ -102,7 +103,7 @@ impl Concern {
         declaration: &str,
         name: Option<Text>,
     ) -> Result<Concern, AllocError>
-        ensures { IfOk result (λ concern. concern.name ≡ name) }
+        ensures { IfOk result (λ concern. concern ≡ about_declaration (decl_at map.now declaration.now) name) }
     {
         let Some((module, item)) = map.get_decl(declaration) else {
             return Ok(Concern {
@@ -150,7 +151,7 @@ impl CompileError {
 
     /// The refusal of a linked unit, with its declaration as the module names it that declares it.
     pub fn of_unit(alloc: Global, map: &BasicSourceMap, refusal: UnitRefusal) -> CompileError
-        ensures { Tells refusal result }
+        ensures { Tells (decl_at map.now) refusal result }
     {
         match refusal {
             UnitRefusal::Validate(fault) => CompileError::of_fault(alloc, map, fault),
@@ -162,7 +163,7 @@ impl CompileError {
     }
 
     fn of_fault(alloc: Global, map: &BasicSourceMap, fault: ValidateFault) -> CompileError
-        ensures { TellsOfFault fault result }
+        ensures { TellsOfFault (decl_at map.now) fault result }
     {
         let ValidateFault {
             kind,
@@ -176,7 +177,7 @@ impl CompileError {
     }
 
     fn of_evaluation(alloc: Global, map: &BasicSourceMap, refusal: Refusal) -> CompileError
-        ensures { TellsOfEvaluation refusal result }
+        ensures { TellsOfEvaluation (decl_at map.now) refusal result }
     {
         let Refusal { declaration, fault } = refusal;
         let Ok(name) = name_of(alloc, &fault) else {

@@ -4,7 +4,7 @@ use Rattle.std.proofs.lemmas.Result.{err_from_is_err_and}
 use Rattle.wgsl_path.specs.Paths.{path_text}
 use Rattle.wgsl_syntax.specs.View.{unit_tree}
 use Rattle.weslc_calls.specs.declared.error.CompileError.TheVariants.{OutOfMemory}
-use Rattle.weslc_calls.proofs.Loading.{linked, paths_found, texts_mapped}
+use Rattle.weslc_calls.proofs.Loading.{linked, linked_and_told, paths_found, texts_mapped}
 use Rattle.weslc_calls.proofs.Mapping.{found_moved, text_moved, default_moved}
 use Rattle.weslc_calls.proofs.calls.linked_unit.Goals as goal
 
@@ -31,3 +31,9 @@ returns-clause-map g c =
     texts_mapped (g.R.Resolver.answers c.args.resolver.now) (path_text c.args.root.now) c.args.options.now.keep c.args.options.now.max_modules texts c.in_ok-map.map c.in_ok-resolutions.resolutions c.in_ok-resolutions.ensures.tables
     (λ p among. text_moved texts after same c.in_ok-map.map p (c.in_ok-map.ensures.texts p among))
     (default_moved texts after same (path_text c.args.root.now) c.in_ok-map.map c.in_ok-map.ensures.default_source)
+    c.in_ok-map.ensures.decls
+
+pub returns-clause-told : goal.returns-clause-told
+returns-clause-told g c =
+    linked_and_told (g.R.Resolver.answers c.args.resolver.now) (path_text c.args.root.now) c.args.options.now.keep c.args.options.now.max_modules c.in_ok-resolutions.resolutions c.in_ok-resolutions.ensures.tables
+    (unit_tree c.in_ok-unit.unit) c.in_ok-unit.ensures.linked c.in_ok-map.map c.in_ok-map.ensures.decls

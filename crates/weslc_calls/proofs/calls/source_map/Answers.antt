@@ -3,7 +3,11 @@ use Rattle.std.proofs.Common.{◌≡◌, map, sym, ap, ◌∙◌, subst, Bor}
 use Rattle.std.proofs.lemmas.Result.{err_from_is_err_and}
 use Rattle.wgsl_path.specs.declared.path.ModulePath.{ModulePath as Path}
 use Rattle.weslc_calls.specs.Mapped.{AreAllFound, HaveTexts}
+use Rattle.std.specs.Prelude.{string_bytes}
+use Rattle.wesl_reach.specs.Resolved.{modules_of}
+use Rattle.wesl_resolve.specs.declared.source_map.BasicSourceMap.{BasicSourceMap}
 use Rattle.weslc_calls.proofs.Mapping.{text_kept}
+use Rattle.weslc_calls.proofs.Recorded.{told_kept}
 use Rattle.weslc_calls.proofs.calls.source_map.Goals as goal
 
 pub returns-in_err-add_sources-clause-memory : goal.returns-in_err-add_sources-clause-memory
@@ -19,3 +23,8 @@ returns-clause-texts g c p among =
     = ap (map (λ (p : Bor Path). p.now)) c.as_slice.ensures.value ∙ c.in_ok-paths.ensures in
     let texts = subst (HaveTexts (g.R.Resolver.texts c.args.resolver.now) c.add_sources.new.recorded) paths c.in_ok-add_sources.ensures.texts in
     text_kept (g.R.Resolver.texts c.args.resolver.now) c.add_sources.new.recorded c.set_default_source.new.self c.in_ok-resolve_source.field-0 c.set_default_source.ensures p (texts p among)
+
+pub returns-clause-decls : goal.returns-clause-decls
+returns-clause-decls g c keep r =
+    told_kept (modules_of c.args.resolutions.now.modules) (string_bytes c.args.resolutions.now.root) keep c.new-map.result c.add_decls.new.map c.set_default_source.new.self c.new-map.ensures.decls
+    (ap (λ (m : BasicSourceMap). m.decls) c.set_default_source.ensures ∙ c.in_ok-add_sources.ensures.decls) (c.in_ok-add_decls.ensures.told keep r)
