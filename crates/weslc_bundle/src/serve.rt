@@ -1,8 +1,9 @@
 //! The program: from a bundle to a text or an error line.
 
-use crate::bundle::{BundleError, Command, read_bundle};
+use crate::bundle::read_bundle;
 use crate::input::{InputError, read_input};
 use crate::kinds::{eval_kind, syntax_kind, validate_kind};
+use crate::request::{BundleError, Command};
 use std::alloc::Global;
 use std::io::{Read, Write};
 use std::{fmt, io};

@@ -1,0 +1,285 @@
+//! What a bundle asks for, in JSON.
+
+ghost use Rattle.std.specs.Prelude.{◌≡◌, ◌⊎◌, ⊤, List, ℕ, Some, None, IfErr, IfOk, option_map};
+ghost use Rattle.serde_json.specs.View.{view, members_view};
+ghost use Rattle.weslc_bundle.specs.Bundles.{Answers, is_key, known, value_of, request_in, request_of, command_at, root_at, required, text_at, path_in, modules_at, module_of, keep_at, max_modules_at, max_steps_at};
+
+use serde_json::{Map, Value};
+use std::alloc::{AllocError, AllocFailed, Global};
+use std::fmt;
+use weslc_calls::Options;
+use wgsl_items::{Items, Text};
+use wgsl_path::{ModulePath, ModulePathParseError, PathOrigin};
+
+/// Which call a bundle asks for.
+#[derive(Clone, Copy, Debug, PartialEq, Eq)]
+pub enum Command {
+    Link,
+    Compile,
+}
+
+/// A key of a bundle.
+#[derive(Clone, Copy, Debug, PartialEq, Eq)]
+pub enum Key {
+    Command,
+    Root,
+    Modules,
+    Keep,
+    MaxModules,
+    MaxSteps,
+}
+
+/// A module's text, and the path that it stands at.
+#[derive(Debug, Drop)]
+pub struct Module {
+    pub path: ModulePath,
+    pub text: Text,
+}
+
+/// What a bundle asks for, its modules in the order of the JSON.
+#[derive(Debug, Drop)]
+pub struct Request {
+    pub command: Command,
+    pub root: ModulePath,
+    pub modules: Items<Module>,
+    pub options: Options,
+}
+
+/// Why bytes are no bundle.
+#[derive(Debug, Drop)]
+pub enum BundleError {
+    /// They are no JSON object.
+    NotAnObject,
+    /// There is a key that no bundle has: the first in byte order.
+    UnknownKey(Text),
+    /// What stands under this key is missing or is nothing that may stand there.
+    Value(Key),
+    /// There are two modules at this path.
+    DuplicateModule(ModulePath),
+    /// Memory was refused. This says nothing of the bytes.
+    OutOfMemory,
+}
+
+impl From<AllocError> for BundleError {
+    ghost use Rattle.std.specs.Prelude.{◌≡◌};
+    ghost use Rattle.weslc_bundle.specs.declared.request.BundleError.TheVariants.{OutOfMemory};
+
+    ghost from_gives = { λ _ e. e ≡ OutOfMemory };
+
+    fn from(_: AllocError) -> BundleError {
+        BundleError::OutOfMemory
+    }
+}
+
+impl<T: Drop> From<AllocFailed<T>> for BundleError {
+    ghost use Rattle.std.specs.Prelude.{◌≡◌};
+    ghost use Rattle.weslc_bundle.specs.declared.request.BundleError.TheVariants.{OutOfMemory};
+
+    ghost from_gives = { λ _ e. e ≡ OutOfMemory };
+
+    fn from(_: AllocFailed<T>) -> BundleError {
+        BundleError::OutOfMemory
+    }
+}
+
+impl fmt::Display for Key {
+    ghost use Rattle.std.specs.Prelude.{Some};
+    ghost use Rattle.weslc_bundle.specs.Bundles.{key_name};
+
+    ghost output = { λ key. Some (key_name key) };
+
+    fn fmt<W: fmt::Write>(&self, f: &mut fmt::Formatter<W>) -> fmt::Result {
+        match self {
+            Key::Command => f.write_str("command"),
+            Key::Root => f.write_str("root"),
+            Key::Modules => f.write_str("modules"),
+            Key::Keep => f.write_str("keep"),
+            Key::MaxModules => f.write_str("max_modules"),
+            Key::MaxSteps => f.write_str("max_steps"),
+        }
+    }
+}
+
+type Members = Map<String, Value>;
+
+/// Reads what a JSON object asks for. Its keys are tested in a fixed order: unknown ones first, then `command`, `root`,
+/// `modules`, `keep`, `max_modules` and `max_steps`.
+pub fn read_request(alloc: Global, bytes: &[u8]) -> Result<Request, BundleError>
+    ensures { Answers Request result (request_of bytes.now) }
+{
+    let value = read_value(alloc, bytes)?;
+    match value.as_object() {
+        Some(members) => read_members(alloc, members),
+        None => Err(BundleError::NotAnObject),
+    }
+}
+
+fn read_value(alloc: Global, bytes: &[u8]) -> Result<Value, BundleError>
+    ensures value { IfOk result (λ value. value_of bytes.now ≡ Some (view value)) }
+    ensures fault { IfErr result (λ e. (e ≡ BundleError.OutOfMemory) ⊎ ((e ≡ BundleError.NotAnObject) × (value_of bytes.now ≡ None))) }
+{
+    let Ok(text) = str::from_utf8(bytes) else {
+        return Err(BundleError::NotAnObject);
+    };
+    match Value::from_str(alloc, text) {
+        Ok(value) => Ok(value),
+        Err(error) if error.is_memory() => Err(BundleError::OutOfMemory),
+        Err(_) => Err(BundleError::NotAnObject),
+    }
+}
+
+fn read_members(alloc: Global, members: &Members) -> Result<Request, BundleError>
+    ensures { Answers Request result (request_in (members_view members.now.entries)) }
+{
+    check_keys(alloc, members)?;
+    let command = read_command(members)?;
+    let root = read_root(alloc, members)?;
+    let modules = read_modules(alloc, members)?;
+    let options = Options {
+        keep: read_keep(alloc, members)?,
+        max_modules: read_max_modules(members)?,
+        max_steps: read_max_steps(members)?,
+    };
+    Ok(Request {
+        command,
+        root,
+        modules,
+        options,
+    })
+}
+
+fn check_keys(alloc: Global, members: &Members) -> Result<(), BundleError>
+    ensures { Answers ⊤ result (known (members_view members.now.entries)) }
+{
+    for key in members.keys() {
+        if !is_key(key.as_str()) {
+            return Err(BundleError::UnknownKey(Text::from_str(alloc, key.as_str())?));
+        }
+    }
+    Ok(())
+}
+
+fn is_key(key: &str) -> bool
+    ensures { result ≡ is_key key.now }
+{
+    matches!(
+        key,
+        "command" | "root" | "modules" | "keep" | "max_modules" | "max_steps"
+    )
+}
+
+fn read_command(members: &Members) -> Result<Command, BundleError>
+    ensures { result ≡ command_at (members_view members.now.entries) }
+{
+    match text_at(members, "command") {
+        Some("link") => Ok(Command::Link),
+        Some("compile") => Ok(Command::Compile),
+        _ => Err(BundleError::Value(Key::Command)),
+    }
+}
+
+fn read_root(alloc: Global, members: &Members) -> Result<ModulePath, BundleError>
+    ensures { Answers ModulePath result (root_at (members_view members.now.entries)) }
+{
+    match text_at(members, "root") {
+        Some(text) => read_path(alloc, Key::Root, text),
+        None => Err(BundleError::Value(Key::Root)),
+    }
+}
+
+/// The text at a key.
+fn text_at<'a>(members: &'a Members, key: &str) -> Option<&'a str>
+    ensures { option_map (λ text. text.now) result ≡ text_at key.now (members_view members.now.entries) }
+{
+    members.get(key).and_then(Value::as_str)
+}
+
+/// A path that begins with `package`.
+fn read_path(alloc: Global, key: Key, text: &str) -> Result<ModulePath, BundleError>
+    ensures { Answers ModulePath result (required (BundleError.Value key) (path_in text.now)) }
+{
+    match ModulePath::from_str(alloc, text) {
+        Ok(path) => {
+            if matches!(path.origin, PathOrigin::Absolute) {
+                Ok(path)
+            } else {
+                Err(BundleError::Value(key))
+            }
+        }
+        Err(ModulePathParseError::OutOfMemory) => Err(BundleError::OutOfMemory),
+        Err(_) => Err(BundleError::Value(key)),
+    }
+}
+
+fn read_modules(alloc: Global, members: &Members) -> Result<Items<Module>, BundleError>
+    ensures { Answers (List Module) result (modules_at (members_view members.now.entries)) }
+{
+    let Some(values) = members.get("modules").and_then(Value::as_array) else {
+        return Err(BundleError::Value(Key::Modules));
+    };
+    let mut modules = Items::new(alloc);
+    for value in values {
+        modules.push(read_module(alloc, value)?)?;
+    }
+    Ok(modules)
+}
+
+/// An object of exactly `path` and `text`.
+fn read_module(alloc: Global, value: &Value) -> Result<Module, BundleError>
+    ensures { Answers Module result (required (BundleError.Value Key.Modules) (module_of (view value.now))) }
+{
+    let Some(members) = value.as_object() else {
+        return Err(BundleError::Value(Key::Modules));
+    };
+    match (text_at(members, "path"), text_at(members, "text")) {
+        (Some(path), Some(text)) if members.len() == 2 => {
+            let path = read_path(alloc, Key::Modules, path)?;
+            let text = Text::from_str(alloc, text)?;
+            Ok(Module { path, text })
+        }
+        _ => Err(BundleError::Value(Key::Modules)),
+    }
+}
+
+fn read_keep(alloc: Global, members: &Members) -> Result<Items<Text>, BundleError>
+    ensures { Answers (List (List ℕ)) result (keep_at (members_view members.now.entries)) }
+{
+    let mut names = Items::new(alloc);
+    let Some(value) = members.get("keep") else {
+        return Ok(names);
+    };
+    let Some(values) = value.as_array() else {
+        return Err(BundleError::Value(Key::Keep));
+    };
+    for value in values {
+        match value.as_str() {
+            Some(name) => names.push(Text::from_str(alloc, name)?)?,
+            None => return Err(BundleError::Value(Key::Keep)),
+        }
+    }
+    Ok(names)
+}
+
+fn read_max_modules(members: &Members) -> Result<u32, BundleError>
+    ensures { result ≡ max_modules_at (members_view members.now.entries) }
+{
+    let Some(value) = members.get("max_modules") else {
+        return Ok(256);
+    };
+    match value.as_u64().map(u32::try_from) {
+        Some(Ok(max_modules)) => Ok(max_modules),
+        _ => Err(BundleError::Value(Key::MaxModules)),
+    }
+}
+
+fn read_max_steps(members: &Members) -> Result<u64, BundleError>
+    ensures { result ≡ max_steps_at (members_view members.now.entries) }
+{
+    let Some(value) = members.get("max_steps") else {
+        return Ok(1_000_000);
+    };
+    match value.as_u64() {
+        Some(max_steps) => Ok(max_steps),
+        None => Err(BundleError::Value(Key::MaxSteps)),
+    }
+}
