@@ -3,7 +3,7 @@ use Rattle.std.specs.Prelude.{◌≡◌, ◌≢◌, ◌⊎◌, ◌&&◌, ◌||�
 use Rattle.std.specs.Str.{is_utf8, bytes_eq}
 use Rattle.serde_json.specs.Data.{Data, Items, no_items, item, Members, no_members, member}
 use Rattle.serde_json.specs.Read.{read}
-use Rattle.serde_json.specs.Find.{get_member, as_object, as_array, as_str, as_number, as_u64}
+use Rattle.serde_json.specs.Find.{get, as_object, as_array, as_str, as_number, as_u64}
 use Rattle.wgsl_path.specs.Paths.{path_text}
 use Rattle.wgsl_path.specs.Reading.{Reads, parts, path_of}
 use Rattle.wgsl_path.specs.declared.path.PathOrigin.{PathOrigin}
@@ -52,8 +52,8 @@ abbrev pub each : {A : Type 0} → (Data → Option A) → Items → Option (Lis
 each reads no_items = Some []
 each reads (item d ds) = option_and_then (λ x. option_map (λ xs. x ∷ xs) (each reads ds)) (reads d)
 
-abbrev pub text_at : List ℕ → Members → Option (List ℕ)
-text_at name ms = option_and_then as_str (get_member name ms)
+abbrev pub text_at : List ℕ → Data → Option (List ℕ)
+text_at name d = option_and_then as_str (get name d)
 
 abbrev pub command_of : List ℕ → Option Command
 command_of name = if bytes_eq name (codes "link") then Some Link else if bytes_eq name (codes "compile") then Some Compile else None
@@ -72,19 +72,17 @@ abbrev pub path_in : List ℕ → Option ModulePath
 path_in text = absolute (path_of (parts text))
 
 -- a module at a path
-abbrev pub module_at : List ℕ → ModulePath → Module
-module_at text path = record { path = path; text = text }
+abbrev pub module_at : ModulePath → List ℕ → Module
+module_at path text = record { path = path; text = text }
 
-abbrev pub has_two : Members → Bool
-has_two (member k d (member l e no_members)) = true
+abbrev pub has_two : Option Members → Bool
+has_two (Some (member k d (member l e no_members))) = true
 has_two _ = false
 
 -- an object of exactly `path` and `text`
-abbrev pub module_in : Members → Option Module
-module_in ms = if has_two ms then option_and_then (λ text. option_map (module_at text) (option_and_then path_in (text_at (codes "path") ms))) (text_at (codes "text") ms) else None
-
 abbrev pub module_of : Data → Option Module
-module_of d = option_and_then module_in (as_object d)
+module_of d =
+    if has_two (as_object d) then option_and_then (λ path. option_map (module_at path) (text_at (codes "text") d)) (option_and_then path_in (text_at (codes "path") d)) else None
 
 abbrev pub modules_of : Data → Option (List Module)
 modules_of d = option_and_then (each module_of) (as_array d)
@@ -116,53 +114,58 @@ is_key name =
     bytes_eq name (codes "command") || bytes_eq name (codes "root") || bytes_eq name (codes "modules")
     || bytes_eq name (codes "keep") || bytes_eq name (codes "max_modules") || bytes_eq name (codes "max_steps")
 
--- No key is unknown; of several the first in byte order is told, since the members of an object stand in that order.
-abbrev pub known : Members → Asked ⊤
-known no_members = Ok tt
-known (member name d ms) = if is_key name then known ms else Err (UnknownKey name)
+-- the first key that is none; the members of an object stand in the byte order of their keys
+abbrev pub unknown : Members → Option (List ℕ)
+unknown no_members = None
+unknown (member name d ms) = if is_key name then unknown ms else Some name
 
-abbrev pub command_at : Members → Asked Command
-command_at ms = required (Value key.Command) (option_and_then command_of (text_at (codes "command") ms))
+abbrev pub none_unknown : Option (List ℕ) → Asked ⊤
+none_unknown None = Ok tt
+none_unknown (Some name) = Err (UnknownKey name)
 
-abbrev pub root_at : Members → Asked ModulePath
-root_at ms = required (Value key.Root) (option_and_then path_in (text_at (codes "root") ms))
+abbrev pub keys_known : Option Members → Asked ⊤
+keys_known None = Err NotAnObject
+keys_known (Some ms) = none_unknown (unknown ms)
 
-abbrev pub modules_at : Members → Asked (List Module)
-modules_at ms = required (Value key.Modules) (option_and_then modules_of (get_member (codes "modules") ms))
+abbrev pub command_at : Data → Asked Command
+command_at d = required (Value key.Command) (option_and_then command_of (text_at (codes "command") d))
 
-abbrev pub keep_at : Members → Asked (List (List ℕ))
-keep_at ms = optional key.Keep [] names_of (get_member (codes "keep") ms)
+abbrev pub root_at : Data → Asked ModulePath
+root_at d = required (Value key.Root) (option_and_then path_in (text_at (codes "root") d))
 
-abbrev pub max_modules_at : Members → Asked ℕ
-max_modules_at ms = optional key.MaxModules 256 u32_of (get_member (codes "max_modules") ms)
+abbrev pub modules_at : Data → Asked (List Module)
+modules_at d = required (Value key.Modules) (option_and_then modules_of (get (codes "modules") d))
 
-abbrev pub max_steps_at : Members → Asked ℕ
-max_steps_at ms = optional key.MaxSteps 1000000 u64_of (get_member (codes "max_steps") ms)
+abbrev pub keep_at : Data → Asked (List (List ℕ))
+keep_at d = optional key.Keep [] names_of (get (codes "keep") d)
+
+abbrev pub max_modules_at : Data → Asked ℕ
+max_modules_at d = optional key.MaxModules 256 u32_of (get (codes "max_modules") d)
+
+abbrev pub max_steps_at : Data → Asked ℕ
+max_steps_at d = optional key.MaxSteps 1000000 u64_of (get (codes "max_steps") d)
 
 -- ---- the whole
 
 -- The first fault is told: an unknown key, and then what is wrong with each key in this order.
-unfoldable pub request_in : Members → Asked Request
-request_in ms = do
-  _ ← known ms
-  command ← command_at ms
-  root ← root_at ms
-  modules ← modules_at ms
-  keep ← keep_at ms
-  max_modules ← max_modules_at ms
-  max_steps ← max_steps_at ms
+unfoldable pub request_in : Data → Asked Request
+request_in d = do
+  _ ← keys_known (as_object d)
+  command ← command_at d
+  root ← root_at d
+  modules ← modules_at d
+  keep ← keep_at d
+  max_modules ← max_modules_at d
+  max_steps ← max_steps_at d
   Ok (record { command = command; root = root; modules = modules; options = record { keep = keep; max_modules = max_modules; max_steps = max_steps } })
 
 -- the value that bytes are, if they are UTF-8 and JSON
 abbrev pub value_of : List ℕ → Option Data
 value_of bytes = if is_utf8 bytes then read bytes else None
 
-abbrev pub object_of : List ℕ → Asked Members
-object_of bytes = required NotAnObject (option_and_then as_object (value_of bytes))
-
 -- what a JSON object asks for
 unfoldable pub request_of : List ℕ → Asked Request
-request_of bytes = object_of bytes >>= request_in
+request_of bytes = required NotAnObject (value_of bytes) >>= request_in
 
 -- ---- paths
 

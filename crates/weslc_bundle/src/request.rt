@@ -1,8 +1,9 @@
 //! What a bundle asks for, in JSON.
 
 ghost use Rattle.std.specs.Prelude.{◌≡◌, ◌⊎◌, ⊤, List, ℕ, Some, None, IfErr, IfOk, option_map};
-ghost use Rattle.serde_json.specs.View.{view, members_view};
-ghost use Rattle.weslc_bundle.specs.Bundles.{Answers, is_key, known, value_of, request_in, request_of, command_at, root_at, required, text_at, path_in, modules_at, module_of, keep_at, max_modules_at, max_steps_at};
+ghost use Rattle.serde_json.specs.View.{view, items_view, members_view};
+ghost use Rattle.serde_json.specs.Find.{as_object, as_str};
+ghost use Rattle.weslc_bundle.specs.Bundles.{Answers, is_key, unknown, keys_known, value_of, request_in, request_of, command_at, root_at, required, text_at, path_in, modules_at, has_two, each, module_of, keep_at, max_modules_at, max_steps_at};
 
 use serde_json::{Map, Value};
 use std::alloc::{AllocError, AllocFailed, Global};
@@ -100,18 +101,13 @@ impl fmt::Display for Key {
     }
 }
 
-type Members = Map<String, Value>;
-
 /// Reads what a JSON object asks for. Its keys are tested in a fixed order: unknown ones first, then `command`, `root`,
 /// `modules`, `keep`, `max_modules` and `max_steps`.
 pub fn read_request(alloc: Global, bytes: &[u8]) -> Result<Request, BundleError>
     ensures { Answers Request result (request_of bytes.now) }
 {
     let value = read_value(alloc, bytes)?;
-    match value.as_object() {
-        Some(members) => read_members(alloc, members),
-        None => Err(BundleError::NotAnObject),
-    }
+    read_members(alloc, &value)
 }
 
 fn read_value(alloc: Global, bytes: &[u8]) -> Result<Value, BundleError>
@@ -128,17 +124,17 @@ fn read_value(alloc: Global, bytes: &[u8]) -> Result<Value, BundleError>
     }
 }
 
-fn read_members(alloc: Global, members: &Members) -> Result<Request, BundleError>
-    ensures { Answers Request result (request_in (members_view members.now.entries)) }
+fn read_members(alloc: Global, value: &Value) -> Result<Request, BundleError>
+    ensures { Answers Request result (request_in (view value.now)) }
 {
-    check_keys(alloc, members)?;
-    let command = read_command(members)?;
-    let root = read_root(alloc, members)?;
-    let modules = read_modules(alloc, members)?;
+    check_keys(alloc, value)?;
+    let command = read_command(value)?;
+    let root = read_root(alloc, value)?;
+    let modules = read_modules(alloc, value)?;
     let options = Options {
-        keep: read_keep(alloc, members)?,
-        max_modules: read_max_modules(members)?,
-        max_steps: read_max_steps(members)?,
+        keep: read_keep(alloc, value)?,
+        max_modules: read_max_modules(value)?,
+        max_steps: read_max_steps(value)?,
     };
     Ok(Request {
         command,
@@ -148,15 +144,28 @@ fn read_members(alloc: Global, members: &Members) -> Result<Request, BundleError
     })
 }
 
-fn check_keys(alloc: Global, members: &Members) -> Result<(), BundleError>
-    ensures { Answers ⊤ result (known (members_view members.now.entries)) }
+fn check_keys(alloc: Global, value: &Value) -> Result<(), BundleError>
+    ensures { Answers ⊤ result (keys_known (as_object (view value.now))) }
+{
+    let Some(members) = value.as_object() else {
+        return Err(BundleError::NotAnObject);
+    };
+    match unknown_key(members) {
+        Some(key) => Err(BundleError::UnknownKey(Text::from_str(alloc, key)?)),
+        None => Ok(()),
+    }
+}
+
+/// The first key in byte order that no bundle has.
+fn unknown_key(members: &Map<String, Value>) -> Option<&str>
+    ensures { option_map (λ key. key.now) result ≡ unknown (members_view members.now.entries) }
 {
     for key in members.keys() {
         if !is_key(key.as_str()) {
-            return Err(BundleError::UnknownKey(Text::from_str(alloc, key.as_str())?));
+            return Some(key.as_str());
         }
     }
-    Ok(())
+    None
 }
 
 fn is_key(key: &str) -> bool
@@ -168,30 +177,30 @@ fn is_key(key: &str) -> bool
     )
 }
 
-fn read_command(members: &Members) -> Result<Command, BundleError>
-    ensures { result ≡ command_at (members_view members.now.entries) }
+fn read_command(value: &Value) -> Result<Command, BundleError>
+    ensures { result ≡ command_at (view value.now) }
 {
-    match text_at(members, "command") {
+    match text_at(value, "command") {
         Some("link") => Ok(Command::Link),
         Some("compile") => Ok(Command::Compile),
         _ => Err(BundleError::Value(Key::Command)),
     }
 }
 
-fn read_root(alloc: Global, members: &Members) -> Result<ModulePath, BundleError>
-    ensures { Answers ModulePath result (root_at (members_view members.now.entries)) }
+fn read_root(alloc: Global, value: &Value) -> Result<ModulePath, BundleError>
+    ensures { Answers ModulePath result (root_at (view value.now)) }
 {
-    match text_at(members, "root") {
+    match text_at(value, "root") {
         Some(text) => read_path(alloc, Key::Root, text),
         None => Err(BundleError::Value(Key::Root)),
     }
 }
 
 /// The text at a key.
-fn text_at<'a>(members: &'a Members, key: &str) -> Option<&'a str>
-    ensures { option_map (λ text. text.now) result ≡ text_at key.now (members_view members.now.entries) }
+fn text_at<'a>(value: &'a Value, key: &str) -> Option<&'a str>
+    ensures { option_map (λ text. text.now) result ≡ text_at key.now (view value.now) }
 {
-    members.get(key).and_then(Value::as_str)
+    value.get(key).and_then(Value::as_str)
 }
 
 /// A path that begins with `package`.
@@ -211,12 +220,18 @@ fn read_path(alloc: Global, key: Key, text: &str) -> Result<ModulePath, BundleEr
     }
 }
 
-fn read_modules(alloc: Global, members: &Members) -> Result<Items<Module>, BundleError>
-    ensures { Answers (List Module) result (modules_at (members_view members.now.entries)) }
+fn read_modules(alloc: Global, value: &Value) -> Result<Items<Module>, BundleError>
+    ensures { Answers (List Module) result (modules_at (view value.now)) }
 {
-    let Some(values) = members.get("modules").and_then(Value::as_array) else {
-        return Err(BundleError::Value(Key::Modules));
-    };
+    match value.get("modules").and_then(Value::as_array) {
+        Some(values) => read_each_module(alloc, values.as_slice()),
+        None => Err(BundleError::Value(Key::Modules)),
+    }
+}
+
+fn read_each_module(alloc: Global, values: &[Value]) -> Result<Items<Module>, BundleError>
+    ensures { Answers (List Module) result (required (BundleError.Value Key.Modules) (each module_of (items_view values.now))) }
+{
     let mut modules = Items::new(alloc);
     for value in values {
         modules.push(read_module(alloc, value)?)?;
@@ -228,11 +243,11 @@ fn read_modules(alloc: Global, members: &Members) -> Result<Items<Module>, Bundl
 fn read_module(alloc: Global, value: &Value) -> Result<Module, BundleError>
     ensures { Answers Module result (required (BundleError.Value Key.Modules) (module_of (view value.now))) }
 {
-    let Some(members) = value.as_object() else {
+    if !has_two_members(value) {
         return Err(BundleError::Value(Key::Modules));
-    };
-    match (text_at(members, "path"), text_at(members, "text")) {
-        (Some(path), Some(text)) if members.len() == 2 => {
+    }
+    match (text_at(value, "path"), text_at(value, "text")) {
+        (Some(path), Some(text)) => {
             let path = read_path(alloc, Key::Modules, path)?;
             let text = Text::from_str(alloc, text)?;
             Ok(Module { path, text })
@@ -241,16 +256,31 @@ fn read_module(alloc: Global, value: &Value) -> Result<Module, BundleError>
     }
 }
 
-fn read_keep(alloc: Global, members: &Members) -> Result<Items<Text>, BundleError>
-    ensures { Answers (List (List ℕ)) result (keep_at (members_view members.now.entries)) }
+fn has_two_members(value: &Value) -> bool
+    ensures { result ≡ has_two (as_object (view value.now)) }
+{
+    match value.as_object() {
+        Some(members) => members.len() == 2,
+        None => false,
+    }
+}
+
+fn read_keep(alloc: Global, value: &Value) -> Result<Items<Text>, BundleError>
+    ensures { Answers (List (List ℕ)) result (keep_at (view value.now)) }
+{
+    let Some(kept) = value.get("keep") else {
+        return Ok(Items::new(alloc));
+    };
+    match kept.as_array() {
+        Some(values) => read_names(alloc, values.as_slice()),
+        None => Err(BundleError::Value(Key::Keep)),
+    }
+}
+
+fn read_names(alloc: Global, values: &[Value]) -> Result<Items<Text>, BundleError>
+    ensures { Answers (List (List ℕ)) result (required (BundleError.Value Key.Keep) (each as_str (items_view values.now))) }
 {
     let mut names = Items::new(alloc);
-    let Some(value) = members.get("keep") else {
-        return Ok(names);
-    };
-    let Some(values) = value.as_array() else {
-        return Err(BundleError::Value(Key::Keep));
-    };
     for value in values {
         match value.as_str() {
             Some(name) => names.push(Text::from_str(alloc, name)?)?,
@@ -260,25 +290,25 @@ fn read_keep(alloc: Global, members: &Members) -> Result<Items<Text>, BundleErro
     Ok(names)
 }
 
-fn read_max_modules(members: &Members) -> Result<u32, BundleError>
-    ensures { result ≡ max_modules_at (members_view members.now.entries) }
+fn read_max_modules(value: &Value) -> Result<u32, BundleError>
+    ensures { result ≡ max_modules_at (view value.now) }
 {
-    let Some(value) = members.get("max_modules") else {
+    let Some(limit) = value.get("max_modules") else {
         return Ok(256);
     };
-    match value.as_u64().map(u32::try_from) {
+    match limit.as_u64().map(u32::try_from) {
         Some(Ok(max_modules)) => Ok(max_modules),
         _ => Err(BundleError::Value(Key::MaxModules)),
     }
 }
 
-fn read_max_steps(members: &Members) -> Result<u64, BundleError>
-    ensures { result ≡ max_steps_at (members_view members.now.entries) }
+fn read_max_steps(value: &Value) -> Result<u64, BundleError>
+    ensures { result ≡ max_steps_at (view value.now) }
 {
-    let Some(value) = members.get("max_steps") else {
+    let Some(limit) = value.get("max_steps") else {
         return Ok(1_000_000);
     };
-    match value.as_u64() {
+    match limit.as_u64() {
         Some(max_steps) => Ok(max_steps),
         None => Err(BundleError::Value(Key::MaxSteps)),
     }

@@ -1,0 +1,4 @@
+pub mod Answered
+pub mod Keys
+pub mod Lists
+pub mod Paths
