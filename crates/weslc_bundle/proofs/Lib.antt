@@ -2,3 +2,4 @@ pub mod Answered
 pub mod Keys
 pub mod Lists
 pub mod Paths
+pub mod Requests
