@@ -1,5 +1,8 @@
 //! Reading a bundle's bytes.
 
+ghost use Rattle.std.specs.Prelude.{◌≡◌, IfOk, IfErr};
+ghost use Rattle.weslc_bundle.specs.Served.{AreRead, AreTooMany};
+
 use std::alloc::Global;
 use std::io::{ErrorKind, Read};
 
@@ -18,9 +21,12 @@ pub enum InputError {
 }
 
 /// Reads to the end, or to one byte more than a bundle may have.
-pub fn read_input<R: Read>(alloc: Global, reader: &mut R) -> Result<Vec<u8>, InputError> {
+pub fn read_input<R: Read>(alloc: Global, reader: &mut R) -> Result<Vec<u8>, InputError>
+    ensures bytes { IfOk result (λ bytes. AreRead (R.remaining reader.old) bytes.items) }
+    ensures long { IfErr result (λ e. e ≡ InputError.TooLong → AreTooMany (R.remaining reader.old)) }
+{
     let mut bytes = Vec::new(alloc);
-    let mut limited = reader.by_ref().take(MAX_BUNDLE_LEN as u64 + 1);
+    let mut limited = reader.take(MAX_BUNDLE_LEN as u64 + 1);
     match limited.read_to_end(&mut bytes) {
         Ok(_) => {}
         Err(error) if error.kind() == ErrorKind::OutOfMemory => return Err(InputError::OutOfMemory),
