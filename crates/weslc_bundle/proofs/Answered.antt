@@ -4,7 +4,7 @@ use Rattle.std.specs.Str.{is_utf8, IsUtf8}
 use Rattle.std.proofs.lemmas.Str.{is_utf8-from_IsUtf8, IsUtf8-from_is_utf8}
 use Rattle.serde_json.specs.Data.{Data}
 use Rattle.serde_json.specs.Read.{read}
-use Rattle.weslc_bundle.specs.Bundles.{Asked, ◌>>=◌, Answers, required, value_of}
+use Rattle.weslc_bundle.specs.Bundles.{Asked, ◌>>=◌, required, value_of}
 use Rattle.weslc_bundle.specs.declared.request.BundleError.{BundleError}
 use Rattle.weslc_bundle.specs.declared.request.BundleError.TheVariants.{OutOfMemory}
 

@@ -1,5 +1,5 @@
 -- The members of an object, and their keys.
-use Rattle.std.proofs.Common.{◌≡◌, refl, sym, ap, ◌∙◌, ℕ, zero, suc, arith, List, [], ◌∷◌, length, Option, Some, None, Bool, true, false, nat_eq, if◌then◌else◌, String, Global, string_bytes, BTreeMap}
+use Rattle.std.proofs.Common.{◌≡◌, refl, ap, ◌∙◌, ℕ, suc, arith, List, [], ◌∷◌, length, Option, Some, None, false, nat_eq, if◌then◌else◌, String, Global, string_bytes}
 use Rattle.std.proofs.lemmas.Bool.Decides.{nat_tests}
 use Rattle.std.specs.Map.{keys_of}
 use Rattle.serde_json.specs.Data.{Members}

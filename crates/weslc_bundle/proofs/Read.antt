@@ -1,5 +1,5 @@
 -- Bytes read up to a limit.
-use Rattle.std.proofs.Common.{◌≡◌, refl, sym, ap, ◌∙◌, ℕ, List, [], ◌++◌, ◌+◌, ◌≤◌, length, take, min, Option, Some, None, option_map, arith}
+use Rattle.std.proofs.Common.{◌≡◌, ap, ◌∙◌, ℕ, List, [], ◌++◌, ◌+◌, ◌≤◌, length, take, min, Option, Some, None, option_map, arith}
 use Rattle.std.specs.Prelude.{IfSome}
 use Rattle.std.proofs.lemmas.List.{length-take, take_all}
 

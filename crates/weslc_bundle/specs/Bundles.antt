@@ -1,5 +1,5 @@
 -- What bytes ask for, or why they are no bundle.
-use Rattle.std.specs.Prelude.{◌≡◌, ◌≢◌, ◌⊎◌, ◌&&◌, ◌||◌, ◌==◌, ◌^◌, ⊤, ℕ, List, [], ◌∷◌, ◌++◌, codes, map, Bool, true, false, nat_lt, Option, Some, None, option_map, option_and_then, Result, Ok, Err, Any, AllPairs, if◌then◌else◌}
+use Rattle.std.specs.Prelude.{◌≡◌, ◌⊎◌, ◌||◌, ◌^◌, ⊤, ℕ, List, [], ◌∷◌, ◌++◌, codes, Bool, true, false, nat_lt, Option, Some, None, option_map, option_and_then, Result, Ok, Err, Any, AllPairs, if◌then◌else◌}
 use Rattle.std.specs.Str.{is_utf8, bytes_eq}
 use Rattle.serde_json.specs.Data.{Data, Items, no_items, item, Members, no_members, member}
 use Rattle.serde_json.specs.Read.{read}

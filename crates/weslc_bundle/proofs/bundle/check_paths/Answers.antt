@@ -1,4 +1,4 @@
-use Rattle.std.proofs.Common.{◌≡◌, refl, sym, ap, ◌∙◌, inr, string_bytes, take, Bool, true, false, not}
+use Rattle.std.proofs.Common.{◌≡◌, sym, ap, ◌∙◌, inr, string_bytes, take, Bool, true, false, not}
 use Rattle.std.specs.BTreeSet.{contains_text}
 use Rattle.std.proofs.lemmas.Map.Text.{btree_set_updates_text}
 use Rattle.weslc_bundle.specs.declared.request.BundleError.TheVariants.{DuplicateModule}

@@ -1,4 +1,4 @@
-use Rattle.std.proofs.Common.{◌≡◌, ◌∙◌, ap, ◌≤◌, length, arith}
+use Rattle.std.proofs.Common.{ap, ◌≤◌, length, arith}
 use Rattle.weslc_bundle.proofs.Read.{all_read}
 use Rattle.weslc_bundle.proofs.input.read_input.Goals as goal
 

@@ -1,4 +1,4 @@
-use Rattle.std.proofs.Common.{◌∙◌, sym, rules}
+use Rattle.std.proofs.Common.{◌∙◌}
 use Rattle.std.proofs.lemmas.Result.{err_from_is_err_and}
 use Rattle.weslc_bundle.specs.Bundles.{module_of}
 use Rattle.weslc_bundle.proofs.Answered.{some_required, faults_whole}

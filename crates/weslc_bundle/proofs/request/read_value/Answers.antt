@@ -1,5 +1,4 @@
-use Rattle.std.proofs.Common.{◌≡◌, ◌∙◌, refl, sym, ap, inl, inr, true, Some, None, cond}
-use Rattle.std.specs.Str.{is_utf8}
+use Rattle.std.proofs.Common.{◌∙◌, refl, sym, ap, inr}
 use Rattle.serde_json.specs.Read.{read}
 use Rattle.weslc_bundle.proofs.Answered.{value_read, value_refused}
 use Rattle.weslc_bundle.proofs.request.read_value.Goals as goal
