@@ -1,7 +1,9 @@
 -- What the program answers.
-use Rattle.std.specs.Prelude.{◌≡◌, ◌⊎◌, ◌<◌, ◌≤◌, ⊤, ℕ, List, length, Option, IfSome}
+use Rattle.std.specs.Prelude.{◌≡◌, ◌⊎◌, ◌<◌, ◌≤◌, ◌+◌, ⊤, ℕ, List, length, Option, IfSome}
+use Rattle.std.specs.Io.KnownBytes.{Consumes}
 use Rattle.weslc_calls.specs.Answers.{IsLinkedText, IsCompiledText, IsRefusal}
 use Rattle.weslc_calls.specs.declared.error.CompileError.{CompileError}
+use Rattle.weslc_calls.specs.declared.error.CompileError.TheVariants as calls
 use Rattle.weslc_bundle.specs.declared.input.TheConstants.{MAX_BUNDLE_LEN}
 use Rattle.weslc_bundle.specs.declared.input.InputError.{InputError}
 use Rattle.weslc_bundle.specs.declared.input.InputError.TheVariants as input
@@ -27,6 +29,10 @@ AreRead left bytes = AreAll left bytes × (length bytes ≤ MAX_BUNDLE_LEN)
 -- A reader had more bytes left than a bundle may have, where it tells them.
 abbrev pub AreTooMany : Option (List ℕ) → Type 0
 AreTooMany left = IfSome left (λ all. MAX_BUNDLE_LEN < length all)
+
+-- At most one byte more was taken of a reader than a bundle may have, where it tells its bytes.
+abbrev pub TakesFew : Option (List ℕ) → Option (List ℕ) → Type 0
+TakesFew before after = (taken : List ℕ) × Consumes before after taken × (length taken ≤ MAX_BUNDLE_LEN + 1)
 
 -- ---- calls
 
@@ -84,4 +90,4 @@ refused_bundle bundle.OutOfMemory = of.OutOfMemory
 
 -- a refusal of a call, or that memory was refused
 abbrev pub RefusesCall : CompileError → Refusal → Type 0
-RefusesCall e refusal = (refusal ≡ of.Compile e) ⊎ (refusal ≡ of.OutOfMemory)
+RefusesCall e refusal = (refusal ≡ of.Compile e) ⊎ ((e ≡ calls.OutOfMemory) × (refusal ≡ of.OutOfMemory))
