@@ -23,6 +23,7 @@ pub struct Bundle {
 pub fn read_bundle(alloc: Global, bytes: &[u8]) -> Result<Bundle, BundleError>
     ensures bundle { IfOk result (λ bundle. (request : Request) × IsBundle bytes.now request × HandsOver request bundle) }
     ensures fault { IfErr result (λ e. (e ≡ BundleError.OutOfMemory) ⊎ IsFault bytes.now e) }
+    ensures only { IfErr result (λ e. (e ≡ BundleError.OutOfMemory) ⊎ ((request : Request) → ¬ IsBundle bytes.now request)) }
 {
     let Request {
         command,
