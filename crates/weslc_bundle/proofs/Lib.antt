@@ -1,0 +1,6 @@
+pub mod Answered
+pub mod Keys
+pub mod Lists
+pub mod Paths
+pub mod Read
+pub mod Requests
