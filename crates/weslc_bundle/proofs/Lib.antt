@@ -1,4 +1,5 @@
 pub mod Answered
+pub mod Held
 pub mod Keys
 pub mod Lists
 pub mod Paths

@@ -18,6 +18,7 @@ use Rattle.weslc_bundle.specs.declared.request.Request.{Request}
 use Rattle.weslc_bundle.specs.declared.bundle.Bundle.{Bundle}
 use Rattle.weslc_bundle.specs.declared.request.BundleError.{BundleError}
 use Rattle.weslc_bundle.specs.declared.request.BundleError.TheVariants.{NotAnObject, UnknownKey, Value, DuplicateModule, OutOfMemory}
+use Rattle.weslc_bundle.specs.Held.{Holds}
 
 -- ---- answers
 
@@ -187,9 +188,11 @@ IsFirstTwice modules path =
 abbrev pub IsBundle : List ℕ → Request → Type 0
 IsBundle bytes request = (request_of bytes ≡ Ok request) × IsApart request.modules
 
--- What is handed over is what is asked for, the modules aside.
+-- What is handed over is what is asked for.
 abbrev pub HandsOver : Request → Bundle → Type 0
-HandsOver request bundle = (bundle.command ≡ request.command) × (bundle.root ≡ request.root) × (bundle.options ≡ request.options)
+HandsOver request bundle =
+    (bundle.command ≡ request.command) × (bundle.root ≡ request.root) × Holds bundle.resolver request.modules
+    × (bundle.options ≡ request.options)
 
 -- The bytes have this fault; a path that is there twice comes last.
 abbrev pub IsFault : List ℕ → BundleError → Type 0

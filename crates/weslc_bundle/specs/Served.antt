@@ -1,7 +1,11 @@
 -- What the program answers.
 use Rattle.std.specs.Prelude.{◌≡◌, ◌⊎◌, ◌<◌, ◌≤◌, ◌+◌, ⊤, ℕ, List, length, Option, IfSome}
 use Rattle.std.specs.Io.KnownBytes.{Consumes}
-use Rattle.weslc_calls.specs.Answers.{IsLinkedText, IsCompiledText, IsRefusal}
+use Rattle.wgsl_path.specs.Paths.{path_text}
+use Rattle.wesl_sources.specs.Occurrences.{Name}
+use Rattle.wesl_sources.specs.Modules.{Path}
+use Rattle.wesl_sources.specs.Rounds.{Sources}
+use Rattle.weslc_calls.specs.Answers.{IsLinkedText, IsCompiledText, RefusesLinking, IsUnprintable, IsRefusedUnit}
 use Rattle.weslc_calls.specs.declared.error.CompileError.{CompileError}
 use Rattle.weslc_calls.specs.declared.error.CompileError.TheVariants as calls
 use Rattle.weslc_bundle.specs.declared.input.TheConstants.{MAX_BUNDLE_LEN}
@@ -14,6 +18,7 @@ use Rattle.weslc_bundle.specs.declared.request.BundleError.{BundleError}
 use Rattle.weslc_bundle.specs.declared.request.BundleError.TheVariants as bundle
 use Rattle.weslc_bundle.specs.declared.serve.Refusal.{Refusal}
 use Rattle.weslc_bundle.specs.declared.serve.Refusal.TheVariants as of
+use Rattle.weslc_bundle.specs.Held.{found_among}
 use Rattle.weslc_bundle.specs.Bundles.{IsBundle, IsFault}
 
 -- ---- bytes
@@ -36,21 +41,25 @@ TakesFew before after = (taken : List ℕ) × Consumes before after taken × (le
 
 -- ---- calls
 
--- the command's call may answer this text
-abbrev pub IsTextOf : Command → List ℕ → Type 0
-IsTextOf Link text = IsLinkedText text
-IsTextOf Compile text = IsCompiledText text
+-- the command's call answers this text
+abbrev pub IsTextOf : Command → Sources → Path → List Name → ℕ → List ℕ → Type 0
+IsTextOf Link found root asked max text = IsLinkedText found root asked max text
+IsTextOf Compile found root asked max text = IsCompiledText found root asked max text
 
--- the command's call may be refused so
-abbrev pub IsRefusalOf : Command → CompileError → Type 0
-IsRefusalOf Link e = ⊤
-IsRefusalOf Compile e = IsRefusal e
+-- memory aside, the command's call is refused so
+abbrev pub IsRefusalOf : Command → Sources → Path → List Name → ℕ → CompileError → Type 0
+IsRefusalOf Link found root asked max e = RefusesLinking found root asked max e ⊎ IsUnprintable found root asked max e
+IsRefusalOf Compile found root asked max e = RefusesLinking found root asked max e ⊎ IsRefusedUnit found root asked max e
 
+-- the command's call answers this text of the request's modules
 abbrev pub IsAnswer : Request → List ℕ → Type 0
-IsAnswer request text = IsTextOf request.command text
+IsAnswer request text =
+    IsTextOf request.command (found_among request.modules) (path_text request.root) request.options.keep request.options.max_modules text
 
+-- memory aside, it refuses them so
 abbrev pub IsRefused : Request → CompileError → Type 0
-IsRefused request e = IsRefusalOf request.command e
+IsRefused request e =
+    IsRefusalOf request.command (found_among request.modules) (path_text request.root) request.options.keep request.options.max_modules e
 
 -- ---- the program
 

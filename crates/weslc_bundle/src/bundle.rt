@@ -2,6 +2,7 @@
 
 ghost use Rattle.std.specs.Prelude.{◌≡◌, ◌⊎◌, IfOk, IfErr, OnOk};
 ghost use Rattle.weslc_bundle.specs.Bundles.{IsApart, IsFirstTwice, IsBundle, HandsOver, IsFault};
+ghost use Rattle.weslc_bundle.specs.Held.{Holds};
 
 use crate::request::{BundleError, Command, Module, Request, read_request};
 use std::alloc::{AllocError, Global};
@@ -56,7 +57,9 @@ fn check_paths(alloc: Global, modules: &[Module]) -> Result<(), BundleError>
 }
 
 /// All modules.
-fn resolver_of(alloc: Global, modules: Items<Module>) -> Result<VirtualResolver, AllocError> {
+fn resolver_of(alloc: Global, modules: Items<Module>) -> Result<VirtualResolver, AllocError>
+    ensures { IfOk result (λ resolver. Holds resolver modules) }
+{
     let mut resolver = VirtualResolver::new(alloc);
     for module in modules.into_vec() {
         let Module { path, text } = module;
