@@ -1,6 +1,6 @@
 -- The modules of a bundle, as a resolver holds them and as the calls find them.
-use Rattle.std.specs.Prelude.{◌≡◌, ℕ, List, [], ◌∷◌, Option, Some, None, if◌then◌else◌}
-use Rattle.std.specs.Option.{option_or}
+use Rattle.std.specs.Prelude.{◌≡◌, ℕ, List, Option, option_map}
+use Rattle.std.specs.List.{find}
 use Rattle.std.specs.Str.{bytes_eq}
 use Rattle.wgsl_path.specs.Paths.{path_text}
 use Rattle.wesl_resolve.specs.Found.{Answer}
@@ -8,10 +8,9 @@ use Rattle.weslc_calls.specs.Stored.{text_at, found_in}
 use Rattle.weslc_calls.specs.declared.resolver.VirtualResolver.{VirtualResolver}
 use Rattle.weslc_bundle.specs.declared.request.Module.{Module}
 
--- the text at a printed path, that of the last module there; in a bundle no two are at one path
+-- the text of the module at a printed path; in a bundle no two are at one
 abbrev pub text_in : List Module → List ℕ → Option (List ℕ)
-text_in [] p = None
-text_in (m ∷ ms) p = option_or (text_in ms p) (if bytes_eq (path_text m.path) p then Some m.text else None)
+text_in modules p = option_map (λ m. m.text) (find (λ m. bytes_eq (path_text m.path) p) modules)
 
 -- A resolver holds these modules and no other.
 abbrev pub Holds : VirtualResolver → List Module → Type 0

@@ -56,8 +56,9 @@ fn check_paths(alloc: Global, modules: &[Module]) -> Result<(), BundleError>
     Ok(())
 }
 
-/// All modules.
+/// All modules, no two of which stand at one path.
 fn resolver_of(alloc: Global, modules: Items<Module>) -> Result<VirtualResolver, AllocError>
+    requires { IsApart modules }
     ensures { IfOk result (λ resolver. Holds resolver modules) }
 {
     let mut resolver = VirtualResolver::new(alloc);

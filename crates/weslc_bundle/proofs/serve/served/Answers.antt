@@ -3,7 +3,6 @@ use Rattle.std.proofs.Common.{subst, sym, string_bytes}
 use Rattle.std.proofs.lemmas.Result.{err_from_is_err_and}
 use Rattle.weslc_calls.specs.Stored.{text_at}
 use Rattle.weslc_bundle.specs.declared.request.Command.{Command}
-use Rattle.weslc_bundle.specs.Served.{Answered}
 use Rattle.weslc_bundle.proofs.Held.{IsTextFrom, IsRefusalFrom, text_answered, call_refused}
 use Rattle.weslc_bundle.proofs.serve.served.Goals as goal
 use Rattle.weslc_bundle.proofs.serve.served.Goals.{in-Link+in_ok-link-in-Link, in-Compile+in_ok-text-in-Compile}
