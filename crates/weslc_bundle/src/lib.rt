@@ -4,6 +4,7 @@
 mod bundle;
 mod input;
 mod kinds;
+mod request;
 mod serve;
 #[cfg(test)]
 mod tests;

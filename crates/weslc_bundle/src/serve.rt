@@ -1,8 +1,13 @@
 //! The program: from a bundle to a text or an error line.
 
-use crate::bundle::{BundleError, Command, read_bundle};
+ghost use Rattle.std.specs.Prelude.{◌≡◌, ◌⊎◌, ◌≤◌, List, ℕ, IfOk, IfErr, OnOk, string_bytes};
+ghost use Rattle.std.specs.Io.KnownBytes.{Appends};
+ghost use Rattle.weslc_bundle.specs.Served.{Answered, Refused, status_of};
+
+use crate::bundle::read_bundle;
 use crate::input::{InputError, read_input};
 use crate::kinds::{eval_kind, syntax_kind, validate_kind};
+use crate::request::{BundleError, Command};
 use std::alloc::Global;
 use std::io::{Read, Write};
 use std::{fmt, io};
@@ -21,6 +26,10 @@ enum Refusal {
 }
 
 impl From<InputError> for Refusal {
+    ghost use Rattle.weslc_bundle.specs.Served.{refused_input};
+
+    ghost from_gives = { λ e refusal. refusal ≡ refused_input e };
+
     fn from(error: InputError) -> Refusal {
         match error {
             InputError::Read => Refusal::Read,
@@ -31,6 +40,10 @@ impl From<InputError> for Refusal {
 }
 
 impl From<BundleError> for Refusal {
+    ghost use Rattle.weslc_bundle.specs.Served.{refused_bundle};
+
+    ghost from_gives = { λ e refusal. refusal ≡ refused_bundle e };
+
     fn from(error: BundleError) -> Refusal {
         match error {
             BundleError::OutOfMemory => Refusal::OutOfMemory,
@@ -40,6 +53,10 @@ impl From<BundleError> for Refusal {
 }
 
 impl From<CompileError> for Refusal {
+    ghost use Rattle.weslc_bundle.specs.Served.{RefusesCall};
+
+    ghost from_gives = { RefusesCall };
+
     fn from(error: CompileError) -> Refusal {
         match error {
             CompileError::OutOfMemory => Refusal::OutOfMemory,
@@ -55,7 +72,12 @@ pub fn serve_bundle<R: Read, W: Write, E: Write>(
     reader: &mut R,
     writer: &mut W,
     errors: &mut E,
-) -> u8 {
+) -> u8
+    ensures text { result ≡ 0 → (text : List ℕ) × Answered (R.remaining reader.old) text × Appends (W.contents writer.old) (W.contents writer.new) text × (errors.new ≡ errors.old) }
+    ensures refused { result ≡ 1 → ((refusal : Refusal) × Refused (R.remaining reader.old) refusal × (writer.new ≡ writer.old)) ⊎ ((text : List ℕ) × Answered (R.remaining reader.old) text × (errors.new ≡ errors.old)) }
+    ensures no_bundle { result ≡ 2 → (refusal : Refusal) × Refused (R.remaining reader.old) refusal × (status_of refusal ≡ 2) × (writer.new ≡ writer.old) }
+    ensures statuses { result ≤ 2 }
+{
     match served(alloc, reader) {
         Ok(text) => match write_text(writer, text.as_str()) {
             Ok(()) => 0,
@@ -68,7 +90,10 @@ pub fn serve_bundle<R: Read, W: Write, E: Write>(
     }
 }
 
-fn served<R: Read>(alloc: Global, reader: &mut R) -> Result<String, Refusal> {
+fn served<R: Read>(alloc: Global, reader: &mut R) -> Result<String, Refusal>
+    ensures text { IfOk result (λ text. Answered (R.remaining reader.old) (string_bytes text)) }
+    ensures refusal { IfErr result (λ refusal. Refused (R.remaining reader.old) refusal) }
+{
     let bytes = read_input(alloc, reader)?;
     let mut bundle = read_bundle(alloc, bytes.as_slice())?;
     let (text, _) = match bundle.command {
@@ -78,12 +103,16 @@ fn served<R: Read>(alloc: Global, reader: &mut R) -> Result<String, Refusal> {
     Ok(text)
 }
 
-fn write_text<W: Write>(writer: &mut W, text: &str) -> io::Result<()> {
+fn write_text<W: Write>(writer: &mut W, text: &str) -> io::Result<()>
+    ensures { OnOk result (Appends (W.contents writer.old) (W.contents writer.new) text.now) }
+{
     writer.write_all(text.as_bytes())?;
     writer.flush()
 }
 
-fn status(refusal: &Refusal) -> u8 {
+fn status(refusal: &Refusal) -> u8
+    ensures { result ≡ status_of refusal.now }
+{
     match refusal {
         Refusal::Read | Refusal::TooLong | Refusal::Bundle(_) => 2,
         Refusal::Compile(_) | Refusal::OutOfMemory => 1,

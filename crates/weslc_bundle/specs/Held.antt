@@ -1,0 +1,21 @@
+-- The modules of a bundle, as a resolver holds them and as the calls find them.
+use Rattle.std.specs.Prelude.{◌≡◌, ℕ, List, Option, option_map}
+use Rattle.std.specs.List.{find}
+use Rattle.std.specs.Str.{bytes_eq}
+use Rattle.wgsl_path.specs.Paths.{path_text}
+use Rattle.wesl_resolve.specs.Found.{Answer}
+use Rattle.weslc_calls.specs.Stored.{text_at, found_in}
+use Rattle.weslc_calls.specs.declared.resolver.VirtualResolver.{VirtualResolver}
+use Rattle.weslc_bundle.specs.declared.request.Module.{Module}
+
+-- the text of the module at a printed path; in a bundle no two are at one
+abbrev pub text_in : List Module → List ℕ → Option (List ℕ)
+text_in modules p = option_map (λ m. m.text) (find (λ m. bytes_eq (path_text m.path) p) modules)
+
+-- A resolver holds these modules and no other.
+abbrev pub Holds : VirtualResolver → List Module → Type 0
+Holds resolver modules = (p : List ℕ) → text_at resolver p ≡ text_in modules p
+
+-- what is found at a printed path: nothing where no module is, else the unit that its text derives, or its fault
+abbrev pub found_among : List Module → List ℕ → Answer → Type 0
+found_among modules p a = found_in (text_in modules p) a

@@ -1,0 +1,3 @@
+pub mod Bundles
+pub mod Held
+pub mod Served
