@@ -493,6 +493,38 @@ fn names_faults_of_the_linked_unit(rt: HostRuntime) -> Result<(), Fail> {
             "error: Eval.Todo package k - bool\n",
         ),
         (
+            "const k = -9223372036854775807 - 2; fn g() -> i32 { return k; }",
+            "error: Eval.SubOverflow package k - -\n",
+        ),
+        (
+            "const k = 9223372036854775807 * 2; fn g() -> i32 { return k; }",
+            "error: Eval.MulOverflow package k - -\n",
+        ),
+        (
+            "const k = 1 % 0; fn g() -> i32 { return k; }",
+            "error: Eval.RemZeroDiv package k - -\n",
+        ),
+        (
+            "const k = -1u; fn g() -> u32 { return k; }",
+            "error: Eval.Unary package k - -\n",
+        ),
+        (
+            "const k = 1i + 1u; fn g() -> i32 { return k; }",
+            "error: Eval.Binary package k - -\n",
+        ),
+        (
+            "const k: i32 = 1u; fn g() -> i32 { return k; }",
+            "error: Eval.Conversion package k - -\n",
+        ),
+        (
+            "const k = i32(1, 2); fn g() -> i32 { return k; }",
+            "error: Eval.Signature package k - i32\n",
+        ),
+        (
+            "const t = 1; const k: t = 2; fn g() -> i32 { return k; }",
+            "error: Eval.NotType package k - t\n",
+        ),
+        (
             "fn f() -> u32 { return 1u; } fn g() -> u32 { return f(); }",
             "error: Eval.Todo package g - f\n",
         ),
