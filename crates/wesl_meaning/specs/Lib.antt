@@ -7,3 +7,4 @@ pub mod Determined
 pub mod Asked
 pub mod Example
 pub mod Same
+pub mod Agreement

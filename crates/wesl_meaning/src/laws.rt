@@ -1,5 +1,6 @@
 //! Laws of linked modules. Each function states its law and does nothing.
 
+ghost use Rattle.wesl_meaning.specs.Agreement.{ClashesAreOne, HoldsOfAlikeModules, ListedModulesAreAlike, OnlyAskedUnitsCount};
 ghost use Rattle.wesl_meaning.specs.Asked.{OnlyWhatIsAskedCounts};
 ghost use Rattle.wesl_meaning.specs.Declared.{LinkedUnitsDeclareWhatIsHeld};
 ghost use Rattle.wesl_meaning.specs.Determined.{LoadingComesToOne};
@@ -49,6 +50,26 @@ pub fn loading_comes_to_one<R: Resolver>()
 /// Sources that agree on the paths that are asked of one of them come to the same refusal, or to the same units.
 pub fn only_what_is_asked_counts<R: Resolver, S: Resolver>()
     ensures { (one : R) (other : S) → OnlyWhatIsAskedCounts (R.answers one) (S.answers other) }
+{}
+
+/// Sources of which the other finds each unit that is asked of the one, load the same units at the same printed paths.
+pub fn only_asked_units_count<R: Resolver, S: Resolver>()
+    ensures { (one : R) (other : S) → OnlyAskedUnitsCount (R.answers one) (S.answers other) }
+{}
+
+/// Modules that are listed alike differ at most in the root's path, where imports name them by paths that are told apart.
+pub fn listed_modules_are_alike()
+    ensures { ListedModulesAreAlike }
+{}
+
+/// Modules that differ at most in the root's path are linked alike, clash alike, and hold the same.
+pub fn holds_of_alike_modules()
+    ensures { HoldsOfAlikeModules }
+{}
+
+/// Loaded modules have one first clash, or none.
+pub fn clashes_are_one()
+    ensures { ClashesAreOne }
 {}
 
 /// What holds of modules, and what they are refused for, doesn't depend on the order of their list.

@@ -2,6 +2,7 @@
 use Rattle.std.specs.Prelude.{◌≡◌, ⊤, ℕ, List, Option, Some, None, Result, Ok, Err, string_bytes}
 use Rattle.wesl_sources.specs.Occurrences.{Name}
 use Rattle.wesl_sources.specs.Modules.{Path, Modules}
+use Rattle.wesl_sources.specs.Named.{AreNamedByImports}
 use Rattle.wesl_sources.specs.Rounds.{Sources, Refusal, ComesTo}
 use Rattle.wesl_sources.specs.Same.{SameModules}
 use Rattle.wesl_scopes.specs.declared.error.ImportError.{ImportError}
@@ -17,6 +18,7 @@ module _ (sources : Sources) (root : Path) (keep : List Name) (max : ℕ) where
     pub modules : Modules
     pub loaded : ComesTo sources root keep max (Ok modules)
     pub same : SameModules modules (modules_of ms)
+    pub named : AreNamedByImports modules root
 
   -- the refusal that loading comes to, where one is told
   abbrev pub Refuses : Option Refusal → Type 0

@@ -5,6 +5,7 @@ use Rattle.wgsl_laws.specs.Printing.{StandsFor}
 use Rattle.wesl_resolve.specs.Found.{unit_of}
 use Rattle.wesl_sources.specs.Occurrences.{Name}
 use Rattle.wesl_sources.specs.Modules.{Path, Modules}
+use Rattle.wesl_sources.specs.Named.{AreNamedByImports}
 use Rattle.wesl_sources.specs.Rounds.{Sources, ComesTo}
 use Rattle.wesl_sources.specs.Kept.{kept_names}
 use Rattle.wesl_meaning.specs.Runs.{AreLinkedWell}
@@ -20,13 +21,14 @@ pub record AreKept (sources : Sources) (root : Path) (keep kept : List Name) : T
   pub found : sources root (unit_of unit)
   pub are : kept ≡ kept_names keep unit
 
--- The unit is linked from these sources: loading from the root comes to modules none of whose names clashes, and they are linked
--- into it.
+-- The unit is linked from these sources: loading from the root comes to modules, each under the path by which an import names it;
+-- none of their names clashes, and they are linked into it.
 pub record IsLinkedFrom (sources : Sources) (root : Path) (keep : List Name) (max : ℕ) (linked : Unit) : Type 0 where
   pub kept : List Name
   pub are_kept : AreKept sources root keep kept
   pub modules : Modules
   pub loaded : ComesTo sources root kept max (Ok modules)
+  pub named : AreNamedByImports modules root
   pub linked_well : AreLinkedWell modules root kept linked
 
 module _ (modules : Modules) (root : Path) (keep : List Name) where

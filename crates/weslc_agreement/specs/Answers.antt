@@ -1,0 +1,79 @@
+-- Answers of two runs that are the same.
+use Rattle.std.specs.Prelude.{◌≡◌, ◌⊎◌, ⊤, ℕ, List, Option, Some, None, Result, Ok, Err}
+use Rattle.wgsl_path.specs.declared.path.ModulePath.{ModulePath}
+use Rattle.wgsl_path.specs.Paths.{path_text}
+use Rattle.wesl_sources.specs.Occurrences.{Name}
+use Rattle.wesl_sources.specs.Modules.{Path}
+use Rattle.wesl_sources.specs.Rounds.{Sources}
+use Rattle.wesl_sources.specs.Named.{ImportsAreApart}
+use Rattle.wesl_meaning.specs.Determined.{IsFunctional}
+use Rattle.weslc_calls.specs.Answers.{IsLinkedText, IsCompiledText, RefusesLinking, IsUnprintable, IsRefusedUnit}
+use Rattle.weslc_calls.specs.declared.error.Concern.{Concern}
+use Rattle.weslc_calls.specs.declared.error.CompileError.{CompileError}
+use Rattle.weslc_calls.specs.declared.error.CompileError.TheVariants.{TooManyModules, Resolve, Syntax, Import, NameClash, Validate, UnclearName, Eval, Unprintable, OutOfMemory}
+use Rattle.weslc_agreement.specs.Asked.{AgreesOnAsked}
+
+-- ---- errors
+
+-- no module, or one at one printed path
+abbrev pub SameModule : Option ModulePath → Option ModulePath → Type 0
+SameModule None None = ⊤
+SameModule (Some a) (Some b) = path_text a ≡ path_text b
+SameModule None (Some b) = ⊥
+SameModule (Some a) None = ⊥
+
+-- about the same module, declaration and name
+pub record SameConcern (c d : Concern) : Type 0 where
+  pub same_module : SameModule c.«module» d.«module»
+  pub same_declaration : c.decl ≡ d.decl
+  pub same_name : c.name ≡ d.name
+
+-- Two errors tell the same. Want of memory tells nothing of the modules; the name that is told of a text that is not read as its
+-- unit is left out.
+abbrev pub TellTheSame : CompileError → CompileError → Type 0
+TellTheSame OutOfMemory e = ⊤
+TellTheSame e OutOfMemory = ⊤
+TellTheSame (TooManyModules c) (TooManyModules d) = SameConcern c d
+TellTheSame (Resolve c k) (Resolve d l) = SameConcern c d × (k ≡ l)
+TellTheSame (Syntax c f) (Syntax d g) = SameConcern c d × (f ≡ g)
+TellTheSame (Import c k) (Import d l) = SameConcern c d × (k ≡ l)
+TellTheSame (NameClash c) (NameClash d) = SameConcern c d
+TellTheSame (Validate c k) (Validate d l) = SameConcern c d × (k ≡ l)
+TellTheSame (UnclearName c) (UnclearName d) = SameConcern c d
+TellTheSame (Eval c f) (Eval d g) = SameConcern c d × (f ≡ g)
+TellTheSame (Unprintable c) (Unprintable d) = ⊤
+TellTheSame e f = ⊥
+
+-- ---- answers
+
+-- Two answers are the same: one text, or errors that tell the same; where one is a text, the other is refused for memory at most.
+abbrev pub SameAnswer : Result (List ℕ) CompileError → Result (List ℕ) CompileError → Type 0
+SameAnswer (Ok one) (Ok other) = one ≡ other
+SameAnswer (Ok one) (Err e) = e ≡ OutOfMemory
+SameAnswer (Err e) (Ok other) = e ≡ OutOfMemory
+SameAnswer (Err e) (Err f) = TellTheSame e f
+
+module _ (found : Sources) (root : Path) (asked : List Name) (max : ℕ) where
+  -- what `compile` answers, by its contract
+  abbrev pub IsCompiledAnswer : Result (List ℕ) CompileError → Type 0
+  IsCompiledAnswer (Ok text) = IsCompiledText found root asked max text
+  IsCompiledAnswer (Err e) = RefusesLinking found root asked max e ⊎ IsRefusedUnit found root asked max e
+
+  -- and what `link` answers
+  abbrev pub IsLinkedAnswer : Result (List ℕ) CompileError → Type 0
+  IsLinkedAnswer (Ok text) = IsLinkedText found root asked max text
+  IsLinkedAnswer (Err e) = RefusesLinking found root asked max e ⊎ IsUnprintable found root asked max e
+
+-- ---- the law
+
+-- Sources that agree on what is asked of one of them get the same answer, where one answer is found at each path and imports name
+-- modules by paths that are told apart as they are printed.
+abbrev pub CompiledAlike : Sources → Sources → Type 0
+CompiledAlike found other = IsFunctional found → IsFunctional other → ImportsAreApart found → (root : Path) (asked : List Name) (max : ℕ)
+    → AgreesOnAsked found root asked max other → (one two : Result (List ℕ) CompileError) → IsCompiledAnswer found root asked max one
+    → IsCompiledAnswer other root asked max two → SameAnswer one two
+
+abbrev pub LinkedAlike : Sources → Sources → Type 0
+LinkedAlike found other = IsFunctional found → IsFunctional other → ImportsAreApart found → (root : Path) (asked : List Name) (max : ℕ)
+    → AgreesOnAsked found root asked max other → (one two : Result (List ℕ) CompileError) → IsLinkedAnswer found root asked max one
+    → IsLinkedAnswer other root asked max two → SameAnswer one two
