@@ -6,7 +6,6 @@ use Rattle.wesl_sources.specs.Occurrences.{Name}
 use Rattle.wesl_sources.specs.Modules.{Path}
 use Rattle.wesl_sources.specs.Rounds.{Sources}
 use Rattle.wesl_sources.specs.Named.{ImportsAreApart}
-use Rattle.wesl_meaning.specs.Determined.{IsFunctional}
 use Rattle.weslc_calls.specs.Answers.{IsLinkedText, IsCompiledText, RefusesLinking, IsUnprintable, IsRefusedUnit}
 use Rattle.weslc_calls.specs.declared.error.Concern.{Concern}
 use Rattle.weslc_calls.specs.declared.error.CompileError.{CompileError}
@@ -66,14 +65,14 @@ module _ (found : Sources) (root : Path) (asked : List Name) (max : ℕ) where
 
 -- ---- the law
 
--- Sources that agree on what is asked of one of them get the same answer, where one answer is found at each path and imports name
--- modules by paths that are told apart as they are printed.
+-- Sources that agree on what is asked of one of them get the same answer, where imports name modules by paths that are told apart as
+-- they are printed.
 abbrev pub CompiledAlike : Sources → Sources → Type 0
-CompiledAlike found other = IsFunctional found → IsFunctional other → ImportsAreApart found → (root : Path) (asked : List Name) (max : ℕ)
+CompiledAlike found other = ImportsAreApart found → (root : Path) (asked : List Name) (max : ℕ)
     → AgreesOnAsked found root asked max other → (one two : Result (List ℕ) CompileError) → IsCompiledAnswer found root asked max one
     → IsCompiledAnswer other root asked max two → SameAnswer one two
 
 abbrev pub LinkedAlike : Sources → Sources → Type 0
-LinkedAlike found other = IsFunctional found → IsFunctional other → ImportsAreApart found → (root : Path) (asked : List Name) (max : ℕ)
+LinkedAlike found other = ImportsAreApart found → (root : Path) (asked : List Name) (max : ℕ)
     → AgreesOnAsked found root asked max other → (one two : Result (List ℕ) CompileError) → IsLinkedAnswer found root asked max one
     → IsLinkedAnswer other root asked max two → SameAnswer one two

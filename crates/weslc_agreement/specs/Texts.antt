@@ -1,12 +1,10 @@
 -- Texts that are answered for the same units, and for texts with the same tokens.
 use Rattle.std.specs.Prelude.{◌≡◌, ⊤, ℕ, List, Option, Some, None}
 use Rattle.wgsl_laws.specs.Same.{HaveSameTokens}
-use Rattle.wesl_resolve.specs.Found.{Answer}
 use Rattle.wesl_sources.specs.Occurrences.{Name}
 use Rattle.wesl_sources.specs.Modules.{Path}
 use Rattle.wesl_sources.specs.Rounds.{Sources}
 use Rattle.wesl_sources.specs.Named.{ImportsAreApart}
-use Rattle.wesl_meaning.specs.Determined.{IsFunctional}
 use Rattle.weslc_calls.specs.Answers.{IsLinkedText, IsCompiledText}
 use Rattle.weslc_calls.specs.Stored.{text_at, found_in}
 use Rattle.weslc_calls.specs.declared.resolver.VirtualResolver.{VirtualResolver}
@@ -14,12 +12,12 @@ use Rattle.weslc_agreement.specs.Asked.{IsAskedOf, HasAskedUnits}
 
 -- Where other sources have each unit that is asked of one, one text is answered.
 abbrev pub CompiledTextsAreOne : Sources → Sources → Type 0
-CompiledTextsAreOne found other = IsFunctional other → ImportsAreApart found → (root : Path) (asked : List Name) (max : ℕ)
+CompiledTextsAreOne found other = ImportsAreApart found → (root : Path) (asked : List Name) (max : ℕ)
     → HasAskedUnits found root asked max other → (one two : List ℕ) → IsCompiledText found root asked max one → IsCompiledText other root asked max two
     → one ≡ two
 
 abbrev pub LinkedTextsAreOne : Sources → Sources → Type 0
-LinkedTextsAreOne found other = IsFunctional other → ImportsAreApart found → (root : Path) (asked : List Name) (max : ℕ)
+LinkedTextsAreOne found other = ImportsAreApart found → (root : Path) (asked : List Name) (max : ℕ)
     → HasAskedUnits found root asked max other → (one two : List ℕ) → IsLinkedText found root asked max one → IsLinkedText other root asked max two
     → one ≡ two
 
