@@ -91,7 +91,7 @@ module _ (find : Loaded) where
   meant_unloaded : (m : Path) (s : Symbol) (o : Option Known) → meant_as find m o ≡ unloaded s → find s.home ≡ None
   meant_unloaded m s None e = absurd (cc)
   meant_unloaded m s (Some (declared j)) e = absurd (cc)
-  meant_unloaded m s (Some (imported t)) e = item_unloaded t s (find t.home) refl e
+  meant_unloaded m s (Some (imported t)) e = item_unloaded t.1 s (find t.1.home) refl e
   meant_unloaded m s (Some (bare y)) e = absurd (cc)
 
 pub all_sought : (ms : LoadedModules) (root : Path) (keep : List Name) (held : HeldNames) (asked : AskedNames) → IsClosed ms root keep held asked → AreSought ms asked
