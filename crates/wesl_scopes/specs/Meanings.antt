@@ -21,8 +21,7 @@ use Rattle.wesl_scopes.specs.declared.target.Meaning.TheVariants.{Declared, Impo
 abbrev pub Done : Type 0
 Done = Prim.Unit {0}
 
--- a module's declaration at this place, an item of another module and the path by which that is named, or an item that is named
--- with no module before it
+-- the module's declaration at this place, an item of the module that is named by this path, or an item with no module before it
 pub data Known : Type 0 where
   declared : ℕ → Known
   imported : ModulePath × Symbol → Known
