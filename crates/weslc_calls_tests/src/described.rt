@@ -73,6 +73,18 @@ impl Module {
         self.imports.iter().any(|import| import.1 == name)
     }
 
+    /// The names of its scope, in text order.
+    pub fn scope(&self, alloc: Global) -> Result<Vec<Name>, AllocError> {
+        let mut names = Vec::new(alloc);
+        for import in self.imports.iter() {
+            names.push(import.1)?;
+        }
+        for declaration in self.declarations.iter() {
+            names.push(declaration.name)?;
+        }
+        Ok(names)
+    }
+
     pub fn text(&self, alloc: Global) -> Result<String, AllocError> {
         let mut text = String::new(alloc);
         for (path, item) in self.imports.iter() {

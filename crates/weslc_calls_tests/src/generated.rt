@@ -3,14 +3,14 @@
 use crate::described::{Bundle, Declaration, Module, Name, PATHS, Piece};
 use std::alloc::{AllocError, Global};
 
+const ROOTS: [Name; 5] = ["package", "package", "package", "package", "package::m"];
+
 const NAMES: [Name; 7] = ["f", "b", "m_a", "a", "e", "d", "c"];
 
 /// Names that may not be in scope: some are built in, and some look as mangled names do.
-const STRANGE_NAMES: [Name; 9] = [
+const STRANGE_NAMES: [Name; 7] = [
     "a",
     "b",
-    "f",
-    "p",
     "u32",
     "package_a",
     "package_m_a",
@@ -35,7 +35,7 @@ const FUNCTIONS: [Name; 6] = [
 
 const RESULTS: [Name; 4] = ["", " -> i32", " -> ?", " -> @location(?) i32"];
 
-const EXPRESSIONS: [Name; 10] = [
+const EXPRESSIONS: [Name; 8] = [
     "1",
     "?",
     "? + 1",
@@ -43,9 +43,7 @@ const EXPRESSIONS: [Name; 10] = [
     "-? % 3i",
     "(? - 2u) * ?",
     "?(?, 3)",
-    "?() / ?",
-    "- -?",
-    "?(? * 4)",
+    "?() / - -?",
 ];
 
 /// What names a bundle takes.
@@ -61,8 +59,9 @@ pub enum Mood {
 
 #[derive(Drop)]
 struct Chance {
-    state: u64,
+    alloc: Global,
     mood: Mood,
+    state: u64,
 }
 
 /// The path of a module, and the names that it declares.
@@ -71,45 +70,29 @@ type Draft = (Name, Vec<Name>);
 /// The bundle of a number.
 pub fn bundle(alloc: Global, mood: Mood, seed: u64) -> Result<Bundle, AllocError> {
     let state = seed.wrapping_mul(0x9e37_79b9_7f4a_7c15);
-    let mut chance = Chance { state, mood };
-    let drafts = chance.drafts(alloc)?;
+    let mut chance = Chance { alloc, mood, state };
+    let drafts = chance.drafts()?;
     let mut modules = Vec::new(alloc);
     for (path, names) in drafts.iter() {
-        modules.push(chance.module(alloc, drafts.as_slice(), path, names.as_slice())?)?;
+        modules.push(chance.module(drafts.as_slice(), path, names.as_slice())?)?;
     }
-    let root = if chance.is_one_in(6) {
-        chance.of(&PATHS)
-    } else {
-        "package"
-    };
-    let keep = chance.kept(alloc, drafts.as_slice(), root)?;
-    let most = if chance.is_one_in(5) {
-        chance.below(4)
-    } else {
-        5
-    };
+    let root = chance.of(&ROOTS);
     Ok(Bundle {
         modules,
         root,
-        keep,
-        max_modules: most as u32,
+        keep: chance.kept(drafts.as_slice(), root)?,
+        max_modules: u32::try_from(chance.below(20)).unwrap_or(20),
     })
 }
 
 impl Chance {
     /// A number below this one, or 0 where there is none.
-    fn below(&mut self, limit: usize) -> usize
-        ensures { result < max limit 1 }
-    {
+    fn below(&mut self, limit: usize) -> usize {
         self.state = self
             .state
             .wrapping_mul(6_364_136_223_846_793_005)
             .wrapping_add(1_442_695_040_888_963_407);
-        if limit == 0 {
-            0
-        } else {
-            (self.state >> 33) as usize % limit
-        }
+        (self.state >> 33) as usize % limit.max(1)
     }
 
     fn is_one_in(&mut self, limit: usize) -> bool {
@@ -129,24 +112,19 @@ impl Chance {
         names.get(at).copied().unwrap_or("a")
     }
 
-    fn drafts(&mut self, alloc: Global) -> Result<Vec<Draft>, AllocError> {
-        let mut drafts = Vec::new(alloc);
+    fn drafts(&mut self) -> Result<Vec<Draft>, AllocError> {
+        let mut drafts = Vec::new(self.alloc);
         for path in PATHS {
-            let stands = if path == "package" {
-                !self.is_one_in(40)
-            } else {
-                self.is_one_in(2)
-            };
-            if stands && drafts.len() < 4 {
-                drafts.push((path, self.names(alloc)?))?;
+            if drafts.len() < 4 && (path == "package" || self.is_one_in(2)) {
+                drafts.push((path, self.names()?))?;
             }
         }
         Ok(drafts)
     }
 
     /// Names to be declared. A strange one may be there already.
-    fn names(&mut self, alloc: Global) -> Result<Vec<Name>, AllocError> {
-        let mut names = Vec::new(alloc);
+    fn names(&mut self) -> Result<Vec<Name>, AllocError> {
+        let mut names = Vec::new(self.alloc);
         for name in NAMES {
             if names.len() < 3 && self.is_one_in(2) {
                 names.push(name)?;
@@ -160,25 +138,24 @@ impl Chance {
 
     fn module(
         &mut self,
-        alloc: Global,
         drafts: &[Draft],
         path: Name,
         names: &[Name],
     ) -> Result<Module, AllocError> {
-        let mut scope = Vec::from_slice(alloc, names)?;
-        let mut imports = Vec::new(alloc);
+        let mut scope = Vec::from_slice(self.alloc, names)?;
+        let mut imports = Vec::new(self.alloc);
         for _ in 0..3 {
             let import = self.import(drafts);
-            if !is_among(import.1, scope.as_slice()) || self.is_wild_one_in(12) {
+            if !scope.iter().any(|name| *name == import.1) || self.is_wild_one_in(12) {
                 // Twice, so that it is taken more often.
                 scope.push(import.1)?;
                 scope.push(import.1)?;
                 imports.push(import)?;
             }
         }
-        let mut declarations = Vec::new(alloc);
+        let mut declarations = Vec::new(self.alloc);
         for name in names {
-            declarations.push(self.declaration(alloc, name, scope.as_slice())?)?;
+            declarations.push(self.declaration(name, scope.as_slice())?)?;
         }
         Ok(Module {
             path,
@@ -190,32 +167,17 @@ impl Chance {
     /// An item of a module that is there, or any.
     fn import(&mut self, drafts: &[Draft]) -> (Name, Name) {
         let at = self.below(drafts.len());
-        let Some((path, names)) = drafts.get(at) else {
-            return ("package", "a");
-        };
-        let item = if self.is_wild_one_in(3) {
-            self.of(&NAMES)
-        } else {
-            self.of(names.as_slice())
-        };
-        let home = if self.is_wild_one_in(5) {
-            self.of(&PATHS)
-        } else {
-            *path
-        };
-        (home, item)
+        match drafts.get(at) {
+            Some((path, names)) if !self.is_wild_one_in(3) => (*path, self.of(names.as_slice())),
+            _ => (self.of(&PATHS), self.of(&NAMES)),
+        }
     }
 
-    fn declaration(
-        &mut self,
-        alloc: Global,
-        name: Name,
-        scope: &[Name],
-    ) -> Result<Declaration, AllocError> {
+    fn declaration(&mut self, name: Name, scope: &[Name]) -> Result<Declaration, AllocError> {
         let mut made = Declaration {
             name,
             is_entry_point: false,
-            pieces: Vec::new(alloc),
+            pieces: Vec::new(self.alloc),
         };
         let value = self.of(&EXPRESSIONS);
         if self.is_one_in(2) {
@@ -228,11 +190,7 @@ impl Chance {
         made.is_entry_point = head.find("@fragment").is_some();
         self.add(&mut made, head, scope, false)?;
         self.add(&mut made, kind, scope, false)?;
-        for form in if self.is_one_in(8) {
-            [" {}\n", "", ""]
-        } else {
-            [" {\n    return ", value, ";\n}\n"]
-        } {
+        for form in [" {\n    return ", value, ";\n}\n"] {
             self.add(&mut made, form, scope, true)?;
         }
         Ok(made)
@@ -270,20 +228,12 @@ impl Chance {
         }
     }
 
-    /// Some of the root's names, now and then another name, or none.
-    fn kept(
-        &mut self,
-        alloc: Global,
-        drafts: &[Draft],
-        root: Name,
-    ) -> Result<Vec<Name>, AllocError> {
-        let mut keep = Vec::new(alloc);
-        if self.is_one_in(6) {
-            return Ok(keep);
-        }
+    /// Some of the root's names or none, now and then another name.
+    fn kept(&mut self, drafts: &[Draft], root: Name) -> Result<Vec<Name>, AllocError> {
+        let mut keep = Vec::new(self.alloc);
         for (path, names) in drafts {
             for name in names.iter() {
-                if *path == root && !self.is_one_in(3) {
+                if *path == root && self.is_one_in(2) {
                     keep.push(*name)?;
                 }
             }
@@ -293,8 +243,4 @@ impl Chance {
         }
         Ok(keep)
     }
-}
-
-fn is_among(name: Name, names: &[Name]) -> bool {
-    names.iter().any(|other| *other == name)
 }

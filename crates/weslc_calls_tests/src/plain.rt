@@ -44,15 +44,18 @@ enum Meaning {
     Fixed(char),
     Local(Name),
     Denotes(Symbol),
-    Missing(Symbol),
-    Private(Symbol),
+    Refused(Variant, Symbol),
     Unloaded(Symbol),
     Free(Name),
 }
 
+/// A piece of a declaration, and what it says.
+type Said<'a> = (&'a Declaration, Piece, Meaning);
+
 /// The modules that are loaded, and what is reached in them.
 #[derive(Drop)]
 struct Linking<'a> {
+    alloc: Global,
     bundle: &'a Bundle,
     loaded: Vec<Name>,
     reached: Vec<Symbol>,
@@ -61,31 +64,32 @@ struct Linking<'a> {
 /// The text that a bundle is linked into, or the first refusal.
 pub fn linked(alloc: Global, bundle: &Bundle) -> Result<String, Refusal> {
     let mut linking = Linking {
+        alloc,
         bundle,
         loaded: Vec::new(alloc),
         reached: Vec::new(alloc),
     };
-    linking.load(alloc, bundle.root)?;
+    linking.load(bundle.root)?;
     linking.keep()?;
     // No bundle has so many modules.
     for _ in 0..100u8 {
-        linking.reach(alloc)?;
-        linking.refuse_first(alloc)?;
-        let asked = linking.asked(alloc)?;
+        linking.reach()?;
+        linking.refuse_first()?;
+        let asked = linking.asked()?;
         if asked.is_empty() {
             break;
         }
         for path in asked {
-            linking.load(alloc, path)?;
+            linking.load(path)?;
         }
     }
-    linking.refuse_clash(alloc)?;
-    Ok(linking.text(alloc)?)
+    linking.refuse_clash()?;
+    Ok(linking.text()?)
 }
 
 impl<'a> Linking<'a> {
     /// Loads a module, unless it is one too many, not there, or has a name twice.
-    fn load(&mut self, alloc: Global, path: Name) -> Result<(), Refusal> {
+    fn load(&mut self, path: Name) -> Result<(), Refusal> {
         if self.loaded.len() as u64 >= self.bundle.max_modules as u64 {
             return Err(Refusal::Told(Variant::TooManyModules, path, ""));
         }
@@ -93,13 +97,12 @@ impl<'a> Linking<'a> {
         let Some(module) = self.module(path) else {
             return Err(Refusal::Told(Variant::ModuleNotFound, path, ""));
         };
-        let mut scope = Vec::new(alloc);
-        let imported = module.imports.iter().map(|import| import.1);
-        for name in imported.chain(module.declarations.iter().map(|d| d.name)) {
-            if scope.iter().any(|other| *other == name) {
+        let mut seen: Vec<Name> = Vec::new(self.alloc);
+        for name in module.scope(self.alloc)? {
+            if seen.iter().any(|other| *other == name) {
                 return Err(Refusal::Told(Variant::DuplicateSymbol, path, name));
             }
-            scope.push(name)?;
+            seen.push(name)?;
         }
         Ok(())
     }
@@ -118,20 +121,18 @@ impl<'a> Linking<'a> {
     /// Begins with the names that are asked for or, where none is, the entry points of the root.
     fn keep(&mut self) -> Result<(), Refusal> {
         let (bundle, root) = (self.bundle, self.bundle.root);
+        let Some(module) = self.module(root) else {
+            return Ok(());
+        };
         for name in bundle.keep.iter() {
-            if !self
-                .module(root)
-                .is_some_and(|module| module.declares(*name))
-            {
-                return Err(Refusal::Told(Variant::MissingDecl, root, *name));
+            if !module.declares(name) {
+                return Err(Refusal::Told(Variant::MissingDecl, root, name));
             }
-            self.add((root, *name))?;
+            self.add((root, name))?;
         }
-        if let Some(module) = self.module(root) {
-            for declaration in module.declarations.iter() {
-                if bundle.keep.is_empty() && declaration.is_entry_point {
-                    self.add((root, declaration.name))?;
-                }
+        for declaration in module.declarations.iter() {
+            if bundle.keep.is_empty() && declaration.is_entry_point {
+                self.add((root, declaration.name))?;
             }
         }
         Ok(())
@@ -161,18 +162,14 @@ impl<'a> Linking<'a> {
         match self.module(import.0) {
             None => Meaning::Unloaded(*import),
             Some(target) if target.declares(name) => Meaning::Denotes(*import),
-            Some(target) if target.imports(name) => Meaning::Private(*import),
-            Some(_) => Meaning::Missing(*import),
+            Some(target) if target.imports(name) => Meaning::Refused(Variant::Private, *import),
+            Some(_) => Meaning::Refused(Variant::MissingDecl, *import),
         }
     }
 
     /// The pieces of the reached declarations of these modules, in text order, each with what it says.
-    fn pieces(
-        &self,
-        alloc: Global,
-        order: &[Name],
-    ) -> Result<Vec<(&'a Declaration, Piece, Meaning)>, AllocError> {
-        let mut pieces = Vec::new(alloc);
+    fn pieces(&self, order: &[Name]) -> Result<Vec<Said<'a>>, AllocError> {
+        let mut pieces = Vec::new(self.alloc);
         for home in order {
             let Some(module) = self.module(*home) else {
                 continue;
@@ -198,10 +195,10 @@ impl<'a> Linking<'a> {
     }
 
     /// Adds what the reached declarations lead to, until that adds nothing. No bundle has so many declarations.
-    fn reach(&mut self, alloc: Global) -> Result<(), AllocError> {
+    fn reach(&mut self) -> Result<(), AllocError> {
         for _ in 0..100u8 {
             let before = self.reached.len();
-            for (_, _, meaning) in self.pieces(alloc, &PATHS)? {
+            for (_, _, meaning) in self.pieces(&PATHS)? {
                 if let Meaning::Denotes(symbol) = meaning {
                     self.add(symbol)?;
                 }
@@ -214,25 +211,19 @@ impl<'a> Linking<'a> {
     }
 
     /// Refuses the first occurrence that denotes nothing, by the paths of the modules.
-    fn refuse_first(&self, alloc: Global) -> Result<(), Refusal> {
-        for (_, _, meaning) in self.pieces(alloc, &PATHS)? {
-            match meaning {
-                Meaning::Missing((home, name)) => {
-                    return Err(Refusal::Told(Variant::MissingDecl, home, name));
-                }
-                Meaning::Private((home, name)) => {
-                    return Err(Refusal::Told(Variant::Private, home, name));
-                }
-                _ => {}
+    fn refuse_first(&self) -> Result<(), Refusal> {
+        for (_, _, meaning) in self.pieces(&PATHS)? {
+            if let Meaning::Refused(variant, (home, name)) = meaning {
+                return Err(Refusal::Told(variant, home, name));
             }
         }
         Ok(())
     }
 
     /// The modules that are asked for, in the order of their paths.
-    fn asked(&self, alloc: Global) -> Result<Vec<Name>, AllocError> {
-        let mut paths = Vec::new(alloc);
-        let pieces = self.pieces(alloc, &PATHS)?;
+    fn asked(&self) -> Result<Vec<Name>, AllocError> {
+        let mut paths = Vec::new(self.alloc);
+        let pieces = self.pieces(&PATHS)?;
         for path in PATHS {
             if pieces.iter().any(|piece| match piece.2 {
                 Meaning::Unloaded(symbol) => symbol.0 == path,
@@ -245,25 +236,22 @@ impl<'a> Linking<'a> {
     }
 
     /// The pieces of the linked text: the root's first.
-    fn linked_pieces(
-        &self,
-        alloc: Global,
-    ) -> Result<Vec<(&'a Declaration, Piece, Meaning)>, AllocError> {
-        let mut order = Vec::new(alloc);
+    fn linked_pieces(&self) -> Result<Vec<Said<'a>>, AllocError> {
+        let mut order = Vec::new(self.alloc);
         order.push(self.bundle.root)?;
         for path in PATHS {
             if path != self.bundle.root {
                 order.push(path)?;
             }
         }
-        self.pieces(alloc, order.as_slice())
+        self.pieces(order.as_slice())
     }
 
     /// The name of a symbol in the linked text.
-    fn printed(&self, alloc: Global, symbol: Symbol) -> Result<String, AllocError> {
+    fn printed(&self, symbol: Symbol) -> Result<String, AllocError> {
         let (home, name) = symbol;
         let start = match home {
-            home if home == self.bundle.root => return String::from_str(alloc, name),
+            home if home == self.bundle.root => return String::from_str(self.alloc, name),
             "package" => "package",
             "package::m" => "package_m",
             "package::m::n" => "package_m_n",
@@ -271,16 +259,16 @@ impl<'a> Linking<'a> {
             _ => "package_o",
         };
         match name.bytes().filter(|b| *b == b'_').count() {
-            0 => format!(in alloc; "{start}_{name}"),
-            count => format!(in alloc; "{start}__{count}{name}"),
+            0 => format!(in self.alloc; "{start}_{name}"),
+            count => format!(in self.alloc; "{start}__{count}{name}"),
         }
     }
 
     /// How many reached symbols have a name in the linked text.
-    fn holders(&self, alloc: Global, name: &str) -> Result<u32, AllocError> {
+    fn holders(&self, name: &str) -> Result<u32, AllocError> {
         let mut holders = 0u32;
         for symbol in self.reached.iter() {
-            if self.printed(alloc, *symbol)?.as_str() == name {
+            if self.printed(*symbol)?.as_str() == name {
                 holders = holders.saturating_add(1);
             }
         }
@@ -289,20 +277,20 @@ impl<'a> Linking<'a> {
 
     /// Refuses the first name that is read otherwise than meant: one that two symbols have, or that a parameter hides, or
     /// a free one that a symbol has.
-    fn refuse_clash(&self, alloc: Global) -> Result<(), Refusal> {
-        for (declaration, piece, meaning) in self.linked_pieces(alloc)? {
+    fn refuse_clash(&self) -> Result<(), Refusal> {
+        for (declaration, piece, meaning) in self.linked_pieces()? {
             let is_inside = matches!(piece, Piece::Inside(_));
             match meaning {
                 Meaning::Denotes(symbol) => {
-                    let name = self.printed(alloc, symbol)?;
+                    let name = self.printed(symbol)?;
                     let is_hidden = is_inside && declaration.hides(name.as_str());
-                    if is_hidden || self.holders(alloc, name.as_str())? > 1 {
+                    if is_hidden || self.holders(name.as_str())? > 1 {
                         return Err(Refusal::NameClash(name));
                     }
                 }
                 Meaning::Free(name) => {
-                    if self.holders(alloc, name)? > 0 {
-                        return Err(Refusal::NameClash(String::from_str(alloc, name)?));
+                    if self.holders(name)? > 0 {
+                        return Err(Refusal::NameClash(String::from_str(self.alloc, name)?));
                     }
                 }
                 _ => {}
@@ -312,14 +300,14 @@ impl<'a> Linking<'a> {
     }
 
     /// The linked text.
-    fn text(&self, alloc: Global) -> Result<String, AllocError> {
-        let mut text = String::new(alloc);
-        for (_, _, meaning) in self.linked_pieces(alloc)? {
+    fn text(&self) -> Result<String, AllocError> {
+        let mut text = String::new(self.alloc);
+        for (_, _, meaning) in self.linked_pieces()? {
             match meaning {
                 Meaning::Fixed(c) => text.push(c)?,
                 Meaning::Local(name) | Meaning::Free(name) => text.push_str(name)?,
-                Meaning::Denotes(symbol) => text.push_str(self.printed(alloc, symbol)?.as_str())?,
-                Meaning::Missing(_) | Meaning::Private(_) | Meaning::Unloaded(_) => {}
+                Meaning::Denotes(symbol) => text.push_str(self.printed(symbol)?.as_str())?,
+                Meaning::Refused(_, _) | Meaning::Unloaded(_) => {}
             }
         }
         Ok(text)
