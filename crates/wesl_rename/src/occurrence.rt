@@ -250,7 +250,7 @@ fn add_type<'a>(
     }
     match &ty.template_args {
         None => Ok(()),
-        Some(arguments) => add_template(found, scope, arguments.as_slice()),
+        Some(arguments) => add_template(found, scope, arguments.get().as_slice()),
     }
 }
 

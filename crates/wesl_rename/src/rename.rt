@@ -12,7 +12,7 @@ ghost use Rattle.wesl_rename.specs.Renaming.{renamed_at};
 use crate::naming::{BodyNaming, Naming};
 use crate::scope::Scope;
 use std::alloc::{AllocError, Global};
-use wgsl_items::{CloneIn, Items, Text};
+use wgsl_items::{Boxed, CloneIn, Items, Text};
 use wgsl_path::{Ident, Spanned};
 use wgsl_syntax::{
     Attribute, AttributeNode, Attributes, BinaryExpression, CompoundStatement, Declaration,
@@ -177,7 +177,7 @@ fn renamed_block<N: Naming>(
 fn renamed_name<N: Naming>(
     alloc: Global,
     naming: &N,
-    path: &Option<ModulePath>,
+    path: &Option<Boxed<ModulePath>>,
     name: &str,
 ) -> Result<Text, AllocError>
     ensures { IfOk result (λ new. new ≡ renamed_at (N.gives naming.now) path.now name.now) }
@@ -377,7 +377,10 @@ fn renamed_maybe_template<N: Naming>(
 {
     match arguments {
         None => Ok(None),
-        Some(arguments) => Ok(Some(renamed_template(alloc, naming, arguments.as_slice())?)),
+        Some(arguments) => {
+            let renamed = renamed_template(alloc, naming, arguments.get().as_slice())?;
+            Ok(Some(Boxed::new(alloc, renamed)?))
+        }
     }
 }
 

@@ -69,7 +69,11 @@ fn import_meaning(alloc: Global, import: &ImportStatement) -> Result<Meaning, Al
 {
     match &import.content {
         ImportContent::Item(item) => match &import.path {
-            Some(module) => Ok(Meaning::Imported(Target::new(alloc, module, &item.ident.name)?)),
+            Some(module) => Ok(Meaning::Imported(Target::new(
+                alloc,
+                module.get(),
+                &item.ident.name,
+            )?)),
             None => Ok(Meaning::Bare(item.ident.name.clone_in(alloc)?)),
         },
     }

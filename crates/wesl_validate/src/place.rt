@@ -10,7 +10,7 @@ ghost use Rattle.wesl_validate.specs.Lookups.{lookup, local_names, trees};
 
 use std::alloc::{AllocError, Global};
 use std::collections::HashMap;
-use wgsl_items::{CloneIn, Items, Text};
+use wgsl_items::{Boxed, CloneIn, Items, Text};
 use wgsl_syntax::{
     Attribute, Attributes, CompoundStatement, Declaration, Expression, ExpressionNode,
     FormalParameter, Function, FunctionCall, GlobalDeclaration, GlobalDeclarationNode, Ident,
@@ -75,7 +75,7 @@ fn add_name(
     alloc: Global,
     index: &Index<'_>,
     locals: &[FormalParameter],
-    path: &Option<ModulePath>,
+    path: &Option<Boxed<ModulePath>>,
     ident: &Ident,
     arguments: Option<usize>,
     places: &mut Items<Place>,
@@ -191,7 +191,13 @@ fn add_type(
     match &ty.template_args {
         None => Ok(()),
         Some(template_arguments) => {
-            add_template_arguments(alloc, index, locals, template_arguments.as_slice(), places)
+            add_template_arguments(
+                alloc,
+                index,
+                locals,
+                template_arguments.get().as_slice(),
+                places,
+            )
         }
     }
 }

@@ -95,10 +95,14 @@ impl<T> Items<T> {
 
 impl<T: Drop> Items<T> {
     /// Adds an element at the end. Where memory is refused the list is unchanged and the element dropped.
+    /// The first element takes room for itself alone, since most lists in a tree have no other.
     pub fn push(&mut self, item: T) -> Result<(), AllocError>
         ensures ok { OnOk result (self.new ≡ self.old ++ item ∷ []) }
         ensures err { OnErr result (self.new ≡ self.old) }
     {
+        if self.is_empty() {
+            self.items.reserve_exact(1)?;
+        }
         self.items.push(item)?;
         Ok(())
     }

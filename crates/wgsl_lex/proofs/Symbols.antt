@@ -13,6 +13,7 @@ use Rattle.wgsl_token.specs.declared.token.Fixed.{Fixed}
 use Rattle.wgsl_token.specs.Spelling.{spelling}
 use Rattle.wgsl_lex.specs.declared.symbol.TheConstants.{ONE, TWO, THREE}
 use Rattle.wgsl_lex.specs.Tokens.{all_fixed, fixed_of}
+use Rattle.wgsl_lex.specs.Pieces.{is_second}
 use Rattle.wgsl_lex.proofs.Bools.{both, either, not_both, is_number}
 use Rattle.wgsl_lex.proofs.Tables.{find_found, find_all, fixed_passes, no_fixed, fixed_of-spelling}
 
@@ -92,6 +93,16 @@ two_is c d starts =
           let h1 : (x.1 == d) ≡ true = let h : x.1 ≡ d = cc in (Decides-eqb x.1 d).1 h in
           rw (h0, h1),
     )) refl (λ g e. rw starts at (fixed_passes listed_2 spellings_listed_2 (c ∷ d ∷ []) g e))
+
+pub not_second : (c d : ℕ) → is_second d ≡ false → option_map (λ x. x.2) (find (λ x. (x.0 == c) && (x.1 == d)) TWO) ≡ None
+not_second c d fail =
+    elim (find (λ x. (x.0 == c) && (x.1 == d)) TWO) as (λ o. find (λ x. (x.0 == c) && (x.1 == d)) TWO ≡ o → option_map (λ x. x.2) o ≡ None) [
+      | None ↦ λ _. refl
+      | Some x ↦ λ found.
+          let passes : is_second x.1 ≡ true = find_all (λ y. (y.0 == c) && (y.1 == d)) (λ y. is_second y.1) TWO x refl found in
+          let parts = both (x.0 == c) (x.1 == d) (find_found (λ y. (y.0 == c) && (y.1 == d)) TWO x found) in
+          absurd (not_both (is_second d) (ap is_second (sym (is_number x.1 d parts.1)) ∙ passes) fail)
+    ] refl
 
 -- Three
 

@@ -20,7 +20,7 @@ use Rattle.wgsl_token.specs.Spelling.{spelling}
 use Rattle.wgsl_lex.specs.declared.word.TheConstants.{WORDS}
 use Rattle.wgsl_lex.specs.Tokens.{all_fixed, fixed_of, reserved_words, is_reserved, is_word, begins_with_two_underscores, word_token, token_form}
 use Rattle.wgsl_lex.specs.Rows.{ascends, IsFound, found, missing}
-use Rattle.wgsl_lex.specs.Pieces.{IsListed, listed, unlisted, is_meaning}
+use Rattle.wgsl_lex.specs.Pieces.{IsListed, listed, unlisted, is_meaning, is_listable}
 use Rattle.wgsl_lex.proofs.Bools.{both, either, not_both, fails}
 use Rattle.wgsl_lex.proofs.Tables.{fixed_passes, no_fixed, fixed_of-spelling}
 
@@ -113,15 +113,25 @@ own_text cs e = (bytes_eq-Decides (encode_utf8_all cs) cs).0 e
 fixed_own : (fixed : FixedToken) → encode_utf8_all (spelling fixed) ≡ spelling fixed
 fixed_own fixed = own_text (spelling fixed) (fixed_passes is_own_text fixed_are_own (spelling fixed) fixed (fixed_of-spelling fixed))
 
-any_passes : (p : List ℕ → Bool) (xs : List (List ℕ)) (cs : List ℕ) → list_all p xs ≡ true → list_any (λ w. bytes_eq w cs) xs ≡ true → p cs ≡ true
-any_passes p [] cs all e = cc
-any_passes p (x ∷ xs) cs all e =
-    let here = both (p x) (list_all p xs) all in
-    elim (either (bytes_eq x cs) (list_any (λ w. bytes_eq w cs) xs) e) [ inl same ↦ ap p (sym ((bytes_eq-Decides x cs).0 same)) ∙ here.0 | inr later ↦ any_passes p xs cs here.1 later ]
+any_passes : {X : Type 0} (spelled : X → List ℕ) (p : List ℕ → Bool) (xs : List X) (cs : List ℕ) → list_all (λ x. p (spelled x)) xs ≡ true
+    → list_any (λ x. bytes_eq (spelled x) cs) xs ≡ true → p cs ≡ true
+any_passes spelled p [] cs all e = cc
+any_passes spelled p (x ∷ xs) cs all e =
+    let here = both (p (spelled x)) (list_all (λ y. p (spelled y)) xs) all in
+    elim (either (bytes_eq (spelled x) cs) (list_any (λ y. bytes_eq (spelled y) cs) xs) e) [
+      | inl same ↦ ap p (sym ((bytes_eq-Decides (spelled x) cs).0 same)) ∙ here.0
+      | inr later ↦ any_passes spelled p xs cs here.1 later
+    ]
+
+rows_listable : list_all (λ e. is_listable e.0.now) WORDS ≡ true
+rows_listable = refl
+
+pub not_listable : (word : List ℕ) → is_listable word ≡ false → has_row word ≡ false
+not_listable word fail = fails (has_row word) (λ there. not_both (is_listable word) (any_passes (λ e. e.0.now) is_listable WORDS word rows_listable there) fail)
 
 reserved_passes : (p : List ℕ → Bool) → list_all p reserved_words ≡ true → (cs : List ℕ) → is_reserved cs ≡ true → p cs ≡ true
 unfolding is_reserved
-reserved_passes p all cs e = any_passes p reserved_words cs all e
+reserved_passes p all cs e = any_passes (λ w. w) p reserved_words cs all e
 
 -- The token of a word, from its row. Its text is b.
 

@@ -1,5 +1,5 @@
 -- What stands at the front of some characters.
-use Rattle.std.specs.Prelude.{◌≡◌, ℕ, ◌≤◌, ◌+◌, Bool, true, false, ◌&&◌, ◌||◌, ◌==◌, List, [], ◌∷◌, length, take, drop, Option, Some, None, MatchOption, is_none}
+use Rattle.std.specs.Prelude.{◌≡◌, ℕ, ◌≤◌, ◌+◌, Bool, true, false, ◌&&◌, ◌||◌, ◌==◌, not, nat_lt, List, [], ◌∷◌, length, take, drop, Option, Some, None, MatchOption, is_none}
 use Rattle.std.specs.List.{list_any}
 use Rattle.std.specs.Char.{is_ascii_digit, is_ascii_hexdigit}
 use Rattle.std.specs.Str.{bytes_eq}
@@ -40,6 +40,10 @@ pub record BeginsNothingElse (c : ℕ) (behind : List ℕ) : Type 0 where
   pub word : opens_word c behind ≡ false
   pub digit : is_ascii_digit c ≡ false
 
+-- a symbol of two characters ends in it
+abbrev pub is_second : ℕ → Bool
+is_second c = (c == 38) || (c == 43) || (c == 45) || (c == 58) || (c == 60) || (c == 61) || (c == 62) || (c == 124)
+
 -- the token that the first two, or three, characters spell
 abbrev pub spelled_by_two : ℕ → List ℕ → Option Fixed
 spelled_by_two c [] = None
@@ -77,6 +81,10 @@ IsHexadecimalAnswer behind answer = MatchOption answer (goes_on behind ≡ false
 abbrev pub is_meaning : List ℕ → Option Fixed → Bool
 is_meaning word (Some fixed) = bytes_eq (spelling fixed) word
 is_meaning word None = is_reserved word && is_none (fixed_of word)
+
+-- two bytes at least, and no digit among them
+abbrev pub is_listable : List ℕ → Bool
+is_listable word = nat_lt 1 (length word) && not (list_any is_ascii_digit word)
 
 -- what the table has of a word: its meaning, or no row
 pub data IsListed (word : List ℕ) : Option (Option Fixed) → Type 0 where

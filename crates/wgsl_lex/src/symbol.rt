@@ -3,37 +3,38 @@
 ghost use Rattle.std.specs.Prelude.{◌≡◌, ◌≤◌, ◌+◌, ◌==◌, ◌&&◌, ◌∷◌, length, find, Some, false};
 ghost use Rattle.std.specs.Option.{option_map};
 ghost use Rattle.unicode_ident.specs.Ident.{is_xid_start};
-ghost use Rattle.wgsl_lex.specs.Pieces.{StandsFirst, BeginsNothingElse, spelled_by_two, spelled_by_three};
+ghost use Rattle.wgsl_lex.specs.Pieces.{StandsFirst, BeginsNothingElse, is_second, spelled_by_two, spelled_by_three};
 
 use crate::piece::Piece;
 use wgsl_token::{Fixed, Token};
 
+/// The most frequent ones first.
 static ONE: [(char, Fixed); 25] = [
-    ('&', Fixed::And),
-    ('@', Fixed::Attr),
-    ('/', Fixed::ForwardSlash),
-    ('!', Fixed::Bang),
-    ('[', Fixed::BracketLeft),
-    (']', Fixed::BracketRight),
-    ('{', Fixed::BraceLeft),
-    ('}', Fixed::BraceRight),
-    (':', Fixed::Colon),
-    (',', Fixed::Comma),
-    ('=', Fixed::Equal),
-    ('>', Fixed::GreaterThan),
-    ('<', Fixed::LessThan),
-    ('%', Fixed::Modulo),
-    ('-', Fixed::Minus),
-    ('.', Fixed::Period),
-    ('+', Fixed::Plus),
-    ('|', Fixed::Or),
     ('(', Fixed::ParenLeft),
     (')', Fixed::ParenRight),
+    (',', Fixed::Comma),
     (';', Fixed::Semicolon),
+    (':', Fixed::Colon),
     ('*', Fixed::Star),
-    ('~', Fixed::Tilde),
+    ('+', Fixed::Plus),
+    ('-', Fixed::Minus),
+    ('=', Fixed::Equal),
+    ('.', Fixed::Period),
+    ('{', Fixed::BraceLeft),
+    ('}', Fixed::BraceRight),
+    ('/', Fixed::ForwardSlash),
+    ('<', Fixed::LessThan),
+    ('>', Fixed::GreaterThan),
+    ('@', Fixed::Attr),
+    ('[', Fixed::BracketLeft),
+    (']', Fixed::BracketRight),
+    ('%', Fixed::Modulo),
+    ('&', Fixed::And),
+    ('|', Fixed::Or),
+    ('!', Fixed::Bang),
     ('_', Fixed::Underscore),
     ('^', Fixed::Xor),
+    ('~', Fixed::Tilde),
 ];
 
 static TWO: [(char, char, Fixed); 20] = [
@@ -122,9 +123,19 @@ fn one(first: char) -> Option<Fixed>
 fn two(first: char, second: char) -> Option<Fixed>
     ensures { result ≡ option_map (λ entry. entry.2) (find (λ entry. (entry.0 == first) && (entry.1 == second)) TWO) }
 {
+    if !is_second(second) {
+        return None;
+    }
     TWO.iter()
         .find(|entry| entry.0 == first && entry.1 == second)
         .map(|entry| entry.2)
+}
+
+/// Whether a symbol of two characters ends in this one.
+fn is_second(second: char) -> bool
+    ensures { result ≡ is_second second }
+{
+    matches!(second, '&' | '+' | '-' | ':' | '<' | '=' | '>' | '|')
 }
 
 /// The symbol of these three characters.

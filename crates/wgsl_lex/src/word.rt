@@ -4,7 +4,9 @@ ghost use Rattle.std.specs.Prelude.{◌≡◌, ◌∷◌, true, Some, IfOk};
 ghost use Rattle.std.specs.Str.{encode_utf8_all};
 ghost use Rattle.wgsl_lex.specs.Tokens.{is_word, begins_with_two_underscores, token_form};
 ghost use Rattle.wgsl_lex.specs.Rows.{ascends, IsFound};
-ghost use Rattle.wgsl_lex.specs.Pieces.{IsListed, opens_word, begins_with_continue};
+ghost use Rattle.std.specs.List.{list_any};
+ghost use Rattle.std.specs.Char.{is_ascii_digit};
+ghost use Rattle.wgsl_lex.specs.Pieces.{IsListed, is_listable, opens_word, begins_with_continue};
 
 use std::alloc::{AllocError, Global};
 use unicode_ident::{is_xid_continue, is_xid_start};
@@ -234,7 +236,23 @@ fn is_underscored(first: char, behind: &[char]) -> bool
 fn listed(word: &str) -> Option<Option<Fixed>>
     ensures { IsListed word.now result }
 {
+    if !is_listable(word) {
+        return None;
+    }
     found(&WORDS, word)
+}
+
+/// Whether a word is spelled as those of the table are: in two bytes at least, and without digits.
+fn is_listable(word: &str) -> bool
+    ensures { result ≡ is_listable word.now }
+{
+    word.len() > 1 && !has_digit(word)
+}
+
+fn has_digit(word: &str) -> bool
+    ensures { result ≡ list_any is_ascii_digit word.now }
+{
+    word.as_bytes().iter().any(|byte| byte.is_ascii_digit())
 }
 
 /// What a table in order has of a word.
@@ -252,7 +270,7 @@ fn found(table: &[(&str, Option<Fixed>)], word: &str) -> Option<Option<Fixed>>
 fn text_of(alloc: Global, first: char, behind: &[char]) -> Result<Text, AllocError>
     ensures { IfOk result (λ text. text ≡ encode_utf8_all (first ∷ behind.now)) }
 {
-    let mut text = String::new(alloc);
+    let mut text = String::with_capacity(alloc, 1 + behind.len())?;
     text.push(first)?;
     for character in behind {
         text.push(*character)?;

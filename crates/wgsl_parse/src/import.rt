@@ -8,7 +8,7 @@ ghost use Rattle.wgsl_parse.specs.Follow.{ends_path, ends_imports};
 ghost use Rattle.wgsl_parse.specs.Rests.{IsItemPath, ImportRest};
 
 use crate::cursor::Cursor;
-use wgsl_items::{Items, Text};
+use wgsl_items::{Boxed, Items, Text};
 use wgsl_path::{Ident, ModulePath, PathOrigin};
 use wgsl_phrases::Stop;
 use wgsl_syntax::{ImportContent, ImportItem, ImportStatement};
@@ -47,13 +47,17 @@ fn import(cursor: &mut Cursor<'_>) -> Result<ImportStatement, Stop>
     let path = item_path(cursor)?;
     cursor.expect(Fixed::Semicolon)?;
     let ItemPath { components, ident } = path;
+    let module_path = Boxed::new(
+        cursor.alloc(),
+        ModulePath::new(PathOrigin::Absolute, components),
+    )?;
     let item = ImportItem {
         ident,
         rename: None,
     };
     Ok(ImportStatement {
         attributes: Items::new(cursor.alloc()),
-        path: Some(ModulePath::new(PathOrigin::Absolute, components)),
+        path: Some(module_path),
         content: ImportContent::Item(item),
     })
 }

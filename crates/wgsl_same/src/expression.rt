@@ -99,7 +99,7 @@ fn is_same_type_in(a: &TypeExpression, b: &TypeExpression) -> bool
         },
         Some(x) => match &b.template_args {
             None => false,
-            Some(y) => is_same_arguments(x.as_slice(), y.as_slice()),
+            Some(y) => is_same_arguments(x.get().as_slice(), y.get().as_slice()),
         },
     }
 }

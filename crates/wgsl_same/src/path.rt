@@ -2,7 +2,7 @@
 
 ghost use Rattle.std.specs.Prelude.{◌≡◌, ◌↔◌, IsTrue};
 
-use wgsl_items::Text;
+use wgsl_items::{Boxed, Text};
 use wgsl_path::{Ident, ModulePath, PathOrigin};
 
 fn is_same_text(a: &Text, b: &Text) -> bool
@@ -57,7 +57,7 @@ fn is_same_path(a: &ModulePath, b: &ModulePath) -> bool
         && are_same_texts(a.components.as_slice(), b.components.as_slice())
 }
 
-pub fn is_same_optional_path(a: &Option<ModulePath>, b: &Option<ModulePath>) -> bool
+pub fn is_same_optional_path(a: &Option<Boxed<ModulePath>>, b: &Option<Boxed<ModulePath>>) -> bool
     ensures { IsTrue result ↔ (a.now ≡ b.now) }
 {
     match a {
@@ -66,7 +66,7 @@ pub fn is_same_optional_path(a: &Option<ModulePath>, b: &Option<ModulePath>) -> 
             Some(_) => false,
         },
         Some(x) => match b {
-            Some(y) => is_same_path(x, y),
+            Some(y) => is_same_path(x.get(), y.get()),
             None => false,
         },
     }

@@ -11,7 +11,7 @@ use crate::import::{ImportContent, ImportItem, ImportStatement};
 use crate::statement::{CompoundStatement, ReturnStatement, Statement};
 use crate::unit::TranslationUnit;
 use std::alloc::{AllocError, Global};
-use wgsl_items::{CloneIn, Items};
+use wgsl_items::{Boxed, CloneIn, Items};
 use wgsl_path::Spanned;
 
 #[cycle(copy)]
@@ -81,7 +81,10 @@ fn copied_type(x: &TypeExpression, alloc: Global) -> Result<TypeExpression, Allo
 {
     let template_args = match &x.template_args {
         None => None,
-        Some(arguments) => Some(copied_arguments(arguments.as_slice(), alloc)?),
+        Some(arguments) => Some(Boxed::new(
+            alloc,
+            copied_arguments(arguments.get().as_slice(), alloc)?,
+        )?),
     };
     Ok(TypeExpression {
         path: x.path.clone_in(alloc)?,

@@ -1,7 +1,7 @@
 //! Expressions (WGSL, "Expressions"). A struct that a variant of `Expression` holds is generic in it, so that the cycle of
 //! types has one member; the plain names are aliases.
 
-use wgsl_items::Items;
+use wgsl_items::{Boxed, Items};
 use wgsl_operators::{BinaryOperator, UnaryOperator};
 use wgsl_path::{Ident, ModulePath, Spanned};
 
@@ -28,7 +28,7 @@ pub type TypeExpression = TypeExpressionOf<Expression>;
 
 pub type TemplateArg = TemplateArgOf<Expression>;
 
-pub type TemplateArgs = Option<Items<TemplateArg>>;
+pub type TemplateArgs = Option<Boxed<Items<TemplateArg>>>;
 
 /// An expression.
 #[derive(Debug, Drop, PartialEq)]
@@ -72,9 +72,9 @@ pub struct FunctionCallOf<E> {
 /// A name, maybe behind the path of a module and with template arguments: a type, a callee or an identifier.
 #[derive(Debug, Drop, PartialEq)]
 pub struct TypeExpressionOf<E> {
-    pub path: Option<ModulePath>,
+    pub path: Option<Boxed<ModulePath>>,
     pub ident: Ident,
-    pub template_args: Option<Items<TemplateArgOf<E>>>,
+    pub template_args: Option<Boxed<Items<TemplateArgOf<E>>>>,
 }
 
 /// A template argument.

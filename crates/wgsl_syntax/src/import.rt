@@ -1,13 +1,14 @@
 //! Imports (WESL, "Imports").
 
 use crate::declaration::Attributes;
+use wgsl_items::Boxed;
 use wgsl_path::{Ident, ModulePath};
 
 /// `import`, the path of a module, and what is taken from there.
 #[derive(Debug, Drop, PartialEq)]
 pub struct ImportStatement {
     pub attributes: Attributes,
-    pub path: Option<ModulePath>,
+    pub path: Option<Boxed<ModulePath>>,
     pub content: ImportContent,
 }
 

@@ -14,7 +14,7 @@ use crate::expression::{
 };
 use std::fmt;
 use std::fmt::Display;
-use wgsl_items::Items;
+use wgsl_items::{Boxed, Items};
 use wgsl_operators::UnaryOperator;
 use wgsl_path::{ModulePath, PathOrigin};
 
@@ -62,7 +62,7 @@ fn type_clings(operator: UnaryOperator, ty: &TypeExpression) -> bool
 {
     match &ty.path {
         None => text_clings(operator, ty.ident.as_str()),
-        Some(path) => path_clings(operator, path),
+        Some(path) => path_clings(operator, path.get()),
     }
 }
 
@@ -217,7 +217,7 @@ fn write_nodes<W: fmt::Write>(nodes: &[ExpressionNode], f: &mut fmt::Formatter<W
 }
 
 pub(crate) fn write_qualifier<W: fmt::Write>(
-    path: &Option<ModulePath>,
+    path: &Option<Boxed<ModulePath>>,
     f: &mut fmt::Formatter<W>,
 ) -> fmt::Result
     ensures { WritesOnOk W.write_str_gives f.old result (qualifier_text path.now) f.new }
@@ -225,7 +225,7 @@ pub(crate) fn write_qualifier<W: fmt::Write>(
     match path {
         None => Ok(()),
         Some(path) => {
-            path.fmt(f)?;
+            path.get().fmt(f)?;
             f.write_str("::")
         }
     }
@@ -251,14 +251,14 @@ fn write_type<W: fmt::Write>(ty: &TypeExpression, f: &mut fmt::Formatter<W>) -> 
 
 #[cycle(display)]
 fn write_brackets<W: fmt::Write>(
-    arguments: &Option<Items<TemplateArg>>,
+    arguments: &Option<Boxed<Items<TemplateArg>>>,
     f: &mut fmt::Formatter<W>,
 ) -> fmt::Result
     ensures { WritesOnOk W.write_str_gives f.old result (brackets_text (option_map (λ arguments. exps (map (λ a. node_tree a.expression) arguments)) arguments.now)) f.new }
 {
     match arguments {
         None => Ok(()),
-        Some(arguments) => write_template(arguments.as_slice(), f),
+        Some(arguments) => write_template(arguments.get().as_slice(), f),
     }
 }
 

@@ -9,7 +9,7 @@ use crate::{
 };
 use std::alloc::{AllocError, Global};
 use std::test::Fail;
-use wgsl_items::{CloneIn, Items, Text};
+use wgsl_items::{Boxed, CloneIn, Items, Text};
 
 const NOWHERE: Span = Span { start: 0, end: 0 };
 
@@ -45,9 +45,10 @@ fn number(alloc: Global, literal: LiteralExpression) -> Result<ExpressionNode, A
 fn import(alloc: Global) -> Result<ImportStatement, AllocError> {
     let mut components = Items::new(alloc);
     components.push(Text::from_str(alloc, "m")?)?;
+    let path = ModulePath::new(PathOrigin::Absolute, components);
     Ok(ImportStatement {
         attributes: Items::new(alloc),
-        path: Some(ModulePath::new(PathOrigin::Absolute, components)),
+        path: Some(Boxed::new(alloc, path)?),
         content: ImportContent::Item(ImportItem {
             ident: ident(alloc, "x")?,
             rename: None,

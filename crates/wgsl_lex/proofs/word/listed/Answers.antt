@@ -1,12 +1,16 @@
-use Rattle.std.proofs.Common.{refl}
+use Rattle.std.proofs.Common.{refl, sym}
 use Rattle.wgsl_lex.specs.Tokens.{fixed_of, is_reserved}
 use Rattle.wgsl_lex.specs.Rows.{ascends}
-use Rattle.wgsl_lex.proofs.Words.{listed_from}
+use Rattle.wgsl_lex.specs.Pieces.{unlisted}
+use Rattle.wgsl_lex.proofs.Words.{listed_from, not_listable}
 use Rattle.wgsl_lex.proofs.word.listed.Goals as goal
 
 pub found-requires : goal.found-requires
 unfolding ascends
 found-requires c = refl
+
+pub returns-then-not-is_listable : goal.returns-then-not-is_listable
+returns-then-not-is_listable c = unlisted (not_listable c.args.word.now (sym c.if-not-is_listable.ensures))
 
 pub returns : goal.returns
 unfolding fixed_of is_reserved

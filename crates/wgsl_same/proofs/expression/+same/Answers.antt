@@ -1,4 +1,4 @@
-use Rattle.std.proofs.Common.{◌≡◌}
+use Rattle.std.proofs.Common.{◌≡◌, ◌∙◌}
 use Rattle.wgsl_syntax.specs.View.{node_tree}
 use Rattle.wgsl_same.proofs.SameLemmas.{calls_same, names_same, types_templated, is_true, items_differ, arguments_differ}
 use Rattle.wgsl_same.proofs.expression.+same.Goals as goal
@@ -12,7 +12,7 @@ is_same-returns-in-TypeOrIdentifier-b l c = names_same _ _ _ _ _ c.in-TypeOrIden
 pub is_same_type_in-returns-in-Some-template_args-2 : goal.is_same_type_in-returns-in-Some-template_args-2
 is_same_type_in-returns-in-Some-template_args-2 l c =
     types_templated _ _ _ _ _ _ _ c.in-Some.is c.in-Some-template_args-2.is (c.is_same_name.ensures.0 (is_true _ c.if-not-is_same_name.false))
-    c.as_slice.ensures c.as_slice-in-Some-template_args-2.ensures c.is_same_arguments.ensures
+    (c.as_slice.ensures ∙ c.get.ensures) (c.as_slice-in-Some-template_args-2.ensures ∙ c.get-in-Some-template_args-2.ensures) c.is_same_arguments.ensures
 
 pub is_same_nodes-returns-then-not-is_same_node : goal.is_same_nodes-returns-then-not-is_same_node
 is_same_nodes-returns-then-not-is_same_node l c =
