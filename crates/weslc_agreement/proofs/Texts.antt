@@ -1,0 +1,29 @@
+-- Texts that are answered for the same units are the same.
+use Rattle.std.proofs.Common.{◌≡◌, List, ℕ, Result, Ok, Err, sym, ap, ◌∙◌}
+use Rattle.wgsl_syntax.specs.Tree.{Unit}
+use Rattle.wgsl_syntax.specs.Print.{unit_text}
+use Rattle.wgsl_lower.specs.Lowered.{lowered_unit}
+use Rattle.wesl_sources.specs.Rounds.{Sources}
+use Rattle.wesl_meaning.specs.Agreement.{OnlyAskedUnitsCount, ListedModulesAreAlike, HoldsOfAlikeModules}
+use Rattle.wesl_meaning.specs.Determined.{IsFunctional}
+use Rattle.weslc_unit.specs.Compiled.{IsCompiled}
+use Rattle.weslc_agreement.specs.Texts.{CompiledTextsAreOne, LinkedTextsAreOne}
+use Rattle.weslc_agreement.proofs.Units.{units_are_one}
+
+-- a unit has one compiled text
+one_lowered : {E : Type 0} (u v : Unit) → (Ok u : Result Unit E) ≡ Ok v → u ≡ v
+one_lowered u v same = ?
+
+pub compiled_once : (one two : Unit) → one ≡ two → (text more : List ℕ) → IsCompiled one text → IsCompiled two more → text ≡ more
+compiled_once one two same text more a b =
+    a.whole ∙ ap unit_text (one_lowered a.low b.low (sym a.lowered.lowered ∙ ap lowered_unit same ∙ b.lowered.lowered)) ∙ sym b.whole
+
+module _ (asked_units : (found other : Sources) → OnlyAskedUnitsCount found other) (listed_alike : ListedModulesAreAlike) (of_alike : HoldsOfAlikeModules)
+         (found other : Sources) (functional : IsFunctional other) where
+  pub compiled_texts_are_one : CompiledTextsAreOne found other
+  compiled_texts_are_one apart root asked max has one two a b =
+      compiled_once a.linked b.linked (units_are_one asked_units listed_alike of_alike found other functional apart root asked max has a.linked b.linked a.from b.from) one two a.compiled b.compiled
+
+  pub linked_texts_are_one : LinkedTextsAreOne found other
+  linked_texts_are_one apart root asked max has one two a b =
+      a.whole ∙ ap unit_text (units_are_one asked_units listed_alike of_alike found other functional apart root asked max has a.linked b.linked a.from b.from) ∙ sym b.whole
