@@ -1,7 +1,8 @@
 -- Texts that are answered for the same units are the same.
-use Rattle.std.proofs.Common.{◌≡◌, List, ℕ, Result, Ok, Err, sym, ap, ◌∙◌}
+use Rattle.std.proofs.Common.{◌≡◌, ℕ, List, Result, Ok, sym, ap, ◌∙◌}
 use Rattle.wgsl_syntax.specs.Tree.{Unit}
 use Rattle.wgsl_syntax.specs.Print.{unit_text}
+use Rattle.wgsl_eval.specs.declared.error.Refusal.{Refusal}
 use Rattle.wgsl_lower.specs.Lowered.{lowered_unit}
 use Rattle.wesl_sources.specs.Rounds.{Sources}
 use Rattle.wesl_meaning.specs.Agreement.{OnlyAskedUnitsCount, ListedModulesAreAlike, HoldsOfAlikeModules}
@@ -10,15 +11,16 @@ use Rattle.weslc_unit.specs.Compiled.{IsCompiled}
 use Rattle.weslc_agreement.specs.Texts.{CompiledTextsAreOne, LinkedTextsAreOne}
 use Rattle.weslc_agreement.proofs.Units.{units_are_one}
 
--- a unit has one compiled text
-one_lowered : {E : Type 0} (u v : Unit) → (Ok u : Result Unit E) ≡ Ok v → u ≡ v
-one_lowered u v same = ?
+-- what a unit is lowered to is one
+low_once : (o : Result Unit Refusal) (low more : Unit) → o ≡ Ok low → o ≡ Ok more → low ≡ more
+low_once o low more is it = let same : Ok low ≡ Ok more = sym is ∙ it in cc
 
+-- and so is its compiled text
 pub compiled_once : (one two : Unit) → one ≡ two → (text more : List ℕ) → IsCompiled one text → IsCompiled two more → text ≡ more
 compiled_once one two same text more a b =
-    a.whole ∙ ap unit_text (one_lowered a.low b.low (sym a.lowered.lowered ∙ ap lowered_unit same ∙ b.lowered.lowered)) ∙ sym b.whole
+    a.whole ∙ ap unit_text (low_once (lowered_unit two) a.low b.low (ap lowered_unit (sym same) ∙ a.lowered.lowered) b.lowered.lowered) ∙ sym b.whole
 
-module _ (asked_units : (found other : Sources) → OnlyAskedUnitsCount found other) (listed_alike : ListedModulesAreAlike) (of_alike : HoldsOfAlikeModules)
+module _ (asked_units : (found other : Sources) → OnlyAskedUnitsCount found other) (listed_alike : (found : Sources) → ListedModulesAreAlike found) (of_alike : HoldsOfAlikeModules)
          (found other : Sources) (functional : IsFunctional other) where
   pub compiled_texts_are_one : CompiledTextsAreOne found other
   compiled_texts_are_one apart root asked max has one two a b =

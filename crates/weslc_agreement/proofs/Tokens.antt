@@ -79,7 +79,7 @@ module _ (same_stand : SameTokensStandForTheSame) where
   has_units : (one other : VirtualResolver) (root : Path) (asked : List Name) (max : ℕ) → HaveTheSameTokens one other root asked max → HasAskedUnits (added one) root asked max (added other)
   has_units one other root asked max same p asks u is = found_too (text_at one p) (text_at other p) (same p asks) u is
 
-module _ (asked_units : (found other : Sources) → OnlyAskedUnitsCount found other) (listed_alike : ListedModulesAreAlike) (of_alike : HoldsOfAlikeModules)
+module _ (asked_units : (found other : Sources) → OnlyAskedUnitsCount found other) (listed_alike : (found : Sources) → ListedModulesAreAlike found) (of_alike : HoldsOfAlikeModules)
          (same_stand : SameTokensStandForTheSame) (imports_apart : ImportsOfTextsAreApart) where
   pub same_tokens_compile_alike : SameTokensCompileAlike
   same_tokens_compile_alike one other root asked max same text more a b =

@@ -1,11 +1,11 @@
 -- Sources that have each unit that is asked of others are linked into the same unit.
-use Rattle.std.proofs.Common.{◌≡◌, ℕ, ◌<◌, List, Ok, sym, ap, ◌∙◌, subst}
+use Rattle.std.proofs.Common.{◌≡◌, ℕ, ◌<◌, List, [], ◌∷◌, Ok, sym, ap, ◌∙◌, subst}
 use Rattle.wgsl_syntax.specs.Tree.{Unit}
-use Rattle.wesl_resolve.specs.Found.{Answer, unit_of, not_found, faulty}
+use Rattle.wesl_resolve.specs.Found.{unit_of}
 use Rattle.wesl_sources.specs.Occurrences.{Name}
 use Rattle.wesl_sources.specs.Modules.{Path, Modules}
 use Rattle.wesl_sources.specs.Named.{ImportsAreApart}
-use Rattle.wesl_sources.specs.Rounds.{Sources, Refusal, Loads, loaded, ComesTo, goes_on}
+use Rattle.wesl_sources.specs.Rounds.{Sources, Loads, loaded, ComesTo, goes_on}
 use Rattle.wesl_sources.specs.Kept.{kept_names}
 use Rattle.wesl_sources.specs.Linked.{IsLinked}
 use Rattle.wesl_meaning.specs.Agreement.{OnlyAskedUnitsCount, ListedModulesAreAlike, HoldsOfAlikeModules, AreAlike}
@@ -22,22 +22,15 @@ some_loaded found max p ps _ (loaded some is distinct printed more) = some
 pub some_come : (found : Sources) (root : Path) (keep : List Name) (max : ℕ) (modules : Modules) → ComesTo found root keep max (Ok modules) → 0 < max
 some_come found root keep max modules (goes_on l declared on) = some_loaded found max root [] _ l
 
--- an answer's unit
-told_unit : Unit → Answer → Unit
-told_unit u (unit_of v) = v
-told_unit u not_found = u
-told_unit u (faulty e) = u
-
-pub one_unit : (u v : Unit) → unit_of u ≡ unit_of v → u ≡ v
-one_unit u v same = ap (told_unit u) same
-
-module _ (asked_units : (found other : Sources) → OnlyAskedUnitsCount found other) (listed_alike : ListedModulesAreAlike) (of_alike : HoldsOfAlikeModules)
+module _ (asked_units : (found other : Sources) → OnlyAskedUnitsCount found other) (listed_alike : (found : Sources) → ListedModulesAreAlike found) (of_alike : HoldsOfAlikeModules)
          (found other : Sources) (functional : IsFunctional other) (apart : ImportsAreApart found) (root : Path) (asked : List Name) (max : ℕ) (has : HasAskedUnits found root asked max other) where
   -- the names that are kept are the same
   kept_alike : (kept more : List Name) → 0 < max → AreKept found root asked kept → AreKept other root asked more → kept ≡ more
   kept_alike kept more some a b =
       let there : other root (unit_of a.unit) = has root (the_root some) a.unit a.found in
-      a.are ∙ ap (kept_names asked) (one_unit a.unit b.unit (functional root (unit_of a.unit) (unit_of b.unit) there b.found)) ∙ sym b.are
+      let answers : unit_of a.unit ≡ unit_of b.unit = functional root _ _ there b.found in
+      let units : a.unit ≡ b.unit = cc in
+      a.are ∙ ap (kept_names asked) units ∙ sym b.are
 
   -- and so is the unit
   pub units_are_one : (one two : Unit) → IsLinkedFrom found root asked max one → IsLinkedFrom other root asked max two → one ≡ two
