@@ -2,11 +2,12 @@
 use Rattle.std.specs.Prelude.{◌↔◌}
 use Rattle.std.proofs.Common.{ℕ, ◌+◌, List, [], ◌∷◌, ◌++◌, length, Result, Ok, Err}
 use Rattle.wgsl_syntax.specs.Tree.{Unit}
-use Rattle.wesl_resolve.specs.Found.{Answer}
+use Rattle.wesl_resolve.specs.Found.{Answer, unit_of}
 use Rattle.wesl_sources.specs.Occurrences.{Name}
 use Rattle.wesl_sources.specs.Modules.{Path, Modules}
 use Rattle.wesl_sources.specs.Rounds.{Sources, Refusal, Loads, all_loaded, one_too_many, is_not_found, is_faulty, has_a_name_twice, loaded_then_refused, loaded, Goes, an_occurrence_refused, nothing_asked, a_module_refused, a_round, IsFirstUnkept, ComesTo, root_refused, kept_name_missing, goes_on}
 use Rattle.wesl_meaning.specs.Asked.{AsksAmong, asks_first, asks_next, AsksFrom, in_this_round, in_a_later_round, Asks, for_the_root, onward, OnlyWhatIsAskedCounts}
+use Rattle.wesl_meaning.specs.Agreement.{OnlyAskedUnitsCount}
 use Rattle.wesl_meaning.proofs.Determined.{loading_comes_to_one}
 
 module _ (found other : Sources) (max : ℕ) where
@@ -39,5 +40,30 @@ module _ (found other : Sources) (root : Path) (keep : List Name) (max : ℕ) wh
   comes_too o agree (goes_on {path = path} {u = u} l h g) =
       goes_on (loads_too found other max 0 (root ∷ []) (Ok ((path, u) ∷ [])) (λ p a. agree p (for_the_root a)) l) h (goes_too ((path, u) ∷ []) o (λ p a. agree p (onward l h a)) g)
 
+-- ---- what is loaded from found units
+
+module _ (found other : Sources) (max : ℕ) where
+  units_load : (n : ℕ) (ps : List Path) (modules : Modules) → ((p : Path) → AsksAmong found max n ps p → (u : Unit) → found p (unit_of u) → other p (unit_of u)) → Loads found max n ps (Ok modules) → Loads other max n ps (Ok modules)
+  units_load n [] (m ∷ ms) there h = elim h [ ]
+  units_load n [] [] there all_loaded = all_loaded
+  units_load n (p ∷ ps) _ there (loaded {u = u} {modules = ms} l f d t rest) = loaded l (there p (asks_first l) u f) d t (units_load (n + 1) ps ms (λ q a. there q (asks_next l f d a)) rest)
+
+module _ (found other : Sources) (root : Path) (keep : List Name) (max : ℕ) where
+  units_go : (modules after : Modules) → ((p : Path) → AsksFrom found root keep max modules p → (u : Unit) → found p (unit_of u) → other p (unit_of u)) → Goes found root keep max modules (Ok after) → Goes other root keep max modules (Ok after)
+  units_go modules _ there (nothing_asked n k) = nothing_asked n k
+  units_go modules after there (a_round {more = more} {ps = ps} n k s l rest) =
+      a_round n k s (units_load found other max (length modules) ps more (λ p a. there p (in_this_round n k a)) l)
+      (units_go (modules ++ more) after (λ p a. there p (in_a_later_round n k s l a)) rest)
+
+  units_come : (modules : Modules) → ((p : Path) → Asks found root keep max p → (u : Unit) → found p (unit_of u) → other p (unit_of u)) → ComesTo found root keep max (Ok modules) → ComesTo other root keep max (Ok modules)
+  units_come modules there (goes_on {path = path} {u = u} l h g) =
+      goes_on (units_load found other max 0 (root ∷ []) ((path, u) ∷ []) (λ p a. there p (for_the_root a)) l) h (units_go ((path, u) ∷ []) modules (λ p a. there p (onward l h a)) g)
+
+-- ---- the laws
+
 pub only_what_is_asked_counts : (found other : Sources) → OnlyWhatIsAskedCounts found other
 only_what_is_asked_counts found other functional root keep max agree one two a b = loading_comes_to_one other functional root keep max one two (comes_too found other root keep max one agree a) b
+
+pub only_asked_units_count : (found other : Sources) → OnlyAskedUnitsCount found other
+only_asked_units_count found other functional root keep max there one two a b =
+    loading_comes_to_one other functional root keep max (Ok one) (Ok two) (units_come found other root keep max one there a) b

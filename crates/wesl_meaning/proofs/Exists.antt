@@ -149,6 +149,20 @@ module _ (modules : Modules) (root : Path) (keep : List Name) (loaded : AreLoade
       let item : item_of modules s ≡ Some e.0 = declared_item s e.0 (subst (λ z. IsDeclaration modules z e.0) (sym to) declares) in
       (s, denoted_at m x u i.is_module ∙ ap (own_or_imported modules m x u) none ∙ ap (imported_symbol modules) (f.1 ∙ ap Some same) ∙ ap (import_target modules ii.import) ii.is_path ∙ if_there s (item_of modules s) e.0 item, to)
 
+  -- a name denotes one symbol
+  pub denotes_once : (m : Path) (x : Name) (s t : SourceSymbol) → Denotes modules m x s → Denotes modules m x t → s ≡ t
+  denotes_once m x s t a b = let i = (scope_of s a).1 in at_path i.path (subst (λ z. Denotes modules z x s) (sym i.printed) a) (subst (λ z. Denotes modules z x t) (sym i.printed) b)
+    where
+      scope_of : (y : SourceSymbol) → Denotes modules m x y → (u : Unit) × IsModule modules m u
+      scope_of _ (own {u = u} i d) = (u, i)
+      scope_of y (imported i j d) = (i.is_import.unit, i.is_import.is_module)
+
+      at_path : (path : ModulePath) → Denotes modules (path_text path) x s → Denotes modules (path_text path) x t → s ≡ t
+      at_path path c d =
+          let f = denotes_found path x s c in
+          let g = denotes_found path x t d in
+          let e : f.0 ≡ g.0 = cc (f.1, g.1) in sym f.2 ∙ ap source_symbol e ∙ g.2
+
   pub sources_are : (held : List Symbol) → IsHeldList modules root keep (map source_symbol held) → IsProgramOf modules root keep (sources modules held)
   sources_are held h = record {
     items = λ s d. (λ e. item_declares s d (unit_at modules (path_text s.home)) refl e, declared_item s d);

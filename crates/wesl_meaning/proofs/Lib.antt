@@ -13,8 +13,10 @@ pub mod Loading
 pub mod Unique
 pub mod Splits
 pub mod Moves
+pub mod Agreement
 pub mod Same
 pub mod Refusals
 pub mod Determined
 pub mod Asked
+pub mod Clashes
 pub mod Example

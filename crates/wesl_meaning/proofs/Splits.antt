@@ -10,12 +10,12 @@ use Rattle.wesl_meaning.proofs.Distinct.{Once, once_of}
 use Rattle.wesl_meaning.proofs.Declared.{away}
 
 -- at the same place, or one before the other
-pub data Splits (xs : List Name) (x : Name) (ys : List Name) (y : Name) : Type 0 where
+pub data Splits {A : Type 0} (xs : List A) (x : A) (ys : List A) (y : A) : Type 0 where
   at_one_place : xs ≡ ys → x ≡ y → Splits xs x ys y
-  before : (mid : List Name) → ys ≡ xs ++ x ∷ mid → Splits xs x ys y
-  behind : (mid : List Name) → xs ≡ ys ++ y ∷ mid → Splits xs x ys y
+  before : (mid : List A) → ys ≡ xs ++ x ∷ mid → Splits xs x ys y
+  behind : (mid : List A) → xs ≡ ys ++ y ∷ mid → Splits xs x ys y
 
-pub splits : (xs : List Name) (x : Name) (as' : List Name) (ys : List Name) (y : Name) (bs : List Name) → xs ++ x ∷ as' ≡ ys ++ y ∷ bs → Splits xs x ys y
+pub splits : {A : Type 0} (xs : List A) (x : A) (as' : List A) (ys : List A) (y : A) (bs : List A) → xs ++ x ∷ as' ≡ ys ++ y ∷ bs → Splits xs x ys y
 splits [] x as' [] y bs e = at_one_place refl (cc)
 splits [] x as' (z ∷ ys) y bs e = let s : x ≡ z = cc in before ys (ap (λ w. w ∷ ys) (sym s))
 splits (z ∷ xs) x as' [] y bs e = let s : z ≡ y = cc in behind xs (ap (λ w. w ∷ xs) s)

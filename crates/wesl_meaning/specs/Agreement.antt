@@ -32,9 +32,9 @@ pub record AreAlike (root : Path) (one other : Modules) : Type 0 where
   pub same_units : (p : Path) (u : Unit) → IsModule one p u ↔ IsModule other p u
   pub same_paths : (path : ModulePath) (u : Unit) → (path_text path ≡ root → ⊥) → Contains one (path, u) ↔ Contains other (path, u)
 
--- Modules that are listed alike are alike, where imports name them and those of one source are apart.
-abbrev pub ListedModulesAreAlike : Type 0
-ListedModulesAreAlike = (found : Sources) (root : Path) (one other : Modules) → listed one ≡ listed other → AreFound found one → ImportsAreApart found
+-- Modules that are listed alike are alike, where they are what is found, and imports name them by paths that are apart.
+abbrev pub ListedModulesAreAlike : Sources → Type 0
+ListedModulesAreAlike found = (root : Path) (one other : Modules) → listed one ≡ listed other → AreFound found one → ImportsAreApart found
     → AreNamedByImports one root → AreNamedByImports other root → AreAlike root one other
 
 -- what is true of some modules is true of those that are alike

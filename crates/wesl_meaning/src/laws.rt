@@ -58,8 +58,8 @@ pub fn only_asked_units_count<R: Resolver, S: Resolver>()
 {}
 
 /// Modules that are listed alike differ at most in the root's path, where imports name them by paths that are told apart.
-pub fn listed_modules_are_alike()
-    ensures { ListedModulesAreAlike }
+pub fn listed_modules_are_alike<R: Resolver>()
+    ensures { (resolver : R) → ListedModulesAreAlike (R.answers resolver) }
 {}
 
 /// Modules that differ at most in the root's path are linked alike, clash alike, and hold the same.
