@@ -471,7 +471,7 @@ scalars_behind : (cs ds : List ℕ) → all_scalars (cs ++ ds) ≡ true → all_
 scalars_behind [] ds h = h
 scalars_behind (c ∷ cs) ds h = scalars_behind cs ds (both (scalar c) (all_scalars (cs ++ ds)) h).1
 
-tokens_known : {at : ℕ} {cs : List ℕ} {tokens : List SpannedToken} → Lexes at cs tokens → all_scalars cs ≡ true → Knowns tokens
+pub tokens_known : {at : ℕ} {cs : List ℕ} {tokens : List SpannedToken} → Lexes at cs tokens → all_scalars cs ≡ true → Knowns tokens
 tokens_known at_the_end h = tt
 tokens_known (behind_trivia {cs = cs} {rest = rest} l others) h = tokens_known others (scalars_behind cs rest h)
 tokens_known (a_token {cs = cs} {rest = rest} {t = k} l others) h =

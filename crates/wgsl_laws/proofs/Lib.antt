@@ -7,3 +7,6 @@ pub mod Expressions
 pub mod Back
 pub mod Attributes
 pub mod Declarations
+pub mod Alike
+pub mod Same
+pub mod Apart

@@ -153,7 +153,7 @@ word_begins [] h = absurd cc
 word_begins (c ∷ []) h = (c, [], refl, ap (λ b. b || (c == 95)) h)
 word_begins (c ∷ d ∷ ds) h = (c, d ∷ ds, refl, (and_parts (begins_word c) (list_all is_xid_continue (d ∷ ds)) h).0)
 
-identifier_word : (cs id : List ℕ) → Made cs (t.Identifier id) → (is_word cs ≡ true) × (encode_utf8_all cs ≡ id)
+pub identifier_word : (cs id : List ℕ) → Made cs (t.Identifier id) → (is_word cs ≡ true) × (encode_utf8_all cs ≡ id)
 identifier_word cs id (as_fixed g e) = absurd cc
 identifier_word cs id (as_word w e) = (w, word_is cs id e)
 identifier_word cs id (as_number e) = no_numeral (number_numeral cs (t.Identifier id) e)

@@ -1,6 +1,7 @@
 //! Laws, each as the contract of a function that does nothing.
 
 ghost use Rattle.wgsl_laws.specs.Printing.{PrintsBack, PrintsTheSame};
+ghost use Rattle.wgsl_laws.specs.Same.{ImportsOfTextsAreApart, SameTokensStandForTheSame};
 
 /// A module that a text derives prints to a text that derives an equal tree.
 pub fn prints_back()
@@ -11,4 +12,14 @@ pub fn prints_back()
 /// a module that prints to the same text.
 pub fn prints_the_same()
     ensures { PrintsTheSame }
+{}
+
+/// Texts with the same tokens, wherever those stand, stand for the same trees.
+pub fn same_tokens_stand_for_the_same()
+    ensures { SameTokensStandForTheSame }
+{}
+
+/// Imports of texts that name modules by paths that print alike name them by one path.
+pub fn imports_of_texts_are_apart()
+    ensures { ImportsOfTextsAreApart }
 {}
