@@ -1,8 +1,8 @@
 //! Where modules come from.
 
-ghost use Rattle.std.specs.Prelude.{ℕ, List};
+ghost use Rattle.std.specs.Prelude.{◌≡◌, ℕ, List};
 ghost use Rattle.wgsl_path.specs.Paths.{path_text};
-ghost use Rattle.wesl_resolve.specs.Found.{Answer, TellsUnit, TellsText, SameAnswers, SameTexts, unit_of, not_found};
+ghost use Rattle.wesl_resolve.specs.Found.{Answer, TellsUnit, TellsText, SameAnswers, SameTexts};
 
 use crate::error::ResolveError;
 use std::alloc::{AllocError, Global};
@@ -47,6 +47,6 @@ pub trait Resolver: Drop {
         Ok(None)
     }
 
-    /// Where a module is found, it is not found that there is none.
-    ghost apart: { (r : Self) (p : List ℕ) (u : _) → answers r p (unit_of u) → answers r p not_found → ⊥ };
+    /// At a path one answer is found at most.
+    ghost one_answer: { (r : Self) (p : List ℕ) (a b : Answer) → answers r p a → answers r p b → a ≡ b };
 }

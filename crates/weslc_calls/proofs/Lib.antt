@@ -1,3 +1,4 @@
+pub mod Said
 pub mod Loading
 pub mod Mapping
 pub mod Texts

@@ -26,14 +26,21 @@ path_and_text m = (m.path, m.text)
 abbrev pub texts_added : VirtualResolver → List (ModulePath × List ℕ)
 texts_added r = map path_and_text (values r.modules)
 
--- what is found where this text, or none, was added: the unit that the text derives, or its fault
+-- a text says what it derives: a unit, or its fault
+abbrev pub Says : List ℕ → Answer → Type 0
+Says text (unit_of u) = IsTextOf u text
+Says text not_found = ⊥
+Says text (faulty e) = IsFaultOf text e
+
+-- this, and nothing else
+pub record SaysOnly (text : List ℕ) (a : Answer) : Type 0 where
+  pub says : Says text a
+  pub only : (b : Answer) → Says text b → b ≡ a
+
+-- what is found where this text, or none, was added: the one unit that the text derives, or its one fault
 abbrev pub found_in : Option (List ℕ) → Answer → Type 0
-found_in None (unit_of u) = ⊥
-found_in None not_found = ⊤
-found_in None (faulty e) = ⊥
-found_in (Some text) (unit_of u) = IsTextOf u text
-found_in (Some text) not_found = ⊥
-found_in (Some text) (faulty e) = IsFaultOf text e
+found_in None a = a ≡ not_found
+found_in (Some text) a = SaysOnly text a
 
 -- a text is added at a printed path, in place of the one that was there
 abbrev pub IsAdded : VirtualResolver → List ℕ → List ℕ → VirtualResolver → Type 0

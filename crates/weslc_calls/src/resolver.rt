@@ -80,7 +80,8 @@ impl VirtualResolver {
 
 impl Resolver for VirtualResolver {
     ghost use Rattle.std.specs.Prelude.{◌≡◌, Some, None};
-    ghost use Rattle.wesl_resolve.specs.Found.{unit_of, not_found};
+    ghost use Rattle.std.proofs.Common.{sym, ◌∙◌};
+    ghost use Rattle.wesl_resolve.specs.Found.{Answer};
     ghost use Rattle.weslc_calls.specs.Stored.{text_at, found_in};
 
     ghost answers = { λ r p a. found_in (text_at r p) a };
@@ -105,5 +106,5 @@ impl Resolver for VirtualResolver {
         }
     }
 
-    ghost apart = { λ r p u. elim (text_at r p) as (λ o. found_in o (unit_of u) → found_in o not_found → ⊥) [ None ↦ λ h _. h | Some text ↦ λ _ h. h ] };
+    ghost one_answer = { λ r p. elim (text_at r p) as (λ o. (a b : Answer) → found_in o a → found_in o b → a ≡ b) [ None ↦ λ _ _ h k. h ∙ sym k | Some text ↦ λ a _ h k. k.only a h.says ] };
 }
