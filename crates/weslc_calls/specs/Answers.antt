@@ -7,6 +7,7 @@ use Rattle.wgsl_syntax.specs.Print.{unit_text}
 use Rattle.wesl_resolve.specs.Found.{unit_of}
 use Rattle.wesl_sources.specs.Occurrences.{Name}
 use Rattle.wesl_sources.specs.Modules.{Path, Modules}
+use Rattle.wesl_sources.specs.Named.{AreNamedByImports}
 use Rattle.wesl_sources.specs.Rounds.{Sources, Refusal, too_many_modules, module_not_found, syntax, duplicate_symbol, missing_decl, private, Loads, ComesTo}
 use Rattle.wesl_sources.specs.Kept.{kept_names}
 use Rattle.wesl_sources.specs.Loaded.{IsClashFree}
@@ -38,11 +39,12 @@ module _ (found : Sources) (root : Path) (asked : List Name) (max : ℕ) where
     pub are_kept : AreKept found root asked kept
     pub loaded : ComesTo found root kept max (Ok modules)
 
-  -- the tables of loaded modules none of whose names clashes
+  -- the tables of loaded modules, each under the path by which an import names it, none of whose names clashes
   pub record AreTablesOf (r : Resolutions) : Type 0 where
     pub kept : List Name
     pub modules : Modules
     pub loaded : AreLoadedFrom kept modules
+    pub named : AreNamedByImports modules root
     pub clash_free : IsClashFree modules root kept
     pub same : SameModules modules (modules_of r.modules)
     pub is_root : string_bytes r.root ≡ root

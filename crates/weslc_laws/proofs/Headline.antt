@@ -12,6 +12,7 @@ use Rattle.wgsl_lower.specs.Keeps.{AreClear}
 use Rattle.wesl_resolve.specs.Found.{unit_of}
 use Rattle.wesl_sources.specs.Occurrences.{Name}
 use Rattle.wesl_sources.specs.Modules.{Path, Modules, IsModule}
+use Rattle.wesl_sources.specs.Named.{AreNamedByImports}
 use Rattle.wesl_sources.specs.Rounds.{Sources, ComesTo}
 use Rattle.wesl_sources.specs.Kept.{kept_names}
 use Rattle.wesl_sources.specs.Linked.{IsLinked}
@@ -44,13 +45,14 @@ module _ (sources : Sources) (root : Path) (keep : List Name) where
     kept_of_root functional linked from u i = kept_once functional from.kept from.are_kept u (found_modules sources root from.kept max from.modules from.loaded root u i)
 
     -- the clashes and the linked unit may be those of another list with the same modules
-    pub linked_from : (kept : List Name) → AreKept sources root keep kept → (modules others : Modules) → ComesTo sources root kept max (Ok modules) → SameModules modules others
+    pub linked_from : (kept : List Name) → AreKept sources root keep kept → (modules others : Modules) → ComesTo sources root kept max (Ok modules) → AreNamedByImports modules root → SameModules modules others
         → (linked : Unit) → IsClashFree others root kept → IsLinked others root kept linked → IsLinkedFrom sources root keep max linked
-    linked_from kept are modules others loaded same linked free is = record {
+    linked_from kept are modules others loaded named same linked free is = record {
       kept = kept;
       are_kept = are;
       modules = modules;
       loaded = loaded;
+      named = named;
       linked_well = record {
         loaded = loaded_modules sources root kept max modules loaded;
         clash_free = clash_free_in_any_order others modules (same_turned modules others same) root kept free;

@@ -1,0 +1,29 @@
+-- Texts that are answered for the same units are the same.
+use Rattle.std.proofs.Common.{◌≡◌, ℕ, List, Result, Ok, sym, ap, ◌∙◌}
+use Rattle.wgsl_syntax.specs.Tree.{Unit}
+use Rattle.wgsl_syntax.specs.Print.{unit_text}
+use Rattle.wgsl_eval.specs.declared.error.Refusal.{Refusal}
+use Rattle.wgsl_lower.specs.Lowered.{lowered_unit}
+use Rattle.wesl_sources.specs.Rounds.{Sources}
+use Rattle.wesl_meaning.specs.Determined.{IsFunctional}
+use Rattle.weslc_unit.specs.Compiled.{IsCompiled}
+use Rattle.weslc_agreement.specs.Texts.{CompiledTextsAreOne, LinkedTextsAreOne}
+use Rattle.weslc_agreement.proofs.Units.{units_are_one}
+
+-- what a unit is lowered to is one
+low_once : (o : Result Unit Refusal) (low more : Unit) → o ≡ Ok low → o ≡ Ok more → low ≡ more
+low_once o low more is it = let same : Ok low ≡ Ok more = sym is ∙ it in cc
+
+-- and so is its compiled text
+pub compiled_once : (one two : Unit) → one ≡ two → (text more : List ℕ) → IsCompiled one text → IsCompiled two more → text ≡ more
+compiled_once one two same text more a b =
+    a.whole ∙ ap unit_text (low_once (lowered_unit two) a.low b.low (ap lowered_unit (sym same) ∙ a.lowered.lowered) b.lowered.lowered) ∙ sym b.whole
+
+module _ (found other : Sources) (functional : IsFunctional other) where
+  pub compiled_texts_are_one : CompiledTextsAreOne found other
+  compiled_texts_are_one apart root asked max has one two a b =
+      compiled_once a.linked b.linked (units_are_one found other functional apart root asked max has a.linked b.linked a.from b.from) one two a.compiled b.compiled
+
+  pub linked_texts_are_one : LinkedTextsAreOne found other
+  linked_texts_are_one apart root asked max has one two a b =
+      a.whole ∙ ap unit_text (units_are_one found other functional apart root asked max has a.linked b.linked a.from b.from) ∙ sym b.whole
