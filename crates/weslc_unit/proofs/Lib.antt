@@ -1,1 +1,2 @@
 pub mod ClearLemmas
+pub mod Once

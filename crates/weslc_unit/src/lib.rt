@@ -3,6 +3,7 @@
 
 mod compiled;
 mod error;
+pub mod laws;
 mod printed;
 #[cfg(test)]
 mod tests;

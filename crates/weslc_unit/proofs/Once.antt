@@ -1,0 +1,112 @@
+-- A unit is compiled or refused in one way: each refusal says that the steps before it went well, and each step is determined.
+use Rattle.std.proofs.Common.{◌≡◌, ◌⊎◌, inl, inr, ℕ, ◌<◌, List, [], Option, Some, None, Ok, Err, refl, sym, ap, ◌∙◌, subst}
+use Rattle.std.specs.Prelude.{slice_get}
+use Rattle.std.proofs.lemmas.Bool.{cases_order}
+use Rattle.wgsl_syntax.specs.Tree.{Unit as Module}
+use Rattle.wgsl_syntax.specs.Print.{unit_text}
+use Rattle.wgsl_builtin.specs.Names.{Name}
+use Rattle.wgsl_builtin.specs.Builtin.{builtin_names}
+use Rattle.wesl_validate.specs.declared.error.ValidateError.TheVariants.{Cycle}
+use Rattle.wesl_validate.specs.declared.error.ValidateFault.{ValidateFault}
+use Rattle.wesl_validate.specs.declared.place.Row.{Row}
+use Rattle.wesl_validate.specs.First.{first}
+use Rattle.wesl_validate.specs.Rings.{IsFirstOnRing}
+use Rattle.wesl_validate.specs.Faults.{fault, IsFaultless, IsFirstFault, duplicate, undefined, miscall, ring}
+use Rattle.weslc_unit.specs.declared.error.UnitRefusal.{UnitRefusal}
+use Rattle.weslc_unit.specs.declared.error.UnitRefusal.TheVariants.{Validate, UnclearName, Eval, Unprintable, OutOfMemory}
+use Rattle.weslc_unit.specs.Compiled.{IsLowered, IsTextOf, IsCompiled, Refuses}
+use Rattle.weslc_unit.specs.Once.{SameRefusal, CompiledOnce, RefusedOnce, CompiledOrRefused}
+
+-- ---- the first of a list
+
+none : {A : Type 0} (xs : List A) (x : A) → xs ≡ [] → first xs ≡ Some x → ⊥
+none xs x e h = let same : first xs ≡ None = ap first e in cc
+
+same_first : {A : Type 0} (xs : List A) (x y : A) → first xs ≡ Some x → first xs ≡ Some y → x ≡ y
+same_first xs x y h k = cc
+
+-- ---- faults
+
+module _ (rows : List Row) where
+  same_ring : (i j : ℕ) → IsFirstOnRing rows i → IsFirstOnRing rows j → i ≡ j
+  same_ring i j a b = at (cases_order i j)
+    where
+      at : (i ≡ j) ⊎ ((i < j) ⊎ (j < i)) → i ≡ j
+      at (inl e) = e
+      at (inr (inl l)) = absurd (b.before i l a.ring)
+      at (inr (inr l)) = absurd (a.before j l b.ring)
+
+  same_row : (i j : ℕ) (r q : Row) → i ≡ j → slice_get rows i ≡ Some r → slice_get rows j ≡ Some q → r ≡ q
+  same_row i j r q e h k = cc
+
+module _ (unit : Module) (table : List Name) where
+  -- a unit without fault has no first fault
+  pub faultless_or_faulty : (f : ValidateFault) → IsFaultless unit table → IsFirstFault unit table f → ⊥
+  faultless_or_faulty _ n (duplicate f h) = none _ f n.flat.distinct h
+  faultless_or_faulty _ n (undefined f d h) = none _ f n.flat.defined h
+  faultless_or_faulty _ n (miscall f d u h) = none _ f n.flat.called h
+  faultless_or_faulty _ n (ring i r flat h k) = n.ringless i k.ring
+
+  -- a unit has one first fault
+  pub faulty_once : (f g : ValidateFault) → IsFirstFault unit table f → IsFirstFault unit table g → f ≡ g
+  faulty_once _ _ (duplicate f h) (duplicate g k) = same_first _ f g h k
+  faulty_once _ _ (duplicate f h) (undefined g d k) = absurd (none _ f d h)
+  faulty_once _ _ (duplicate f h) (miscall g d u k) = absurd (none _ f d h)
+  faulty_once _ _ (duplicate f h) (ring j q flat l k) = absurd (none _ f flat.distinct h)
+  faulty_once _ _ (undefined f d h) (duplicate g k) = absurd (none _ g d k)
+  faulty_once _ _ (undefined f d h) (undefined g e k) = same_first _ f g h k
+  faulty_once _ _ (undefined f d h) (miscall g e u k) = absurd (none _ f u h)
+  faulty_once _ _ (undefined f d h) (ring j q flat l k) = absurd (none _ f flat.defined h)
+  faulty_once _ _ (miscall f d u h) (duplicate g k) = absurd (none _ g d k)
+  faulty_once _ _ (miscall f d u h) (undefined g e k) = absurd (none _ g u k)
+  faulty_once _ _ (miscall f d u h) (miscall g e v k) = same_first _ f g h k
+  faulty_once _ _ (miscall f d u h) (ring j q flat l k) = absurd (none _ f flat.called h)
+  faulty_once _ _ (ring i r flat s a) (duplicate g k) = absurd (none _ g flat.distinct k)
+  faulty_once _ _ (ring i r flat s a) (undefined g d k) = absurd (none _ g flat.defined k)
+  faulty_once _ _ (ring i r flat s a) (miscall g d u k) = absurd (none _ g flat.called k)
+  faulty_once _ _ (ring i r flat s a) (ring j q level l b) =
+      ap (λ w. fault Cycle w.name w.name) (same_row _ i j r q (same_ring _ i j a b) s l)
+
+-- ---- what a unit is lowered to
+
+same_low : (unit low other : Module) → IsLowered unit low → IsLowered unit other → low ≡ other
+same_low unit low other a b = let is : Ok low ≡ Ok other = sym a.lowered ∙ b.lowered in cc
+
+reads_back : (unit : Module) (text : List ℕ) (c : IsCompiled unit text) → IsTextOf c.low (unit_text c.low)
+reads_back unit text c = subst (IsTextOf c.low) c.whole c.reads
+
+-- ---- the laws
+
+pub compiled_once : CompiledOnce
+compiled_once unit one other a b = a.whole ∙ ap unit_text (same_low unit a.low b.low a.lowered b.lowered) ∙ sym b.whole
+
+pub refused_once : RefusedOnce
+refused_once unit (Validate f) (Validate g) a b = faulty_once unit builtin_names f g a b
+refused_once unit (Validate f) (UnclearName y) a b = absurd (faultless_or_faulty unit builtin_names f b.0 a)
+refused_once unit (Validate f) (Eval q) a b = absurd (faultless_or_faulty unit builtin_names f b.0 a)
+refused_once unit (Validate f) (Unprintable y) a b = absurd (faultless_or_faulty unit builtin_names f b.1.valid a)
+refused_once unit (Validate f) OutOfMemory a b = tt
+refused_once unit (UnclearName x) (Validate g) a b = absurd (faultless_or_faulty unit builtin_names g a.0 b)
+refused_once unit (UnclearName x) (UnclearName y) a b = same_first _ x y a.1 b.1
+refused_once unit (UnclearName x) (Eval q) a b = absurd (none _ x b.1 a.1)
+refused_once unit (UnclearName x) (Unprintable y) a b = absurd (none _ x b.1.clear a.1)
+refused_once unit (UnclearName x) OutOfMemory a b = tt
+refused_once unit (Eval r) (Validate g) a b = absurd (faultless_or_faulty unit builtin_names g a.0 b)
+refused_once unit (Eval r) (UnclearName y) a b = absurd (none _ y a.1 b.1)
+refused_once unit (Eval r) (Eval q) a b = cc (a.2, b.2)
+refused_once unit (Eval r) (Unprintable y) a b = absurd (cc (a.2, b.1.lowered))
+refused_once unit (Eval r) OutOfMemory a b = tt
+refused_once unit (Unprintable x) (Validate g) a b = absurd (faultless_or_faulty unit builtin_names g a.1.valid b)
+refused_once unit (Unprintable x) (UnclearName y) a b = absurd (none _ y a.1.clear b.1)
+refused_once unit (Unprintable x) (Eval q) a b = absurd (cc (a.1.lowered, b.2))
+refused_once unit (Unprintable x) (Unprintable y) a b = tt
+refused_once unit (Unprintable x) OutOfMemory a b = tt
+refused_once unit OutOfMemory q a b = tt
+
+pub compiled_or_refused : CompiledOrRefused
+compiled_or_refused unit text (Validate f) a b = absurd (faultless_or_faulty unit builtin_names f a.lowered.valid b)
+compiled_or_refused unit text (UnclearName x) a b = absurd (none _ x a.lowered.clear b.1)
+compiled_or_refused unit text (Eval r) a b = absurd (cc (a.lowered.lowered, b.2))
+compiled_or_refused unit text (Unprintable x) a b =
+    absurd (b.2 (subst (λ l. IsTextOf l (unit_text l)) (same_low unit a.low b.0 a.lowered b.1) (reads_back unit text a)))
+compiled_or_refused unit text OutOfMemory a b = refl

@@ -1,0 +1,28 @@
+-- A unit is compiled or refused in one way, whatever does it.
+use Rattle.std.specs.Prelude.{◌≡◌, ⊤, List, ℕ}
+use Rattle.wgsl_syntax.specs.Tree.{Unit}
+use Rattle.weslc_unit.specs.declared.error.UnitRefusal.{UnitRefusal}
+use Rattle.weslc_unit.specs.declared.error.UnitRefusal.TheVariants.{Validate, UnclearName, Eval, Unprintable, OutOfMemory}
+use Rattle.weslc_unit.specs.Compiled.{IsCompiled, Refuses}
+
+-- Two refusals tell the same. That memory was refused tells nothing, and where no text stands for a unit the name is not compared.
+abbrev pub SameRefusal : UnitRefusal → UnitRefusal → Type 0
+SameRefusal (Validate f) (Validate g) = f ≡ g
+SameRefusal (UnclearName x) (UnclearName y) = x ≡ y
+SameRefusal (Eval r) (Eval q) = r ≡ q
+SameRefusal (Unprintable x) (Unprintable y) = ⊤
+SameRefusal OutOfMemory q = ⊤
+SameRefusal r OutOfMemory = ⊤
+SameRefusal r q = ⊥
+
+-- a unit has one compiled text
+abbrev pub CompiledOnce : Type 0
+CompiledOnce = (unit : Unit) (one other : List ℕ) → IsCompiled unit one → IsCompiled unit other → one ≡ other
+
+-- it is refused in one way
+abbrev pub RefusedOnce : Type 0
+RefusedOnce = (unit : Unit) (one other : UnitRefusal) → Refuses unit one → Refuses unit other → SameRefusal one other
+
+-- what is compiled is refused for memory alone
+abbrev pub CompiledOrRefused : Type 0
+CompiledOrRefused = (unit : Unit) (text : List ℕ) (refusal : UnitRefusal) → IsCompiled unit text → Refuses unit refusal → refusal ≡ OutOfMemory
