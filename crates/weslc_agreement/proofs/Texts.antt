@@ -5,7 +5,6 @@ use Rattle.wgsl_syntax.specs.Print.{unit_text}
 use Rattle.wgsl_eval.specs.declared.error.Refusal.{Refusal}
 use Rattle.wgsl_lower.specs.Lowered.{lowered_unit}
 use Rattle.wesl_sources.specs.Rounds.{Sources}
-use Rattle.wesl_meaning.specs.Agreement.{OnlyAskedUnitsCount, ListedModulesAreAlike, HoldsOfAlikeModules}
 use Rattle.wesl_meaning.specs.Determined.{IsFunctional}
 use Rattle.weslc_unit.specs.Compiled.{IsCompiled}
 use Rattle.weslc_agreement.specs.Texts.{CompiledTextsAreOne, LinkedTextsAreOne}
@@ -20,12 +19,11 @@ pub compiled_once : (one two : Unit) → one ≡ two → (text more : List ℕ) 
 compiled_once one two same text more a b =
     a.whole ∙ ap unit_text (low_once (lowered_unit two) a.low b.low (ap lowered_unit (sym same) ∙ a.lowered.lowered) b.lowered.lowered) ∙ sym b.whole
 
-module _ (asked_units : (found other : Sources) → OnlyAskedUnitsCount found other) (listed_alike : (found : Sources) → ListedModulesAreAlike found) (of_alike : HoldsOfAlikeModules)
-         (found other : Sources) (functional : IsFunctional other) where
+module _ (found other : Sources) (functional : IsFunctional other) where
   pub compiled_texts_are_one : CompiledTextsAreOne found other
   compiled_texts_are_one apart root asked max has one two a b =
-      compiled_once a.linked b.linked (units_are_one asked_units listed_alike of_alike found other functional apart root asked max has a.linked b.linked a.from b.from) one two a.compiled b.compiled
+      compiled_once a.linked b.linked (units_are_one found other functional apart root asked max has a.linked b.linked a.from b.from) one two a.compiled b.compiled
 
   pub linked_texts_are_one : LinkedTextsAreOne found other
   linked_texts_are_one apart root asked max has one two a b =
-      a.whole ∙ ap unit_text (units_are_one asked_units listed_alike of_alike found other functional apart root asked max has a.linked b.linked a.from b.from) ∙ sym b.whole
+      a.whole ∙ ap unit_text (units_are_one found other functional apart root asked max has a.linked b.linked a.from b.from) ∙ sym b.whole

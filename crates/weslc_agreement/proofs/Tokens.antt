@@ -5,12 +5,13 @@ use Rattle.wgsl_lex.proofs.Once.{lexed_once}
 use Rattle.wgsl_parse.proofs.Texts as parsing
 use Rattle.wgsl_syntax.specs.Tree.{Unit}
 use Rattle.wgsl_laws.specs.Printing.{StandsFor}
-use Rattle.wgsl_laws.specs.Same.{HaveSameTokens, SameTokensStandForTheSame, ImportsOfTextsAreApart}
+use Rattle.wgsl_laws.specs.Same.{HaveSameTokens}
+use Rattle.wgsl_laws.proofs.Apart.{imports_of_texts_are_apart}
+use Rattle.wgsl_laws.proofs.Same.{same_tokens_stand_for_the_same}
 use Rattle.wesl_resolve.specs.Found.{Answer, unit_of, not_found, faulty}
 use Rattle.wesl_sources.specs.Occurrences.{Name}
 use Rattle.wesl_sources.specs.Modules.{Path}
 use Rattle.wesl_sources.specs.Named.{ImportsAreApart}
-use Rattle.wesl_meaning.specs.Agreement.{OnlyAskedUnitsCount, ListedModulesAreAlike, HoldsOfAlikeModules}
 use Rattle.wesl_meaning.specs.Determined.{IsFunctional}
 use Rattle.wesl_sources.specs.Rounds.{Sources}
 use Rattle.weslc_unit.specs.Compiled.{IsTextOf}
@@ -43,50 +44,46 @@ found_text : (o : Option (List ℕ)) (u : Unit) → found_in o (unit_of u) → (
 found_text None u is = absurd (cc)
 found_text (Some text) u is = (text, stands_for text u is.says)
 
+-- ---- texts with the same tokens
+
 turned : (one other : List ℕ) → HaveSameTokens one other → HaveSameTokens other one
 turned one other h = record { ones = h.others; others = h.ones; one_lexed = h.other_lexed; other_lexed = h.one_lexed; same = sym h.same }
 
+read_too : (one other : List ℕ) → HaveSameTokens one other → (u : Unit) → IsTextOf u one → IsTextOf u other
+read_too one other same u is = text_of other u (same_tokens_stand_for_the_same one other same u (stands_for one u is))
+
+says_too : (one other : List ℕ) → HaveSameTokens one other → (u : Unit) → SaysOnly one (unit_of u) → SaysOnly other (unit_of u)
+says_too one other same u s = record { says = is; only = only }
+  where
+    is : IsTextOf u other
+    is = read_too one other same u s.says
+
+    only : (b : Answer) → Says other b → b ≡ unit_of u
+    only (unit_of v) it = s.only (unit_of v) (read_too other one (turned one other same) v it)
+    only not_found none = absurd none
+    only (faulty e) fault = absurd (parsing.apart (lexed_once other) is.1 fault)
+
+found_too : (o p : Option (List ℕ)) → AreOfSameTokens o p → (u : Unit) → found_in o (unit_of u) → found_in p (unit_of u)
+found_too None None same u is = is
+found_too None (Some other) same u is = absurd same
+found_too (Some one) None same u is = absurd same
+found_too (Some one) (Some other) same u is = says_too one other same u is
+
+has_units : (one other : VirtualResolver) (root : Path) (asked : List Name) (max : ℕ) → HaveTheSameTokens one other root asked max → HasAskedUnits (added one) root asked max (added other)
+has_units one other root asked max same p asks u is = found_too (text_at one p) (text_at other p) (same p asks) u is
+
 -- ---- the laws
 
-module _ (imports_apart : ImportsOfTextsAreApart) where
-  pub added_imports_are_apart : AddedImportsAreApart
-  added_imports_are_apart r p q u v a b found it names other printed =
-      let one = found_text (text_at r p) u found in
-      let two = found_text (text_at r q) v it in
-      imports_apart one.0 two.0 u v one.1 two.1 names.import other.import a b names.stands other.stands names.is_path other.is_path printed
+pub added_imports_are_apart : AddedImportsAreApart
+added_imports_are_apart r p q u v a b found it names other printed =
+    let one = found_text (text_at r p) u found in
+    let two = found_text (text_at r q) v it in
+    imports_of_texts_are_apart one.0 two.0 u v one.1 two.1 names.import other.import a b names.stands other.stands names.is_path other.is_path printed
 
-module _ (same_stand : SameTokensStandForTheSame) where
-  read_too : (one other : List ℕ) → HaveSameTokens one other → (u : Unit) → IsTextOf u one → IsTextOf u other
-  read_too one other same u is = text_of other u (same_stand one other same u (stands_for one u is))
+pub same_tokens_compile_alike : SameTokensCompileAlike
+same_tokens_compile_alike one other root asked max same =
+    compiled_texts_are_one (added one) (added other) (added_once other) (added_imports_are_apart one) root asked max (has_units one other root asked max same)
 
-  says_too : (one other : List ℕ) → HaveSameTokens one other → (u : Unit) → SaysOnly one (unit_of u) → SaysOnly other (unit_of u)
-  says_too one other same u s = record { says = is; only = only }
-    where
-      is : IsTextOf u other
-      is = read_too one other same u s.says
-
-      only : (b : Answer) → Says other b → b ≡ unit_of u
-      only (unit_of v) it = s.only (unit_of v) (read_too other one (turned one other same) v it)
-      only not_found none = absurd none
-      only (faulty e) fault = absurd (parsing.apart (lexed_once other) is.1 fault)
-
-  found_too : (o p : Option (List ℕ)) → AreOfSameTokens o p → (u : Unit) → found_in o (unit_of u) → found_in p (unit_of u)
-  found_too None None same u is = is
-  found_too None (Some other) same u is = absurd same
-  found_too (Some one) None same u is = absurd same
-  found_too (Some one) (Some other) same u is = says_too one other same u is
-
-  has_units : (one other : VirtualResolver) (root : Path) (asked : List Name) (max : ℕ) → HaveTheSameTokens one other root asked max → HasAskedUnits (added one) root asked max (added other)
-  has_units one other root asked max same p asks u is = found_too (text_at one p) (text_at other p) (same p asks) u is
-
-module _ (asked_units : (found other : Sources) → OnlyAskedUnitsCount found other) (listed_alike : (found : Sources) → ListedModulesAreAlike found) (of_alike : HoldsOfAlikeModules)
-         (same_stand : SameTokensStandForTheSame) (imports_apart : ImportsOfTextsAreApart) where
-  pub same_tokens_compile_alike : SameTokensCompileAlike
-  same_tokens_compile_alike one other root asked max same text more a b =
-      compiled_texts_are_one asked_units listed_alike of_alike (added one) (added other) (added_once other) (added_imports_are_apart imports_apart one) root asked max
-      (has_units same_stand one other root asked max same) text more a b
-
-  pub same_tokens_link_alike : SameTokensLinkAlike
-  same_tokens_link_alike one other root asked max same text more a b =
-      linked_texts_are_one asked_units listed_alike of_alike (added one) (added other) (added_once other) (added_imports_are_apart imports_apart one) root asked max
-      (has_units same_stand one other root asked max same) text more a b
+pub same_tokens_link_alike : SameTokensLinkAlike
+same_tokens_link_alike one other root asked max same =
+    linked_texts_are_one (added one) (added other) (added_once other) (added_imports_are_apart one) root asked max (has_units one other root asked max same)

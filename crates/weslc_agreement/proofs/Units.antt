@@ -8,8 +8,10 @@ use Rattle.wesl_sources.specs.Named.{ImportsAreApart}
 use Rattle.wesl_sources.specs.Rounds.{Sources, Loads, loaded, ComesTo, goes_on}
 use Rattle.wesl_sources.specs.Kept.{kept_names}
 use Rattle.wesl_sources.specs.Linked.{IsLinked}
-use Rattle.wesl_meaning.specs.Agreement.{OnlyAskedUnitsCount, ListedModulesAreAlike, HoldsOfAlikeModules, AreAlike}
+use Rattle.wesl_meaning.specs.Agreement.{AreAlike}
 use Rattle.wesl_meaning.specs.Determined.{listed, IsFunctional}
+use Rattle.wesl_meaning.proofs.Agreement.{listed_modules_are_alike, holds_of_alike_modules}
+use Rattle.wesl_meaning.proofs.Asked.{only_asked_units_count}
 use Rattle.wesl_meaning.proofs.Loading.{loaded_modules, found_modules}
 use Rattle.wesl_meaning.proofs.Unique.{linked_units_are_one}
 use Rattle.weslc_laws.specs.Headline.{AreKept, IsLinkedFrom}
@@ -22,8 +24,7 @@ some_loaded found max p ps _ (loaded some is distinct printed more) = some
 pub some_come : (found : Sources) (root : Path) (keep : List Name) (max : ℕ) (modules : Modules) → ComesTo found root keep max (Ok modules) → 0 < max
 some_come found root keep max modules (goes_on l declared on) = some_loaded found max root [] _ l
 
-module _ (asked_units : (found other : Sources) → OnlyAskedUnitsCount found other) (listed_alike : (found : Sources) → ListedModulesAreAlike found) (of_alike : HoldsOfAlikeModules)
-         (found other : Sources) (functional : IsFunctional other) (apart : ImportsAreApart found) (root : Path) (asked : List Name) (max : ℕ) (has : HasAskedUnits found root asked max other) where
+module _ (found other : Sources) (functional : IsFunctional other) (apart : ImportsAreApart found) (root : Path) (asked : List Name) (max : ℕ) (has : HasAskedUnits found root asked max other) where
   -- the names that are kept are the same
   kept_alike : (kept more : List Name) → 0 < max → AreKept found root asked kept → AreKept other root asked more → kept ≡ more
   kept_alike kept more some a b =
@@ -37,8 +38,8 @@ module _ (asked_units : (found other : Sources) → OnlyAskedUnitsCount found ot
   units_are_one one two a b =
       let kept = sym (kept_alike a.kept b.kept (some_come found root a.kept max a.modules a.loaded) a.are_kept b.are_kept) in
       let come = subst (λ k. ComesTo other root k max (Ok b.modules)) kept b.loaded in
-      let same : listed a.modules ≡ listed b.modules = asked_units found other functional root a.kept max (λ p asks u is. has p (behind_the_root a.are_kept asks) u is) a.modules b.modules a.loaded come in
-      let alike : AreAlike root a.modules b.modules = listed_alike found root a.modules b.modules same (found_modules found root a.kept max a.modules a.loaded) apart a.named b.named in
+      let same : listed a.modules ≡ listed b.modules = only_asked_units_count found other functional root a.kept max (λ p asks u is. has p (behind_the_root a.are_kept asks) u is) a.modules b.modules a.loaded come in
+      let alike : AreAlike root a.modules b.modules = listed_modules_are_alike found root a.modules b.modules same (found_modules found root a.kept max a.modules a.loaded) apart a.named b.named in
       linked_units_are_one b.modules root a.kept one two (loaded_modules other root a.kept max b.modules come)
-      (of_alike.linked one root a.modules b.modules alike a.kept a.linked_well.linked)
+      (holds_of_alike_modules.linked one root a.modules b.modules alike a.kept a.linked_well.linked)
       (subst (λ k. IsLinked b.modules root k two) kept b.linked_well.linked)
