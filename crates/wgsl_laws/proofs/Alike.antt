@@ -1,7 +1,6 @@
 -- Tokens that differ from others in their places alone, and what every such tokens are.
-use Rattle.std.proofs.Common.{◌≡◌, refl, sym, ap, subst, List, [], ◌∷◌, ◌++◌, map, append-nil}
+use Rattle.std.proofs.Common.{◌≡◌, refl, subst, List, [], ◌∷◌, ◌++◌, map, append-nil}
 use Rattle.wgsl_path.specs.declared.span.Span.{Span}
-use Rattle.wgsl_token.specs.declared.token.Token.{Token}
 use Rattle.wgsl_token.specs.declared.token.SpannedToken.{SpannedToken}
 use Rattle.wgsl_phrases.specs.Languages.{Listed, last, last_separated, more, OptionallyListed, no_list, list, Repeated, no_more, again}
 use Rattle.wgsl_laws.specs.Same.{tokens_of}

@@ -1,5 +1,5 @@
 -- Imports of texts name modules by paths that are told apart by how they are printed.
-use Rattle.std.proofs.Common.{◌≡◌, refl, sym, ap, ◌∙◌, subst, ℕ, ◌==◌, not, Bool, true, false, ◌&&◌, ◌||◌, List, [], ◌∷◌, ◌++◌, append_assoc, map, codes, Option, Some, None, lit<}
+use Rattle.std.proofs.Common.{◌≡◌, refl, sym, ap, ◌∙◌, subst, ℕ, ◌==◌, not, Bool, true, false, ◌||◌, List, [], ◌∷◌, ◌++◌, append_assoc, map, Some, lit<}
 use Rattle.std.specs.List.{list_all, AllByRecursion, Contains}
 use Rattle.std.specs.Str.{encode_utf8_all}
 use Rattle.std.proofs.Math.Utf8.{encode}
@@ -7,13 +7,12 @@ use Rattle.std.proofs.lemmas.Bool.{and_parts, and_from}
 use Rattle.std.proofs.lemmas.List.Elements.{All-contains, All-from_recursion}
 use Rattle.std.proofs.lemmas.Str.Ascii.{encode_ascii}
 use Rattle.std.proofs.lemmas.Str.{encode_same, cons_from_encodes}
-use Rattle.unicode_ident.specs.Ident.{is_xid_start, is_xid_continue}
+use Rattle.unicode_ident.specs.Ident.{is_xid_continue}
 use Rattle.unicode_ident.proofs.Computing.{unicode_ident}
 use Rattle.wgsl_path.specs.declared.path.PathOrigin.TheVariants.{Absolute}
 use Rattle.wgsl_path.specs.declared.path.ModulePath.{ModulePath}
 use Rattle.wgsl_path.specs.Paths.{components_text, path_text}
 use Rattle.wgsl_token.specs.declared.token.Token.TheVariants as t
-use Rattle.wgsl_token.specs.declared.token.Fixed.TheVariants as f
 use Rattle.wgsl_token.specs.declared.token.SpannedToken.{SpannedToken}
 use Rattle.wgsl_syntax.specs.declared.import.ImportStatement.{ImportStatement}
 use Rattle.wgsl_syntax.specs.declared.unit.TranslationUnit.{TranslationUnit}
@@ -22,7 +21,8 @@ use Rattle.wgsl_syntax.specs.View.{import_tree, unit_tree}
 use Rattle.wgsl_phrases.specs.Languages.{Repeated, no_more, again}
 use Rattle.wgsl_grammar.specs.Declarations.{IsComponents, no_components, component, IsImport, importing, IsUnit, unit}
 use Rattle.wgsl_lex.specs.Tokens.{is_word}
-use Rattle.wgsl_lex.proofs.Bools.{differs, not_both}
+use Rattle.wgsl_lex.proofs.Bools.{differs}
+use Rattle.wgsl_lex.proofs.Tables.{begins_word}
 use Rattle.wgsl_laws.specs.Printing.{StandsFor}
 use Rattle.wgsl_laws.specs.Same.{ImportsOfTextsAreApart}
 use Rattle.wgsl_laws.proofs.Pieces.{Spelled, identifier_word}
@@ -45,21 +45,13 @@ record IsName (name : List ℕ) : Type 0 where
 abbrev AreNames : List (List ℕ) → Type 0
 AreNames = AllByRecursion IsName
 
-colon_starts_no_word : is_xid_start 58 ≡ false
+colon_begins_no_word : begins_word 58 ≡ false
 unfolding unicode_ident
-colon_starts_no_word = refl
+colon_begins_no_word = refl
 
 colon_continues_no_word : is_xid_continue 58 ≡ false
 unfolding unicode_ident
 colon_continues_no_word = refl
-
--- begins a word of several characters
-word_start : ℕ → Bool
-word_start c = is_xid_start c || (c == 95)
-
-colon_begins_no_word : word_start 58 ≡ false
-unfolding word_start
-colon_begins_no_word = ap (λ b. b || false) colon_starts_no_word
 
 continued_plain : (cs : List ℕ) → list_all is_xid_continue cs ≡ true → list_all is_plain cs ≡ true
 continued_plain [] h = refl
@@ -68,12 +60,11 @@ continued_plain (c ∷ cs) h =
     and_from _ _ (ap not (differs is_xid_continue c 58 one colon_continues_no_word)) (continued_plain cs others)
 
 word_plain : (cs : List ℕ) → is_word cs ≡ true → list_all is_plain cs ≡ true
-unfolding word_start
 word_plain [] h = absurd cc
-word_plain (c ∷ []) h = and_from _ _ (ap not (differs is_xid_start c 58 h colon_starts_no_word)) refl
+word_plain (c ∷ []) h = and_from _ _ (ap not (differs begins_word c 58 (ap (λ b. b || (c == 95)) h) colon_begins_no_word)) refl
 word_plain (c ∷ d ∷ cs) h =
-    let (one, others) = and_parts (word_start c) (list_all is_xid_continue (d ∷ cs)) h in
-    and_from _ _ (ap not (differs word_start c 58 one colon_begins_no_word)) (continued_plain (d ∷ cs) others)
+    let (one, others) = and_parts (begins_word c) (list_all is_xid_continue (d ∷ cs)) h in
+    and_from _ _ (ap not (differs begins_word c 58 one colon_begins_no_word)) (continued_plain (d ∷ cs) others)
 
 word_name : (id : List ℕ) → Spelled (t.Identifier id) → IsName id
 word_name id spelled =
@@ -140,7 +131,7 @@ names_apart (d ∷ cs) [] r s p q b c e =
     absurd (no_name_left d s (encode_utf8_all cs ++ r) (and_parts (is_plain d) (list_all is_plain cs) p).0 c (sym e ∙ append_assoc (encode d) (encode_utf8_all cs) r))
 names_apart (x ∷ cs) (y ∷ ds) r s p q b c e =
     let (same, others) = encode_same x y (encode_utf8_all cs ++ r) (encode_utf8_all ds ++ s)
-        (sym (append_assoc (encode x) (encode_utf8_all cs) r) ∙ e ∙ append_assoc (encode y) (encode_utf8_all ds) s) in
+    (sym (append_assoc (encode x) (encode_utf8_all cs) r) ∙ e ∙ append_assoc (encode y) (encode_utf8_all ds) s) in
     let (front, back) = names_apart cs ds r s (and_parts (is_plain x) (list_all is_plain cs) p).1 (and_parts (is_plain y) (list_all is_plain ds) q).1 b c others in
     (λ i. same i ∷ front i, back)
 
@@ -151,7 +142,7 @@ components_apart (x ∷ xs) [] h i e = absurd cc
 components_apart (x ∷ xs) (y ∷ ys) (h, hs) (i, is) e =
     let behind : x ++ components_text xs ≡ y ++ components_text ys = cc in
     let (front, back) = names_apart h.characters i.characters (components_text xs) (components_text ys) h.plain i.plain (components_behind xs) (components_behind ys)
-        (ap (λ n. n ++ components_text xs) h.spell ∙ behind ∙ ap (λ n. n ++ components_text ys) (sym i.spell)) in
+    (ap (λ n. n ++ components_text xs) h.spell ∙ behind ∙ ap (λ n. n ++ components_text ys) (sym i.spell)) in
     let name : x ≡ y = sym h.spell ∙ ap encode_utf8_all front ∙ i.spell in
     let names = components_apart xs ys hs is back in
     λ k. name k ∷ names k

@@ -26,18 +26,17 @@ use Rattle.wgsl_syntax.specs.Tree as tree
 use Rattle.wgsl_syntax.specs.View.{node_tree, type_tree, attribute_tree, attributes_tree, statement_tree, parameter_tree, declaration_tree, import_tree, unit_tree}
 use Rattle.wgsl_syntax.proofs.Trees.{tree_of_literal, tree_of_named, tree_of_parenthesized, tree_of_unary, tree_of_binary, tree_of_call}
 use Rattle.wgsl_phrases.specs.Languages.{Repeated, OptionallyListed}
-use Rattle.wgsl_grammar.specs.Terminals.{fixed, word, node, type_named, IsComma, literal_of, additive, multiplicative}
+use Rattle.wgsl_grammar.specs.Terminals.{fixed, word, type_named, IsComma, literal_of, additive, multiplicative}
 use Rattle.wgsl_grammar.specs.Expressions.{IsPrimary, number, name, paren, IsArguments, no_arguments, arguments, IsExpressions, last_expression, last_and_comma, more_expressions, IsUnary, primary, negation, IsProduct, unary, times, IsSum, product, plus, negated, joined as operation}
 use Rattle.wgsl_grammar.specs.Expressions as grammar
-use Rattle.wgsl_grammar.specs.Attributes.{IsTrailing, no_comma, comma, IsAttribute, fragment, location, fragment_of, location_of}
-use Rattle.wgsl_grammar.specs.Declarations.{IsIdent, ident, IsType, type, IsAttributes, IsParameter, parameter, parameter_of, IsAnnotation, unannotated, annotated, IsResult, no_result, result_of, IsValue, no_value, value, IsBody, empty_body, returns, return_of, IsDeclaration, constant, constant_of, function, function_of, IsComponents, no_components, component, IsImport, importing, import_of, IsUnit, unit}
-use Rattle.wgsl_lex.specs.Tokens.{IsLexed}
+use Rattle.wgsl_grammar.specs.Attributes.{IsTrailing, no_comma, comma, IsAttribute, fragment, location}
+use Rattle.wgsl_grammar.specs.Declarations.{IsIdent, ident, IsType, type, IsAttributes, IsParameter, parameter, parameter_of, IsAnnotation, unannotated, annotated, IsResult, no_result, result_of, IsValue, no_value, value, IsBody, empty_body, returns, return_of, IsDeclaration, constant, function, IsComponents, no_components, component, IsImport, importing, import_of, IsUnit, unit}
 use Rattle.wgsl_lex.proofs.Once.{lexed_once}
 use Rattle.wgsl_laws.specs.Printing.{StandsFor}
 use Rattle.wgsl_laws.specs.Same.{SameTokensStandForTheSame}
 use Rattle.wgsl_laws.proofs.Prints.{Nothing, nothing, Is, is, Joined, joined}
 use Rattle.wgsl_laws.proofs.Back.{Means, means}
-use Rattle.wgsl_laws.proofs.Alike.{Like, Alike, like_same, alike_as, alike_then, alike_behind, alike_nothing, alike_token, repeated_alike, optionally_listed_alike}
+use Rattle.wgsl_laws.proofs.Alike.{Alike, like_same, alike_as, alike_then, alike_behind, alike_nothing, alike_token, repeated_alike, optionally_listed_alike}
 
 comma_anywhere : (k : SpannedToken) (s : Span) → IsComma k → IsComma (record { token = k.token; span = s })
 comma_anywhere k s (c, e) = (s, ap (λ h. record { token = h.token; span = s }) e)
