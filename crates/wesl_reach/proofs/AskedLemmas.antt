@@ -84,7 +84,7 @@ module _ (find more : Loaded) (grows : Grows find more) where
   meant_unloaded : (home : Path) (u : Symbol) (o : Option Known) → meant_as find home o ≡ unloaded u → meant_as more home o ≡ item_at u (more u.home)
   meant_unloaded home u None e = absurd (cc)
   meant_unloaded home u (Some (declared j)) e = absurd (cc)
-  meant_unloaded home u (Some (imported v)) e = ap (λ (w : Symbol). item_at w (more w.home)) (item_unloaded v u (find v.home) e)
+  meant_unloaded home u (Some (imported v)) e = ap (λ (w : Symbol). item_at w (more w.home)) (item_unloaded v.1 u (find v.1.home) e)
   meant_unloaded home u (Some (bare y)) e = absurd (cc)
 
   pub asked_leads : (root : Path) (keep : List Name) (u : Symbol) → IsAskedAt find root keep u → (m : Path) (place : ℕ) → item_at u (more u.home) ≡ symbol_at m place

@@ -39,6 +39,7 @@ module _ (l : Linking) where
     followed = all;
     asked_at = w.in_order.asked_at;
     by_name = w.in_order.by_name;
+    by_import = w.in_order.by_import;
   }
 
   pub refused_whole : (held : HeldNames) (asked : AskedNames) (missing : Bool) (reached : List Place) (o : Option ImportError) (e : ImportError) → o ≡ Some e

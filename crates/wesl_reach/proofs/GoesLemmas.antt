@@ -19,6 +19,7 @@ use Rattle.wgsl_syntax.specs.Tree.{Unit}
 use Rattle.wgsl_syntax.specs.View.{unit_tree}
 use Rattle.wesl_sources.specs.Occurrences.{Name}
 use Rattle.wesl_sources.specs.Modules.{Path, Symbol, Modules, IsModule, Declares}
+use Rattle.wesl_sources.specs.Named.{HasImportOf, AreNamedByImports}
 use Rattle.wesl_sources.specs.Rounds.{Sources, Refusal, too_many_modules, missing_decl, Loads, all_loaded, one_too_many, is_not_found, is_faulty, has_a_name_twice, loaded_then_refused, loaded as one_loaded, IsNextRound, NoneRefused, IsFirstRefused, Goes, an_occurrence_refused, a_module_refused, a_round, IsFirstUnkept, ComesTo, root_refused, kept_name_missing, goes_on}
 use Rattle.wesl_sources.specs.Rounds as rounds
 use Rattle.wesl_scopes.specs.declared.error.ImportError.{ImportError}
@@ -34,12 +35,12 @@ use Rattle.wesl_reach.specs.Reach.{KeepsAll, IsRooted}
 use Rattle.wesl_reach.specs.Closing.{HeldNames, name_among, held_at}
 use Rattle.wesl_reach.specs.Resolved.{LoadedModules, modules_of, IsResolved}
 use Rattle.wesl_reach.specs.Stages.{AskedNames, name_asked}
-use Rattle.wesl_reach.specs.Closed.{HoldsNothing, IsClosed, IsFirstUndeclared, IsStopped, RefusesClosing, RefusesRoot}
+use Rattle.wesl_reach.specs.Closed.{HoldsNothing, IsNamedInTable, AreAskedByImport, AreNamedInTable, IsLoadedOn, IsClosed, IsFirstUndeclared, IsStopped, RefusesClosing, RefusesRoot}
 use Rattle.wesl_reach.specs.Answers.{AreLoadedTables, Refuses}
-use Rattle.wesl_reach.specs.Loading.{AreTabled, paths_of, AreSought, RefusesLoading, IsLoadedOne, AreAllLoaded, IsRoundEnd}
+use Rattle.wesl_reach.specs.Loading.{AreTabled, paths_of, AreSought, IsOldOrAsked, RefusesLoading, IsLoadedOne, AreAllLoaded, IsRoundEnd}
 use Rattle.wesl_reach.proofs.RefusedLemmas as refused
 use Rattle.wesl_reach.proofs.RefusedLemmas.{closed_refuses_none, stopped_refused}
-use Rattle.wesl_reach.proofs.LoadLemmas.{AskedEntry, texts_of, in_left, one_in, path_and_unit, found_listed, listed_found, one_tabled, one_then}
+use Rattle.wesl_reach.proofs.LoadLemmas.{AskedEntry, texts_of, in_left, one_in, path_and_unit, found_listed, listed_found, old_or_new, one_tabled, one_then}
 
 -- ---- the modules of a table, by their paths
 
@@ -91,7 +92,7 @@ module _ (find : Loaded) where
   meant_unloaded : (m : Path) (s : Symbol) (o : Option Known) → meant_as find m o ≡ unloaded s → find s.home ≡ None
   meant_unloaded m s None e = absurd (cc)
   meant_unloaded m s (Some (declared j)) e = absurd (cc)
-  meant_unloaded m s (Some (imported t)) e = item_unloaded t s (find t.home) refl e
+  meant_unloaded m s (Some (imported t)) e = item_unloaded t.1 s (find t.1.home) refl e
   meant_unloaded m s (Some (bare y)) e = absurd (cc)
 
 pub all_sought : (ms : LoadedModules) (root : Path) (keep : List Name) (held : HeldNames) (asked : AskedNames) → IsClosed ms root keep held asked → AreSought ms asked
@@ -164,6 +165,33 @@ module _ (ms : LoadedModules) (modules : Modules) (t : AreTabled ms modules) (ro
     is_resolved held asked closed empty =
         refused.is_resolved ms root keep held asked t.keyed (tabled_finder ms (modules_of ms) (self_tabled ms modules t)) (rooted held closed.kept) closed empty
 
+-- ---- the paths under which modules stand
+
+named_grows : (old : LoadedModules) (asked : AskedNames) (new : LoadedModules) (path : ModulePath) → IsLoadedOn old asked new → IsNamedInTable old path → IsNamedInTable new path
+named_grows old asked new path on n = record { home = n.home; one = n.one; stands = on.stay n.home n.one n.stands; has = n.has }
+
+-- what was asked for by an import is named by it
+named_more : (old : LoadedModules) (asked : AskedNames) (new : LoadedModules) (root : Path) → IsLoadedOn old asked new
+    → ((p : Path) (m : Module) → get_by_text new p ≡ Some m → IsOldOrAsked old asked p m) → AreAskedByImport old asked → AreNamedInTable old root → AreNamedInTable new root
+named_more old asked new root on only by_import before p m here other = ⊎_elim
+    (λ old_one. named_grows old asked new m.path on (before p m old_one other))
+    (λ came. subst (IsNamedInTable new) (sym came.2) (named_grows old asked new came.0.path on (by_import p came.0 came.1)))
+    (only p m here)
+
+-- the modules of a table stand in the list under the same paths
+named_by_imports : (ms : LoadedModules) (modules : Modules) (root : Path) → AreTabled ms modules → AreNamedInTable ms root → AreNamedByImports modules root
+named_by_imports ms modules root t named path u there other =
+    let f = listed_found ms t.ordered (path, u) ((t.same (path, u)).0 there) in
+    let same : f.1.path ≡ path = ap (λ (x : ModulePath × Unit). x.0) f.3 in
+    let key : path_text path ≡ f.0 = ap path_text (sym same) ∙ sym f.1.printed ∙ t.keyed f.0 f.1 f.2 in
+    let n = named f.0 f.1 f.2 (λ is. other (key ∙ is)) in
+    record {
+      home = n.one.path;
+      unit = unit_tree n.one.unit;
+      loaded = (t.same (path_and_unit n.one)).1 (found_listed ms n.home n.one n.stands);
+      has = subst (HasImportOf (unit_tree n.one.unit)) same n.has;
+    }
+
 -- ---- the rounds
 
 all_of_them : (sources : Sources) (max n : ℕ) (ps : List Path) (more : Modules) → Loads sources max n ps (Ok more) → length more ≡ length ps
@@ -180,6 +208,7 @@ module _ (sources : Sources) (max : ℕ) (root : Path) (keep : List Name) (r : R
     modules = e.modules;
     loaded = e.goes (Ok e.modules) (rounds.nothing_asked none (nothing_asked r.modules e.modules e.tabled root keep r.held asked e.closed empty));
     same = e.tabled.same;
+    named = named_by_imports r.modules e.modules root e.tabled e.named;
   }
 
   pub sought : AreSought r.modules asked
@@ -230,6 +259,7 @@ module _ (sources : Sources) (max : ℕ) (root : Path) (keep : List Name) (r : R
         unit = e.unit;
         rooted = record { path = e.rooted.path; stands = in_left e.modules l.more (e.rooted.path, e.unit) e.rooted.stands; printed = e.rooted.printed };
         closed = subst (λ ms. IsClosed ms root keep after.held more) (sym same) closed;
+        named = subst (λ ms. AreNamedInTable ms root) (sym same) (named_more r.modules asked new root l.on l.only e.closed.by_import e.named);
         many = omega (arith, length-append e.modules l.more, all_of_them sources max (length e.modules) (paths_of asked) l.more l.loads, one_at_least asked.entries some, e.many);
         goes = λ o g. e.goes o (a_round none next (not_empty asked.entries some) l.loads g);
       }
@@ -244,7 +274,7 @@ module _ (sources : Sources) (max : ℕ) (root : Path) (keep : List Name) where
   root_not_loaded None l = tt
   root_not_loaded (Some r) l = root_refused (l [])
 
-  module _ (old new : LoadedModules) (empty : old.entries ≡ []) (l : IsLoadedOne sources max old root new) where
+  module _ (path : ModulePath) (old new : LoadedModules) (empty : old.entries ≡ []) (l : IsLoadedOne sources max old path root new) where
     nowhere : (p : Path) → get_by_text old p ≡ None
     nowhere p = ap (lookup (λ k. is_eq (slice_cmp nat_cmp p (string_bytes k)))) empty
 
@@ -272,6 +302,12 @@ module _ (sources : Sources) (max : ℕ) (root : Path) (keep : List Name) where
     kept_there held kept =
         declares_kept (loaded new) root keep held (unit_tree l.one.unit) (found_root new (path_and_unit l.one ∷ []) tabled root keep (unit_tree l.one.unit) at_root) kept
 
+    root_alone : AreNamedInTable new root
+    root_alone p m here other = ⊎_elim
+        (λ before. absurd (let both : None ≡ Some m = sym (nowhere p) ∙ before in cc))
+        (λ came. absurd (other (sym came.0)))
+        (old_or_new old new root l.one (nowhere root) l.stands p m here)
+
     pub root_ended : (r : Reached) (asked : AskedNames) → r.modules ≡ new → IsClosed new root keep r.held asked → IsRoundEnd sources max root keep r asked 1
     root_ended r asked same closed = record {
       modules = path_and_unit l.one ∷ [];
@@ -279,6 +315,7 @@ module _ (sources : Sources) (max : ℕ) (root : Path) (keep : List Name) where
       unit = unit_tree l.one.unit;
       rooted = at_root;
       closed = subst (λ ms. IsClosed ms root keep r.held asked) (sym same) closed;
+      named = subst (λ ms. AreNamedInTable ms root) (sym same) root_alone;
       many = omega arith;
       goes = λ o g. goes_on there (kept_there r.held closed.kept) g;
     }

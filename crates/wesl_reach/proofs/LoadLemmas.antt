@@ -36,7 +36,7 @@ use Rattle.wesl_reach.specs.declared.linking.AskedModule.{AskedModule}
 use Rattle.wesl_reach.specs.Missing.{refusal_of}
 use Rattle.wesl_reach.specs.Resolved.{LoadedModules, modules_of}
 use Rattle.wesl_reach.specs.Stages.{AskedNames}
-use Rattle.wesl_reach.specs.Loading.{AreTabled, paths_of, AreSought, RefusesLoading, IsLoadedOne, AreAllLoaded}
+use Rattle.wesl_reach.specs.Loading.{AreTabled, paths_of, AreSought, IsOldOrAsked, RefusesLoading, IsLoadedOne, AreAllLoaded}
 use Rattle.wesl_reach.proofs.PresentLemmas.{DoneBut, in_cases, all_done}
 
 -- ---- one module
@@ -73,12 +73,13 @@ module _ (sources : Sources) (max n : ℕ) (path : ModulePath) (p : Path) (is : 
   pub module_loaded : (old new : LoadedModules) (key : String Global) (unit : TranslationUnit) (one : Module) (o : Option Module) → length old.entries < max
       → sources (path_text path) (unit_of (unit_tree unit)) → (one.path ≡ path) × (one.unit ≡ unit) × AreDistinct (scope_names (unit_tree unit))
       → string_bytes key ≡ p → Updates string_cmp old new key (Some one) → o ≡ get string_cmp old key
-      → btree_map_len new ≡ btree_map_len old + (if is_some o then 0 else 1) → IsOrdered string_cmp new → IsLoadedOne sources max old p new
+      → btree_map_len new ≡ btree_map_len old + (if is_some o then 0 else 1) → IsOrdered string_cmp new → IsLoadedOne sources max old path p new
   module_loaded old new key unit one o less s m k u was many ordered = record {
     one = one;
     within = less;
     found = subst (λ t. sources t (unit_of (unit_tree one.unit))) is (subst (λ t. sources (path_text path) (unit_of (unit_tree t))) (sym m.1) s);
     distinct = subst (λ t. AreDistinct (scope_names (unit_tree t))) (sym m.1) m.2;
+    named = m.0;
     printed = ap path_text m.0 ∙ is;
     stands = λ q. btree_map_updates_text (string_bytes key) old new (Some one) u q ∙ ap (λ t. if bytes_eq t q then Some one else get_by_text old q) k;
     many = λ none.
@@ -152,8 +153,8 @@ module _ (old new : LoadedModules) (p : Path) (one : Module) (none : get_by_text
       at true is = let both : Some one ≡ Some m = sym (stands q ∙ ap (λ b. if b then Some one else get_by_text old q) is) ∙ e in let same : one ≡ m = cc in inr (same_name p q is, same)
       at false is = inl (sym (stands q ∙ ap (λ b. if b then Some one else get_by_text old q) is) ∙ e)
 
-pub one_tabled : (sources : Sources) (max : ℕ) (old new : LoadedModules) (modules : Modules) (p : Path) → AreTabled old modules → get_by_text old p ≡ None
-    → (l : IsLoadedOne sources max old p new) → AreTabled new (modules ++ path_and_unit l.one ∷ [])
+pub one_tabled : (sources : Sources) (max : ℕ) (old new : LoadedModules) (modules : Modules) {path : ModulePath} (p : Path) → AreTabled old modules → get_by_text old p ≡ None
+    → (l : IsLoadedOne sources max old path p new) → AreTabled new (modules ++ path_and_unit l.one ∷ [])
 one_tabled sources max old new modules p t none l = record {
   keyed = λ q m e. ⊎_elim (λ before. t.keyed q m before) (λ now. ap (λ (x : Module). string_bytes x.text) (sym now.1) ∙ l.one.printed ∙ l.printed ∙ now.0) (old_or_new old new p l.one none l.stands q m e);
   ordered = l.ordered;
@@ -198,19 +199,21 @@ pub same_refuses : (a b : Sources) (max n : ℕ) (ps : List Path) (r : Option Re
 same_refuses a b max n ps None same l = tt
 same_refuses a b max n ps (Some r) same l = same_loads a b max n ps (Err r) same l
 
-pub same_loaded_one : (a b : Sources) (max : ℕ) (old : LoadedModules) (p : Path) (new : LoadedModules) → SameAnswers a b → IsLoadedOne b max old p new → IsLoadedOne a max old p new
+pub same_loaded_one : (a b : Sources) (max : ℕ) (old : LoadedModules) {path : ModulePath} (p : Path) (new : LoadedModules) → SameAnswers a b → IsLoadedOne b max old path p new
+    → IsLoadedOne a max old path p new
 same_loaded_one a b max old p new same l = record {
   one = l.one;
   within = l.within;
   found = (same p (unit_of (unit_tree l.one.unit))).1 l.found;
   distinct = l.distinct;
+  named = l.named;
   printed = l.printed;
   stands = l.stands;
   many = l.many;
   ordered = l.ordered;
 }
 
-pub one_then : (sources : Sources) (max n : ℕ) (old : LoadedModules) (p : Path) (new : LoadedModules) (l : IsLoadedOne sources max old p new) → n ≡ length old.entries → (ps : List Path)
+pub one_then : (sources : Sources) (max n : ℕ) (old : LoadedModules) {path : ModulePath} (p : Path) (new : LoadedModules) (l : IsLoadedOne sources max old path p new) → n ≡ length old.entries → (ps : List Path)
     → (o : Result Modules Refusal) → Loads sources max (n + 1) ps o → Loads sources max n (p ∷ ps) (behind (path_and_unit l.one ∷ []) o)
 one_then sources max n old p new l same ps (Ok more) rest = let less : n < max = omega (arith, same, l.within) in loaded less l.found l.distinct l.printed rest
 one_then sources max n old p new l same ps (Err r) rest = let less : n < max = omega (arith, same, l.within) in loaded_then_refused less l.found l.distinct rest
@@ -226,6 +229,8 @@ pub record IsLoadedTo (sources : Sources) (max : ℕ) (old : LoadedModules) (mod
   pub goes : (o : Result Modules Refusal) → Loads sources max (length (modules ++ more)) (texts_of left) o → Loads sources max (length modules) (paths_of asked) (behind more o)
   pub stay : (p : Path) (m : Module) → get_by_text old p ≡ Some m → get_by_text now p ≡ Some m
   pub come : DoneBut (λ e. (m : Module) × (get_by_text now (string_bytes e.0) ≡ Some m)) left asked.entries
+  pub only : (p : Path) (m : Module) → get_by_text now p ≡ Some m → IsOldOrAsked old asked p m
+  pub among : (i : ℕ) (e : AskedEntry) → slice_get left i ≡ Some e → get_by_text asked (string_bytes e.0) ≡ Some e.1
   pub new : (i : ℕ) (e : AskedEntry) → slice_get left i ≡ Some e → (path_text e.1.path ≡ string_bytes e.0) × (get_by_text now (string_bytes e.0) ≡ None)
   pub sorted : IsStrictlySortedBy string_cmp (map (λ e. e.0) left)
 
@@ -237,6 +242,8 @@ none_loaded sources max old modules asked t sought ordered = record {
   goes = λ o l. whole o (subst (λ ms. Loads sources max (length ms) (paths_of asked) o) (append-nil modules) l);
   stay = λ p m e. e;
   come = λ e c. inr c;
+  only = λ p m here. inl here;
+  among = λ i e is. btree_map_get_place string_cmp_total asked i e.0 e.1 ordered is;
   new = λ i e is. sought (string_bytes e.0) e.1 (btree_map_get_place string_cmp_total asked i e.0 e.1 ordered is);
   sorted = ordered;
 }
@@ -263,7 +270,7 @@ module _ (sources : Sources) (max : ℕ) (old : LoadedModules) (modules : Module
           t.goes (Err r) (subst (λ ps. Loads sources max (length (modules ++ t.more)) ps (Err r)) (sym (ap texts_of is))
           (subst (λ n. Loads sources max n (string_bytes e.0 ∷ texts_of rest) (Err r)) (sym t.tabled.many) l))
 
-  module _ (new : LoadedModules) (l : IsLoadedOne sources max now (string_bytes e.0) new) where
+  module _ (new : LoadedModules) (l : IsLoadedOne sources max now e.1.path (string_bytes e.0) new) where
     abbrev one : ModulePath × Unit
     one = path_and_unit l.one
 
@@ -297,6 +304,15 @@ module _ (sources : Sources) (max : ℕ) (old : LoadedModules) (modules : Module
           (λ later. inr later)
           (in_cases e rest x (subst (λ l. Contains l x) is more)))
           (t.come x c);
+      only = λ p m here. ⊎_elim
+          (λ before. t.only p m before)
+          (λ came. inr (
+            e.1,
+            ap (get_by_text asked) (sym came.0) ∙ t.among 0 e (ap (λ l. slice_get l 0) is),
+            ap (λ (x : Module). x.path) (sym came.1) ∙ l.named,
+          ))
+          (old_or_new now new (string_bytes e.0) l.one first_new.1 l.stands p m here);
+      among = λ i x here. t.among (suc i) x (ap (λ l. slice_get l (suc i)) is ∙ here);
       new = λ i x here.
           let before = t.new (suc i) x (ap (λ l. slice_get l (suc i)) is ∙ here) in
           let less = all_at (map (λ e. e.0) rest) i x.0 (sorted_head string_cmp e.0 (map (λ e. e.0) rest) sorted_left) (get_map (λ (y : AskedEntry). y.0) rest i x here) in
@@ -318,10 +334,11 @@ all_are_loaded sources max old modules asked now left is t = record {
         let done = all_done (λ (e : AskedEntry). (m : Module) × (get_by_text now (string_bytes e.0) ≡ Some m)) left asked.entries is t.come (f.1, a) (to_contains asked.entries f.0 (f.1, a) f.2) in
         (done.0, subst (λ q. get_by_text now q ≡ Some done.0) f.3 done.1);
   };
+  only = t.only;
 }
 
 pub two_same : {X : Type 0} (a b c : Path → X → Type 0) → ((p : Path) (x : X) → a p x ↔ b p x) → ((p : Path) (x : X) → b p x ↔ c p x) → (p : Path) (x : X) → a p x ↔ c p x
 two_same a b c one two p x = (λ h. (two p x).0 ((one p x).0 h), λ h. (one p x).1 ((two p x).1 h))
 
 pub same_all_loaded : (a b : Sources) (max : ℕ) (old : LoadedModules) (modules : Modules) (asked : AskedNames) (new : LoadedModules) → SameAnswers a b → AreAllLoaded b max old modules asked new → AreAllLoaded a max old modules asked new
-same_all_loaded a b max old modules asked new same l = record { more = l.more; loads = same_loads a b max (length modules) (paths_of asked) (Ok l.more) same l.loads; tabled = l.tabled; on = l.on }
+same_all_loaded a b max old modules asked new same l = record { more = l.more; loads = same_loads a b max (length modules) (paths_of asked) (Ok l.more) same l.loads; tabled = l.tabled; on = l.on; only = l.only }

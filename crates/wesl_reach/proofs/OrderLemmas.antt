@@ -26,7 +26,7 @@ use Rattle.wesl_reach.specs.declared.linking.AskedModule.{AskedModule}
 use Rattle.wesl_reach.specs.Closing.{HeldNames, held_at, Holds}
 use Rattle.wesl_reach.specs.Stages.{AskedNames, name_asked, asks}
 use Rattle.wesl_reach.specs.Resolved.{LoadedModules, IsKeyed}
-use Rattle.wesl_reach.specs.Closed.{IsNamedAt, IsAskedAt, AreAskedByName}
+use Rattle.wesl_reach.specs.Closed.{IsNamedAt, IsAskedAt, AreAskedByName, AreAskedByImport, IsNamedInTable}
 use Rattle.wesl_reach.specs.Underway.{IsPlaced, NamesAll, IsInOrder}
 
 -- ---- printed names
@@ -89,7 +89,7 @@ module _ (find : Loaded) (keyed : Keyed find) where
       at : (k : Option Known) → known h.1 x ≡ k → meant_as find h.0 k ≡ symbol_at m place → StandsIn find m place
       at None f g = absurd (cc)
       at (Some (bare y)) f g = absurd (cc)
-      at (Some (imported u)) f g = item_stands u m place (find u.home) refl g
+      at (Some (imported u)) f g = item_stands u.1 m place (find u.1.home) refl g
       at (Some (declared j)) f g = declared_stands h x j p m place there f g
 
 placed_there : (ms : LoadedModules) (s : Place) → get_by_text ms (string_bytes s.«module».now.text) ≡ Some s.«module».now
@@ -116,17 +116,18 @@ placed_denoted ms home p x s keyed is there e =
     (outcome_stands (loaded ms) (keyed_finds ms keyed) (home_of home) p x (string_bytes s.«module».now.text) s.place there (sym e))
 
 pub same_order : (l : Linking) (old new : HeldNames) (asked : AskedNames) → IsInOrder l old asked → NamesAll l new → IsInOrder l new asked
-same_order l old new asked before more = record { named = more; asked_at = before.asked_at; by_name = before.by_name }
+same_order l old new asked before more = record { named = more; asked_at = before.asked_at; by_name = before.by_name; by_import = before.by_import }
 
 -- ---- what is asked for
 
 pub order_asked : (l : Linking) (held : HeldNames) (old new : AskedNames) (u : Symbol) → IsAskedAt (loaded l.modules.now) l.root.now l.keep.now u
     → ((s : Symbol) → asks new s ≡ (if bytes_eq u.home s.home then (if bytes_eq u.name s.name then true else asks old s) else asks old s))
-    → (AreAskedByName old → AreAskedByName new) → IsInOrder l held old → IsInOrder l held new
-order_asked l held old new u now more by_name before = record {
+    → (AreAskedByName old → AreAskedByName new) → (AreAskedByImport l.modules.now old → AreAskedByImport l.modules.now new) → IsInOrder l held old → IsInOrder l held new
+order_asked l held old new u now more by_name by_import before = record {
   named = before.named;
   asked_at = λ s e. at s (bytes_eq u.home s.home) (bytes_eq u.name s.name) refl refl (sym (more s) ∙ e);
   by_name = by_name before.by_name;
+  by_import = by_import before.by_import;
 }
   where
     at : (s : Symbol) (b c : Bool) → bytes_eq u.home s.home ≡ b → bytes_eq u.name s.name ≡ c → (if b then (if c then true else asks old s) else asks old s) ≡ true
@@ -155,3 +156,17 @@ asked_by_name old mid new took more key t x others added path is put before p a 
         subst (λ (b : AskedModule). (path_text b.path ≡ p) × ((y : Name) × (name_asked (Some b) y ≡ true))) it
         (path ∙ same_name t p same, (x, added x ∙ ap (λ b. if b then true else name_asked (Some took) x) (self_name x)))
     at false same e = before p a e
+
+pub asked_by_import : (ms : LoadedModules) (old mid new : AskedNames) (more : AskedModule) (key : String Global) (t : Name)
+    → ((n : Path) → get_by_text mid n ≡ (if bytes_eq t n then None else get_by_text old n)) → IsNamedInTable ms more.path
+    → string_bytes key ≡ t → Updates string_cmp mid new key (Some more) → AreAskedByImport ms old → AreAskedByImport ms new
+asked_by_import ms old mid new more key t others named is put before p a e = at (bytes_eq t p) (sym (found p) ∙ e)
+  where
+    found : (n : Path) → get_by_text new n ≡ (if bytes_eq t n then Some more else (if bytes_eq t n then None else get_by_text old n))
+    found n =
+        btree_map_updates_text (string_bytes key) mid new (Some more) put n ∙ ap (λ u. if bytes_eq u n then Some more else get_by_text mid n) is
+        ∙ ap (λ o. if bytes_eq t n then Some more else o) (others n)
+
+    at : (b : Bool) → (if b then Some more else (if b then None else get_by_text old p)) ≡ Some a → IsNamedInTable ms a.path
+    at true e = let it : more ≡ a = cc in subst (λ (b : AskedModule). IsNamedInTable ms b.path) it named
+    at false e = before p a e

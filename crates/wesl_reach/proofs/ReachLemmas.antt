@@ -48,7 +48,7 @@ module _ (modules : Modules) (find : Loaded) (finder : IsFinder modules find) wh
         let t = at_home m.0 u x is has in
         (t.0, ap (λ (h : Path × Unit). meant_as find m.0 (known h.1 x)) (found_unit m.0 u m is here) ∙ ap (meant_as find m.0) t.1, t.2)
 
-    pub import_found : (s : Symbol) → IsImported modules m.0 x s → known m.1 x ≡ Some (imported s)
+    pub import_found : (s : Symbol) → (to : IsImported modules m.0 x s) → known m.1 x ≡ Some (imported (to.path, s))
     import_found s to =
         let i = to.is_import in
         let unit : m ≡ (m.0, i.unit) = found_unit m.0 i.unit m i.is_module here in
@@ -57,7 +57,7 @@ module _ (modules : Modules) (find : Loaded) (finder : IsFinder modules find) wh
         ∙ ap (known i.unit) (sym i.local)
         ∙ means
         ∙ ap (λ o. Some (import_known o to.import.item)) to.is_path
-        ∙ (λ k. Some (imported (record { home = to.home k; name = to.item k })))
+        ∙ (λ k. Some (imported (to.path, record { home = to.home k; name = to.item k })))
 
     -- what a name denotes is what is found
     pub denoted : {s : Symbol} → Denotes modules m.0 x s → (j : ℕ) × (outcome find m x ≡ symbol_at s.home j) × StandsAt modules s.home j s

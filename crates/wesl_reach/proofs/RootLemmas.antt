@@ -26,6 +26,7 @@ asks_nothing l held asked empty named = record {
   named = named;
   asked_at = λ s e. let both : false ≡ true = ap (λ o. name_asked o s.name) (sym (none s.home)) ∙ e in absurd (cc);
   by_name = λ p a e. let both : None ≡ Some a = sym (none p) ∙ e in absurd (cc);
+  by_import = λ p a e. let both : None ≡ Some a = sym (none p) ∙ e in absurd (cc);
 }
   where
     none : (p : Path) → get_by_text asked p ≡ None

@@ -20,7 +20,7 @@ module _ (find more : Loaded) (grows : Grows find more) where
   meant_grown : (home m : Path) (k : ℕ) (o : Option Known) → meant_as find home o ≡ symbol_at m k → meant_as more home o ≡ symbol_at m k
   meant_grown home m k None e = e
   meant_grown home m k (Some (declared j)) e = e
-  meant_grown home m k (Some (imported t)) e = item_grown t m k (find t.home) refl e
+  meant_grown home m k (Some (imported t)) e = item_grown t.1 m k (find t.1.home) refl e
   meant_grown home m k (Some (bare y)) e = e
 
   pub reached_grown : (root : Path) (keep : List Name) → {m : Path} {k : ℕ} → ReachedAt find root keep m k → ReachedAt more root keep m k
@@ -51,7 +51,7 @@ module _ (find more : Loaded) (grows : Grows find more) where
     meant_handled : (home : Path) (o : Option Known) → Handled s (meant_as find home o) → Handled t (meant_as more home o)
     meant_handled home None h = tt
     meant_handled home (Some (declared j)) h = held home j h
-    meant_handled home (Some (imported u)) h = item_handled u (find u.home) refl h
+    meant_handled home (Some (imported u)) h = item_handled u.1 (find u.1.home) refl h
     meant_handled home (Some (bare y)) h = let both : false ≡ true = sym sure ∙ h in absurd (cc)
 
     pub followed_grown : (m : Path) (k : ℕ) (g : Path × Unit) → find m ≡ Some g → IsFollowed find s m k → IsFollowed more t m k

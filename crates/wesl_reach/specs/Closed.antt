@@ -4,12 +4,14 @@ use Rattle.std.specs.Option.{IsSome}
 use Rattle.std.specs.List.{Contains}
 use Rattle.std.specs.Str.{bytes_eq}
 use Rattle.std.specs.BTreeMap.{get_by_text}
+use Rattle.wgsl_path.specs.declared.path.ModulePath.{ModulePath}
 use Rattle.wgsl_path.specs.Paths.{path_text}
 use Rattle.wgsl_syntax.specs.Tree.{Decl, Unit}
 use Rattle.wgsl_syntax.specs.View.{unit_tree}
 use Rattle.wesl_resolve.specs.Mangling.{mangled}
 use Rattle.wesl_sources.specs.Occurrences.{Name, occurrences, declared_name}
 use Rattle.wesl_sources.specs.Modules.{Path, Symbol}
+use Rattle.wesl_sources.specs.Named.{HasImportOf}
 use Rattle.wesl_sources.specs.Rounds.{Refusal, missing_decl}
 use Rattle.wesl_scopes.specs.declared.error.ImportError.{ImportError}
 use Rattle.wesl_scopes.specs.declared.error.ImportError.TheVariants.{OutOfMemory}
@@ -54,6 +56,21 @@ pub record IsAskedAt (find : Loaded) (root : Path) (keep : List Name) (s : Symbo
 abbrev pub AreAskedByName : AskedNames → Type 0
 AreAskedByName asked = (p : Path) (a : AskedModule) → get_by_text asked p ≡ Some a → (path_text a.path ≡ p) × ((x : Name) × (name_asked (Some a) x ≡ true))
 
+-- an import of some module of the table names a module by this path
+pub record IsNamedInTable (ms : LoadedModules) (path : ModulePath) : Type 0 where
+  pub home : Path
+  pub one : Module
+  pub stands : get_by_text ms home ≡ Some one
+  pub has : HasImportOf (unit_tree one.unit) path
+
+-- each module is asked for by a path by which an import of some module of the table names it
+abbrev pub AreAskedByImport : LoadedModules → AskedNames → Type 0
+AreAskedByImport ms asked = (p : Path) (a : AskedModule) → get_by_text asked p ≡ Some a → IsNamedInTable ms a.path
+
+-- each module of the table but the root has a path by which an import of one of them names it
+abbrev pub AreNamedInTable : LoadedModules → Path → Type 0
+AreNamedInTable ms root = (p : Path) (m : Module) → get_by_text ms p ≡ Some m → (p ≡ root → ⊥) → IsNamedInTable ms m.path
+
 -- what is reached is held
 abbrev pub HoldsAllReached : Loaded → Path → List Name → Holding → Type 0
 HoldsAllReached find root keep held = (m : Path) (place : ℕ) → ReachedAt find root keep m place → IsSome (held m place)
@@ -67,6 +84,7 @@ pub record IsClosed (ms : LoadedModules) (root : Path) (keep : List Name) (held 
   pub followed : AllFollowed (loaded ms) (stage held (asks asked) false [])
   pub asked_at : (s : Symbol) → asks asked s ≡ true → IsAskedAt (loaded ms) root keep s
   pub by_name : AreAskedByName asked
+  pub by_import : AreAskedByImport ms asked
 
 -- more modules are loaded: among them those that were asked for
 pub record IsLoadedOn (old : LoadedModules) (asked : AskedNames) (new : LoadedModules) : Type 0 where

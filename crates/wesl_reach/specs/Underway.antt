@@ -22,7 +22,7 @@ use Rattle.wesl_reach.specs.Stages.{AskedNames, asks, stage}
 use Rattle.wesl_reach.specs.Closing.{HeldNames, held_at, LeadsTo, AllReached, IsSound}
 use Rattle.wesl_reach.specs.Missing.{refusal_of}
 use Rattle.wesl_reach.specs.Resolved.{LoadedModules, IsKeyed}
-use Rattle.wesl_reach.specs.Closed.{AreNamed, AreAskedByName, IsAskedAt}
+use Rattle.wesl_reach.specs.Closed.{AreNamed, AreAskedByName, AreAskedByImport, IsAskedAt}
 
 -- a declaration of a module that stands under its own printed path
 pub record IsPlaced (ms : LoadedModules) (s : Place) : Type 0 where
@@ -34,11 +34,12 @@ pub record IsPlaced (ms : LoadedModules) (s : Place) : Type 0 where
 abbrev pub NamesAll : Linking → HeldNames → Type 0
 NamesAll l held = AreNamed l.modules.now l.root.now (held_at held)
 
--- what is held has its printed name, and what is asked for occurs in what is reached and is not loaded
+-- what is held has its printed name, and what is asked for occurs in what is reached, is not loaded, and is named by an import
 pub record IsInOrder (l : Linking) (held : HeldNames) (asked : AskedNames) : Type 0 where
   pub named : NamesAll l held
   pub asked_at : (s : Symbol) → asks asked s ≡ true → IsAskedAt (loaded l.modules.now) l.root.now l.keep.now s
   pub by_name : AreAskedByName asked
+  pub by_import : AreAskedByImport l.modules.now asked
 
 -- what a closing goes on from: what was reached in this round is still to be followed
 pub record IsUnderway (l : Linking) (held : HeldNames) (asked : AskedNames) (missing : Bool) (reached : List Place) : Type 0 where

@@ -15,7 +15,7 @@ ghost use Rattle.wesl_reach.specs.Reach.{KeepsAll, KeepsOne};
 ghost use Rattle.wesl_reach.specs.Stages.{asks, name_asked, stage};
 ghost use Rattle.wgsl_path.specs.Paths.{path_text};
 ghost use Rattle.wesl_reach.specs.Resolved.{LoadedModules, IsKeyed};
-ghost use Rattle.wesl_reach.specs.Closed.{HoldsNothing, IsClosed, IsLoadedOn, RefusesClosing, RefusesRoot, AreAskedByName};
+ghost use Rattle.wesl_reach.specs.Closed.{HoldsNothing, IsClosed, IsLoadedOn, RefusesClosing, RefusesRoot, AreAskedByName, AreAskedByImport, IsNamedInTable};
 ghost use Rattle.wesl_reach.specs.Underway.{IsPlaced, NamesAll, IsInOrder, IsUnderway, IsWhole, LeadsOn, IsSought, EachName, LacksKept};
 ghost use Rattle.wesl_resolve.specs.Mangling.{mangled};
 ghost use Rattle.wgsl_syntax.specs.Tree.{Decl};
@@ -385,6 +385,7 @@ fn printed_name(alloc: Global, root: &str, symbol: Symbol<'_>) -> Result<Text, A
 
 fn ask(alloc: Global, asked: &mut Asked, target: &Target) -> Result<(), AllocError>
     ensures by_name { AreAskedByName asked.old → OnOk result (AreAskedByName asked.new) }
+    ensures by_import { (ms : LoadedModules) → IsNamedInTable ms target.now.path → AreAskedByImport ms asked.old → OnOk result (AreAskedByImport ms asked.new) }
     ensures asks { OnOk result ((s : Sought) → asks asked.new s ≡ (if bytes_eq (string_bytes target.now.text) s.home then (if bytes_eq target.now.item s.name then true else asks asked.old s) else asks asked.old s)) }
 {
     let mut module = take_asked(alloc, asked, target)?;
@@ -399,6 +400,7 @@ fn ask(alloc: Global, asked: &mut Asked, target: &Target) -> Result<(), AllocErr
 fn take_asked(alloc: Global, asked: &mut Asked, target: &Target) -> Result<AskedModule, AllocError>
     ensures names { IfOk result (λ m. (x : spec.Name) → name_asked (Some m) x ≡ asks asked.old (record { home = string_bytes target.now.text; name = x })) }
     ensures paths { AreAskedByName asked.old → IfOk result (λ m. path_text m.path ≡ string_bytes target.now.text) }
+    ensures by_import { (ms : LoadedModules) → IsNamedInTable ms target.now.path → AreAskedByImport ms asked.old → IfOk result (λ m. IsNamedInTable ms m.path) }
     ensures others { OnOk result ((m : Path) → get_by_text asked.new m ≡ (if bytes_eq (string_bytes target.now.text) m then None else get_by_text asked.old m)) }
 {
     match asked.remove(target.text.as_str()) {

@@ -159,7 +159,7 @@ fn load_one<R: Resolver>(
     path: &ModulePath,
     max_modules: u32,
 ) -> Result<(), ImportError>
-    ensures loads { path_text path.now ≡ text.now → LoadsOne (R.answers resolver.old) max_modules modules.old text.now modules.new result }
+    ensures loads { path_text path.now ≡ text.now → LoadsOne (R.answers resolver.old) max_modules modules.old path.now text.now modules.new result }
     ensures same_answers { SameAnswers (R.answers resolver.old) (R.answers resolver.new) }
     ensures same_texts { SameTexts (R.texts resolver.old) (R.texts resolver.new) }
 {

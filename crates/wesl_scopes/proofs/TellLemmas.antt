@@ -10,6 +10,7 @@ use Rattle.wgsl_syntax.specs.View.{unit_tree}
 use Rattle.wesl_sources.specs.Occurrences.{Name, declared_name}
 use Rattle.wesl_sources.specs.Modules.{Path, Symbol, Modules, IsModule, Declares, Imports, local_name, IsImport, IsImported, Denotes, own, IsMissing, lacking, IsPrivate, IsFree, IsUnloaded}
 use Rattle.wesl_sources.specs.Modules as spec
+use Rattle.wesl_sources.specs.Named.{HasImportOf}
 use Rattle.wesl_scopes.specs.declared.error.ImportError.{ImportError}
 use Rattle.wesl_scopes.specs.declared.error.ImportError.TheVariants.{OutOfMemory, DuplicateSymbol, TooManyModules, Resolve, MissingDecl, Private}
 use Rattle.wesl_scopes.specs.Meanings.{Known, declared, imported, bare, known, names, first_again, import_known, import_entry, entries, Tabulates}
@@ -46,11 +47,12 @@ import_declares_not : (p : Option ModulePath) (x : Name) (j : ℕ) → import_kn
 import_declares_not None x j e = absurd (cc)
 import_declares_not (Some path) x j e = absurd (cc)
 
-import_target : (p : Option ModulePath) (x : Name) (s : Symbol) → import_known p x ≡ imported s → (path : ModulePath) × (p ≡ Some path) × (path_text path ≡ s.home) × (x ≡ s.name)
-import_target None x s e = absurd (cc)
-import_target (Some path) x s e =
-    let same : record { home = path_text path; name = x } ≡ s = cc in
-    (path, refl, ap (λ (t : Symbol). t.home) same, ap (λ (t : Symbol). t.name) same)
+import_target : (p : Option ModulePath) (x : Name) (t : ModulePath × Symbol) → import_known p x ≡ imported t → (p ≡ Some t.0) × (path_text t.0 ≡ t.1.home) × (x ≡ t.1.name)
+import_target None x t e = absurd (cc)
+import_target (Some path) x t e =
+    let same : (path, record { home = path_text path; name = x }) ≡ t = cc in
+    let is : path ≡ t.0 = ap (λ (u : ModulePath × Symbol). u.0) same in
+    (ap Some is, ap path_text (sym is) ∙ ap (λ (u : ModulePath × Symbol). u.1.home) same, ap (λ (u : ModulePath × Symbol). u.1.name) same)
 
 import_bare : (p : Option ModulePath) (x y : Name) → import_known p x ≡ bare y → (p ≡ None) × (x ≡ y)
 import_bare None x y e = (refl, cc)
@@ -81,6 +83,12 @@ imports u x k other e =
     (λ l. (l.1, to_contains u.imports l.0 l.1 l.2, name_of (import_entry l.1) x k l.3, meaning_of (import_entry l.1) x k l.3))
     (λ r. absurd (other r.0 (meaning_of (declared_name r.1, declared r.0) x k r.3)))
     (entry_cases u m.0 (x, k) m.1)
+
+-- the path of what a name means by an import is that of an import
+pub has_import : (u : Unit) (x : Name) (t : ModulePath × Symbol) → known u x ≡ Some (imported t) → HasImportOf u t.0
+has_import u x t e =
+    let i = imports u x (imported t) (λ j both. absurd (cc)) e in
+    record { import = i.0; stands = i.1; is_path = (import_target i.0.path i.0.item t i.3).0 }
 
 pub has_declared : (u : Unit) (x : Name) (j : ℕ) → known u x ≡ Some (declared j) → Declares u x
 has_declared u x j e = let d = declares u x j e in to_contains (map declared_name u.declarations) j x (get_map declared_name u.declarations j d.0 d.1 ∙ ap (λ y. Some y) d.2)
@@ -114,11 +122,11 @@ module _ (modules : Modules) (find : Loaded) (finder : IsFinder modules find) (m
       let i = imports u x k other e in
       (i.0, record { unit = u; is_module = home; undeclared = not_declared u x (Some k) fresh e (λ j both. other j (let same : k ≡ declared j = cc in sym same)); stands = i.1; local = i.2 }, i.3)
 
-  target : (s : Symbol) → known u x ≡ Some (imported s) → IsImported modules m.0 x s
-  target s e =
-      let i = import_of (imported s) (λ j both. absurd (cc)) e in
-      let t = import_target i.0.path i.0.item s i.2 in
-      record { import = i.0; is_import = i.1; path = t.0; is_path = t.1; home = t.2; item = t.3 }
+  target : (t : ModulePath × Symbol) → known u x ≡ Some (imported t) → IsImported modules m.0 x t.1
+  target t e =
+      let i = import_of (imported t) (λ j both. absurd (cc)) e in
+      let is = import_target i.0.path i.0.item t i.2 in
+      record { import = i.0; is_import = i.1; path = t.0; is_path = is.0; home = is.1; item = is.2 }
 
   sought : (s : Symbol) (h : Path × Unit) → IsImported modules m.0 x s → find s.home ≡ Some h → (o : Option Known) → known h.1 s.name ≡ o → Tells modules m.0 x (item_in h.0 s o)
   sought s h to is None e =
@@ -146,7 +154,7 @@ module _ (modules : Modules) (find : Loaded) (finder : IsFinder modules find) (m
   told (Some (declared j)) e =
       let d = declares u x j e in
       (record { home = m.0; name = x }, record { unit = u; declaration = d.0; is_module = home; stands = d.1; home = refl; name = sym d.2 }, own home (has_declared u x j e))
-  told (Some (imported s)) e = sought_at s (target s e) (find s.home) refl
+  told (Some (imported t)) e = sought_at t.1 (target t e) (find t.1.home) refl
   told (Some (bare y)) e =
       let i = import_of (bare y) (λ j both. absurd (cc)) e in
       let b = import_bare i.0.path i.0.item y i.2 in

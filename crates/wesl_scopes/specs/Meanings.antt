@@ -21,14 +21,15 @@ use Rattle.wesl_scopes.specs.declared.target.Meaning.TheVariants.{Declared, Impo
 abbrev pub Done : Type 0
 Done = Prim.Unit {0}
 
--- a module's declaration at this place, an item of another module, or an item that is named with no module before it
+-- a module's declaration at this place, an item of another module and the path by which that is named, or an item that is named
+-- with no module before it
 pub data Known : Type 0 where
   declared : ℕ → Known
-  imported : Symbol → Known
+  imported : ModulePath × Symbol → Known
   bare : Name → Known
 
 abbrev pub import_known : Option ModulePath → Name → Known
-import_known (Some path) item = imported (record { home = path_text path; name = item })
+import_known (Some path) item = imported (path, record { home = path_text path; name = item })
 import_known None item = bare item
 
 abbrev pub import_entry : Imp → Name × Known
@@ -50,7 +51,7 @@ known u x = meant (entries u) x
 
 abbrev pub known_of : Meaning → Known
 known_of (Declared place) = declared place
-known_of (Imported t) = imported (record { home = string_bytes t.text; name = t.item })
+known_of (Imported t) = imported (t.path, record { home = string_bytes t.text; name = t.item })
 known_of (Bare item) = bare item
 
 abbrev pub Table : Type 0

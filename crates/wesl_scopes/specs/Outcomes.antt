@@ -9,6 +9,7 @@ use Rattle.wgsl_syntax.specs.Tree.{Unit}
 use Rattle.wgsl_syntax.specs.View.{unit_tree}
 use Rattle.wesl_sources.specs.Occurrences.{Name}
 use Rattle.wesl_sources.specs.Modules.{Path, Symbol}
+use Rattle.wesl_sources.specs.Named.{HasImportOf}
 use Rattle.wesl_scopes.specs.Meanings.{Known, declared, imported, bare, known}
 use Rattle.wesl_scopes.specs.declared.module.Module.{Module}
 use Rattle.wesl_scopes.specs.declared.denote.Denoted.{Denoted}
@@ -41,7 +42,7 @@ item_at s (Some m) = item_in m.0 s (known m.1 s.name)
 abbrev pub meant_as : Loaded → Path → Option Known → Outcome
 meant_as loaded m None = free
 meant_as loaded m (Some (declared place)) = symbol_at m place
-meant_as loaded m (Some (imported s)) = item_at s (loaded s.home)
+meant_as loaded m (Some (imported t)) = item_at t.1 (loaded t.1.home)
 meant_as loaded m (Some (bare y)) = missing (record { home = m; name = y })
 
 -- a name that occurs in a module
@@ -80,3 +81,8 @@ DenotesInTable modules d = ⊤
 abbrev pub StandsUnder : BTreeMap (String Global) Module → Path → Item → Type 0
 StandsUnder modules path (item.Declared found) = get_by_text modules path ≡ Some found.«module».now
 StandsUnder modules path i = ⊤
+
+-- where a name denotes an item of a module that is not loaded, an import of this unit names that module by the target's path
+abbrev pub IsNamedIn : Unit → Denoted → Type 0
+IsNamedIn unit (Unloaded t) = HasImportOf unit t.now.path
+IsNamedIn unit d = ⊤

@@ -1,8 +1,11 @@
 //! What names denote.
 
 ghost use Rattle.std.specs.Prelude.{◌≡◌, Some, string_bytes};
+ghost use Rattle.wgsl_syntax.specs.Tree.{Unit};
+ghost use Rattle.wgsl_syntax.specs.View.{unit_tree};
 ghost use Rattle.wesl_sources.specs.Modules as spec;
-ghost use Rattle.wesl_scopes.specs.Outcomes.{item_at, item_outcome, outcome, outcome_of, home_of, loaded, IsInTable, DenotesInTable, StandsUnder};
+ghost use Rattle.wesl_sources.specs.Named.{HasImportOf};
+ghost use Rattle.wesl_scopes.specs.Outcomes.{item_at, item_outcome, outcome, outcome_of, home_of, loaded, IsInTable, DenotesInTable, StandsUnder, IsNamedIn};
 ghost use Rattle.wesl_scopes.specs.Tells.{IsFinder, Tells};
 
 use crate::module::{Module, Modules};
@@ -50,6 +53,7 @@ pub fn denotation<'a>(modules: &'a Modules, module: &'a Module, name: &str) -> D
     ensures found { outcome_of result ≡ outcome (loaded modules.now) (home_of module.now) name.now }
     ensures means { (ms : spec.Modules) → IsFinder ms (loaded modules.now) → loaded modules.now (string_bytes module.now.text) ≡ Some (home_of module.now) → Tells ms (string_bytes module.now.text) name.now (outcome_of result) }
     ensures in_table { IsInTable modules.now module.now → DenotesInTable modules.now result }
+    ensures named { IsNamedIn (unit_tree module.now.unit) result }
 {
     looked_up(modules, module, name)
 }
@@ -57,6 +61,7 @@ pub fn denotation<'a>(modules: &'a Modules, module: &'a Module, name: &str) -> D
 fn looked_up<'a>(modules: &'a Modules, module: &'a Module, name: &str) -> Denoted<'a>
     ensures in_table { IsInTable modules.now module.now → DenotesInTable modules.now result }
     ensures found { outcome_of result ≡ outcome (loaded modules.now) (home_of module.now) name.now }
+    ensures named { IsNamedIn (unit_tree module.now.unit) result }
 {
     match module.meanings.get(name) {
         None => Denoted::Free,
@@ -71,6 +76,7 @@ fn looked_up<'a>(modules: &'a Modules, module: &'a Module, name: &str) -> Denote
 
 fn sought<'a>(modules: &'a Modules, target: &'a Target) -> Denoted<'a>
     ensures in_table { DenotesInTable modules.now result }
+    ensures named { (unit : Unit) → HasImportOf unit target.now.path → IsNamedIn unit result }
     ensures found { outcome_of result ≡ item_at (record { home = string_bytes target.now.text; name = target.now.item }) (loaded modules.now (string_bytes target.now.text)) }
 {
     match item_of(modules, target.text.as_str(), target.item.as_str()) {

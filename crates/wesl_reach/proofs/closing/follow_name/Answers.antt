@@ -48,4 +48,7 @@ returns-in_ok-ask-in-Unloaded-clause-in_order c = λ keyed reached before.
       occurs = c.requires.occurs;
       is_unloaded = sym c.in-Unloaded.ensures.found;
     })
-    c.in_ok-ask-in-Unloaded.ensures.asks c.in_ok-ask-in-Unloaded.ensures.by_name before
+    c.in_ok-ask-in-Unloaded.ensures.asks c.in_ok-ask-in-Unloaded.ensures.by_name
+    (c.in_ok-ask-in-Unloaded.ensures.by_import c.args.linking.now.modules.now
+    (record { home = c.requires.in_table.0; one = c.args.home.now; stands = c.requires.in_table.1; has = c.in-Unloaded.ensures.named }))
+    before

@@ -31,7 +31,7 @@ loop-text-preserved g c = record {
       one_loaded sources c.args.max_modules c.args.modules.now listed c.args.asked.now c.loop-text.modules c.loop-text.text-iterator c.next.new.self e is t
       c.load_one.new.modules
       (same_loaded_one sources (g.R.Resolver.answers c.loop-text.resolver) c.args.max_modules c.loop-text.modules (string_bytes e.0) c.load_one.new.modules c.loop-text.invariant.answers
-      (subst (λ q. IsLoadedOne (g.R.Resolver.answers c.loop-text.resolver) c.args.max_modules c.loop-text.modules q c.load_one.new.modules) c.as_str.ensures.value
+      (subst (λ q. IsLoadedOne (g.R.Resolver.answers c.loop-text.resolver) c.args.max_modules c.loop-text.modules e.1.path q c.load_one.new.modules) c.as_str.ensures.value
       (c.in_ok-load_one.ensures.loads (printed ∙ sym c.as_str.ensures.value))));
 }
 

@@ -13,7 +13,7 @@ pub returns-in_err-unit-clause-loads : goal.returns-in_err-unit-clause-loads
 returns-in_err-unit-clause-loads g c = λ is.
     let p = err_from_is_err_and c.from_residual-in_err-unit.result c.from_residual-in_err-unit.ensures.1 in
     let less : length c.args.modules.now.entries < c.args.max_modules = omega (arith, c.len.ensures.len, c.if-len-max_modules.false) in
-    subst (LoadsOne (g.R.Resolver.answers c.args.resolver.now) c.args.max_modules c.args.modules.now c.args.text.now c.args.modules.now) (sym p.1)
+    subst (LoadsOne (g.R.Resolver.answers c.args.resolver.now) c.args.max_modules c.args.modules.now c.args.path.now c.args.text.now c.args.modules.now) (sym p.1)
     (unit_refused (g.R.Resolver.answers c.args.resolver.now) c.args.max_modules (length c.args.modules.now.entries) c.args.path.now c.args.text.now is
     c.in_err-unit.field-0.0 p.0 less c.in_err-unit.ensures.unit p.2)
 
@@ -21,7 +21,7 @@ pub returns-in_err-module-clause-loads : goal.returns-in_err-module-clause-loads
 returns-in_err-module-clause-loads g c = λ is.
     let p = err_from_is_err_and c.from_residual-in_err-module.result c.from_residual-in_err-module.ensures.1 in
     let less : length c.args.modules.now.entries < c.args.max_modules = omega (arith, c.len.ensures.len, c.if-len-max_modules.false) in
-    subst (LoadsOne (g.R.Resolver.answers c.args.resolver.now) c.args.max_modules c.args.modules.now c.args.text.now c.args.modules.now) (sym (p.1 ∙ ap Err p.2))
+    subst (LoadsOne (g.R.Resolver.answers c.args.resolver.now) c.args.max_modules c.args.modules.now c.args.path.now c.args.text.now c.args.modules.now) (sym (p.1 ∙ ap Err p.2))
     (module_refused (g.R.Resolver.answers c.args.resolver.now) c.args.max_modules (length c.args.modules.now.entries) c.args.path.now c.args.text.now is
     c.in_ok-unit.unit c.in_err-module.field-0.0 less c.in_ok-unit.ensures.unit c.in_err-module.ensures)
 

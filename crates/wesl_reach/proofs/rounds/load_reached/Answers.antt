@@ -42,12 +42,12 @@ returns-in_err-asked-clause-loading g c = λ found.
     let less : length c.new-modules.result.entries < c.args.max_modules = omega (arith, c.if-max_modules-eq0.false, c.new-modules.ensures.len) in
     let l = module_loaded sources c.args.max_modules 0 c.args.path.now root printed c.new-modules.result c.insert.new.self c.in_ok-clone.field-0 c.args.unit c.in_ok-module.module c.in_ok-insert.field-0
     less found c.in_ok-module.ensures key c.in_ok-insert.ensures.updates c.in_ok-insert.ensures.old c.in_ok-insert.ensures.len c.in_ok-insert.ensures.ordered in
-    let t = tabled sources c.args.max_modules root keep c.new-modules.result c.insert.new.self c.new-modules.ensures.empty l in
+    let t = tabled sources c.args.max_modules root keep c.args.path.now c.new-modules.result c.insert.new.self c.new-modules.ensures.empty l in
     let p = err_from_is_err_and c.from_residual-in_err-asked.result c.from_residual-in_err-asked.ensures.1 in
     let kept : c.as_slice.result.now ≡ keep = c.as_slice.ensures ∙ c.in_ok-names.ensures in
     subst (Loading sources (path_text c.args.path.now) keep c.args.max_modules) (sym (p.1 ∙ ap Err p.2))
     (subst (λ q. Loading sources q keep c.args.max_modules (Err c.in_err-asked.field-0.0)) (sym printed)
-    (root_stopped sources c.args.max_modules root keep c.new-modules.result c.insert.new.self c.new-modules.ensures.empty l c.close_root.new.held c.in_err-asked.field-0.0
+    (root_stopped sources c.args.max_modules root keep c.args.path.now c.new-modules.result c.insert.new.self c.new-modules.ensures.empty l c.close_root.new.held c.in_err-asked.field-0.0
     (subst (λ q. RefusesRoot c.insert.new.self q keep c.close_root.new.held c.in_err-asked.field-0.0) c.as_str.ensures.value
     (subst (λ k. RefusesRoot c.insert.new.self c.as_str.result.now k c.close_root.new.held c.in_err-asked.field-0.0) kept
     (c.in_err-asked.ensures.refused t.keyed (printed ∙ sym c.as_str.ensures.value) (nothing_held c.new-held.result c.new-held.ensures.empty))))))
@@ -62,14 +62,14 @@ returns-clause-loading g c = λ found.
     let less : length c.new-modules.result.entries < c.args.max_modules = omega (arith, c.if-max_modules-eq0.false, c.new-modules.ensures.len) in
     let l = module_loaded sources c.args.max_modules 0 c.args.path.now root printed c.new-modules.result c.insert.new.self c.in_ok-clone.field-0 c.args.unit c.in_ok-module.module c.in_ok-insert.field-0
     less found c.in_ok-module.ensures key c.in_ok-insert.ensures.updates c.in_ok-insert.ensures.old c.in_ok-insert.ensures.len c.in_ok-insert.ensures.ordered in
-    let t = tabled sources c.args.max_modules root keep c.new-modules.result c.insert.new.self c.new-modules.ensures.empty l in
+    let t = tabled sources c.args.max_modules root keep c.args.path.now c.new-modules.result c.insert.new.self c.new-modules.ensures.empty l in
     let kept : c.as_slice.result.now ≡ keep = c.as_slice.ensures ∙ c.in_ok-names.ensures in
     let again : c.as_slice-2.result.now ≡ keep = c.as_slice-2.ensures ∙ c.in_ok-names.ensures in
     let reached : Reached = record { modules = c.insert.new.self; root = c.in_ok-root.root; held = c.close_root.new.held } in
     subst (λ q. Loading sources q keep c.args.max_modules c.load_rounds.result) (sym printed)
     (subst (λ k. IsRoundEnd sources c.args.max_modules root k reached c.in_ok-asked.asked 1 → Loading sources root k c.args.max_modules c.load_rounds.result) again
     c.load_rounds.ensures.loading
-    (root_ended sources c.args.max_modules root keep c.new-modules.result c.insert.new.self c.new-modules.ensures.empty l reached c.in_ok-asked.asked refl
+    (root_ended sources c.args.max_modules root keep c.args.path.now c.new-modules.result c.insert.new.self c.new-modules.ensures.empty l reached c.in_ok-asked.asked refl
     (subst (λ q. IsClosed c.insert.new.self q keep c.close_root.new.held c.in_ok-asked.asked) c.as_str.ensures.value
     (subst (λ k. IsClosed c.insert.new.self c.as_str.result.now k c.close_root.new.held c.in_ok-asked.asked) kept
     (c.in_ok-asked.ensures.closed t.keyed (nothing_held c.new-held.result c.new-held.ensures.empty))))))
