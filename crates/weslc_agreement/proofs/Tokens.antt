@@ -1,6 +1,5 @@
 -- What is answered for handed-in texts counts their tokens alone.
 use Rattle.std.proofs.Common.{◌≡◌, List, ℕ, Option, Some, None, sym, ◌∙◌}
-use Rattle.wgsl_path.specs.declared.path.ModulePath.{ModulePath}
 use Rattle.wgsl_lex.proofs.Once.{lexed_once}
 use Rattle.wgsl_parse.proofs.Texts as parsing
 use Rattle.wgsl_syntax.specs.Tree.{Unit}
@@ -11,9 +10,7 @@ use Rattle.wgsl_laws.proofs.Same.{same_tokens_stand_for_the_same}
 use Rattle.wesl_resolve.specs.Found.{Answer, unit_of, not_found, faulty}
 use Rattle.wesl_sources.specs.Occurrences.{Name}
 use Rattle.wesl_sources.specs.Modules.{Path}
-use Rattle.wesl_sources.specs.Named.{ImportsAreApart}
 use Rattle.wesl_meaning.specs.Determined.{IsFunctional}
-use Rattle.wesl_sources.specs.Rounds.{Sources}
 use Rattle.weslc_unit.specs.Compiled.{IsTextOf}
 use Rattle.weslc_calls.specs.Stored.{text_at, Says, SaysOnly, found_in}
 use Rattle.weslc_calls.specs.declared.resolver.VirtualResolver.{VirtualResolver}
