@@ -36,18 +36,22 @@ use Rattle.weslc_agreement.proofs.Told.{refused_first, refused_last, TellsLoadin
 
 -- ---- what is answered of a linked unit
 
+-- what may be said of the modules, the root, the kept names, the linked unit and the answer
+abbrev Saying : Type 1
+Saying = Modules → Path → List Name → Unit → Result (List ℕ) CompileError → Type 0
+
 -- by `compile`: its compiled text, or its refusal, as one tells it who tells where its names come from
-abbrev OfCompiling : Modules → Path → List Name → Unit → Result (List ℕ) CompileError → Type 0
+abbrev OfCompiling : Saying
 OfCompiling modules root keep linked (Ok text) = IsCompiled linked text
 OfCompiling modules root keep linked (Err e) = (tell : Telling) × (refusal : UnitRefusal) × TellsHeld modules root keep tell × Refuses linked refusal × Tells tell refusal e
 
 -- by `link`: its text, or that it has none
-abbrev OfLinking : Modules → Path → List Name → Unit → Result (List ℕ) CompileError → Type 0
+abbrev OfLinking : Saying
 OfLinking modules root keep linked (Ok text) = (text ≡ unit_text linked) × IsTextOf linked text
 OfLinking modules root keep linked (Err e) = (x : Name) × (e ≡ Unprintable (about_name x)) × (IsTextOf linked (unit_text linked) → ⊥)
 
 -- the same is answered of alike modules
-abbrev IsOne : (Modules → Path → List Name → Unit → Result (List ℕ) CompileError → Type 0) → Type 0
+abbrev IsOne : Saying → Type 0
 IsOne Of = (root : Path) (modules others : Modules) → AreAlike root modules others → (keep : List Name) (linked : Unit) (one two : Result (List ℕ) CompileError)
     → Of modules root keep linked one → Of others root keep linked two → SameAnswer one two
 
@@ -72,43 +76,43 @@ linking_is_one root modules others alike keep linked (Err e) (Err f) (x, is, unr
 
 -- ---- where a run ends
 
-module _ (Of : Modules → Path → List Name → Unit → Result (List ℕ) CompileError → Type 0) (found : Sources) (root : Path) (asked : List Name) (max : ℕ) where
+module _ (Of : Saying) (found : Sources) (root : Path) (asked : List Name) (max : ℕ) where
   data Ends : Result (List ℕ) CompileError → Type 0 where
     for_memory : Ends (Err OutOfMemory)
     in_loading : {e : CompileError} (r : Refusal) → IsRefusedLoading found root asked max r → TellsLoading r e → Ends (Err e)
     in_a_clash : {e : CompileError} (y : Name) → IsFirstClashFrom found root asked max y → e ≡ NameClash (about_name y) → Ends (Err e)
     with_a_unit : {answer : Result (List ℕ) CompileError} (linked : Unit) (from : IsLinkedFrom found root asked max linked) → Of from.modules root from.kept linked answer → Ends answer
 
-  linking_ends : (e : CompileError) → RefusesLinking found root asked max e → Ends (Err e)
-  linking_ends (TooManyModules c) (m, is, refused) = in_loading _ refused (m, ap TooManyModules is, refl)
-  linking_ends (Resolve c ModuleNotFound) (m, is, refused) = in_loading _ refused (m, ap (λ d. Resolve d ModuleNotFound) is, refl)
-  linking_ends (Syntax c f) (m, is, refused) = in_loading _ refused (m, ap (λ d. Syntax d f) is, refl)
-  linking_ends (Import c DuplicateSymbol) (m, x, is, refused) = in_loading _ refused (m, ap (λ d. Import d DuplicateSymbol) is, refl)
-  linking_ends (Import c MissingDecl) (m, x, is, refused) = in_loading _ refused (m, ap (λ d. Import d MissingDecl) is, refl)
-  linking_ends (Import c Private) (m, x, is, refused) = in_loading _ refused (m, ap (λ d. Import d Private) is, refl)
-  linking_ends (NameClash c) (y, is, clash) = in_a_clash y clash (ap NameClash is)
-  linking_ends OutOfMemory is = for_memory
-  linking_ends (Validate c k) is = absurd is
-  linking_ends (UnclearName c) is = absurd is
-  linking_ends (Eval c f) is = absurd is
-  linking_ends (Unprintable c) is = absurd is
+  refused_ends : (e : CompileError) → RefusesLinking found root asked max e → Ends (Err e)
+  refused_ends (TooManyModules c) (m, is, refused) = in_loading _ refused (m, ap TooManyModules is, refl)
+  refused_ends (Resolve c ModuleNotFound) (m, is, refused) = in_loading _ refused (m, ap (λ d. Resolve d ModuleNotFound) is, refl)
+  refused_ends (Syntax c f) (m, is, refused) = in_loading _ refused (m, ap (λ d. Syntax d f) is, refl)
+  refused_ends (Import c DuplicateSymbol) (m, x, is, refused) = in_loading _ refused (m, ap (λ d. Import d DuplicateSymbol) is, refl)
+  refused_ends (Import c MissingDecl) (m, x, is, refused) = in_loading _ refused (m, ap (λ d. Import d MissingDecl) is, refl)
+  refused_ends (Import c Private) (m, x, is, refused) = in_loading _ refused (m, ap (λ d. Import d Private) is, refl)
+  refused_ends (NameClash c) (y, is, clash) = in_a_clash y clash (ap NameClash is)
+  refused_ends OutOfMemory is = for_memory
+  refused_ends (Validate c k) is = absurd is
+  refused_ends (UnclearName c) is = absurd is
+  refused_ends (Eval c f) is = absurd is
+  refused_ends (Unprintable c) is = absurd is
 
 compiling_ends : (found : Sources) (root : Path) (asked : List Name) (max : ℕ) (answer : Result (List ℕ) CompileError) → IsCompiledAnswer found root asked max answer → Ends OfCompiling found root asked max answer
 compiling_ends found root asked max (Ok text) is = with_a_unit is.linked is.from is.compiled
-compiling_ends found root asked max (Err e) (inl refused) = linking_ends OfCompiling found root asked max e refused
+compiling_ends found root asked max (Err e) (inl refused) = refused_ends OfCompiling found root asked max e refused
 compiling_ends found root asked max (Err e) (inr u) = with_a_unit u.linked u.from.from (decl_at u.map, u.refusal, u.from.decls, u.refused, u.told)
 
-linking_ends_too : (found : Sources) (root : Path) (asked : List Name) (max : ℕ) (answer : Result (List ℕ) CompileError) → IsLinkedAnswer found root asked max answer → Ends OfLinking found root asked max answer
-linking_ends_too found root asked max (Ok text) is = with_a_unit is.linked is.from (is.whole, is.reads)
-linking_ends_too found root asked max (Err e) (inl refused) = linking_ends OfLinking found root asked max e refused
-linking_ends_too found root asked max (Err e) (inr u) = with_a_unit u.linked u.from (u.name, u.told, u.unread)
+linking_ends : (found : Sources) (root : Path) (asked : List Name) (max : ℕ) (answer : Result (List ℕ) CompileError) → IsLinkedAnswer found root asked max answer → Ends OfLinking found root asked max answer
+linking_ends found root asked max (Ok text) is = with_a_unit is.linked is.from (is.whole, is.reads)
+linking_ends found root asked max (Err e) (inl refused) = refused_ends OfLinking found root asked max e refused
+linking_ends found root asked max (Err e) (inr u) = with_a_unit u.linked u.from (u.name, u.told, u.unread)
 
 -- ---- two runs
 
 loaded_of : (found : Sources) (root : Path) (asked : List Name) (max : ℕ) (linked : Unit) (from : IsLinkedFrom found root asked max linked) → AreLoadedFrom found root asked max from.kept from.modules
 loaded_of found root asked max linked from = record { are_kept = from.are_kept; loaded = from.loaded; named = from.named }
 
-module _ (Of : Modules → Path → List Name → Unit → Result (List ℕ) CompileError → Type 0) (is_one : IsOne Of) (found other : Sources) (functional : IsFunctional found) (functional_too : IsFunctional other) (apart : ImportsAreApart found) (root : Path) (asked : List Name) (max : ℕ) (agree : AgreesOnAsked found root asked max other) where
+module _ (Of : Saying) (is_one : IsOne Of) (found other : Sources) (functional : IsFunctional found) (functional_too : IsFunctional other) (apart : ImportsAreApart found) (root : Path) (asked : List Name) (max : ℕ) (agree : AgreesOnAsked found root asked max other) where
   -- modules that one run loads, and a refusal of the other's loading
   not_refused : (keep : List Name) (modules : Modules) → AreLoadedFrom found root asked max keep modules → (r : Refusal) → IsRefusedLoading other root asked max r → ⊥
   not_refused keep modules l r refused =
@@ -187,4 +191,4 @@ compiled_alike found other functional functional_too apart root asked max agree 
 
 pub linked_alike : (found other : Sources) → IsFunctional found → IsFunctional other → LinkedAlike found other
 linked_alike found other functional functional_too apart root asked max agree one two a b =
-    ends_alike OfLinking linking_is_one found other functional functional_too apart root asked max agree one two (linking_ends_too found root asked max one a) (linking_ends_too other root asked max two b)
+    ends_alike OfLinking linking_is_one found other functional functional_too apart root asked max agree one two (linking_ends found root asked max one a) (linking_ends other root asked max two b)
