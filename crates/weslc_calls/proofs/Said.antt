@@ -1,5 +1,5 @@
 -- What a text says, where it is parsed: it says nothing else.
-use Rattle.std.proofs.Common.{◌≡◌, ◌⊎◌, inl, inr, refl, sym, ap, ◌∙◌, List, ℕ, Result, Ok, Err, Option, Some}
+use Rattle.std.proofs.Common.{◌≡◌, ◌⊎◌, inl, inr, refl, sym, ap, ◌∙◌, List, ℕ, Result, Err, Option, Some}
 use Rattle.wgsl_token.specs.declared.error.Error.{Error}
 use Rattle.wgsl_token.specs.declared.error.ErrorKind.TheVariants as kind
 use Rattle.wgsl_syntax.specs.declared.unit.TranslationUnit.{TranslationUnit}

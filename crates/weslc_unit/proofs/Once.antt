@@ -1,5 +1,5 @@
 -- A unit is compiled or refused in one way: each refusal says that the steps before it went well, and each step is determined.
-use Rattle.std.proofs.Common.{◌≡◌, ◌⊎◌, inl, inr, ℕ, ◌<◌, List, [], Option, Some, None, Ok, Err, refl, sym, ap, ◌∙◌, subst}
+use Rattle.std.proofs.Common.{◌≡◌, ◌⊎◌, inl, inr, ℕ, ◌<◌, List, [], Some, None, Ok, refl, sym, ap, ◌∙◌, subst}
 use Rattle.std.specs.Prelude.{slice_get}
 use Rattle.std.proofs.lemmas.Bool.{cases_order}
 use Rattle.wgsl_syntax.specs.Tree.{Unit as Module}
@@ -12,10 +12,9 @@ use Rattle.wesl_validate.specs.declared.place.Row.{Row}
 use Rattle.wesl_validate.specs.First.{first}
 use Rattle.wesl_validate.specs.Rings.{IsFirstOnRing}
 use Rattle.wesl_validate.specs.Faults.{fault, IsFaultless, IsFirstFault, duplicate, undefined, miscall, ring}
-use Rattle.weslc_unit.specs.declared.error.UnitRefusal.{UnitRefusal}
 use Rattle.weslc_unit.specs.declared.error.UnitRefusal.TheVariants.{Validate, UnclearName, Eval, Unprintable, OutOfMemory}
-use Rattle.weslc_unit.specs.Compiled.{IsLowered, IsTextOf, IsCompiled, Refuses}
-use Rattle.weslc_unit.specs.Once.{SameRefusal, CompiledOnce, RefusedOnce, CompiledOrRefused}
+use Rattle.weslc_unit.specs.Compiled.{IsLowered, IsTextOf, IsCompiled}
+use Rattle.weslc_unit.specs.Once.{CompiledOnce, RefusedOnce, CompiledOrRefused}
 
 -- ---- the first of a list
 
