@@ -1,3 +1,6 @@
 pub mod Units
 pub mod Texts
 pub mod Tokens
+pub mod Outcomes
+pub mod Told
+pub mod Answers

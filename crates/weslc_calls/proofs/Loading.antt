@@ -15,7 +15,6 @@ use Rattle.wesl_resolve.specs.declared.error.ResolveError.{ResolveError}
 use Rattle.wesl_resolve.specs.declared.error.ResolveError.TheVariants as resolve
 use Rattle.wesl_sources.specs.Occurrences.{Name}
 use Rattle.wesl_sources.specs.Modules.{Path, Modules, IsModule}
-use Rattle.wesl_sources.specs.Named.{AreNamedByImports}
 use Rattle.wesl_sources.specs.Rounds.{Sources, Refusal, module_not_found, syntax, Loads, all_loaded, one_too_many, is_not_found, is_faulty, has_a_name_twice, loaded_then_refused, loaded, Goes, an_occurrence_refused, nothing_asked, a_module_refused, a_round, ComesTo, root_refused, kept_name_missing, goes_on}
 use Rattle.wesl_sources.specs.Kept.{kept_names}
 use Rattle.wesl_sources.specs.Linked.{IsLinked}
@@ -108,7 +107,6 @@ module _ (found : Sources) (root : Path) (asked : List Name) (max : ℕ) where
   pub record AreTables (kept : List Name) (r : Resolutions) : Type 0 where
     pub modules : Modules
     pub loaded : AreLoadedFrom found root asked max kept modules
-    pub named : AreNamedByImports modules root
     pub same : SameModules modules (modules_of r.modules)
     pub is_root : string_bytes r.root ≡ root
     pub resolved : IsResolved r.modules root kept r.held
@@ -117,8 +115,11 @@ module _ (found : Sources) (root : Path) (asked : List Name) (max : ℕ) where
       → Resolves after root (kept_names asked unit) max (Ok r) → AreTables (kept_names asked unit) r
   tables after same unit is r t = record {
     modules = t.1.modules;
-    loaded = record { are_kept = record { unit = unit; found = is; are = refl }; loaded = comes_moves after found (turned found after same) max root (kept_names asked unit) t.1.loaded };
-    named = t.1.named;
+    loaded = record {
+      are_kept = record { unit = unit; found = is; are = refl };
+      loaded = comes_moves after found (turned found after same) max root (kept_names asked unit) t.1.loaded;
+      named = t.1.named;
+    };
     same = t.1.same;
     is_root = t.0;
     resolved = t.1.resolved;
@@ -134,7 +135,6 @@ module _ (found : Sources) (root : Path) (asked : List Name) (max : ℕ) where
     kept = kept;
     modules = t.modules;
     loaded = t.loaded;
-    named = t.named;
     clash_free = clash_free_in_any_order (modules_of r.modules) t.modules (same_turned t.modules (modules_of r.modules) t.same) root kept
         (subst (λ m. IsClashFree (modules_of r.modules) m kept) t.is_root free);
     same = t.same;
@@ -166,7 +166,7 @@ module _ (found : Sources) (root : Path) (asked : List Name) (max : ℕ) where
     are_kept = t.loaded.are_kept;
     modules = t.modules;
     loaded = t.loaded.loaded;
-    named = t.named;
+    named = t.loaded.named;
     linked_well = record {
       loaded = loaded_modules found root t.kept max t.modules t.loaded.loaded;
       clash_free = t.clash_free;

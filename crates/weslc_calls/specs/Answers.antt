@@ -34,17 +34,17 @@ use Rattle.weslc_calls.specs.declared.error.CompileError.TheVariants.{TooManyMod
 module _ (found : Sources) (root : Path) (asked : List Name) (max : ℕ) where
   -- ---- what is loaded and linked
 
-  -- the modules that loading comes to, where these names of the root are kept
+  -- the modules that loading comes to, where these names of the root are kept, each under the path by which an import names it
   pub record AreLoadedFrom (kept : List Name) (modules : Modules) : Type 0 where
     pub are_kept : AreKept found root asked kept
     pub loaded : ComesTo found root kept max (Ok modules)
+    pub named : AreNamedByImports modules root
 
-  -- the tables of loaded modules, each under the path by which an import names it, none of whose names clashes
+  -- the tables of loaded modules none of whose names clashes
   pub record AreTablesOf (r : Resolutions) : Type 0 where
     pub kept : List Name
     pub modules : Modules
     pub loaded : AreLoadedFrom kept modules
-    pub named : AreNamedByImports modules root
     pub clash_free : IsClashFree modules root kept
     pub same : SameModules modules (modules_of r.modules)
     pub is_root : string_bytes r.root ≡ root
