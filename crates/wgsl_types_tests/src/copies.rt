@@ -1,6 +1,7 @@
 //! Copies, and the types of literals.
 
-use crate::made::{array, member, struct_of};
+use crate::made::{array, member, struct_of, struct_type};
+use std::alloc::{AllocError, Global};
 use std::test::Fail;
 use wgsl_items::{CloneIn, Items, Text};
 use wgsl_types::{
@@ -8,32 +9,33 @@ use wgsl_types::{
     TpltParam, Ty, Type, VecTemplate,
 };
 
-#[test]
-fn a_type(rt: HostRuntime) -> Result<(), Fail> {
-    let alloc = rt.alloc();
-    let mut members = Items::new(alloc);
-    members.push(member(alloc, "a", array(alloc, Type::U32, Some(4))?)?)?;
-    let original = struct_of(alloc, members)?;
-    assert!(rt; original.clone(alloc)? == original);
-    Ok(())
+/// Whether the copy of an error equals it.
+fn is_copied(alloc: Global, error: Error) -> Result<bool, AllocError> {
+    let copy = error.clone(alloc)?;
+    Ok(copy == error)
 }
 
-#[test]
-fn an_error(rt: HostRuntime) -> Result<(), Fail> {
-    let alloc = rt.alloc();
+fn call(alloc: Global) -> Result<CallSignature, AllocError> {
     let mut params = Items::new(alloc);
     params.push(TpltParam::Instance(LiteralInstance::U32(2)))?;
     let mut args = Items::new(alloc);
     args.push(Type::F16)?;
-    let call = CallSignature {
+    Ok(CallSignature {
         name: Text::from_str(alloc, "array")?,
         tplt: Some(params),
         args,
-    };
-    let original = Error::Signature(call);
-    assert!(rt; original.clone(alloc)? == original);
+    })
+}
+
+#[test]
+fn types_and_errors(rt: HostRuntime) -> Result<(), Fail> {
+    let alloc = rt.alloc();
+    assert!(rt; is_copied(alloc, Error::Signature(call(alloc)?))?);
     let count = Error::ParamCount(Text::from_str(alloc, "S")?, 1, 2);
     assert!(rt; count.clone_in(alloc)? == count);
+    let member = member(alloc, "a", array(alloc, Type::U32, Some(4))?)?;
+    let original = struct_type(alloc, struct_of(alloc, member)?)?;
+    assert!(rt; original.clone(alloc)? == original);
     Ok(())
 }
 
@@ -52,12 +54,6 @@ fn templates(rt: HostRuntime) -> Result<(), Fail> {
         access: AccessMode::ReadWrite,
     };
     assert!(rt; of_pointer.clone(alloc)? == of_pointer);
-    Ok(())
-}
-
-#[test]
-fn literals(rt: HostRuntime) -> Result<(), Fail> {
-    let alloc = rt.alloc();
     assert!(rt; LiteralInstance::AbstractInt(5).ty(alloc)? == Type::AbstractInt);
     assert!(rt; LiteralInstance::Bool(true).inner_ty(alloc)? == Type::Bool);
     Ok(())

@@ -1,8 +1,66 @@
-//! Types and values that the tests make.
+//! Types that the tests make, and what calls answer, as text.
 
 use std::alloc::{AllocError, Global};
 use wgsl_items::{Boxed, FromIn, Items, Text};
 use wgsl_types::{Error, ShaderType, StructMemberType, StructType, Type};
+
+/// A scalar type, by its number.
+pub fn scalar(number: u8) -> Type {
+    match number {
+        0 => Type::Bool,
+        1 => Type::AbstractInt,
+        2 => Type::AbstractFloat,
+        3 => Type::I32,
+        4 => Type::U32,
+        5 => Type::F32,
+        _ => Type::F16,
+    }
+}
+
+/// A scalar where it has one component, else a vector; the scalar is a number of `scalar`.
+#[derive(Clone, Copy)]
+pub struct Entry {
+    pub components: u8,
+    pub scalar: u8,
+}
+
+pub const BOOL: Entry = Entry {
+    components: 1,
+    scalar: 0,
+};
+
+pub const ABSTRACT_INT: Entry = Entry {
+    components: 1,
+    scalar: 1,
+};
+
+pub const ABSTRACT_FLOAT: Entry = Entry {
+    components: 1,
+    scalar: 2,
+};
+
+pub const I32: Entry = Entry {
+    components: 1,
+    scalar: 3,
+};
+
+pub const U32: Entry = Entry {
+    components: 1,
+    scalar: 4,
+};
+
+pub const F32: Entry = Entry {
+    components: 1,
+    scalar: 5,
+};
+
+pub fn type_of(alloc: Global, entry: Entry) -> Result<Type, AllocError> {
+    if entry.components == 1 {
+        Ok(scalar(entry.scalar))
+    } else {
+        vector(alloc, entry.components, scalar(entry.scalar))
+    }
+}
 
 pub fn vector(alloc: Global, n: u8, component: Type) -> Result<Type, AllocError> {
     Ok(ShaderType::Vec(n, Boxed::new(alloc, component)?))
@@ -12,20 +70,54 @@ pub fn array(alloc: Global, element: Type, n: Option<usize>) -> Result<Type, All
     Ok(ShaderType::Array(Boxed::new(alloc, element)?, n))
 }
 
+/// An array of vectors of three `u32`.
+pub fn array_of_vectors(alloc: Global, n: Option<usize>) -> Result<Type, AllocError> {
+    array(alloc, vector(alloc, 3, Type::U32)?, n)
+}
+
 pub fn member(alloc: Global, name: &str, ty: Type) -> Result<StructMemberType, AllocError> {
     Ok(StructMemberType::new(Text::from_str(alloc, name)?, ty))
 }
 
-pub fn struct_of(alloc: Global, members: Items<StructMemberType>) -> Result<Type, AllocError> {
-    let made = StructType::new(Text::from_str(alloc, "S")?, members);
-    ShaderType::from_in(alloc, made)
+/// A struct `S` of one member.
+pub fn struct_of(alloc: Global, member: StructMemberType) -> Result<StructType, AllocError> {
+    let mut members = Items::new(alloc);
+    members.push(member)?;
+    Ok(StructType::new(Text::from_str(alloc, "S")?, members))
 }
 
-/// What was refused, where it was not for want of memory.
-pub fn refusal<T: Drop>(answer: Result<T, Error>) -> Result<Option<Error>, AllocError> {
+/// A struct `S` of two members.
+pub fn struct_of_two(
+    alloc: Global,
+    first: StructMemberType,
+    second: StructMemberType,
+) -> Result<StructType, AllocError> {
+    let mut made = struct_of(alloc, first)?;
+    made.members.push(second)?;
+    Ok(made)
+}
+
+pub fn struct_type(alloc: Global, of: StructType) -> Result<Type, AllocError> {
+    ShaderType::from_in(alloc, of)
+}
+
+/// Whether a type has this text.
+pub fn reads(alloc: Global, ty: &Type, text: &str) -> Result<bool, AllocError> {
+    Ok(ty.to_string(alloc)?.as_str() == text)
+}
+
+/// Whether a refusal has this text, where it was not for want of memory.
+pub fn refuses(alloc: Global, error: Error, text: &str) -> Result<bool, AllocError> {
+    match error {
+        Error::OutOfMemory => Err(AllocError),
+        error => Ok(error.to_string(alloc)?.as_str() == text),
+    }
+}
+
+/// Whether a call gives a type of this text, or refuses with it.
+pub fn tells(alloc: Global, answer: Result<Type, Error>, text: &str) -> Result<bool, AllocError> {
     match answer {
-        Ok(_) => Ok(None),
-        Err(Error::OutOfMemory) => Err(AllocError),
-        Err(error) => Ok(Some(error)),
+        Ok(ty) => reads(alloc, &ty, text),
+        Err(error) => refuses(alloc, error, text),
     }
 }
