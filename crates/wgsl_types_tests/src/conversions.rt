@@ -1,6 +1,8 @@
 //! Conversions, common types and layouts.
 
-use crate::made::{array, array_of_vectors, member, struct_of, struct_of_two, struct_type, vector};
+use crate::made::{
+    array, array_of_vectors, member, struct_of, struct_of_two, struct_type, tells, vector,
+};
 use std::alloc::{AllocError, Global};
 use std::test::Fail;
 use wgsl_types::{
@@ -59,32 +61,46 @@ fn layouts(rt: HostRuntime) -> Result<(), Fail> {
     Ok(())
 }
 
+/// Whether both of a pair were found.
+fn is_pair(found: &Option<(Type, Type)>, left: &Type, right: &Type) -> bool {
+    match found {
+        Some((a, b)) => *a == *left && *b == *right,
+        None => false,
+    }
+}
+
 #[test]
 fn pairs(rt: HostRuntime) -> Result<(), Fail> {
     let alloc = rt.alloc();
     let both = convert(alloc, &Type::AbstractInt, &Type::I32)?;
-    assert!(rt; both == Some((Type::I32, Type::I32)));
-    assert!(rt; convert(alloc, &Type::U32, &Type::I32)? == None);
+    assert!(rt; is_pair(&both, &Type::I32, &Type::I32));
+    assert!(rt; convert(alloc, &Type::U32, &Type::I32)?.is_none());
     Ok(())
 }
 
 #[test]
 fn inner_pairs(rt: HostRuntime) -> Result<(), Fail> {
-    let alloc = rt.alloc();
-    let ints = vector(alloc, 2, Type::AbstractInt)?;
-    let words = vector(alloc, 2, Type::U32)?;
-    assert!(rt; convert_inner(alloc, &ints, &Type::U32)? == Some((words, Type::U32)));
+    let ints = vector(rt.alloc(), 2, Type::AbstractInt)?;
+    let words = vector(rt.alloc(), 2, Type::U32)?;
+    let both = convert_inner(rt.alloc(), &ints, &Type::U32)?;
+    assert!(rt; is_pair(&both, &words, &Type::U32));
     Ok(())
+}
+
+/// A thing with its inner type converted to `i32`, or itself where it doesn't convert.
+fn with_inner(alloc: Global, ty: &Type) -> Result<Type, AllocError> {
+    match ty.convert_inner_to(alloc, &Type::I32)? {
+        Some(converted) => Ok(converted),
+        None => ty.clone(alloc),
+    }
 }
 
 #[test]
 fn one_thing(rt: HostRuntime) -> Result<(), Fail> {
     let alloc = rt.alloc();
     let ints = vector(alloc, 2, Type::AbstractInt)?;
-    let concrete = Convert::concretize(&ints, alloc)?;
-    assert!(rt; concrete == vector(alloc, 2, Type::I32)?);
-    let inner = ints.convert_inner_to(alloc, &Type::I32)?;
-    assert!(rt; inner == Some(concrete));
+    assert!(rt; tells(alloc, Convert::concretize(&ints, alloc), "vec2<i32>")?);
+    assert!(rt; tells(alloc, with_inner(alloc, &ints), "vec2<i32>")?);
     Ok(())
 }
 

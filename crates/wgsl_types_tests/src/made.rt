@@ -1,8 +1,9 @@
 //! Types that the tests make, and what calls answer, as text.
 
 use std::alloc::{AllocError, Global};
-use wgsl_items::{Boxed, FromIn, Items, Text};
-use wgsl_types::{Error, ShaderType, StructMemberType, StructType, Type};
+use std::fmt::Display;
+use wgsl_items::{Boxed, CloneIn, FromIn, Items, Text};
+use wgsl_types::{ShaderType, StructMemberType, StructType, Type};
 
 /// A scalar type, by its number.
 pub fn scalar(number: u8) -> Type {
@@ -101,23 +102,35 @@ pub fn struct_type(alloc: Global, of: StructType) -> Result<Type, AllocError> {
     ShaderType::from_in(alloc, of)
 }
 
-/// Whether a type has this text.
-pub fn reads(alloc: Global, ty: &Type, text: &str) -> Result<bool, AllocError> {
-    Ok(ty.to_string(alloc)?.as_str() == text)
-}
-
-/// Whether a refusal has this text, where it was not for want of memory.
-pub fn refuses(alloc: Global, error: Error, text: &str) -> Result<bool, AllocError> {
-    match error {
-        Error::OutOfMemory => Err(AllocError),
-        error => Ok(error.to_string(alloc)?.as_str() == text),
-    }
-}
-
-/// Whether a call gives a type of this text, or refuses with it.
-pub fn tells(alloc: Global, answer: Result<Type, Error>, text: &str) -> Result<bool, AllocError> {
+/// Whether a call gives what has this text, or refuses with it.
+pub fn tells<T: Display + Drop, E: Display + Drop>(
+    alloc: Global,
+    answer: Result<T, E>,
+    text: &str,
+) -> Result<bool, AllocError> {
     match answer {
-        Ok(ty) => reads(alloc, &ty, text),
-        Err(error) => refuses(alloc, error, text),
+        Ok(given) => Ok(given.to_string(alloc)?.as_str() == text),
+        Err(error) => Ok(error.to_string(alloc)?.as_str() == text),
     }
+}
+
+/// Whether a call refuses with this text.
+pub fn refuses<T: Drop, E: Display + Drop>(
+    alloc: Global,
+    answer: Result<T, E>,
+    text: &str,
+) -> Result<bool, AllocError> {
+    match answer {
+        Ok(_) => Ok(false),
+        Err(error) => Ok(error.to_string(alloc)?.as_str() == text),
+    }
+}
+
+/// Whether a copy equals what it is of.
+pub fn is_copied<T: CloneIn + PartialEq + Drop>(
+    alloc: Global,
+    value: T,
+) -> Result<bool, AllocError> {
+    let copy = value.clone_in(alloc)?;
+    Ok(copy == value)
 }

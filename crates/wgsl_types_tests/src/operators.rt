@@ -1,8 +1,8 @@
 //! Operators, and types as text.
 
 use crate::made::{
-    ABSTRACT_FLOAT, ABSTRACT_INT, BOOL, Entry, F32, I32, U32, array, reads, refuses, tells,
-    type_of, vector,
+    ABSTRACT_FLOAT, ABSTRACT_INT, BOOL, Entry, F32, I32, U32, array, refuses, tells, type_of,
+    vector,
 };
 use std::alloc::{AllocError, Global};
 use std::test::Fail;
@@ -146,25 +146,45 @@ fn place(alloc: Global) -> Result<Type, AllocError> {
 fn pointers(rt: HostRuntime) -> Result<(), Fail> {
     let alloc = rt.alloc();
     let place = place(alloc)?;
-    let pointer = place.op_ref(alloc)?;
-    assert!(rt; reads(alloc, &pointer, "ptr<storage, u32, read_write>")?);
-    assert!(rt; pointer.op_deref(alloc)? == place);
-    assert!(rt; place.loaded(alloc)? == Type::U32);
+    assert!(rt; tells(alloc, place.op_ref(alloc), "ptr<storage, u32, read_write>")?);
+    assert!(rt; tells(alloc, place.loaded(alloc), "u32")?);
+    match place.op_ref(alloc).ok() {
+        Some(pointer) => {
+            assert!(rt;
+                tells(
+                    alloc,
+                    pointer.op_deref(alloc),
+                    "ref<storage, u32, read_write>"
+                )?
+            );
+        }
+        None => panic!(rt; "a place has a pointer"),
+    }
     Ok(())
+}
+
+fn local_pointer(alloc: Global) -> Result<Type, AllocError> {
+    Ok(ShaderType::Ptr(
+        AddressSpace::Function,
+        Boxed::new(alloc, Type::U32)?,
+        AccessMode::ReadWrite,
+    ))
+}
+
+fn nested(alloc: Global) -> Result<Type, AllocError> {
+    array(alloc, vector(alloc, 2, Type::I32)?, Some(3))
+}
+
+fn nested_concrete(alloc: Global) -> Result<Type, AllocError> {
+    nested(alloc)?.concretize(alloc)
 }
 
 #[test]
 fn texts(rt: HostRuntime) -> Result<(), Fail> {
     let alloc = rt.alloc();
-    let ty = array(alloc, vector(alloc, 2, Type::I32)?, Some(3))?;
-    assert!(rt; reads(alloc, &ty, "array<vec2<i32>, 3>")?);
-    assert!(rt; ty.concretize(alloc)? == ty);
-    let pointer = ShaderType::Ptr(
-        AddressSpace::Function,
-        Boxed::new(alloc, Type::U32)?,
-        AccessMode::ReadWrite,
-    );
-    assert!(rt; reads(alloc, &pointer, "ptr<function, u32>")?);
+    assert!(rt; tells(alloc, local_pointer(alloc), "ptr<function, u32>")?);
+    assert!(rt; tells(alloc, nested(alloc), "array<vec2<i32>, 3>")?);
+    assert!(rt; tells(alloc, nested_concrete(alloc), "array<vec2<i32>, 3>")?);
     Ok(())
 }
 
@@ -184,21 +204,15 @@ fn words(rt: HostRuntime) {
     assert!(rt; "<=".parse::<AssignmentOperator>().ok() == None);
 }
 
-/// Whether a type has no zero value, and the refusal has this text.
-fn has_no_zero(alloc: Global, ty: &Type, text: &str) -> Result<bool, AllocError> {
-    match LiteralInstance::zero_value(alloc, ty) {
-        Ok(_) => Ok(false),
-        Err(error) => refuses(alloc, error, text),
-    }
-}
-
 #[test]
 fn zero_values(rt: HostRuntime) -> Result<(), Fail> {
     let alloc = rt.alloc();
-    let zero = LiteralInstance::zero_value(alloc, &Type::U32)?;
-    assert!(rt; zero == LiteralInstance::U32(0));
-    assert!(rt; has_no_zero(alloc, &Type::F16, "not supported here: `f16`")?);
+    let word = LiteralInstance::zero_value(alloc, &Type::U32);
+    assert!(rt; tells(alloc, word, "0u")?);
+    let half = LiteralInstance::zero_value(alloc, &Type::F16);
+    assert!(rt; refuses(alloc, half, "not supported here: `f16`")?);
     let pair = vector(alloc, 2, Type::U32)?;
-    assert!(rt; has_no_zero(alloc, &pair, "expected a scalar type, got `vec2<u32>`")?);
+    let of_pair = LiteralInstance::zero_value(alloc, &pair);
+    assert!(rt; refuses(alloc, of_pair, "expected a scalar type, got `vec2<u32>`")?);
     Ok(())
 }
