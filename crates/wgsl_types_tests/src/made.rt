@@ -102,6 +102,14 @@ pub fn struct_type(alloc: Global, of: StructType) -> Result<Type, AllocError> {
     ShaderType::from_in(alloc, of)
 }
 
+/// Whether a call gives this value.
+pub fn gives<T: PartialEq + Drop, E: Drop>(answer: Result<T, E>, value: &T) -> bool {
+    match answer {
+        Ok(given) => given == *value,
+        Err(_) => false,
+    }
+}
+
 /// Whether a call gives what has this text, or refuses with it.
 pub fn tells<T: Display + Drop, E: Display + Drop>(
     alloc: Global,

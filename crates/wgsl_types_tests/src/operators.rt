@@ -52,7 +52,7 @@ fn by_method(
 }
 
 /// An operator, its operands and what its method tells.
-const BINARY: [(BinaryOperator, Entry, Entry, &str); 23] = [
+static BINARY: [(BinaryOperator, Entry, Entry, &str); 23] = [
     (BinaryOperator::BitwiseOr, ABSTRACT_INT, U32, "u32"),
     (
         BinaryOperator::ShiftLeft,
@@ -112,9 +112,9 @@ fn is_binary(
 
 #[test]
 fn two_operands(rt: HostRuntime) -> Result<(), Fail> {
-    for (operator, left, right, text) in BINARY {
+    for (operator, left, right, text) in &BINARY {
         assert!(rt;
-            is_binary(rt.alloc(), operator, left, right, text)?,
+            is_binary(rt.alloc(), *operator, *left, *right, text)?,
             "{operator}: {text}"
         );
     }

@@ -1,9 +1,9 @@
 //! Ranks, common types and results of operators over all pairs of scalar and vector types, beside a plain search along the steps and through the candidates.
 
-use crate::made::{Entry, type_of};
+use crate::made::{Entry, gives, refuses, type_of};
 use std::alloc::{AllocError, Global};
 use std::test::Fail;
-use wgsl_types::{BinaryOperator, Error, Type, conversion_rank, convert_ty, type_binary_op};
+use wgsl_types::{BinaryOperator, Type, conversion_rank, convert_ty, type_binary_op};
 
 /// The five single steps, over the numbers of scalars, with their weights.
 const STEPS: [(u8, u8, u32); 5] = [(2, 5, 1), (2, 6, 2), (1, 3, 3), (1, 4, 4), (1, 2, 5)];
@@ -163,25 +163,6 @@ fn shape(operator: BinaryOperator, n: u8, m: u8) -> Option<u8> {
     }
 }
 
-/// What an operator gives, if it takes the operands. Another refusal is for want of memory.
-fn given(
-    alloc: Global,
-    operator: BinaryOperator,
-    left: &Type,
-    right: &Type,
-) -> Result<Option<Type>, AllocError> {
-    match type_binary_op(alloc, operator, left, right) {
-        Ok(given) => Ok(Some(given)),
-        Err(error) => {
-            if let Error::Binary(_, _, _) = &error {
-                Ok(None)
-            } else {
-                Err(AllocError)
-            }
-        }
-    }
-}
-
 fn result(operator: BinaryOperator, left: Entry, right: Entry) -> Option<Entry> {
     let components = shape(operator, left.components, right.components)?;
     let scalar = least_candidate(operator, left.scalar, right.scalar)?;
@@ -210,28 +191,38 @@ fn is_common(alloc: Global, from: Entry, to: Entry) -> Result<bool, AllocError> 
     Ok(convert_ty(&left, &right) == expected.as_ref())
 }
 
-/// What an operator gives two types.
-fn found(
+fn is_refused(
     alloc: Global,
     operator: BinaryOperator,
-    from: Entry,
-    to: Entry,
-) -> Result<Option<Type>, AllocError> {
-    let left = type_of(alloc, from)?;
-    let right = type_of(alloc, to)?;
-    given(alloc, operator, &left, &right)
+    left: &Type,
+    right: &Type,
+) -> Result<bool, AllocError> {
+    let text = format!(in alloc;
+        "cannot use the operator `{operator}` on operands of types `{left}` and `{right}`"
+    )?;
+    refuses(
+        alloc,
+        type_binary_op(alloc, operator, left, right),
+        text.as_str(),
+    )
 }
 
-/// Whether it is what the least candidate gives.
+/// Whether an operator gives two types what its least candidate gives, or refuses them where there is none.
 fn is_least(
     alloc: Global,
     operator: BinaryOperator,
     from: Entry,
     to: Entry,
 ) -> Result<bool, AllocError> {
-    let found = found(alloc, operator, from, to)?;
-    let least = type_of_some(alloc, result(operator, from, to))?;
-    Ok(found == least)
+    let left = type_of(alloc, from)?;
+    let right = type_of(alloc, to)?;
+    match result(operator, from, to) {
+        None => is_refused(alloc, operator, &left, &right),
+        Some(entry) => {
+            let least = type_of(alloc, entry)?;
+            Ok(gives(type_binary_op(alloc, operator, &left, &right), &least))
+        }
+    }
 }
 
 #[test]
