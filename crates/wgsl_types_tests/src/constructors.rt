@@ -1,125 +1,117 @@
 //! Templates and constructors.
 
-use crate::made::{array, member, refusal, vector};
+use crate::made::{member, refuses, struct_of, tells, vector};
+use std::alloc::Global;
 use std::test::Fail;
-use wgsl_items::{Items, Text};
 use wgsl_types::{
-    AddressSpace, ArrayTemplate, Enumerant, Error, LiteralInstance, StructType, TpltParam, Type,
-    VecTemplate, array_t, builtin_type, is_ctor, type_ctor, typecheck_struct_ctor, vec_t,
+    AddressSpace, ArrayTemplate, Enumerant, Error, LiteralInstance, TpltParam, Type, VecTemplate,
+    array_t, builtin_type, is_ctor, type_ctor, typecheck_struct_ctor, vec_t,
 };
 
-#[test]
-fn a_count(rt: HostRuntime) -> Result<(), Fail> {
-    let alloc = rt.alloc();
-    let counted = vec![in alloc;
-        TpltParam::Ty(Type::U32),
-        TpltParam::Instance(LiteralInstance::AbstractInt(2)),
-    ]?;
-    let read = ArrayTemplate::parse(alloc, counted.as_slice())?;
-    assert!(rt; read.n() == Some(2));
-    assert!(rt; *read.inner_ty() == Type::U32);
-    Ok(())
+/// The template of an array of so many `u32`.
+fn counted(alloc: Global, count: LiteralInstance) -> Result<ArrayTemplate, Error> {
+    let params = [TpltParam::Ty(Type::U32), TpltParam::Instance(count)];
+    ArrayTemplate::parse(alloc, &params)
 }
 
 #[test]
-fn a_count_of_zero(rt: HostRuntime) -> Result<(), Fail> {
+fn counts(rt: HostRuntime) -> Result<(), Fail> {
     let alloc = rt.alloc();
-    let zero = vec![in alloc;
-        TpltParam::Ty(Type::U32),
-        TpltParam::Instance(LiteralInstance::I32(0)),
-    ]?;
-    let refused = refusal(ArrayTemplate::parse(alloc, zero.as_slice()))?;
-    assert!(rt; matches!(refused, Some(Error::Todo(_))));
+    let none = counted(alloc, LiteralInstance::I32(0));
+    assert!(rt; refuses(alloc, none, "not supported here: `array`")?);
+    let below = counted(alloc, LiteralInstance::AbstractInt(-1));
+    assert!(rt; refuses(alloc, below, "invalid template arguments of `array`")?);
+    match counted(alloc, LiteralInstance::AbstractInt(2)).ok() {
+        Some(read) => {
+            assert!(rt; read.n() == Some(2));
+            assert!(rt; *read.inner_ty() == Type::U32);
+        }
+        None => panic!(rt; "2 is a count"),
+    }
     Ok(())
 }
 
-#[test]
-fn a_count_below_zero(rt: HostRuntime) -> Result<(), Fail> {
-    let alloc = rt.alloc();
-    let negative = vec![in alloc;
-        TpltParam::Ty(Type::U32),
-        TpltParam::Instance(LiteralInstance::AbstractInt(-1)),
-    ]?;
-    let refused = refusal(ArrayTemplate::parse(alloc, negative.as_slice()))?;
-    assert!(rt; matches!(refused, Some(Error::TemplateArgs("array"))));
-    Ok(())
-}
-
-#[test]
-fn a_pointer(rt: HostRuntime) -> Result<(), Fail> {
-    let alloc = rt.alloc();
-    let places = vec![in alloc;
+fn pointer(alloc: Global) -> Result<Type, Error> {
+    let places = [
         TpltParam::Enumerant(Enumerant::AddressSpace(AddressSpace::Storage)),
         TpltParam::Ty(Type::U32),
-    ]?;
-    let pointer = builtin_type(alloc, "ptr", Some(places.as_slice()))?;
-    assert!(rt; pointer.to_string(alloc)?.as_str() == "ptr<storage, u32, read>");
-    Ok(())
+    ];
+    builtin_type(alloc, "ptr", Some(&places))
 }
 
 #[test]
 fn built_in_names(rt: HostRuntime) -> Result<(), Fail> {
     let alloc = rt.alloc();
+    assert!(rt; tells(alloc, pointer(alloc), "ptr<storage, u32, read>")?);
     assert!(rt; is_ctor("vec3u"));
     assert!(rt; !is_ctor("ptr"));
-    let float = refusal(builtin_type(alloc, "f32", None))?;
-    assert!(rt; matches!(float, Some(Error::Todo(_))));
-    let matrix = refusal(type_ctor(alloc, "mat2x3f", None, &[]))?;
-    assert!(rt; matches!(matrix, Some(Error::Todo(_))));
-    let other = refusal(type_ctor(alloc, "material", None, &[]))?;
-    assert!(rt; matches!(other, Some(Error::UnknownType(_))));
+    assert!(rt;
+        tells(
+            alloc,
+            builtin_type(alloc, "f32", None),
+            "not supported here: `f32`"
+        )?
+    );
     Ok(())
 }
 
-#[test]
-fn constructors(rt: HostRuntime) -> Result<(), Fail> {
-    let alloc = rt.alloc();
-    let parts = vec![in alloc; Type::AbstractInt, Type::U32]?;
-    let scalar = type_ctor(alloc, "i32", None, &[])?;
-    assert!(rt; scalar == Type::I32);
-    let pair = type_ctor(alloc, "vec2", None, parts.as_slice())?;
-    assert!(rt; pair == vector(alloc, 2, Type::U32)?);
-    let both = type_ctor(alloc, "array", None, parts.as_slice())?;
-    assert!(rt; both == array(alloc, Type::U32, Some(2))?);
-    Ok(())
+/// A name, whether it is called with an `AbstractInt` and a `u32`, and what the call tells.
+const CALLS: [(&str, bool, &str); 6] = [
+    ("i32", false, "i32"),
+    ("vec2", true, "vec2<u32>"),
+    ("array", true, "array<u32, 2>"),
+    ("vec4", true, "no such call of `vec4`"),
+    ("mat2x3f", false, "not supported here: `mat2x3f`"),
+    ("material", false, "unknown type `material`"),
+];
+
+fn called(alloc: Global, name: &str, with_two: bool) -> Result<Type, Error> {
+    let two = [Type::AbstractInt, Type::U32];
+    if with_two {
+        type_ctor(alloc, name, None, &two)
+    } else {
+        type_ctor(alloc, name, None, &[])
+    }
 }
 
 #[test]
-fn parts_that_do_not_fill(rt: HostRuntime) -> Result<(), Fail> {
-    let alloc = rt.alloc();
-    let parts = vec![in alloc; Type::AbstractInt, Type::U32]?;
-    match refusal(type_ctor(alloc, "vec4", None, parts.as_slice()))? {
-        Some(Error::Signature(call)) => assert!(rt; call.name.as_str() == "vec4"),
-        _ => panic!(rt; "two parts of four"),
+fn calls(rt: HostRuntime) -> Result<(), Fail> {
+    for (name, with_two, text) in CALLS {
+        assert!(rt;
+            tells(rt.alloc(), called(rt.alloc(), name, with_two), text)?,
+            "{name}"
+        );
     }
     Ok(())
+}
+
+/// A vector of three components, made of a vector of two `AbstractInt` and a `u32`.
+fn three(alloc: Global, template: Option<&VecTemplate>) -> Result<Type, Error> {
+    let parts = [vector(alloc, 2, Type::AbstractInt)?, Type::U32];
+    vec_t(alloc, 3, template, &parts)
+}
+
+/// A vector of two components, made of a vector of two `u32`.
+fn cast(alloc: Global, template: &VecTemplate) -> Result<Type, Error> {
+    let whole = [vector(alloc, 2, Type::U32)?];
+    vec_t(alloc, 2, Some(template), &whole)
 }
 
 #[test]
 fn vectors(rt: HostRuntime) -> Result<(), Fail> {
     let alloc = rt.alloc();
-    let parts = vec![in alloc; vector(alloc, 2, Type::AbstractInt)?, Type::U32]?;
-    let three = vec_t(alloc, 3, None, parts.as_slice())?;
-    assert!(rt; three == vector(alloc, 3, Type::U32)?);
     let template = VecTemplate {
         component: Type::I32,
     };
-    match refusal(vec_t(alloc, 3, Some(&template), parts.as_slice()))? {
-        Some(Error::Signature(call)) => assert!(rt; call.name.as_str() == "vec3"),
-        _ => panic!(rt; "U32 doesn't convert to I32"),
-    }
-    Ok(())
-}
-
-#[test]
-fn a_cast(rt: HostRuntime) -> Result<(), Fail> {
-    let alloc = rt.alloc();
-    let whole = vec![in alloc; vector(alloc, 2, Type::U32)?]?;
-    let template = VecTemplate {
-        component: Type::I32,
-    };
-    let cast = vec_t(alloc, 2, Some(&template), whole.as_slice())?;
-    assert!(rt; cast == vector(alloc, 2, Type::I32)?);
+    assert!(rt; tells(alloc, three(alloc, None), "vec3<u32>")?);
+    assert!(rt;
+        tells(
+            alloc,
+            three(alloc, Some(&template)),
+            "no such call of `vec3`"
+        )?
+    );
+    assert!(rt; tells(alloc, cast(alloc, &template), "vec2<i32>")?);
     Ok(())
 }
 
@@ -127,22 +119,24 @@ fn a_cast(rt: HostRuntime) -> Result<(), Fail> {
 fn arrays(rt: HostRuntime) -> Result<(), Fail> {
     let alloc = rt.alloc();
     let two = ArrayTemplate::new(Type::U32, Some(2));
-    let zero = array_t(alloc, Some(&two), &[])?;
-    assert!(rt; zero == array(alloc, Type::U32, Some(2))?);
-    let none = refusal(array_t(alloc, None, &[]))?;
-    assert!(rt; matches!(none, Some(Error::Todo(_))));
+    assert!(rt; tells(alloc, array_t(alloc, Some(&two), &[]), "array<u32, 2>")?);
+    assert!(rt;
+        tells(
+            alloc,
+            array_t(alloc, None, &[]),
+            "not supported here: `array`"
+        )?
+    );
     Ok(())
 }
 
 #[test]
 fn members(rt: HostRuntime) -> Result<(), Fail> {
     let alloc = rt.alloc();
-    let mut members = Items::new(alloc);
-    members.push(member(alloc, "a", Type::U32)?)?;
-    let made = StructType::new(Text::from_str(alloc, "S")?, members);
-    let given = vec![in alloc; Type::AbstractInt, Type::U32]?;
-    typecheck_struct_ctor(alloc, &made, &[])?;
-    let refused = refusal(typecheck_struct_ctor(alloc, &made, given.as_slice()))?;
-    assert!(rt; matches!(refused, Some(Error::ParamCount(_, 1, 2))));
+    let made = struct_of(alloc, member(alloc, "a", Type::U32)?)?;
+    assert!(rt; typecheck_struct_ctor(alloc, &made, &[]).ok() == Some(()));
+    let two = [Type::AbstractInt, Type::U32];
+    let refused = "incorrect number of arguments to `S`: expected 1, got 2";
+    assert!(rt; refuses(alloc, typecheck_struct_ctor(alloc, &made, &two), refused)?);
     Ok(())
 }

@@ -1,39 +1,33 @@
 //! Copies, and the types of literals.
 
-use crate::made::{array, member, struct_of};
+use crate::made::{array, is_copied, member, struct_of, struct_type, tells};
+use std::alloc::{AllocError, Global};
 use std::test::Fail;
-use wgsl_items::{CloneIn, Items, Text};
+use wgsl_items::{Items, Text};
 use wgsl_types::{
     AccessMode, AddressSpace, ArrayTemplate, CallSignature, Error, LiteralInstance, PtrTemplate,
     TpltParam, Ty, Type, VecTemplate,
 };
 
-#[test]
-fn a_type(rt: HostRuntime) -> Result<(), Fail> {
-    let alloc = rt.alloc();
-    let mut members = Items::new(alloc);
-    members.push(member(alloc, "a", array(alloc, Type::U32, Some(4))?)?)?;
-    let original = struct_of(alloc, members)?;
-    assert!(rt; original.clone(alloc)? == original);
-    Ok(())
-}
-
-#[test]
-fn an_error(rt: HostRuntime) -> Result<(), Fail> {
-    let alloc = rt.alloc();
+fn call(alloc: Global) -> Result<CallSignature, AllocError> {
     let mut params = Items::new(alloc);
     params.push(TpltParam::Instance(LiteralInstance::U32(2)))?;
     let mut args = Items::new(alloc);
     args.push(Type::F16)?;
-    let call = CallSignature {
+    Ok(CallSignature {
         name: Text::from_str(alloc, "array")?,
         tplt: Some(params),
         args,
-    };
-    let original = Error::Signature(call);
-    assert!(rt; original.clone(alloc)? == original);
-    let count = Error::ParamCount(Text::from_str(alloc, "S")?, 1, 2);
-    assert!(rt; count.clone_in(alloc)? == count);
+    })
+}
+
+#[test]
+fn types_and_errors(rt: HostRuntime) -> Result<(), Fail> {
+    let alloc = rt.alloc();
+    assert!(rt; is_copied(alloc, Error::Signature(call(alloc)?))?);
+    assert!(rt; is_copied(alloc, Error::ParamCount(Text::from_str(alloc, "S")?, 1, 2))?);
+    let member = member(alloc, "a", array(alloc, Type::U32, Some(4))?)?;
+    assert!(rt; is_copied(alloc, struct_type(alloc, struct_of(alloc, member)?)?)?);
     Ok(())
 }
 
@@ -43,22 +37,27 @@ fn templates(rt: HostRuntime) -> Result<(), Fail> {
     let of_vector = VecTemplate {
         component: Type::Bool,
     };
-    assert!(rt; of_vector.clone(alloc)? == of_vector);
-    let of_array = ArrayTemplate::new(Type::I32, Some(3));
-    assert!(rt; of_array.clone(alloc)? == of_array);
+    assert!(rt; is_copied(alloc, of_vector)?);
+    assert!(rt; is_copied(alloc, ArrayTemplate::new(Type::I32, Some(3)))?);
     let of_pointer = PtrTemplate {
         space: AddressSpace::Storage,
         stored: Type::U32,
         access: AccessMode::ReadWrite,
     };
-    assert!(rt; of_pointer.clone(alloc)? == of_pointer);
+    assert!(rt; is_copied(alloc, of_pointer)?);
     Ok(())
 }
 
 #[test]
 fn literals(rt: HostRuntime) -> Result<(), Fail> {
     let alloc = rt.alloc();
-    assert!(rt; LiteralInstance::AbstractInt(5).ty(alloc)? == Type::AbstractInt);
-    assert!(rt; LiteralInstance::Bool(true).inner_ty(alloc)? == Type::Bool);
+    assert!(rt;
+        tells(
+            alloc,
+            LiteralInstance::AbstractInt(5).ty(alloc),
+            "AbstractInt"
+        )?
+    );
+    assert!(rt; tells(alloc, LiteralInstance::Bool(true).inner_ty(alloc), "bool")?);
     Ok(())
 }

@@ -1,24 +1,12 @@
 //! Ranks, common types and results of operators over all pairs of scalar and vector types, beside a plain search along the steps and through the candidates.
 
-use crate::made::vector;
+use crate::made::{Entry, gives, refuses, type_of};
 use std::alloc::{AllocError, Global};
 use std::test::Fail;
-use wgsl_types::{BinaryOperator, Error, Type, conversion_rank, convert_ty, type_binary_op};
+use wgsl_types::{BinaryOperator, Type, conversion_rank, convert_ty, type_binary_op};
 
-/// The five single steps, over the numbers of `scalar`, with their weights.
+/// The five single steps, over the numbers of scalars, with their weights.
 const STEPS: [(u8, u8, u32); 5] = [(2, 5, 1), (2, 6, 2), (1, 3, 3), (1, 4, 4), (1, 2, 5)];
-
-fn scalar(number: u8) -> Type {
-    match number {
-        0 => Type::Bool,
-        1 => Type::AbstractInt,
-        2 => Type::AbstractFloat,
-        3 => Type::I32,
-        4 => Type::U32,
-        5 => Type::F32,
-        _ => Type::F16,
-    }
-}
 
 /// The least sum of weights along a path of so many steps at most.
 fn least_sum(from: u8, to: u8, steps: u8) -> Option<u32> {
@@ -43,26 +31,11 @@ fn least_sum(from: u8, to: u8, steps: u8) -> Option<u32> {
     best
 }
 
-/// A type of the table: a scalar where it has one component, else a vector.
-#[derive(Clone, Copy)]
-struct Entry {
-    components: u8,
-    scalar: u8,
-}
-
 /// The scalars, then the vectors of two, three and four components.
 fn numbered(number: u8) -> Entry {
     Entry {
         components: number / 7 + 1,
         scalar: number % 7,
-    }
-}
-
-fn type_of(alloc: Global, entry: Entry) -> Result<Type, AllocError> {
-    if entry.components == 1 {
-        Ok(scalar(entry.scalar))
-    } else {
-        vector(alloc, entry.components, scalar(entry.scalar))
     }
 }
 
@@ -107,7 +80,7 @@ const OPERATORS: [BinaryOperator; 18] = [
     BinaryOperator::ShiftRight,
 ];
 
-/// Whether an operator has a signature at two scalars, over the numbers of `scalar`.
+/// Whether an operator has a signature at two scalars, over the numbers of scalars.
 fn takes(operator: BinaryOperator, left: u8, right: u8) -> bool {
     let integer = left == 1 || left == 3 || left == 4;
     match operator {
@@ -190,19 +163,6 @@ fn shape(operator: BinaryOperator, n: u8, m: u8) -> Option<u8> {
     }
 }
 
-fn given(
-    alloc: Global,
-    operator: BinaryOperator,
-    left: &Type,
-    right: &Type,
-) -> Result<Option<Type>, Error> {
-    match type_binary_op(alloc, operator, left, right) {
-        Ok(given) => Ok(Some(given)),
-        Err(Error::Binary(_, _, _)) => Ok(None),
-        Err(error) => Err(error),
-    }
-}
-
 fn result(operator: BinaryOperator, left: Entry, right: Entry) -> Option<Entry> {
     let components = shape(operator, left.components, right.components)?;
     let scalar = least_candidate(operator, left.scalar, right.scalar)?;
@@ -216,28 +176,66 @@ fn type_of_some(alloc: Global, entry: Option<Entry>) -> Result<Option<Type>, All
     }
 }
 
+/// Whether the rank of two types is that of the search.
+fn is_ranked(alloc: Global, from: Entry, to: Entry) -> Result<bool, AllocError> {
+    let left = type_of(alloc, from)?;
+    let right = type_of(alloc, to)?;
+    Ok(conversion_rank(&left, &right) == rank(from, to))
+}
+
+/// Whether the common type of two types is that of the search.
+fn is_common(alloc: Global, from: Entry, to: Entry) -> Result<bool, AllocError> {
+    let left = type_of(alloc, from)?;
+    let right = type_of(alloc, to)?;
+    let expected = type_of_some(alloc, common(from, to))?;
+    Ok(convert_ty(&left, &right) == expected.as_ref())
+}
+
+fn is_refused(
+    alloc: Global,
+    operator: BinaryOperator,
+    left: &Type,
+    right: &Type,
+) -> Result<bool, AllocError> {
+    let text = format!(in alloc;
+        "cannot use the operator `{operator}` on operands of types `{left}` and `{right}`"
+    )?;
+    refuses(
+        alloc,
+        type_binary_op(alloc, operator, left, right),
+        text.as_str(),
+    )
+}
+
+/// Whether an operator gives two types what its least candidate gives, or refuses them where there is none.
+fn is_least(
+    alloc: Global,
+    operator: BinaryOperator,
+    from: Entry,
+    to: Entry,
+) -> Result<bool, AllocError> {
+    let left = type_of(alloc, from)?;
+    let right = type_of(alloc, to)?;
+    match result(operator, from, to) {
+        None => is_refused(alloc, operator, &left, &right),
+        Some(entry) => {
+            let least = type_of(alloc, entry)?;
+            Ok(gives(type_binary_op(alloc, operator, &left, &right), &least))
+        }
+    }
+}
+
 #[test]
 fn all_pairs(rt: HostRuntime) -> Result<(), Fail> {
-    let alloc = rt.alloc();
     for first in 0..28u8 {
         for second in 0..28u8 {
             let (from, to) = (numbered(first), numbered(second));
-            let left = type_of(alloc, from)?;
-            let right = type_of(alloc, to)?;
-            assert!(rt;
-                conversion_rank(&left, &right) == rank(from, to),
-                "{left} to {right}"
-            );
-            let expected = type_of_some(alloc, common(from, to))?;
-            assert!(rt;
-                convert_ty(&left, &right) == expected.as_ref(),
-                "{left} and {right}"
-            );
+            assert!(rt; is_ranked(rt.alloc(), from, to)?, "{first} to {second}");
+            assert!(rt; is_common(rt.alloc(), from, to)?, "{first} and {second}");
             for operator in OPERATORS {
                 assert!(rt;
-                    given(alloc, operator, &left, &right)?
-                        == type_of_some(alloc, result(operator, from, to))?,
-                    "{left} {operator} {right}"
+                    is_least(rt.alloc(), operator, from, to)?,
+                    "{first} {operator} {second}"
                 );
             }
         }
