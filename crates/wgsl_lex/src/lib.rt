@@ -12,6 +12,3 @@ mod word;
 
 pub use lexer::lex;
 pub use trivia::{is_blankspace, is_line_break};
-
-#[cfg(test)]
-mod tests;

@@ -23,6 +23,3 @@ pub use wgsl_syntax::{
     UnaryOperator,
 };
 pub use wgsl_token::{Error, ErrorKind, Fixed, SpannedToken, Token};
-
-#[cfg(test)]
-mod tests;

@@ -27,6 +27,3 @@ pub use statement::{
 pub use unit::TranslationUnit;
 pub use wgsl_operators::{BinaryOperator, UnaryOperator};
 pub use wgsl_path::{Ident, ModulePath, PathOrigin, Span, Spanned};
-
-#[cfg(test)]
-mod tests;
