@@ -56,11 +56,7 @@ pub fn print_declaration(
     if is_text_of_declaration(alloc, text.as_str(), declaration)? {
         return Ok(text);
     }
-    Err(PrintError::Unprintable(unread_name(
-        alloc,
-        text.as_str(),
-        declaration,
-    )?))
+    Err(PrintError::Unprintable(unread_name(alloc, text.as_str(), declaration)?))
 }
 
 /// What is told of a declaration that isn't read from its text: the reserved word at the fault, else the declaration's name.

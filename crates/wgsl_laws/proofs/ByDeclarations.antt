@@ -1,6 +1,6 @@
 -- Declarations stand in one text exactly where each stands in its own.
 use Rattle.std.proofs.Common.{◌≡◌, refl, ap, ◌∙◌, subst, ℕ, List, [], ◌∷◌, ◌++◌, map, append_assoc, append-nil}
-use Rattle.std.specs.List.{flat_map, AllByRecursion}
+use Rattle.std.specs.List.{AllByRecursion}
 use Rattle.std.proofs.lemmas.List.Elements.{All-from_recursion, recursion_from_All}
 use Rattle.wgsl_path.specs.declared.span.Spanned.{Spanned}
 use Rattle.wgsl_token.specs.declared.token.SpannedToken.{SpannedToken}
@@ -60,7 +60,9 @@ module_of ds k = record {
 -- ---- from all to each
 
 one_of : {u : List SpannedToken} {x : Spanned GlobalDeclaration} → IsDeclaration u x → Knowns u → KnownDeclarations (node_declaration x ∷ [])
-one_of {u = u} {x = x} g h = record { tokens = u; nodes = x ∷ []; derived = rw (append-nil u) at again g no_more; knowns = h; same = refl }
+one_of {u = u} {x = x} g h =
+    let derived : Repeated IsDeclaration (u ++ []) (x ∷ []) = again g no_more in
+    record { tokens = u; nodes = x ∷ []; derived = rw (append-nil u) at derived; knowns = h; same = refl }
 
 each_of : {u : List SpannedToken} {nodes : List (Spanned GlobalDeclaration)} → Repeated IsDeclaration u nodes → Knowns u
     → AllByRecursion (λ d. KnownDeclarations (d ∷ [])) (map node_declaration nodes)
@@ -98,7 +100,9 @@ all_of (d ∷ ds) h = joined_of (d ∷ []) ds h.0 (all_of ds h.1)
 -- ---- the law
 
 alone_stands : (d : Decl) → KnownDeclarations (d ∷ []) → StandsFor (decl_text d) (alone d)
-alone_stands d k = rw (append-nil (decl_text d)) at stood (module_of (d ∷ []) k)
+alone_stands d k =
+    let whole : StandsFor (unit_text (alone d)) (alone d) = stood (module_of (d ∷ []) k) in
+    subst (λ text. StandsFor text (alone d)) (append-nil (decl_text d)) whole
 
 each_stands : (ds : List Decl) → AllByRecursion (λ d. KnownDeclarations (d ∷ [])) ds → AllByRecursion (λ d. StandsFor (decl_text d) (alone d)) ds
 each_stands [] h = tt
