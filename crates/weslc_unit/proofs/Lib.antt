@@ -1,2 +1,4 @@
 pub mod ClearLemmas
 pub mod Once
+pub mod ByDeclarations
+pub mod AloneLemmas

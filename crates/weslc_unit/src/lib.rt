@@ -10,6 +10,6 @@ mod tests;
 
 pub use compiled::compile_unit;
 pub use error::{PrintError, UnitRefusal};
-pub use printed::print_unit;
+pub use printed::{print_declaration, print_unit};
 pub use wesl_validate::{ValidateError, ValidateFault};
 pub use wgsl_eval::{Fault, NameFault, NumberFault, Refusal};

@@ -1,16 +1,105 @@
-//! Units printed so that they read back.
+//! Declarations and units printed so that they read back.
 
-ghost use Rattle.std.specs.Prelude.{◌≡◌, ◌↔◌, IfOk, IfErr, IsTrue, string_bytes};
-ghost use Rattle.wgsl_syntax.specs.View.{unit_tree};
-ghost use Rattle.wgsl_syntax.specs.Print.{unit_text};
+ghost use Rattle.std.specs.Prelude.{◌≡◌, ◌↔◌, All, IfOk, IfErr, IsTrue, map, string_bytes};
+ghost use Rattle.std.specs.List.{flat_map};
+ghost use Rattle.wgsl_syntax.specs.View.{declaration_tree, unit_tree};
+ghost use Rattle.wgsl_syntax.specs.Print.{decl_text, unit_text};
+ghost use Rattle.wgsl_laws.specs.Printing.{alone};
+ghost use Rattle.weslc_unit.specs.ByDeclarations.{AreUnprintable};
 ghost use Rattle.weslc_unit.specs.Compiled.{IsTextOf, IsUnprintable};
 
 use crate::error::PrintError;
 use std::alloc::{AllocError, Global};
 use wgsl_items::{CloneIn, Text};
 use wgsl_parse::{ErrorKind, parse_str};
-use wgsl_same::is_same_unit;
-use wgsl_syntax::{GlobalDeclaration, TranslationUnit};
+use wgsl_same::{is_same_declaration, is_same_unit};
+use wgsl_syntax::{GlobalDeclaration, GlobalDeclarationNode, TranslationUnit};
+
+/// Whether a unit is a declaration alone.
+fn is_alone(unit: &TranslationUnit, declaration: &GlobalDeclaration) -> bool
+    ensures { IsTrue result ↔ (unit_tree unit.now ≡ alone (declaration_tree declaration.now)) }
+{
+    if let [only] = unit.global_declarations.as_slice() {
+        return unit.imports.is_empty() && is_same_declaration(only.node(), declaration);
+    }
+    false
+}
+
+/// Whether a text is read as a declaration alone.
+fn is_text_of_declaration(
+    alloc: Global,
+    text: &str,
+    declaration: &GlobalDeclaration,
+) -> Result<bool, PrintError>
+    ensures read { IfOk result (λ b. IsTrue b ↔ IsTextOf (alone (declaration_tree declaration.now)) text.now) }
+    ensures memory { IfErr result (λ e. e ≡ PrintError.OutOfMemory) }
+{
+    match parse_str(alloc, text) {
+        Ok(parsed) => Ok(is_alone(&parsed, declaration)),
+        Err(error) => match error.kind {
+            ErrorKind::OutOfMemory => Err(PrintError::OutOfMemory),
+            _ => Ok(false),
+        },
+    }
+}
+
+/// The text of a declaration, where it is read as that declaration alone.
+pub fn print_declaration(
+    alloc: Global,
+    declaration: &GlobalDeclaration,
+) -> Result<String, PrintError>
+    ensures text { IfOk result (λ text. string_bytes text ≡ decl_text (declaration_tree declaration.now)) }
+    ensures read { IfOk result (λ text. IsTextOf (alone (declaration_tree declaration.now)) (string_bytes text)) }
+    ensures refusal { IfErr result (IsUnprintable (alone (declaration_tree declaration.now))) }
+{
+    let text = declaration.to_string(alloc)?;
+    if is_text_of_declaration(alloc, text.as_str(), declaration)? {
+        return Ok(text);
+    }
+    Err(PrintError::Unprintable(unread_name(alloc, text.as_str(), declaration)?))
+}
+
+/// What is told of a declaration that isn't read from its text: the reserved word at the fault, else the declaration's name.
+fn unread_name(
+    alloc: Global,
+    text: &str,
+    declaration: &GlobalDeclaration,
+) -> Result<Text, AllocError> {
+    if let Err(error) = parse_str(alloc, text) {
+        if error.kind == ErrorKind::OutOfMemory {
+            return Err(AllocError);
+        }
+        if error.kind == ErrorKind::ReservedWord {
+            let word = text.get(error.span.start..error.span.end);
+            return Text::from_str(alloc, word.unwrap_or(""));
+        }
+    }
+    declared_name(declaration).clone_in(alloc)
+}
+
+fn declared_name(declaration: &GlobalDeclaration) -> &Text {
+    match declaration {
+        GlobalDeclaration::Declaration(value) => &value.ident.name,
+        GlobalDeclaration::Function(function) => &function.ident.name,
+    }
+}
+
+/// The text of declarations, where each is read from its own.
+fn print_declarations(
+    alloc: Global,
+    declarations: &[GlobalDeclarationNode],
+) -> Result<String, PrintError>
+    ensures text { IfOk result (λ text. string_bytes text ≡ flat_map decl_text (map (λ n. declaration_tree n.node) declarations.now)) }
+    ensures read { IfOk result (λ _. All (λ d. IsTextOf (alone d) (decl_text d)) (map (λ n. declaration_tree n.node) declarations.now)) }
+    ensures refusal { IfErr result (AreUnprintable (map (λ n. declaration_tree n.node) declarations.now)) }
+{
+    let mut text = String::new(alloc);
+    for declaration in declarations {
+        let printed = print_declaration(alloc, declaration.node())?;
+        text.push_str(printed.as_str())?;
+    }
+    Ok(text)
+}
 
 /// Whether a text is read as a unit.
 fn is_text_of(alloc: Global, text: &str, unit: &TranslationUnit) -> Result<bool, PrintError>
@@ -26,42 +115,21 @@ fn is_text_of(alloc: Global, text: &str, unit: &TranslationUnit) -> Result<bool,
     }
 }
 
-/// The text of a unit, where it is read as that unit: where some text stands for the unit, this one does.
+/// The text of a unit, where it is read as that unit: where some text stands for the unit, this one does. Without imports it
+/// is printed and read back by its declarations, so that no second tree of the whole is made.
 pub fn print_unit(alloc: Global, unit: &TranslationUnit) -> Result<String, PrintError>
     ensures text { IfOk result (λ text. string_bytes text ≡ unit_text (unit_tree unit.now)) }
     ensures read { IfOk result (λ text. IsTextOf (unit_tree unit.now) (string_bytes text)) }
     ensures refusal { IfErr result (IsUnprintable (unit_tree unit.now)) }
 {
+    let declarations = unit.global_declarations.as_slice();
+    if unit.imports.is_empty() {
+        return print_declarations(alloc, declarations);
+    }
     let text = unit.to_string(alloc)?;
     if is_text_of(alloc, text.as_str(), unit)? {
         return Ok(text);
     }
-    Err(PrintError::Unprintable(unprintable_name(alloc, unit)?))
-}
-
-/// Of the first declaration whose text is no module's: the reserved word at the fault, else the declaration's name.
-fn unprintable_name(alloc: Global, unit: &TranslationUnit) -> Result<Text, AllocError> {
-    for declaration in unit.global_declarations.as_slice() {
-        let text = declaration.node().to_string(alloc)?;
-        if let Err(error) = parse_str(alloc, text.as_str()) {
-            return match error.kind {
-                ErrorKind::OutOfMemory => Err(AllocError),
-                ErrorKind::ReservedWord => Text::from_str(
-                    alloc,
-                    text.as_str()
-                        .get(error.span.start..error.span.end)
-                        .unwrap_or(""),
-                ),
-                _ => declared_name(declaration.node()).clone_in(alloc),
-            };
-        }
-    }
-    Ok(Text::from_str(alloc, "")?)
-}
-
-fn declared_name(declaration: &GlobalDeclaration) -> &Text {
-    match declaration {
-        GlobalDeclaration::Declaration(value) => &value.ident.name,
-        GlobalDeclaration::Function(function) => &function.ident.name,
-    }
+    print_declarations(alloc, declarations)?;
+    Err(PrintError::Unprintable(Text::from_str(alloc, "")?))
 }

@@ -242,7 +242,7 @@ braces_back (returns {x = x} e g) h =
 
 -- declarations
 
-abbrev node_declaration : Spanned GlobalDeclaration → Decl
+abbrev pub node_declaration : Spanned GlobalDeclaration → Decl
 node_declaration n = declaration_tree n.node
 
 abbrev DeclarationBack : Decl → Type 0
@@ -449,7 +449,7 @@ declarations_back (again {u = u} {v = v} {x = x} {xs = xs} g i) h =
         → Means (Repeated IsDeclaration) (map node_declaration) (y ∷ ys) w
     one_more y ys w (joined (means g same) (means i others)) = means (again g i) (λ k. same k ∷ others k)
 
-unit_back : {u : List SpannedToken} {m : TranslationUnit} → IsUnit u m → Knowns u → Back anything IsUnit unit_tree (unit_text (unit_tree m)) (unit_tree m)
+pub unit_back : {u : List SpannedToken} {m : TranslationUnit} → IsUnit u m → Knowns u → Back anything IsUnit unit_tree (unit_text (unit_tree m)) (unit_tree m)
 unit_back (unit {u = u} {v = v} {imports = imports} {declarations = declarations} g i) h =
     let a = imports_back g (knowns_front u v h) in let b = declarations_back i (knowns_behind u v h) in record {
       characters = a.characters ++ b.characters;
@@ -467,7 +467,7 @@ scalars_front : (cs ds : List ℕ) → all_scalars (cs ++ ds) ≡ true → all_s
 scalars_front [] ds h = refl
 scalars_front (c ∷ cs) ds h = let (one, others) = both (scalar c) (all_scalars (cs ++ ds)) h in ap (λ b. b && all_scalars cs) one ∙ scalars_front cs ds others
 
-scalars_behind : (cs ds : List ℕ) → all_scalars (cs ++ ds) ≡ true → all_scalars ds ≡ true
+pub scalars_behind : (cs ds : List ℕ) → all_scalars (cs ++ ds) ≡ true → all_scalars ds ≡ true
 scalars_behind [] ds h = h
 scalars_behind (c ∷ cs) ds h = scalars_behind cs ds (both (scalar c) (all_scalars (cs ++ ds)) h).1
 
@@ -478,7 +478,7 @@ tokens_known (a_token {cs = cs} {rest = rest} {t = k} l others) h =
     (known_of k (record { characters = cs; scalars = scalars_front cs rest h; forms = l.is }), tokens_known others (scalars_behind cs rest h))
 tokens_known (no_token {c = c} {rest = rest} f l others) h = (tt, tokens_known others (both (scalar c) (all_scalars rest) h).1)
 
-stands : {text : List ℕ} {m : Unit} → Back anything IsUnit unit_tree text m → StandsFor text m
+pub stands : {text : List ℕ} {m : Unit} → Back anything IsUnit unit_tree text m → StandsFor text m
 stands {text = text} {m = m} a = let r = a.prints.reads 0 [] [] refl at_the_end in by_phrase r.front r.phrase r.lexes
   where
     by_phrase : (front : List SpannedToken) → Means IsUnit unit_tree m front → Lexes 0 (a.characters ++ []) (front ++ []) → StandsFor text m

@@ -10,3 +10,4 @@ pub mod Declarations
 pub mod Alike
 pub mod Same
 pub mod Apart
+pub mod ByDeclarations

@@ -1,10 +1,11 @@
 -- What holds of modules that are printed and read again.
-use Rattle.std.specs.Prelude.{◌≡◌, ℕ, List}
+use Rattle.std.specs.Prelude.{◌≡◌, ◌↔◌, ℕ, List, [], ◌∷◌, All}
+use Rattle.std.specs.List.{flat_map}
 use Rattle.wgsl_token.specs.declared.token.SpannedToken.{SpannedToken}
 use Rattle.wgsl_syntax.specs.declared.unit.TranslationUnit.{TranslationUnit}
-use Rattle.wgsl_syntax.specs.Tree.{Unit}
+use Rattle.wgsl_syntax.specs.Tree.{Decl, Unit}
 use Rattle.wgsl_syntax.specs.View.{unit_tree}
-use Rattle.wgsl_syntax.specs.Print.{unit_text}
+use Rattle.wgsl_syntax.specs.Print.{decl_text, unit_text}
 use Rattle.wgsl_lex.specs.Tokens.{IsLexed}
 use Rattle.wgsl_grammar.specs.Declarations.{IsUnit}
 
@@ -32,3 +33,12 @@ pub record PrintsTo (tokens : List SpannedToken) (text : List ℕ) : Type 0 wher
 abbrev pub PrintsTheSame : Type 0
 PrintsTheSame = (text : List ℕ) (tokens : List SpannedToken) (unit : TranslationUnit) → IsLexed text tokens → IsUnit tokens unit
     → (printed : List SpannedToken) → IsLexed (unit_text (unit_tree unit)) printed → PrintsTo printed (unit_text (unit_tree unit))
+
+-- a declaration as a module of its own
+abbrev pub alone : Decl → Unit
+alone d = record { imports = []; declarations = d ∷ [] }
+
+-- The text of declarations stands for them exactly where the text of each stands for that declaration alone.
+abbrev pub StandsByDeclarations : Type 0
+StandsByDeclarations = (ds : List Decl) → StandsFor (flat_map decl_text ds) (record { imports = []; declarations = ds })
+    ↔ All (λ d. StandsFor (decl_text d) (alone d)) ds

@@ -1,6 +1,6 @@
 //! Laws, each as the contract of a function that does nothing.
 
-ghost use Rattle.wgsl_laws.specs.Printing.{PrintsBack, PrintsTheSame};
+ghost use Rattle.wgsl_laws.specs.Printing.{PrintsBack, PrintsTheSame, StandsByDeclarations};
 ghost use Rattle.wgsl_laws.specs.Same.{ImportsOfTextsAreApart, SameTokensStandForTheSame};
 
 /// A module that a text derives prints to a text that derives an equal tree.
@@ -12,6 +12,11 @@ pub fn prints_back()
 /// a module that prints to the same text.
 pub fn prints_the_same()
     ensures { PrintsTheSame }
+{}
+
+/// The text of declarations stands for them exactly where the text of each stands for that declaration alone.
+pub fn stands_by_declarations()
+    ensures { StandsByDeclarations }
 {}
 
 /// Texts with the same tokens, wherever those stand, stand for the same trees.

@@ -165,15 +165,16 @@ fn is_same_function(a: &Function, b: &Function) -> bool
         && is_same_block(&a.body, &b.body)
 }
 
-fn is_same_declaration(a: &GlobalDeclarationNode, b: &GlobalDeclarationNode) -> bool
-    ensures { IsTrue result ↔ (declaration_tree a.now.node ≡ declaration_tree b.now.node) }
+/// Whether two declarations have the same tree, whatever the places of their nodes.
+pub fn is_same_declaration(a: &GlobalDeclaration, b: &GlobalDeclaration) -> bool
+    ensures { IsTrue result ↔ (declaration_tree a.now ≡ declaration_tree b.now) }
 {
-    match a.node() {
-        GlobalDeclaration::Declaration(x) => match b.node() {
+    match a {
+        GlobalDeclaration::Declaration(x) => match b {
             GlobalDeclaration::Declaration(y) => is_same_value(x, y),
             GlobalDeclaration::Function(_) => false,
         },
-        GlobalDeclaration::Function(x) => match b.node() {
+        GlobalDeclaration::Function(x) => match b {
             GlobalDeclaration::Function(y) => is_same_function(x, y),
             GlobalDeclaration::Declaration(_) => false,
         },
@@ -187,7 +188,7 @@ fn are_same_declarations(a: &[GlobalDeclarationNode], b: &[GlobalDeclarationNode
         return false;
     }
     for index in 0..a.len() {
-        if !is_same_declaration(&a[index], &b[index]) {
+        if !is_same_declaration(a[index].node(), b[index].node()) {
             return false;
         }
     }

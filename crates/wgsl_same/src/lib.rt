@@ -5,4 +5,4 @@ mod declaration;
 mod expression;
 mod path;
 
-pub use declaration::is_same_unit;
+pub use declaration::{is_same_declaration, is_same_unit};
