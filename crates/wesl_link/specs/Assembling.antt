@@ -16,6 +16,7 @@ use Rattle.wesl_scopes.specs.Outcomes.{Outcome, symbol_at, unloaded, missing, pr
 use Rattle.wesl_reach.specs.Reach.{Holding}
 use Rattle.wesl_reach.specs.Closing.{HeldNames, held_at}
 use Rattle.wesl_reach.specs.Resolved.{LoadedModules}
+use Rattle.wesl_link.specs.declared.assemble.HeldDeclaration.{HeldDeclaration}
 
 -- the printed name of what an outcome denotes, where it is held
 abbrev pub printed_of : Holding → Outcome → Option Name
@@ -66,3 +67,14 @@ others_linked ms held root es = flat_map (λ e. if bytes_eq (string_bytes e.0) r
 -- what is held in the loaded modules: the root's first
 abbrev pub assembled : LoadedModules → HeldNames → Path → Unit
 assembled ms held root = record { imports = []; declarations = linked_at (loaded ms) (held_at held) (loaded ms root) ++ others_linked ms held root ms.entries }
+
+-- a held declaration under its new names
+abbrev pub linked_tree : LoadedModules → HeldNames → HeldDeclaration → Decl
+linked_tree ms held d = renamed_declaration (naming (loaded ms) (held_at held) (home_of d.«module».now)) (declaration_tree d.node.now.node)
+
+abbrev pub linked_trees : LoadedModules → HeldNames → List HeldDeclaration → List Decl
+linked_trees ms held ds = map (linked_tree ms held) ds
+
+-- the unit of held declarations under their new names
+abbrev pub linked_of : LoadedModules → HeldNames → List HeldDeclaration → Unit
+linked_of ms held ds = record { imports = []; declarations = linked_trees ms held ds }

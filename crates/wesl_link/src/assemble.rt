@@ -11,7 +11,7 @@ ghost use Rattle.wesl_scopes.specs.Outcomes.{loaded, home_of};
 ghost use Rattle.wesl_reach.specs.Closing.{held_at};
 ghost use Rattle.wesl_link.specs.Assembling.{naming, linked_at, linked_module};
 ghost use Rattle.wesl_reach.specs.Resolved.{modules_of, IsResolved};
-ghost use Rattle.wesl_link.specs.Assembling.{declaration_trees, others_linked, assembled};
+ghost use Rattle.wesl_link.specs.Assembling.{declaration_trees, linked_tree, linked_trees, linked_of, others_linked, assembled};
 ghost use Rattle.wesl_resolve.specs.SourceMaps.{decl_at};
 ghost use Rattle.wesl_link.specs.Recording.{record_of, records_in, records_of, AreRecorded, AreTold};
 
@@ -24,81 +24,113 @@ use wesl_resolve::BasicSourceMap;
 use wesl_scopes::{Module, Symbol, declared_name};
 use wgsl_items::Items;
 use wgsl_path::{ModulePath, Spanned};
-use wgsl_syntax::{GlobalDeclarationNode, TranslationUnit};
+use wgsl_syntax::{GlobalDeclaration, GlobalDeclarationNode, TranslationUnit};
+
+/// A held symbol's declaration, as its module has it.
+#[derive(Clone, Copy)]
+pub struct HeldDeclaration<'a> {
+    pub(crate) module: &'a Module,
+    pub(crate) node: &'a GlobalDeclarationNode,
+}
 
 impl Resolutions {
-    /// One unit without imports: the root's held declarations, then those of the other modules in byte order of their
-    /// printed paths, each in text order, under their names in the linked unit.
+    /// One unit without imports: the declarations of the held symbols, in their order, under their names in the linked unit.
     pub fn assemble(&self, alloc: Global) -> Result<TranslationUnit, AllocError>
         ensures whole { IfOk result (λ unit. unit_tree unit ≡ assembled self.now.modules self.now.held (string_bytes self.now.root)) }
         ensures linked { IfOk result (λ unit. (keep : List Name) → IsResolved self.now.modules (string_bytes self.now.root) keep self.now.held → IsLinked (modules_of self.now.modules) (string_bytes self.now.root) keep (unit_tree unit)) }
     {
-        let unit = self.whole_unit(alloc)?;
-        Ok(unit)
-    }
-
-    fn whole_unit(&self, alloc: Global) -> Result<TranslationUnit, AllocError>
-        ensures whole { IfOk result (λ unit. unit_tree unit ≡ assembled self.now.modules self.now.held (string_bytes self.now.root)) }
-        ensures ordered { IfOk result (λ unit. IsOrdered string_cmp self.now.modules) }
-    {
-        let mut declarations = Items::new(alloc);
-        self.add_root(alloc, &mut declarations)?;
-        self.add_others(alloc, &mut declarations)?;
+        let held = self.held_declarations(alloc)?;
+        let declarations = self.linked_declarations(alloc, held.as_slice())?;
         Ok(TranslationUnit {
             imports: Items::new(alloc),
             global_declarations: declarations,
         })
     }
 
-    fn add_root(
+    /// The declarations of the held symbols in the order of the linked unit: the root's, then those of the other modules in
+    /// byte order of their printed paths, each in text order.
+    pub fn held_declarations<'a>(
+        &'a self,
+        alloc: Global,
+    ) -> Result<Vec<HeldDeclaration<'a>>, AllocError>
+        ensures whole { IfOk result (λ held. linked_of self.now.modules self.now.held held.items ≡ assembled self.now.modules self.now.held (string_bytes self.now.root)) }
+        ensures linked { IfOk result (λ held. (keep : List Name) → IsResolved self.now.modules (string_bytes self.now.root) keep self.now.held → IsLinked (modules_of self.now.modules) (string_bytes self.now.root) keep (linked_of self.now.modules self.now.held held.items)) }
+    {
+        let mut found = Vec::new(alloc);
+        self.add_root(&mut found)?;
+        self.add_others(&mut found)?;
+        Ok(found)
+    }
+
+    /// A declaration under its names in the linked unit.
+    pub fn linked_declaration(
         &self,
         alloc: Global,
-        declarations: &mut Items<GlobalDeclarationNode>,
-    ) -> Result<(), AllocError>
-        ensures { OnOk result (declaration_trees declarations.new ≡ declaration_trees declarations.old ++ linked_at (loaded self.now.modules) (held_at self.now.held) (loaded self.now.modules (string_bytes self.now.root))) }
+        held: HeldDeclaration<'_>,
+    ) -> Result<GlobalDeclaration, AllocError>
+        ensures { IfOk result (λ declaration. declaration_tree declaration ≡ linked_tree self.now.modules self.now.held held.entry) }
+    {
+        let naming = ModuleNaming {
+            resolutions: self,
+            module: held.module,
+        };
+        renamed_declaration(alloc, naming, held.node.node())
+    }
+
+    fn linked_declarations(
+        &self,
+        alloc: Global,
+        held: &[HeldDeclaration<'_>],
+    ) -> Result<Items<GlobalDeclarationNode>, AllocError>
+        ensures { IfOk result (λ declarations. declaration_trees declarations ≡ linked_trees self.now.modules self.now.held held.now) }
+    {
+        let mut declarations = Items::new(alloc);
+        for declaration in held {
+            let new = self.linked_declaration(alloc, *declaration)?;
+            declarations.push(Spanned::new(alloc, new, declaration.node.span)?)?;
+        }
+        Ok(declarations)
+    }
+
+    fn add_root<'a>(&'a self, found: &mut Vec<HeldDeclaration<'a>>) -> Result<(), AllocError>
+        ensures { OnOk result (linked_trees self.now.modules self.now.held found.new.items ≡ linked_trees self.now.modules self.now.held found.old.items ++ linked_at (loaded self.now.modules) (held_at self.now.held) (loaded self.now.modules (string_bytes self.now.root))) }
     {
         match self.modules.get(self.root.as_str()) {
             None => Ok(()),
-            Some(root) => self.add_declarations(alloc, root, declarations),
+            Some(root) => self.add_declarations(root, found),
         }
     }
 
-    fn add_others(
-        &self,
-        alloc: Global,
-        declarations: &mut Items<GlobalDeclarationNode>,
-    ) -> Result<(), AllocError>
-        ensures trees { OnOk result (declaration_trees declarations.new ≡ declaration_trees declarations.old ++ others_linked self.now.modules self.now.held (string_bytes self.now.root) self.now.modules.entries) }
+    fn add_others<'a>(&'a self, found: &mut Vec<HeldDeclaration<'a>>) -> Result<(), AllocError>
+        ensures trees { OnOk result (linked_trees self.now.modules self.now.held found.new.items ≡ linked_trees self.now.modules self.now.held found.old.items ++ others_linked self.now.modules self.now.held (string_bytes self.now.root) self.now.modules.entries) }
         ensures ordered { IsOrdered string_cmp self.now.modules }
     {
         for (text, module) in &self.modules {
-            self.add_other(alloc, text.as_str(), module, declarations)?;
+            self.add_other(text.as_str(), module, found)?;
         }
         Ok(())
     }
 
-    fn add_other(
-        &self,
-        alloc: Global,
+    fn add_other<'a>(
+        &'a self,
         text: &str,
-        module: &Module,
-        declarations: &mut Items<GlobalDeclarationNode>,
+        module: &'a Module,
+        found: &mut Vec<HeldDeclaration<'a>>,
     ) -> Result<(), AllocError>
-        ensures { OnOk result (declaration_trees declarations.new ≡ declaration_trees declarations.old ++ (if bytes_eq text.now (string_bytes self.now.root) then [] else linked_module (loaded self.now.modules) (held_at self.now.held) (home_of «module».now))) }
+        ensures { OnOk result (linked_trees self.now.modules self.now.held found.new.items ≡ linked_trees self.now.modules self.now.held found.old.items ++ (if bytes_eq text.now (string_bytes self.now.root) then [] else linked_module (loaded self.now.modules) (held_at self.now.held) (home_of «module».now))) }
     {
         if text == self.root.as_str() {
             return Ok(());
         }
-        self.add_declarations(alloc, module, declarations)
+        self.add_declarations(module, found)
     }
 
-    fn add_declarations(
-        &self,
-        alloc: Global,
-        module: &Module,
-        declarations: &mut Items<GlobalDeclarationNode>,
+    fn add_declarations<'a>(
+        &'a self,
+        module: &'a Module,
+        found: &mut Vec<HeldDeclaration<'a>>,
     ) -> Result<(), AllocError>
-        ensures { OnOk result (declaration_trees declarations.new ≡ declaration_trees declarations.old ++ linked_module (loaded self.now.modules) (held_at self.now.held) (home_of «module».now)) }
+        ensures { OnOk result (linked_trees self.now.modules self.now.held found.new.items ≡ linked_trees self.now.modules self.now.held found.old.items ++ linked_module (loaded self.now.modules) (held_at self.now.held) (home_of «module».now)) }
     {
         for (place, node) in module
             .unit
@@ -107,30 +139,27 @@ impl Resolutions {
             .iter()
             .enumerate()
         {
-            self.add_held(alloc, Symbol { module, place }, node, declarations)?;
+            self.add_held(Symbol { module, place }, node, found)?;
         }
         Ok(())
     }
 
-    /// Adds a declaration under its new names, if it is held.
-    fn add_held(
-        &self,
-        alloc: Global,
-        symbol: Symbol<'_>,
-        node: &GlobalDeclarationNode,
-        declarations: &mut Items<GlobalDeclarationNode>,
+    /// Adds a declaration, if it is held.
+    fn add_held<'a>(
+        &'a self,
+        symbol: Symbol<'a>,
+        node: &'a GlobalDeclarationNode,
+        found: &mut Vec<HeldDeclaration<'a>>,
     ) -> Result<(), AllocError>
-        ensures { OnOk result (declaration_trees declarations.new ≡ declaration_trees declarations.old ++ (if is_some (held_at self.now.held (string_bytes symbol.entry.«module».now.text) symbol.entry.place) then renamed_declaration (naming (loaded self.now.modules) (held_at self.now.held) (home_of symbol.entry.«module».now)) (declaration_tree node.now.node) ∷ [] else [])) }
+        ensures { OnOk result (linked_trees self.now.modules self.now.held found.new.items ≡ linked_trees self.now.modules self.now.held found.old.items ++ (if is_some (held_at self.now.held (string_bytes symbol.entry.«module».now.text) symbol.entry.place) then renamed_declaration (naming (loaded self.now.modules) (held_at self.now.held) (home_of symbol.entry.«module».now)) (declaration_tree node.now.node) ∷ [] else [])) }
     {
         if !is_held(&self.held, symbol) {
             return Ok(());
         }
-        let naming = ModuleNaming {
-            resolutions: self,
+        found.push(HeldDeclaration {
             module: symbol.module,
-        };
-        let new = renamed_declaration(alloc, naming, node.node())?;
-        declarations.push(Spanned::new(alloc, new, node.span)?)?;
+            node,
+        })?;
         Ok(())
     }
 

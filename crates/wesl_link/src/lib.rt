@@ -6,6 +6,7 @@ mod clash;
 mod naming;
 mod rounds;
 
+pub use assemble::HeldDeclaration;
 pub use rounds::{Resolutions, resolve_lazy};
 pub use wesl_resolve::{BasicSourceMap, EscapeMangler, ResolveError, Resolver, SourceMap};
 pub use wesl_scopes::ImportError;
