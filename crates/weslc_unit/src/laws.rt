@@ -1,5 +1,6 @@
 //! Laws of compiled units. Each function states its law and does nothing.
 
+ghost use Rattle.weslc_unit.specs.Located.{RefusalsAreInDeclarations};
 ghost use Rattle.weslc_unit.specs.Once.{CompiledOnce, RefusedOnce, CompiledOrRefused};
 
 /// A unit has one compiled text.
@@ -10,6 +11,11 @@ pub fn compiled_once()
 /// A unit is refused in one way, memory aside.
 pub fn refused_once()
     ensures { RefusedOnce }
+{}
+
+/// The declaration that a refusal of a unit names is one that the unit declares.
+pub fn refusals_are_in_declarations()
+    ensures { RefusalsAreInDeclarations }
 {}
 
 /// A unit that is compiled is refused for memory alone.
