@@ -1,10 +1,10 @@
 -- Each fault of a case names the declaration in which it stands, so a unit's fault names one that the unit declares.
-use Rattle.std.proofs.Common.{◌≡◌, ◌⊎◌, inl, inr, ⊎_elim, ℕ, zero, suc, ◌<◌, List, [], ◌∷◌, ◌++◌, map, length, Bool, true, false, Option, Some, None, refl, sym, ap, ◌∙◌, subst, arith, Contains}
-use Rattle.std.specs.Prelude.{if◌then◌else◌, slice_get, ◌==◌}
+use Rattle.std.proofs.Common.{◌≡◌, ◌⊎◌, inl, inr, ⊎_elim, ℕ, zero, suc, List, [], ◌∷◌, ◌++◌, map, Bool, true, false, Option, Some, None, refl, sym, ap, subst, arith, Contains}
+use Rattle.std.specs.Prelude.{if◌then◌else◌, slice_get}
 use Rattle.std.specs.List.{flat_map}
 use Rattle.wgsl_syntax.specs.Tree.{Decl, Unit}
 use Rattle.wesl_validate.specs.declared.error.ValidateError.{ValidateError}
-use Rattle.wesl_validate.specs.declared.error.ValidateError.TheVariants.{UndefinedSymbol, Duplicate, Cycle}
+use Rattle.wesl_validate.specs.declared.error.ValidateError.TheVariants.{UndefinedSymbol, Duplicate}
 use Rattle.wesl_validate.specs.declared.error.ValidateFault.{ValidateFault}
 use Rattle.wesl_validate.specs.declared.place.Meaning.{Meaning}
 use Rattle.wesl_validate.specs.declared.place.Meaning.TheVariants.{Local, Global, Free}
@@ -12,7 +12,7 @@ use Rattle.wesl_validate.specs.declared.place.Place.{Place}
 use Rattle.wesl_validate.specs.declared.place.Row.{Row}
 use Rattle.wesl_validate.specs.Scopes.{Name, name_of, parameters_of, is_in, names, global_of, row_of, rows}
 use Rattle.wesl_validate.specs.First.{first}
-use Rattle.wesl_validate.specs.Faults.{fault, again, repeats, duplicates, undefined_in, undefined_at, call_fault, maybe_fault, miscall_at, faults_at, duplicates_of, undefined_of, miscalls_of, IsFirstFault, duplicate, undefined, miscall, ring}
+use Rattle.wesl_validate.specs.Faults.{fault, again, repeats, duplicates, undefined_in, undefined_at, call_fault, maybe_fault, miscall_at, faults_at, duplicate, undefined, miscall, ring}
 use Rattle.wesl_validate.specs.Located.{FaultsAreInDeclarations}
 use Rattle.wesl_validate.proofs.TreeLemmas.{map-map}
 

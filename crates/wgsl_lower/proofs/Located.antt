@@ -1,9 +1,9 @@
 -- A const that has no value was found under its name, and a function that isn't lowered stands in the unit.
-use Rattle.std.proofs.Common.{◌≡◌, ◌⊎◌, inl, inr, ⊎_elim, ℕ, zero, suc, ◌<◌, List, [], ◌∷◌, map, length, Bool, true, false, Option, Some, None, Result, Ok, Err, refl, sym, ap, subst, arith, Contains}
+use Rattle.std.proofs.Common.{◌≡◌, ◌⊎◌, inl, inr, ⊎_elim, zero, suc, List, [], ◌∷◌, map, Bool, true, false, Option, Some, None, Result, Ok, Err, refl, sym, ap, subst, arith, Contains}
 use Rattle.std.specs.Prelude.{if◌then◌else◌}
 use Rattle.std.specs.Str.{bytes_eq}
 use Rattle.std.specs.Cmp.Lexicographic.{same_text}
-use Rattle.wgsl_syntax.specs.Tree.{Decl, variable, function, Unit as Module}
+use Rattle.wgsl_syntax.specs.Tree.{Decl, variable, function}
 use Rattle.wgsl_meaning.specs.declared.value.Value.{Value}
 use Rattle.wgsl_meaning.specs.declared.fault.Fault.TheVariants.{Name as Named}
 use Rattle.wgsl_meaning.specs.declared.fault.NameFault.TheVariants.{CyclicDecl}
@@ -14,7 +14,7 @@ use Rattle.wgsl_meaning.specs.Meaning.{const_in}
 use Rattle.wgsl_meaning.specs.ConstStage.{Consts, Scope, stage, module_scope}
 use Rattle.wgsl_eval.specs.declared.error.Refusal.{Refusal}
 use Rattle.wgsl_eval.specs.Start.{refused, added, valued, then_more, all_valued, order_of, consts_of}
-use Rattle.wgsl_lower.specs.Lowered.{lowered_function, refusing, lowered_declarations, lowered_unit}
+use Rattle.wgsl_lower.specs.Lowered.{lowered_function, refusing, lowered_declarations}
 use Rattle.wgsl_lower.specs.Located.{RefusalsAreInDeclarations}
 
 -- ---- members
