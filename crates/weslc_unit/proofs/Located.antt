@@ -1,9 +1,9 @@
 -- The declaration that a refusal names is one that the unit declares, as each step says of its own.
-use Rattle.std.proofs.Common.{◌≡◌, List, [], ◌∷◌, map, Some, refl, subst, Contains}
+use Rattle.std.proofs.Common.{◌≡◌, List, [], ◌∷◌, map, refl, subst, Contains}
 use Rattle.wgsl_syntax.specs.Tree.{Decl, variable, function}
 use Rattle.wgsl_builtin.specs.Builtin.{builtin_names}
 use Rattle.wgsl_meaning.specs.Names as meaning
-use Rattle.wesl_validate.specs.Scopes.{Name, name_of, names}
+use Rattle.wesl_validate.specs.Scopes.{name_of, names}
 use Rattle.wesl_validate.proofs.Located.{faults_are_in_declarations}
 use Rattle.wgsl_lower.proofs.Located as lower
 use Rattle.weslc_unit.specs.declared.error.UnitRefusal.TheVariants.{Validate, UnclearName, Eval, Unprintable, OutOfMemory}
