@@ -4,3 +4,4 @@ pub mod FaultLemmas
 pub mod SearchLemmas
 pub mod UnitLemmas
 pub mod ClearLemmas
+pub mod Located

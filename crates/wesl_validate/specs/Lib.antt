@@ -5,3 +5,4 @@ pub mod Rings
 pub mod Searches
 pub mod Faults
 pub mod Clearness
+pub mod Located

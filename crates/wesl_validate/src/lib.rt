@@ -5,6 +5,7 @@ mod check;
 mod clear;
 mod error;
 mod index;
+pub mod laws;
 mod place;
 mod ring;
 mod validate;

@@ -1,5 +1,5 @@
 -- What the calls answer.
-use Rattle.std.specs.Prelude.{◌≡◌, ⊤, ℕ, List, [], ◌∷◌, Ok, Err, string_bytes}
+use Rattle.std.specs.Prelude.{◌≡◌, ⊤, ℕ, List, [], ◌∷◌, Some, Ok, Err, string_bytes}
 use Rattle.wgsl_path.specs.declared.path.ModulePath.{ModulePath}
 use Rattle.wgsl_path.specs.Paths.{path_text}
 use Rattle.wgsl_syntax.specs.Tree.{Unit}
@@ -18,12 +18,13 @@ use Rattle.wesl_meaning.specs.SourcePrograms.{IsProgramOf}
 use Rattle.wesl_reach.specs.Resolved.{modules_of, IsResolved}
 use Rattle.wesl_link.specs.declared.rounds.Resolutions.{Resolutions}
 use Rattle.weslc_unit.specs.Compiled.{IsTextOf, IsCompiled, Refuses}
+use Rattle.weslc_unit.specs.Located.{declaration_of}
 use Rattle.weslc_unit.specs.declared.error.UnitRefusal.{UnitRefusal}
 use Rattle.weslc_laws.specs.Headline.{AreKept, IsLinkedFrom, RunsAsSources, RunsExactlyAsSources}
 use Rattle.std.specs.List.{Contains}
 use Rattle.wesl_resolve.specs.declared.source_map.BasicSourceMap.{BasicSourceMap}
 use Rattle.wesl_resolve.specs.SourceMaps.{decl_at}
-use Rattle.weslc_calls.specs.Mapped.{Texts, HasText, HasDefault, TellsHeld}
+use Rattle.weslc_calls.specs.Mapped.{Texts, HasText, HasDefault, TellsHeld, IsLocated}
 use Rattle.weslc_calls.specs.Told.{about_module, about_item, about_name, Tells}
 use Rattle.weslc_calls.specs.declared.error.ResolveKind.TheVariants.{ModuleNotFound}
 use Rattle.weslc_calls.specs.declared.error.ImportKind.TheVariants.{DuplicateSymbol, MissingDecl, Private}
@@ -34,7 +35,8 @@ use Rattle.weslc_calls.specs.declared.error.CompileError.TheVariants.{TooManyMod
 module _ (found : Sources) (root : Path) (asked : List Name) (max : ℕ) where
   -- ---- what is loaded and linked
 
-  -- the modules that loading comes to, where these names of the root are kept, each under the path by which an import names it
+  -- the modules that loading comes to, where these names of the root are kept, each but the root under the path by which an import
+  -- names it
   pub record AreLoadedFrom (kept : List Name) (modules : Modules) : Type 0 where
     pub are_kept : AreKept found root asked kept
     pub loaded : ComesTo found root kept max (Ok modules)
@@ -104,7 +106,8 @@ module _ (found : Sources) (root : Path) (asked : List Name) (max : ℕ) where
     pub from : IsLinkedFrom found root asked max linked
     pub decls : TellsHeld from.modules root from.kept (decl_at map)
 
-  -- the first refusal of the linked unit, as the error tells it, which names a declaration as its module does
+  -- The first refusal of the linked unit, as the error tells it. The declaration that it names, where it names one, is a held symbol's,
+  -- which the map tells: so the error names the module and the declaration there.
   pub record IsRefusedUnit (e : CompileError) : Type 0 where
     pub linked : Unit
     pub map : BasicSourceMap
@@ -112,6 +115,7 @@ module _ (found : Sources) (root : Path) (asked : List Name) (max : ℕ) where
     pub refusal : UnitRefusal
     pub refused : Refuses linked refusal
     pub told : Tells (decl_at map) refusal e
+    pub located : (y : Name) → declaration_of refusal ≡ Some y → IsLocated from.from.modules root from.from.kept (decl_at map) y
 
   -- ---- texts
 

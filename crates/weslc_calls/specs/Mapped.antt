@@ -62,3 +62,9 @@ pub record IsTold (modules : Modules) (tell : Telling) (y : Name) (s : Symbol) :
 pub record TellsHeld (modules : Modules) (root : Path) (kept : List Name) (tell : Telling) : Type 0 where
   pub each : (y : Name) (s : Symbol) → IsHeldAs modules root kept y s → IsTold modules tell y s
   pub only : (y : Name) (v : Source) → tell y ≡ Some v → IsSourceOf modules root kept y v
+
+-- a name is the printed name of a held symbol, and that symbol is told of it
+pub record IsLocated (modules : Modules) (root : Path) (kept : List Name) (tell : Telling) (y : Name) : Type 0 where
+  pub symbol : Symbol
+  pub held : IsHeldAs modules root kept y symbol
+  pub told : IsTold modules tell y symbol

@@ -21,8 +21,8 @@ pub record AreKept (sources : Sources) (root : Path) (keep kept : List Name) : T
   pub found : sources root (unit_of unit)
   pub are : kept ≡ kept_names keep unit
 
--- The unit is linked from these sources: loading from the root comes to modules, each under the path by which an import names it;
--- none of their names clashes, and they are linked into it.
+-- The unit is linked from these sources: loading from the root comes to modules, each but the root under the path by which an import
+-- names it; none of their names clashes, and they are linked into it.
 pub record IsLinkedFrom (sources : Sources) (root : Path) (keep : List Name) (max : ℕ) (linked : Unit) : Type 0 where
   pub kept : List Name
   pub are_kept : AreKept sources root keep kept

@@ -1,6 +1,7 @@
 //! Laws of compiled units. Each function states its law and does nothing.
 
 ghost use Rattle.weslc_unit.specs.ByDeclarations.{ReadByDeclarations};
+ghost use Rattle.weslc_unit.specs.Located.{RefusalsAreInDeclarations};
 ghost use Rattle.weslc_unit.specs.Once.{CompiledOnce, RefusedOnce, CompiledOrRefused};
 
 /// A unit has one compiled text.
@@ -11,6 +12,11 @@ pub fn compiled_once()
 /// A unit is refused in one way, memory aside.
 pub fn refused_once()
     ensures { RefusedOnce }
+{}
+
+/// The declaration that a refusal of a unit names is one that the unit declares.
+pub fn refusals_are_in_declarations()
+    ensures { RefusalsAreInDeclarations }
 {}
 
 /// A unit that is compiled is refused for memory alone.

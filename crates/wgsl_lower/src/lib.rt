@@ -3,6 +3,7 @@
 
 mod expression;
 mod function;
+pub mod laws;
 mod unit;
 mod write;
 

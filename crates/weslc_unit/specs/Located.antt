@@ -1,0 +1,20 @@
+-- Which declaration a refusal is about.
+use Rattle.std.specs.Prelude.{◌≡◌, Option, Some, None}
+use Rattle.std.specs.List.{Contains}
+use Rattle.wgsl_syntax.specs.Tree.{Unit}
+use Rattle.wesl_validate.specs.Scopes.{Name, names}
+use Rattle.weslc_unit.specs.declared.error.UnitRefusal.{UnitRefusal}
+use Rattle.weslc_unit.specs.declared.error.UnitRefusal.TheVariants.{Validate, UnclearName, Eval, Unprintable, OutOfMemory}
+use Rattle.weslc_unit.specs.Compiled.{Refuses}
+
+-- the declaration that a refusal names, where it names one: a fault of validation or of evaluation stands in one
+abbrev pub declaration_of : UnitRefusal → Option Name
+declaration_of (Validate f) = Some f.declaration
+declaration_of (Eval r) = Some r.declaration
+declaration_of (UnclearName x) = None
+declaration_of (Unprintable x) = None
+declaration_of OutOfMemory = None
+
+-- it is one that the unit declares
+abbrev pub RefusalsAreInDeclarations : Type 0
+RefusalsAreInDeclarations = (unit : Unit) (refusal : UnitRefusal) (y : Name) → Refuses unit refusal → declaration_of refusal ≡ Some y → Contains (names unit) y

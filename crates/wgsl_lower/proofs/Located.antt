@@ -1,0 +1,81 @@
+-- A const that has no value was found under its name, and a function that isn't lowered stands in the unit.
+use Rattle.std.proofs.Common.{◌≡◌, ◌⊎◌, inl, inr, ⊎_elim, zero, suc, List, [], ◌∷◌, map, Bool, true, false, Option, Some, None, Result, Ok, Err, refl, sym, ap, subst, arith, Contains}
+use Rattle.std.specs.Prelude.{if◌then◌else◌}
+use Rattle.std.specs.Str.{bytes_eq}
+use Rattle.std.specs.Cmp.Lexicographic.{same_text}
+use Rattle.wgsl_syntax.specs.Tree.{Decl, variable, function}
+use Rattle.wgsl_meaning.specs.declared.value.Value.{Value}
+use Rattle.wgsl_meaning.specs.declared.fault.Fault.TheVariants.{Name as Named}
+use Rattle.wgsl_meaning.specs.declared.fault.NameFault.TheVariants.{CyclicDecl}
+use Rattle.wgsl_meaning.specs.Values.{Checked}
+use Rattle.wgsl_meaning.specs.Outcome.{Outcome, Done, Failed, Deep}
+use Rattle.wgsl_meaning.specs.Names.{Name, find_decl, name_of}
+use Rattle.wgsl_meaning.specs.Meaning.{const_in}
+use Rattle.wgsl_meaning.specs.ConstStage.{Consts, Scope, stage, module_scope}
+use Rattle.wgsl_eval.specs.declared.error.Refusal.{Refusal}
+use Rattle.wgsl_eval.specs.Start.{refused, added, valued, then_more, all_valued, order_of, consts_of}
+use Rattle.wgsl_lower.specs.Lowered.{lowered_function, refusing, lowered_declarations}
+use Rattle.wgsl_lower.specs.Located.{RefusalsAreInDeclarations}
+
+-- ---- members
+
+first_in : (x : Name) (xs : List Name) → Contains (x ∷ xs) x
+first_in x xs = (zero, omega arith, refl)
+
+later_in : (x y : Name) (xs : List Name) → Contains xs x → Contains (y ∷ xs) x
+later_in x y xs h = let less = h.1 in (suc h.0, omega arith, h.2)
+
+-- a name under which a declaration is found is declared
+found_in : (x : Name) (ds : List Decl) (d : Decl) → find_decl x ds ≡ Some d → Contains (map name_of ds) x
+found_in x [] d h = absurd (cc)
+found_in x (e ∷ ds) d h = at (bytes_eq x (name_of e)) (found_in x ds d) refl h
+  where
+    at : (b : Bool) → (find_decl x ds ≡ Some d → Contains (map name_of ds) x) → bytes_eq x (name_of e) ≡ b → (if b then Some e else find_decl x ds) ≡ Some d → Contains (map name_of (e ∷ ds)) x
+    at true behind same k = subst (Contains (name_of e ∷ map name_of ds)) (sym (same_text x (name_of e) (sym same))) (first_in (name_of e) (map name_of ds))
+    at false behind other k = later_in x (name_of e) (map name_of ds) (behind k)
+
+-- ---- refusals
+
+either_refused : {A B : Type 0} (o : Result A Refusal) (f : A → Result B Refusal) (r : Refusal) → then_more o f ≡ Err r → (o ≡ Err r) ⊎ ((x : A) × (f x ≡ Err r))
+either_refused (Ok x) f r h = inr (x, h)
+either_refused (Err q) f r h = let same : q ≡ r = cc in inl (ap Err same)
+
+added_here : (cs : Consts) (x : Name) (o : Outcome Value) (r : Refusal) → added cs x o ≡ Err r → r.declaration ≡ x
+added_here cs x (Done v n) r h = absurd (cc)
+added_here cs x (Failed f) r h = let same : refused x f ≡ r = cc in sym (ap (λ (q : Refusal). q.declaration) same)
+added_here cs x Deep r h = let same : refused x (Named CyclicDecl x) ≡ r = cc in sym (ap (λ (q : Refusal). q.declaration) same)
+
+valued_in : (ds : List Decl) (cs : Consts) (x : Name) (o : Option Decl) (r : Refusal) → find_decl x ds ≡ o → valued ds cs x o ≡ Err r → Contains (map name_of ds) r.declaration
+valued_in ds cs x (Some (variable attributes kind y type e)) r is h =
+    subst (Contains (map name_of ds)) (sym (added_here cs x (const_in (stage (module_scope ds cs)) x (Some (variable attributes kind y type e))) r h))
+    (found_in x ds (variable attributes kind y type e) is)
+valued_in ds cs x (Some (function attributes f parameters return_attributes type body)) r is h = absurd (cc)
+valued_in ds cs x None r is h = absurd (cc)
+
+all_valued_in : (ds : List Decl) (cs : Consts) (xs : List Name) (r : Refusal) → all_valued ds cs xs ≡ Err r → Contains (map name_of ds) r.declaration
+all_valued_in ds cs [] r h = absurd (cc)
+all_valued_in ds cs (x ∷ xs) r h =
+    ⊎_elim (valued_in ds cs x (find_decl x ds) r refl) (λ later. all_valued_in ds later.0 xs r later.1)
+    (either_refused (valued ds cs x (find_decl x ds)) (λ more. all_valued ds more xs) r h)
+
+refusing_here : {A : Type 0} (x : Name) (o : Checked A) (r : Refusal) → refusing x o ≡ Err r → r.declaration ≡ x
+refusing_here x (Ok v) r h = absurd (cc)
+refusing_here x (Err f) r h = let same : refused x f ≡ r = cc in sym (ap (λ (q : Refusal). q.declaration) same)
+
+lowered_in : (s : Scope) (ds : List Decl) (r : Refusal) → lowered_declarations s ds ≡ Err r → Contains (map name_of ds) r.declaration
+lowered_in s [] r h = absurd (cc)
+lowered_in s (variable attributes kind x type e ∷ ds) r h = later_in r.declaration x (map name_of ds) (lowered_in s ds r h)
+lowered_in s (function attributes f parameters return_attributes type body ∷ ds) r h =
+    ⊎_elim (λ here. subst (Contains (f ∷ map name_of ds)) (sym (refusing_here f (lowered_function s attributes f parameters return_attributes type body) r here)) (first_in f (map name_of ds)))
+    (λ later. ⊎_elim (λ k. later_in r.declaration f (map name_of ds) (lowered_in s ds r k)) (λ none. absurd (cc))
+    (either_refused (lowered_declarations s ds) (λ more. Ok (later.0 ∷ more)) r later.1))
+    (either_refused (refusing f (lowered_function s attributes f parameters return_attributes type body)) (λ d. then_more (lowered_declarations s ds) (λ more. Ok (d ∷ more))) r h)
+
+-- ---- the law
+
+pub refusals_are_in_declarations : RefusalsAreInDeclarations
+refusals_are_in_declarations unit r h =
+    ⊎_elim (all_valued_in unit.declarations [] (order_of unit.declarations) r)
+    (λ later. ⊎_elim (lowered_in (module_scope unit.declarations later.0) unit.declarations r) (λ none. absurd (cc))
+    (either_refused (lowered_declarations (module_scope unit.declarations later.0) unit.declarations) (λ low. Ok (record { imports = []; declarations = low })) r later.1))
+    (either_refused (consts_of unit.declarations) (λ cs. then_more (lowered_declarations (module_scope unit.declarations cs) unit.declarations) (λ low. Ok (record { imports = []; declarations = low }))) r h)
