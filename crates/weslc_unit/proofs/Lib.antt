@@ -3,3 +3,6 @@ pub mod Once
 pub mod ByDeclarations
 pub mod AloneLemmas
 pub mod Located
+pub mod Places
+pub mod PrintedLemmas
+pub mod ToldLemmas
