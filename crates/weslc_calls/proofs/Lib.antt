@@ -3,3 +3,4 @@ pub mod Loading
 pub mod Mapping
 pub mod Texts
 pub mod Recorded
+pub mod Printed
