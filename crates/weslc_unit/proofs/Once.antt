@@ -1,9 +1,9 @@
 -- A unit is compiled or refused in one way: each refusal says that the steps before it went well, and each step is determined.
 use Rattle.std.proofs.Common.{◌≡◌, ◌⊎◌, inl, inr, ℕ, ◌<◌, List, [], Some, None, Ok, refl, sym, ap, ◌∙◌, subst}
-use Rattle.std.specs.Prelude.{slice_get}
+use Rattle.std.specs.Prelude.{slice_get, slice_range}
 use Rattle.std.proofs.lemmas.Bool.{cases_order}
-use Rattle.wgsl_syntax.specs.Tree.{Unit as Module}
-use Rattle.wgsl_syntax.specs.Print.{unit_text}
+use Rattle.wgsl_syntax.specs.Tree.{Decl, Unit as Module}
+use Rattle.wgsl_syntax.specs.Print.{decl_text, unit_text}
 use Rattle.wgsl_builtin.specs.Names.{Name}
 use Rattle.wgsl_builtin.specs.Builtin.{builtin_names}
 use Rattle.wesl_validate.specs.declared.error.ValidateError.TheVariants.{Cycle}
@@ -13,7 +13,8 @@ use Rattle.wesl_validate.specs.First.{first}
 use Rattle.wesl_validate.specs.Rings.{IsFirstOnRing}
 use Rattle.wesl_validate.specs.Faults.{fault, IsFaultless, IsFirstFault, duplicate, undefined, miscall, ring}
 use Rattle.weslc_unit.specs.declared.error.UnitRefusal.TheVariants.{Validate, UnclearName, Eval, Unprintable, OutOfMemory}
-use Rattle.weslc_unit.specs.Compiled.{IsLowered, IsTextOf, IsCompiled}
+use Rattle.weslc_unit.specs.Compiled.{IsLowered, IsTextOf, IsCompiled, declared_name, IsToldOf, reserved_word, the_name, IsToldOfAll, nothing, of_first, of_later}
+use Rattle.weslc_unit.proofs.ToldLemmas.{one_fault}
 use Rattle.weslc_unit.specs.Once.{CompiledOnce, RefusedOnce, CompiledOrRefused}
 
 -- ---- the first of a list
@@ -74,6 +75,21 @@ same_low unit low other a b = let is : Ok low ≡ Ok other = sym a.lowered ∙ b
 reads_back : (unit : Module) (text : List ℕ) (c : IsCompiled unit text) → IsTextOf c.low (unit_text c.low)
 reads_back unit text c = subst (IsTextOf c.low) c.whole c.reads
 
+-- ---- what is told where a text is not read back
+
+told_of_once : (text name x y : List ℕ) → IsToldOf text name x → IsToldOf text name y → x ≡ y
+told_of_once text name _ _ (reserved_word e a i) (reserved_word f b j) = ap (λ g. slice_range text g.span.start g.span.end) (one_fault text e f a b)
+told_of_once text name _ _ (reserved_word e a i) (the_name fails) = absurd (fails e a i)
+told_of_once text name _ _ (the_name fails) (reserved_word f b j) = absurd (fails f b j)
+told_of_once text name _ _ (the_name fails) (the_name more) = refl
+
+told_once : (ds : List Decl) (x y : List ℕ) → IsToldOfAll ds x → IsToldOfAll ds y → x ≡ y
+told_once _ _ _ nothing nothing = refl
+told_once _ x y (of_first {d = d} fails t) (of_first more r) = told_of_once (decl_text d) (declared_name d) x y t r
+told_once _ x y (of_first fails t) (of_later is r) = absurd (fails is)
+told_once _ x y (of_later is t) (of_first fails r) = absurd (fails is)
+told_once _ x y (of_later {ds = ds} is t) (of_later more r) = told_once ds x y t r
+
 -- ---- the laws
 
 pub compiled_once : CompiledOnce
@@ -98,7 +114,8 @@ refused_once unit (Eval r) OutOfMemory a b = tt
 refused_once unit (Unprintable x) (Validate g) a b = absurd (faultless_or_faulty unit builtin_names g a.1.valid b)
 refused_once unit (Unprintable x) (UnclearName y) a b = absurd (none _ y a.1.clear b.1)
 refused_once unit (Unprintable x) (Eval q) a b = absurd (cc (a.1.lowered, b.2))
-refused_once unit (Unprintable x) (Unprintable y) a b = tt
+refused_once unit (Unprintable x) (Unprintable y) a b =
+    told_once a.0.declarations x y a.3 (subst (λ low. IsToldOfAll low.declarations y) (same_low unit b.0 a.0 b.1 a.1) b.3)
 refused_once unit (Unprintable x) OutOfMemory a b = tt
 refused_once unit OutOfMemory q a b = tt
 

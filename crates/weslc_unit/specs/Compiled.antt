@@ -1,10 +1,13 @@
 -- What is compiled of a linked unit, and the first refusal (this project's own order: validation, clear names, values, text).
-use Rattle.std.specs.Prelude.{◌≡◌, ⊤, List, ℕ, [], Some, Result, Ok, Err}
+use Rattle.std.specs.Prelude.{◌≡◌, ◌≢◌, ⊤, List, ℕ, [], ◌∷◌, Some, Result, Ok, Err, slice_range}
+use Rattle.wgsl_token.specs.declared.error.Error.{Error}
+use Rattle.wgsl_token.specs.declared.error.ErrorKind.TheVariants.{ReservedWord}
 use Rattle.wgsl_syntax.specs.declared.unit.TranslationUnit.{TranslationUnit}
-use Rattle.wgsl_syntax.specs.Tree.{Unit}
+use Rattle.wgsl_syntax.specs.Tree.{Decl, variable, function, Unit}
 use Rattle.wgsl_syntax.specs.View.{unit_tree}
-use Rattle.wgsl_syntax.specs.Print.{unit_text}
-use Rattle.wgsl_parse.specs.Texts.{Derives}
+use Rattle.wgsl_syntax.specs.Print.{decl_text, unit_text}
+use Rattle.wgsl_parse.specs.Texts.{Derives, IsFaultOf}
+use Rattle.wgsl_laws.specs.Printing.{alone}
 use Rattle.wgsl_builtin.specs.Builtin.{builtin_names}
 use Rattle.wesl_validate.specs.First.{first}
 use Rattle.wesl_validate.specs.Faults.{IsFaultless, IsFirstFault}
@@ -36,6 +39,10 @@ pub record IsLowered (unit low : Unit) : Type 0 where
 abbrev pub IsTextOf : Unit → List ℕ → Type 0
 IsTextOf meant text = (unit : TranslationUnit) × Derives text unit × (unit_tree unit ≡ meant)
 
+-- the text of a declaration is read as that declaration alone
+abbrev pub IsReadAlone : Decl → Type 0
+IsReadAlone d = IsTextOf (alone d) (decl_text d)
+
 -- ---- what is answered
 
 -- the text of what a unit is lowered to, which is read as that. Every run of the unit that ends well ends well in the lowered
@@ -46,6 +53,28 @@ pub record IsCompiled (unit : Unit) (text : List ℕ) : Type 0 where
   pub whole : text ≡ unit_text low
   pub reads : IsTextOf low text
   pub keeps : Keeps unit.declarations low.declarations
+
+-- ---- what is told where a text is not read back
+
+abbrev pub declared_name : Decl → List ℕ
+declared_name (variable attributes kind x type value) = x
+declared_name (function attributes f parameters result_attributes result body) = f
+
+-- What is told of a declaration with this text and name: the reserved word where the text is at fault there, else the name.
+pub data IsToldOf (text name : List ℕ) : List ℕ → Type 0 where
+  reserved_word : (e : Error) → IsFaultOf text e → e.kind ≡ ReservedWord → IsToldOf text name (slice_range text e.span.start e.span.end)
+  the_name : ((e : Error) → IsFaultOf text e → e.kind ≢ ReservedWord) → IsToldOf text name name
+
+-- What is told of declarations: of the first that is not read from its own text. Where each is read, nothing.
+pub data IsToldOfAll : List Decl → List ℕ → Type 0 where
+  nothing : IsToldOfAll [] []
+  of_first : {d : Decl} {ds : List Decl} {x : List ℕ} → (IsReadAlone d → ⊥) → IsToldOf (decl_text d) (declared_name d) x → IsToldOfAll (d ∷ ds) x
+  of_later : {d : Decl} {ds : List Decl} {x : List ℕ} → IsReadAlone d → IsToldOfAll ds x → IsToldOfAll (d ∷ ds) x
+
+-- memory aside, this is told of the declarations
+abbrev pub TellsOf : List Decl → PrintError → Type 0
+TellsOf ds (print.Unprintable x) = IsToldOfAll ds x
+TellsOf ds print.OutOfMemory = ⊤
 
 -- ---- what is refused: each case after those before it don't hold
 
@@ -79,5 +108,5 @@ abbrev pub Refuses : Unit → UnitRefusal → Type 0
 Refuses unit (Validate f) = IsFirstFault unit builtin_names f
 Refuses unit (UnclearName x) = IsValid unit × (first (unclear unit builtin_names) ≡ Some x)
 Refuses unit (Eval r) = IsValid unit × IsClear unit × (lowered_unit unit ≡ Err r)
-Refuses unit (Unprintable x) = (low : Unit) × IsLowered unit low × (IsTextOf low (unit_text low) → ⊥)
+Refuses unit (Unprintable x) = (low : Unit) × IsLowered unit low × (IsTextOf low (unit_text low) → ⊥) × IsToldOfAll low.declarations x
 Refuses unit OutOfMemory = ⊤

@@ -5,12 +5,12 @@ use Rattle.weslc_unit.specs.declared.error.UnitRefusal.{UnitRefusal}
 use Rattle.weslc_unit.specs.declared.error.UnitRefusal.TheVariants.{Validate, UnclearName, Eval, Unprintable, OutOfMemory}
 use Rattle.weslc_unit.specs.Compiled.{IsCompiled, Refuses}
 
--- Two refusals tell the same. That memory was refused tells nothing, and where no text stands for a unit the name is not compared.
+-- Two refusals tell the same. That memory was refused tells nothing.
 abbrev pub SameRefusal : UnitRefusal → UnitRefusal → Type 0
 SameRefusal (Validate f) (Validate g) = f ≡ g
 SameRefusal (UnclearName x) (UnclearName y) = x ≡ y
 SameRefusal (Eval r) (Eval q) = r ≡ q
-SameRefusal (Unprintable x) (Unprintable y) = ⊤
+SameRefusal (Unprintable x) (Unprintable y) = x ≡ y
 SameRefusal OutOfMemory q = ⊤
 SameRefusal r OutOfMemory = ⊤
 SameRefusal r q = ⊥

@@ -18,7 +18,8 @@ pub enum UnitRefusal {
     /// A const has no value, or what is rewritten is at fault.
     #[error("an evaluation goes wrong")]
     Eval(Refusal),
-    /// What is compiled has no text: of its first part that none stands for, the name, else the enclosing declaration's.
+    /// What is compiled has no text: of its first declaration that isn't read from its own text, the reserved word at the
+    /// text's fault, else the declaration's name.
     #[error("no text stands for {0}")]
     Unprintable(Text),
     /// Memory was refused. This says nothing of the unit.
@@ -29,7 +30,8 @@ pub enum UnitRefusal {
 /// Why a unit is not printed.
 #[derive(Debug, Drop, Message)]
 pub enum PrintError {
-    /// No text stands for the unit: of its first part that none stands for, the name, else the enclosing declaration's.
+    /// No text stands for the unit: of its first declaration that isn't read from its own text, the reserved word at the
+    /// text's fault, else the declaration's name.
     #[error("no text stands for {0}")]
     Unprintable(Text),
     /// Memory was refused. This says nothing of the unit.

@@ -1,12 +1,12 @@
 //! Declarations and units printed so that they read back.
 
-ghost use Rattle.std.specs.Prelude.{◌≡◌, ◌↔◌, All, IfOk, IfErr, IsTrue, map, string_bytes};
+ghost use Rattle.std.specs.Prelude.{◌≡◌, ◌↔◌, [], ◌∷◌, All, IfOk, IfErr, IsTrue, map, string_bytes};
 ghost use Rattle.std.specs.List.{flat_map};
 ghost use Rattle.wgsl_syntax.specs.View.{declaration_tree, unit_tree};
 ghost use Rattle.wgsl_syntax.specs.Print.{decl_text, unit_text};
 ghost use Rattle.wgsl_laws.specs.Printing.{alone};
 ghost use Rattle.weslc_unit.specs.ByDeclarations.{AreUnprintable};
-ghost use Rattle.weslc_unit.specs.Compiled.{IsTextOf, IsUnprintable};
+ghost use Rattle.weslc_unit.specs.Compiled.{IsTextOf, IsReadAlone, IsUnprintable, declared_name, IsToldOf, TellsOf};
 
 use crate::error::PrintError;
 use std::alloc::{AllocError, Global};
@@ -51,33 +51,35 @@ pub fn print_declaration(
     ensures text { IfOk result (λ text. string_bytes text ≡ decl_text (declaration_tree declaration.now)) }
     ensures read { IfOk result (λ text. IsTextOf (alone (declaration_tree declaration.now)) (string_bytes text)) }
     ensures refusal { IfErr result (IsUnprintable (alone (declaration_tree declaration.now))) }
+    ensures told { IfErr result (TellsOf (declaration_tree declaration.now ∷ [])) }
 {
     let text = declaration.to_string(alloc)?;
     if is_text_of_declaration(alloc, text.as_str(), declaration)? {
         return Ok(text);
     }
-    Err(PrintError::Unprintable(unread_name(alloc, text.as_str(), declaration)?))
+    let name = told_of(alloc, text.as_str(), name_of(declaration))?;
+    Err(PrintError::Unprintable(name))
 }
 
-/// What is told of a declaration that isn't read from its text: the reserved word at the fault, else the declaration's name.
-fn unread_name(
-    alloc: Global,
-    text: &str,
-    declaration: &GlobalDeclaration,
-) -> Result<Text, AllocError> {
-    if let Err(error) = parse_str(alloc, text) {
-        if error.kind == ErrorKind::OutOfMemory {
-            return Err(AllocError);
-        }
-        if error.kind == ErrorKind::ReservedWord {
-            let word = text.get(error.span.start..error.span.end);
-            return Text::from_str(alloc, word.unwrap_or(""));
-        }
+/// What is told of a declaration with this text and name: the reserved word where the text is at fault there, else the name.
+fn told_of(alloc: Global, text: &str, name: &Text) -> Result<Text, AllocError>
+    ensures { IfOk result (IsToldOf text.now name.now) }
+{
+    match parse_str(alloc, text) {
+        Ok(_) => name.clone_in(alloc),
+        Err(error) => match error.kind {
+            ErrorKind::OutOfMemory => Err(AllocError),
+            ErrorKind::ReservedWord => {
+                Text::from_str(alloc, &text[error.span.start..error.span.end])
+            }
+            _ => name.clone_in(alloc),
+        },
     }
-    declared_name(declaration).clone_in(alloc)
 }
 
-fn declared_name(declaration: &GlobalDeclaration) -> &Text {
+fn name_of(declaration: &GlobalDeclaration) -> &Text
+    ensures { result.now ≡ declared_name (declaration_tree declaration.now) }
+{
     match declaration {
         GlobalDeclaration::Declaration(value) => &value.ident.name,
         GlobalDeclaration::Function(function) => &function.ident.name,
@@ -90,8 +92,9 @@ fn print_declarations(
     declarations: &[GlobalDeclarationNode],
 ) -> Result<String, PrintError>
     ensures text { IfOk result (λ text. string_bytes text ≡ flat_map decl_text (map (λ n. declaration_tree n.node) declarations.now)) }
-    ensures read { IfOk result (λ _. All (λ d. IsTextOf (alone d) (decl_text d)) (map (λ n. declaration_tree n.node) declarations.now)) }
+    ensures read { IfOk result (λ _. All IsReadAlone (map (λ n. declaration_tree n.node) declarations.now)) }
     ensures refusal { IfErr result (AreUnprintable (map (λ n. declaration_tree n.node) declarations.now)) }
+    ensures told { IfErr result (TellsOf (map (λ n. declaration_tree n.node) declarations.now)) }
 {
     let mut text = String::new(alloc);
     for declaration in declarations {
@@ -121,6 +124,7 @@ pub fn print_unit(alloc: Global, unit: &TranslationUnit) -> Result<String, Print
     ensures text { IfOk result (λ text. string_bytes text ≡ unit_text (unit_tree unit.now)) }
     ensures read { IfOk result (λ text. IsTextOf (unit_tree unit.now) (string_bytes text)) }
     ensures refusal { IfErr result (IsUnprintable (unit_tree unit.now)) }
+    ensures told { IfErr result (TellsOf (unit_tree unit.now).declarations) }
 {
     let declarations = unit.global_declarations.as_slice();
     if unit.imports.is_empty() {

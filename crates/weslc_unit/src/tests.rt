@@ -1,6 +1,6 @@
 //! What units are compiled to. The expected bytes are those of the project's description.
 
-use crate::{UnitRefusal, ValidateError, compile_unit, print_unit};
+use crate::{PrintError, UnitRefusal, ValidateError, compile_unit, print_declaration, print_unit};
 use std::alloc::Global;
 use std::process::Abort;
 use std::test::Fail;
@@ -125,6 +125,24 @@ fn names_that_no_text_has(rt: HostRuntime) -> Result<(), Fail> {
     assert!(rt; print_unit(alloc, &unit).is_err());
     let unit = function_named(alloc, "two words")?;
     let Err(UnitRefusal::Unprintable(name)) = compile_unit(alloc, &unit) else {
+        return Err(Fail::from("not refused"));
+    };
+    assert_eq!(rt; name.as_str(), "two words");
+    Ok(())
+}
+
+#[test]
+fn a_declaration_alone(rt: HostRuntime) -> Result<(), Fail> {
+    let alloc = rt.alloc();
+    let unit = unit_of(alloc, "const k=1; fn g() {}")?;
+    for declaration in unit.global_declarations.as_slice() {
+        assert!(rt; print_declaration(alloc, declaration.node()).is_ok());
+    }
+    let unit = function_named(alloc, "two words")?;
+    let [_, last] = unit.global_declarations.as_slice() else {
+        return Err(Fail::from("not two declarations"));
+    };
+    let Err(PrintError::Unprintable(name)) = print_declaration(alloc, last.node()) else {
         return Err(Fail::from("not refused"));
     };
     assert_eq!(rt; name.as_str(), "two words");

@@ -467,7 +467,7 @@ scalars_front : (cs ds : List ℕ) → all_scalars (cs ++ ds) ≡ true → all_s
 scalars_front [] ds h = refl
 scalars_front (c ∷ cs) ds h = let (one, others) = both (scalar c) (all_scalars (cs ++ ds)) h in ap (λ b. b && all_scalars cs) one ∙ scalars_front cs ds others
 
-scalars_behind : (cs ds : List ℕ) → all_scalars (cs ++ ds) ≡ true → all_scalars ds ≡ true
+pub scalars_behind : (cs ds : List ℕ) → all_scalars (cs ++ ds) ≡ true → all_scalars ds ≡ true
 scalars_behind [] ds h = h
 scalars_behind (c ∷ cs) ds h = scalars_behind cs ds (both (scalar c) (all_scalars (cs ++ ds)) h).1
 
