@@ -4,3 +4,4 @@ pub mod Mapping
 pub mod Texts
 pub mod Recorded
 pub mod Located
+pub mod Printed

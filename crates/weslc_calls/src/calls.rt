@@ -3,6 +3,7 @@
 ghost use Rattle.std.specs.Prelude.{◌≡◌, ◌⊎◌, List, map, IfOk, IfErr, OnOk, string_bytes};
 ghost use Rattle.wgsl_path.specs.Paths.{path_text};
 ghost use Rattle.wgsl_syntax.specs.View.{unit_tree};
+ghost use Rattle.wgsl_syntax.specs.Print.{unit_text};
 ghost use Rattle.wesl_resolve.specs.Found.{unit_of, SameAnswers, SameTexts};
 ghost use Rattle.wesl_sources.specs.Occurrences.{Name};
 ghost use Rattle.wgsl_path.specs.declared.path.ModulePath.{ModulePath as Path};
@@ -11,13 +12,15 @@ ghost use Rattle.weslc_calls.specs.Mapped.{IsFound, AreAllFound, AreFound, HasTe
 ghost use Rattle.wesl_resolve.specs.SourceMaps.{decl_at};
 ghost use Rattle.wesl_reach.specs.Resolved.{modules_of, IsResolved};
 ghost use Rattle.wesl_link.specs.Recording.{AreTold};
+ghost use Rattle.wesl_link.specs.Assembling.{linked_of};
+ghost use Rattle.weslc_unit.specs.Compiled as of_unit;
 ghost use Rattle.weslc_calls.specs.Answers.{RefusesLinking, AreTablesOf, IsMapped, IsLinkedText, IsCompiledText, IsUnprintable, IsToldFrom, IsRefusedUnit};
 
 use crate::error::CompileError;
 use crate::options::Options;
 use std::alloc::Global;
-use wesl_link::{BasicSourceMap, Resolutions, Resolver, resolve_lazy};
-use weslc_unit::{PrintError, compile_unit, print_unit};
+use wesl_link::{BasicSourceMap, HeldDeclaration, Resolutions, Resolver, resolve_lazy};
+use weslc_unit::{PrintError, compile_unit, print_declaration};
 use wgsl_path::ModulePath;
 use wgsl_syntax::TranslationUnit;
 
@@ -40,12 +43,33 @@ pub fn link<R: Resolver>(
     ensures map { IfOk result (λ answer. IsMapped (R.answers resolver.old) (path_text root.now) options.now.keep options.now.max_modules (R.texts resolver.old) answer.1) }
     ensures refusal { IfErr result (λ e. RefusesLinking (R.answers resolver.old) (path_text root.now) options.now.keep options.now.max_modules e ⊎ IsUnprintable (R.answers resolver.old) (path_text root.now) options.now.keep options.now.max_modules e) }
 {
-    let Linked { unit, map } = linked_unit(alloc, resolver, root, options)?;
-    match print_unit(alloc, &unit) {
+    let (resolutions, map) = mapped(alloc, resolver, root, options)?;
+    let held = resolutions.held_declarations(alloc)?;
+    match print_held(alloc, &resolutions, held.as_slice()) {
         Ok(text) => Ok((text, map)),
         Err(PrintError::Unprintable(name)) => Err(CompileError::unprintable(name)),
         Err(PrintError::OutOfMemory) => Err(CompileError::OutOfMemory),
     }
+}
+
+/// The text of held declarations under their new names, where it is read as their unit. Each is renamed, printed and let go
+/// before the next.
+fn print_held(
+    alloc: Global,
+    resolutions: &Resolutions,
+    held: &[HeldDeclaration<'_>],
+) -> Result<String, PrintError>
+    ensures text { IfOk result (λ text. string_bytes text ≡ unit_text (linked_of resolutions.now.modules resolutions.now.held held.now)) }
+    ensures read { IfOk result (λ text. of_unit.IsTextOf (linked_of resolutions.now.modules resolutions.now.held held.now) (string_bytes text)) }
+    ensures refusal { IfErr result (of_unit.IsUnprintable (linked_of resolutions.now.modules resolutions.now.held held.now)) }
+{
+    let mut text = String::new(alloc);
+    for declaration in held {
+        let linked = resolutions.linked_declaration(alloc, *declaration)?;
+        let printed = print_declaration(alloc, &linked)?;
+        text.push_str(printed.as_str())?;
+    }
+    Ok(text)
 }
 
 /// One text without imports and consts in which what the kept names of the root reach is validated and lowered, and the map
@@ -80,10 +104,26 @@ fn linked_unit<R: Resolver>(
     ensures told { IfOk result (λ linked. IsToldFrom (R.answers resolver.old) (path_text root.now) options.now.keep options.now.max_modules (unit_tree linked.unit) linked.map) }
     ensures refusal { IfErr result (RefusesLinking (R.answers resolver.old) (path_text root.now) options.now.keep options.now.max_modules) }
 {
-    let resolutions = loaded(alloc, resolver, root, options)?;
+    let (resolutions, map) = mapped(alloc, resolver, root, options)?;
     let unit = resolutions.assemble(alloc)?;
-    let map = source_map(alloc, resolver, root, &resolutions)?;
     Ok(Linked { unit, map })
+}
+
+/// The modules that the kept names of the root lead to, where no name clashes, and the map of what is linked of them.
+fn mapped<R: Resolver>(
+    alloc: Global,
+    resolver: &mut R,
+    root: &ModulePath,
+    options: &Options,
+) -> Result<(Resolutions, BasicSourceMap), CompileError>
+    ensures tables { IfOk result (λ answer. AreTablesOf (R.answers resolver.old) (path_text root.now) options.now.keep options.now.max_modules answer.0) }
+    ensures map { IfOk result (λ answer. IsMapped (R.answers resolver.old) (path_text root.now) options.now.keep options.now.max_modules (R.texts resolver.old) answer.1) }
+    ensures decls { IfOk result (λ answer. (keep : List Name) → IsResolved answer.0.modules (string_bytes answer.0.root) keep answer.0.held → AreTold (modules_of answer.0.modules) (string_bytes answer.0.root) keep nothing_told (decl_at answer.1)) }
+    ensures refusal { IfErr result (RefusesLinking (R.answers resolver.old) (path_text root.now) options.now.keep options.now.max_modules) }
+{
+    let resolutions = loaded(alloc, resolver, root, options)?;
+    let map = source_map(alloc, resolver, root, &resolutions)?;
+    Ok((resolutions, map))
 }
 
 /// The modules that the kept names of the root lead to, where no name clashes.

@@ -1,12 +1,11 @@
--- The unit is the linked one; once it is loaded and free of clashes, only want of memory refuses it.
+-- Once the modules are loaded and free of clashes, only want of memory refuses the map.
 use Rattle.std.proofs.Common.{◌≡◌}
 use Rattle.std.proofs.lemmas.Result.{err_from_is_err_and}
 use Rattle.wgsl_path.specs.Paths.{path_text}
-use Rattle.wgsl_syntax.specs.View.{unit_tree}
 use Rattle.weslc_calls.specs.declared.error.CompileError.TheVariants.{OutOfMemory}
-use Rattle.weslc_calls.proofs.Loading.{linked, linked_and_told, paths_found, texts_mapped}
+use Rattle.weslc_calls.proofs.Loading.{paths_found, texts_mapped}
 use Rattle.weslc_calls.proofs.Mapping.{found_moved, text_moved, default_moved}
-use Rattle.weslc_calls.proofs.calls.linked_unit.Goals as goal
+use Rattle.weslc_calls.proofs.calls.mapped.Goals as goal
 
 pub returns-in_err-map-clause-refusal : goal.returns-in_err-map-clause-refusal
 returns-in_err-map-clause-refusal g c =
@@ -18,11 +17,6 @@ returns-in_err-map-clause-refusal g c =
     let memory : c.in_err-map.field-0.0 ≡ OutOfMemory = c.in_err-map.ensures.memory (found_moved found after same (path_text c.args.root.now) all.0, λ p among. found_moved found after same (path_text p) (all.1 p among)) in
     rw (p.1, p.2, memory) tt
 
-pub returns-clause-unit : goal.returns-clause-unit
-returns-clause-unit g c =
-    linked (g.R.Resolver.answers c.args.resolver.now) (path_text c.args.root.now) c.args.options.now.keep c.args.options.now.max_modules c.in_ok-resolutions.resolutions c.in_ok-resolutions.ensures.tables
-    (unit_tree c.in_ok-unit.unit) c.in_ok-unit.ensures.linked
-
 pub returns-clause-map : goal.returns-clause-map
 returns-clause-map g c =
     let texts = g.R.Resolver.texts c.args.resolver.now in
@@ -32,8 +26,3 @@ returns-clause-map g c =
     (λ p among. text_moved texts after same c.in_ok-map.map p (c.in_ok-map.ensures.texts p among))
     (default_moved texts after same (path_text c.args.root.now) c.in_ok-map.map c.in_ok-map.ensures.default_source)
     c.in_ok-map.ensures.decls
-
-pub returns-clause-told : goal.returns-clause-told
-returns-clause-told g c =
-    linked_and_told (g.R.Resolver.answers c.args.resolver.now) (path_text c.args.root.now) c.args.options.now.keep c.args.options.now.max_modules c.in_ok-resolutions.resolutions c.in_ok-resolutions.ensures.tables
-    (unit_tree c.in_ok-unit.unit) c.in_ok-unit.ensures.linked c.in_ok-map.map c.in_ok-map.ensures.decls
