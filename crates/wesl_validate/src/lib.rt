@@ -12,6 +12,3 @@ mod validate;
 pub use clear::unclear_name;
 pub use error::{Refusal, ValidateError, ValidateFault};
 pub use validate::validate_wesl;
-
-#[cfg(test)]
-mod tests;
