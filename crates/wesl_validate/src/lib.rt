@@ -13,6 +13,3 @@ mod validate;
 pub use clear::unclear_name;
 pub use error::{Refusal, ValidateError, ValidateFault};
 pub use validate::validate_wesl;
-
-#[cfg(test)]
-mod tests;

@@ -5,8 +5,6 @@ mod compiled;
 mod error;
 pub mod laws;
 mod printed;
-#[cfg(test)]
-mod tests;
 
 pub use compiled::compile_unit;
 pub use error::{PrintError, UnitRefusal};

@@ -6,8 +6,6 @@ mod evaluate;
 mod find;
 mod scope;
 mod start;
-#[cfg(test)]
-mod tests;
 mod typing;
 
 pub use error::{EvalError, Refusal, UnitError, refused};

@@ -4,8 +4,6 @@
 mod conversion;
 mod number;
 mod operator;
-#[cfg(test)]
-mod tests;
 
 pub use conversion::{construct, convert_to, converts};
 pub use number::{literal_value, type_of};

@@ -1,11 +1,11 @@
 //! Worked values.
 
-use crate::{
+use std::test::Fail;
+use wgsl_operators::{BinaryOperator, UnaryOperator};
+use wgsl_value::{
     NumberFault, NumericType, ShaderStage, Value, call_binary_op, call_unary_op, construct,
     convert_to,
 };
-use std::test::Fail;
-use wgsl_operators::{BinaryOperator, UnaryOperator};
 
 const CONST: ShaderStage = ShaderStage::Const;
 
