@@ -16,10 +16,10 @@ use Rattle.wesl_meaning.proofs.Agreement.{holds_of_alike_modules}
 use Rattle.wesl_meaning.proofs.Clashes.{clashes_are_one}
 use Rattle.wesl_meaning.proofs.Loading.{loaded_modules}
 use Rattle.wesl_link.specs.Recording.{Telling}
-use Rattle.weslc_unit.specs.Compiled.{IsTextOf, IsCompiled, Refuses}
+use Rattle.weslc_unit.specs.Compiled.{IsTextOf, IsCompiled, IsToldOfAll, Refuses}
 use Rattle.weslc_unit.specs.declared.error.UnitRefusal.{UnitRefusal}
 use Rattle.weslc_unit.specs.declared.error.UnitRefusal.TheVariants as of
-use Rattle.weslc_unit.proofs.Once.{compiled_once, refused_once, compiled_or_refused}
+use Rattle.weslc_unit.proofs.Once.{compiled_once, refused_once, compiled_or_refused, told_once}
 use Rattle.weslc_laws.specs.Headline.{IsLinkedFrom}
 use Rattle.weslc_calls.specs.Answers.{AreLoadedFrom, IsRefusedLoading, IsFirstClashFrom, RefusesLinking}
 use Rattle.weslc_calls.specs.Mapped.{TellsHeld}
@@ -32,7 +32,7 @@ use Rattle.weslc_agreement.specs.Asked.{AgreesOnAsked, HasAskedUnits}
 use Rattle.weslc_agreement.specs.Answers.{SameAnswer, TellTheSame, IsCompiledAnswer, IsLinkedAnswer, CompiledAlike, LinkedAlike}
 use Rattle.weslc_agreement.proofs.Units.{units_are_one}
 use Rattle.weslc_agreement.proofs.Outcomes.{refused_outcome, loaded_outcome, same_outcome, loaded_alike, kept_are_one}
-use Rattle.weslc_agreement.proofs.Told.{refused_first, refused_last, TellsLoading, loading_told, clash_told, tell_alike, refusal_told}
+use Rattle.weslc_agreement.proofs.Told.{refused_first, refused_last, TellsLoading, loading_told, clash_told, tell_alike, refusal_told, names_same}
 
 -- ---- what is answered of a linked unit
 
@@ -48,7 +48,7 @@ OfCompiling modules root keep linked (Err e) = (tell : Telling) × (refusal : Un
 -- by `link`: its text, or that it has none
 abbrev OfLinking : Saying
 OfLinking modules root keep linked (Ok text) = (text ≡ unit_text linked) × IsTextOf linked text
-OfLinking modules root keep linked (Err e) = (x : Name) × (e ≡ Unprintable (about_name x)) × (IsTextOf linked (unit_text linked) → ⊥)
+OfLinking modules root keep linked (Err e) = (x : Name) × (e ≡ Unprintable (about_name x)) × (IsTextOf linked (unit_text linked) → ⊥) × IsToldOfAll linked.declarations x
 
 -- the same is answered of alike modules
 abbrev IsOne : Saying → Type 0
@@ -69,10 +69,10 @@ compiling_is_one root modules others alike keep linked (Err e) (Err f) (tell, r,
 
 linking_is_one : IsOne OfLinking
 linking_is_one root modules others alike keep linked (Ok text) (Ok more) a b = a.0 ∙ sym b.0
-linking_is_one root modules others alike keep linked (Ok text) (Err e) a (x, is, unread) = absurd (unread (subst (IsTextOf linked) a.0 a.1))
-linking_is_one root modules others alike keep linked (Err e) (Ok text) (x, is, unread) b = absurd (unread (subst (IsTextOf linked) b.0 b.1))
-linking_is_one root modules others alike keep linked (Err e) (Err f) (x, is, unread) (y, it, unlike) =
-    subst (λ z. TellTheSame z f) (sym is) (subst (TellTheSame (Unprintable (about_name x))) (sym it) tt)
+linking_is_one root modules others alike keep linked (Ok text) (Err e) a (x, is, unread, told) = absurd (unread (subst (IsTextOf linked) a.0 a.1))
+linking_is_one root modules others alike keep linked (Err e) (Ok text) (x, is, unread, told) b = absurd (unread (subst (IsTextOf linked) b.0 b.1))
+linking_is_one root modules others alike keep linked (Err e) (Err f) (x, is, unread, told) (y, it, unlike, said) =
+    subst (λ z. TellTheSame z f) (sym is) (subst (TellTheSame (Unprintable (about_name x))) (sym it) (names_same x y (told_once linked.declarations x y told said)))
 
 -- ---- where a run ends
 
@@ -105,7 +105,7 @@ compiling_ends found root asked max (Err e) (inr u) = with_a_unit u.linked u.fro
 linking_ends : (found : Sources) (root : Path) (asked : List Name) (max : ℕ) (answer : Result (List ℕ) CompileError) → IsLinkedAnswer found root asked max answer → Ends OfLinking found root asked max answer
 linking_ends found root asked max (Ok text) is = with_a_unit is.linked is.from (is.whole, is.reads)
 linking_ends found root asked max (Err e) (inl refused) = refused_ends OfLinking found root asked max e refused
-linking_ends found root asked max (Err e) (inr u) = with_a_unit u.linked u.from (u.name, u.told, u.unread)
+linking_ends found root asked max (Err e) (inr u) = with_a_unit u.linked u.from (u.name, u.told, u.unread, u.named)
 
 -- ---- two runs
 

@@ -51,7 +51,7 @@ modules_same m n e = record { same_module = e; same_declaration = refl; same_nam
 items_same : (m n : ModulePath) (x : Name) → path_text m ≡ path_text n → SameConcern (about_item m x) (about_item n x)
 items_same m n x e = record { same_module = e; same_declaration = refl; same_name = refl }
 
-names_same : (x y : Name) → x ≡ y → SameConcern (about_name x) (about_name y)
+pub names_same : (x y : Name) → x ≡ y → SameConcern (about_name x) (about_name y)
 names_same x y e = record { same_module = tt; same_declaration = refl; same_name = ap Some e }
 
 -- the errors are these
@@ -183,7 +183,7 @@ errors_same tell more alike (of.Eval r) of.OutOfMemory same = tt
 errors_same tell more alike (of.Unprintable x) (of.Validate g) same = absurd same
 errors_same tell more alike (of.Unprintable x) (of.UnclearName y) same = absurd same
 errors_same tell more alike (of.Unprintable x) (of.Eval q) same = absurd same
-errors_same tell more alike (of.Unprintable x) (of.Unprintable y) same = tt
+errors_same tell more alike (of.Unprintable x) (of.Unprintable y) same = names_same x y same
 errors_same tell more alike (of.Unprintable x) of.OutOfMemory same = tt
 errors_same tell more alike of.OutOfMemory q same = tt
 

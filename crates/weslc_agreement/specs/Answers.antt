@@ -27,8 +27,7 @@ pub record SameConcern (c d : Concern) : Type 0 where
   pub same_declaration : c.decl ≡ d.decl
   pub same_name : c.name ≡ d.name
 
--- Two errors tell the same. Want of memory tells nothing of the modules; the name that is told of a text that is not read as its
--- unit is left out.
+-- Two errors tell the same. Want of memory tells nothing of the modules.
 abbrev pub TellTheSame : CompileError → CompileError → Type 0
 TellTheSame OutOfMemory e = ⊤
 TellTheSame e OutOfMemory = ⊤
@@ -40,7 +39,7 @@ TellTheSame (NameClash c) (NameClash d) = SameConcern c d
 TellTheSame (Validate c k) (Validate d l) = SameConcern c d × (k ≡ l)
 TellTheSame (UnclearName c) (UnclearName d) = SameConcern c d
 TellTheSame (Eval c f) (Eval d g) = SameConcern c d × (f ≡ g)
-TellTheSame (Unprintable c) (Unprintable d) = ⊤
+TellTheSame (Unprintable c) (Unprintable d) = SameConcern c d
 TellTheSame e f = ⊥
 
 -- ---- answers

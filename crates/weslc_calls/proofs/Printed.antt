@@ -9,20 +9,17 @@ use Rattle.wgsl_syntax.specs.Print.{decl_text, unit_text}
 use Rattle.wgsl_laws.specs.Printing.{alone}
 use Rattle.weslc_unit.specs.declared.error.PrintError.{PrintError}
 use Rattle.weslc_unit.specs.declared.error.PrintError.TheVariants.{Unprintable, OutOfMemory}
-use Rattle.weslc_unit.specs.Compiled.{IsTextOf, IsUnprintable}
+use Rattle.weslc_unit.specs.Compiled.{IsTextOf, IsReadAlone, IsUnprintable, IsToldOfAll, of_later, TellsOf}
 use Rattle.weslc_unit.proofs.ByDeclarations.{read_by_declarations}
+use Rattle.weslc_unit.proofs.PrintedLemmas.{not_read, told_of_one}
 
--- a declaration is read from its own text
-abbrev pub IsRead : Decl → Type 0
-IsRead d = IsTextOf (alone d) (decl_text d)
-
-pub read_alone : (d e : Decl) (text : List ℕ) → d ≡ e → text ≡ decl_text d → IsTextOf (alone d) text → IsRead e
-read_alone d e text same whole read = subst IsRead same (subst (IsTextOf (alone d)) whole read)
+pub read_alone : (d e : Decl) (text : List ℕ) → d ≡ e → text ≡ decl_text d → IsTextOf (alone d) text → IsReadAlone e
+read_alone d e text same whole read = subst IsReadAlone same (subst (IsTextOf (alone d)) whole read)
 
 -- where a declaration isn't read, nor is a unit that has it
-pub unit_unread : (ds : List Decl) (d e : Decl) (error : PrintError) → d ≡ e → (All IsRead ds → IsRead e) → IsUnprintable (alone d) error
+pub unit_unread : (ds : List Decl) (d e : Decl) (error : PrintError) → d ≡ e → (All IsReadAlone ds → IsReadAlone e) → IsUnprintable (alone d) error
     → IsUnprintable (record { imports = []; declarations = ds }) error
-unit_unread ds d e (Unprintable x) same each unread = λ read. unread (subst (IsTextOf (alone d)) (sym (append-nil (decl_text d))) (subst IsRead (sym same) (each ((read_by_declarations ds).0 read))))
+unit_unread ds d e (Unprintable x) same each unread = λ read. unread (subst (IsTextOf (alone d)) (sym (append-nil (decl_text d))) (subst IsReadAlone (sym same) (each ((read_by_declarations ds).0 read))))
 unit_unread ds d e OutOfMemory same each unread = tt
 
 module _ {A : Type 0} (tree : A → Decl) (ds : List A) (k : ℕ) where
@@ -40,17 +37,30 @@ module _ {A : Type 0} (tree : A → Decl) (ds : List A) (k : ℕ) where
         ∙ before
 
     -- one more is read
-    pub read_more : IsRead (tree d) → (All IsRead (map tree (drop k ds)) → All IsRead (map tree ds)) → All IsRead (map tree (drop (k + 1) ds)) → All IsRead (map tree ds)
-    read_more here before rest = before (subst (λ l. All IsRead (map tree l)) (sym front) (All-cons IsRead (tree d) (map tree (drop (k + 1) ds)) here rest))
+    pub read_more : IsReadAlone (tree d) → (All IsReadAlone (map tree (drop k ds)) → All IsReadAlone (map tree ds)) → All IsReadAlone (map tree (drop (k + 1) ds)) → All IsReadAlone (map tree ds)
+    read_more here before rest = before (subst (λ l. All IsReadAlone (map tree l)) (sym front) (All-cons IsReadAlone (tree d) (map tree (drop (k + 1) ds)) here rest))
 
-    pub each_read : All IsRead (map tree ds) → IsRead (tree d)
+    -- what is told of what is left is told of all
+    pub told_more : IsReadAlone (tree d) → ((x : List ℕ) → IsToldOfAll (map tree (drop k ds)) x → IsToldOfAll (map tree ds) x)
+        → (x : List ℕ) → IsToldOfAll (map tree (drop (k + 1) ds)) x → IsToldOfAll (map tree ds) x
+    told_more here before x rest = before x (subst (λ l. IsToldOfAll (map tree l) x) (sym front) (of_later here rest))
+
+    -- what is told of this one, which isn't read, is told of all
+    pub told_here : (own : Decl) (error : PrintError) → own ≡ tree d → IsUnprintable (alone own) error → TellsOf (own ∷ []) error
+        → ((x : List ℕ) → IsToldOfAll (map tree (drop k ds)) x → IsToldOfAll (map tree ds) x) → TellsOf (map tree ds) error
+    told_here own (Unprintable x) same no told before =
+        before x (subst (λ l. IsToldOfAll (map tree l) x) (sym front)
+        (told_of_one (tree d) (map tree (drop (k + 1) ds)) x (λ r. not_read own x no (subst IsReadAlone (sym same) r)) (subst (λ o. IsToldOfAll (o ∷ []) x) same told)))
+    told_here own OutOfMemory same no told before = tt
+
+    pub each_read : All IsReadAlone (map tree ds) → IsReadAlone (tree d)
     each_read all =
-        subst IsRead (get_or-map tree ds k d (tree d) less ∙ ap tree (sym is))
-        (All-get_or IsRead (map tree ds) k (tree d) (subst (λ n. k < n) (sym (length-map ds tree)) less) all)
+        subst IsReadAlone (get_or-map tree ds k d (tree d) less ∙ ap tree (sym is))
+        (All-get_or IsReadAlone (map tree ds) k (tree d) (subst (λ n. k < n) (sym (length-map ds tree)) less) all)
 
   module _ (more : length ds ≤ k) where
     pub text_all : (text whole : List ℕ) → text ++ flat_map decl_text (map tree (drop k ds)) ≡ whole → text ≡ whole
     text_all text whole before = sym (ap (λ l. text ++ flat_map decl_text (map tree l)) (drop_all k ds more) ∙ append-nil text) ∙ before
 
-    pub read_all : (All IsRead (map tree (drop k ds)) → All IsRead (map tree ds)) → All IsRead (map tree ds)
-    read_all before = before (subst (λ l. All IsRead (map tree l)) (sym (drop_all k ds more)) (All-nil IsRead))
+    pub read_all : (All IsReadAlone (map tree (drop k ds)) → All IsReadAlone (map tree ds)) → All IsReadAlone (map tree ds)
+    read_all before = before (subst (λ l. All IsReadAlone (map tree l)) (sym (drop_all k ds more)) (All-nil IsReadAlone))

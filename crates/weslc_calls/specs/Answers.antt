@@ -17,7 +17,7 @@ use Rattle.wgsl_meaning.specs.Programs.{Program}
 use Rattle.wesl_meaning.specs.SourcePrograms.{IsProgramOf}
 use Rattle.wesl_reach.specs.Resolved.{modules_of, IsResolved}
 use Rattle.wesl_link.specs.declared.rounds.Resolutions.{Resolutions}
-use Rattle.weslc_unit.specs.Compiled.{IsTextOf, IsCompiled, Refuses}
+use Rattle.weslc_unit.specs.Compiled.{IsTextOf, IsToldOfAll, IsCompiled, Refuses}
 use Rattle.weslc_unit.specs.Located.{declaration_of}
 use Rattle.weslc_unit.specs.declared.error.UnitRefusal.{UnitRefusal}
 use Rattle.weslc_laws.specs.Headline.{AreKept, IsLinkedFrom, RunsAsSources, RunsExactlyAsSources}
@@ -93,12 +93,14 @@ module _ (found : Sources) (root : Path) (asked : List Name) (max : ℕ) where
   RefusesLinking (Eval c fault) = ⊥
   RefusesLinking (Unprintable c) = ⊥
 
-  -- the linked unit is not read from its text, of which some name is told
+  -- The linked unit is not read from its text. Of its first declaration that isn't read from its own text, the reserved word at the
+  -- fault is told, else the declaration's name.
   pub record IsUnprintable (e : CompileError) : Type 0 where
     pub linked : Unit
     pub from : IsLinkedFrom found root asked max linked
     pub unread : IsTextOf linked (unit_text linked) → ⊥
     pub name : Name
+    pub named : IsToldOfAll linked.declarations name
     pub told : e ≡ Unprintable (about_name name)
 
   -- a unit that the loaded modules are linked into, and where its names come from

@@ -62,6 +62,7 @@ fn print_held(
     ensures text { IfOk result (λ text. string_bytes text ≡ unit_text (linked_of resolutions.now.modules resolutions.now.held held.now)) }
     ensures read { IfOk result (λ text. of_unit.IsTextOf (linked_of resolutions.now.modules resolutions.now.held held.now) (string_bytes text)) }
     ensures refusal { IfErr result (of_unit.IsUnprintable (linked_of resolutions.now.modules resolutions.now.held held.now)) }
+    ensures told { IfErr result (of_unit.TellsOf (linked_of resolutions.now.modules resolutions.now.held held.now).declarations) }
 {
     let mut text = String::new(alloc);
     for declaration in held {

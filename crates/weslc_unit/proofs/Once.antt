@@ -83,7 +83,7 @@ told_of_once text name _ _ (reserved_word e a i) (the_name fails) = absurd (fail
 told_of_once text name _ _ (the_name fails) (reserved_word f b j) = absurd (fails f b j)
 told_of_once text name _ _ (the_name fails) (the_name more) = refl
 
-told_once : (ds : List Decl) (x y : List ℕ) → IsToldOfAll ds x → IsToldOfAll ds y → x ≡ y
+pub told_once : (ds : List Decl) (x y : List ℕ) → IsToldOfAll ds x → IsToldOfAll ds y → x ≡ y
 told_once _ _ _ nothing nothing = refl
 told_once _ x y (of_first {d = d} fails t) (of_first more r) = told_of_once (decl_text d) (declared_name d) x y t r
 told_once _ x y (of_first fails t) (of_later is r) = absurd (fails is)

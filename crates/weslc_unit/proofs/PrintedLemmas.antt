@@ -32,11 +32,11 @@ alone_text d = append-nil (decl_text d)
 pub unread : (d : Decl) → (IsTextOf (alone d) (decl_text d) → ⊥) → IsTextOf (alone d) (unit_text (alone d)) → ⊥
 unread d fails r = fails (subst (IsTextOf (alone d)) (alone_text d) r)
 
-not_read : (d : Decl) (x : List ℕ) → IsUnprintable (alone d) (Unprintable x) → IsReadAlone d → ⊥
+pub not_read : (d : Decl) (x : List ℕ) → IsUnprintable (alone d) (Unprintable x) → IsReadAlone d → ⊥
 not_read d x fails r = fails (subst (IsTextOf (alone d)) (sym (alone_text d)) r)
 
 -- what is told of one declaration that isn't read is told of it before others
-told_of_one : (d : Decl) (ds : List Decl) (x : List ℕ) → (IsReadAlone d → ⊥) → IsToldOfAll (d ∷ []) x → IsToldOfAll (d ∷ ds) x
+pub told_of_one : (d : Decl) (ds : List Decl) (x : List ℕ) → (IsReadAlone d → ⊥) → IsToldOfAll (d ∷ []) x → IsToldOfAll (d ∷ ds) x
 told_of_one d ds x fails (of_first u t) = of_first u t
 told_of_one d ds x fails (of_later r t) = absurd (fails r)
 

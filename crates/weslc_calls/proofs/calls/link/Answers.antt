@@ -4,7 +4,7 @@ use Rattle.std.specs.Prelude.{string_bytes}
 use Rattle.wgsl_path.specs.Paths.{path_text}
 use Rattle.wgsl_syntax.specs.Print.{unit_text}
 use Rattle.wesl_link.specs.Assembling.{linked_of}
-use Rattle.weslc_unit.specs.Compiled.{IsTextOf, IsUnprintable}
+use Rattle.weslc_unit.specs.Compiled.{IsTextOf, IsUnprintable, TellsOf}
 use Rattle.weslc_calls.proofs.Loading.{linked}
 use Rattle.weslc_calls.proofs.Texts.{linked_text}
 use Rattle.weslc_calls.proofs.calls.link.Goals as goal
@@ -28,10 +28,12 @@ returns-in-Err-Unprintable-clause-refusal g c =
     let r = c.in_ok-resolutions.resolutions in
     let unit = linked_of r.modules r.held c.in_ok-held.held.items in
     let refused = subst (λ ds. IsUnprintable (linked_of r.modules r.held ds) c.in-Err-Unprintable.field-0) c.as_slice.ensures.value c.in-Err-Unprintable.ensures.refusal in
+    let told = subst (λ ds. TellsOf (linked_of r.modules r.held ds).declarations c.in-Err-Unprintable.field-0) c.as_slice.ensures.value c.in-Err-Unprintable.ensures.told in
     inr (record {
       linked = unit;
       from = linked found root c.args.options.now.keep c.args.options.now.max_modules r c.in_ok-resolutions.ensures.tables unit c.in_ok-held.ensures.linked;
       unread = rw c.in-Err-Unprintable.field-0-is at refused;
       name = c.in-Err-Unprintable.name;
+      named = rw c.in-Err-Unprintable.field-0-is at told;
       told = c.unprintable.ensures;
     })

@@ -8,7 +8,7 @@ use Rattle.wgsl_syntax.specs.Print.{decl_text}
 use Rattle.weslc_unit.specs.Compiled.{IsTextOf, IsUnprintable}
 use Rattle.weslc_unit.proofs.ByDeclarations.{read_by_declarations}
 use Rattle.wesl_link.specs.Assembling.{linked_tree, linked_trees, linked_of}
-use Rattle.weslc_calls.proofs.Printed.{read_alone, unit_unread, text_more, read_more, each_read, text_all, read_all}
+use Rattle.weslc_calls.proofs.Printed.{read_alone, unit_unread, text_more, read_more, told_more, told_here, each_read, text_all, read_all}
 use Rattle.weslc_calls.proofs.calls.print_held.Goals as goal
 
 pub loop-declaration-preserved : goal.loop-declaration-preserved
@@ -21,11 +21,12 @@ loop-declaration-preserved c =
     let whole : string_bytes c.in_ok-printed.printed ≡ decl_text own = c.in_ok-printed.ensures.text in
     let more : string_bytes c.push_str.new.self ≡ string_bytes c.loop-declaration.text ++ decl_text own
     = c.in_ok-push_str.ensures.bytes ∙ ap (λ t. string_bytes c.loop-declaration.text ++ t) (c.as_str.ensures.value ∙ whole) in
+    let read = read_alone own (tree d) (string_bytes c.in_ok-printed.printed) c.in_ok-linked.ensures whole c.in_ok-printed.ensures.read in
     record {
       text = text_more tree c.args.held.now k d inside c.declaration-item.is (string_bytes c.loop-declaration.text) (string_bytes c.push_str.new.self)
           (flat_map decl_text (linked_trees c.args.resolutions.now.modules c.args.resolutions.now.held c.args.held.now)) own c.in_ok-linked.ensures more c.loop-declaration.invariant.text;
-      read = read_more tree c.args.held.now k d inside c.declaration-item.is
-          (read_alone own (tree d) (string_bytes c.in_ok-printed.printed) c.in_ok-linked.ensures whole c.in_ok-printed.ensures.read) c.loop-declaration.invariant.read;
+      read = read_more tree c.args.held.now k d inside c.declaration-item.is read c.loop-declaration.invariant.read;
+      told = told_more tree c.args.held.now k d inside c.declaration-item.is read c.loop-declaration.invariant.told;
     }
 
 pub returns-in_err-printed-clause-refusal : goal.returns-in_err-printed-clause-refusal
@@ -37,6 +38,15 @@ returns-in_err-printed-clause-refusal c =
     (unit_unread (linked_trees c.args.resolutions.now.modules c.args.resolutions.now.held c.args.held.now) (declaration_tree c.in_ok-linked.linked) (tree c.declaration-item.result)
     c.in_err-printed.field-0.0 c.in_ok-linked.ensures (each_read tree c.args.held.now c.loop-declaration.declaration-index c.declaration-item.result inside c.declaration-item.is)
     c.in_err-printed.ensures.refusal)
+
+pub returns-in_err-printed-clause-told : goal.returns-in_err-printed-clause-told
+returns-in_err-printed-clause-told c =
+    let p = err_from_is_err_and c.from_residual-in_err-printed.result c.from_residual-in_err-printed.ensures.1 in
+    let tree = linked_tree c.args.resolutions.now.modules c.args.resolutions.now.held in
+    let inside : c.loop-declaration.declaration-index < length c.args.held.now = omega (arith, c.loop-declaration-test.true) in
+    rw (p.1, p.2)
+    (told_here tree c.args.held.now c.loop-declaration.declaration-index c.declaration-item.result inside c.declaration-item.is (declaration_tree c.in_ok-linked.linked)
+    c.in_err-printed.field-0.0 c.in_ok-linked.ensures c.in_err-printed.ensures.refusal c.in_err-printed.ensures.told c.loop-declaration.invariant.told)
 
 pub returns-clause-text : goal.returns-clause-text
 returns-clause-text c =
