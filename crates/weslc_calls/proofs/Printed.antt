@@ -48,10 +48,10 @@ module _ {A : Type 0} (tree : A → Decl) (ds : List A) (k : ℕ) where
     -- what is told of this one, which isn't read, is told of all
     pub told_here : (own : Decl) (error : PrintError) → own ≡ tree d → IsUnprintable (alone own) error → TellsOf (own ∷ []) error
         → ((x : List ℕ) → IsToldOfAll (map tree (drop k ds)) x → IsToldOfAll (map tree ds) x) → TellsOf (map tree ds) error
-    told_here own (Unprintable x) same no told before =
+    told_here own (Unprintable x) same unread told before =
         before x (subst (λ l. IsToldOfAll (map tree l) x) (sym front)
-        (told_of_one (tree d) (map tree (drop (k + 1) ds)) x (λ r. not_read own x no (subst IsReadAlone (sym same) r)) (subst (λ o. IsToldOfAll (o ∷ []) x) same told)))
-    told_here own OutOfMemory same no told before = tt
+        (told_of_one (tree d) (map tree (drop (k + 1) ds)) x (λ r. not_read own x unread (subst IsReadAlone (sym same) r)) (subst (λ o. IsToldOfAll (o ∷ []) x) same told)))
+    told_here own OutOfMemory same unread told before = tt
 
     pub each_read : All IsReadAlone (map tree ds) → IsReadAlone (tree d)
     each_read all =
