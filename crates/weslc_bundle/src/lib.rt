@@ -6,7 +6,5 @@ mod input;
 mod kinds;
 mod request;
 mod serve;
-#[cfg(test)]
-mod tests;
 
 pub use serve::serve_bundle;

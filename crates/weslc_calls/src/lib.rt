@@ -5,8 +5,6 @@ mod calls;
 mod error;
 mod options;
 mod resolver;
-#[cfg(test)]
-mod tests;
 
 pub use calls::{compile, link};
 pub use error::{CompileError, Concern, ImportKind, ResolveKind};

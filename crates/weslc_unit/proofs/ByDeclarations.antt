@@ -8,7 +8,7 @@ use Rattle.weslc_unit.specs.ByDeclarations.{ReadByDeclarations}
 
 -- a text is read as what it stands for
 
-text_of : {text : List ℕ} {tree : Module} → StandsFor text tree → IsTextOf tree text
+pub text_of : {text : List ℕ} {tree : Module} → StandsFor text tree → IsTextOf tree text
 text_of s = (s.unit, record { tokens = s.tokens; lexed = s.lexed; stands = s.derived }, s.same)
 
 standing : {text : List ℕ} {tree : Module} → IsTextOf tree text → StandsFor text tree

@@ -12,6 +12,7 @@ use crate::error::PrintError;
 use std::alloc::{AllocError, Global};
 use wgsl_items::{CloneIn, Text};
 use wgsl_parse::{ErrorKind, parse_str};
+use wgsl_plain::is_plain_declaration;
 use wgsl_same::{is_same_declaration, is_same_unit};
 use wgsl_syntax::{GlobalDeclaration, GlobalDeclarationNode, TranslationUnit};
 
@@ -43,6 +44,23 @@ fn is_text_of_declaration(
     }
 }
 
+/// Whether the text that is printed of a declaration is read as it alone. One that is written in plain words and marks is, by a
+/// law; the text of any other is read.
+fn is_read_back(
+    alloc: Global,
+    text: &str,
+    declaration: &GlobalDeclaration,
+) -> Result<bool, PrintError>
+    requires { text.now ≡ decl_text (declaration_tree declaration.now) }
+    ensures read { IfOk result (λ b. IsTrue b ↔ IsTextOf (alone (declaration_tree declaration.now)) text.now) }
+    ensures memory { IfErr result (λ e. e ≡ PrintError.OutOfMemory) }
+{
+    if is_plain_declaration(alloc, declaration)? {
+        return Ok(true);
+    }
+    is_text_of_declaration(alloc, text, declaration)
+}
+
 /// The text of a declaration, where it is read as that declaration alone.
 pub fn print_declaration(
     alloc: Global,
@@ -54,7 +72,7 @@ pub fn print_declaration(
     ensures told { IfErr result (TellsOf (declaration_tree declaration.now ∷ [])) }
 {
     let text = declaration.to_string(alloc)?;
-    if is_text_of_declaration(alloc, text.as_str(), declaration)? {
+    if is_read_back(alloc, text.as_str(), declaration)? {
         return Ok(text);
     }
     let name = told_of(alloc, text.as_str(), name_of(declaration))?;

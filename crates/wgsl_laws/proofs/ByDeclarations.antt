@@ -24,7 +24,7 @@ record Known (tree : Module) : Type 0 where
   pub same : unit_tree unit ≡ tree
 
 -- known tokens of declarations with these trees
-record KnownDeclarations (ds : List Decl) : Type 0 where
+pub record KnownDeclarations (ds : List Decl) : Type 0 where
   pub tokens : List SpannedToken
   pub nodes : List (Spanned GlobalDeclaration)
   pub derived : Repeated IsDeclaration tokens nodes
@@ -59,7 +59,7 @@ module_of ds k = record {
 
 -- ---- from all to each
 
-one_of : {u : List SpannedToken} {x : Spanned GlobalDeclaration} → IsDeclaration u x → Knowns u → KnownDeclarations (node_declaration x ∷ [])
+pub one_of : {u : List SpannedToken} {x : Spanned GlobalDeclaration} → IsDeclaration u x → Knowns u → KnownDeclarations (node_declaration x ∷ [])
 one_of {u = u} {x = x} g h =
     let derived : Repeated IsDeclaration (u ++ []) (x ∷ []) = again g no_more in
     record { tokens = u; nodes = x ∷ []; derived = rw (append-nil u) at derived; knowns = h; same = refl }
@@ -99,7 +99,7 @@ all_of (d ∷ ds) h = joined_of (d ∷ []) ds h.0 (all_of ds h.1)
 
 -- ---- the law
 
-alone_stands : (d : Decl) → KnownDeclarations (d ∷ []) → StandsFor (decl_text d) (alone d)
+pub alone_stands : (d : Decl) → KnownDeclarations (d ∷ []) → StandsFor (decl_text d) (alone d)
 alone_stands d k =
     let whole : StandsFor (unit_text (alone d)) (alone d) = stood (module_of (d ∷ []) k) in
     subst (λ text. StandsFor text (alone d)) (append-nil (decl_text d)) whole

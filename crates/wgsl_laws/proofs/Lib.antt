@@ -11,3 +11,4 @@ pub mod Alike
 pub mod Same
 pub mod Apart
 pub mod ByDeclarations
+pub mod Written

@@ -2,6 +2,7 @@
 
 ghost use Rattle.wgsl_laws.specs.Printing.{PrintsBack, PrintsTheSame, StandsByDeclarations};
 ghost use Rattle.wgsl_laws.specs.Same.{ImportsOfTextsAreApart, SameTokensStandForTheSame};
+ghost use Rattle.wgsl_laws.specs.Written.{WrittenDeclarationsStand};
 
 /// A module that a text derives prints to a text that derives an equal tree.
 pub fn prints_back()
@@ -17,6 +18,11 @@ pub fn prints_the_same()
 /// The text of declarations stands for them exactly where the text of each stands for that declaration alone.
 pub fn stands_by_declarations()
     ensures { StandsByDeclarations }
+{}
+
+/// What is printed of a declaration that spelled tokens derive, wherever they stand, stands for it.
+pub fn written_declarations_stand()
+    ensures { WrittenDeclarationsStand }
 {}
 
 /// Texts with the same tokens, wherever those stand, stand for the same trees.

@@ -54,7 +54,7 @@ word_no_form c (d ∷ es) w e =
 pub word_no_longer : (c : ℕ) (ds rest : List ℕ) → begins_word c ≡ true → IsLongestRun (list_all is_xid_continue) ds rest → NoLonger (c ∷ ds) rest
 word_no_longer c ds rest w run more behind nonempty e = word_no_form c (ds ++ more) w (run.longest more behind nonempty e)
 
-word_is_no_trivia : (c : ℕ) (ds : List ℕ) → begins_word c ≡ true → is_trivia (c ∷ ds) ≡ false
+pub word_is_no_trivia : (c : ℕ) (ds : List ℕ) → begins_word c ≡ true → is_trivia (c ∷ ds) ≡ false
 word_is_no_trivia c [] w = word_no_blank c w
 word_is_no_trivia c (d ∷ ds) w = no_trivia c d ds (word_no_slash c w)
 

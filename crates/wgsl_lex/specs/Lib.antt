@@ -1,3 +1,4 @@
+pub mod Identifiers
 pub mod Laws
 pub mod Pieces
 pub mod Rows

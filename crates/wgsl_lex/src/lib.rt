@@ -1,6 +1,7 @@
 //! The tokens of WGSL texts.
 #![tactic(auto)]
 
+mod identifier;
 pub mod laws;
 mod lexer;
 mod number;
@@ -10,5 +11,6 @@ mod symbol;
 mod trivia;
 mod word;
 
+pub use identifier::is_identifier;
 pub use lexer::lex;
 pub use trivia::{is_blankspace, is_line_break};

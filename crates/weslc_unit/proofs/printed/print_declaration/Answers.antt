@@ -13,6 +13,6 @@ pub returns-clause-told : goal.returns-clause-told
 returns-clause-told c =
     let text : string_bytes c.in_ok-text.text ≡ decl_text (declaration_tree c.args.declaration.now) = c.in_ok-text.ensures.ok in
     of_first
-    (λ r. false≢true (sym c.if-branch.false ∙ c.in_ok-is_text_of_declaration.ensures.read.1
+    (λ r. false≢true (sym c.if-branch.false ∙ c.in_ok-is_read_back.ensures.read.1
     (subst (IsTextOf (alone (declaration_tree c.args.declaration.now))) (sym (c.as_str.ensures.value ∙ text)) r)))
     (told_here (declaration_tree c.args.declaration.now) _ _ _ (c.as_str-2.ensures.value ∙ text) c.name_of.ensures c.in_ok-name.ensures)
