@@ -206,9 +206,19 @@ function_written attributes name ps rs ty body h =
       tokens = a.tokens ++ head;
       node = function_of a.code here (ident_of name) p.code r.attributes r.ty b.code here;
       derived = grammar.function here here here here here a.derived ident p.derived r.derived b.derived;
-      spelled = spelt_joined a.tokens head a.spelt (fn_keyword, (identifier name named, (paren_left,
-          spelt_joined p.tokens (fixed f.ParenRight here ∷ behind) p.spelt (paren_right,
-          spelt_joined r.tokens braces r.spelt (brace_left, spelt_joined b.tokens (fixed f.BraceRight here ∷ []) b.spelt (brace_right, tt))))));
+      spelled = spelt_joined a.tokens head a.spelt (
+        fn_keyword,
+        (
+          identifier name named,
+          (
+            paren_left,
+            spelt_joined p.tokens (fixed f.ParenRight here ∷ behind) p.spelt (
+              paren_right,
+              spelt_joined r.tokens braces r.spelt (brace_left, spelt_joined b.tokens (fixed f.BraceRight here ∷ []) b.spelt (brace_right, tt)),
+            ),
+          ),
+        ),
+      );
       same = λ i. function (a.same i) name (p.same i) (r.attributed i) (r.typed i)
           (record { attributes = sym (are_none_is body.attributes bare) i; statements = b.same i });
     }
