@@ -2,10 +2,9 @@
 use Rattle.std.proofs.Common.{◌≡◌, refl, sym, ap, ◌∙◌, subst, ℕ, ◌+◌, ◌<◌, List, [], ◌∷◌, ◌++◌, take, get_or, length, Bool, true, false, ◌||◌, ◌&&◌, cond, Some, None}
 use Rattle.std.specs.Prelude.{if◌then◌else◌, is_some}
 use Rattle.std.specs.Str.{bytes_eq}
-use Rattle.std.specs.Ordering.{nat_cmp}
-use Rattle.std.specs.Cmp.Lexicographic.{slice_cmp, nat_list_eq_equiv}
-use Rattle.std.specs.BTreeMap.{BTreeMap, UpdatesBy}
-use Rattle.std.proofs.lemmas.Map.Text.{btree_map_updates_str}
+use Rattle.std.specs.Cmp.Lexicographic.{nat_list_eq_equiv}
+use Rattle.std.specs.HashMap.{HashMap, UpdatesBy}
+use Rattle.std.proofs.lemmas.Map.Text.{hash_map_updates_str}
 use Rattle.std.proofs.lemmas.List.{take_more, map-append}
 use Rattle.std.proofs.lemmas.List.Folds.{list_any-append}
 use denote.Ref.{Bor}
@@ -71,9 +70,9 @@ one_more x n ns = at (bytes_eq n x) refl
         let twice_as : is_twice x (ns ++ n ∷ []) ≡ is_twice x ns = twice_push x ns n ∙ ap (λ b. (b && is_among x ns) || is_twice x ns) other in
         λ k. if among_as k then Some (twice_as k) else None
 
-pub shared_step : (old new : BTreeMap (Bor (List ℕ)) Bool) (names : List (Bor (List ℕ))) (i : ℕ) (d : Bor (List ℕ)) (b : Bool) → sharing_at old ≡ sharing_in (texts (take i names))
+pub shared_step : {S : Type 0} (old new : HashMap (Bor (List ℕ)) Bool S) (names : List (Bor (List ℕ))) (i : ℕ) (d : Bor (List ℕ)) (b : Bool) → sharing_at old ≡ sharing_in (texts (take i names))
     → i < length names → b ≡ is_some (sharing_at old (get_or names i d).now)
-    → UpdatesBy (λ x y. slice_cmp nat_cmp x.now y.now) (λ k. slice_cmp nat_cmp (get_or names i d).now k.now) old new (Some b)
+    → UpdatesBy (λ x y. bytes_eq x.now y.now) (λ k. bytes_eq (get_or names i d).now k.now) old new (Some b)
     → sharing_at new ≡ sharing_in (texts (take (i + 1) names))
 shared_step old new names i d b before less there updates = λ k x. all x k
   where
@@ -85,7 +84,7 @@ shared_step old new names i d b before less there updates = λ k x. all x k
 
     all : (x : Name) → sharing_at new x ≡ sharing_in (texts (take (i + 1) names)) x
     all x =
-        btree_map_updates_str key old new (Some b) updates x
+        hash_map_updates_str key old new (Some b) updates x
         ∙ (λ k. cond (bytes_eq key x) (Some (there k)) (before k x))
         ∙ (λ k. cond (bytes_eq key x) (Some (is_some (before k key))) (sharing_in (texts (take i names)) x))
         ∙ sym (one_more x key (texts (take i names)))

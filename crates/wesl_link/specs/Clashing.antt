@@ -3,9 +3,7 @@ use Rattle.std.specs.Prelude.{ℕ, ◌+◌, List, [], ◌∷◌, ◌++◌, Optio
 use Rattle.std.specs.Option.{unwrap_or}
 use Rattle.std.specs.Str.{bytes_eq}
 use Rattle.std.specs.List.{flat_map}
-use Rattle.std.specs.Ordering.{nat_cmp}
-use Rattle.std.specs.Cmp.Lexicographic.{slice_cmp}
-use Rattle.std.specs.BTreeMap.{BTreeMap, get_by}
+use Rattle.std.specs.HashMap.{HashMap, get_by}
 use Rattle.std.specs.declared.string.String.{String}
 use Rattle.std.specs.declared.alloc.Global.{Global}
 use denote.Ref.{Bor}
@@ -60,8 +58,8 @@ abbrev pub sharing_in : List Name → Sharing
 sharing_in names x = if is_among x names then Some (is_twice x names) else None
 
 -- what a table keeps of it
-abbrev pub sharing_at : BTreeMap (Bor (List ℕ)) Bool → Sharing
-sharing_at table x = get_by (λ k. slice_cmp nat_cmp x k.now) table
+abbrev pub sharing_at : {S : Type 0} → HashMap (Bor (List ℕ)) Bool S → Sharing
+sharing_at table x = get_by (λ k. bytes_eq x k.now) table
 
 -- ---- what clashes
 

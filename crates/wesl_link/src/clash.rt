@@ -19,14 +19,14 @@ ghost use Rattle.wesl_rename.specs.Scopes.{texts};
 use crate::naming::{held_name, printed};
 use crate::rounds::Resolutions;
 use std::alloc::{AllocError, Global};
-use std::collections::BTreeMap;
+use std::collections::HashMap;
 use wesl_rename::{Scope, names_before, names_behind, names_in_body};
 use wesl_scopes::{Module, Symbol};
 use wgsl_items::Text;
 use wgsl_syntax::GlobalDeclaration;
 
 /// How many held symbols have a name in the linked unit: each name that one has, and whether more have it.
-type Sharing<'a> = BTreeMap<&'a str, bool>;
+type Sharing<'a> = HashMap<&'a str, bool>;
 
 impl Resolutions {
     /// The first name of the linked unit, in its order, that two symbols share or that plain scoping reads otherwise than

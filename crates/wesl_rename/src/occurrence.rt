@@ -205,7 +205,7 @@ fn add_expression<'a>(
             add_expression(found, scope, x.left.node())?;
             add_expression(found, scope, x.right.node())
         }
-        Expression::FunctionCall(x) => add_call(found, scope, x),
+        Expression::FunctionCall(x) => add_call(found, scope, x.get()),
         Expression::TypeOrIdentifier(ty) => add_type(found, scope, ty),
     }
 }

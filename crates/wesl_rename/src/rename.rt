@@ -278,9 +278,10 @@ fn renamed_expression<N: Naming>(
             operand: renamed_node(alloc, naming, &x.operand)?,
         })),
         Expression::Binary(x) => Ok(Expression::Binary(renamed_binary(alloc, naming, x)?)),
-        Expression::FunctionCall(x) => Ok(Expression::FunctionCall(renamed_call(
-            alloc, naming, x,
-        )?)),
+        Expression::FunctionCall(x) => {
+            let call = renamed_call(alloc, naming, x.get())?;
+            Ok(Expression::FunctionCall(Boxed::new(alloc, call)?))
+        }
         Expression::TypeOrIdentifier(x) => Ok(Expression::TypeOrIdentifier(renamed_type(
             alloc, naming, x,
         )?)),

@@ -7,7 +7,7 @@ ghost use Rattle.wgsl_path.specs.Paths.{path_text};
 ghost use Rattle.wesl_resolve.specs.SourceMaps.{decl_at, source_at, display_name_at, IsSet};
 
 use std::alloc::{AllocError, Global};
-use std::collections::BTreeMap;
+use std::collections::HashMap;
 use wgsl_items::{CloneIn, Text};
 use wgsl_path::ModulePath;
 
@@ -56,8 +56,8 @@ struct Source {
 #[derive(Debug, Drop)]
 pub struct BasicSourceMap {
     alloc: Global,
-    decls: BTreeMap<String, SourceDecl>,
-    sources: BTreeMap<String, Source>,
+    decls: HashMap<String, SourceDecl>,
+    sources: HashMap<String, Source>,
     default_source: Option<Text>,
 }
 
@@ -70,8 +70,8 @@ impl BasicSourceMap {
     {
         BasicSourceMap {
             alloc,
-            decls: BTreeMap::new(alloc),
-            sources: BTreeMap::new(alloc),
+            decls: HashMap::new(alloc),
+            sources: HashMap::new(alloc),
             default_source: None,
         }
     }

@@ -3,12 +3,12 @@ use Rattle.std.proofs.Common.{◌≡◌, ◌≢◌, refl, sym, ap, ◌∙◌, su
 use Rattle.std.specs.Prelude.{if◌then◌else◌, string_bytes}
 use Rattle.std.specs.Option.{option_map, is_some}
 use Rattle.std.specs.Str.{bytes_eq}
-use Rattle.std.specs.String.{string_cmp}
-use Rattle.std.specs.BTreeMap.{get_by_text, Updates}
+use Rattle.std.specs.String.{string_eq}
+use Rattle.std.specs.HashMap.{get_by_text, Updates}
 use Rattle.std.specs.Cmp.Lexicographic.{nat_list_eq_equiv}
 use Rattle.std.specs.declared.string.String.{String}
 use Rattle.std.specs.declared.alloc.Global.{Global}
-use Rattle.std.proofs.lemmas.Map.Text.{btree_map_updates_text}
+use Rattle.std.proofs.lemmas.Map.Text.{hash_map_updates_text}
 use Rattle.std.proofs.lemmas.List.{take_more, get_or-map, get_or_append_left, get_or-append-add, length-map, map-append, take_all, drop_all}
 use Rattle.wgsl_path.specs.declared.path.ModulePath.{ModulePath}
 use Rattle.wgsl_path.specs.declared.span.Spanned.{Spanned}
@@ -34,10 +34,10 @@ pub none_of : (o : Option Meaning) → is_some o ≡ false → option_map known_
 none_of (Some m) e = absurd (cc)
 none_of None e = refl
 
-pub updated : (old new : Table) (key : String Global) (m : Meaning) (x : Name) → string_bytes key ≡ x → Updates string_cmp old new key (Some m)
+pub updated : (old new : Table) (key : String Global) (m : Meaning) (x : Name) → string_bytes key ≡ x → Updates string_eq old new key (Some m)
     → (y : Name) → option_map known_of (get_by_text new y) ≡ (if bytes_eq x y then Some (known_of m) else option_map known_of (get_by_text old y))
 updated old new key m x e h y =
-    ap (option_map known_of) (btree_map_updates_text (string_bytes key) old new (Some m) h y)
+    ap (option_map known_of) (hash_map_updates_text (string_bytes key) old new (Some m) h y)
     ∙ spread (bytes_eq (string_bytes key) y) m (get_by_text old y)
     ∙ ap (λ t. if bytes_eq t y then Some (known_of m) else option_map known_of (get_by_text old y)) e
 

@@ -3,9 +3,11 @@ use Rattle.std.specs.Prelude.{◌≡◌, ◌≢◌, ℕ, ◌+◌, List, [], ◌�
 use Rattle.std.specs.Option.{option_map}
 use Rattle.std.specs.Str.{bytes_eq}
 use Rattle.std.specs.Map.{lookup}
-use Rattle.std.specs.BTreeMap.{BTreeMap, get_by_text}
+use Rattle.std.specs.HashMap.{HashMap, get_by_text}
 use Rattle.std.specs.declared.string.String.{String}
 use Rattle.std.specs.declared.alloc.Global.{Global}
+use Rattle.std.specs.declared.hash.BuildHasherDefault.{BuildHasherDefault}
+use Rattle.std.specs.declared.hash.FoldHasher.{FoldHasher}
 use Rattle.wgsl_path.specs.declared.path.ModulePath.{ModulePath}
 use Rattle.wgsl_path.specs.Paths.{path_text}
 use Rattle.wgsl_syntax.specs.Tree.{Decl, Imp, Unit}
@@ -54,7 +56,7 @@ known_of (Imported t) = imported (t.path, record { home = string_bytes t.text; n
 known_of (Bare item) = bare item
 
 abbrev pub Table : Type 0
-Table = BTreeMap (String Global) Meaning
+Table = HashMap (String Global) Meaning (BuildHasherDefault FoldHasher)
 
 -- the table's answer for each name
 abbrev pub Answers : Table → List (Name × Known) → Type 0

@@ -11,7 +11,7 @@ use crate::error::ImportError;
 use crate::table::meanings_of;
 use crate::target::Meaning;
 use std::alloc::{AllocError, Global};
-use std::collections::BTreeMap;
+use std::collections::{BTreeMap, HashMap};
 use wgsl_items::{CloneIn, Text};
 use wgsl_path::ModulePath;
 use wgsl_syntax::{Attribute, AttributeNode, GlobalDeclaration, TranslationUnit};
@@ -23,7 +23,7 @@ pub struct Module {
     /// The path as it is printed.
     pub text: String,
     pub unit: TranslationUnit,
-    pub meanings: BTreeMap<String, Meaning>,
+    pub meanings: HashMap<String, Meaning>,
     ghost printed: { string_bytes text ≡ path_text path },
     ghost tabulated: { Answers meanings (entries (unit_tree unit)) },
     ghost fresh: { first_again [] (names (entries (unit_tree unit))) ≡ None },

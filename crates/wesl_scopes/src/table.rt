@@ -9,7 +9,7 @@ ghost use Rattle.wesl_scopes.specs.Meanings.{Adds, Tabulates, known_of, import_k
 use crate::error::ImportError;
 use crate::target::{Meaning, Target};
 use std::alloc::{AllocError, Global};
-use std::collections::BTreeMap;
+use std::collections::HashMap;
 use wgsl_items::{CloneIn, Text};
 use wgsl_path::ModulePath;
 use wgsl_syntax::{GlobalDeclaration, ImportContent, ImportStatement, TranslationUnit};
@@ -19,10 +19,10 @@ pub fn meanings_of(
     alloc: Global,
     path: &ModulePath,
     unit: &TranslationUnit,
-) -> Result<BTreeMap<String, Meaning>, ImportError>
+) -> Result<HashMap<String, Meaning>, ImportError>
     ensures { Tabulates path.now (unit_tree unit.now) result }
 {
-    let mut meanings = BTreeMap::new(alloc);
+    let mut meanings = HashMap::new(alloc);
     for import in unit.imports.as_slice() {
         let meaning = import_meaning(alloc, import)?;
         add_meaning(alloc, path, &mut meanings, local_name(import), meaning)?;
@@ -37,7 +37,7 @@ pub fn meanings_of(
 fn add_meaning(
     alloc: Global,
     path: &ModulePath,
-    meanings: &mut BTreeMap<String, Meaning>,
+    meanings: &mut HashMap<String, Meaning>,
     name: &str,
     meaning: Meaning,
 ) -> Result<(), ImportError>

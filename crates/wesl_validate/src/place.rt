@@ -117,7 +117,7 @@ fn add_expression(
             add_expression(alloc, index, locals, x.left.node(), places)?;
             add_expression(alloc, index, locals, x.right.node(), places)
         }
-        Expression::FunctionCall(x) => add_call(alloc, index, locals, x, places),
+        Expression::FunctionCall(x) => add_call(alloc, index, locals, x.get(), places),
         Expression::TypeOrIdentifier(x) => add_type(alloc, index, locals, x, None, places),
     }
 }

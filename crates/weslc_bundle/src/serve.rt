@@ -96,6 +96,7 @@ fn served<R: Read>(alloc: Global, reader: &mut R) -> Result<String, Refusal>
 {
     let bytes = read_input(alloc, reader)?;
     let mut bundle = read_bundle(alloc, bytes.as_slice())?;
+    drop(bytes);
     let (text, _) = match bundle.command {
         Command::Link => link(alloc, &mut bundle.resolver, &bundle.root, &bundle.options)?,
         Command::Compile => compile(alloc, &mut bundle.resolver, &bundle.root, &bundle.options)?,

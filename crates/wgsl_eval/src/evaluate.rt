@@ -90,7 +90,7 @@ pub fn eval_value(
             let right = eval_value(alloc, scope, x.right.node())?;
             Ok(call_binary_op(ShaderStage::Const, x.operator, left, right)?)
         }
-        Expression::FunctionCall(x) => call_value(alloc, scope, x),
+        Expression::FunctionCall(x) => call_value(alloc, scope, x.get()),
         Expression::TypeOrIdentifier(x) => {
             let name = plain_name(alloc, x)?;
             name_value(alloc, scope, name)

@@ -52,7 +52,7 @@ fn push_names(
             push_names(alloc, x.left.node(), names)?;
             push_names(alloc, x.right.node(), names)
         }
-        Expression::FunctionCall(x) => push_all_names(alloc, x.arguments.as_slice(), names),
+        Expression::FunctionCall(x) => push_all_names(alloc, x.get().arguments.as_slice(), names),
         Expression::TypeOrIdentifier(x) => push_name(alloc, x, names),
     }
 }

@@ -69,7 +69,7 @@ pub fn eval_ty(
             let right = eval_ty(alloc, scope, x.right.node())?;
             Ok(type_binary_op(x.operator, left, right)?)
         }
-        Expression::FunctionCall(x) => typed_call(alloc, scope, x),
+        Expression::FunctionCall(x) => typed_call(alloc, scope, x.get()),
         Expression::TypeOrIdentifier(x) => {
             let name = plain_name(alloc, x)?;
             name_type(alloc, scope, name)

@@ -1,24 +1,34 @@
 //! A text that contracts see as its bytes.
 
-ghost use Rattle.std.specs.Prelude.{◌≡◌, [], ◌++◌, length, IfOk, OnOk, OnErr, string_bytes};
+ghost use Rattle.std.specs.Prelude.{◌≡◌, [], ◌++◌, length, IfOk, IfSome, OnOk, OnErr, string_bytes, encode_utf8};
+ghost use Rattle.wgsl_items.specs.Texts.{held_bytes};
 
 use crate::copies::CloneIn;
+use arrayvec::ArrayString;
 use std::alloc::{AllocError, Global};
 use std::fmt;
 use std::marker::Model;
 
-/// A text, as UTF-8.
+/// Where a text stands: in place, with the memory in which it may grow, or on the heap.
+#[derive(Debug, Drop)]
+enum Held {
+    Short(ArrayString<16>, Global),
+    Long(String),
+}
+
+/// A text, as UTF-8. Up to 16 bytes stand in place and need no memory.
 #[derive(Debug, Drop)]
 pub struct Text {
-    inner: String,
+    inner: Held,
 }
 
 impl Model for Text {
-    ghost use Rattle.std.specs.Prelude.{List, ℕ, string_bytes};
+    ghost use Rattle.std.specs.Prelude.{List, ℕ};
+    ghost use Rattle.wgsl_items.specs.Texts.{held_bytes};
 
     ghost Value = { List ℕ };
 
-    ghost view = { λ t. string_bytes t.inner };
+    ghost view = { λ t. held_bytes t.inner };
 }
 
 impl Text {
@@ -27,43 +37,43 @@ impl Text {
         ensures { result ≡ [] }
     {
         Text {
-            inner: String::new(alloc),
+            inner: Held::Short(ArrayString::new(), alloc),
         }
     }
 
     pub fn from_str(alloc: Global, text: &str) -> Result<Text, AllocError>
         ensures { IfOk result (λ t. t ≡ text.now) }
     {
-        Ok(Text {
-            inner: String::from_str(alloc, text)?,
-        })
+        let inner = match ArrayString::from(text) {
+            Ok(short) => Held::Short(short, alloc),
+            Err(_) => Held::Long(String::from_str(alloc, text)?),
+        };
+        Ok(Text { inner })
     }
 
     /// The text of a `String`. It needs no memory.
     pub fn from_string(inner: String) -> Text
         ensures { result ≡ string_bytes inner }
     {
-        Text { inner }
-    }
-
-    pub fn into_string(self) -> String
-        ensures { string_bytes result ≡ self }
-    {
-        let Text { inner } = self;
-        inner
+        Text {
+            inner: Held::Long(inner),
+        }
     }
 
     pub fn as_str(&self) -> &str
         ensures { result.now ≡ self.now }
     {
-        self.inner.as_str()
+        match &self.inner {
+            Held::Short(short, _) => short.as_str(),
+            Held::Long(long) => long.as_str(),
+        }
     }
 
     /// How many bytes it has.
     pub fn len(&self) -> usize
         ensures { result ≡ length self.now }
     {
-        self.inner.len()
+        self.as_str().len()
     }
 
     /// Adds a text at the end. Where memory is refused this one is unchanged.
@@ -71,8 +81,50 @@ impl Text {
         ensures ok { OnOk result (self.new ≡ self.old ++ more.now) }
         ensures err { OnErr result (self.new ≡ self.old) }
     {
-        self.inner.push_str(more)
+        let grown = match &mut self.inner {
+            Held::Long(long) => return long.push_str(more),
+            Held::Short(short, alloc) => match short.try_push_str(more) {
+                Ok(()) => return Ok(()),
+                Err(_) => joined(*alloc, short.as_str(), more)?,
+            },
+        };
+        self.inner = Held::Long(grown);
+        Ok(())
     }
+
+    /// Adds a character at the end. Where memory is refused this one is unchanged.
+    pub fn push(&mut self, character: char) -> Result<(), AllocError>
+        ensures ok { OnOk result (self.new ≡ self.old ++ encode_utf8 character) }
+        ensures err { OnErr result (self.new ≡ self.old) }
+    {
+        let grown = match &mut self.inner {
+            Held::Long(long) => return long.push(character),
+            Held::Short(short, alloc) => match short.try_push(character) {
+                Ok(()) => return Ok(()),
+                Err(_) => extended(*alloc, short.as_str(), character)?,
+            },
+        };
+        self.inner = Held::Long(grown);
+        Ok(())
+    }
+}
+
+/// Two texts, one behind the other, on the heap.
+fn joined(alloc: Global, text: &str, more: &str) -> Result<String, AllocError>
+    ensures { IfOk result (λ joined. string_bytes joined ≡ text.now ++ more.now) }
+{
+    let mut joined = String::from_str(alloc, text)?;
+    joined.push_str(more)?;
+    Ok(joined)
+}
+
+/// A text and a character behind it, on the heap.
+fn extended(alloc: Global, text: &str, character: char) -> Result<String, AllocError>
+    ensures { IfOk result (λ extended. string_bytes extended ≡ text.now ++ encode_utf8 character) }
+{
+    let mut extended = String::from_str(alloc, text)?;
+    extended.push(character)?;
+    Ok(extended)
 }
 
 impl CloneIn for Text {

@@ -270,10 +270,10 @@ fn found(table: &[(&str, Option<Fixed>)], word: &str) -> Option<Option<Fixed>>
 fn text_of(alloc: Global, first: char, behind: &[char]) -> Result<Text, AllocError>
     ensures { IfOk result (λ text. text ≡ encode_utf8_all (first ∷ behind.now)) }
 {
-    let mut text = String::with_capacity(alloc, 1 + behind.len())?;
+    let mut text = Text::new(alloc);
     text.push(first)?;
     for character in behind {
         text.push(*character)?;
     }
-    Ok(Text::from_string(text))
+    Ok(text)
 }

@@ -10,7 +10,7 @@ ghost use Rattle.wgsl_lower.specs.Lowered as spec;
 use crate::write::to_expr;
 use std::alloc::Global;
 use wgsl_eval::{EvalError, Fault, NameFault, Scope, callee, eval_value, plain_name};
-use wgsl_items::{CloneIn, Items};
+use wgsl_items::{Boxed, CloneIn, Items};
 use wgsl_syntax::{
     BinaryExpression, Expression, ExpressionNode, FunctionCall, ParenthesizedExpression, Spanned,
     UnaryExpression,
@@ -75,7 +75,10 @@ fn parts(alloc: Global, scope: &Scope<'_>, expression: &Expression) -> Result<Ex
                 right,
             }))
         }
-        Expression::FunctionCall(x) => Ok(Expression::FunctionCall(lowered_call(alloc, scope, x)?)),
+        Expression::FunctionCall(x) => {
+            let call = lowered_call(alloc, scope, x.get())?;
+            Ok(Expression::FunctionCall(Boxed::new(alloc, call)?))
+        }
         Expression::TypeOrIdentifier(x) => Ok(Expression::TypeOrIdentifier(x.clone_in(alloc)?)),
     }
 }

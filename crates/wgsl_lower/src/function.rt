@@ -13,7 +13,7 @@ ghost use Rattle.wgsl_lower.specs.Lowered as spec;
 use crate::expression::lowered;
 use std::alloc::Global;
 use wgsl_eval::{EvalError, NumericType, Scope, eval_ty, ty_eval_ty};
-use wgsl_items::{CloneIn, Items, Text};
+use wgsl_items::{Boxed, CloneIn, Items, Text};
 use wgsl_syntax::{
     Attribute, AttributeNode, Attributes, CompoundStatement, Expression, ExpressionNode,
     FormalParameter, Function, FunctionCall, ReturnStatement, Spanned, Statement, StatementNode,
@@ -33,7 +33,8 @@ fn constructor_call(
         ty: ty.clone_in(alloc)?,
         arguments,
     };
-    Ok(Spanned::new(alloc, Expression::FunctionCall(call), node.span())?)
+    let tree = Expression::FunctionCall(Boxed::new(alloc, call)?);
+    Ok(Spanned::new(alloc, tree, node.span())?)
 }
 
 // What a function of this type returns: an abstract number gets the constructor of the type.

@@ -8,7 +8,7 @@ ghost use Rattle.wgsl_meaning.specs.declared.value.Value.TheVariants as V;
 
 use std::alloc::{AllocError, Global};
 use wgsl_eval::Value;
-use wgsl_items::{Items, Text};
+use wgsl_items::{Boxed, Items, Text};
 use wgsl_syntax::{
     BinaryExpression, BinaryOperator, Expression, FunctionCall, Ident, LiteralExpression,
     ParenthesizedExpression, Span, Spanned, TypeExpression, UnaryExpression, UnaryOperator,
@@ -73,7 +73,8 @@ fn least_signed(alloc: Global, span: Span) -> Result<Expression, AllocError>
         ident,
         template_args: None,
     };
-    Ok(Expression::FunctionCall(FunctionCall { ty, arguments }))
+    let call = Boxed::new(alloc, FunctionCall { ty, arguments })?;
+    Ok(Expression::FunctionCall(call))
 }
 
 fn written_abstract(alloc: Global, z: i64, span: Span) -> Result<Expression, AllocError>

@@ -8,7 +8,7 @@ ghost use Rattle.wgsl_parse.specs.Follow.{ends_primary, ends_product, ends_sum, 
 ghost use Rattle.wgsl_parse.specs.Rests.{Parenthesized, Named};
 
 use crate::cursor::{Cursor, Word};
-use wgsl_items::Items;
+use wgsl_items::{Boxed, Items};
 use wgsl_path::{Ident, Span, Spanned};
 use wgsl_phrases::Stop;
 use wgsl_syntax::{
@@ -53,7 +53,8 @@ fn named(cursor: &mut Cursor<'_>, word: Word) -> Result<ExpressionNode, Stop>
     };
     let arguments = arguments(cursor)?;
     let close = cursor.expect(Fixed::ParenRight)?;
-    let tree = Expression::FunctionCall(FunctionCallOf { ty, arguments });
+    let call = Boxed::new(cursor.alloc(), FunctionCallOf { ty, arguments })?;
+    let tree = Expression::FunctionCall(call);
     Ok(Spanned::new(cursor.alloc(), tree, span.across(close))?)
 }
 

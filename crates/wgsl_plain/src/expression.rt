@@ -120,7 +120,7 @@ pub(crate) fn rank_of(alloc: Global, expression: &Expression) -> Result<Rank, Al
             let right = rank_of(alloc, x.right.node())?;
             Ok(binary_rank(x.operator, left, right))
         }
-        Expression::FunctionCall(x) => call_rank(alloc, x),
+        Expression::FunctionCall(x) => call_rank(alloc, x.get()),
         Expression::TypeOrIdentifier(x) => Ok(ranked(Rank::Primary, is_plain_type(alloc, x)?)),
     }
 }

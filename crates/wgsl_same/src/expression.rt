@@ -32,7 +32,7 @@ fn is_same(a: &Expression, b: &Expression) -> bool
             _ => false,
         },
         Expression::FunctionCall(x) => match b {
-            Expression::FunctionCall(y) => is_same_call(x, y),
+            Expression::FunctionCall(y) => is_same_call(x.get(), y.get()),
             _ => false,
         },
         Expression::TypeOrIdentifier(x) => match b {

@@ -28,7 +28,10 @@ fn copied(expression: &Expression, alloc: Global) -> Result<Expression, AllocErr
             operand: copied_node(&x.operand, alloc)?,
         })),
         Expression::Binary(x) => Ok(Expression::Binary(copied_binary(x, alloc)?)),
-        Expression::FunctionCall(x) => Ok(Expression::FunctionCall(copied_call(x, alloc)?)),
+        Expression::FunctionCall(x) => {
+            let call = copied_call(x.get(), alloc)?;
+            Ok(Expression::FunctionCall(Boxed::new(alloc, call)?))
+        }
         Expression::TypeOrIdentifier(x) => Ok(Expression::TypeOrIdentifier(copied_type(x, alloc)?)),
     }
 }

@@ -37,7 +37,7 @@ pub enum Expression {
     Parenthesized(ParenthesizedExpressionOf<Expression>),
     Unary(UnaryExpressionOf<Expression>),
     Binary(BinaryExpressionOf<Expression>),
-    FunctionCall(FunctionCallOf<Expression>),
+    FunctionCall(Boxed<FunctionCallOf<Expression>>),
     TypeOrIdentifier(TypeExpressionOf<Expression>),
 }
 

@@ -108,7 +108,7 @@ fn operand_clings(operator: UnaryOperator, operand: &Expression) -> bool
         Expression::Parenthesized(_) => false,
         Expression::Unary(x) => sign_clings(operator, x.operator),
         Expression::Binary(x) => operand_clings(operator, x.left.node()),
-        Expression::FunctionCall(x) => type_clings(operator, &x.ty),
+        Expression::FunctionCall(x) => type_clings(operator, &x.get().ty),
         Expression::TypeOrIdentifier(x) => type_clings(operator, x),
     }
 }
@@ -124,7 +124,7 @@ impl fmt::Display for Expression {
             Expression::Parenthesized(x) => x.fmt(f),
             Expression::Unary(x) => x.fmt(f),
             Expression::Binary(x) => x.fmt(f),
-            Expression::FunctionCall(x) => x.fmt(f),
+            Expression::FunctionCall(x) => x.get().fmt(f),
             Expression::TypeOrIdentifier(x) => x.fmt(f),
         }
     }

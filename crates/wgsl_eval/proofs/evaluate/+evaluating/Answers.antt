@@ -1,12 +1,18 @@
 use Rattle.std.proofs.Common.{◌≡◌, ap, sym, ◌∙◌, subst, map, []}
 use Rattle.wgsl_syntax.specs.Tree.{exps}
-use Rattle.wgsl_syntax.specs.View.{node_tree, type_tree}
-use Rattle.wgsl_meaning.specs.Meaning.{values}
+use Rattle.wgsl_syntax.specs.View.{tree, node_tree, type_tree, call_layer}
+use Rattle.wgsl_syntax.proofs.Trees.{tree_of_call}
+use Rattle.wgsl_meaning.specs.Meaning.{value, values}
 use Rattle.wgsl_meaning.specs.ConstStage.{stage}
 use Rattle.wgsl_eval.specs.Ends.{Ends}
 use Rattle.wgsl_eval.specs.Scopes.{scope_of}
 use Rattle.wgsl_eval.proofs.Lists.{called}
 use Rattle.wgsl_eval.proofs.evaluate.+evaluating.Goals as goal
+
+pub eval_value-returns-in-FunctionCall : goal.eval_value-returns-in-FunctionCall
+eval_value-returns-in-FunctionCall t c =
+    let same = ap tree c.in-FunctionCall.is ∙ tree_of_call c.in-FunctionCall.x ∙ ap (call_layer tree) (sym c.get.ensures) in
+    subst (λ e. Ends (value (stage (scope_of c.args.scope.now)) [] e) c.call_value.result) (sym same) c.call_value.ensures
 
 pub call_value-returns : goal.call_value-returns
 call_value-returns t c =

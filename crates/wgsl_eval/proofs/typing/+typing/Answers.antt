@@ -1,13 +1,19 @@
 use Rattle.std.proofs.Common.{◌≡◌, ap, sym, ◌∙◌, subst, map, []}
 use Rattle.wgsl_syntax.specs.Tree.{exps}
-use Rattle.wgsl_syntax.specs.View.{node_tree, type_tree}
-use Rattle.wgsl_meaning.specs.Meaning.{all_typed, called_or}
+use Rattle.wgsl_syntax.specs.View.{tree, node_tree, type_tree, call_layer}
+use Rattle.wgsl_syntax.proofs.Trees.{tree_of_call}
+use Rattle.wgsl_meaning.specs.Meaning.{typed, all_typed, called_or}
 use Rattle.wgsl_meaning.specs.Names.{find}
 use Rattle.wgsl_meaning.specs.ConstStage.{stage}
 use Rattle.wgsl_eval.specs.Ends.{Ends}
 use Rattle.wgsl_eval.specs.Scopes.{scope_of}
 use Rattle.wgsl_eval.proofs.Lists.{called_typed}
 use Rattle.wgsl_eval.proofs.typing.+typing.Goals as goal
+
+pub eval_ty-returns-in-FunctionCall : goal.eval_ty-returns-in-FunctionCall
+eval_ty-returns-in-FunctionCall t c =
+    let same = ap tree c.in-FunctionCall.is ∙ tree_of_call c.in-FunctionCall.x ∙ ap (call_layer tree) (sym c.get.ensures) in
+    subst (λ e. Ends (typed (stage (scope_of c.args.scope.now)) c.args.scope.now.parameters.now e) c.typed_call.result) (sym same) c.typed_call.ensures
 
 pub typed_call-returns : goal.typed_call-returns
 typed_call-returns t c =

@@ -6,5 +6,5 @@ use Rattle.wgsl_lex.proofs.word.text_of.Goals as goal
 
 pub loop-character-preserved : goal.loop-character-preserved
 loop-character-preserved c =
-    c.in_ok-push-2.ensures.bytes ∙ ap (λ bs. bs ++ encode_utf8 c.character-item.result) c.loop-character.invariant
+    c.in_ok-push-2.ensures.ok ∙ ap (λ bs. bs ++ encode_utf8 c.character-item.result) c.loop-character.invariant
     ∙ append_assoc (encode_utf8 c.args.first) (encode_utf8_all (take c.loop-character.character-index c.args.behind.now)) (encode_utf8 c.character-item.result) ∙ ap (λ bs. encode_utf8 c.args.first ++ bs) (sym (encodes_more _ _ _ c.loop-character-test.true c.character-item.is))

@@ -33,12 +33,15 @@ pub named-returns-in_err-close-clause-parses : goal.named-returns-in_err-close-c
 named-returns-in_err-close-clause-parses t c =
     passes c.from_residual-in_err-close.ensures.1 (search (outcomes, marks, c.in-Some.ensures, c.in_ok-arguments.ensures, c.in_err-close.ensures))
 
+pub named-returns-in_err-call-clause-parses : goal.named-returns-in_err-call-clause-parses
+named-returns-in_err-call-clause-parses t c = exhausts c.from_residual-in_err-call.ensures.1
+
 pub named-returns-in_err-new-2-clause-parses : goal.named-returns-in_err-new-2-clause-parses
 named-returns-in_err-new-2-clause-parses t c = exhausts c.from_residual-in_err-new-2.ensures.1
 
 pub named-returns-clause-parses : goal.named-returns-clause-parses
 named-returns-clause-parses t c =
-    rw (c.in_ok-new-2.ensures, c.across.ensures, c.type_named-ty.ensures)
+    rw (c.in_ok-new-2.ensures, c.in_ok-call.ensures, c.across.ensures, c.type_named-ty.ensures)
     (search (outcomes, marks, c.in-Some.ensures, c.in_ok-arguments.ensures, c.in_ok-close.ensures))
 
 pub unary-returns-in_default-clause-parses : goal.unary-returns-in_default-clause-parses

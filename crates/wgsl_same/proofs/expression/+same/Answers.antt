@@ -1,10 +1,12 @@
-use Rattle.std.proofs.Common.{◌≡◌, ◌∙◌}
+use Rattle.std.proofs.Common.{◌≡◌, ap, sym, ◌∙◌}
 use Rattle.wgsl_syntax.specs.View.{node_tree}
+use Rattle.wgsl_syntax.specs.declared.expression.Expression.TheVariants.{FunctionCall}
 use Rattle.wgsl_same.proofs.SameLemmas.{calls_same, names_same, types_templated, is_true, items_differ, arguments_differ}
 use Rattle.wgsl_same.proofs.expression.+same.Goals as goal
 
 pub is_same-returns-in-FunctionCall-b : goal.is_same-returns-in-FunctionCall-b
-is_same-returns-in-FunctionCall-b l c = calls_same _ _ _ _ _ c.in-FunctionCall.is c.in-FunctionCall-b.is c.is_same_call.ensures
+is_same-returns-in-FunctionCall-b l c =
+    calls_same _ _ _ _ _ (c.in-FunctionCall.is ∙ ap FunctionCall (sym c.get.ensures)) (c.in-FunctionCall-b.is ∙ ap FunctionCall (sym c.get-in-FunctionCall-b.ensures)) c.is_same_call.ensures
 
 pub is_same-returns-in-TypeOrIdentifier-b : goal.is_same-returns-in-TypeOrIdentifier-b
 is_same-returns-in-TypeOrIdentifier-b l c = names_same _ _ _ _ _ c.in-TypeOrIdentifier.is c.in-TypeOrIdentifier-b.is c.is_same_type_in.ensures
