@@ -1,13 +1,18 @@
 -- What is recorded of the modules' texts.
 use Rattle.std.specs.Prelude.{slice_get}
-use Rattle.std.proofs.Common.{◌≡◌, ℕ, ◌+◌, ◌<◌, ◌⊎◌, inl, inr, List, map, get_or, length, Some, Bor, refl, sym, subst, arith}
+use Rattle.std.proofs.Common.{◌≡◌, ℕ, ◌+◌, ◌<◌, ◌⊎◌, inl, inr, List, map, get_or, length, Some, Err, Bor, refl, sym, subst, arith}
 use Rattle.std.proofs.lemmas.Option.{slice_get_read, slice_get_within}
 use Rattle.wgsl_path.specs.Paths.{path_text}
 use Rattle.wgsl_path.specs.declared.path.ModulePath.{ModulePath}
 use Rattle.wesl_resolve.specs.declared.source_map.BasicSourceMap.{BasicSourceMap}
-use Rattle.wesl_resolve.specs.Found.{SameAnswers, SameTexts}
+use Rattle.wesl_resolve.specs.Found.{Answer, unit_of, not_found, SameAnswers, SameTexts, TellsText}
+use Rattle.wesl_resolve.specs.declared.error.ResolveError.{ResolveError}
+use Rattle.wesl_resolve.specs.declared.error.ResolveError.TheVariants as resolve
 use Rattle.wesl_scopes.proofs.ScopeLemmas.{to_contains, from_contains, get_map, map_get}
 use Rattle.wesl_sources.specs.Rounds.{Sources}
+use Rattle.wgsl_syntax.specs.Tree.{Unit}
+use Rattle.weslc_calls.specs.declared.error.CompileError.TheVariants.{OutOfMemory}
+use Rattle.weslc_calls.specs.Told.{of_resolving}
 use Rattle.weslc_calls.specs.Mapped.{Texts, HasText, HaveTexts, HasDefault, IsFound, AreAllFound}
 
 pub same_before : (a b c : Sources) → SameAnswers a b → SameAnswers b c → SameAnswers a c
@@ -55,6 +60,13 @@ found_item found ps i item inside is all =
 
 pub found_moved : (a b : Sources) → SameAnswers a b → (p : List ℕ) → IsFound a p → IsFound b p
 found_moved a b same p f = (f.0, (same p _).0 f.1)
+
+-- where a unit is found, a text is refused for want of memory alone
+pub refused_for_memory : (found : Answer → Type 0) (texts : List ℕ → Type 0) (path : ModulePath) (u : Unit) → found (unit_of u)
+    → ((a b : Answer) → found a → found b → a ≡ b) → (e : ResolveError) → TellsText found texts path (Err e) → of_resolving e ≡ OutOfMemory
+refused_for_memory found texts path u is one resolve.OutOfMemory told = refl
+refused_for_memory found texts path u is one (resolve.ModuleNotFound p) told = let same : unit_of u ≡ not_found = one (unit_of u) not_found is told.1 in absurd (cc)
+refused_for_memory found texts path u is one (resolve.Syntax p f) told = absurd told
 
 -- another default text leaves the modules' texts
 pub text_kept : (texts : Texts) (old new : BasicSourceMap) (text : List ℕ) → new ≡ record old { default_source = Some text } → (p : ModulePath) → HasText texts old p → HasText texts new p

@@ -1,12 +1,13 @@
 -- The texts of the loaded modules are recorded, and only want of memory refuses that.
 use Rattle.std.proofs.Common.{◌≡◌, map, sym, ap, ◌∙◌, subst, Bor}
+use Rattle.wgsl_path.specs.Paths.{path_text}
 use Rattle.std.proofs.lemmas.Result.{err_from_is_err_and}
 use Rattle.wgsl_path.specs.declared.path.ModulePath.{ModulePath as Path}
 use Rattle.weslc_calls.specs.Mapped.{AreAllFound, HaveTexts}
 use Rattle.std.specs.Prelude.{string_bytes}
 use Rattle.wesl_reach.specs.Resolved.{modules_of}
 use Rattle.wesl_resolve.specs.declared.source_map.BasicSourceMap.{BasicSourceMap}
-use Rattle.weslc_calls.proofs.Mapping.{text_kept}
+use Rattle.weslc_calls.proofs.Mapping.{text_kept, found_moved, refused_for_memory}
 use Rattle.weslc_calls.proofs.Recorded.{told_kept}
 use Rattle.weslc_calls.proofs.calls.source_map.Goals as goal
 
@@ -16,6 +17,16 @@ returns-in_err-add_sources-clause-memory g c found =
     let paths : map (λ (p : Bor Path). p.now) c.as_slice.result.now ≡ map (λ e. e.1.path) c.args.resolutions.now.modules.entries
     = ap (map (λ (p : Bor Path). p.now)) c.as_slice.ensures.value ∙ c.in_ok-paths.ensures in
     rw (p.1, p.2) (c.in_err-add_sources.ensures.memory (subst (AreAllFound (g.R.Resolver.answers c.args.resolver.now)) (sym paths) found.1))
+
+pub returns-in_err-resolve_source-clause-memory : goal.returns-in_err-resolve_source-clause-memory
+returns-in_err-resolve_source-clause-memory g c found =
+    let p = err_from_is_err_and c.from_residual-in_err-resolve_source.result c.from_residual-in_err-resolve_source.ensures.1 in
+    let resolver = c.add_sources.new.resolver in
+    let root = path_text c.args.root.now in
+    let here = found_moved (g.R.Resolver.answers c.args.resolver.now) (g.R.Resolver.answers resolver) c.in_ok-add_sources.ensures.same_answers root found.0 in
+    rw p.1
+    (p.2 ∙ refused_for_memory (g.R.Resolver.answers resolver root) (g.R.Resolver.texts resolver root) c.args.root.now here.0 here.1 (g.met.R.Resolver.one_answer resolver root)
+    c.in_err-resolve_source.field-0.0 c.in_err-resolve_source.ensures.text)
 
 pub returns-clause-texts : goal.returns-clause-texts
 returns-clause-texts g c p among =
