@@ -3,16 +3,19 @@
 
 Each bundle has so many declarations over so many modules; module k imports from the next ones, in a chain or a fan, and
 the root keeps one function that reaches all. Beside the time of linking stands the time that the same program needs to
-refuse the same bundle for an unknown key, that is, to read its JSON. Each figure is the least of a few runs."""
+refuse the same bundle for an unknown key, that is, to read its JSON. Each figure is the least of a few runs. Last, how
+time grows from 1,000 to 10,000 declarations: by runs of both in turn, of which the medians are compared."""
 import json
 import os
 import resource
+import statistics
 import subprocess
 import sys
 import time
 
 HERE = os.path.dirname(os.path.abspath(__file__))
 RUNS = 3
+TURNS = 25
 
 
 def chain(declarations, modules, body):
@@ -64,6 +67,17 @@ def timed(program, data, status):
     return best, len(out)
 
 
+def growth(program, small, large):
+    """The medians of runs of two bundles in turn, in seconds."""
+    taken = [], []
+    for _ in range(TURNS):
+        for times, data in zip(taken, (small, large)):
+            start = time.perf_counter()
+            subprocess.run(program, input=data, stdout=subprocess.DEVNULL, check=True)
+            times.append(time.perf_counter() - start)
+    return [statistics.median(it) for it in taken]
+
+
 def peak_of(program, data):
     """The peak memory of one run in its own child, in bytes."""
     pid = os.fork()
@@ -98,6 +112,13 @@ def main(argv):
             took, _ = timed(program, data, 0)
             peak = peak_of(program, data)
             print(f"| {shape} | {declarations} | {modules} | {len(data)} | {base:.4f} | {took:.4f} | {took / base:.1f} | {peak / len(data):.1f} |", flush=True)
+    print("\n| shape | modules | 1,000 declarations, s | 10,000 declarations, s | growth |")
+    print("|---|---|---|---|---|")
+    for shape, make in (("chain", chain), ("fan", fan)):
+        for few, many in ((10, 10), (100, 200)):
+            texts = make(1000, few, ""), make(10000, many, "")
+            small, large = growth(program, *(json.dumps(bundle(*it)).encode() for it in texts))
+            print(f"| {shape} | {few}, {many} | {small:.4f} | {large:.4f} | {large / small:.1f} |", flush=True)
 
 
 main(sys.argv[1:])
