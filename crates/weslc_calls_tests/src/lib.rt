@@ -1,14 +1,5 @@
-//! Tests of the calls: what they answer and map back, and a plain slow program of the definitions of linking, beside `link` on
-//! many small bundles that are made at random.
+//! Tests of the calls, of what no bundle shows: what a source map maps back, and mangled names that are read back.
 #![tactic(auto)]
 
 #[cfg(test)]
 mod calls;
-#[cfg(test)]
-mod compared;
-#[cfg(test)]
-mod described;
-#[cfg(test)]
-mod generated;
-#[cfg(test)]
-mod plain;

@@ -1,0 +1,68 @@
+//! A case: a JSON object with a `name`.
+//!
+//! The input is what stands under `bundle`, as JSON, the text `input`, the numbers `bytes`, and under `repeat` a `text` so many
+//! times (`count`), one after another; what is missing is empty. `text`, `line` and `status` are what comes on standard output,
+//! on standard error, and as the exit status: where they are missing, nothing and 0. `failing_read` is the number of the read
+//! of the input that fails, counted from 0, and `failing_text` and `failing_line` are those of the call that writes or flushes
+//! the text and the line.
+
+use serde_json::Value;
+use std::alloc::{AllocError, Global};
+
+const KEYS: [&str; 11] = [
+    "name",
+    "bundle",
+    "input",
+    "bytes",
+    "repeat",
+    "text",
+    "line",
+    "status",
+    "failing_read",
+    "failing_text",
+    "failing_line",
+];
+
+/// Whether this is an object with no other keys than those of a case.
+pub fn is_case(case: &Value) -> bool {
+    let mut count = 0usize;
+    for key in KEYS {
+        if case.get(key).is_some() {
+            count = count.saturating_add(1);
+        }
+    }
+    match case.as_object() {
+        Some(members) => members.len() == count,
+        None => false,
+    }
+}
+
+/// The text at a key, or an empty one.
+pub fn text_at<'a>(value: &'a Value, key: &str) -> &'a str {
+    value.get(key).and_then(Value::as_str).unwrap_or("")
+}
+
+/// The number at a key.
+pub fn number_at(value: &Value, key: &str) -> Option<u64> {
+    value.get(key).and_then(Value::as_u64)
+}
+
+/// The bytes of the input.
+pub fn input(alloc: Global, case: &Value) -> Result<Vec<u8>, AllocError> {
+    let mut input = Vec::new(alloc);
+    if let Some(bundle) = case.get("bundle") {
+        input.extend_from_slice(bundle.to_string(alloc)?.as_bytes())?;
+    }
+    input.extend_from_slice(text_at(case, "input").as_bytes())?;
+    if let Some(Value::Array(bytes)) = case.get("bytes") {
+        for byte in bytes.as_slice() {
+            input.push(u8::try_from(byte.as_u64().unwrap_or(0)).unwrap_or(0))?;
+        }
+    }
+    if let Some(repeat) = case.get("repeat") {
+        for _ in 0..number_at(repeat, "count").unwrap_or(0) {
+            input.extend_from_slice(text_at(repeat, "text").as_bytes())?;
+        }
+    }
+    Ok(input)
+}
