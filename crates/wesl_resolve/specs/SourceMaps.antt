@@ -21,3 +21,7 @@ display_name_at map p = option_and_then (λ s. s.display_name) (get_by_text map.
 -- one entry is set, and the others stay
 abbrev pub IsSet : {A : Type 0} → (List ℕ → Option A) → List ℕ → Option A → (List ℕ → Option A) → Type 0
 IsSet old x a new = (y : List ℕ) → new y ≡ (if bytes_eq x y then a else old y)
+
+-- all entries stay
+abbrev pub IsKept : {A : Type 0} → (List ℕ → Option A) → (List ℕ → Option A) → Type 0
+IsKept old new = (y : List ℕ) → new y ≡ old y

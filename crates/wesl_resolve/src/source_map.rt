@@ -1,10 +1,10 @@
 //! From the linked unit back to the modules.
 
-ghost use Rattle.std.specs.Prelude.{◌≡◌, ℕ, List, Option, Some, None, IfOk, OnOk};
+ghost use Rattle.std.specs.Prelude.{◌≡◌, ℕ, List, Option, Some, None, IfOk, OnOk, OnErr};
 ghost use Rattle.std.specs.Option.{option_map, option_copied};
 ghost use Rattle.wgsl_path.specs.declared.path.ModulePath.{ModulePath as Path};
 ghost use Rattle.wgsl_path.specs.Paths.{path_text};
-ghost use Rattle.wesl_resolve.specs.SourceMaps.{decl_at, source_at, display_name_at, IsSet};
+ghost use Rattle.wesl_resolve.specs.SourceMaps.{decl_at, source_at, display_name_at, IsSet, IsKept};
 
 use std::alloc::{AllocError, Global};
 use std::collections::HashMap;
@@ -76,7 +76,7 @@ impl BasicSourceMap {
         }
     }
 
-    /// Records what a name of the linked unit stands for.
+    /// Records what a name of the linked unit stands for. Where memory is refused nothing is changed.
     pub fn add_decl(
         &mut self,
         decl: &str,
@@ -84,6 +84,7 @@ impl BasicSourceMap {
         item: &str,
     ) -> Result<(), AllocError>
         ensures recorded { OnOk result (IsSet (decl_at self.old) decl.now (Some («module».now, item.now)) (decl_at self.new)) }
+        ensures refused { OnErr result (IsKept (decl_at self.old) (decl_at self.new)) }
         ensures sources { self.new.sources ≡ self.old.sources }
         ensures default_source { self.new.default_source ≡ self.old.default_source }
     {
@@ -96,7 +97,7 @@ impl BasicSourceMap {
         Ok(())
     }
 
-    /// Records the text of a module and the name that a message gives it.
+    /// Records the text of a module and the name that a message gives it. Where memory is refused nothing is changed.
     pub fn add_source(
         &mut self,
         path: &ModulePath,
@@ -105,6 +106,8 @@ impl BasicSourceMap {
     ) -> Result<(), AllocError>
         ensures text { OnOk result (IsSet (source_at self.old) (path_text path.now) (Some text) (source_at self.new)) }
         ensures display_name { OnOk result (IsSet (display_name_at self.old) (path_text path.now) display_name (display_name_at self.new)) }
+        ensures text_refused { OnErr result (IsKept (source_at self.old) (source_at self.new)) }
+        ensures display_name_refused { OnErr result (IsKept (display_name_at self.old) (display_name_at self.new)) }
         ensures decls { self.new.decls ≡ self.old.decls }
         ensures default_source { self.new.default_source ≡ self.old.default_source }
     {

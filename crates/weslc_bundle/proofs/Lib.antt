@@ -5,3 +5,4 @@ pub mod Lists
 pub mod Paths
 pub mod Read
 pub mod Requests
+pub mod Written

@@ -1,3 +1,5 @@
 pub mod Bundles
+pub mod Fields
 pub mod Held
+pub mod Output
 pub mod Served

@@ -20,6 +20,7 @@ use Rattle.weslc_bundle.specs.declared.serve.Refusal.{Refusal}
 use Rattle.weslc_bundle.specs.declared.serve.Refusal.TheVariants as of
 use Rattle.weslc_bundle.specs.Held.{found_among}
 use Rattle.weslc_bundle.specs.Bundles.{IsBundle, IsFault}
+use Rattle.weslc_bundle.specs.Output.{AppendsBeginning}
 
 -- ---- bytes
 
@@ -74,6 +75,14 @@ Refused left of.TooLong = AreTooMany left
 Refused left (of.Bundle fault) = (bytes : List ℕ) × AreRead left bytes × IsFault bytes fault
 Refused left (of.Compile e) = (bytes : List ℕ) × (request : Request) × AreRead left bytes × IsBundle bytes request × IsRefused request e
 Refused left of.OutOfMemory = ⊤
+
+-- There is no text, for such a reason.
+abbrev pub HasRefusal : Option (List ℕ) → Type 0
+HasRefusal left = (refusal : Refusal) × Refused left refusal
+
+-- What was left is a bundle, and of the answer to it a writer got a beginning.
+abbrev pub IsCutShort : Option (List ℕ) → Option (List ℕ) → Option (List ℕ) → Type 0
+IsCutShort left old new = (text : List ℕ) × Answered left text × AppendsBeginning old new text
 
 -- 1 for a refused call and for memory, 2 for what is no bundle and for a read that fails
 abbrev pub status_of : Refusal → ℕ

@@ -2,8 +2,10 @@
 #![tactic(auto)]
 
 mod bundle;
+mod field;
 mod input;
 mod kinds;
+mod output;
 mod request;
 mod serve;
 

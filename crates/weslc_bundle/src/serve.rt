@@ -1,16 +1,18 @@
 //! The program: from a bundle to a text or an error line.
 
-ghost use Rattle.std.specs.Prelude.{◌≡◌, ◌⊎◌, ◌≤◌, List, ℕ, IfOk, IfErr, OnOk, string_bytes};
+ghost use Rattle.std.specs.Prelude.{◌≡◌, ◌⊎◌, ◌≤◌, List, ℕ, IfOk, IfErr, string_bytes};
 ghost use Rattle.std.specs.Io.KnownBytes.{Appends};
-ghost use Rattle.weslc_bundle.specs.Served.{Answered, Refused, status_of};
+ghost use Rattle.weslc_bundle.specs.Served.{Answered, Refused, HasRefusal, IsCutShort, status_of};
 
 use crate::bundle::read_bundle;
+use crate::field::Field;
 use crate::input::{InputError, read_input};
 use crate::kinds::{eval_kind, syntax_kind, validate_kind};
+use crate::output::write_text;
 use crate::request::{BundleError, Command};
 use std::alloc::Global;
+use std::io;
 use std::io::{Read, Write};
-use std::{fmt, io};
 use weslc_calls::{CompileError, Concern, compile, link};
 use wgsl_items::Text;
 use wgsl_path::{ModulePath, Span};
@@ -66,7 +68,8 @@ impl From<CompileError> for Refusal {
 }
 
 /// Reads a bundle, and writes the text that it asks for, or one line about its first fault. It gives the program's status: 0
-/// for a text, 1 for a refused call or a write that fails, 2 for what is no bundle or a read that fails.
+/// for a text, 1 for a refused call or a write that fails, 2 for what is no bundle or a read that fails. Where a text could
+/// not be written, the writer has got a beginning of it, and all of it where only flushing failed.
 pub fn serve_bundle<R: Read, W: Write, E: Write>(
     alloc: Global,
     reader: &mut R,
@@ -74,7 +77,8 @@ pub fn serve_bundle<R: Read, W: Write, E: Write>(
     errors: &mut E,
 ) -> u8
     ensures text { result ≡ 0 → (text : List ℕ) × Answered (R.remaining reader.old) text × Appends (W.contents writer.old) (W.contents writer.new) text × (errors.new ≡ errors.old) }
-    ensures refused { result ≡ 1 → ((refusal : Refusal) × Refused (R.remaining reader.old) refusal × (writer.new ≡ writer.old)) ⊎ ((text : List ℕ) × Answered (R.remaining reader.old) text × (errors.new ≡ errors.old)) }
+    ensures refused { result ≡ 1 → (HasRefusal (R.remaining reader.old) × (writer.new ≡ writer.old))
+        ⊎ (IsCutShort (R.remaining reader.old) (W.contents writer.old) (W.contents writer.new) × (errors.new ≡ errors.old)) }
     ensures no_bundle { result ≡ 2 → (refusal : Refusal) × Refused (R.remaining reader.old) refusal × (status_of refusal ≡ 2) × (writer.new ≡ writer.old) }
     ensures statuses { result ≤ 2 }
 {
@@ -104,32 +108,12 @@ fn served<R: Read>(alloc: Global, reader: &mut R) -> Result<String, Refusal>
     Ok(text)
 }
 
-fn write_text<W: Write>(writer: &mut W, text: &str) -> io::Result<()>
-    ensures { OnOk result (Appends (W.contents writer.old) (W.contents writer.new) text.now) }
-{
-    writer.write_all(text.as_bytes())?;
-    writer.flush()
-}
-
 fn status(refusal: &Refusal) -> u8
     ensures { result ≡ status_of refusal.now }
 {
     match refusal {
         Refusal::Read | Refusal::TooLong | Refusal::Bundle(_) => 2,
         Refusal::Compile(_) | Refusal::OutOfMemory => 1,
-    }
-}
-
-/// What is printed, or `-` where there is nothing.
-#[derive(Drop)]
-struct OrDash<'a, T>(Option<&'a T>);
-
-impl<T: fmt::Display> fmt::Display for OrDash<'_, T> {
-    fn fmt<W: fmt::Write>(&self, f: &mut fmt::Formatter<W>) -> fmt::Result {
-        match self.0 {
-            Some(value) => value.fmt(f),
-            None => f.write_str("-"),
-        }
     }
 }
 
@@ -148,12 +132,15 @@ fn write_refusal<E: Write>(errors: &mut E, refusal: &Refusal) -> io::Result<()> 
 fn write_bundle_error<E: Write>(errors: &mut E, error: &BundleError) -> io::Result<()> {
     match error {
         BundleError::NotAnObject => errors.write_all(b"error: Bundle - - - -\n"),
-        BundleError::UnknownKey(key) => writeln!(errors, "error: Bundle - - - {key}"),
+        BundleError::UnknownKey(key) => {
+            let key = Field(Some(key));
+            writeln!(errors, "error: Bundle - - - {key}")
+        }
         BundleError::Value(key) => writeln!(errors, "error: Bundle - - - {key}"),
-        BundleError::DuplicateModule(path) => writeln!(
-            errors,
-            "error: DuplicateModule {path} - - -"
-        ),
+        BundleError::DuplicateModule(path) => {
+            let path = Field(Some(path));
+            writeln!(errors, "error: DuplicateModule {path} - - -")
+        }
         BundleError::OutOfMemory => errors.write_all(b"error: OutOfMemory - - - -\n"),
     }
 }
@@ -209,9 +196,9 @@ fn write_concern<E: Write>(
     concern: &Concern,
     span: Option<Span>,
 ) -> io::Result<()> {
-    let module: OrDash<'_, ModulePath> = OrDash(concern.module.as_ref());
-    let decl: OrDash<'_, Text> = OrDash(concern.decl.as_ref());
-    let name: OrDash<'_, Text> = OrDash(concern.name.as_ref());
+    let module: Field<'_, ModulePath> = Field(concern.module.as_ref());
+    let decl: Field<'_, Text> = Field(concern.decl.as_ref());
+    let name: Field<'_, Text> = Field(concern.name.as_ref());
     match span {
         Some(span) => {
             let (start, end) = (span.start, span.end);

@@ -101,10 +101,11 @@ abbrev pub interpolation_sampling_spelled : InterpolationSampling → Option (Li
 interpolation_sampling_spelled value = Some (interpolation_sampling_text value)
 
 -- When an expression is evaluated: as the shader module is created, as the pipeline is, or as the shader runs (WGSL, "Shader lifecycle").
+-- No text of WGSL writes a stage, so it prints under its own name.
 abbrev pub shader_stage_text : ShaderStage → List ℕ
-shader_stage_text shader_stage.Const = codes "const"
-shader_stage_text shader_stage.Override = codes "override"
-shader_stage_text shader_stage.Exec = codes "exec"
+shader_stage_text shader_stage.Const = codes "Const"
+shader_stage_text shader_stage.Override = codes "Override"
+shader_stage_text shader_stage.Exec = codes "Exec"
 
 abbrev pub shader_stage_spelled : ShaderStage → Option (List ℕ)
 shader_stage_spelled value = Some (shader_stage_text value)

@@ -145,13 +145,14 @@ impl FromStr for InterpolationSampling {
 }
 
 /// When an expression is evaluated: as the shader module is created, as the pipeline is, or as the shader runs (WGSL, "Shader lifecycle").
+/// No text of WGSL writes a stage, so it prints under its own name.
 #[derive(Clone, Copy, Debug, PartialEq, Eq)]
 pub enum ShaderStage {
-    /// `const`
+    /// `Const`
     Const,
-    /// `override`
+    /// `Override`
     Override,
-    /// `exec`
+    /// `Exec`
     Exec,
 }
 
@@ -163,9 +164,9 @@ impl fmt::Display for ShaderStage {
 
     fn fmt<W: fmt::Write>(&self, f: &mut fmt::Formatter<W>) -> fmt::Result {
         f.write_str(match self {
-            ShaderStage::Const => "const",
-            ShaderStage::Override => "override",
-            ShaderStage::Exec => "exec",
+            ShaderStage::Const => "Const",
+            ShaderStage::Override => "Override",
+            ShaderStage::Exec => "Exec",
         })
     }
 }
@@ -179,9 +180,9 @@ impl FromStr for ShaderStage {
 
     fn from_str(text: &str) -> Result<ShaderStage, ()> {
         match text {
-            "const" => Ok(ShaderStage::Const),
-            "override" => Ok(ShaderStage::Override),
-            "exec" => Ok(ShaderStage::Exec),
+            "Const" => Ok(ShaderStage::Const),
+            "Override" => Ok(ShaderStage::Override),
+            "Exec" => Ok(ShaderStage::Exec),
             _ => Err(()),
         }
     }

@@ -24,7 +24,7 @@ pub enum Error {
     UnexpectedTemplate(Text),
     #[error("missing template arguments for `{0}`")]
     MissingTemplate(&'static str),
-    #[error("cannot write a `{1}` to a reference to `{0}`")]
+    #[error("cannot write a `{0}` to a reference to `{1}`")]
     WriteRefType(Type, Type),
     #[error("attempt to write to a reference without write access")]
     NotWrite,
@@ -92,9 +92,9 @@ impl Error {
             Error::UnknownType(name) => Ok(Error::UnknownType(name.clone_in(alloc)?)),
             Error::UnexpectedTemplate(name) => Ok(Error::UnexpectedTemplate(name.clone_in(alloc)?)),
             Error::MissingTemplate(what) => Ok(Error::MissingTemplate(*what)),
-            Error::WriteRefType(stored, written) => Ok(Error::WriteRefType(
-                stored.clone(alloc)?,
+            Error::WriteRefType(written, stored) => Ok(Error::WriteRefType(
                 written.clone(alloc)?,
+                stored.clone(alloc)?,
             )),
             Error::NotWrite => Ok(Error::NotWrite),
             Error::NotRead => Ok(Error::NotRead),
