@@ -5,7 +5,7 @@
 
 ghost use Rattle.std.specs.Prelude.{◌≡◌};
 ghost use Rattle.std.specs.Fmt.{WritesOnOk};
-ghost use Rattle.weslc_bundle.specs.Fields.{is_escaped, escaped_char};
+ghost use Rattle.weslc_bundle.specs.Fields.{is_escaped, escaped_char, escaped};
 
 use std::fmt;
 use std::fmt::Write;
@@ -56,11 +56,18 @@ struct Escaped<'a, W> {
 
 impl<W: fmt::Write> fmt::Write for Escaped<'_, W> {
     fn write_str(&mut self, text: &str) -> fmt::Result {
-        for c in text.chars() {
-            write_escaped(c, self.out)?;
-        }
-        Ok(())
+        write_escaped_text(text, self.out)
     }
+}
+
+/// Writes each character of a text, or its number where it is one of those.
+fn write_escaped_text<W: fmt::Write>(text: &str, out: &mut fmt::Formatter<W>) -> fmt::Result
+    ensures { WritesOnOk W.write_str_gives out.old result (escaped text.now) out.new }
+{
+    for c in text.chars() {
+        write_escaped(c, out)?;
+    }
+    Ok(())
 }
 
 /// Writes a character, or its number where it is one of those.
