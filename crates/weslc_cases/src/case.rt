@@ -1,4 +1,4 @@
-//! A case: a JSON object with a `name`.
+//! A case: a JSON object with a `name`. Keys that are not named here say nothing.
 //!
 //! The input is what stands under `bundle`, as JSON, the text `input`, the numbers `bytes`, and under `repeat` a `text` so many
 //! times (`count`), one after another; what is missing is empty. `text`, `line` and `status` are what comes on standard output,
@@ -8,34 +8,6 @@
 
 use serde_json::Value;
 use std::alloc::{AllocError, Global};
-
-const KEYS: [&str; 11] = [
-    "name",
-    "bundle",
-    "input",
-    "bytes",
-    "repeat",
-    "text",
-    "line",
-    "status",
-    "failing_read",
-    "failing_text",
-    "failing_line",
-];
-
-/// Whether this is an object with no other keys than those of a case.
-pub fn is_case(case: &Value) -> bool {
-    let mut count = 0usize;
-    for key in KEYS {
-        if case.get(key).is_some() {
-            count = count.saturating_add(1);
-        }
-    }
-    match case.as_object() {
-        Some(members) => members.len() == count,
-        None => false,
-    }
-}
 
 /// The text at a key, or an empty one.
 pub fn text_at<'a>(value: &'a Value, key: &str) -> &'a str {

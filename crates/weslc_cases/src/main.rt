@@ -5,7 +5,7 @@
 mod case;
 mod stream;
 
-use case::{input, is_case, number_at, text_at};
+use case::{input, number_at, text_at};
 use serde_json::Value;
 use std::rt::Files;
 use std::{fs, io};
@@ -56,8 +56,7 @@ fn run_case<R: Print + AllocGlobal>(rt: &R, case: &Value) -> io::Result<bool> {
     let mut line = Sink::new(rt.alloc(), number_at(case, "failing_line"));
     let status = u64::from(serve_bundle(rt.alloc(), &mut source, &mut text, &mut line));
     let wanted_status = number_at(case, "status").unwrap_or(0);
-    let is_well = is_case(case)
-        && text.as_str() == text_at(case, "text")
+    let is_well = text.as_str() == text_at(case, "text")
         && line.as_str() == text_at(case, "line")
         && status == wanted_status;
     if !is_well {
