@@ -4,7 +4,8 @@ use Rattle.std.proofs.Common.{◌≡◌, List, refl, sym, ◌∙◌, map, subst,
 use Rattle.wgsl_path.specs.declared.path.ModulePath.{ModulePath}
 use Rattle.wgsl_path.specs.Paths.{path_text}
 use Rattle.wgsl_syntax.specs.Tree.{Decl, Unit}
-use Rattle.wesl_sources.specs.Occurrences.{Name, declared_name}
+use Rattle.wgsl_syntax.specs.Names.{declared_name}
+use Rattle.wesl_sources.specs.Occurrences.{Name}
 use Rattle.wesl_sources.specs.Modules.{Path, Symbol, Modules, Denotes, Reached}
 use Rattle.wesl_sources.specs.Named.{AreNamedByImports, ImportsAreApart}
 use Rattle.wesl_sources.specs.Names.{IsPrinted, stays, is_mangled}
@@ -15,7 +16,7 @@ use Rattle.wesl_sources.specs.Clashing.{IsFirst, Mention, MentionClashes, occurr
 use Rattle.wesl_meaning.specs.Agreement.{AreAlike, ListedModulesAreAlike, HoldsOfAlikeModules}
 use Rattle.wesl_meaning.specs.Declared.{IsHeldAs}
 use Rattle.wesl_meaning.specs.Runs.{AreFound}
-use Rattle.wesl_meaning.proofs.Members.{in_map, from_map}
+use Rattle.wgsl_items.proofs.Members.{in_map, from_map}
 use Rattle.wesl_meaning.proofs.Moves.{SameUnits, turned, same_listed, denotes_moves, free_moves, declaration_moves, reached_moves}
 
 -- ---- lists

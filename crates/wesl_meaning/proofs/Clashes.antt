@@ -2,14 +2,15 @@
 use Rattle.std.proofs.Common.{◌≡◌, ◌⊎◌, inl, inr, List, [], ◌∷◌, ◌++◌, map, refl, sym, ◌∙◌, subst, Contains}
 use Rattle.std.proofs.lemmas.List.Elements.{Contains-append_left, Contains-append_right, Contains-append_cases}
 use Rattle.wgsl_syntax.specs.Tree.{Decl}
-use Rattle.wesl_sources.specs.Occurrences.{Name, names_before, names_behind, names_in_body, locals, declared_name}
+use Rattle.wgsl_syntax.specs.Names.{declared_name}
+use Rattle.wesl_sources.specs.Occurrences.{Name, names_before, names_behind, names_in_body, locals}
 use Rattle.wesl_sources.specs.Modules.{Path, Symbol, Modules, IsFree, IsDeclaration, Denotes, Reached}
 use Rattle.wesl_sources.specs.Names.{IsPrinted}
 use Rattle.wesl_sources.specs.Linked.{IsShared, Clashes, shared, hidden, captured}
 use Rattle.wesl_sources.specs.Loaded.{AreLoaded, IsClashFree}
 use Rattle.wesl_sources.specs.Clashing.{IsFirst, Mention, occurs, declares, mentions, MentionClashes, occurrence, own, DeclarationClashes, ModuleClashes, IsFirstClash}
 use Rattle.wesl_meaning.specs.Agreement.{ClashesAreOne}
-use Rattle.wesl_meaning.proofs.Members.{first_in, in_cases, from_map}
+use Rattle.wgsl_items.proofs.Members.{first_in, in_cases, from_map}
 use Rattle.wesl_meaning.proofs.Order.{order_once}
 use Rattle.wesl_meaning.proofs.Splits.{Splits, at_one_place, before, behind, splits}
 use Rattle.wesl_meaning.proofs.Symbols.{one_unit, printed_once, free_denotes_none}

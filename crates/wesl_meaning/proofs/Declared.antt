@@ -1,9 +1,11 @@
 -- The linked unit declares what is held.
 use Rattle.std.proofs.Common.{◌≡◌, ◌⊎◌, inl, inr, List, [], ◌∷◌, ◌++◌, map, Option, Some, None, Bool, true, false, refl, sym, ap, ◌∙◌, subst, Contains, append_assoc, append-nil}
 use Rattle.std.proofs.lemmas.List.Elements.{Contains-append_right, Contains-append_cases}
+use Rattle.wgsl_items.proofs.Bools.{none_if, false_if}
 use Rattle.wgsl_syntax.specs.Tree.{Decl, Unit}
-use Rattle.wgsl_meaning.specs.Names.{Name, find_decl, name_of}
-use Rattle.wesl_sources.specs.Occurrences.{is_among, occurrences, names_before, names_behind, names_in_body, locals, declared_name}
+use Rattle.wgsl_syntax.specs.Names.{declared_name}
+use Rattle.wgsl_meaning.specs.Names.{Name, find_decl}
+use Rattle.wesl_sources.specs.Occurrences.{is_among, occurrences, names_before, names_behind, names_in_body, locals}
 use Rattle.wesl_sources.specs.Modules.{Path, Symbol, Modules, Declares, local_name, IsDeclaration, Reached, onto}
 use Rattle.wesl_sources.specs.Names.{IsPrinted}
 use Rattle.wesl_sources.specs.Rounds.{AreDistinct, no_names, another, IsAscending, scope_names}
@@ -11,19 +13,11 @@ use Rattle.wesl_sources.specs.Linked.{renamed_declaration, IsNaming, Selects, ta
 use Rattle.wesl_meaning.specs.SourcePrograms.{declared_symbol}
 use Rattle.wesl_meaning.specs.Runs.{AreLinkedWell}
 use Rattle.wesl_meaning.specs.Declared.{IsHeldAs, StandsAs, DeclaresWhatIsHeld, LinkedUnitsDeclareWhatIsHeld}
-use Rattle.wesl_meaning.proofs.Members.{first_in, later_in, in_cases, in_none, in_map, from_map}
+use Rattle.wgsl_items.proofs.Members.{first_in, later_in, in_cases, in_none, in_map, from_map}
 use Rattle.wesl_meaning.proofs.Order.{behind_first, rest_ascends, not_before}
 use Rattle.wesl_meaning.proofs.Distinct.{Once, once_of, once_right}
-use Rattle.wesl_meaning.proofs.Symbols.{name_declared, name_renamed, selected_from, found_in, named_as, origin, name_there}
+use Rattle.wesl_meaning.proofs.Symbols.{name_renamed, selected_from, found_in, named_as, origin, name_there}
 use Rattle.wesl_meaning.proofs.Held.{From, symbol_of, origin_printed, held_once, origin_same, taken}
-
-none_if : {A : Type 0} (o : Option A) → ((x : A) → o ≡ Some x → ⊥) → o ≡ None
-none_if (Some x) h = absurd (h x refl)
-none_if None h = refl
-
-false_if : (b : Bool) → (b ≡ true → ⊥) → b ≡ false
-false_if true h = absurd (h refl)
-false_if false h = refl
 
 -- ---- lists in which each name stands once
 
@@ -123,7 +117,7 @@ module _ (modules : Modules) (root : Path) (keep : List Name) (unit : Unit) (wel
   only_held y c =
       let d = from_map declared_name unit.declarations y c in
       let o = origin modules root keep well.loaded unit well.linked d.0 d.1 in
-      (symbol_of modules root keep unit well d.0 o, record { held = o.reached; printed = subst (IsPrinted modules root (symbol_of modules root keep unit well d.0 o)) (name_declared d.0 ∙ d.2) (origin_printed modules root keep unit well d.0 o) })
+      (symbol_of modules root keep unit well d.0 o, record { held = o.reached; printed = subst (IsPrinted modules root (symbol_of modules root keep unit well d.0 o)) d.2 (origin_printed modules root keep unit well d.0 o) })
 
   -- ---- once
 
@@ -141,7 +135,7 @@ module _ (modules : Modules) (root : Path) (keep : List Name) (unit : Unit) (wel
       record {
         name = declared_name d.0;
         reached = s.1;
-        printed = subst (IsPrinted modules root (declared_symbol m d.0)) (sym (name_renamed l.new d.0) ∙ ap name_of d.2 ∙ name_declared e.0 ∙ e.2)
+        printed = subst (IsPrinted modules root (declared_symbol m d.0)) (sym (name_renamed l.new d.0) ∙ ap declared_name d.2 ∙ e.2)
             (named_as modules root keep well.loaded m l.unit l.new d.0 l.is_module l.naming s.0);
       }
 
@@ -159,7 +153,7 @@ module _ (modules : Modules) (root : Path) (keep : List Name) (unit : Unit) (wel
       let names : Once (map declared_name l.unit.declarations) = once_right (map local_name l.unit.imports) (map declared_name l.unit.declarations) (once_of (scope_names l.unit) (well.loaded.distinct (l.is_module.path, l.unit) l.is_module.stands)) in
       let held : Once (map declared_name l.held) = once_selected declared_name P l.unit.declarations l.held l.selected names in
       let new_names : Once (map (λ d. l.new (declared_name d)) l.held) = once_mapped declared_name (λ d. l.new (declared_name d)) l.held held (λ a b c d e. one_name a b c d e) in
-      subst (λ z. Once (map declared_name z)) (sym l.whole) (subst Once (sym (map_map declared_name (renamed_declaration l.new) (λ d. l.new (declared_name d)) (λ d. sym (name_declared (renamed_declaration l.new d)) ∙ name_renamed l.new d) l.held)) new_names)
+      subst (λ z. Once (map declared_name z)) (sym l.whole) (subst Once (sym (map_map declared_name (renamed_declaration l.new) (λ d. l.new (declared_name d)) (λ d. name_renamed l.new d) l.held)) new_names)
     where
       one_name : (a b : Decl) → Contains l.held a → Contains l.held b → l.new (declared_name a) ≡ l.new (declared_name b) → declared_name a ≡ declared_name b
       one_name a b c d e =

@@ -10,7 +10,8 @@ use Rattle.wesl_sources.specs.Modules.{Path, Modules, Declares}
 use Rattle.wesl_resolve.specs.Found.{unit_of, not_found, faulty}
 use Rattle.wesl_sources.specs.Rounds.{Sources, Refusal, too_many_modules, module_not_found, syntax, duplicate_symbol, missing_decl, scope_names, AreDistinct, IsFirstAgain, Loads, all_loaded, one_too_many, is_not_found, is_faulty, has_a_name_twice, loaded_then_refused, loaded, IsNextRound, NoneRefused, IsFirstRefused, Goes, an_occurrence_refused, nothing_asked, a_module_refused, a_round, IsFirstUnkept, ComesTo, root_refused, kept_name_missing, goes_on}
 use Rattle.wesl_meaning.specs.Determined.{listed, IsFunctional, SameOutcome, LoadingComesToOne}
-use Rattle.wesl_meaning.proofs.Members.{first_in, in_cases, in_none, length_map}
+use Rattle.wgsl_items.proofs.Members.{first_in, in_cases, in_none}
+use Rattle.wesl_meaning.proofs.Members.{length_map}
 use Rattle.wesl_meaning.proofs.Order.{ascending_same}
 use Rattle.wesl_meaning.proofs.Loading.{Apart, next_apart, loading}
 use Rattle.wesl_meaning.proofs.Splits.{again_once, again_not_distinct, unkept_once}

@@ -3,7 +3,7 @@ use Rattle.std.proofs.Common.{◌≡◌, ◌⊎◌, inl, inr, List, [], ◌∷�
 use Rattle.std.proofs.lemmas.List.Elements.{Contains-append_left, Contains-append_cases}
 use Rattle.wesl_sources.specs.Occurrences.{Name}
 use Rattle.wesl_sources.specs.Rounds.{AreDistinct, no_names, another}
-use Rattle.wesl_meaning.proofs.Members.{first_in, later_in, in_cases, in_none, in_map}
+use Rattle.wgsl_items.proofs.Members.{first_in, later_in, in_cases, in_none, in_map}
 
 -- from the front
 abbrev pub Once : List Name → Type 0

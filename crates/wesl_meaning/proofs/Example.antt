@@ -15,7 +15,7 @@ use Rattle.wesl_sources.specs.Linked.{IsNaming, nothing_left, takes, IsInOrder, 
 use Rattle.wesl_sources.specs.Loaded.{AreLoaded, IsClashFree}
 use Rattle.wesl_meaning.specs.SourcePrograms.{of_none, of_more}
 use Rattle.wesl_meaning.specs.Example.{const_of_two, entry_of, root_path, other_path, import_of_two, root_unit, other_unit, two_modules, linked_unit, entry, the_two, PremisesAreMet}
-use Rattle.wesl_meaning.proofs.Members.{first_in, later_in, in_cases, in_none, same_bytes, bytes_same}
+use Rattle.wgsl_items.proofs.Members.{first_in, later_in, in_cases, in_none, same_bytes, bytes_same}
 use Rattle.wesl_meaning.proofs.Symbols.{printed_once}
 use Rattle.wesl_meaning.proofs.Exists.{sources_are}
 

@@ -5,18 +5,18 @@ use Rattle.std.specs.Str.{bytes_eq}
 use Rattle.wgsl_path.specs.declared.path.ModulePath.{ModulePath}
 use Rattle.wgsl_path.specs.Paths.{path_text}
 use Rattle.wgsl_syntax.specs.Tree.{Decl, Imp, Unit}
+use Rattle.wgsl_syntax.specs.Names.{declared_name}
 use Rattle.wgsl_meaning.specs.Names.{Name, Symbol, find_decl}
 use Rattle.wgsl_meaning.specs.Programs.{Program}
-use Rattle.wesl_sources.specs.Occurrences.{declared_name}
 use Rattle.wesl_sources.specs.Modules.{Path, Modules, IsModule, local_name, IsImport, IsDeclaration, Denotes, own, imported}
 use Rattle.wesl_sources.specs.Modules.{Symbol as SourceSymbol}
 use Rattle.wesl_sources.specs.Rounds.{scope_names}
 use Rattle.wesl_sources.specs.Linked.{AreLinkedModules, no_module, a_module, IsLinked}
 use Rattle.wesl_sources.specs.Loaded.{AreLoaded}
 use Rattle.wesl_meaning.specs.SourcePrograms.{source_symbol, declared_symbol, AreHeld, of_none, of_more, IsHeldList, IsProgramOf, unit_at, import_at, declared_at, item_of, if_declared, import_target, imported_symbol, own_or_imported, denoted_in, sources}
-use Rattle.wesl_meaning.proofs.Members.{first_in, later_in, in_cases, in_none, in_map, from_map, same_bytes, bytes_same}
+use Rattle.wgsl_items.proofs.Members.{first_in, later_in, in_cases, in_none, in_map, from_map, same_bytes, bytes_same}
 use Rattle.wesl_meaning.proofs.Distinct.{Once, once_of, once_left, once_right, once_same}
-use Rattle.wesl_meaning.proofs.Symbols.{name_declared, found_in, finds_one, one_unit}
+use Rattle.wesl_meaning.proofs.Symbols.{found_in, finds_one, one_unit}
 
 -- ---- look-ups
 
@@ -55,15 +55,15 @@ import_there x (j ∷ js) i c e = at (λ d. import_there x js i d e) (bytes_eq x
     at more false is (inr d) = more d
 
 declares_if : (x : Name) (ds : List Decl) (d : Decl) → find_decl x ds ≡ Some d → Contains (map declared_name ds) x
-declares_if x ds d e = let f = found_in x ds d e in subst (Contains (map declared_name ds)) (sym (name_declared d) ∙ f.1) (in_map declared_name ds d f.0)
+declares_if x ds d e = let f = found_in x ds d e in subst (Contains (map declared_name ds)) f.1 (in_map declared_name ds d f.0)
 
 declares_none : (x : Name) (ds : List Decl) → find_decl x ds ≡ None → Contains (map declared_name ds) x → ⊥
 declares_none x ds e c =
     let d = from_map declared_name ds x c in
-    let f = finds_one x ds d.0 d.1 (name_declared d.0 ∙ d.2) in absurd (cc (e, f.1))
+    let f = finds_one x ds d.0 d.1 d.2 in absurd (cc (e, f.1))
 
 declares_some : (x : Name) (ds : List Decl) → Contains (map declared_name ds) x → (d : Decl) × (find_decl x ds ≡ Some d)
-declares_some x ds c = let d = from_map declared_name ds x c in finds_one x ds d.0 d.1 (name_declared d.0 ∙ d.2)
+declares_some x ds c = let d = from_map declared_name ds x c in finds_one x ds d.0 d.1 d.2
 
 none_cases : (x : Name) (ds : List Decl) → (Contains (map declared_name ds) x → ⊥) → (o : Option Decl) → find_decl x ds ≡ o → o ≡ None
 none_cases x ds n None e = refl
@@ -84,14 +84,14 @@ module _ (modules : Modules) (root : Path) (keep : List Name) (loaded : AreLoade
   item_declares : (s : Symbol) (d : Decl) (o : Option Unit) → unit_at modules (path_text s.home) ≡ o → declared_at s.called o ≡ Some d → IsDeclaration modules (source_symbol s) d
   item_declares s d None e f = absurd (cc)
   item_declares s d (Some u) e f = let there = found_in s.called u.declarations d f in
-      record { unit = u; is_module = unit_is modules (path_text s.home) u e; stands = there.0; name = sym (name_declared d) ∙ there.1 }
+      record { unit = u; is_module = unit_is modules (path_text s.home) u e; stands = there.0; name = there.1 }
 
   declared_item : (s : Symbol) (d : Decl) → IsDeclaration modules (source_symbol s) d → item_of modules s ≡ Some d
   declared_item s d i =
-      let f = finds_one s.called i.unit.declarations d i.stands (name_declared d ∙ i.name) in
+      let f = finds_one s.called i.unit.declarations d i.stands i.name in
       let there = found_in s.called i.unit.declarations f.0 f.1 in
       let o = once_right (map local_name i.unit.imports) (map declared_name i.unit.declarations) (once_in (path_text s.home) i.unit i.is_module) in
-      let same : f.0 ≡ d = once_same declared_name i.unit.declarations o f.0 d there.0 i.stands (sym (name_declared f.0) ∙ there.1 ∙ sym i.name) in
+      let same : f.0 ≡ d = once_same declared_name i.unit.declarations o f.0 d there.0 i.stands (there.1 ∙ sym i.name) in
       ap (declared_at s.called) (unit_found (path_text s.home) i.unit i.is_module) ∙ f.1 ∙ ap Some same
 
   -- ---- what names denote

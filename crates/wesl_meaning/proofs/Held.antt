@@ -1,7 +1,8 @@
 -- Held symbols and the declarations of the linked unit.
 use Rattle.std.proofs.Common.{◌≡◌, ◌≢◌, ◌⊎◌, inl, inr, Some, sym, ap, ◌∙◌, subst, List}
 use Rattle.wgsl_syntax.specs.Tree.{Decl, Unit}
-use Rattle.wgsl_meaning.specs.Names.{Name, find_decl, name_of}
+use Rattle.wgsl_syntax.specs.Names.{declared_name}
+use Rattle.wgsl_meaning.specs.Names.{Name, find_decl}
 use Rattle.wesl_sources.specs.Modules.{Path, Symbol, Modules, Reached}
 use Rattle.wesl_sources.specs.Names.{IsPrinted}
 use Rattle.wesl_sources.specs.Linked.{IsTaken}
@@ -17,8 +18,8 @@ module _ (modules : Modules) (root : Path) (keep : List Name) (unit : Unit) (wel
   abbrev pub symbol_of : (e : Decl) → From e → Symbol
   symbol_of e o = declared_symbol o.home o.declaration
 
-  pub origin_printed : (e : Decl) (o : From e) → IsPrinted modules root (symbol_of e o) (name_of e)
-  origin_printed e o = subst (IsPrinted modules root (symbol_of e o)) (sym (name_renamed o.new o.declaration) ∙ ap name_of o.is)
+  pub origin_printed : (e : Decl) (o : From e) → IsPrinted modules root (symbol_of e o) (declared_name e)
+  origin_printed e o = subst (IsPrinted modules root (symbol_of e o)) (sym (name_renamed o.new o.declaration) ∙ ap declared_name o.is)
       (named_as modules root keep well.loaded o.home o.unit o.new o.declaration o.is_module o.naming o.stands)
 
   -- held symbols with one name are one
@@ -30,8 +31,8 @@ module _ (modules : Modules) (root : Path) (keep : List Name) (unit : Unit) (wel
       at (inr n) = absurd (well.clash_free.unshared y (record { one = s; other = t; differ = n; one_held = r; other_held = q; one_printed = a; other_printed = b }))
 
   -- what has a held symbol's name comes from its declaration
-  pub origin_same : (s : Symbol) (e : Decl) → Reached modules root keep s → IsPrinted modules root s (name_of e) → (o : From e) → symbol_of e o ≡ s
-  origin_same s e r a o = held_once (symbol_of e o) s (name_of e) o.reached r (origin_printed e o) a
+  pub origin_same : (s : Symbol) (e : Decl) → Reached modules root keep s → IsPrinted modules root s (declared_name e) → (o : From e) → symbol_of e o ≡ s
+  origin_same s e r a o = held_once (symbol_of e o) s (declared_name e) o.reached r (origin_printed e o) a
 
   -- a name that is declared there is a held symbol's
   pub taken : (x : Name) (e : Decl) → find_decl x unit.declarations ≡ Some e → IsTaken modules root keep x

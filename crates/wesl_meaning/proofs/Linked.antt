@@ -2,11 +2,13 @@
 use Rattle.std.proofs.Common.{◌≡◌, ℕ, ◌⊎◌, inl, inr, List, [], ◌∷◌, ◌++◌, map, Option, Some, None, Bool, true, false, refl, sym, ap, ◌∙◌, subst, Contains}
 use Rattle.std.specs.Prelude.{IsTrue}
 use Rattle.std.proofs.lemmas.List.Elements.{Contains-append_left, Contains-append_right}
+use Rattle.wgsl_items.proofs.Bools.{none_if, false_if}
 use Rattle.wgsl_path.specs.Paths.{path_text}
 use Rattle.wgsl_syntax.specs.Tree.{Decl, Unit}
+use Rattle.wgsl_syntax.specs.Names.{declared_name}
 use Rattle.wgsl_meaning.specs.declared.value.Value.{Value}
 use Rattle.wgsl_meaning.specs.Outcome.{Outcome, Done, Failed, Deep}
-use Rattle.wgsl_meaning.specs.Names.{Name, Symbol, find_decl, name_of}
+use Rattle.wgsl_meaning.specs.Names.{Name, Symbol, find_decl}
 use Rattle.wgsl_meaning.specs.Programs.{Program, Inputs, run, here, program_of}
 use Rattle.wesl_sources.specs.Occurrences.{is_among, occurrences, names_before, names_behind, names_in_body, locals}
 use Rattle.wesl_sources.specs.Modules.{Path, Modules, IsModule, IsFree, IsDeclaration, Denotes, Reached, kept, onto}
@@ -16,20 +18,12 @@ use Rattle.wesl_sources.specs.Linked.{renamed_declaration, IsNaming, Selects, Ar
 use Rattle.wesl_meaning.specs.Alike.{Alike}
 use Rattle.wesl_meaning.specs.SourcePrograms.{source_symbol, declared_symbol, AreHeld, of_none, of_more, IsProgramOf}
 use Rattle.wesl_meaning.specs.Runs.{AreLinkedWell, IsKept, LinkedUnitsRunAlike, LinkedUnitsEndWell}
-use Rattle.wesl_meaning.proofs.Members.{first_in}
+use Rattle.wgsl_items.proofs.Members.{first_in}
 use Rattle.wesl_meaning.proofs.Renamed.{DeclFits}
 use Rattle.wesl_meaning.proofs.Programs.{Means, of_symbol, of_none as of_no_symbol, Stands, Corresponds, all_there, next, runs_alike}
 use Rattle.wesl_meaning.proofs.Order.{order_once}
 use Rattle.wesl_meaning.proofs.Held.{origin_same, taken}
 use Rattle.wesl_meaning.proofs.Symbols.{name_renamed, selected_from, selected_once, found_in, one_unit, free_denotes_none, named_as, Origin, origin, name_there}
-
-none_if : {A : Type 0} (o : Option A) → ((x : A) → o ≡ Some x → ⊥) → o ≡ None
-none_if (Some x) h = absurd (h x refl)
-none_if None h = refl
-
-false_if : (b : Bool) → (b ≡ true → ⊥) → b ≡ false
-false_if true h = absurd (h refl)
-false_if false h = refl
 
 is_true : (b : Bool) → b ≡ true → IsTrue b
 is_true true e = refl
@@ -85,7 +79,7 @@ module _ (modules : Modules) (root : Path) (keep : List Name) (unit : Unit) (p :
 
   -- ---- held symbols stand in the unit
 
-  stands_from : (s : Symbol) (y : Name) (h : IsHeld s y) (e : Decl) → find_decl y unit.declarations ≡ Some e → name_of e ≡ y → (o : From e) → declared_symbol o.home o.declaration ≡ source_symbol s → Stands p unit.declarations IsHeld s y
+  stands_from : (s : Symbol) (y : Name) (h : IsHeld s y) (e : Decl) → find_decl y unit.declarations ≡ Some e → declared_name e ≡ y → (o : From e) → declared_symbol o.home o.declaration ≡ source_symbol s → Stands p unit.declarations IsHeld s y
   stands_from s y h e f n o same =
       let home : o.home ≡ path_text s.home = ap (λ z. z.home) same in
       let declares : IsDeclaration modules (source_symbol s) o.declaration =
@@ -110,7 +104,7 @@ module _ (modules : Modules) (root : Path) (keep : List Name) (unit : Unit) (p :
   -- symbols, each with its declaration in the unit
   data Paired : List SourceSymbol → List Decl → Type 0 where
     no_pairs : Paired [] []
-    one_pair : {ss : List SourceSymbol} {es : List Decl} (s : SourceSymbol) (e : Decl) → Reached modules root keep s → IsPrinted modules root s (name_of e) → Paired ss es → Paired (s ∷ ss) (e ∷ es)
+    one_pair : {ss : List SourceSymbol} {es : List Decl} (s : SourceSymbol) (e : Decl) → Reached modules root keep s → IsPrinted modules root s (declared_name e) → Paired ss es → Paired (s ∷ ss) (e ∷ es)
 
   paired_module : (m : Path) (u : Unit) (new : Name → Name) → IsModule modules m u → IsNaming modules root m new → (held : List Decl)
       → ((d : Decl) → Contains held d → Contains u.declarations d × Reached modules root keep (declared_symbol m d)) → (ss : List SourceSymbol) (es : List Decl) → Paired ss es
@@ -139,7 +133,7 @@ module _ (modules : Modules) (root : Path) (keep : List Name) (unit : Unit) (p :
   corresponds (h ∷ hs) _ _ e (one_pair {ss = ss} {es = es} s d r q rest) =
       let first : source_symbol h ≡ s = cc in
       let others : map source_symbol hs ≡ ss = cc in
-      next h d (record { reached = subst (Reached modules root keep) (sym first) r; printed = subst (λ z. IsPrinted modules root z (name_of d)) (sym first) q }) (corresponds hs ss es others rest)
+      next h d (record { reached = subst (Reached modules root keep) (sym first) r; printed = subst (λ z. IsPrinted modules root z (declared_name d)) (sym first) q }) (corresponds hs ss es others rest)
 
   all_correspond : Corresponds p unit.declarations IsHeld stands p.held unit.declarations
   all_correspond =

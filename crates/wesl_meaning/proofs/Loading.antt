@@ -5,12 +5,13 @@ use Rattle.std.proofs.lemmas.List.Elements.{Contains-append_left, Contains-appen
 use Rattle.wgsl_path.specs.declared.path.ModulePath.{ModulePath}
 use Rattle.wgsl_path.specs.Paths.{path_text}
 use Rattle.wgsl_syntax.specs.Tree.{Decl, Imp, Unit}
+use Rattle.wgsl_syntax.specs.Names.{declared_name}
 use Rattle.wesl_resolve.specs.Found.{unit_of}
-use Rattle.wesl_sources.specs.Occurrences.{Name, occurrences, declared_name}
+use Rattle.wesl_sources.specs.Occurrences.{Name, occurrences}
 use Rattle.wesl_sources.specs.Modules.{Path, Symbol, Modules, IsModule, Declares, Imports, local_name, IsImport, IsImported, IsMissing, lacking, bare, IsPrivate, IsFree, IsDeclaration, Denotes, own, imported, Reached}
 use Rattle.wesl_sources.specs.Rounds.{Sources, Refusal, missing_decl, private, scope_names, AreDistinct, Loads, all_loaded, loaded, IsAscending, IsNextRound, NoneRefused, Goes, nothing_asked, a_round, ComesTo, goes_on}
 use Rattle.wesl_sources.specs.Loaded.{AreLoaded}
-use Rattle.wesl_meaning.proofs.Members.{first_in, later_in, in_cases, in_none, from_map, same_bytes, bytes_same}
+use Rattle.wgsl_items.proofs.Members.{first_in, later_in, in_cases, in_none, from_map, same_bytes, bytes_same}
 use Rattle.wesl_meaning.proofs.Order.{behind_first, rest_ascends, not_before}
 use Rattle.wesl_meaning.proofs.Exists.{unit_is, unit_there, import_is, import_there}
 use Rattle.wesl_meaning.specs.Runs.{AreFound, WhatIsLoaded}

@@ -7,7 +7,7 @@ use Rattle.wesl_sources.specs.Occurrences.{Name}
 use Rattle.wesl_sources.specs.Modules.{Path, Symbol, Modules, IsModule, IsImport, IsImported, IsMissing, lacking, bare, IsPrivate, IsFree, IsUnloaded, IsDeclaration, Denotes, own, imported, Reached, kept, onto, IsAsked}
 use Rattle.wesl_sources.specs.Rounds.{Refusal, IsNextRound, IsRefusedAt, NoneRefused, IsFirstRefused}
 use Rattle.wesl_meaning.specs.Determined.{listed}
-use Rattle.wesl_meaning.proofs.Members.{in_map, from_map}
+use Rattle.wgsl_items.proofs.Members.{in_map, from_map}
 
 -- the same units at the same printed paths
 abbrev pub SameUnits : Modules → Modules → Type 0

@@ -7,7 +7,7 @@ use Rattle.std.proofs.lemmas.Cmp.{nat_list_cmp_total, tied_itself}
 use Rattle.wesl_sources.specs.Modules.{Path, Modules}
 use Rattle.wesl_sources.specs.Rounds.{IsBefore, IsAscending, no_path, one_path, one_before}
 use Rattle.wesl_sources.specs.Linked.{IsInOrder}
-use Rattle.wesl_meaning.proofs.Members.{first_in, later_in, in_cases, in_none}
+use Rattle.wgsl_items.proofs.Members.{first_in, later_in, in_cases, in_none}
 
 before_trans : (p q r : Path) → IsBefore p q → IsBefore q r → IsBefore p r
 before_trans p q r a b = nat_list_cmp_total.trans p q r a b

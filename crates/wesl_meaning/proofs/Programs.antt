@@ -2,6 +2,7 @@
 use Rattle.std.proofs.Common.{◌≡◌, ℕ, zero, suc, List, [], ◌∷◌, map, Option, Some, None, refl, sym, ap, ◌∙◌, subst}
 use Rattle.wgsl_path.specs.declared.path.ModulePath.{ModulePath}
 use Rattle.wgsl_syntax.specs.Tree.{Decl}
+use Rattle.wgsl_syntax.specs.Names.{declared_name}
 use Rattle.wgsl_meaning.specs.declared.value.ShaderStage.{ShaderStage}
 use Rattle.wgsl_meaning.specs.declared.value.ShaderStage.TheVariants.{Const, Override, Exec}
 use Rattle.wgsl_meaning.specs.declared.value.Value.{Value}
@@ -9,7 +10,7 @@ use Rattle.wgsl_meaning.specs.declared.value.NumericType.{NumericType}
 use Rattle.wgsl_meaning.specs.declared.fault.Fault.TheVariants.{Name as Named}
 use Rattle.wgsl_meaning.specs.declared.fault.NameFault.TheVariants.{UnknownDecl, NotType}
 use Rattle.wgsl_meaning.specs.Outcome.{Failed, at_once}
-use Rattle.wgsl_meaning.specs.Names.{Name, Symbol, find_decl, name_of, built_in_type}
+use Rattle.wgsl_meaning.specs.Names.{Name, Symbol, find_decl, built_in_type}
 use Rattle.wgsl_meaning.specs.Meaning.{World, const_in, call_in, call_type}
 use Rattle.wgsl_meaning.specs.Programs.{Program, const_at, called_at, call_type_at, type_at, Inside, opened, inside, world, Inputs, entered, started_by, started, run, root, here, here_if, plain}
 use Rattle.wgsl_meaning.proofs.Simulates.{same_stage}
@@ -162,17 +163,17 @@ module _ (p : Program) (ds : List Decl) (IsHeld : Symbol → Name → Type 0) wh
     -- the held symbols in order, each with its declaration in the unit
     pub data Corresponds : List Symbol → List Decl → Type 0 where
       all_there : Corresponds [] []
-      next : {ss : List Symbol} {es : List Decl} (s : Symbol) (e : Decl) → IsHeld s (name_of e) → Corresponds ss es → Corresponds (s ∷ ss) (e ∷ es)
+      next : {ss : List Symbol} {es : List Decl} (s : Symbol) (e : Decl) → IsHeld s (declared_name e) → Corresponds ss es → Corresponds (s ∷ ss) (e ∷ es)
 
-    started_alike_in_turn : (k : ℕ) (ss : List Symbol) (es : List Decl) → Corresponds ss es → Alike (Unit {0}) (started p k ss) (started (plain ds) k (map (λ d. here (name_of d)) es))
+    started_alike_in_turn : (k : ℕ) (ss : List Symbol) (es : List Decl) → Corresponds ss es → Alike (Unit {0}) (started p k ss) (started (plain ds) k (map (λ d. here (declared_name d)) es))
     started_alike_in_turn k [] [] all_there = refl
     started_alike_in_turn k [] (e ∷ es) h = elim h [ ]
     started_alike_in_turn k (s ∷ ss) [] h = elim h [ ]
     started_alike_in_turn k (s ∷ ss) (e ∷ es) (next _ _ held rest) =
-        kept_alike.going_on (Unit {0}) (Unit {0}) (started_by (world p k Const s.home) s.called (p.item s)) (started_by (world (plain ds) k Const root) (name_of e) (find_decl (name_of e) ds)) _ _
-        (started_of s (name_of e) held (world p k Const s.home) (world (plain ds) k Const root) (worlds_meet k Const s.home)) (λ v. started_alike_in_turn k ss es rest)
+        kept_alike.going_on (Unit {0}) (Unit {0}) (started_by (world p k Const s.home) s.called (p.item s)) (started_by (world (plain ds) k Const root) (declared_name e) (find_decl (declared_name e) ds)) _ _
+        (started_of s (declared_name e) held (world p k Const s.home) (world (plain ds) k Const root) (worlds_meet k Const s.home)) (λ v. started_alike_in_turn k ss es rest)
 
     pub runs_alike : Corresponds p.held ds → (k : ℕ) (s : Symbol) (y : Name) (inputs : Inputs) → IsHeld s y → Alike (Option Value) (run p k s inputs) (run (plain ds) k (here y) inputs)
     runs_alike all k s y inputs held =
-        kept_alike.going_on (Unit {0}) (Option Value) (started p k p.held) (started (plain ds) k (map (λ d. here (name_of d)) ds)) _ _ (started_alike_in_turn k p.held ds all) (λ v.
+        kept_alike.going_on (Unit {0}) (Option Value) (started p k p.held) (started (plain ds) k (map (λ d. here (declared_name d)) ds)) _ _ (started_alike_in_turn k p.held ds all) (λ v.
         entered_of s y held (world p k Exec s.home) (world (plain ds) k Exec root) (world p k Const s.home) (world (plain ds) k Const root) inputs (worlds_meet k Exec s.home) (worlds_meet k Const s.home))

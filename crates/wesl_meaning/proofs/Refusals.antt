@@ -8,10 +8,11 @@ use Rattle.std.proofs.lemmas.Cmp.{nat_list_cmp_total}
 use Rattle.std.proofs.lemmas.Map.Text.{is_eq-slice_cmp}
 use Rattle.wgsl_path.specs.Paths.{path_text}
 use Rattle.wgsl_syntax.specs.Tree.{Imp, Unit}
-use Rattle.wesl_sources.specs.Occurrences.{Name, occurrences, declared_name}
+use Rattle.wgsl_syntax.specs.Names.{declared_name}
+use Rattle.wesl_sources.specs.Occurrences.{Name, occurrences}
 use Rattle.wesl_sources.specs.Modules.{Path, Symbol, Modules, IsModule, Imports, local_name, IsImport, IsImported, IsMissing, lacking, bare, IsPrivate}
 use Rattle.wesl_sources.specs.Rounds.{Refusal, missing_decl, private, scope_names, IsBefore, IsRefusedAt, StandsBefore, by_module, by_declaration, by_occurrence, IsFirstRefused}
-use Rattle.wesl_meaning.proofs.Members.{same_bytes}
+use Rattle.wgsl_items.proofs.Members.{same_bytes}
 use Rattle.wesl_meaning.proofs.Distinct.{once_of, once_left, once_same}
 use Rattle.wesl_meaning.proofs.Loading.{Apart}
 

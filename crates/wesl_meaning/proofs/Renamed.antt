@@ -20,7 +20,8 @@ use Rattle.wesl_sources.specs.Occurrences.{is_among, unless_local, in_expression
 use Rattle.wesl_sources.specs.Linked.{new_name, renamed, all_renamed, renamed_type, renamed_attributes, renamed_statement, renamed_block, renamed_parameter, renamed_declaration}
 use Rattle.wesl_meaning.specs.Alike.{Alike}
 use Rattle.wesl_meaning.proofs.Outcomes.{alike_refl, kept_alike, Yields, yields_on, yields_then, alike_then}
-use Rattle.wesl_meaning.proofs.Members.{first_in, length_map, locals_of, find_none, find_some}
+use Rattle.wgsl_items.proofs.Members.{first_in}
+use Rattle.wesl_meaning.proofs.Members.{length_map, locals_of, find_none, find_some}
 
 -- what these names mean in one world, their new names mean in the other
 pub record Meets (new : Name → Name) (Q : Name → Type 0) (w u : World) : Type 0 where

@@ -5,7 +5,7 @@ use Rattle.wgsl_syntax.specs.Tree.{Unit}
 use Rattle.wesl_sources.specs.Occurrences.{Name}
 use Rattle.wesl_sources.specs.Modules.{Path}
 use Rattle.wesl_sources.specs.Rounds.{Sources, AreDistinct, IsFirstAgain, IsFirstUnkept}
-use Rattle.wesl_meaning.proofs.Members.{first_in}
+use Rattle.wgsl_items.proofs.Members.{first_in}
 use Rattle.wesl_meaning.proofs.Distinct.{Once, once_of}
 use Rattle.wesl_meaning.proofs.Declared.{away}
 

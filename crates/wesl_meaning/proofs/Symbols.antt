@@ -6,23 +6,19 @@ use Rattle.std.proofs.lemmas.List.Elements.{Contains-append_left, Contains-appen
 use Rattle.wgsl_path.specs.declared.path.ModulePath.{ModulePath}
 use Rattle.wgsl_path.specs.Paths.{path_text}
 use Rattle.wgsl_syntax.specs.Tree.{Decl, variable, function, Unit}
-use Rattle.wgsl_meaning.specs.Names.{Name, find_decl, name_of}
-use Rattle.wesl_sources.specs.Occurrences.{declared_name}
+use Rattle.wgsl_syntax.specs.Names.{declared_name}
+use Rattle.wgsl_meaning.specs.Names.{Name, find_decl}
 use Rattle.wesl_sources.specs.Modules.{Path, Symbol, Modules, IsModule, Declares, Imports, local_name, IsFree, IsDeclaration, Denotes, own, imported, Reached, kept, onto}
 use Rattle.wesl_resolve.specs.Mangling.{mangled}
 use Rattle.wesl_sources.specs.Names.{IsPrinted, stays, is_mangled}
 use Rattle.wesl_sources.specs.Linked.{renamed_declaration, IsNaming, Selects, nothing_left, takes, leaves, IsInOrder, IsLinkedModule, AreLinkedModules, no_module, a_module, IsLinked}
 use Rattle.wesl_sources.specs.Loaded.{AreLoaded}
 use Rattle.wesl_meaning.specs.SourcePrograms.{declared_symbol}
-use Rattle.wesl_meaning.proofs.Members.{first_in, later_in, in_cases, in_none, in_map, from_map, same_bytes, bytes_same}
+use Rattle.wgsl_items.proofs.Members.{first_in, later_in, in_cases, in_none, in_map, from_map, same_bytes, bytes_same}
 
 -- ---- names of declarations
 
-pub name_declared : (d : Decl) → name_of d ≡ declared_name d
-name_declared (variable attributes kind x t e) = refl
-name_declared (function attributes x ps return_attributes t body) = refl
-
-pub name_renamed : (new : Name → Name) (d : Decl) → name_of (renamed_declaration new d) ≡ new (declared_name d)
+pub name_renamed : (new : Name → Name) (d : Decl) → declared_name (renamed_declaration new d) ≡ new (declared_name d)
 name_renamed new (variable attributes kind x t e) = refl
 name_renamed new (function attributes x ps return_attributes t body) = refl
 
@@ -71,21 +67,21 @@ selected_once P (x ∷ xs) ys zs (leaves n a) (leaves k b) = selected_once P xs 
 
 -- ---- what is found by name
 
-pub found_in : (y : Name) (ds : List Decl) (e : Decl) → find_decl y ds ≡ Some e → Contains ds e × (name_of e ≡ y)
+pub found_in : (y : Name) (ds : List Decl) (e : Decl) → find_decl y ds ≡ Some e → Contains ds e × (declared_name e ≡ y)
 found_in y [] e f = absurd (cc)
-found_in y (d ∷ ds) e f = at (found_in y ds e) (bytes_eq y (name_of d)) refl f
+found_in y (d ∷ ds) e f = at (found_in y ds e) (bytes_eq y (declared_name d)) refl f
   where
-    at : (find_decl y ds ≡ Some e → Contains ds e × (name_of e ≡ y)) → (b : Bool) → bytes_eq y (name_of d) ≡ b → (if b then Some d else find_decl y ds) ≡ Some e → Contains (d ∷ ds) e × (name_of e ≡ y)
-    at more true is g = let s : d ≡ e = cc in (subst (Contains (d ∷ ds)) s (first_in d ds), ap name_of (sym s) ∙ sym (same_bytes y (name_of d) is))
+    at : (find_decl y ds ≡ Some e → Contains ds e × (declared_name e ≡ y)) → (b : Bool) → bytes_eq y (declared_name d) ≡ b → (if b then Some d else find_decl y ds) ≡ Some e → Contains (d ∷ ds) e × (declared_name e ≡ y)
+    at more true is g = let s : d ≡ e = cc in (subst (Contains (d ∷ ds)) s (first_in d ds), ap declared_name (sym s) ∙ sym (same_bytes y (declared_name d) is))
     at more false is g = let r = more g in (later_in e d ds r.0, r.1)
 
-pub finds_one : (y : Name) (ds : List Decl) (e : Decl) → Contains ds e → name_of e ≡ y → (f : Decl) × (find_decl y ds ≡ Some f)
+pub finds_one : (y : Name) (ds : List Decl) (e : Decl) → Contains ds e → declared_name e ≡ y → (f : Decl) × (find_decl y ds ≡ Some f)
 finds_one y [] e c n = absurd (in_none e c)
-finds_one y (d ∷ ds) e c n = at (λ r. finds_one y ds e r n) (bytes_eq y (name_of d)) refl (in_cases d ds e c)
+finds_one y (d ∷ ds) e c n = at (λ r. finds_one y ds e r n) (bytes_eq y (declared_name d)) refl (in_cases d ds e c)
   where
-    at : (Contains ds e → (f : Decl) × (find_decl y ds ≡ Some f)) → (b : Bool) → bytes_eq y (name_of d) ≡ b → (d ≡ e) ⊎ Contains ds e → (f : Decl) × ((if b then Some d else find_decl y ds) ≡ Some f)
+    at : (Contains ds e → (f : Decl) × (find_decl y ds ≡ Some f)) → (b : Bool) → bytes_eq y (declared_name d) ≡ b → (d ≡ e) ⊎ Contains ds e → (f : Decl) × ((if b then Some d else find_decl y ds) ≡ Some f)
     at more true is cases = (d, refl)
-    at more false is (inl s) = let t : bytes_eq y (name_of d) ≡ true = ap (bytes_eq y) (ap name_of s ∙ n) ∙ bytes_same y in absurd (cc)
+    at more false is (inl s) = let t : bytes_eq y (declared_name d) ≡ true = ap (bytes_eq y) (ap declared_name s ∙ n) ∙ bytes_same y in absurd (cc)
     at more false is (inr r) = more r
 
 -- ---- modules

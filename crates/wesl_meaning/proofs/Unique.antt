@@ -3,13 +3,14 @@ use Rattle.std.proofs.Common.{◌≡◌, ◌⊎◌, inl, inr, List, [], ◌∷�
 use Rattle.std.specs.Prelude.{if◌then◌else◌}
 use Rattle.std.proofs.lemmas.List.Elements.{Contains-append_left, Contains-append_right}
 use Rattle.wgsl_syntax.specs.Tree.{Exp, Exps, literal, parenthesized, unary, binary, call, named, nil, cons, Typ, simple, templated, Attr, fragment, location, Stm, returning, Block, Param, Decl, variable, function, Unit as Module}
-use Rattle.wesl_sources.specs.Occurrences.{Name, is_among, unless_local, in_expression, in_expressions, in_type, in_some, in_attribute, in_attributes, in_statement, in_block, in_parameter, parameter_names, occurrences, declared_name}
+use Rattle.wgsl_syntax.specs.Names.{declared_name}
+use Rattle.wesl_sources.specs.Occurrences.{Name, is_among, unless_local, in_expression, in_expressions, in_type, in_some, in_attribute, in_attributes, in_statement, in_block, in_parameter, parameter_names, occurrences}
 use Rattle.wesl_sources.specs.Modules.{Path, Symbol, Modules, IsModule, IsFree, Denotes, Reached}
 use Rattle.wesl_sources.specs.Linked.{new_name, renamed, all_renamed, renamed_type, renamed_attribute, renamed_attributes, renamed_statement, renamed_block, renamed_parameter, renamed_declaration, IsNaming, Selects, IsLinkedModule, AreLinkedModules, no_module, a_module, IsLinked}
 use Rattle.wesl_sources.specs.Loaded.{AreLoaded}
 use Rattle.wesl_meaning.specs.SourcePrograms.{declared_symbol}
 use Rattle.wesl_meaning.specs.Unique.{LinkedUnitsAreOne}
-use Rattle.wesl_meaning.proofs.Members.{first_in}
+use Rattle.wgsl_items.proofs.Members.{first_in}
 use Rattle.wesl_meaning.proofs.Order.{order_once}
 use Rattle.wesl_meaning.proofs.Symbols.{selected_from, selected_once, one_unit, printed_once, named_as}
 

@@ -2,8 +2,9 @@
 use Rattle.std.specs.Prelude.{◌≡◌, List, map, Some, None, false}
 use Rattle.std.specs.List.{Contains}
 use Rattle.wgsl_syntax.specs.Tree.{Decl, Unit}
+use Rattle.wgsl_syntax.specs.Names.{declared_name}
 use Rattle.wgsl_meaning.specs.Names.{find_decl}
-use Rattle.wesl_sources.specs.Occurrences.{Name, is_among, occurrences, names_in_body, locals, declared_name}
+use Rattle.wesl_sources.specs.Occurrences.{Name, is_among, occurrences, names_in_body, locals}
 use Rattle.wesl_sources.specs.Modules.{Path, Symbol, Modules, Declares, IsFree, IsDeclaration, Denotes, Reached}
 use Rattle.wesl_sources.specs.Names.{IsPrinted}
 use Rattle.wesl_sources.specs.Rounds.{AreDistinct}

@@ -2,7 +2,8 @@
 use Rattle.std.specs.Prelude.{◌≡◌, List, [], ◌∷◌, ◌++◌, map}
 use Rattle.std.specs.List.{Contains}
 use Rattle.wgsl_syntax.specs.Tree.{Decl, Unit}
-use Rattle.wesl_sources.specs.Occurrences.{Name, names_before, names_behind, names_in_body, locals, declared_name}
+use Rattle.wgsl_syntax.specs.Names.{declared_name}
+use Rattle.wesl_sources.specs.Occurrences.{Name, names_before, names_behind, names_in_body, locals}
 use Rattle.wesl_sources.specs.Modules.{Path, Symbol, Modules, IsModule, Reached}
 use Rattle.wesl_sources.specs.Names.{IsPrinted}
 use Rattle.wesl_sources.specs.Linked.{IsInOrder, IsShared, Clashes}

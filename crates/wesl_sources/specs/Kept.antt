@@ -2,7 +2,8 @@
 use Rattle.std.specs.Prelude.{List, [], ◌∷◌, Bool, true, false, if◌then◌else◌}
 use Rattle.std.specs.List.{list_any, flat_map}
 use Rattle.wgsl_syntax.specs.Tree.{Attr, fragment, location, Decl, variable, function, Unit}
-use Rattle.wesl_sources.specs.Occurrences.{Name, declared_name}
+use Rattle.wgsl_syntax.specs.Names.{declared_name}
+use Rattle.wesl_sources.specs.Occurrences.{Name}
 
 -- an attribute of an entry point (WGSL, "Entry Point Declaration")
 abbrev pub is_stage : Attr → Bool

@@ -3,6 +3,7 @@
 use Rattle.std.specs.Prelude.{ℕ, List, [], ◌∷◌, ◌++◌, map, Option, Some, None, Bool, if◌then◌else◌}
 use Rattle.std.specs.List.{flat_map, list_any}
 use Rattle.std.specs.Str.{bytes_eq}
+pub use Rattle.wgsl_syntax.specs.Names.{declared_name}
 use Rattle.wgsl_syntax.specs.Tree.{Exp, literal, parenthesized, unary, binary, call, named, Exps, nil, cons, Typ, simple, templated, Attr, fragment, location, Stm, returning, Block, Param, Decl, variable, function}
 
 abbrev pub Name : Type 0
@@ -82,7 +83,3 @@ names_in_body (function attributes x parameters return_attributes type body) = i
 -- the names that occur in a declaration and denote something beyond it, in text order
 abbrev pub occurrences : Decl → List Name
 occurrences d = names_before d ++ names_behind d ++ names_in_body d
-
-abbrev pub declared_name : Decl → Name
-declared_name (variable attributes kind x type initializer) = x
-declared_name (function attributes x parameters return_attributes type body) = x

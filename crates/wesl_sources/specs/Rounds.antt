@@ -8,8 +8,9 @@ use Rattle.wgsl_path.specs.declared.path.ModulePath.{ModulePath}
 use Rattle.wgsl_path.specs.Paths.{path_text}
 use Rattle.wgsl_token.specs.declared.error.Error.{Error}
 use Rattle.wgsl_syntax.specs.Tree.{Decl, Unit}
+use Rattle.wgsl_syntax.specs.Names.{declared_name}
 use Rattle.wesl_resolve.specs.Found.{Answer, unit_of, not_found, faulty}
-use Rattle.wesl_sources.specs.Occurrences.{Name, occurrences, declared_name}
+use Rattle.wesl_sources.specs.Occurrences.{Name, occurrences}
 use Rattle.wesl_sources.specs.Modules.{Path, Symbol, Modules, Declares, local_name, IsModule, IsMissing, IsPrivate, Reached, IsAsked}
 
 -- what is found at each path

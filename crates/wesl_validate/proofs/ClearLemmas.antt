@@ -12,13 +12,15 @@ use Rattle.wgsl_path.specs.declared.span.Spanned.{Spanned}
 use Rattle.wgsl_syntax.specs.declared.declaration.GlobalDeclaration.{GlobalDeclaration}
 use Rattle.wgsl_syntax.specs.declared.unit.TranslationUnit.{TranslationUnit}
 use Rattle.wgsl_syntax.specs.View.{declaration_tree, unit_tree}
-use Rattle.wesl_validate.specs.Scopes.{Name, name_of, names, is_in}
+use Rattle.wesl_validate.specs.Scopes.{Name, names, is_in}
 use Rattle.wgsl_syntax.specs.Tree.{Decl}
+use Rattle.wgsl_syntax.specs.Names.{declared_name}
 use Rattle.wesl_validate.specs.First.{first}
 use Rattle.wesl_validate.specs.Lookups.{trees, declared}
 use Rattle.wesl_validate.specs.Clearness.{is_shared, is_unclear_global, is_unclear_local, unclear_in, unclear, sharing_of, is_shared_by, is_declared_by}
-use Rattle.wesl_validate.proofs.TreeLemmas.{map-map}
-use Rattle.wesl_validate.proofs.PositionLemmas.{same_text, bytes_eq-comm}
+use Rattle.std.proofs.lemmas.Simd.{map-map}
+use Rattle.wgsl_items.proofs.Members.{same_bytes}
+use Rattle.wesl_validate.proofs.PositionLemmas.{bytes_eq-comm}
 use Rattle.wesl_validate.proofs.FaultLemmas.{declared_more}
 
 or-false : (b : Bool) → (b || false) ≡ b
@@ -48,7 +50,7 @@ sharing_push xs y x =
   where
     at : (b : Bool) → bytes_eq x y ≡ b
         → (if (is_in x xs || b) then Some (if b then is_in x xs else is_shared x xs) else None) ≡ cond b (Some (is_in y xs)) (sharing_of x xs)
-    at true e = ap (λ t. if t then Some (is_in x xs) else None) (or_right (is_in x xs) true refl) ∙ ap (λ t. Some (is_in t xs)) (same_text x y e)
+    at true e = ap (λ t. if t then Some (is_in x xs) else None) (or_right (is_in x xs) true refl) ∙ ap (λ t. Some (is_in t xs)) (same_bytes x y e)
     at false e = ap (λ t. if t then Some (is_shared x xs) else None) (or-false (is_in x xs))
 
 is_some-sharing : (x : Name) (xs : List Name) → is_some (sharing_of x xs) ≡ is_in x xs
@@ -59,14 +61,14 @@ is_some-sharing x xs = at (is_in x xs)
     at false = refl
 
 pub sharing_more : (ds : List (Spanned GlobalDeclaration)) (i : ℕ) (d : Spanned GlobalDeclaration) → i < length ds → d ≡ get_or ds i d
-    → (old new : Name → Option Bool) (x : Name) (again : Bool) → x ≡ name_of (declaration_tree d.node) → again ≡ is_some (old x)
+    → (old new : Name → Option Bool) (x : Name) (again : Bool) → x ≡ declared_name (declaration_tree d.node) → again ≡ is_some (old x)
     → ((q : Name) → old q ≡ sharing_of q (declared (take i ds)))
     → ((q : Name) → new q ≡ cond (bytes_eq x q) (Some again) (old q))
     → (q : Name) → new q ≡ sharing_of q (declared (take (i + 1) ds))
 sharing_more ds i d within at old new x again same seen was is q =
     is q
     ∙ (λ k. cond (bytes_eq (same k) q) (Some ((seen ∙ ap is_some (was x) ∙ is_some-sharing x (declared (take i ds)) ∙ ap (λ t. is_in t (declared (take i ds))) same) k)) (was q k))
-    ∙ sym (sharing_push (declared (take i ds)) (name_of (declaration_tree d.node)) q)
+    ∙ sym (sharing_push (declared (take i ds)) (declared_name (declaration_tree d.node)) q)
     ∙ sym (ap (sharing_of q) (declared_more ds i d within at))
 
 shared_none : (x : Name) (xs : List Name) → is_in x xs ≡ false → is_shared x xs ≡ false
@@ -113,7 +115,7 @@ pub unclear_are : (u : TranslationUnit) (ds : List (Spanned GlobalDeclaration)) 
     → ((x : Name) → look x ≡ sharing_of x (declared ds))
     → flat_map (unclear_in (is_shared_by look table) (is_declared_by look table)) (trees ds) ≡ unclear (unit_tree u) table
 unclear_are u ds look table are is =
-    let names_are : names (unit_tree u) ≡ declared u.global_declarations = map-map name_of (λ n. declaration_tree n.node) u.global_declarations in
+    let names_are : names (unit_tree u) ≡ declared u.global_declarations = map-map declared_name (λ n. declaration_tree n.node) u.global_declarations in
     let globals : declared ds ≡ names (unit_tree u) = ap declared are ∙ sym names_are in
     let global : (x : Name) → is_shared_by look table x ≡ is_unclear_global table (names (unit_tree u)) x =
     λ x. ap (λ b. is_in x table || b) (ap (λ o. unwrap_or o false) (is x) ∙ unwrap-sharing x (declared ds) ∙ ap (is_shared x) globals) in

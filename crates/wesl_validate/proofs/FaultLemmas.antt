@@ -8,15 +8,27 @@ use Rattle.std.proofs.lemmas.List.{take_more, drop_more, map-append, length-map}
 use Rattle.wgsl_path.specs.declared.span.Spanned.{Spanned}
 use Rattle.wgsl_syntax.specs.declared.declaration.GlobalDeclaration.{GlobalDeclaration}
 use Rattle.wgsl_syntax.specs.View.{declaration_tree}
+use Rattle.wgsl_syntax.specs.Names.{declared_name}
 use Rattle.wesl_validate.specs.declared.error.ValidateError.TheVariants.{Duplicate}
 use Rattle.wesl_validate.specs.declared.error.ValidateFault.{ValidateFault}
-use Rattle.wesl_validate.specs.declared.error.Refusal.{Refusal}
-use Rattle.wesl_validate.specs.declared.error.Refusal.TheVariants.{Fault, OutOfMemory}
-use Rattle.wesl_validate.specs.Scopes.{Name, name_of, parameters_of, is_in}
+use Rattle.wgsl_items.specs.declared.error.OrOutOfMemory.{OrOutOfMemory}
+use Rattle.wgsl_items.specs.declared.error.OrOutOfMemory.TheVariants.{Error, OutOfMemory}
+use Rattle.wgsl_items.specs.Memory.{UnlessOutOfMemory}
+use Rattle.wesl_validate.specs.Scopes.{Name, parameters_of, is_in}
 use Rattle.wesl_validate.specs.Lookups.{trees, declared}
 use Rattle.wesl_validate.proofs.PositionLemmas.{position-push}
 use Rattle.wesl_validate.specs.First.{first}
-use Rattle.wesl_validate.specs.Faults.{fault, again, repeats, duplicates, Refuses, Finds, IsRefusalOf}
+use Rattle.wesl_validate.specs.Faults.{fault, again, repeats, duplicates, IsFirstOf, Finds}
+
+abbrev pub Refusal : Type 0
+Refusal = OrOutOfMemory ValidateFault
+
+-- the first of these faults, unless memory was refused
+abbrev pub Refuses : List ValidateFault → Refusal → Type 0
+Refuses fs = UnlessOutOfMemory (IsFirstOf fs)
+
+abbrev pub IsRefusalOf : ValidateFault → Refusal → Type 0
+IsRefusalOf f = UnlessOutOfMemory (λ g. g ≡ f)
 
 first-append : (fs gs : List ValidateFault) (f : ValidateFault) → first fs ≡ Some f → first (fs ++ gs) ≡ Some f
 first-append [] gs f h = cc
@@ -24,7 +36,7 @@ first-append (x ∷ fs) gs f h = h
 
 -- a refusal for these faults is one for these and more
 pub Refuses-append : (fs gs : List ValidateFault) (e : Refusal) → Refuses fs e → Refuses (fs ++ gs) e
-Refuses-append fs gs (Fault f) h = first-append fs gs f h
+Refuses-append fs gs (Error f) h = first-append fs gs f h
 Refuses-append fs gs OutOfMemory h = tt
 
 -- through `?`
@@ -35,16 +47,16 @@ Finds-through U fs e (Err x) p h = subst (Refuses fs) (sym p) h
 
 -- a refusal for the first of some faults
 pub Refuses-first : (f : ValidateFault) (rest : List ValidateFault) (e : Refusal) → IsRefusalOf f e → Refuses (f ∷ rest) e
-Refuses-first f rest (Fault g) h = ap Some (sym h)
+Refuses-first f rest (Error g) h = ap Some (sym h)
 Refuses-first f rest OutOfMemory h = tt
 
 -- ---- duplicates
 
 abbrev nm : Spanned GlobalDeclaration → Name
-nm n = name_of (declaration_tree n.node)
+nm n = declared_name (declaration_tree n.node)
 
 abbrev pub inside : GlobalDeclaration → List ValidateFault
-inside g = repeats (name_of (declaration_tree g)) [] (parameters_of (declaration_tree g))
+inside g = repeats (declared_name (declaration_tree g)) [] (parameters_of (declaration_tree g))
 
 module _ (ds : List (Spanned GlobalDeclaration)) (i : ℕ) (d : Spanned GlobalDeclaration) (within : i < length ds) (is : d ≡ get_or ds i d) where
   dropped : drop i ds ≡ d ∷ drop (i + 1) ds

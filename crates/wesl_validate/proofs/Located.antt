@@ -2,7 +2,9 @@
 use Rattle.std.proofs.Common.{◌≡◌, ◌⊎◌, inl, inr, ⊎_elim, ℕ, zero, suc, List, [], ◌∷◌, ◌++◌, map, Bool, true, false, Option, Some, None, refl, sym, ap, subst, arith, Contains}
 use Rattle.std.specs.Prelude.{if◌then◌else◌, slice_get}
 use Rattle.std.specs.List.{flat_map}
+use Rattle.wgsl_items.proofs.Members.{first_in, later_in, to_contains, get_map}
 use Rattle.wgsl_syntax.specs.Tree.{Decl, Unit}
+use Rattle.wgsl_syntax.specs.Names.{declared_name}
 use Rattle.wesl_validate.specs.declared.error.ValidateError.{ValidateError}
 use Rattle.wesl_validate.specs.declared.error.ValidateError.TheVariants.{UndefinedSymbol, Duplicate}
 use Rattle.wesl_validate.specs.declared.error.ValidateFault.{ValidateFault}
@@ -10,29 +12,11 @@ use Rattle.wesl_validate.specs.declared.place.Meaning.{Meaning}
 use Rattle.wesl_validate.specs.declared.place.Meaning.TheVariants.{Local, Global, Free}
 use Rattle.wesl_validate.specs.declared.place.Place.{Place}
 use Rattle.wesl_validate.specs.declared.place.Row.{Row}
-use Rattle.wesl_validate.specs.Scopes.{Name, name_of, parameters_of, is_in, names, global_of, row_of, rows}
+use Rattle.wesl_validate.specs.Scopes.{Name, parameters_of, is_in, names, global_of, row_of, rows}
 use Rattle.wesl_validate.specs.First.{first}
 use Rattle.wesl_validate.specs.Faults.{fault, again, repeats, duplicates, undefined_in, undefined_at, call_fault, maybe_fault, miscall_at, faults_at, duplicate, undefined, miscall, ring}
 use Rattle.wesl_validate.specs.Located.{FaultsAreInDeclarations}
-use Rattle.wesl_validate.proofs.TreeLemmas.{map-map}
-
--- ---- members
-
-pub first_in : {X : Type 0} (x : X) (xs : List X) → Contains (x ∷ xs) x
-first_in x xs = (zero, omega arith, refl)
-
-pub later_in : {X : Type 0} (x y : X) (xs : List X) → Contains xs x → Contains (y ∷ xs) x
-later_in x y xs h = let less = h.1 in (suc h.0, omega arith, h.2)
-
-element_in : {X : Type 0} (xs : List X) (i : ℕ) (x : X) → slice_get xs i ≡ Some x → Contains xs x
-element_in [] i x h = absurd (cc)
-element_in (y ∷ xs) zero x h = let same : y ≡ x = cc in subst (Contains (y ∷ xs)) same (first_in y xs)
-element_in (y ∷ xs) (suc i) x h = later_in x y xs (element_in xs i x h)
-
-element_of_map : {X Y : Type 0} (f : X → Y) (xs : List X) (i : ℕ) (x : X) → slice_get xs i ≡ Some x → slice_get (map f xs) i ≡ Some (f x)
-element_of_map f [] i x h = absurd (cc)
-element_of_map f (y ∷ xs) zero x h = let same : y ≡ x = cc in ap (λ z. Some (f z)) same
-element_of_map f (y ∷ xs) (suc i) x h = element_of_map f xs i x h
+use Rattle.std.proofs.lemmas.Simd.{map-map}
 
 -- ---- the first of two lists
 
@@ -67,17 +51,17 @@ maybe_here holder x (Some kind) f h = let same : fault kind holder x ≡ f = cc 
 
 -- ---- all declarations
 
-duplicates_in : (before : List Name) (ds : List Decl) (f : ValidateFault) → first (duplicates before ds) ≡ Some f → Contains (map name_of ds) f.declaration
+duplicates_in : (before : List Name) (ds : List Decl) (f : ValidateFault) → first (duplicates before ds) ≡ Some f → Contains (map declared_name ds) f.declaration
 duplicates_in before [] f h = absurd (cc)
 duplicates_in before (d ∷ ds) f h =
-    ⊎_elim (λ inside. ⊎_elim (λ a. here (alone_at Duplicate (name_of d) (name_of d) (is_in (name_of d) before) f a))
-    (λ p. here (repeats_at (name_of d) [] (parameters_of d) f p))
-    (either_first (again (name_of d) before (name_of d)) (repeats (name_of d) [] (parameters_of d)) f inside))
-    (λ more. later_in f.declaration (name_of d) (map name_of ds) (duplicates_in (before ++ name_of d ∷ []) ds f more))
-    (either_first (again (name_of d) before (name_of d) ++ repeats (name_of d) [] (parameters_of d)) (duplicates (before ++ name_of d ∷ []) ds) f h)
+    ⊎_elim (λ inside. ⊎_elim (λ a. here (alone_at Duplicate (declared_name d) (declared_name d) (is_in (declared_name d) before) f a))
+    (λ p. here (repeats_at (declared_name d) [] (parameters_of d) f p))
+    (either_first (again (declared_name d) before (declared_name d)) (repeats (declared_name d) [] (parameters_of d)) f inside))
+    (λ more. later_in f.declaration (declared_name d) (map declared_name ds) (duplicates_in (before ++ declared_name d ∷ []) ds f more))
+    (either_first (again (declared_name d) before (declared_name d) ++ repeats (declared_name d) [] (parameters_of d)) (duplicates (before ++ declared_name d ∷ []) ds) f h)
   where
-    here : f.declaration ≡ name_of d → Contains (map name_of (d ∷ ds)) f.declaration
-    here same = subst (Contains (map name_of (d ∷ ds))) (sym same) (first_in (name_of d) (map name_of ds))
+    here : f.declaration ≡ declared_name d → Contains (map declared_name (d ∷ ds)) f.declaration
+    here same = subst (Contains (map declared_name (d ∷ ds))) (sym same) (first_in (declared_name d) (map declared_name ds))
 
 -- what is found at a place names the declaration that holds the place
 module _ (at : Name → Place → List ValidateFault) (named : (holder : Name) (p : Place) (f : ValidateFault) → first (at holder p) ≡ Some f → f.declaration ≡ holder) where
@@ -105,4 +89,4 @@ faults_are_in_declarations unit table _ (miscall f d u h) =
     subst (λ xs. Contains xs f.declaration) (names_of_rows unit)
     (faults_in (miscall_at (rows unit)) (λ holder p. maybe_here holder p.name (call_fault (rows unit) p.arguments p.meaning)) (rows unit) f h)
 faults_are_in_declarations unit table _ (ring i r flat is least) =
-    subst (λ xs. Contains xs r.name) (names_of_rows unit) (element_in (map (λ r. r.name) (rows unit)) i r.name (element_of_map (λ (r : Row). r.name) (rows unit) i r is))
+    subst (λ xs. Contains xs r.name) (names_of_rows unit) (to_contains (map (λ r. r.name) (rows unit)) i r.name (get_map (λ (r : Row). r.name) (rows unit) i r is))

@@ -8,16 +8,11 @@ use Rattle.std.specs.Str.{bytes_eq}
 use Rattle.std.proofs.lemmas.Bool.{cond-true, cond-false, or_parts, false≢true, false_from_ne_true, lt-ltb, le-ltb}
 use Rattle.std.proofs.lemmas.Slice.Eq.{bytes_eq-Decides}
 use Rattle.std.proofs.lemmas.Bool.Decides.{same_from_decides}
+use Rattle.wgsl_items.proofs.Members.{same_bytes, bytes_same}
 use Rattle.wesl_validate.specs.Scopes.{Name, is_in}
 
-pub same_text : (x y : Name) → bytes_eq x y ≡ true → x ≡ y
-same_text x y = (bytes_eq-Decides x y).0
-
-pub text_same : (x : Name) → bytes_eq x x ≡ true
-text_same x = (bytes_eq-Decides x x).1 refl
-
 pub bytes_eq-comm : (x y : Name) → bytes_eq x y ≡ bytes_eq y x
-bytes_eq-comm x y = same_from_decides (bytes_eq x y) (bytes_eq y x) (bytes_eq-Decides x y) ((λ e. sym (same_text y x e)), (λ e. (bytes_eq-Decides y x).1 (sym e)))
+bytes_eq-comm x y = same_from_decides (bytes_eq x y) (bytes_eq y x) (bytes_eq-Decides x y) ((λ e. sym (same_bytes y x e)), (λ e. (bytes_eq-Decides y x).1 (sym e)))
 
 ltb-zero : (b : ℕ) → nat_lt 0 (suc b) ≡ true
 ltb-zero b = lt-ltb 0 (suc b) (omega arith)
@@ -70,7 +65,7 @@ position-push (z ∷ zs) y x new =
         cond (bytes_eq x z) (Some 0) (option_map (λ n. 1 + n) (cond b (Some (length zs)) (position (bytes_eq x) zs)))
         ≡ cond b (Some (suc (length zs))) (cond (bytes_eq x z) (Some 0) (option_map (λ n. 1 + n) (position (bytes_eq x) zs)))
     at true e =
-        ap (λ b. cond b (Some 0) (Some (1 + length zs))) (ap (λ t. bytes_eq t z) (sym (same_text y x e)) ∙ (or_parts (bytes_eq y z) (is_in y zs) new).0)
+        ap (λ b. cond b (Some 0) (Some (1 + length zs))) (ap (λ t. bytes_eq t z) (sym (same_bytes y x e)) ∙ (or_parts (bytes_eq y z) (is_in y zs) new).0)
         ∙ ap Some (omega arith)
     at false e = refl
 

@@ -1,5 +1,6 @@
 -- The tree of a call and of a name, from the trees of their parts, and the names that occur in them.
 use Rattle.std.proofs.Common.{◌≡◌, refl, sym, ap, ◌∙◌, ℕ, ◌+◌, length, List, [], ◌∷◌, ◌++◌, map, Option, Some, None, arith}
+use Rattle.std.proofs.lemmas.Simd.{map-map}
 use Rattle.wgsl_path.specs.declared.span.Spanned.{Spanned}
 use Rattle.wgsl_path.specs.declared.ident.Ident.{Ident}
 use Rattle.wgsl_path.specs.declared.path.ModulePath.{ModulePath}
@@ -15,10 +16,6 @@ use Rattle.wgsl_syntax.specs.View.{parameter_tree}
 use Rattle.wgsl_syntax.specs.declared.declaration.FormalParameter.{FormalParameter}
 use Rattle.wesl_validate.specs.Lookups.{local_names}
 use Rattle.wesl_validate.specs.Scopes.{Name, count, exp_places, all_places, type_places}
-
-pub map-map : {A B C : Type 0} (f : B → C) (h : A → B) (xs : List A) → map f (map h xs) ≡ map (λ x. f (h x)) xs
-map-map f h [] = refl
-map-map f h (x ∷ xs) = ap (λ t. f (h x) ∷ t) (map-map f h xs)
 
 module _ {A : Type 0} (f : A → Exp) where
   abbrev node_map : Spanned A → Spanned Exp

@@ -8,15 +8,17 @@ use Rattle.wgsl_syntax.specs.declared.declaration.GlobalDeclaration.{GlobalDecla
 use Rattle.wgsl_syntax.specs.Tree.{Decl, Unit}
 use Rattle.wgsl_syntax.specs.View.{declaration_tree, unit_tree}
 use Rattle.wgsl_syntax.specs.declared.unit.TranslationUnit.{TranslationUnit}
+use Rattle.wgsl_syntax.specs.Names.{declared_name}
 use Rattle.wesl_validate.specs.declared.error.ValidateFault.{ValidateFault}
-use Rattle.wesl_validate.specs.declared.error.Refusal.{Refusal}
-use Rattle.wesl_validate.specs.declared.error.Refusal.TheVariants.{Fault, OutOfMemory}
+use Rattle.wgsl_items.specs.declared.error.OrOutOfMemory.TheVariants.{Error, OutOfMemory}
+use Rattle.wgsl_items.specs.Memory.{UnlessOutOfMemory}
 use Rattle.wesl_validate.specs.declared.place.Row.{Row}
-use Rattle.wesl_validate.specs.Scopes.{Name, name_of, names, global_of, row_of, rows}
+use Rattle.wesl_validate.specs.Scopes.{Name, names, global_of, row_of, rows}
 use Rattle.wesl_validate.specs.Lookups.{trees, declared}
 use Rattle.wesl_validate.specs.Rings.{IsFirstOnRing}
-use Rattle.wesl_validate.specs.Faults.{duplicates, faults_at, undefined_at, miscall_at, duplicates_of, undefined_of, miscalls_of, Refuses, IsFlat, IsFaultless, IsFirstFault, duplicate, undefined, miscall, ring, NamesFirstFault, RefusesRing, FindsRing}
-use Rattle.wesl_validate.proofs.TreeLemmas.{map-map}
+use Rattle.wesl_validate.specs.Faults.{duplicates, faults_at, undefined_at, miscall_at, duplicates_of, undefined_of, miscalls_of, IsFlat, IsFaultless, IsFirstFault, duplicate, undefined, miscall, ring, IsFirstRing, FindsRing}
+use Rattle.wesl_validate.proofs.FaultLemmas.{Refusal, Refuses}
+use Rattle.std.proofs.lemmas.Simd.{map-map}
 
 -- ---- the rows of the code are those of the unit
 
@@ -24,7 +26,7 @@ pub rows_are : (u : TranslationUnit) (ds : List (Spanned GlobalDeclaration)) (lo
     → ((x : Name) → look x ≡ position (bytes_eq x) (declared ds))
     → made ≡ map (row_of look) (trees ds) → made ≡ rows (unit_tree u)
 rows_are u ds look made are is same =
-    let names_are : names (unit_tree u) ≡ declared u.global_declarations = map-map name_of (λ n. declaration_tree n.node) u.global_declarations in
+    let names_are : names (unit_tree u) ≡ declared u.global_declarations = map-map declared_name (λ n. declaration_tree n.node) u.global_declarations in
     let looks : (x : Name) → look x ≡ global_of (unit_tree u) x =
     λ x. is x ∙ ap (λ xs. position (bytes_eq x) (declared xs)) are ∙ ap (position (bytes_eq x)) (sym names_are) in
     same ∙ (λ k. map (row_of (λ x. looks x k)) (trees (are k)))
@@ -34,6 +36,9 @@ distinct_is u ds are h = subst (λ xs. duplicates [] (trees xs) ≡ []) are h
 
 -- ---- each case
 
+abbrev pub NamesFirstFault : Unit → List Name → Refusal → Type 0
+NamesFirstFault unit table = UnlessOutOfMemory (IsFirstFault unit table)
+
 pub through : (U : Type 0) (unit : Unit) (table : List Name) (r : Result U Refusal) (e : Refusal) → IsErrAnd r (λ x. x ≡ e)
     → NamesFirstFault unit table e → IfErr r (NamesFirstFault unit table)
 through U unit table (Ok x) e p h = absurd p
@@ -41,19 +46,19 @@ through U unit table (Err x) e p h = subst (NamesFirstFault unit table) (sym p) 
 
 module _ (unit : Unit) (table : List Name) where
   pub names_duplicate : (e : Refusal) → Refuses (duplicates_of unit) e → NamesFirstFault unit table e
-  names_duplicate (Fault f) h = duplicate f h
+  names_duplicate (Error f) h = duplicate f h
   names_duplicate OutOfMemory h = tt
 
   pub names_undefined : (e : Refusal) → duplicates_of unit ≡ [] → Refuses (undefined_of unit table) e → NamesFirstFault unit table e
-  names_undefined (Fault f) d h = undefined f d h
+  names_undefined (Error f) d h = undefined f d h
   names_undefined OutOfMemory d h = tt
 
   pub names_miscall : (e : Refusal) → duplicates_of unit ≡ [] → undefined_of unit table ≡ [] → Refuses (miscalls_of unit) e → NamesFirstFault unit table e
-  names_miscall (Fault f) d u h = miscall f d u h
+  names_miscall (Error f) d u h = miscall f d u h
   names_miscall OutOfMemory d u h = tt
 
-  pub names_ring : (e : Refusal) → IsFlat unit table → RefusesRing (rows unit) e → NamesFirstFault unit table e
-  names_ring (Fault f) flat h = subst (IsFirstFault unit table) (sym h.3) (ring h.0 h.1 flat h.2 h.4)
+  pub names_ring : (e : Refusal) → IsFlat unit table → UnlessOutOfMemory (IsFirstRing (rows unit)) e → NamesFirstFault unit table e
+  names_ring (Error f) flat h = subst (IsFirstFault unit table) (sym h.3) (ring h.0 h.1 flat h.2 h.4)
   names_ring OutOfMemory flat h = tt
 
   pub faultless : (U : Type 0) (r : Result U Refusal) → IsFlat unit table → FindsRing (rows unit) r → OnOk r (IsFaultless unit table)

@@ -4,7 +4,8 @@ use Rattle.std.specs.Prelude.{ℕ, List, [], ◌∷◌, ◌++◌, filter, Bool, 
 use Rattle.std.specs.List.{flat_map}
 use Rattle.std.specs.Str.{bytes_eq}
 use Rattle.wgsl_syntax.specs.Tree.{Decl, Unit}
-use Rattle.wesl_validate.specs.Scopes.{Name, name_of, parameters_of, names, is_in}
+use Rattle.wgsl_syntax.specs.Names.{declared_name}
+use Rattle.wesl_validate.specs.Scopes.{Name, parameters_of, names, is_in}
 
 -- two of these names are x
 abbrev pub is_shared : Name → List Name → Bool
@@ -19,7 +20,7 @@ is_unclear_local table globals x = is_in x table || is_in x globals
 
 -- the names that a declaration declares and that are unclear by these tests of globals and locals, in text order
 abbrev pub unclear_in : (Name → Bool) → (Name → Bool) → Decl → List Name
-unclear_in global local d = filter global (name_of d ∷ []) ++ filter local (parameters_of d)
+unclear_in global local d = filter global (declared_name d ∷ []) ++ filter local (parameters_of d)
 
 -- the unclear names of a unit, in text order
 abbrev pub unclear : Unit → List Name → List Name
@@ -35,3 +36,7 @@ is_shared_by look table x = is_in x table || unwrap_or (look x) false
 
 abbrev pub is_declared_by : (Name → Option Bool) → List Name → Name → Bool
 is_declared_by look table x = is_in x table || is_some (look x)
+
+-- the unclear names of a declaration, by that look-up
+abbrev pub unclear_by : (Name → Option Bool) → List Name → Decl → List Name
+unclear_by look table = unclear_in (is_shared_by look table) (is_declared_by look table)

@@ -1,19 +1,20 @@
 -- The faults of a unit. Those of a case are listed in text order; the fault of a unit is the first of the first case that
 -- has any. (The order of the cases is this project's own. The cases are errors of WGSL: "Declaration and Scope" for names that
 -- are declared twice, not at all, or by means of themselves; "Function Calls" for callees and arguments.)
-use Rattle.std.specs.Prelude.{◌≡◌, ⊤, ℕ, ◌<◌, List, [], ◌∷◌, ◌++◌, map, length, slice_get, ◌==◌, Option, Some, None, Bool, true, false, if◌then◌else◌, Result, Ok, Err}
+use Rattle.std.specs.Prelude.{◌≡◌, ℕ, ◌<◌, List, [], ◌∷◌, ◌++◌, map, length, slice_get, ◌==◌, Option, Some, None, Bool, true, false, if◌then◌else◌, Result, Ok, Err}
 use Rattle.std.specs.List.{flat_map}
+use Rattle.wgsl_items.specs.declared.error.OrOutOfMemory.{OrOutOfMemory}
+use Rattle.wgsl_items.specs.Memory.{UnlessOutOfMemory}
 use Rattle.wgsl_syntax.specs.Tree.{Decl, Unit}
+use Rattle.wgsl_syntax.specs.Names.{declared_name}
 use Rattle.wesl_validate.specs.declared.error.ValidateError.{ValidateError}
 use Rattle.wesl_validate.specs.declared.error.ValidateError.TheVariants.{UndefinedSymbol, ParamCount, NotCallable, Duplicate, Cycle}
 use Rattle.wesl_validate.specs.declared.error.ValidateFault.{ValidateFault}
-use Rattle.wesl_validate.specs.declared.error.Refusal.{Refusal}
-use Rattle.wesl_validate.specs.declared.error.Refusal.TheVariants.{Fault, OutOfMemory}
 use Rattle.wesl_validate.specs.declared.place.Meaning.{Meaning}
 use Rattle.wesl_validate.specs.declared.place.Meaning.TheVariants.{Local, Global, Free}
 use Rattle.wesl_validate.specs.declared.place.Place.{Place}
 use Rattle.wesl_validate.specs.declared.place.Row.{Row}
-use Rattle.wesl_validate.specs.Scopes.{Name, name_of, parameters_of, is_in, rows}
+use Rattle.wesl_validate.specs.Scopes.{Name, parameters_of, is_in, rows}
 use Rattle.wesl_validate.specs.First.{first}
 use Rattle.wesl_validate.specs.Rings.{IsOnRing, IsFirstOnRing}
 
@@ -33,7 +34,7 @@ repeats holder before (x ∷ xs) = again holder before x ++ repeats holder (befo
 abbrev pub duplicates : List Name → List Decl → List ValidateFault
 duplicates before [] = []
 duplicates before (d ∷ ds) =
-    again (name_of d) before (name_of d) ++ repeats (name_of d) [] (parameters_of d) ++ duplicates (before ++ name_of d ∷ []) ds
+    again (declared_name d) before (declared_name d) ++ repeats (declared_name d) [] (parameters_of d) ++ duplicates (before ++ declared_name d ∷ []) ds
 
 -- ---- a free name that the table does not have
 
@@ -106,33 +107,22 @@ pub data IsFirstFault (unit : Unit) (table : List Name) : ValidateFault → Type
   ring : (i : ℕ) (r : Row) → IsFlat unit table → slice_get (rows unit) i ≡ Some r → IsFirstOnRing (rows unit) i
       → IsFirstFault unit table (fault Cycle r.name r.name)
 
--- what a refusal says of a unit; that memory was refused says nothing
-abbrev pub NamesFirstFault : Unit → List Name → Refusal → Type 0
-NamesFirstFault unit table (Fault f) = IsFirstFault unit table f
-NamesFirstFault unit table OutOfMemory = ⊤
-
 -- ---- the answer of one case
 
--- a refusal is the first of these faults
-abbrev pub Refuses : List ValidateFault → Refusal → Type 0
-Refuses fs (Fault f) = first fs ≡ Some f
-Refuses fs OutOfMemory = ⊤
+-- the first of these faults
+abbrev pub IsFirstOf : List ValidateFault → ValidateFault → Type 0
+IsFirstOf fs f = first fs ≡ Some f
 
--- an answer is the first of these faults, and there is none where it is no refusal
-abbrev pub Finds : {T : Type 0} → List ValidateFault → Result T Refusal → Type 0
+-- an answer is the first of these faults, and there is none where it is no error
+abbrev pub Finds : {T : Type 0} → List ValidateFault → Result T (OrOutOfMemory ValidateFault) → Type 0
 Finds fs (Ok x) = fs ≡ []
-Finds fs (Err e) = Refuses fs e
+Finds fs (Err e) = UnlessOutOfMemory (IsFirstOf fs) e
 
--- a refusal is this fault
-abbrev pub IsRefusalOf : ValidateFault → Refusal → Type 0
-IsRefusalOf f (Fault g) = g ≡ f
-IsRefusalOf f OutOfMemory = ⊤
+-- the fault of the first declaration on a ring
+abbrev pub IsFirstRing : List Row → ValidateFault → Type 0
+IsFirstRing rows f = (i : ℕ) × (r : Row) × (slice_get rows i ≡ Some r) × (f ≡ fault Cycle r.name r.name) × IsFirstOnRing rows i
 
--- an answer is the first declaration on a ring, and there is none where it is no refusal
-abbrev pub RefusesRing : List Row → Refusal → Type 0
-RefusesRing rows (Fault f) = (i : ℕ) × (r : Row) × (slice_get rows i ≡ Some r) × (f ≡ fault Cycle r.name r.name) × IsFirstOnRing rows i
-RefusesRing rows OutOfMemory = ⊤
-
-abbrev pub FindsRing : {T : Type 0} → List Row → Result T Refusal → Type 0
+-- an answer is the first declaration on a ring, and there is none where it is no error
+abbrev pub FindsRing : {T : Type 0} → List Row → Result T (OrOutOfMemory ValidateFault) → Type 0
 FindsRing rows (Ok x) = (i : ℕ) → IsOnRing rows i → ⊥
-FindsRing rows (Err e) = RefusesRing rows e
+FindsRing rows (Err e) = UnlessOutOfMemory (IsFirstRing rows) e

@@ -8,8 +8,9 @@ use Rattle.wgsl_path.specs.declared.span.Spanned.{Spanned}
 use Rattle.wgsl_syntax.specs.declared.declaration.GlobalDeclaration.{GlobalDeclaration}
 use Rattle.wgsl_syntax.specs.Tree.{Decl}
 use Rattle.wgsl_syntax.specs.View.{declaration_tree}
+use Rattle.wgsl_syntax.specs.Names.{declared_name}
 pub use Rattle.wgsl_builtin.specs.Names.{texts}
-use Rattle.wesl_validate.specs.Scopes.{Name, name_of}
+use Rattle.wesl_validate.specs.Scopes.{Name}
 
 -- where an index has a name
 abbrev pub lookup : {X S : Type 0} → HashMap (Bor (List ℕ)) X S → Name → Option X
@@ -23,4 +24,4 @@ abbrev pub trees : List (Spanned GlobalDeclaration) → List Decl
 trees declarations = map (λ n. declaration_tree n.node) declarations
 
 abbrev pub declared : List (Spanned GlobalDeclaration) → List Name
-declared declarations = map (λ n. name_of (declaration_tree n.node)) declarations
+declared declarations = map (λ n. declared_name (declaration_tree n.node)) declarations

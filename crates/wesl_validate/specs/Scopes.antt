@@ -4,6 +4,9 @@ use Rattle.std.specs.List.{flat_map, list_any}
 use Rattle.std.specs.Str.{bytes_eq}
 use Rattle.wgsl_path.specs.declared.path.ModulePath.{ModulePath}
 use Rattle.wgsl_syntax.specs.Tree.{Exp, literal, parenthesized, unary, binary, call, named, Exps, nil, cons, Typ, simple, templated, Attr, fragment, location, Stm, returning, Block, Param, Decl, variable, function, Unit}
+use Rattle.wgsl_syntax.specs.Names.{declared_name}
+-- another name for it, which crates above use
+pub use Rattle.wgsl_syntax.specs.Names.{declared_name as name_of}
 pub use Rattle.wgsl_builtin.specs.Names.{Name, is_in}
 use Rattle.wesl_validate.specs.declared.place.Meaning.{Meaning}
 use Rattle.wesl_validate.specs.declared.place.Meaning.TheVariants.{Local, Global, Free}
@@ -12,10 +15,6 @@ use Rattle.wesl_validate.specs.declared.place.Row.{Row}
 
 -- ---- what is declared
 
-abbrev pub name_of : Decl → Name
-name_of (variable attributes kind name type initializer) = name
-name_of (function attributes name parameters result_attributes result body) = name
-
 -- the names of a function's parameters
 abbrev pub parameters_of : Decl → List Name
 parameters_of (variable attributes kind name type initializer) = []
@@ -23,7 +22,7 @@ parameters_of (function attributes name parameters result_attributes result body
 
 -- the names that a unit declares, in text order
 abbrev pub names : Unit → List Name
-names unit = map name_of unit.declarations
+names unit = map declared_name unit.declarations
 
 -- ---- what a name denotes
 
@@ -96,9 +95,9 @@ head_places global attributes parameters result_attributes result =
     attributes_places global [] attributes ++ flat_map (parameter_places global []) parameters
     ++ attributes_places global [] result_attributes ++ maybe_type_places global [] result
 
--- The parameters are in scope in the statements of the body.
+-- The parameters are in scope in the body, its attributes included.
 abbrev pub body_places : (Name → Option ℕ) → List Name → Block → List Place
-body_places global locals body = attributes_places global [] body.attributes ++ flat_map (statement_places global locals) body.statements
+body_places global locals body = attributes_places global locals body.attributes ++ flat_map (statement_places global locals) body.statements
 
 -- the occurrences in a declaration
 abbrev pub decl_places : (Name → Option ℕ) → Decl → List Place
@@ -118,7 +117,7 @@ arity (function attributes name parameters result_attributes result body) = Some
 
 -- what a declaration declares, and what occurs in it
 abbrev pub row_of : (Name → Option ℕ) → Decl → Row
-row_of global d = record { name = name_of d; parameters = arity d; places = decl_places global d }
+row_of global d = record { name = declared_name d; parameters = arity d; places = decl_places global d }
 
 abbrev pub rows : Unit → List Row
 rows unit = map (row_of (global_of unit)) unit.declarations

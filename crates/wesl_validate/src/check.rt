@@ -5,12 +5,18 @@ ghost use Rattle.std.specs.List.{flat_map};
 ghost use Rattle.wesl_validate.specs.Lookups.{texts};
 ghost use Rattle.wesl_validate.specs.Faults.{undefined_at, miscall_at, call_fault, called_fault, faults_at, Finds};
 
-use crate::error::{Refusal, ValidateError, refused};
+use crate::error::{ValidateError, ValidateFault, refused};
 use crate::place::{Meaning, Place, Row};
 use std::alloc::Global;
 use wgsl_builtin::is_known;
+use wgsl_items::OrOutOfMemory;
 
-fn check_name(alloc: Global, holder: &str, place: &Place, table: &[&str]) -> Result<(), Refusal>
+fn check_name(
+    alloc: Global,
+    holder: &str,
+    place: &Place,
+    table: &[&str],
+) -> Result<(), OrOutOfMemory<ValidateFault>>
     ensures { Finds (undefined_at (texts table.now) holder.now place.now) result }
 {
     match place.meaning {
@@ -26,7 +32,11 @@ fn check_name(alloc: Global, holder: &str, place: &Place, table: &[&str]) -> Res
     }
 }
 
-fn check_names_in(alloc: Global, row: &Row, table: &[&str]) -> Result<(), Refusal>
+fn check_names_in(
+    alloc: Global,
+    row: &Row,
+    table: &[&str],
+) -> Result<(), OrOutOfMemory<ValidateFault>>
     ensures { Finds (flat_map (undefined_at (texts table.now) row.now.name) row.now.places) result }
 {
     for place in row.places.as_slice() {
@@ -36,7 +46,11 @@ fn check_names_in(alloc: Global, row: &Row, table: &[&str]) -> Result<(), Refusa
 }
 
 /// Refuses the first name that is free and not in the table.
-pub fn check_names(alloc: Global, rows: &[Row], table: &[&str]) -> Result<(), Refusal>
+pub fn check_names(
+    alloc: Global,
+    rows: &[Row],
+    table: &[&str],
+) -> Result<(), OrOutOfMemory<ValidateFault>>
     ensures { Finds (faults_at (undefined_at (texts table.now)) rows.now) result }
 {
     for row in rows {
@@ -59,7 +73,12 @@ fn called_fault(rows: &[Row], arguments: usize, meaning: Meaning) -> Option<Vali
     }
 }
 
-fn check_call(alloc: Global, rows: &[Row], holder: &str, place: &Place) -> Result<(), Refusal>
+fn check_call(
+    alloc: Global,
+    rows: &[Row],
+    holder: &str,
+    place: &Place,
+) -> Result<(), OrOutOfMemory<ValidateFault>>
     ensures { Finds (miscall_at rows.now holder.now place.now) result }
 {
     let Some(arguments) = place.arguments else {
@@ -71,7 +90,11 @@ fn check_call(alloc: Global, rows: &[Row], holder: &str, place: &Place) -> Resul
     }
 }
 
-fn check_calls_in(alloc: Global, rows: &[Row], row: &Row) -> Result<(), Refusal>
+fn check_calls_in(
+    alloc: Global,
+    rows: &[Row],
+    row: &Row,
+) -> Result<(), OrOutOfMemory<ValidateFault>>
     ensures { Finds (flat_map (miscall_at rows.now row.now.name) row.now.places) result }
 {
     for place in row.places.as_slice() {
@@ -81,7 +104,7 @@ fn check_calls_in(alloc: Global, rows: &[Row], row: &Row) -> Result<(), Refusal>
 }
 
 /// Refuses the first call of what is no function, or with another number of arguments than the function has parameters.
-pub fn check_calls(alloc: Global, rows: &[Row]) -> Result<(), Refusal>
+pub fn check_calls(alloc: Global, rows: &[Row]) -> Result<(), OrOutOfMemory<ValidateFault>>
     ensures { Finds (faults_at (miscall_at rows.now) rows.now) result }
 {
     for row in rows {

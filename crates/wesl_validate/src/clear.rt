@@ -7,9 +7,8 @@ ghost use Rattle.wgsl_syntax.specs.View.{declaration_tree, unit_tree};
 ghost use Rattle.wesl_validate.specs.First.{first};
 ghost use Rattle.wesl_validate.specs.Scopes.{Name, parameters_of};
 ghost use Rattle.wesl_validate.specs.Lookups.{lookup, local_names, texts, trees, declared};
-ghost use Rattle.wesl_validate.specs.Clearness.{sharing_of, is_shared_by, is_declared_by, unclear_in, unclear};
+ghost use Rattle.wesl_validate.specs.Clearness.{sharing_of, is_shared_by, is_declared_by, unclear_by, unclear};
 
-use crate::place::declared_name;
 use std::alloc::{AllocError, Global};
 use std::collections::HashMap;
 use wgsl_builtin::is_known;
@@ -27,7 +26,7 @@ fn sharing<'a>(
 {
     let mut made = HashMap::new(alloc);
     for declaration in declarations {
-        let name = declared_name(declaration.node());
+        let name = declaration.node().declared_name();
         let again = made.contains_key(name);
         made.insert(name, again)?;
     }
@@ -84,9 +83,9 @@ fn unclear_inside<'a>(
     names: &[&str],
     declaration: &'a GlobalDeclaration,
 ) -> Option<&'a str>
-    ensures { option_copied result ≡ first (unclear_in (is_shared_by (lookup sharing.now) (texts names.now)) (is_declared_by (lookup sharing.now) (texts names.now)) (declaration_tree declaration.now)) }
+    ensures { option_copied result ≡ first (unclear_by (lookup sharing.now) (texts names.now) (declaration_tree declaration.now)) }
 {
-    let name = declared_name(declaration);
+    let name = declaration.declared_name();
     if is_shared(sharing, names, name) {
         return Some(name);
     }
@@ -98,7 +97,7 @@ fn first_unclear<'a>(
     names: &[&str],
     declarations: &'a [GlobalDeclarationNode],
 ) -> Option<&'a str>
-    ensures { option_copied result ≡ first (flat_map (unclear_in (is_shared_by (lookup sharing.now) (texts names.now)) (is_declared_by (lookup sharing.now) (texts names.now))) (trees declarations.now)) }
+    ensures { option_copied result ≡ first (flat_map (unclear_by (lookup sharing.now) (texts names.now)) (trees declarations.now)) }
 {
     for declaration in declarations {
         let found = unclear_inside(sharing, names, declaration.node());

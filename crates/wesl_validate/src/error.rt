@@ -1,11 +1,12 @@
 //! What validation refuses.
 
 ghost use Rattle.std.specs.Prelude.{◌≡◌, IfOk};
-ghost use Rattle.wesl_validate.specs.Faults.{fault, IsRefusalOf};
+ghost use Rattle.wgsl_items.specs.Memory.{UnlessOutOfMemory};
+ghost use Rattle.wesl_validate.specs.Faults.{fault};
 
-use std::alloc::{AllocError, AllocFailed, Global};
+use std::alloc::{AllocError, Global};
 use thiserror::Error as Message;
-use wgsl_items::Text;
+use wgsl_items::{OrOutOfMemory, Text};
 
 /// What kind of fault a unit has.
 #[derive(Clone, Copy, Debug, PartialEq, Eq, Message)]
@@ -36,39 +37,6 @@ pub struct ValidateFault {
     pub name: Text,
 }
 
-/// Why validation answers no `Ok`.
-#[derive(Debug, Drop, PartialEq, Message)]
-pub enum Refusal {
-    /// The first fault of the unit.
-    #[error("{0}")]
-    Fault(ValidateFault),
-    /// Memory was refused. This says nothing of the unit.
-    #[error("out of memory")]
-    OutOfMemory,
-}
-
-impl From<AllocError> for Refusal {
-    ghost use Rattle.std.specs.Prelude.{◌≡◌};
-    ghost use Rattle.wesl_validate.specs.declared.error.Refusal.TheVariants.{OutOfMemory};
-
-    ghost from_gives = { λ _ e. e ≡ OutOfMemory };
-
-    fn from(_: AllocError) -> Refusal {
-        Refusal::OutOfMemory
-    }
-}
-
-impl<T: Drop> From<AllocFailed<T>> for Refusal {
-    ghost use Rattle.std.specs.Prelude.{◌≡◌};
-    ghost use Rattle.wesl_validate.specs.declared.error.Refusal.TheVariants.{OutOfMemory};
-
-    ghost from_gives = { λ _ e. e ≡ OutOfMemory };
-
-    fn from(_: AllocFailed<T>) -> Refusal {
-        Refusal::OutOfMemory
-    }
-}
-
 fn copied_fault(
     alloc: Global,
     kind: ValidateError,
@@ -84,12 +52,17 @@ fn copied_fault(
     })
 }
 
-/// The refusal for a fault.
-pub(crate) fn refused(alloc: Global, kind: ValidateError, declaration: &str, name: &str) -> Refusal
-    ensures { IsRefusalOf (fault kind declaration.now name.now) result }
+/// This fault as an error, or that memory was refused.
+pub(crate) fn refused(
+    alloc: Global,
+    kind: ValidateError,
+    declaration: &str,
+    name: &str,
+) -> OrOutOfMemory<ValidateFault>
+    ensures { UnlessOutOfMemory (λ made. made ≡ fault kind declaration.now name.now) result }
 {
     match copied_fault(alloc, kind, declaration, name) {
-        Ok(made) => Refusal::Fault(made),
-        Err(_) => Refusal::OutOfMemory,
+        Ok(made) => OrOutOfMemory::Error(made),
+        Err(_) => OrOutOfMemory::OutOfMemory,
     }
 }

@@ -3,21 +3,23 @@
 ghost use Rattle.std.specs.Prelude.{◌≡◌, [], position, IfOk};
 ghost use Rattle.std.specs.Str.{bytes_eq};
 ghost use Rattle.wgsl_syntax.specs.View.{declaration_tree};
-ghost use Rattle.wesl_validate.specs.Scopes.{Name, name_of, parameters_of};
+ghost use Rattle.wgsl_syntax.specs.Names.{declared_name};
+ghost use Rattle.wesl_validate.specs.Scopes.{Name, parameters_of};
 ghost use Rattle.wesl_validate.specs.Lookups.{lookup, local_names, trees, declared};
 ghost use Rattle.wesl_validate.specs.Faults.{again, repeats, duplicates, Finds};
 
-use crate::error::{Refusal, ValidateError, refused};
-use crate::place::{Index, declared_name, is_local};
+use crate::error::{ValidateError, ValidateFault, refused};
+use crate::place::{Index, is_local};
 use std::alloc::Global;
 use std::collections::HashMap;
+use wgsl_items::OrOutOfMemory;
 use wgsl_syntax::{FormalParameter, GlobalDeclaration, GlobalDeclarationNode};
 
 fn check_parameters(
     alloc: Global,
     holder: &str,
     parameters: &[FormalParameter],
-) -> Result<(), Refusal>
+) -> Result<(), OrOutOfMemory<ValidateFault>>
     ensures { Finds (repeats holder.now [] (local_names parameters.now)) result }
 {
     for (at, parameter) in parameters.iter().enumerate() {
@@ -29,8 +31,11 @@ fn check_parameters(
     Ok(())
 }
 
-fn check_inside(alloc: Global, declaration: &GlobalDeclaration) -> Result<(), Refusal>
-    ensures { Finds (repeats (name_of (declaration_tree declaration.now)) [] (parameters_of (declaration_tree declaration.now))) result }
+fn check_inside(
+    alloc: Global,
+    declaration: &GlobalDeclaration,
+) -> Result<(), OrOutOfMemory<ValidateFault>>
+    ensures { Finds (repeats (declared_name (declaration_tree declaration.now)) [] (parameters_of (declaration_tree declaration.now))) result }
 {
     match declaration {
         GlobalDeclaration::Declaration(_) => Ok(()),
@@ -46,13 +51,13 @@ fn check_inside(alloc: Global, declaration: &GlobalDeclaration) -> Result<(), Re
 pub fn distinct_names<'a>(
     alloc: Global,
     declarations: &'a [GlobalDeclarationNode],
-) -> Result<Index<'a>, Refusal>
+) -> Result<Index<'a>, OrOutOfMemory<ValidateFault>>
     ensures faults { Finds (duplicates [] (trees declarations.now)) result }
     ensures index { IfOk result (λ index. (x : Name) → lookup index x ≡ position (bytes_eq x) (declared declarations.now)) }
 {
     let mut index = HashMap::new(alloc);
     for (position, declaration) in declarations.iter().enumerate() {
-        let name = declared_name(declaration.node());
+        let name = declaration.node().declared_name();
         if index.contains_key(name) {
             return Err(refused(alloc, ValidateError::Duplicate, name, name));
         }

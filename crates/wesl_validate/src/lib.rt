@@ -11,5 +11,5 @@ mod ring;
 mod validate;
 
 pub use clear::unclear_name;
-pub use error::{Refusal, ValidateError, ValidateFault};
+pub use error::{ValidateError, ValidateFault};
 pub use validate::validate_wesl;

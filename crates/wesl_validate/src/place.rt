@@ -5,7 +5,7 @@ ghost use Rattle.std.specs.List.{flat_map};
 ghost use Rattle.std.specs.Option.{option_map};
 ghost use Rattle.wgsl_syntax.specs.Tree.{exps};
 ghost use Rattle.wgsl_syntax.specs.View.{tree, node_tree, type_tree, attributes_tree, statement_tree, block_tree, parameter_tree, declaration_tree};
-ghost use Rattle.wesl_validate.specs.Scopes.{is_in, denoted, name_places, exp_places, all_places, type_places, attributes_places, maybe_type_places, maybe_exp_places, statement_places, parameter_places, head_places, body_places, decl_places, name_of, arity, row_of};
+ghost use Rattle.wesl_validate.specs.Scopes.{is_in, denoted, name_places, exp_places, all_places, type_places, attributes_places, maybe_type_places, maybe_exp_places, statement_places, parameter_places, head_places, body_places, decl_places, arity, row_of};
 ghost use Rattle.wesl_validate.specs.Lookups.{lookup, local_names, trees};
 
 use std::alloc::{AllocError, Global};
@@ -317,7 +317,7 @@ fn add_body(
 ) -> Result<(), AllocError>
     ensures { OnOk result (places.new ≡ places.old ++ body_places (lookup index.now) (local_names locals.now) (block_tree body.now)) }
 {
-    add_attributes(alloc, index, &[], &body.attributes, places)?;
+    add_attributes(alloc, index, locals, &body.attributes, places)?;
     add_statements(alloc, index, locals, body.statements.as_slice(), places)
 }
 
@@ -364,16 +364,6 @@ fn arity(declaration: &GlobalDeclaration) -> Option<usize>
     }
 }
 
-/// The name that a declaration declares.
-pub fn declared_name(declaration: &GlobalDeclaration) -> &str
-    ensures { result.now ≡ name_of (declaration_tree declaration.now) }
-{
-    match declaration {
-        GlobalDeclaration::Declaration(x) => x.ident.as_str(),
-        GlobalDeclaration::Function(x) => x.ident.as_str(),
-    }
-}
-
 fn made_row(
     alloc: Global,
     index: &Index<'_>,
@@ -382,7 +372,7 @@ fn made_row(
     ensures { IfOk result (λ made. made ≡ row_of (lookup index.now) (declaration_tree declaration.now)) }
 {
     Ok(Row {
-        name: Text::from_str(alloc, declared_name(declaration))?,
+        name: Text::from_str(alloc, declaration.declared_name())?,
         parameters: arity(declaration),
         places: places_in(alloc, index, declaration)?,
     })

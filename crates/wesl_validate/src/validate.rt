@@ -1,19 +1,21 @@
 //! The first fault of a linked unit.
 
 ghost use Rattle.std.specs.Prelude.{OnOk, IfErr};
+ghost use Rattle.wgsl_items.specs.Memory.{UnlessOutOfMemory};
 ghost use Rattle.wgsl_syntax.specs.View.{unit_tree};
 ghost use Rattle.wesl_validate.specs.Lookups.{texts};
-ghost use Rattle.wesl_validate.specs.Faults.{FindsRing, IsFaultless, NamesFirstFault};
+ghost use Rattle.wesl_validate.specs.Faults.{FindsRing, IsFaultless, IsFirstFault};
 
 use crate::check::{check_calls, check_names};
-use crate::error::{Refusal, ValidateError, refused};
+use crate::error::{ValidateError, ValidateFault, refused};
 use crate::index::distinct_names;
 use crate::place::{Row, rows};
 use crate::ring::first_on_ring;
 use std::alloc::Global;
+use wgsl_items::OrOutOfMemory;
 use wgsl_syntax::TranslationUnit;
 
-fn check_rings(alloc: Global, rows: &[Row]) -> Result<(), Refusal>
+fn check_rings(alloc: Global, rows: &[Row]) -> Result<(), OrOutOfMemory<ValidateFault>>
     ensures { FindsRing rows.now result }
 {
     let Some(position) = first_on_ring(alloc, rows)? else {
@@ -25,9 +27,13 @@ fn check_rings(alloc: Global, rows: &[Row]) -> Result<(), Refusal>
 
 /// Whether a linked unit, one module without imports, is faultless; else its first fault. The cases in their order:
 /// duplicates, free names that the table doesn't have, wrong calls, rings of declarations; each in text order.
-pub fn validate_wesl(alloc: Global, unit: &TranslationUnit, names: &[&str]) -> Result<(), Refusal>
+pub fn validate_wesl(
+    alloc: Global,
+    unit: &TranslationUnit,
+    names: &[&str],
+) -> Result<(), OrOutOfMemory<ValidateFault>>
     ensures ok { OnOk result (IsFaultless (unit_tree unit.now) (texts names.now)) }
-    ensures fault { IfErr result (NamesFirstFault (unit_tree unit.now) (texts names.now)) }
+    ensures fault { IfErr result (UnlessOutOfMemory (IsFirstFault (unit_tree unit.now) (texts names.now))) }
 {
     let declarations = unit.global_declarations.as_slice();
     let index = distinct_names(alloc, declarations)?;

@@ -1,21 +1,21 @@
 -- The lowered unit declares the held functions.
 use Rattle.std.proofs.Common.{◌≡◌, ◌⊎◌, inl, inr, List, [], ◌∷◌, map, Option, true, false, Result, Ok, Err, refl, sym, ap, ◌∙◌, subst, Contains}
 use Rattle.wgsl_syntax.specs.Tree.{Attr, Typ, Block, Param, Decl, variable, function, Unit as Module}
+use Rattle.wgsl_syntax.specs.Names.{declared_name}
 use Rattle.wgsl_meaning.specs.Values.{Checked, and_then}
 use Rattle.wgsl_meaning.specs.Names.{Name}
 use Rattle.wgsl_meaning.specs.ConstStage.{Scope, module_scope}
 use Rattle.wgsl_eval.specs.declared.error.Refusal.{Refusal}
 use Rattle.wgsl_eval.specs.Start.{then_more, consts_of}
 use Rattle.wgsl_lower.specs.Lowered.{refusing, lowered_attributes, lowered_parameters, parameter_types, checked_type, lowered_body, with_parameters, lowered_rest, lowered_function, lowered_declarations, lowered_unit}
-use Rattle.wesl_sources.specs.Occurrences.{declared_name}
 use Rattle.wesl_sources.specs.Modules.{Path, Symbol, Modules, Declares, local_name, IsDeclaration}
 use Rattle.wesl_sources.specs.Names.{IsPrinted}
 use Rattle.wesl_sources.specs.Rounds.{scope_names}
 use Rattle.wesl_sources.specs.Linked.{renamed_declaration}
 use Rattle.wesl_meaning.specs.Declared.{IsHeldAs, DeclaresWhatIsHeld}
-use Rattle.wesl_meaning.proofs.Members.{first_in, later_in, in_cases, in_none, in_map, from_map}
+use Rattle.wgsl_items.proofs.Members.{first_in, later_in, in_cases, in_none, in_map, from_map}
 use Rattle.wesl_meaning.proofs.Distinct.{Once, once_of, once_right, once_same}
-use Rattle.wesl_meaning.proofs.Symbols.{name_declared, found_in, one_unit, origin}
+use Rattle.wesl_meaning.proofs.Symbols.{found_in, one_unit, origin}
 use Rattle.wesl_meaning.proofs.Held.{symbol_of, origin_printed}
 use Rattle.wesl_meaning.proofs.Declared.{distinct_of, declares_what_is_held}
 use Rattle.weslc_laws.specs.Compiled.{AreCompiled}
@@ -154,7 +154,7 @@ module _ (modules : Modules) (root : Path) (keep : List Name) (lowered : Module)
       let there = found_in y c.linked.declarations d st.found in
       let is : is_function d ≡ true = renamed_function st.new st.declaration ∙ ap is_function (one_declaration s st.declaration f.declaration st.declares f.declares) ∙ f.function in
       let listed = in_map declared_name (functions_of c.linked.declarations) d (in_functions c.linked.declarations d there.0 is) in
-      subst (Contains (map declared_name lowered.declarations)) (sym (name_declared d) ∙ there.1) (subst (λ l. Contains l (declared_name d)) (sym low.functions.names) listed)
+      subst (Contains (map declared_name lowered.declarations)) there.1 (subst (λ l. Contains l (declared_name d)) (sym low.functions.names) listed)
 
   only_there : (y : Name) → Declares lowered y → (s : Symbol) × IsHeldAs modules root keep s y × IsFunctionOf modules root keep s
   only_there y k =
@@ -162,7 +162,7 @@ module _ (modules : Modules) (root : Path) (keep : List Name) (lowered : Module)
       let there = from_functions c.linked.declarations d.0 d.1 in
       let o = origin modules root keep c.linked_well.loaded c.linked c.linked_well.linked d.0 there.0 in (
         symbol_of modules root keep c.linked c.linked_well d.0 o,
-        record { held = o.reached; printed = subst (IsPrinted modules root (symbol_of modules root keep c.linked c.linked_well d.0 o)) (name_declared d.0 ∙ d.2) (origin_printed modules root keep c.linked c.linked_well d.0 o) },
+        record { held = o.reached; printed = subst (IsPrinted modules root (symbol_of modules root keep c.linked c.linked_well d.0 o)) d.2 (origin_printed modules root keep c.linked c.linked_well d.0 o) },
         record {
           declaration = o.declaration;
           declares = record { unit = o.unit; is_module = o.is_module; stands = o.stands; name = refl };

@@ -1,7 +1,8 @@
 -- What the lowered unit declares.
 use Rattle.std.specs.Prelude.{◌≡◌, List, [], ◌∷◌, map, Bool, true, false}
 use Rattle.wgsl_syntax.specs.Tree.{Decl, variable, function, Unit}
-use Rattle.wesl_sources.specs.Occurrences.{Name, declared_name}
+use Rattle.wgsl_syntax.specs.Names.{declared_name}
+use Rattle.wesl_sources.specs.Occurrences.{Name}
 use Rattle.wesl_sources.specs.Modules.{Path, Symbol, Modules, Declares, IsDeclaration}
 use Rattle.wesl_sources.specs.Rounds.{AreDistinct}
 use Rattle.wesl_meaning.specs.Declared.{IsHeldAs}

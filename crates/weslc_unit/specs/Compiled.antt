@@ -3,8 +3,9 @@ use Rattle.std.specs.Prelude.{◌≡◌, ◌≢◌, ⊤, List, ℕ, [], ◌∷�
 use Rattle.wgsl_token.specs.declared.error.Error.{Error}
 use Rattle.wgsl_token.specs.declared.error.ErrorKind.TheVariants.{ReservedWord}
 use Rattle.wgsl_syntax.specs.declared.unit.TranslationUnit.{TranslationUnit}
-use Rattle.wgsl_syntax.specs.Tree.{Decl, variable, function, Unit}
+use Rattle.wgsl_syntax.specs.Tree.{Decl, Unit}
 use Rattle.wgsl_syntax.specs.View.{unit_tree}
+pub use Rattle.wgsl_syntax.specs.Names.{declared_name}
 use Rattle.wgsl_syntax.specs.Print.{decl_text, unit_text}
 use Rattle.wgsl_parse.specs.Texts.{Derives, IsFaultOf}
 use Rattle.wgsl_laws.specs.Printing.{alone}
@@ -55,10 +56,6 @@ pub record IsCompiled (unit : Unit) (text : List ℕ) : Type 0 where
   pub keeps : Keeps unit.declarations low.declarations
 
 -- ---- what is told where a text is not read back
-
-abbrev pub declared_name : Decl → List ℕ
-declared_name (variable attributes kind x type value) = x
-declared_name (function attributes f parameters result_attributes result body) = f
 
 -- What is told of a declaration with this text and name: the reserved word where the text is at fault there, else the name.
 pub data IsToldOf (text name : List ℕ) : List ℕ → Type 0 where

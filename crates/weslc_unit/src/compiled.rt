@@ -9,9 +9,10 @@ ghost use Rattle.weslc_unit.specs.Compiled.{IsValid, IsClear, IsCompiled, Refuse
 use crate::error::{PrintError, UnitRefusal};
 use crate::printed::print_unit;
 use std::alloc::Global;
-use wesl_validate::{Refusal, unclear_name, validate_wesl};
+use wesl_validate::{unclear_name, validate_wesl};
 use wgsl_builtin::builtin_names;
-use wgsl_lower::{UnitError, lower};
+use wgsl_items::OrOutOfMemory;
+use wgsl_lower::lower;
 use wgsl_syntax::TranslationUnit;
 
 fn check_valid(alloc: Global, unit: &TranslationUnit) -> Result<(), UnitRefusal>
@@ -20,8 +21,8 @@ fn check_valid(alloc: Global, unit: &TranslationUnit) -> Result<(), UnitRefusal>
 {
     match validate_wesl(alloc, unit, builtin_names()) {
         Ok(()) => Ok(()),
-        Err(Refusal::Fault(fault)) => Err(UnitRefusal::Validate(fault)),
-        Err(Refusal::OutOfMemory) => Err(UnitRefusal::OutOfMemory),
+        Err(OrOutOfMemory::Error(fault)) => Err(UnitRefusal::Validate(fault)),
+        Err(OrOutOfMemory::OutOfMemory) => Err(UnitRefusal::OutOfMemory),
     }
 }
 
@@ -42,8 +43,8 @@ fn lowered(alloc: Global, unit: &TranslationUnit) -> Result<TranslationUnit, Uni
 {
     match lower(alloc, unit) {
         Ok(low) => Ok(low),
-        Err(UnitError::Refused(refusal)) => Err(UnitRefusal::Eval(refusal)),
-        Err(UnitError::OutOfMemory) => Err(UnitRefusal::OutOfMemory),
+        Err(OrOutOfMemory::Error(refusal)) => Err(UnitRefusal::Eval(refusal)),
+        Err(OrOutOfMemory::OutOfMemory) => Err(UnitRefusal::OutOfMemory),
     }
 }
 

@@ -6,11 +6,11 @@ ghost use Rattle.wgsl_syntax.specs.View.{declaration_tree, unit_tree};
 ghost use Rattle.wgsl_syntax.specs.Print.{decl_text, unit_text};
 ghost use Rattle.wgsl_laws.specs.Printing.{alone};
 ghost use Rattle.weslc_unit.specs.ByDeclarations.{AreUnprintable};
-ghost use Rattle.weslc_unit.specs.Compiled.{IsTextOf, IsReadAlone, IsUnprintable, declared_name, IsToldOf, TellsOf};
+ghost use Rattle.weslc_unit.specs.Compiled.{IsTextOf, IsReadAlone, IsUnprintable, IsToldOf, TellsOf};
 
 use crate::error::PrintError;
 use std::alloc::{AllocError, Global};
-use wgsl_items::{CloneIn, Text};
+use wgsl_items::Text;
 use wgsl_parse::{ErrorKind, parse_str};
 use wgsl_plain::is_plain_declaration;
 use wgsl_same::{is_same_declaration, is_same_unit};
@@ -75,32 +75,23 @@ pub fn print_declaration(
     if is_read_back(alloc, text.as_str(), declaration)? {
         return Ok(text);
     }
-    let name = told_of(alloc, text.as_str(), name_of(declaration))?;
+    let name = told_of(alloc, text.as_str(), declaration.declared_name())?;
     Err(PrintError::Unprintable(name))
 }
 
 /// What is told of a declaration with this text and name: the reserved word where the text is at fault there, else the name.
-fn told_of(alloc: Global, text: &str, name: &Text) -> Result<Text, AllocError>
+fn told_of(alloc: Global, text: &str, name: &str) -> Result<Text, AllocError>
     ensures { IfOk result (IsToldOf text.now name.now) }
 {
     match parse_str(alloc, text) {
-        Ok(_) => name.clone_in(alloc),
+        Ok(_) => Text::from_str(alloc, name),
         Err(error) => match error.kind {
             ErrorKind::OutOfMemory => Err(AllocError),
             ErrorKind::ReservedWord => {
                 Text::from_str(alloc, &text[error.span.start..error.span.end])
             }
-            _ => name.clone_in(alloc),
+            _ => Text::from_str(alloc, name),
         },
-    }
-}
-
-fn name_of(declaration: &GlobalDeclaration) -> &Text
-    ensures { result.now ≡ declared_name (declaration_tree declaration.now) }
-{
-    match declaration {
-        GlobalDeclaration::Declaration(value) => &value.ident.name,
-        GlobalDeclaration::Function(function) => &function.ident.name,
     }
 }
 

@@ -53,7 +53,7 @@ fn parameters_have_types(rt: HostRuntime) -> Result<(), Fail> {
     };
     let sum = sum(alloc)?;
     let fault = Fault::Name(NameFault::NotAccessible, Text::from_str(alloc, "k")?);
-    assert!(rt; eval_value(alloc, &scope, &sum) == Err(EvalError::Wrong(fault)));
+    assert!(rt; eval_value(alloc, &scope, &sum) == Err(EvalError::Error(fault)));
     assert!(rt; eval_ty(alloc, &scope, &sum) == Ok(NumericType::U32));
     Ok(())
 }

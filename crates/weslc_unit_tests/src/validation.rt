@@ -4,8 +4,9 @@ use crate::units::unit_of;
 use std::alloc::Global;
 use std::process::Abort;
 use std::test::Fail;
-use wesl_validate::{Refusal, ValidateError, unclear_name, validate_wesl};
+use wesl_validate::{ValidateError, unclear_name, validate_wesl};
 use wgsl_builtin::builtin_names;
+use wgsl_items::OrOutOfMemory;
 
 /// Whether the one refusal of a text is of this kind, in this declaration and at this name.
 fn is_told(
@@ -16,7 +17,7 @@ fn is_told(
     name: &str,
 ) -> Result<bool, Fail> {
     match validate_wesl(alloc, &unit_of(alloc, text)?, builtin_names()) {
-        Err(Refusal::Fault(fault)) => Ok(
+        Err(OrOutOfMemory::Error(fault)) => Ok(
             fault.kind == kind
                 && fault.declaration.as_str() == declaration
                 && fault.name.as_str() == name,

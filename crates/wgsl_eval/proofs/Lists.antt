@@ -10,8 +10,9 @@ use Rattle.wgsl_meaning.specs.declared.value.Value.{Value}
 use Rattle.wgsl_meaning.specs.Names.{Name, find, plain_name}
 use Rattle.wgsl_meaning.specs.Meaning.{World, Types, value, values, result_here, called_or, typed, all_typed, result_type_here}
 use Rattle.wgsl_meaning.specs.declared.value.NumericType.{NumericType}
-use Rattle.wgsl_eval.specs.declared.error.EvalError.{EvalError}
-use Rattle.wgsl_eval.specs.declared.error.EvalError.TheVariants.{OutOfMemory, Wrong}
+use Rattle.wgsl_items.specs.declared.error.OrOutOfMemory.{OrOutOfMemory}
+use Rattle.wgsl_items.specs.declared.error.OrOutOfMemory.TheVariants.{Error, OutOfMemory}
+use Rattle.wgsl_meaning.specs.declared.fault.Fault.{Fault}
 use Rattle.wgsl_eval.specs.Ends.{Ends, first_these}
 
 pub pushed : {A : Type 0} (vs : List A) (x : A) (o : Outcome (List A)) → first_these (vs ++ x ∷ []) o ≡ first_these vs (after 0 (andthen o (λ xs. Done (x ∷ xs) 0)))
@@ -23,18 +24,18 @@ pub next_node : (nodes : List (Spanned Expression)) (i : ℕ) (n : Spanned Expre
     exps (map node_tree (drop i nodes)) ≡ cons (node_tree n) (exps (map node_tree (drop (i + 1) nodes)))
 next_node nodes i n lt is = ap (λ l. exps (map node_tree l)) (drop_more nodes i n lt ∙ ap (λ y. y ∷ drop (i + 1) nodes) (sym is))
 
-pub ends_after : {A : Type 0} (o : Outcome A) (r : Result A EvalError) → Ends o r → Ends (after 0 o) r
+pub ends_after : {A : Type 0} (o : Outcome A) (r : Result A (OrOutOfMemory Fault)) → Ends o r → Ends (after 0 o) r
 ends_after o (Ok x) h = ap (after 0) h
 ends_after o (Err OutOfMemory) h = tt
-ends_after o (Err (Wrong f)) h = ap (after 0) h
+ends_after o (Err (Error f)) h = ap (after 0) h
 
 -- a call whose arguments have values
-pub called : (w : World) (t : Typ) (es : Exps) (vs : List Value) (f : Name) (r : Result Value EvalError) → values w [] es ≡ Done vs 0 → plain_name t ≡ Ok f → Ends (w.result_of f vs) r → Ends (value w [] (call t es)) r
+pub called : (w : World) (t : Typ) (es : Exps) (vs : List Value) (f : Name) (r : Result Value (OrOutOfMemory Fault)) → values w [] es ≡ Done vs 0 → plain_name t ≡ Ok f → Ends (w.result_of f vs) r → Ends (value w [] (call t es)) r
 called w t es vs f r e n h =
     subst (λ z. Ends (andthen z (λ xs. result_here w [] (plain_name t) xs)) r) (sym e)
     (subst (λ z. Ends (andthen (Done vs 0) (λ xs. result_here w [] z xs)) r) (sym n) (ends_after (w.result_of f vs) r h))
 
-pub called_typed : (w : World) (env : Types) (t : Typ) (es : Exps) (ts : List NumericType) (f : Name) (r : Result NumericType EvalError) → all_typed w env es ≡ Done ts 0 → plain_name t ≡ Ok f →
+pub called_typed : (w : World) (env : Types) (t : Typ) (es : Exps) (ts : List NumericType) (f : Name) (r : Result NumericType (OrOutOfMemory Fault)) → all_typed w env es ≡ Done ts 0 → plain_name t ≡ Ok f →
     Ends (called_or f (find f env) (w.result_type f ts)) r → Ends (typed w env (call t es)) r
 called_typed w env t es ts f r e n h =
     subst (λ z. Ends (andthen z (λ xs. result_type_here w env (plain_name t) xs)) r) (sym e)

@@ -7,10 +7,10 @@ use Rattle.wgsl_meaning.specs.declared.value.Value.{Value}
 use Rattle.wgsl_meaning.specs.Outcome.{Outcome, Done, Failed, Deep}
 use Rattle.wgsl_meaning.specs.Names.{Name, find_decl}
 use Rattle.wgsl_meaning.specs.ConstStage.{Consts}
-use Rattle.wgsl_eval.specs.declared.error.EvalError.{EvalError}
-use Rattle.wgsl_eval.specs.declared.error.EvalError.TheVariants as E
-use Rattle.wgsl_eval.specs.declared.error.UnitError.{UnitError}
-use Rattle.wgsl_eval.specs.declared.error.UnitError.TheVariants.{OutOfMemory, Refused}
+use Rattle.wgsl_items.specs.declared.error.OrOutOfMemory.{OrOutOfMemory}
+use Rattle.wgsl_items.specs.declared.error.OrOutOfMemory.TheVariants.{Error, OutOfMemory}
+use Rattle.wgsl_meaning.specs.declared.fault.Fault.{Fault}
+use Rattle.wgsl_eval.specs.declared.error.Refusal.{Refusal}
 use Rattle.wgsl_eval.specs.declared.start.Order.{Order}
 use Rattle.wgsl_eval.specs.Ends.{Ends}
 use Rattle.wgsl_eval.specs.Refusals.{IsRefusal, Answers}
@@ -31,10 +31,10 @@ met_now ds k o x some e =
     let deeper : k ≡ suc (k - 1) = omega arith in
     ap (λ n. reached ds n o x) deeper ∙ ap (λ b. if b then o else finishing x (fold (reached ds (k - 1)) (meeting x o) (mentioned (find_decl x ds)))) e
 
-pub refusal : {A : Type 0} (view : A → Consts) (cs : Consts) (x : Name) (o : Outcome Value) (e : EvalError) (u : UnitError) → Ends o (Err e) → IsRefusal x e u → Answers view (added cs x o) (Err u)
+pub refusal : {A : Type 0} (view : A → Consts) (cs : Consts) (x : Name) (o : Outcome Value) (e : OrOutOfMemory Fault) (u : OrOutOfMemory Refusal) → Ends o (Err e) → IsRefusal x e u → Answers view (added cs x o) (Err u)
 refusal view cs x o e OutOfMemory h i = tt
-refusal view cs x o E.OutOfMemory (Refused r) h i = absurd i
-refusal view cs x o (E.Wrong f) (Refused r) h i = ap (added cs x) h ∙ ap Err (sym i)
+refusal view cs x o OutOfMemory (Error r) h i = absurd i
+refusal view cs x o (Error f) (Error r) h i = ap (added cs x) h ∙ ap Err (sym i)
 
 -- a name that is new, after those it mentions
 pub one_reached : (ds : List Decl) (k : ℕ) (o : Order) (x : Name) (seen : List Name) (later : Order) (items rest : List Name) (y z : Name) (done : List Name) →

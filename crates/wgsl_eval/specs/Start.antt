@@ -5,12 +5,13 @@ use Rattle.std.specs.List.{list_any, fold, flat_map}
 use Rattle.std.specs.Str.{bytes_eq}
 use Rattle.wgsl_syntax.specs.Tree.{Exp, Exps, literal, parenthesized, unary, binary, call, named, nil, cons, Typ, simple, templated, Attr, Block, Param, Decl, variable, function}
 use Rattle.wgsl_syntax.specs.declared.declaration.DeclarationKind.{DeclarationKind}
+use Rattle.wgsl_syntax.specs.Names.{declared_name}
 use Rattle.wgsl_meaning.specs.declared.value.Value.{Value}
 use Rattle.wgsl_meaning.specs.declared.fault.Fault.{Fault}
 use Rattle.wgsl_meaning.specs.declared.fault.Fault.TheVariants.{Name as Named}
 use Rattle.wgsl_meaning.specs.declared.fault.NameFault.TheVariants.{CyclicDecl}
 use Rattle.wgsl_meaning.specs.Outcome.{Outcome, Done, Failed, Deep}
-use Rattle.wgsl_meaning.specs.Names.{Name, find_decl, name_of}
+use Rattle.wgsl_meaning.specs.Names.{Name, find_decl}
 use Rattle.wgsl_meaning.specs.Meaning.{const_in}
 use Rattle.wgsl_meaning.specs.ConstStage.{Consts, stage, module_scope}
 use Rattle.wgsl_eval.specs.declared.error.Refusal.{Refusal}

@@ -27,16 +27,6 @@ pub(crate) fn found<T: Copy>(name: &Text, entries: &[(Text, T)]) -> Option<T>
     None
 }
 
-/// The name that a declaration declares.
-pub(crate) fn name_of(declaration: &GlobalDeclaration) -> &Text
-    ensures { result.now ≡ spec.name_of (declaration_tree declaration.now) }
-{
-    match declaration {
-        GlobalDeclaration::Declaration(d) => &d.ident.name,
-        GlobalDeclaration::Function(f) => &f.ident.name,
-    }
-}
-
 /// The first declaration of a name.
 pub(crate) fn declaration<'a>(
     name: &Text,
@@ -47,7 +37,7 @@ pub(crate) fn declaration<'a>(
     let mut rest = declarations;
     while let [first, more @ ..] = rest {
         let declaration = first.node();
-        if name.as_str() == name_of(declaration).as_str() {
+        if name.as_str() == declaration.declared_name() {
             return Some(declaration);
         }
         rest = more;

@@ -3,10 +3,12 @@
 
 mod boxed;
 mod copies;
+mod error;
 mod items;
 mod text;
 
 pub use boxed::Boxed;
 pub use copies::{CloneIn, FromIn};
+pub use error::OrOutOfMemory;
 pub use items::Items;
 pub use text::Text;

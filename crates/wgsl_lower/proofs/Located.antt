@@ -4,12 +4,13 @@ use Rattle.std.specs.Prelude.{if◌then◌else◌}
 use Rattle.std.specs.Str.{bytes_eq}
 use Rattle.std.specs.Cmp.Lexicographic.{same_text}
 use Rattle.wgsl_syntax.specs.Tree.{Decl, variable, function}
+use Rattle.wgsl_syntax.specs.Names.{declared_name}
 use Rattle.wgsl_meaning.specs.declared.value.Value.{Value}
 use Rattle.wgsl_meaning.specs.declared.fault.Fault.TheVariants.{Name as Named}
 use Rattle.wgsl_meaning.specs.declared.fault.NameFault.TheVariants.{CyclicDecl}
 use Rattle.wgsl_meaning.specs.Values.{Checked}
 use Rattle.wgsl_meaning.specs.Outcome.{Outcome, Done, Failed, Deep}
-use Rattle.wgsl_meaning.specs.Names.{Name, find_decl, name_of}
+use Rattle.wgsl_meaning.specs.Names.{Name, find_decl}
 use Rattle.wgsl_meaning.specs.Meaning.{const_in}
 use Rattle.wgsl_meaning.specs.ConstStage.{Consts, Scope, stage, module_scope}
 use Rattle.wgsl_eval.specs.declared.error.Refusal.{Refusal}
@@ -26,13 +27,13 @@ later_in : (x y : Name) (xs : List Name) → Contains xs x → Contains (y ∷ x
 later_in x y xs h = let less = h.1 in (suc h.0, omega arith, h.2)
 
 -- a name under which a declaration is found is declared
-found_in : (x : Name) (ds : List Decl) (d : Decl) → find_decl x ds ≡ Some d → Contains (map name_of ds) x
+found_in : (x : Name) (ds : List Decl) (d : Decl) → find_decl x ds ≡ Some d → Contains (map declared_name ds) x
 found_in x [] d h = absurd (cc)
-found_in x (e ∷ ds) d h = at (bytes_eq x (name_of e)) (found_in x ds d) refl h
+found_in x (e ∷ ds) d h = at (bytes_eq x (declared_name e)) (found_in x ds d) refl h
   where
-    at : (b : Bool) → (find_decl x ds ≡ Some d → Contains (map name_of ds) x) → bytes_eq x (name_of e) ≡ b → (if b then Some e else find_decl x ds) ≡ Some d → Contains (map name_of (e ∷ ds)) x
-    at true behind same k = subst (Contains (name_of e ∷ map name_of ds)) (sym (same_text x (name_of e) (sym same))) (first_in (name_of e) (map name_of ds))
-    at false behind other k = later_in x (name_of e) (map name_of ds) (behind k)
+    at : (b : Bool) → (find_decl x ds ≡ Some d → Contains (map declared_name ds) x) → bytes_eq x (declared_name e) ≡ b → (if b then Some e else find_decl x ds) ≡ Some d → Contains (map declared_name (e ∷ ds)) x
+    at true behind same k = subst (Contains (declared_name e ∷ map declared_name ds)) (sym (same_text x (declared_name e) (sym same))) (first_in (declared_name e) (map declared_name ds))
+    at false behind other k = later_in x (declared_name e) (map declared_name ds) (behind k)
 
 -- ---- refusals
 
@@ -45,14 +46,14 @@ added_here cs x (Done v n) r h = absurd (cc)
 added_here cs x (Failed f) r h = let same : refused x f ≡ r = cc in sym (ap (λ (q : Refusal). q.declaration) same)
 added_here cs x Deep r h = let same : refused x (Named CyclicDecl x) ≡ r = cc in sym (ap (λ (q : Refusal). q.declaration) same)
 
-valued_in : (ds : List Decl) (cs : Consts) (x : Name) (o : Option Decl) (r : Refusal) → find_decl x ds ≡ o → valued ds cs x o ≡ Err r → Contains (map name_of ds) r.declaration
+valued_in : (ds : List Decl) (cs : Consts) (x : Name) (o : Option Decl) (r : Refusal) → find_decl x ds ≡ o → valued ds cs x o ≡ Err r → Contains (map declared_name ds) r.declaration
 valued_in ds cs x (Some (variable attributes kind y type e)) r is h =
-    subst (Contains (map name_of ds)) (sym (added_here cs x (const_in (stage (module_scope ds cs)) x (Some (variable attributes kind y type e))) r h))
+    subst (Contains (map declared_name ds)) (sym (added_here cs x (const_in (stage (module_scope ds cs)) x (Some (variable attributes kind y type e))) r h))
     (found_in x ds (variable attributes kind y type e) is)
 valued_in ds cs x (Some (function attributes f parameters return_attributes type body)) r is h = absurd (cc)
 valued_in ds cs x None r is h = absurd (cc)
 
-all_valued_in : (ds : List Decl) (cs : Consts) (xs : List Name) (r : Refusal) → all_valued ds cs xs ≡ Err r → Contains (map name_of ds) r.declaration
+all_valued_in : (ds : List Decl) (cs : Consts) (xs : List Name) (r : Refusal) → all_valued ds cs xs ≡ Err r → Contains (map declared_name ds) r.declaration
 all_valued_in ds cs [] r h = absurd (cc)
 all_valued_in ds cs (x ∷ xs) r h =
     ⊎_elim (valued_in ds cs x (find_decl x ds) r refl) (λ later. all_valued_in ds later.0 xs r later.1)
@@ -62,12 +63,12 @@ refusing_here : {A : Type 0} (x : Name) (o : Checked A) (r : Refusal) → refusi
 refusing_here x (Ok v) r h = absurd (cc)
 refusing_here x (Err f) r h = let same : refused x f ≡ r = cc in sym (ap (λ (q : Refusal). q.declaration) same)
 
-lowered_in : (s : Scope) (ds : List Decl) (r : Refusal) → lowered_declarations s ds ≡ Err r → Contains (map name_of ds) r.declaration
+lowered_in : (s : Scope) (ds : List Decl) (r : Refusal) → lowered_declarations s ds ≡ Err r → Contains (map declared_name ds) r.declaration
 lowered_in s [] r h = absurd (cc)
-lowered_in s (variable attributes kind x type e ∷ ds) r h = later_in r.declaration x (map name_of ds) (lowered_in s ds r h)
+lowered_in s (variable attributes kind x type e ∷ ds) r h = later_in r.declaration x (map declared_name ds) (lowered_in s ds r h)
 lowered_in s (function attributes f parameters return_attributes type body ∷ ds) r h =
-    ⊎_elim (λ here. subst (Contains (f ∷ map name_of ds)) (sym (refusing_here f (lowered_function s attributes f parameters return_attributes type body) r here)) (first_in f (map name_of ds)))
-    (λ later. ⊎_elim (λ k. later_in r.declaration f (map name_of ds) (lowered_in s ds r k)) (λ none. absurd (cc))
+    ⊎_elim (λ here. subst (Contains (f ∷ map declared_name ds)) (sym (refusing_here f (lowered_function s attributes f parameters return_attributes type body) r here)) (first_in f (map declared_name ds)))
+    (λ later. ⊎_elim (λ k. later_in r.declaration f (map declared_name ds) (lowered_in s ds r k)) (λ none. absurd (cc))
     (either_refused (lowered_declarations s ds) (λ more. Ok (later.0 ∷ more)) r later.1))
     (either_refused (refusing f (lowered_function s attributes f parameters return_attributes type body)) (λ d. then_more (lowered_declarations s ds) (λ more. Ok (d ∷ more))) r h)
 

@@ -2,6 +2,7 @@
 use Rattle.std.proofs.Common.{◌≡◌, ℕ, ◌+◌, ◌≤◌, List, [], ◌∷◌, ◌++◌, map, Option, Some, None, Bool, true, false, Result, Ok, Err, IfOk, refl, sym, ap, ◌∙◌, subst, arith}
 use Rattle.std.specs.Prelude.{codes, if◌then◌else◌}
 use Rattle.wgsl_syntax.specs.Tree.{Exp, Typ, Attr, fragment, location, Stm, Block, Param, Decl, variable, function, Unit as Module}
+use Rattle.wgsl_syntax.specs.Names.{declared_name}
 use Rattle.wgsl_meaning.specs.declared.value.ShaderStage.{ShaderStage}
 use Rattle.wgsl_meaning.specs.declared.value.ShaderStage.TheVariants.{Const, Exec}
 use Rattle.wgsl_meaning.specs.declared.value.Value.{Value}
@@ -10,7 +11,7 @@ use Rattle.wgsl_meaning.specs.declared.fault.Fault.TheVariants.{Name as Named}
 use Rattle.wgsl_meaning.specs.declared.fault.NameFault.TheVariants.{NotEntrypoint}
 use Rattle.wgsl_meaning.specs.Values.{Checked, and_then, type_of}
 use Rattle.wgsl_meaning.specs.Outcome.{Outcome, Done, Failed, Deep, after, andthen, at_once}
-use Rattle.wgsl_meaning.specs.Names.{Name, Symbol, find, find_decl, name_of, plain_name, built_in_type}
+use Rattle.wgsl_meaning.specs.Names.{Name, Symbol, find, find_decl, plain_name, built_in_type}
 use Rattle.wgsl_meaning.specs.Meaning.{Env, Types, World, value, handed_back, returned_by, return_type_of, type_written, body_of, const_in}
 use Rattle.wgsl_meaning.specs.Programs.{Inputs, world, root, here, here_if, plain, type_at, attribute_number, location_of, input_at, inputs_bound, has_stage, entered, started_by, started, run}
 use Rattle.wgsl_meaning.specs.Compare.{Better}
@@ -18,7 +19,8 @@ use Rattle.wgsl_meaning.specs.Typing.{types_of}
 use Rattle.wgsl_meaning.specs.ConstStage.{Consts, Scope, stage, module_scope, Settled, nothing, another}
 use Rattle.wgsl_meaning.proofs.Compares.{kept_better, better_from, better_after}
 use Rattle.wgsl_lower.specs.Lowered.{lowered, type_here, lowered_attribute, lowered_attributes, lowered_parameter, lowered_parameters, parameter_types, checked_type, lowered_statements, with_parameters, lowered_declarations}
-use Rattle.wgsl_eval.specs.declared.error.UnitError.{UnitError}
+use Rattle.wgsl_items.specs.declared.error.OrOutOfMemory.{OrOutOfMemory}
+use Rattle.wgsl_eval.specs.declared.error.Refusal.{Refusal}
 use Rattle.wgsl_eval.specs.Refusals.{Answers}
 use Rattle.wgsl_eval.specs.Start.{then_more, added, valued, all_valued, order_of, consts_of}
 use Rattle.wgsl_lower.specs.Lowered.{lowered_unit}
@@ -202,10 +204,10 @@ module _ (ds low : List Decl) (cs : Consts) (settled : Settled ds cs) (is_low : 
 
   -- ---- runs
 
-  nothing_starts : (k : ℕ) (l : List Decl) → started (plain low) k (map (λ d. here (name_of d)) l) ≡ Done tt 0
+  nothing_starts : (k : ℕ) (l : List Decl) → started (plain low) k (map (λ d. here (declared_name d)) l) ≡ Done tt 0
   nothing_starts k [] = refl
   nothing_starts k (d ∷ l) =
-      ap (λ o. andthen o (λ u. started (plain low) k (map (λ d. here (name_of d)) l))) (starts ms ds low is_low (world (plain low) k Const root) (name_of d) (name_of d))
+      ap (λ o. andthen o (λ u. started (plain low) k (map (λ d. here (declared_name d)) l))) (starts ms ds low is_low (world (plain low) k Const root) (declared_name d) (declared_name d))
       ∙ ap (after 0) (nothing_starts k l)
 
   any_start : (o : Outcome (Unit {0})) → Better (Unit {0}) o (Done tt 0)
@@ -215,8 +217,8 @@ module _ (ds low : List Decl) (cs : Consts) (settled : Settled ds cs) (is_low : 
 
   pub keeps : Keeps ds low
   keeps f k inputs =
-      kept_better.going_on (Unit {0}) (Option Value) (started (plain ds) k (map (λ d. here (name_of d)) ds)) (started (plain low) k (map (λ d. here (name_of d)) low)) _ _
-      (subst (Better (Unit {0}) (started (plain ds) k (map (λ d. here (name_of d)) ds))) (sym (nothing_starts k low)) (any_start _))
+      kept_better.going_on (Unit {0}) (Option Value) (started (plain ds) k (map (λ d. here (declared_name d)) ds)) (started (plain low) k (map (λ d. here (declared_name d)) low)) _ _
+      (subst (Better (Unit {0}) (started (plain ds) k (map (λ d. here (declared_name d)) ds))) (sym (nothing_starts k low)) (any_start _))
       (λ u. entered_better k f inputs (find_decl f ds) refl)
 
 -- ---- the consts of the start are settled
@@ -251,6 +253,6 @@ lowered_so u low clear is =
     let same : record { imports = []; declarations = ds.0 } ≡ low = cc in
     subst (Keeps u.declarations) (ap (λ (m : Module). m.declarations) same) (keeps u.declarations ds.0 cs.0 (settled u.declarations cs.0 cs.1) ds.1 clear)
 
-pub keeps_if : {A : Type 0} (view : A → Module) (u : Module) (r : Result A UnitError) → AreClear u.declarations → Answers view (lowered_unit u) r → IfOk r (λ low. Keeps u.declarations (view low).declarations)
+pub keeps_if : {A : Type 0} (view : A → Module) (u : Module) (r : Result A (OrOutOfMemory Refusal)) → AreClear u.declarations → Answers view (lowered_unit u) r → IfOk r (λ low. Keeps u.declarations (view low).declarations)
 keeps_if view u (Ok low) clear h = lowered_so u (view low) clear h
 keeps_if view u (Err e) clear h = tt

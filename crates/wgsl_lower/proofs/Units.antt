@@ -5,6 +5,7 @@ use Rattle.std.specs.Str.{bytes_eq}
 use Rattle.std.specs.Cmp.Lexicographic.{same_text}
 use Rattle.wgsl_syntax.specs.Tree.{Exp, Typ, Attr, fragment, location, Stm, Block, Param, Decl, variable, function, Unit as Module}
 use Rattle.wgsl_syntax.specs.declared.declaration.DeclarationKind.{DeclarationKind}
+use Rattle.wgsl_syntax.specs.Names.{declared_name}
 use Rattle.wgsl_meaning.specs.declared.value.ShaderStage.{ShaderStage}
 use Rattle.wgsl_meaning.specs.declared.value.ShaderStage.TheVariants.{Const, Exec}
 use Rattle.wgsl_meaning.specs.declared.value.Value.{Value}
@@ -13,7 +14,7 @@ use Rattle.wgsl_meaning.specs.declared.value.NumericType.TheVariants.{AbstractIn
 use Rattle.wgsl_meaning.specs.declared.fault.Fault.{Fault}
 use Rattle.wgsl_meaning.specs.Values.{Checked, and_then, type_of, is_same_type}
 use Rattle.wgsl_meaning.specs.Outcome.{Outcome, Done, Failed, Deep, after, andthen, at_once}
-use Rattle.wgsl_meaning.specs.Names.{Name, Symbol, find, find_decl, name_of, plain_name, built_in_type}
+use Rattle.wgsl_meaning.specs.Names.{Name, Symbol, find, find_decl, plain_name, built_in_type}
 use Rattle.wgsl_meaning.specs.Meaning.{Env, Types, World, value, handed_back, returned_by, return_type_of, type_written, body_of}
 use Rattle.wgsl_meaning.specs.Programs.{Inputs, world, root, here, here_if, plain, type_at, attribute_number, location_of, input_at, inputs_bound, has_stage, entered, started_by, started, run}
 use Rattle.wgsl_meaning.specs.Compare.{Better}
@@ -96,7 +97,7 @@ module _ (s : Scope) where
       let l = is_lowered s as' f ps rs t b d.0 (refusing_ok f _ d.0 d.1) in
       let more = then_more_ok (lowered_declarations s ds) (λ more. Ok (d.0 ∷ more)) low d.2 in
       let same : d.0 ∷ more.0 ≡ low = cc in
-      ap (find_decl x) (sym same) ∙ ap (λ y. if bytes_eq x y then Some d.0 else find_decl x more.0) (ap name_of (sym l.is))
+      ap (find_decl x) (sym same) ∙ ap (λ y. if bytes_eq x y then Some d.0 else find_decl x more.0) (ap declared_name (sym l.is))
       ∙ step_none (bytes_eq x f) (function as' f ps rs t b) (find_decl x ds) (find_decl x more.0) e (gone_too ds more.0 more.1 x) d.0
 
   past_variable : {X : Type 0} (c : Bool) (attributes : List Attr) (kind : DeclarationKind) (y : Name) (type : Option Typ) (i : Option Exp) (o : Option Decl) (d : Decl) → (variable attributes kind y type i ≡ d → ⊥) →
@@ -115,7 +116,7 @@ module _ (s : Scope) where
       let more = then_more_ok (lowered_declarations s ds) (λ more. Ok (d.0 ∷ more)) low d.2 in
       let same : d.0 ∷ more.0 ≡ low = cc in
       let r = at (bytes_eq x g) d.0 more.0 l (found_too ds more.0 more.1 x as' f ps rs t b) e in
-      (r.0, ap (find_decl x) (sym same) ∙ ap (λ y. if bytes_eq x y then Some d.0 else find_decl x more.0) (ap name_of (sym l.is)) ∙ r.1, r.2)
+      (r.0, ap (find_decl x) (sym same) ∙ ap (λ y. if bytes_eq x y then Some d.0 else find_decl x more.0) (ap declared_name (sym l.is)) ∙ r.1, r.2)
     where
       Found : Option Decl → Type 0
       Found o = (d : Decl) × (o ≡ Some d) × IsLowered s as' f ps rs t b d

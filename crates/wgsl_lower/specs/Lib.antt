@@ -1,3 +1,4 @@
 pub mod Lowered
+pub mod Nodes
 pub mod Keeps
 pub mod Located

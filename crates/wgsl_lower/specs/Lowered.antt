@@ -17,8 +17,8 @@ use Rattle.wgsl_meaning.specs.Meaning.{Types, value, typed}
 use Rattle.wgsl_meaning.specs.ConstStage.{Consts, Scope, stage, module_scope, callee_of}
 use Rattle.wgsl_meaning.specs.Written.{written}
 use Rattle.wgsl_eval.specs.declared.error.Refusal.{Refusal}
-use Rattle.wgsl_eval.specs.declared.error.EvalError.{EvalError}
-use Rattle.wgsl_eval.specs.declared.error.EvalError.TheVariants.{OutOfMemory, Wrong}
+use Rattle.wgsl_items.specs.declared.error.OrOutOfMemory.{OrOutOfMemory}
+use Rattle.wgsl_items.specs.declared.error.OrOutOfMemory.TheVariants.{Error, OutOfMemory}
 use Rattle.wgsl_eval.specs.Start.{refused, then_more, consts_of}
 
 -- ---- expressions
@@ -168,10 +168,10 @@ lowered_unit u =
 
 -- ---- what code tests and keeps
 
-abbrev pub lacks : EvalError → Bool
+abbrev pub lacks : OrOutOfMemory Fault → Bool
 lacks OutOfMemory = false
-lacks (Wrong (Number f)) = false
-lacks (Wrong (Named f x)) = lacks_value f
+lacks (Error (Number f)) = false
+lacks (Error (Named f x)) = lacks_value f
 
 -- these first
 abbrev pub prepended : {A : Type 0} → List A → Checked (List A) → Checked (List A)

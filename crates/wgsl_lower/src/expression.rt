@@ -10,7 +10,7 @@ ghost use Rattle.wgsl_lower.specs.Lowered as spec;
 use crate::write::to_expr;
 use std::alloc::Global;
 use wgsl_eval::{EvalError, Fault, NameFault, Scope, callee, eval_value, plain_name};
-use wgsl_items::{Boxed, CloneIn, Items};
+use wgsl_items::{Boxed, CloneIn, Items, OrOutOfMemory};
 use wgsl_syntax::{
     BinaryExpression, Expression, ExpressionNode, FunctionCall, ParenthesizedExpression, Spanned,
     UnaryExpression,
@@ -22,7 +22,7 @@ fn lacks_value(error: &EvalError) -> bool
 {
     matches!(
         error,
-        EvalError::Wrong(Fault::Name(NameFault::NotAccessible | NameFault::NotConst, _))
+        OrOutOfMemory::Error(Fault::Name(NameFault::NotAccessible | NameFault::NotConst, _))
     )
 }
 

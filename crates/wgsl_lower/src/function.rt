@@ -9,6 +9,7 @@ ghost use Rattle.wgsl_meaning.specs.Values.{and_then};
 ghost use Rattle.wgsl_eval.specs.Ends.{Ends, Gives};
 ghost use Rattle.wgsl_eval.specs.Scopes.{scope_of};
 ghost use Rattle.wgsl_lower.specs.Lowered as spec;
+ghost use Rattle.wgsl_lower.specs.Nodes.{lowered_with};
 
 use crate::expression::lowered;
 use std::alloc::Global;
@@ -219,7 +220,7 @@ fn lowered_rest(
     types: &[(Text, NumericType)],
     function: &Function,
 ) -> Result<Function, EvalError>
-    ensures { Gives (λ f. declaration_tree (TheFunction f)) (spec.lowered_rest (scope_of scope.now) (attributes_tree attributes) function.now.ident.name (map parameter_tree parameters) types.now (attributes_tree function.now.return_attributes) (option_map type_tree function.now.return_type) (block_tree function.now.body)) result }
+    ensures { Gives (λ f. declaration_tree (TheFunction f)) (lowered_with (scope_of scope.now) attributes parameters types.now function.now) result }
 {
     let return_attributes = lowered_attributes(
         alloc,

@@ -3,7 +3,8 @@ use Rattle.std.specs.Prelude.{ℕ, List, [], ◌∷◌, Option, Some, None, Bool
 use Rattle.std.specs.Str.{bytes_eq}
 use Rattle.wgsl_path.specs.declared.path.ModulePath.{ModulePath}
 use Rattle.wgsl_path.specs.declared.path.PathOrigin.TheVariants.{Absolute}
-use Rattle.wgsl_syntax.specs.Tree.{Exp, Typ, simple, templated, Attr, Stm, Block, Param, Decl, variable, function}
+use Rattle.wgsl_syntax.specs.Tree.{Exp, Typ, simple, templated, Attr, Stm, Block, Param, Decl}
+use Rattle.wgsl_syntax.specs.Names.{declared_name}
 use Rattle.wgsl_syntax.specs.declared.declaration.DeclarationKind.{DeclarationKind}
 use Rattle.wgsl_meaning.specs.declared.value.NumericType.{NumericType}
 use Rattle.wgsl_meaning.specs.declared.value.NumericType.TheVariants.{I32, U32}
@@ -24,14 +25,10 @@ abbrev pub find : {A : Type 0} → Name → List (Name × A) → Option A
 find x [] = None
 find x (b ∷ bs) = if bytes_eq x b.0 then Some b.1 else find x bs
 
-abbrev pub name_of : Decl → Name
-name_of (variable attributes kind x type e) = x
-name_of (function attributes f parameters return_attributes return_type body) = f
-
 -- the first declaration of a name
 abbrev pub find_decl : Name → List Decl → Option Decl
 find_decl x [] = None
-find_decl x (d ∷ ds) = if bytes_eq x (name_of d) then Some d else find_decl x ds
+find_decl x (d ∷ ds) = if bytes_eq x (declared_name d) then Some d else find_decl x ds
 
 -- the types that texts name (WGSL, "Predeclared Types"). Of the others none is evaluated yet
 abbrev pub built_in_type : Name → Checked NumericType

@@ -4,6 +4,7 @@ use Rattle.wgsl_path.specs.declared.path.ModulePath.{ModulePath}
 use Rattle.wgsl_path.specs.declared.path.PathOrigin.TheVariants.{Absolute}
 use Rattle.wgsl_syntax.specs.Tree.{Exp, Typ, Attr, fragment, location, Stm, Block, Param, Decl, variable, function, Unit as Module}
 use Rattle.wgsl_syntax.specs.declared.declaration.DeclarationKind.{DeclarationKind}
+use Rattle.wgsl_syntax.specs.Names.{declared_name}
 use Rattle.wgsl_meaning.specs.declared.value.ShaderStage.{ShaderStage}
 use Rattle.wgsl_meaning.specs.declared.value.ShaderStage.TheVariants.{Const, Override, Exec}
 use Rattle.wgsl_meaning.specs.declared.value.Value.{Value}
@@ -16,7 +17,7 @@ use Rattle.wgsl_meaning.specs.declared.fault.NumberFault.TheVariants.{NegativeAt
 use Rattle.wgsl_meaning.specs.declared.fault.NameFault.TheVariants.{UnknownDecl, NotType, Todo, NotEntrypoint, InvalidEntrypointParam, MissingUserInput}
 use Rattle.wgsl_meaning.specs.Values.{Checked, type_of, number, is_same_type}
 use Rattle.wgsl_meaning.specs.Outcome.{Outcome, Done, Failed, Deep, andthen, at_once, computed}
-use Rattle.wgsl_meaning.specs.Names.{Name, Symbol, find_decl, name_of, built_in_type}
+use Rattle.wgsl_meaning.specs.Names.{Name, Symbol, find_decl, built_in_type}
 use Rattle.wgsl_meaning.specs.Meaning.{World, Env, value, const_in, call_in, call_type, construct, construct_type, type_written, return_type_of, body_of}
 
 -- what is held, what each symbol declares, and what a name means in a module
@@ -157,7 +158,7 @@ here_if x None = None
 -- each global name is a symbol of its own
 abbrev pub plain : List Decl → Program
 plain ds = record {
-  held = map (λ d. here (name_of d)) ds;
+  held = map (λ d. here (declared_name d)) ds;
   item = λ s. find_decl s.called ds;
   denotes = λ m x. here_if x (find_decl x ds);
 }

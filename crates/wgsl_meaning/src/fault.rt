@@ -1,7 +1,7 @@
 //! Why an evaluation goes wrong.
 
 use crate::value::{NumericType, Value};
-use wgsl_items::Text;
+use wgsl_items::{OrOutOfMemory, Text};
 use wgsl_operators::{BinaryOperator, UnaryOperator};
 
 /// The fault of an evaluation. It says nothing of memory.
@@ -33,6 +33,18 @@ pub enum NumberFault {
     ParamType(NumericType, NumericType),
     /// A number of an attribute is below 0.
     NegativeAttr(i64),
+}
+
+impl From<NumberFault> for OrOutOfMemory<Fault> {
+    ghost use Rattle.std.specs.Prelude.{◌≡◌};
+    ghost use Rattle.wgsl_items.specs.declared.error.OrOutOfMemory.TheVariants.{Error};
+    ghost use Rattle.wgsl_meaning.specs.declared.fault.Fault.TheVariants.{Number};
+
+    ghost from_gives = { λ f e. e ≡ Error (Number f) };
+
+    fn from(fault: NumberFault) -> OrOutOfMemory<Fault> {
+        OrOutOfMemory::Error(Fault::Number(fault))
+    }
 }
 
 /// The fault of what a name stands for.

@@ -27,6 +27,22 @@ pub enum GlobalDeclaration {
     Function(Function),
 }
 
+impl GlobalDeclaration {
+    ghost use Rattle.std.specs.Prelude.{◌≡◌};
+    ghost use Rattle.wgsl_syntax.specs.View.{declaration_tree};
+    ghost use Rattle.wgsl_syntax.specs.Names.{declared_name};
+
+    /// The name that it declares.
+    pub fn declared_name(&self) -> &str
+        ensures { result.now ≡ declared_name (declaration_tree self.now) }
+    {
+        match self {
+            GlobalDeclaration::Declaration(declaration) => declaration.ident.as_str(),
+            GlobalDeclaration::Function(function) => function.ident.as_str(),
+        }
+    }
+}
+
 /// What a value declaration declares.
 #[derive(Clone, Copy, Debug, PartialEq, Eq)]
 pub enum DeclarationKind {

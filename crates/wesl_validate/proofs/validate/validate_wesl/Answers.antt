@@ -1,7 +1,8 @@
 use Rattle.std.proofs.Common.{◌≡◌, sym, ap, ◌∙◌, subst, []}
 use Rattle.wgsl_syntax.specs.View.{unit_tree}
 use Rattle.wesl_validate.specs.Lookups.{lookup, texts, trees}
-use Rattle.wesl_validate.specs.Faults.{duplicates, faults_at, undefined_at, miscall_at, Refuses, IsFlat, FindsRing}
+use Rattle.wesl_validate.specs.Faults.{duplicates, faults_at, undefined_at, miscall_at, IsFlat, FindsRing}
+use Rattle.wesl_validate.proofs.FaultLemmas.{Refuses}
 use Rattle.wesl_validate.proofs.UnitLemmas.{rows_are, distinct_is, through, names_duplicate, names_undefined, names_miscall, faultless, ring_named}
 use Rattle.wesl_validate.proofs.validate.validate_wesl.Goals as goal
 

@@ -15,4 +15,4 @@ returns-clause-told c =
     of_first
     (λ r. false≢true (sym c.if-branch.false ∙ c.in_ok-is_read_back.ensures.read.1
     (subst (IsTextOf (alone (declaration_tree c.args.declaration.now))) (sym (c.as_str.ensures.value ∙ text)) r)))
-    (told_here (declaration_tree c.args.declaration.now) _ _ _ (c.as_str-2.ensures.value ∙ text) c.name_of.ensures c.in_ok-name.ensures)
+    (told_here (declaration_tree c.args.declaration.now) _ _ _ (c.as_str-2.ensures.value ∙ text) c.declared_name.ensures c.in_ok-name.ensures)

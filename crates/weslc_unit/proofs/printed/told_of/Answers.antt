@@ -21,12 +21,12 @@ range-requires-clause-end_boundary c = (between c).ends
 pub returns : goal.returns
 returns c = elim c.match-parse_str.branch [
   | in-Ok w ↦ subst (λ r. IfOk r (IsToldOf c.args.text.now c.args.name.now)) (sym w.result-is)
-      (told_name w.clone_in.result c.args.text.now c.args.name.now (λ e f. absurd (c.parse_str.ensures.apart _ w.in-Ok.ensures.tree e f)) w.clone_in.ensures)
+      (told_name w.from_str.result c.args.text.now c.args.name.now (λ e f. absurd (c.parse_str.ensures.apart _ w.in-Ok.ensures.tree e f)) w.from_str.ensures)
   | in-Err+in-OutOfMemory w ↦ subst (λ r. IfOk r (IsToldOf c.args.text.now c.args.name.now)) (sym w.result-is) tt
   | in-Err+in-ReservedWord w ↦ subst (λ r. IfOk r (IsToldOf c.args.text.now c.args.name.now)) (sym w.result-is)
-      (told_word w.from_str.result c.args.text.now c.args.name.now w.range.result.now w.in-Err.error (w.in-Err.ensures.fault (λ e. let h = w.in-ReservedWord.is in cc))
-      w.in-ReservedWord.is w.range.ensures.value w.from_str.ensures)
+      (told_word w.from_str-in-ReservedWord.result c.args.text.now c.args.name.now w.range.result.now w.in-Err.error (w.in-Err.ensures.fault (λ e. let h = w.in-ReservedWord.is in cc))
+      w.in-ReservedWord.is w.range.ensures.value w.from_str-in-ReservedWord.ensures)
   | in-Err+in_default w ↦ subst (λ r. IfOk r (IsToldOf c.args.text.now c.args.name.now)) (sym w.result-is)
-      (told_name w.clone_in-in_default.result c.args.text.now c.args.name.now
-      (other_fault c.args.text.now w.in-Err.error (w.in-Err.ensures.fault w.in_default.not-OutOfMemory) w.in_default.not-ReservedWord) w.clone_in-in_default.ensures)
+      (told_name w.from_str-in_default.result c.args.text.now c.args.name.now
+      (other_fault c.args.text.now w.in-Err.error (w.in-Err.ensures.fault w.in_default.not-OutOfMemory) w.in_default.not-ReservedWord) w.from_str-in_default.ensures)
 ]
