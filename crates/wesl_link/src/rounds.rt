@@ -1,10 +1,11 @@
 //! The modules that are linked, and what is reached in them.
 
-ghost use Rattle.std.specs.Prelude.{◌≡◌};
+ghost use Rattle.std.specs.Prelude.{◌≡◌, OnOk};
 ghost use Rattle.wgsl_path.specs.Paths.{path_text};
 ghost use Rattle.wgsl_syntax.specs.View.{unit_tree};
 ghost use Rattle.wesl_resolve.specs.Found.{unit_of, SameAnswers, SameTexts};
 ghost use Rattle.wesl_sources.specs.Kept.{kept_names};
+ghost use Rattle.wesl_reach.specs.Asking.{AreAskedBehind, AreThoseLoaded};
 ghost use Rattle.wesl_link.specs.Answers.{Resolves};
 
 use std::alloc::Global;
@@ -34,8 +35,11 @@ pub fn resolve_lazy<R: Resolver>(
     max_modules: u32,
 ) -> Result<Resolutions, ImportError>
     ensures resolves { R.answers resolver.old (path_text path.now) (unit_of (unit_tree unit)) → Resolves (R.answers resolver.old) (path_text path.now) (kept_names keep.now (unit_tree unit)) max_modules result }
+    ensures asked { R.answers resolver.old (path_text path.now) (unit_of (unit_tree unit)) → AreAskedBehind (R.answers resolver.old) (path_text path.now) (kept_names keep.now (unit_tree unit)) max_modules (R.asked resolver.old) (R.asked resolver.new) }
+    ensures all_asked { R.answers resolver.old (path_text path.now) (unit_of (unit_tree unit)) → OnOk result (AreThoseLoaded (R.answers resolver.old) (path_text path.now) (kept_names keep.now (unit_tree unit)) max_modules (R.asked resolver.old) (R.asked resolver.new)) }
     ensures same_answers { SameAnswers (R.answers resolver.old) (R.answers resolver.new) }
     ensures same_texts { SameTexts (R.texts resolver.old) (R.texts resolver.new) }
+    ensures same_names { R.display_names resolver.new ≡ R.display_names resolver.old }
 {
     let Reached {
         modules,

@@ -6,7 +6,8 @@ use Rattle.wesl_resolve.specs.Found.{Answer, unit_of}
 use Rattle.wesl_sources.specs.Occurrences.{Name}
 use Rattle.wesl_sources.specs.Modules.{Path, Modules}
 use Rattle.wesl_sources.specs.Rounds.{Sources, Refusal, Loads, all_loaded, one_too_many, is_not_found, is_faulty, has_a_name_twice, loaded_then_refused, loaded, Goes, an_occurrence_refused, nothing_asked, a_module_refused, a_round, IsFirstUnkept, ComesTo, root_refused, kept_name_missing, goes_on}
-use Rattle.wesl_meaning.specs.Asked.{AsksAmong, asks_first, asks_next, AsksFrom, in_this_round, in_a_later_round, Asks, for_the_root, onward, OnlyWhatIsAskedCounts}
+use Rattle.wesl_sources.specs.Asks.{AsksAmong, asks_first, asks_next, AsksFrom, in_this_round, in_a_later_round, Asks, for_the_root, onward}
+use Rattle.wesl_meaning.specs.Asked.{OnlyWhatIsAskedCounts}
 use Rattle.wesl_meaning.specs.Agreement.{OnlyAskedUnitsCount}
 use Rattle.wesl_meaning.proofs.Determined.{loading_comes_to_one}
 

@@ -12,7 +12,7 @@ use Rattle.wesl_sources.specs.Rounds.{Sources, ComesTo}
 use Rattle.wesl_sources.specs.Linked.{IsLinked}
 use Rattle.wesl_sources.specs.Loaded.{AreLoaded, IsClashFree}
 use Rattle.wesl_sources.specs.Clashing.{IsFirstClash}
-use Rattle.wesl_meaning.specs.Asked.{Asks}
+use Rattle.wesl_sources.specs.Asks.{Asks}
 use Rattle.wesl_meaning.specs.Declared.{IsHeldAs}
 use Rattle.wesl_meaning.specs.Determined.{listed, IsFunctional}
 use Rattle.wesl_meaning.specs.Runs.{AreFound}

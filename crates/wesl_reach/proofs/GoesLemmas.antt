@@ -141,7 +141,7 @@ module _ (ms : LoadedModules) (modules : Modules) (t : AreTabled ms modules) (ro
   next_round : (held : HeldNames) (asked : AskedNames) → IsClosed ms root keep held asked → IsOrdered string_cmp asked → IsNextRound modules root keep (paths_of asked)
   next_round held asked closed ordered = refused.next_round modules ms finder root keep held asked closed ordered
 
-  nothing_asked : (held : HeldNames) (asked : AskedNames) → IsClosed ms root keep held asked → asked.entries ≡ [] → IsNextRound modules root keep []
+  pub nothing_asked : (held : HeldNames) (asked : AskedNames) → IsClosed ms root keep held asked → asked.entries ≡ [] → IsNextRound modules root keep []
   nothing_asked held asked closed empty = refused.nothing_asked modules ms finder root keep held asked closed empty
 
   first_refused : (held : HeldNames) (r : Refusal) → IsStopped ms root keep held r → IsFirstRefused modules root keep r
@@ -161,7 +161,7 @@ module _ (ms : LoadedModules) (modules : Modules) (t : AreTabled ms modules) (ro
       declares_kept (loaded ms) root keep held u found_root kept,
     )
 
-    is_resolved : (held : HeldNames) (asked : AskedNames) → IsClosed ms root keep held asked → asked.entries ≡ [] → IsResolved ms root keep held
+    pub is_resolved : (held : HeldNames) (asked : AskedNames) → IsClosed ms root keep held asked → asked.entries ≡ [] → IsResolved ms root keep held
     is_resolved held asked closed empty =
         refused.is_resolved ms root keep held asked t.keyed (tabled_finder ms (modules_of ms) (self_tabled ms modules t)) (rooted held closed.kept) closed empty
 
@@ -171,7 +171,7 @@ named_grows : (old : LoadedModules) (asked : AskedNames) (new : LoadedModules) (
 named_grows old asked new path on n = record { home = n.home; one = n.one; stands = on.stay n.home n.one n.stands; has = n.has }
 
 -- what was asked for by an import is named by it
-named_more : (old : LoadedModules) (asked : AskedNames) (new : LoadedModules) (root : Path) → IsLoadedOn old asked new
+pub named_more : (old : LoadedModules) (asked : AskedNames) (new : LoadedModules) (root : Path) → IsLoadedOn old asked new
     → ((p : Path) (m : Module) → get_by_text new p ≡ Some m → IsOldOrAsked old asked p m) → AreAskedByImport old asked → AreNamedInTable old root → AreNamedInTable new root
 named_more old asked new root on only by_import before p m here other = ⊎_elim
     (λ old_one. named_grows old asked new m.path on (before p m old_one other))
@@ -179,7 +179,7 @@ named_more old asked new root on only by_import before p m here other = ⊎_elim
     (only p m here)
 
 -- the modules of a table stand in the list under the same paths
-named_by_imports : (ms : LoadedModules) (modules : Modules) (root : Path) → AreTabled ms modules → AreNamedInTable ms root → AreNamedByImports modules root
+pub named_by_imports : (ms : LoadedModules) (modules : Modules) (root : Path) → AreTabled ms modules → AreNamedInTable ms root → AreNamedByImports modules root
 named_by_imports ms modules root t named path u there other =
     let f = listed_found ms t.ordered (path, u) ((t.same (path, u)).0 there) in
     let same : f.1.path ≡ path = ap (λ (x : ModulePath × Unit). x.0) f.3 in
@@ -194,15 +194,15 @@ named_by_imports ms modules root t named path u there other =
 
 -- ---- the rounds
 
-all_of_them : (sources : Sources) (max n : ℕ) (ps : List Path) (more : Modules) → Loads sources max n ps (Ok more) → length more ≡ length ps
+pub all_of_them : (sources : Sources) (max n : ℕ) (ps : List Path) (more : Modules) → Loads sources max n ps (Ok more) → length more ≡ length ps
 all_of_them sources max n ps more (all_loaded) = refl
 all_of_them sources max n ps more (one_loaded {n = k} {ps = qs} {modules = m} less s d is l) = ap suc (all_of_them sources max (k + 1) qs m l)
 
 module _ (sources : Sources) (max : ℕ) (root : Path) (keep : List Name) (r : Reached) (asked : AskedNames) (n : ℕ) (e : IsRoundEnd sources max root keep r asked n) where
-  none : NoneRefused e.modules root keep
+  pub none : NoneRefused e.modules root keep
   none = none_refused r.modules e.modules e.tabled root keep r.held asked e.closed
 
-  pub all_ended : asked.entries ≡ [] → AreLoadedTables sources root keep max r.modules r.held
+  unfoldable pub all_ended : asked.entries ≡ [] → AreLoadedTables sources root keep max r.modules r.held
   all_ended empty = record {
     resolved = is_resolved r.modules e.modules e.tabled root keep e.unit e.rooted r.held asked e.closed empty;
     modules = e.modules;
@@ -215,7 +215,7 @@ module _ (sources : Sources) (max : ℕ) (root : Path) (keep : List Name) (r : R
   sought = all_sought r.modules root keep r.held asked e.closed
 
   module _ (ordered : IsOrdered string_cmp asked) where
-    next : IsNextRound e.modules root keep (paths_of asked)
+    pub next : IsNextRound e.modules root keep (paths_of asked)
     next = next_round r.modules e.modules e.tabled root keep r.held asked e.closed ordered
 
     pub loading_refused : (o : Option Refusal) → RefusesLoading sources max (length e.modules) (paths_of asked) o → Refuses sources root keep max o
@@ -235,11 +235,11 @@ module _ (sources : Sources) (max : ℕ) (root : Path) (keep : List Name) (r : R
         at es = slice_get es 0
 
     module _ (some : asked.entries ≢ []) (new : LoadedModules) (l : AreAllLoaded sources max r.modules e.modules asked new) where
-      not_empty : (es : List AskedEntry) → es ≢ [] → texts_of es ≢ []
+      pub not_empty : (es : List AskedEntry) → es ≢ [] → texts_of es ≢ []
       not_empty [] other is = other refl
       not_empty (x ∷ es) other is = absurd (cc)
 
-      one_at_least : (es : List AskedEntry) → es ≢ [] → 1 ≤ length (texts_of es)
+      pub one_at_least : (es : List AskedEntry) → es ≢ [] → 1 ≤ length (texts_of es)
       one_at_least [] other = absurd (other refl)
       one_at_least (x ∷ es) other = omega arith
 
@@ -252,7 +252,7 @@ module _ (sources : Sources) (max : ℕ) (root : Path) (keep : List Name) (r : R
           (a_round none next (not_empty asked.entries some) l.loads (an_occurrence_refused (first_refused new (e.modules ++ l.more) l.tabled root keep held told.0 told.2)))))
           why
 
-      pub one_round : (after : Reached) (more : AskedNames) → after.modules ≡ new → IsClosed new root keep after.held more → IsRoundEnd sources max root keep after more (n + 1)
+      unfoldable pub one_round : (after : Reached) (more : AskedNames) → after.modules ≡ new → IsClosed new root keep after.held more → IsRoundEnd sources max root keep after more (n + 1)
       one_round after more same closed = record {
         modules = e.modules ++ l.more;
         tabled = subst (λ ms. AreTabled ms (e.modules ++ l.more)) (sym same) l.tabled;
@@ -278,7 +278,7 @@ module _ (sources : Sources) (max : ℕ) (root : Path) (keep : List Name) where
     nowhere : (p : Path) → get_by_text old p ≡ None
     nowhere p = ap (lookup (λ k. is_eq (slice_cmp nat_cmp p (string_bytes k)))) empty
 
-    there : Loads sources max 0 (root ∷ []) (Ok (path_and_unit l.one ∷ []))
+    pub there : Loads sources max 0 (root ∷ []) (Ok (path_and_unit l.one ∷ []))
     there = one_then sources max 0 old root new l (ap length (sym empty)) [] (Ok []) all_loaded
 
     listed : modules_of old ≡ []
@@ -295,20 +295,20 @@ module _ (sources : Sources) (max : ℕ) (root : Path) (keep : List Name) where
     pub tabled : AreTabled new (path_and_unit l.one ∷ [])
     tabled = one_tabled sources max old new [] root none_tabled (nowhere root) l
 
-    at_root : IsModule (path_and_unit l.one ∷ []) root (unit_tree l.one.unit)
+    pub at_root : IsModule (path_and_unit l.one ∷ []) root (unit_tree l.one.unit)
     at_root = record { path = l.one.path; stands = one_in (path_and_unit l.one); printed = l.printed }
 
-    kept_there : (held : HeldNames) → KeepsAll (loaded new) root keep (held_at held) → (x : Name) → Contains keep x → Declares (unit_tree l.one.unit) x
+    pub kept_there : (held : HeldNames) → KeepsAll (loaded new) root keep (held_at held) → (x : Name) → Contains keep x → Declares (unit_tree l.one.unit) x
     kept_there held kept =
         declares_kept (loaded new) root keep held (unit_tree l.one.unit) (found_root new (path_and_unit l.one ∷ []) tabled root keep (unit_tree l.one.unit) at_root) kept
 
-    root_alone : AreNamedInTable new root
+    pub root_alone : AreNamedInTable new root
     root_alone p m here other = ⊎_elim
         (λ before. absurd (let both : None ≡ Some m = sym (nowhere p) ∙ before in cc))
         (λ came. absurd (other (sym came.0)))
         (old_or_new old new root l.one (nowhere root) l.stands p m here)
 
-    pub root_ended : (r : Reached) (asked : AskedNames) → r.modules ≡ new → IsClosed new root keep r.held asked → IsRoundEnd sources max root keep r asked 1
+    unfoldable pub root_ended : (r : Reached) (asked : AskedNames) → r.modules ≡ new → IsClosed new root keep r.held asked → IsRoundEnd sources max root keep r asked 1
     root_ended r asked same closed = record {
       modules = path_and_unit l.one ∷ [];
       tabled = subst (λ ms. AreTabled ms (path_and_unit l.one ∷ [])) (sym same) tabled;

@@ -8,6 +8,7 @@ pub mod RefusedLemmas
 pub mod RoundLemmas
 pub mod LoadLemmas
 pub mod GoesLemmas
+pub mod AskingLemmas
 pub mod OrderLemmas
 pub mod SeekLemmas
 pub mod CloseLemmas

@@ -186,7 +186,7 @@ AskedEntry = String Global × AskedModule
 abbrev pub texts_of : List AskedEntry → List Path
 texts_of es = map (λ e. string_bytes e.0) es
 
-same_loads : (a b : Sources) (max n : ℕ) (ps : List Path) (o : Result Modules Refusal) → SameAnswers a b → Loads b max n ps o → Loads a max n ps o
+pub same_loads : (a b : Sources) (max n : ℕ) (ps : List Path) (o : Result Modules Refusal) → SameAnswers a b → Loads b max n ps o → Loads a max n ps o
 same_loads a b max n ps o same (all_loaded) = all_loaded
 same_loads a b max n ps o same (one_too_many full) = one_too_many full
 same_loads a b max n ps o same (is_not_found {p = p} less s) = is_not_found less ((same p not_found).1 s)
@@ -218,7 +218,7 @@ pub one_then : (sources : Sources) (max n : ℕ) (old : LoadedModules) {path : M
 one_then sources max n old p new l same ps (Ok more) rest = let less : n < max = omega (arith, same, l.within) in loaded less l.found l.distinct l.printed rest
 one_then sources max n old p new l same ps (Err r) rest = let less : n < max = omega (arith, same, l.within) in loaded_then_refused less l.found l.distinct rest
 
-two_behind : (a b : Modules) (o : Result Modules Refusal) → behind a (behind b o) ≡ behind (a ++ b) o
+pub two_behind : (a b : Modules) (o : Result Modules Refusal) → behind a (behind b o) ≡ behind (a ++ b) o
 two_behind a b (Ok more) = ap Ok (sym (append_assoc a b more))
 two_behind a b (Err r) = refl
 
@@ -234,7 +234,7 @@ pub record IsLoadedTo (sources : Sources) (max : ℕ) (old : LoadedModules) (mod
   pub new : (i : ℕ) (e : AskedEntry) → slice_get left i ≡ Some e → (path_text e.1.path ≡ string_bytes e.0) × (get_by_text now (string_bytes e.0) ≡ None)
   pub sorted : IsStrictlySortedBy string_cmp (map (λ e. e.0) left)
 
-pub none_loaded : (sources : Sources) (max : ℕ) (old : LoadedModules) (modules : Modules) (asked : AskedNames) → AreTabled old modules → AreSought old asked → IsOrdered string_cmp asked
+unfoldable pub none_loaded : (sources : Sources) (max : ℕ) (old : LoadedModules) (modules : Modules) (asked : AskedNames) → AreTabled old modules → AreSought old asked → IsOrdered string_cmp asked
     → IsLoadedTo sources max old modules asked old asked.entries
 none_loaded sources max old modules asked t sought ordered = record {
   more = [];
@@ -254,7 +254,7 @@ none_loaded sources max old modules asked t sought ordered = record {
 
 module _ (sources : Sources) (max : ℕ) (old : LoadedModules) (modules : Modules) (asked : AskedNames) (now : LoadedModules) (left rest : List AskedEntry) (e : AskedEntry)
     (is : left ≡ e ∷ rest) (t : IsLoadedTo sources max old modules asked now left) where
-  first_new : (path_text e.1.path ≡ string_bytes e.0) × (get_by_text now (string_bytes e.0) ≡ None)
+  pub first_new : (path_text e.1.path ≡ string_bytes e.0) × (get_by_text now (string_bytes e.0) ≡ None)
   first_new = t.new 0 e (ap (λ l. slice_get l 0) is)
 
   pub first_printed : path_text e.1.path ≡ string_bytes e.0
@@ -274,18 +274,18 @@ module _ (sources : Sources) (max : ℕ) (old : LoadedModules) (modules : Module
     abbrev one : ModulePath × Unit
     one = path_and_unit l.one
 
-    less_apart : (x y : String Global) → string_cmp x y ≡ Less → bytes_eq (string_bytes x) (string_bytes y) ≡ false
+    pub less_apart : (x y : String Global) → string_cmp x y ≡ Less → bytes_eq (string_bytes x) (string_bytes y) ≡ false
     less_apart x y less = sym (is_eq-slice_cmp (string_bytes x) (string_bytes y)) ∙ ap is_eq less
 
-    sorted_left : IsStrictlySortedBy string_cmp (e.0 ∷ map (λ e. e.0) rest)
+    pub sorted_left : IsStrictlySortedBy string_cmp (e.0 ∷ map (λ e. e.0) rest)
     sorted_left = subst (λ l. IsStrictlySortedBy string_cmp (map (λ e. e.0) l)) is t.sorted
 
-    all_at : (ks : List (String Global)) (i : ℕ) (k : String Global) → AllByRecursion (λ y. string_cmp e.0 y ≡ Less) ks → slice_get ks i ≡ Some k → string_cmp e.0 k ≡ Less
+    pub all_at : (ks : List (String Global)) (i : ℕ) (k : String Global) → AllByRecursion (λ y. string_cmp e.0 y ≡ Less) ks → slice_get ks i ≡ Some k → string_cmp e.0 k ≡ Less
     all_at [] i k a here = absurd (cc)
     all_at (y ∷ ks) zero k a here = let same : y ≡ k = cc in subst (λ z. string_cmp e.0 z ≡ Less) same a.0
     all_at (y ∷ ks) (suc i) k a here = all_at ks i k a.1 here
 
-    pub one_loaded : IsLoadedTo sources max old modules asked new rest
+    unfoldable pub one_loaded : IsLoadedTo sources max old modules asked new rest
     one_loaded = record {
       more = t.more ++ one ∷ [];
       tabled = subst (AreTabled new) (append_assoc modules t.more (one ∷ [])) (one_tabled sources max now new (modules ++ t.more) (string_bytes e.0) t.tabled first_new.1 l);
@@ -320,7 +320,7 @@ module _ (sources : Sources) (max : ℕ) (old : LoadedModules) (modules : Module
       sorted = sorted_tail string_cmp e.0 (map (λ e. e.0) rest) sorted_left;
     }
 
-pub all_are_loaded : (sources : Sources) (max : ℕ) (old : LoadedModules) (modules : Modules) (asked : AskedNames) (now : LoadedModules) (left : List AskedEntry)
+unfoldable pub all_are_loaded : (sources : Sources) (max : ℕ) (old : LoadedModules) (modules : Modules) (asked : AskedNames) (now : LoadedModules) (left : List AskedEntry)
     → left ≡ [] → IsLoadedTo sources max old modules asked now left → AreAllLoaded sources max old modules asked now
 all_are_loaded sources max old modules asked now left is t = record {
   more = t.more;
@@ -340,5 +340,5 @@ all_are_loaded sources max old modules asked now left is t = record {
 pub two_same : {X : Type 0} (a b c : Path → X → Type 0) → ((p : Path) (x : X) → a p x ↔ b p x) → ((p : Path) (x : X) → b p x ↔ c p x) → (p : Path) (x : X) → a p x ↔ c p x
 two_same a b c one two p x = (λ h. (two p x).0 ((one p x).0 h), λ h. (one p x).1 ((two p x).1 h))
 
-pub same_all_loaded : (a b : Sources) (max : ℕ) (old : LoadedModules) (modules : Modules) (asked : AskedNames) (new : LoadedModules) → SameAnswers a b → AreAllLoaded b max old modules asked new → AreAllLoaded a max old modules asked new
+unfoldable pub same_all_loaded : (a b : Sources) (max : ℕ) (old : LoadedModules) (modules : Modules) (asked : AskedNames) (new : LoadedModules) → SameAnswers a b → AreAllLoaded b max old modules asked new → AreAllLoaded a max old modules asked new
 same_all_loaded a b max old modules asked new same l = record { more = l.more; loads = same_loads a b max (length modules) (paths_of asked) (Ok l.more) same l.loads; tabled = l.tabled; on = l.on; only = l.only }

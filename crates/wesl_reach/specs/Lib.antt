@@ -7,4 +7,5 @@ pub mod Missing
 pub mod Closed
 pub mod Answers
 pub mod Loading
+pub mod Asking
 pub mod Underway

@@ -1,15 +1,16 @@
 //! Loads what the kept names reach, a round of modules after another.
 
-ghost use Rattle.std.specs.Prelude.{◌≡◌, IfOk, string_bytes};
+ghost use Rattle.std.specs.Prelude.{◌≡◌, [], ◌∷◌, length, IfOk, OnOk, string_bytes};
 ghost use Rattle.std.specs.String.{string_cmp};
 ghost use Rattle.std.specs.BTreeMap.{IsOrdered};
 ghost use Rattle.wgsl_path.specs.Paths.{path_text};
 ghost use Rattle.wgsl_syntax.specs.View.{unit_tree};
-ghost use Rattle.wesl_resolve.specs.Found.{unit_of, SameAnswers, SameTexts};
+ghost use Rattle.wesl_resolve.specs.Found.{unit_of, SameAnswers, SameTexts, HasAsked};
 ghost use Rattle.wesl_sources.specs.Kept.{kept_names};
 ghost use Rattle.wesl_sources.specs.Modules.{Modules as ListedModules};
 ghost use Rattle.wesl_reach.specs.Answers.{Loading};
 ghost use Rattle.wesl_reach.specs.Loading.{AreTabled, AreSought, LoadsOne, LoadsAll, IsRoundEnd};
+ghost use Rattle.wesl_reach.specs.Asking.{AsksForOne, AsksForAll, IsAskedEnd, AreAskedBehind, AreThoseLoaded};
 
 use crate::closing::{close_asked, close_root};
 use crate::linking::{Asked, Held, Linking};
@@ -43,8 +44,11 @@ pub fn load_reached<R: Resolver>(
     max_modules: u32,
 ) -> Result<Reached, ImportError>
     ensures loading { R.answers resolver.old (path_text path.now) (unit_of (unit_tree unit)) → Loading (R.answers resolver.old) (path_text path.now) (kept_names keep.now (unit_tree unit)) max_modules result }
+    ensures asked { R.answers resolver.old (path_text path.now) (unit_of (unit_tree unit)) → AreAskedBehind (R.answers resolver.old) (path_text path.now) (kept_names keep.now (unit_tree unit)) max_modules (R.asked resolver.old) (R.asked resolver.new) }
+    ensures all_asked { R.answers resolver.old (path_text path.now) (unit_of (unit_tree unit)) → OnOk result (AreThoseLoaded (R.answers resolver.old) (path_text path.now) (kept_names keep.now (unit_tree unit)) max_modules (R.asked resolver.old) (R.asked resolver.new)) }
     ensures same_answers { SameAnswers (R.answers resolver.old) (R.answers resolver.new) }
     ensures same_texts { SameTexts (R.texts resolver.old) (R.texts resolver.new) }
+    ensures same_names { R.display_names resolver.new ≡ R.display_names resolver.old }
 {
     if max_modules == 0 {
         return Err(ImportError::TooManyModules(path.clone_in(alloc)?));
@@ -86,8 +90,11 @@ fn load_rounds<R: Resolver>(
     max_modules: u32,
 ) -> Result<Reached, ImportError>
     ensures loading { IsRoundEnd (R.answers resolver.old) max_modules (string_bytes reached.root) keep.now reached asked 1 → Loading (R.answers resolver.old) (string_bytes reached.root) keep.now max_modules result }
+    ensures asked { IsAskedEnd (R.answers resolver.old) (string_bytes reached.root) keep.now max_modules (R.asked resolver.old) (R.asked resolver.old) reached asked 1 → AreAskedBehind (R.answers resolver.old) (string_bytes reached.root) keep.now max_modules (R.asked resolver.old) (R.asked resolver.new) }
+    ensures all_asked { IsAskedEnd (R.answers resolver.old) (string_bytes reached.root) keep.now max_modules (R.asked resolver.old) (R.asked resolver.old) reached asked 1 → OnOk result (AreThoseLoaded (R.answers resolver.old) (string_bytes reached.root) keep.now max_modules (R.asked resolver.old) (R.asked resolver.new)) }
     ensures same_answers { SameAnswers (R.answers resolver.old) (R.answers resolver.new) }
     ensures same_texts { SameTexts (R.texts resolver.old) (R.texts resolver.new) }
+    ensures same_names { R.display_names resolver.new ≡ R.display_names resolver.old }
 {
     for _round in 1..max_modules {
         if asked.is_empty() {
@@ -134,8 +141,10 @@ fn load_all<R: Resolver>(
 ) -> Result<(), ImportError>
     ensures ordered { IsOrdered string_cmp asked.now }
     ensures loads { (listed : ListedModules) → AreTabled modules.old listed → AreSought modules.old asked.now → LoadsAll (R.answers resolver.old) max_modules modules.old listed asked.now modules.new result }
+    ensures asks { (listed : ListedModules) → AreTabled modules.old listed → AreSought modules.old asked.now → AsksForAll (R.answers resolver.old) max_modules (R.asked resolver.old) (R.asked resolver.new) modules.old listed asked.now modules.new result }
     ensures same_answers { SameAnswers (R.answers resolver.old) (R.answers resolver.new) }
     ensures same_texts { SameTexts (R.texts resolver.old) (R.texts resolver.new) }
+    ensures same_names { R.display_names resolver.new ≡ R.display_names resolver.old }
 {
     for (text, module) in asked {
         load_one(
@@ -160,8 +169,11 @@ fn load_one<R: Resolver>(
     max_modules: u32,
 ) -> Result<(), ImportError>
     ensures loads { path_text path.now ≡ text.now → LoadsOne (R.answers resolver.old) max_modules modules.old path.now text.now modules.new result }
+    ensures asks { AsksForOne (R.asked resolver.old) (length modules.old.entries) max_modules (path_text path.now) (R.asked resolver.new) }
+    ensures asked { OnOk result (HasAsked (R.asked resolver.old) (path_text path.now ∷ []) (R.asked resolver.new)) }
     ensures same_answers { SameAnswers (R.answers resolver.old) (R.answers resolver.new) }
     ensures same_texts { SameTexts (R.texts resolver.old) (R.texts resolver.new) }
+    ensures same_names { R.display_names resolver.new ≡ R.display_names resolver.old }
 {
     if modules.len() >= max_modules as usize {
         return Err(ImportError::TooManyModules(path.clone_in(alloc)?));

@@ -1,5 +1,6 @@
 -- What is found at the paths of modules.
-use Rattle.std.specs.Prelude.{◌≡◌, ⊤, ◌↔◌, List, ℕ, Result, Ok, Err}
+use Rattle.std.specs.Prelude.{◌≡◌, ⊤, ◌↔◌, ◌⊎◌, List, [], ◌∷◌, ◌++◌, ℕ, Option, Result, Ok, Err}
+use Rattle.std.specs.Option.{option_map}
 use Rattle.wgsl_path.specs.declared.path.ModulePath.{ModulePath}
 use Rattle.wgsl_token.specs.declared.error.Error.{Error}
 use Rattle.wgsl_syntax.specs.Tree.{Unit}
@@ -34,3 +35,21 @@ SameAnswers old new = (p : List ℕ) (a : Answer) → old p a ↔ new p a
 
 abbrev pub SameTexts : (List ℕ → List ℕ → Type 0) → (List ℕ → List ℕ → Type 0) → Type 0
 SameTexts old new = (p text : List ℕ) → old p text ↔ new p text
+
+-- there is a text
+abbrev pub IsSomeText : (List ℕ → Type 0) → Type 0
+IsSomeText texts = (text : List ℕ) × texts text
+
+-- ---- what was asked for
+
+-- the printed paths that were asked for so far, in order; `None` claims nothing
+abbrev pub Asked : Type 0
+Asked = Option (List (List ℕ))
+
+-- these were asked for, after those before
+abbrev pub HasAsked : Asked → List (List ℕ) → Asked → Type 0
+HasAsked before ps after = after ≡ option_map (λ qs. qs ++ ps) before
+
+-- the module at a printed path was asked for; or memory was refused before that, and nothing was
+abbrev pub AsksFor : Asked → List ℕ → Result TranslationUnit ResolveError → Asked → Type 0
+AsksFor before p result after = HasAsked before (p ∷ []) after ⊎ ((result ≡ Err OutOfMemory) × (after ≡ before))

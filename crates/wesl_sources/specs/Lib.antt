@@ -2,6 +2,7 @@ pub mod Occurrences
 pub mod Modules
 pub mod Names
 pub mod Rounds
+pub mod Asks
 pub mod Named
 pub mod Linked
 pub mod Loaded

@@ -9,7 +9,7 @@ use Rattle.wesl_sources.specs.Named.{ImportsAreApart}
 use Rattle.wesl_sources.specs.Kept.{kept_names}
 use Rattle.wesl_sources.specs.Rounds.{Sources, Refusal, too_many_modules, Loads, one_too_many, is_not_found, is_faulty, has_a_name_twice, loaded_then_refused, loaded, ComesTo, root_refused, kept_name_missing, goes_on}
 use Rattle.wesl_meaning.specs.Agreement.{AreAlike}
-use Rattle.wesl_meaning.specs.Asked.{Asks, AsksAmong, asks_first, asks_next, for_the_root, onward}
+use Rattle.wesl_sources.specs.Asks.{Asks, AsksAmong, asks_first, asks_next, for_the_root, onward}
 use Rattle.wesl_meaning.specs.Determined.{IsFunctional, SameOutcome}
 use Rattle.wesl_meaning.proofs.Agreement.{listed_modules_are_alike}
 use Rattle.wesl_meaning.proofs.Asked.{only_what_is_asked_counts}
@@ -17,7 +17,8 @@ use Rattle.wesl_meaning.proofs.Determined.{loads_once}
 use Rattle.wesl_meaning.proofs.Loading.{found_modules}
 use Rattle.weslc_laws.specs.Headline.{AreKept}
 use Rattle.weslc_calls.specs.Answers.{AreLoadedFrom, IsRefusedLoading, of_the_root, behind_the_root}
-use Rattle.weslc_agreement.specs.Asked.{IsAskedOf, the_root, behind_the_root as asked_behind, AgreesOnAsked}
+use Rattle.weslc_calls.specs.Asked.{IsAskedOf, the_root, behind_the_root as asked_behind}
+use Rattle.weslc_agreement.specs.Asked.{AgreesOnAsked}
 use Rattle.weslc_agreement.proofs.Units.{some_come}
 
 -- ---- one run

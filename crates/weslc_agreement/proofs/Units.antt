@@ -15,7 +15,8 @@ use Rattle.wesl_meaning.proofs.Asked.{only_asked_units_count}
 use Rattle.wesl_meaning.proofs.Loading.{loaded_modules, found_modules}
 use Rattle.wesl_meaning.proofs.Unique.{linked_units_are_one}
 use Rattle.weslc_laws.specs.Headline.{AreKept, IsLinkedFrom}
-use Rattle.weslc_agreement.specs.Asked.{the_root, behind_the_root, HasAskedUnits}
+use Rattle.weslc_calls.specs.Asked.{the_root, behind_the_root}
+use Rattle.weslc_agreement.specs.Asked.{HasAskedUnits}
 
 -- where a module is loaded, one may be
 some_loaded : (found : Sources) (max : ℕ) (p : Path) (ps : List Path) (modules : Modules) → Loads found max 0 (p ∷ ps) (Ok modules) → 0 < max

@@ -1,24 +1,18 @@
--- What is asked of what is found, and sources that agree on it.
-use Rattle.std.specs.Prelude.{ℕ, ◌<◌, ◌↔◌, List}
+-- Sources that agree on what is asked of one of them.
+use Rattle.std.specs.Prelude.{ℕ, ◌↔◌, List}
 use Rattle.wgsl_syntax.specs.Tree.{Unit}
 use Rattle.wesl_resolve.specs.Found.{Answer, unit_of}
 use Rattle.wesl_sources.specs.Occurrences.{Name}
 use Rattle.wesl_sources.specs.Modules.{Path}
 use Rattle.wesl_sources.specs.Rounds.{Sources}
-use Rattle.wesl_meaning.specs.Asked.{Asks}
-use Rattle.weslc_laws.specs.Headline.{AreKept}
+use Rattle.weslc_calls.specs.Asked.{IsAskedOf}
 
 -- What is found at each path, the root's path, the names that are asked for, and how many modules may be loaded.
 module _ (found : Sources) (root : Path) (asked : List Name) (max : ℕ) where
-  -- the path of the root, or one that loading asks for from it on
-  pub data IsAskedOf : Path → Type 0 where
-    the_root : 0 < max → IsAskedOf root
-    behind_the_root : {kept : List Name} {p : Path} → AreKept found root asked kept → Asks found root kept max p → IsAskedOf p
-
   -- other sources agree on what is asked of these: the same is found there
   abbrev pub AgreesOnAsked : Sources → Type 0
-  AgreesOnAsked other = (p : Path) → IsAskedOf p → (a : Answer) → found p a ↔ other p a
+  AgreesOnAsked other = (p : Path) → IsAskedOf found root asked max p → (a : Answer) → found p a ↔ other p a
 
   -- other sources have each unit that is asked of these
   abbrev pub HasAskedUnits : Sources → Type 0
-  HasAskedUnits other = (p : Path) → IsAskedOf p → (u : Unit) → found p (unit_of u) → other p (unit_of u)
+  HasAskedUnits other = (p : Path) → IsAskedOf found root asked max p → (u : Unit) → found p (unit_of u) → other p (unit_of u)

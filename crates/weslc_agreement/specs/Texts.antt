@@ -8,7 +8,8 @@ use Rattle.wesl_sources.specs.Named.{ImportsAreApart}
 use Rattle.weslc_calls.specs.Answers.{IsLinkedText, IsCompiledText}
 use Rattle.weslc_calls.specs.Stored.{text_at, found_in}
 use Rattle.weslc_calls.specs.declared.resolver.VirtualResolver.{VirtualResolver}
-use Rattle.weslc_agreement.specs.Asked.{IsAskedOf, HasAskedUnits}
+use Rattle.weslc_calls.specs.Asked.{IsAskedOf}
+use Rattle.weslc_agreement.specs.Asked.{HasAskedUnits}
 
 -- Where other sources have each unit that is asked of one, one text is answered.
 abbrev pub CompiledTextsAreOne : Sources → Sources → Type 0

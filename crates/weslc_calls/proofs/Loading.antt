@@ -1,10 +1,10 @@
 -- What loading comes to, and the error that tells it.
 use Rattle.std.specs.Prelude.{◌↔◌, string_bytes}
-use Rattle.std.proofs.Common.{◌≡◌, ℕ, ◌<◌, List, map, Option, Result, Ok, Err, Some, None, refl, sym, subst}
+use Rattle.std.proofs.Common.{◌≡◌, ℕ, ◌<◌, List, map, Option, Result, Ok, Err, Some, None, refl, sym, ap, ◌∙◌, subst}
 use Rattle.std.specs.declared.string.String.{String}
 use Rattle.std.specs.declared.alloc.Global.{Global}
 use Rattle.wgsl_syntax.specs.View.{unit_tree}
-use Rattle.weslc_calls.specs.Mapped.{IsFound, AreFound, Texts, HasText, HaveTexts, HasDefault, nothing_told, TellsHeld}
+use Rattle.weslc_calls.specs.Mapped.{IsFound, AreFound, Texts, HasText, HaveTexts, HasOnly, HasDefault, nothing_told, TellsHeld}
 use Rattle.wesl_resolve.specs.declared.source_map.BasicSourceMap.{BasicSourceMap}
 use Rattle.wgsl_path.specs.declared.path.ModulePath.{ModulePath}
 use Rattle.wgsl_path.specs.Paths.{path_text}
@@ -16,6 +16,7 @@ use Rattle.wesl_resolve.specs.declared.error.ResolveError.TheVariants as resolve
 use Rattle.wesl_sources.specs.Occurrences.{Name}
 use Rattle.wesl_sources.specs.Modules.{Path, Modules, IsModule}
 use Rattle.wesl_sources.specs.Rounds.{Sources, Refusal, module_not_found, syntax, Loads, all_loaded, one_too_many, is_not_found, is_faulty, has_a_name_twice, loaded_then_refused, loaded, Goes, an_occurrence_refused, nothing_asked, a_module_refused, a_round, ComesTo, root_refused, kept_name_missing, goes_on}
+use Rattle.wesl_sources.specs.Asks.{AsksAmong, asks_first, asks_next, AsksFrom, in_this_round, in_a_later_round, Asks, for_the_root, onward}
 use Rattle.wesl_sources.specs.Kept.{kept_names}
 use Rattle.wesl_sources.specs.Linked.{IsLinked}
 use Rattle.wesl_sources.specs.Loaded.{IsClashFree}
@@ -34,7 +35,7 @@ use Rattle.wesl_reach.specs.Resolved.{modules_of, IsResolved}
 use Rattle.wesl_link.specs.declared.rounds.Resolutions.{Resolutions}
 use Rattle.wesl_link.specs.Answers.{Resolves}
 use Rattle.weslc_calls.specs.Told.{of_resolving, of_loading}
-use Rattle.weslc_calls.specs.Answers.{AreLoadedFrom, IsRefusedLoading, of_the_root, behind_the_root, IsFirstClashFrom, RefusesLinking, AreTablesOf, IsMapped, IsToldFrom}
+use Rattle.weslc_calls.specs.Answers.{AreLoadedFrom, IsRefusedLoading, of_the_root, behind_the_root, IsFirstClashFrom, RefusesLinking, AreTablesOf, IsMapped, TellsTables, IsToldFrom}
 use Rattle.wesl_resolve.specs.SourceMaps.{decl_at}
 use Rattle.wesl_link.specs.Recording.{AreTold}
 use Rattle.weslc_calls.proofs.Recorded.{held_told}
@@ -69,7 +70,21 @@ module _ (found other : Sources) (same : SameAnswers found other) (max : ℕ) wh
     comes_moves (kept_name_missing l u) = kept_name_missing (loads_moves l) (record { before = u.before; behind = u.behind; whole = u.whole; declared = u.declared; undeclared = u.undeclared })
     comes_moves (goes_on l k g) = goes_on (loads_moves l) k (goes_moves g)
 
-turned : (found other : Sources) → SameAnswers found other → SameAnswers other found
+module _ (found other : Sources) (same : SameAnswers found other) (max : ℕ) where
+  among_moves : {n : ℕ} {ps : List Path} {p : Path} → AsksAmong found max n ps p → AsksAmong other max n ps p
+  among_moves (asks_first m) = asks_first m
+  among_moves (asks_next {p = p} {u = u} m f d more) = asks_next m ((same p (unit_of u)).0 f) d (among_moves more)
+
+  module _ (root : Path) (keep : List Name) where
+    from_moves : {modules : Modules} {p : Path} → AsksFrom found root keep max modules p → AsksFrom other root keep max modules p
+    from_moves (in_this_round none next a) = in_this_round none next (among_moves a)
+    from_moves (in_a_later_round none next some l a) = in_a_later_round none next some (loads_moves found other same max l) (from_moves a)
+
+    pub asks_moves : {p : Path} → Asks found root keep max p → Asks other root keep max p
+    asks_moves (for_the_root a) = for_the_root (among_moves a)
+    asks_moves (onward l k a) = onward (loads_moves found other same max l) k (from_moves a)
+
+pub turned : (found other : Sources) → SameAnswers found other → SameAnswers other found
 turned found other same p a = ((same p a).1, (same p a).0)
 
 -- ---- the error that tells a refusal
@@ -190,24 +205,21 @@ module _ (found : Sources) (root : Path) (asked : List Name) (max : ℕ) where
   )
 
   -- what the tables tell, they tell of the modules
-  abbrev pub TablesTold : Resolutions → BasicSourceMap → Type 0
-  TablesTold r m = (keep : List Name) → IsResolved r.modules (string_bytes r.root) keep r.held → AreTold (modules_of r.modules) (string_bytes r.root) keep nothing_told (decl_at m)
-
-  names_told : (m : BasicSourceMap) (r : Resolutions) (t : AreTablesOf found root asked max r) → TablesTold r m → TellsHeld t.modules root t.kept (decl_at m)
+  names_told : (m : BasicSourceMap) (r : Resolutions) (t : AreTablesOf found root asked max r) → TellsTables r m → TellsHeld t.modules root t.kept (decl_at m)
   names_told m r t told =
       held_told (modules_of r.modules) t.modules t.same root t.kept t.clash_free (decl_at m)
       (subst (λ p. AreTold (modules_of r.modules) p t.kept nothing_told (decl_at m)) t.is_root (told t.kept (subst (λ p. IsResolved r.modules p t.kept r.held) (sym t.is_root) t.resolved)))
 
   pub linked_and_told : (r : Resolutions) → AreTablesOf found root asked max r → (unit : Module)
       → ((keep : List Name) → IsResolved r.modules (string_bytes r.root) keep r.held → IsLinked (modules_of r.modules) (string_bytes r.root) keep unit)
-      → (m : BasicSourceMap) → TablesTold r m → IsToldFrom found root asked max unit m
+      → (m : BasicSourceMap) → TellsTables r m → IsToldFrom found root asked max unit m
   unfolding linked
   linked_and_told r t unit is_linked m told = record { from = linked found root asked max r t unit is_linked; decls = names_told m r t told }
 
   -- the texts that are recorded are those of the loaded modules
   pub texts_mapped : (texts : Texts) (m : BasicSourceMap) (r : Resolutions) → AreTablesOf found root asked max r → HaveTexts texts m (map (λ e. e.1.path) r.modules.entries)
-      → HasDefault texts root m → TablesTold r m → IsMapped found root asked max texts m
-  texts_mapped texts m r t each default told = record {
+      → HasOnly m (map (λ e. e.1.path) r.modules.entries) → HasDefault texts root m → TellsTables r m → IsMapped found root asked max texts m
+  texts_mapped texts m r t each only default told = record {
     kept = t.kept;
     modules = t.modules;
     loaded = t.loaded;
@@ -216,6 +228,12 @@ module _ (found : Sources) (root : Path) (asked : List Name) (max : ℕ) where
         let e = map_get path_and_unit r.modules.entries at.0 a at.1 in
         let there = to_contains (map (λ (e : Entry). e.1.path) r.modules.entries) at.0 e.0.1.path (get_map (λ (e : Entry). e.1.path) r.modules.entries at.0 e.0 e.1) in
         subst (λ (b : ModulePath × Module). HasText texts m b.0) e.2 (each e.0.1.path there);
+    only = λ p some.
+        let q = only p some in
+        let at = from_contains (map (λ (e : Entry). e.1.path) r.modules.entries) q.0 q.1 in
+        let e = map_get (λ (e : Entry). e.1.path) r.modules.entries at.0 q.0 at.1 in
+        let there = to_contains (modules_of r.modules) at.0 (path_and_unit e.0) (get_map path_and_unit r.modules.entries at.0 e.0 e.1) in
+        (unit_tree e.0.1.unit, record { path = e.0.1.path; stands = (t.same (path_and_unit e.0)).1 there; printed = ap path_text e.2 ∙ q.2 });
     default_text = default;
     decls = names_told m r t told;
   }

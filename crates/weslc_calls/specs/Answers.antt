@@ -1,12 +1,12 @@
 -- What the calls answer.
-use Rattle.std.specs.Prelude.{◌≡◌, ⊤, ℕ, List, [], ◌∷◌, Some, Ok, Err, string_bytes}
+use Rattle.std.specs.Prelude.{◌≡◌, ◌⊎◌, ⊤, ℕ, List, [], ◌∷◌, Some, Ok, Err, string_bytes}
 use Rattle.wgsl_path.specs.declared.path.ModulePath.{ModulePath}
 use Rattle.wgsl_path.specs.Paths.{path_text}
 use Rattle.wgsl_syntax.specs.Tree.{Unit}
 use Rattle.wgsl_syntax.specs.Print.{unit_text}
 use Rattle.wesl_resolve.specs.Found.{unit_of}
 use Rattle.wesl_sources.specs.Occurrences.{Name}
-use Rattle.wesl_sources.specs.Modules.{Path, Modules}
+use Rattle.wesl_sources.specs.Modules.{Path, Modules, IsModule}
 use Rattle.wesl_sources.specs.Named.{AreNamedByImports}
 use Rattle.wesl_sources.specs.Rounds.{Sources, Refusal, too_many_modules, module_not_found, syntax, duplicate_symbol, missing_decl, private, Loads, ComesTo}
 use Rattle.wesl_sources.specs.Kept.{kept_names}
@@ -22,14 +22,21 @@ use Rattle.weslc_unit.specs.Located.{declaration_of}
 use Rattle.weslc_unit.specs.declared.error.UnitRefusal.{UnitRefusal}
 use Rattle.weslc_laws.specs.Headline.{AreKept, IsLinkedFrom, RunsAsSources, RunsExactlyAsSources}
 use Rattle.std.specs.List.{Contains}
+use Rattle.std.specs.Option.{IsSome}
 use Rattle.wesl_resolve.specs.declared.source_map.BasicSourceMap.{BasicSourceMap}
-use Rattle.wesl_resolve.specs.SourceMaps.{decl_at}
-use Rattle.weslc_calls.specs.Mapped.{Texts, HasText, HasDefault, TellsHeld, IsLocated}
+use Rattle.wesl_resolve.specs.SourceMaps.{decl_at, source_at}
+use Rattle.wesl_link.specs.Recording.{AreTold}
+use Rattle.weslc_calls.specs.Mapped.{Texts, HasText, HasDefault, nothing_told, TellsHeld, IsLocated}
 use Rattle.weslc_calls.specs.Told.{about_module, about_item, about_name, Tells}
 use Rattle.weslc_calls.specs.declared.error.ResolveKind.TheVariants.{ModuleNotFound}
 use Rattle.weslc_calls.specs.declared.error.ImportKind.TheVariants.{DuplicateSymbol, MissingDecl, Private}
 use Rattle.weslc_calls.specs.declared.error.CompileError.{CompileError}
 use Rattle.weslc_calls.specs.declared.error.CompileError.TheVariants.{TooManyModules, Resolve, Syntax, Import, NameClash, Validate, UnclearName, Eval, Unprintable, OutOfMemory}
+
+-- what the map tells of the names of the linked unit: what is held in these tables
+abbrev pub TellsTables : Resolutions → BasicSourceMap → Type 0
+TellsTables r map = (keep : List Name) → IsResolved r.modules (string_bytes r.root) keep r.held
+    → AreTold (modules_of r.modules) (string_bytes r.root) keep nothing_told (decl_at map)
 
 -- What is found at each path, the root's path, the names that are asked for, and how many modules may be loaded.
 module _ (found : Sources) (root : Path) (asked : List Name) (max : ℕ) where
@@ -54,13 +61,14 @@ module _ (found : Sources) (root : Path) (asked : List Name) (max : ℕ) where
 
   -- ---- the source map
 
-  -- The map has the text of each loaded module, and the root's text as default. Of the printed name of each held symbol it has the
-  -- module and the name there, and nothing of other names.
+  -- The map has the text of each loaded module and of no other path, and the root's text as default. Of the printed name of each held
+  -- symbol it has the module and the name there, and nothing of other names.
   pub record IsMapped (texts : Texts) (map : BasicSourceMap) : Type 0 where
     pub kept : List Name
     pub modules : Modules
     pub loaded : AreLoadedFrom kept modules
     pub each : (m : ModulePath × Unit) → Contains modules m → HasText texts map m.0
+    pub only : (p : Path) → IsSome (source_at map p) → (u : Unit) × IsModule modules p u
     pub default_text : HasDefault texts root map
     pub decls : TellsHeld modules root kept (decl_at map)
 
@@ -103,6 +111,10 @@ module _ (found : Sources) (root : Path) (asked : List Name) (max : ℕ) where
     pub named : IsToldOfAll linked.declarations name
     pub told : e ≡ Unprintable (about_name name)
 
+  -- what linking, and printing what is linked, is refused for
+  abbrev pub RefusesToLink : CompileError → Type 0
+  RefusesToLink e = RefusesLinking e ⊎ IsUnprintable e
+
   -- a unit that the loaded modules are linked into, and where its names come from
   pub record IsToldFrom (linked : Unit) (map : BasicSourceMap) : Type 0 where
     pub from : IsLinkedFrom found root asked max linked
@@ -118,6 +130,10 @@ module _ (found : Sources) (root : Path) (asked : List Name) (max : ℕ) where
     pub refused : Refuses linked refusal
     pub told : Tells (decl_at map) refusal e
     pub located : (y : Name) → declaration_of refusal ≡ Some y → IsLocated from.from.modules root from.from.kept (decl_at map) y
+
+  -- what linking, and compiling what is linked, is refused for
+  abbrev pub RefusesToCompile : CompileError → Type 0
+  RefusesToCompile e = RefusesLinking e ⊎ IsRefusedUnit e
 
   -- ---- texts
 

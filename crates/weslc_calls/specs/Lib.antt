@@ -1,4 +1,6 @@
 pub mod Told
+pub mod Keyed
 pub mod Stored
 pub mod Answers
 pub mod Mapped
+pub mod Asked

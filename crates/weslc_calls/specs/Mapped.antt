@@ -1,5 +1,6 @@
 -- What the source map of a text says.
-use Rattle.std.specs.Prelude.{◌≡◌, ℕ, List, Some, None}
+use Rattle.std.specs.Prelude.{◌≡◌, ◌⊎◌, ℕ, List, Option, Some, None, if◌then◌else◌}
+use Rattle.std.specs.Option.{IsSome, is_some}
 use Rattle.std.specs.List.{Contains}
 use Rattle.wgsl_path.specs.declared.path.ModulePath.{ModulePath}
 use Rattle.wgsl_path.specs.Paths.{path_text}
@@ -8,7 +9,7 @@ use Rattle.wesl_resolve.specs.Found.{unit_of}
 use Rattle.wesl_sources.specs.Occurrences.{Name}
 use Rattle.wesl_sources.specs.Modules.{Path, Symbol, Modules, Declares}
 use Rattle.wesl_sources.specs.Rounds.{Sources}
-use Rattle.wesl_resolve.specs.SourceMaps.{source_at}
+use Rattle.wesl_resolve.specs.SourceMaps.{source_at, display_name_at}
 use Rattle.wesl_resolve.specs.declared.source_map.BasicSourceMap.{BasicSourceMap}
 use Rattle.wesl_link.specs.Recording.{Source, Telling, IsHeldAs, IsSourceOf}
 
@@ -36,6 +37,26 @@ pub record HasText (texts : Texts) (map : BasicSourceMap) (path : ModulePath) : 
 -- the texts of all these modules are in the map
 abbrev pub HaveTexts : Texts → BasicSourceMap → List ModulePath → Type 0
 HaveTexts texts map paths = (p : ModulePath) → Contains paths p → HasText texts map p
+
+-- one of these modules has this printed path
+abbrev pub IsPathOf : List ModulePath → Path → Type 0
+IsPathOf paths p = (q : ModulePath) × Contains paths q × (path_text q ≡ p)
+
+-- no other path has a text
+abbrev pub HasOnly : BasicSourceMap → List ModulePath → Type 0
+HasOnly map paths = (p : Path) → IsSome (source_at map p) → IsPathOf paths p
+
+-- a text is recorded at these paths at most
+abbrev pub AddsOnly : List ModulePath → BasicSourceMap → BasicSourceMap → Type 0
+AddsOnly paths old new = (p : Path) → IsSome (source_at new p) → IsSome (source_at old p) ⊎ IsPathOf paths p
+
+-- the display names of the modules at printed paths
+abbrev pub Names : Type 0
+Names = List ℕ → Option (List ℕ)
+
+-- each path that has a text has the display name that its module has, and no other path has one
+abbrev pub HasNames : Names → BasicSourceMap → Type 0
+HasNames names map = (p : Path) → display_name_at map p ≡ (if is_some (source_at map p) then names p else None)
 
 -- the root's text is the default
 pub record HasDefault (texts : Texts) (root : List ℕ) (map : BasicSourceMap) : Type 0 where

@@ -1,20 +1,19 @@
 //! The calls.
 
-ghost use Rattle.std.specs.Prelude.{◌≡◌, ◌⊎◌, List, map, IfOk, IfErr, OnOk, string_bytes};
+ghost use Rattle.std.specs.Prelude.{◌≡◌, ◌<◌, [], ◌∷◌, map, IfOk, IfErr, OnOk, string_bytes};
 ghost use Rattle.wgsl_path.specs.Paths.{path_text};
 ghost use Rattle.wgsl_syntax.specs.View.{unit_tree};
 ghost use Rattle.wgsl_syntax.specs.Print.{unit_text};
-ghost use Rattle.wesl_resolve.specs.Found.{unit_of, SameAnswers, SameTexts};
+ghost use Rattle.wesl_resolve.specs.Found.{unit_of, SameAnswers, SameTexts, HasAsked};
 ghost use Rattle.wesl_sources.specs.Occurrences.{Name};
 ghost use Rattle.wgsl_path.specs.declared.path.ModulePath.{ModulePath as Path};
 ghost use Rattle.weslc_laws.specs.Headline.{IsLinkedFrom};
-ghost use Rattle.weslc_calls.specs.Mapped.{IsFound, AreAllFound, AreFound, HasText, HaveTexts, HasDefault, nothing_told};
-ghost use Rattle.wesl_resolve.specs.SourceMaps.{decl_at};
-ghost use Rattle.wesl_reach.specs.Resolved.{modules_of, IsResolved};
-ghost use Rattle.wesl_link.specs.Recording.{AreTold};
+ghost use Rattle.weslc_calls.specs.Mapped.{IsFound, AreAllFound, AreFound, HasText, HaveTexts, HasOnly, AddsOnly, HasNames, HasDefault};
+ghost use Rattle.weslc_calls.specs.Asked.{AreAsked, AreAskedAsLoaded};
+ghost use Rattle.wesl_reach.specs.Asking.{AsksForOne};
 ghost use Rattle.wesl_link.specs.Assembling.{linked_of};
 ghost use Rattle.weslc_unit.specs.Compiled as of_unit;
-ghost use Rattle.weslc_calls.specs.Answers.{RefusesLinking, AreTablesOf, IsMapped, IsLinkedText, IsCompiledText, IsUnprintable, IsToldFrom, IsRefusedUnit};
+ghost use Rattle.weslc_calls.specs.Answers.{RefusesLinking, RefusesToLink, RefusesToCompile, AreTablesOf, IsMapped, TellsTables, IsLinkedText, IsCompiledText, IsToldFrom};
 
 use crate::error::CompileError;
 use crate::options::Options;
@@ -41,7 +40,13 @@ pub fn link<R: Resolver>(
 ) -> Result<(String, BasicSourceMap), CompileError>
     ensures text { IfOk result (λ answer. IsLinkedText (R.answers resolver.old) (path_text root.now) options.now.keep options.now.max_modules (string_bytes answer.0)) }
     ensures map { IfOk result (λ answer. IsMapped (R.answers resolver.old) (path_text root.now) options.now.keep options.now.max_modules (R.texts resolver.old) answer.1) }
-    ensures refusal { IfErr result (λ e. RefusesLinking (R.answers resolver.old) (path_text root.now) options.now.keep options.now.max_modules e ⊎ IsUnprintable (R.answers resolver.old) (path_text root.now) options.now.keep options.now.max_modules e) }
+    ensures names { IfOk result (λ answer. HasNames (R.display_names resolver.old) answer.1) }
+    ensures refusal { IfErr result (RefusesToLink (R.answers resolver.old) (path_text root.now) options.now.keep options.now.max_modules) }
+    ensures asked { AreAsked (R.answers resolver.old) (path_text root.now) options.now.keep options.now.max_modules (R.asked resolver.old) (R.asked resolver.new) }
+    ensures all_asked { OnOk result (AreAskedAsLoaded (R.answers resolver.old) (path_text root.now) options.now.keep options.now.max_modules (R.asked resolver.old) (R.asked resolver.new)) }
+    ensures same_answers { SameAnswers (R.answers resolver.old) (R.answers resolver.new) }
+    ensures same_texts { SameTexts (R.texts resolver.old) (R.texts resolver.new) }
+    ensures same_names { R.display_names resolver.new ≡ R.display_names resolver.old }
 {
     let (resolutions, map) = mapped(alloc, resolver, root, options)?;
     let held = resolutions.held_declarations(alloc)?;
@@ -83,7 +88,13 @@ pub fn compile<R: Resolver>(
 ) -> Result<(String, BasicSourceMap), CompileError>
     ensures text { IfOk result (λ answer. IsCompiledText (R.answers resolver.old) (path_text root.now) options.now.keep options.now.max_modules (string_bytes answer.0)) }
     ensures map { IfOk result (λ answer. IsMapped (R.answers resolver.old) (path_text root.now) options.now.keep options.now.max_modules (R.texts resolver.old) answer.1) }
-    ensures refusal { IfErr result (λ e. RefusesLinking (R.answers resolver.old) (path_text root.now) options.now.keep options.now.max_modules e ⊎ IsRefusedUnit (R.answers resolver.old) (path_text root.now) options.now.keep options.now.max_modules e) }
+    ensures names { IfOk result (λ answer. HasNames (R.display_names resolver.old) answer.1) }
+    ensures refusal { IfErr result (RefusesToCompile (R.answers resolver.old) (path_text root.now) options.now.keep options.now.max_modules) }
+    ensures asked { AreAsked (R.answers resolver.old) (path_text root.now) options.now.keep options.now.max_modules (R.asked resolver.old) (R.asked resolver.new) }
+    ensures all_asked { OnOk result (AreAskedAsLoaded (R.answers resolver.old) (path_text root.now) options.now.keep options.now.max_modules (R.asked resolver.old) (R.asked resolver.new)) }
+    ensures same_answers { SameAnswers (R.answers resolver.old) (R.answers resolver.new) }
+    ensures same_texts { SameTexts (R.texts resolver.old) (R.texts resolver.new) }
+    ensures same_names { R.display_names resolver.new ≡ R.display_names resolver.old }
 {
     let Linked { unit, map } = linked_unit(alloc, resolver, root, options)?;
     match compile_unit(alloc, &unit) {
@@ -102,8 +113,14 @@ fn linked_unit<R: Resolver>(
 ) -> Result<Linked, CompileError>
     ensures unit { IfOk result (λ linked. IsLinkedFrom (R.answers resolver.old) (path_text root.now) options.now.keep options.now.max_modules (unit_tree linked.unit)) }
     ensures map { IfOk result (λ linked. IsMapped (R.answers resolver.old) (path_text root.now) options.now.keep options.now.max_modules (R.texts resolver.old) linked.map) }
+    ensures names { IfOk result (λ linked. HasNames (R.display_names resolver.old) linked.map) }
     ensures told { IfOk result (λ linked. IsToldFrom (R.answers resolver.old) (path_text root.now) options.now.keep options.now.max_modules (unit_tree linked.unit) linked.map) }
     ensures refusal { IfErr result (RefusesLinking (R.answers resolver.old) (path_text root.now) options.now.keep options.now.max_modules) }
+    ensures asked { AreAsked (R.answers resolver.old) (path_text root.now) options.now.keep options.now.max_modules (R.asked resolver.old) (R.asked resolver.new) }
+    ensures all_asked { OnOk result (AreAskedAsLoaded (R.answers resolver.old) (path_text root.now) options.now.keep options.now.max_modules (R.asked resolver.old) (R.asked resolver.new)) }
+    ensures same_answers { SameAnswers (R.answers resolver.old) (R.answers resolver.new) }
+    ensures same_texts { SameTexts (R.texts resolver.old) (R.texts resolver.new) }
+    ensures same_names { R.display_names resolver.new ≡ R.display_names resolver.old }
 {
     let (resolutions, map) = mapped(alloc, resolver, root, options)?;
     let unit = resolutions.assemble(alloc)?;
@@ -119,8 +136,14 @@ fn mapped<R: Resolver>(
 ) -> Result<(Resolutions, BasicSourceMap), CompileError>
     ensures tables { IfOk result (λ answer. AreTablesOf (R.answers resolver.old) (path_text root.now) options.now.keep options.now.max_modules answer.0) }
     ensures map { IfOk result (λ answer. IsMapped (R.answers resolver.old) (path_text root.now) options.now.keep options.now.max_modules (R.texts resolver.old) answer.1) }
-    ensures decls { IfOk result (λ answer. (keep : List Name) → IsResolved answer.0.modules (string_bytes answer.0.root) keep answer.0.held → AreTold (modules_of answer.0.modules) (string_bytes answer.0.root) keep nothing_told (decl_at answer.1)) }
+    ensures names { IfOk result (λ answer. HasNames (R.display_names resolver.old) answer.1) }
+    ensures decls { IfOk result (λ answer. TellsTables answer.0 answer.1) }
     ensures refusal { IfErr result (RefusesLinking (R.answers resolver.old) (path_text root.now) options.now.keep options.now.max_modules) }
+    ensures asked { AreAsked (R.answers resolver.old) (path_text root.now) options.now.keep options.now.max_modules (R.asked resolver.old) (R.asked resolver.new) }
+    ensures all_asked { OnOk result (AreAskedAsLoaded (R.answers resolver.old) (path_text root.now) options.now.keep options.now.max_modules (R.asked resolver.old) (R.asked resolver.new)) }
+    ensures same_answers { SameAnswers (R.answers resolver.old) (R.answers resolver.new) }
+    ensures same_texts { SameTexts (R.texts resolver.old) (R.texts resolver.new) }
+    ensures same_names { R.display_names resolver.new ≡ R.display_names resolver.old }
 {
     let resolutions = loaded(alloc, resolver, root, options)?;
     let map = source_map(alloc, resolver, root, &resolutions)?;
@@ -136,8 +159,11 @@ fn loaded<R: Resolver>(
 ) -> Result<Resolutions, CompileError>
     ensures tables { IfOk result (AreTablesOf (R.answers resolver.old) (path_text root.now) options.now.keep options.now.max_modules) }
     ensures refusal { IfErr result (RefusesLinking (R.answers resolver.old) (path_text root.now) options.now.keep options.now.max_modules) }
+    ensures asked { AreAsked (R.answers resolver.old) (path_text root.now) options.now.keep options.now.max_modules (R.asked resolver.old) (R.asked resolver.new) }
+    ensures all_asked { OnOk result (AreAskedAsLoaded (R.answers resolver.old) (path_text root.now) options.now.keep options.now.max_modules (R.asked resolver.old) (R.asked resolver.new)) }
     ensures same_answers { SameAnswers (R.answers resolver.old) (R.answers resolver.new) }
     ensures same_texts { SameTexts (R.texts resolver.old) (R.texts resolver.new) }
+    ensures same_names { R.display_names resolver.new ≡ R.display_names resolver.old }
 {
     let unit = root_unit(alloc, resolver, root, options.max_modules)?;
     let keep = options.keep.as_slice();
@@ -157,8 +183,11 @@ fn root_unit<R: Resolver>(
 ) -> Result<TranslationUnit, CompileError>
     ensures unit { IfOk result (λ unit. R.answers resolver.old (path_text root.now) (unit_of (unit_tree unit))) }
     ensures refusal { IfErr result (λ e. (asked : List Name) → RefusesLinking (R.answers resolver.old) (path_text root.now) asked max_modules e) }
+    ensures asks { AsksForOne (R.asked resolver.old) 0 max_modules (path_text root.now) (R.asked resolver.new) }
+    ensures asked { OnOk result ((0 < max_modules) × HasAsked (R.asked resolver.old) (path_text root.now ∷ []) (R.asked resolver.new)) }
     ensures same_answers { SameAnswers (R.answers resolver.old) (R.answers resolver.new) }
     ensures same_texts { SameTexts (R.texts resolver.old) (R.texts resolver.new) }
+    ensures same_names { R.display_names resolver.new ≡ R.display_names resolver.old }
 {
     if max_modules == 0 {
         return Err(CompileError::too_many_modules(alloc, root)?);
@@ -177,7 +206,13 @@ fn source_map<R: Resolver>(
     ensures memory { AreFound (R.answers resolver.old) (path_text root.now) (map (λ e. e.1.path) resolutions.now.modules.entries) → IfErr result (λ e. e ≡ CompileError.OutOfMemory) }
     ensures texts { IfOk result (λ new. HaveTexts (R.texts resolver.old) new (map (λ e. e.1.path) resolutions.now.modules.entries)) }
     ensures default_source { IfOk result (HasDefault (R.texts resolver.old) (path_text root.now)) }
-    ensures decls { IfOk result (λ new. (keep : List Name) → IsResolved resolutions.now.modules (string_bytes resolutions.now.root) keep resolutions.now.held → AreTold (modules_of resolutions.now.modules) (string_bytes resolutions.now.root) keep nothing_told (decl_at new)) }
+    ensures only { IfOk result (λ new. HasOnly new (map (λ e. e.1.path) resolutions.now.modules.entries)) }
+    ensures names { IfOk result (HasNames (R.display_names resolver.old)) }
+    ensures decls { IfOk result (TellsTables resolutions.now) }
+    ensures same_answers { SameAnswers (R.answers resolver.old) (R.answers resolver.new) }
+    ensures same_texts { SameTexts (R.texts resolver.old) (R.texts resolver.new) }
+    ensures same_names { R.display_names resolver.new ≡ R.display_names resolver.old }
+    ensures same_asked { R.asked resolver.new ≡ R.asked resolver.old }
 {
     let mut map = BasicSourceMap::new(alloc);
     resolutions.add_decls(&mut map)?;
@@ -196,9 +231,13 @@ fn add_sources<R: Resolver>(
 ) -> Result<(), CompileError>
     ensures memory { AreAllFound (R.answers resolver.old) (map (λ p. p.now) paths.now) → IfErr result (λ e. e ≡ CompileError.OutOfMemory) }
     ensures texts { OnOk result (HaveTexts (R.texts resolver.old) recorded.new (map (λ p. p.now) paths.now)) }
+    ensures only { OnOk result (AddsOnly (map (λ p. p.now) paths.now) recorded.old recorded.new) }
+    ensures names { OnOk result (HasNames (R.display_names resolver.old) recorded.old → HasNames (R.display_names resolver.old) recorded.new) }
     ensures decls { recorded.new.decls ≡ recorded.old.decls }
     ensures same_answers { SameAnswers (R.answers resolver.old) (R.answers resolver.new) }
     ensures same_texts { SameTexts (R.texts resolver.old) (R.texts resolver.new) }
+    ensures same_names { R.display_names resolver.new ≡ R.display_names resolver.old }
+    ensures same_asked { R.asked resolver.new ≡ R.asked resolver.old }
 {
     for path in paths {
         add_source(alloc, resolver, path, recorded)?;
@@ -215,9 +254,13 @@ fn add_source<R: Resolver>(
     ensures memory { IsFound (R.answers resolver.old) (path_text path.now) → IfErr result (λ e. e ≡ CompileError.OutOfMemory) }
     ensures text { OnOk result (HasText (R.texts resolver.old) recorded.new path.now) }
     ensures texts { OnOk result ((q : Path) → HasText (R.texts resolver.old) recorded.old q → HasText (R.texts resolver.old) recorded.new q) }
+    ensures only { OnOk result (AddsOnly (path.now ∷ []) recorded.old recorded.new) }
+    ensures names { OnOk result (HasNames (R.display_names resolver.old) recorded.old → HasNames (R.display_names resolver.old) recorded.new) }
     ensures decls { recorded.new.decls ≡ recorded.old.decls }
     ensures same_answers { SameAnswers (R.answers resolver.old) (R.answers resolver.new) }
     ensures same_texts { SameTexts (R.texts resolver.old) (R.texts resolver.new) }
+    ensures same_names { R.display_names resolver.new ≡ R.display_names resolver.old }
+    ensures same_asked { R.asked resolver.new ≡ R.asked resolver.old }
 {
     let name = resolver.display_name(alloc, path)?;
     let text = resolver.resolve_source(alloc, path)?;

@@ -4,11 +4,13 @@
 mod calls;
 mod error;
 mod options;
+mod recorded;
 mod resolver;
 
 pub use calls::{compile, link};
 pub use error::{CompileError, Concern, ImportKind, ResolveKind};
 pub use options::Options;
+pub use recorded::Recorded;
 pub use resolver::VirtualResolver;
 pub use wesl_link::{
     BasicSourceMap, EscapeMangler, ImportError, ResolveError, Resolver, SourceMap,

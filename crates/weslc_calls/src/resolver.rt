@@ -1,9 +1,6 @@
 //! Modules whose texts are handed in.
 
-ghost use Rattle.std.specs.Prelude.{◌≡◌, [], None, IfOk, OnOk, OnErr, map};
-ghost use Rattle.std.specs.Option.{is_some};
-ghost use Rattle.wgsl_path.specs.Paths.{path_text};
-ghost use Rattle.weslc_calls.specs.Stored.{text_at, texts_added, IsAdded, TellsStored};
+ghost use Rattle.weslc_calls.specs.Keyed.{AreKeyed};
 
 use indexmap::IndexMap;
 use std::alloc::{AllocError, Global};
@@ -24,9 +21,15 @@ struct VirtualModule {
 pub struct VirtualResolver {
     alloc: Global,
     modules: IndexMap<String, VirtualModule>,
+    ghost keyed: { AreKeyed modules.entries },
 }
 
 impl VirtualResolver {
+    ghost use Rattle.std.specs.Prelude.{◌≡◌, [], IfOk, OnOk, OnErr, map};
+    ghost use Rattle.std.specs.Option.{is_some};
+    ghost use Rattle.wgsl_path.specs.Paths.{path_text};
+    ghost use Rattle.weslc_calls.specs.Stored.{text_at, texts_added, one_added, IsAdded, TellsStored};
+
     /// No modules.
     pub fn new(alloc: Global) -> VirtualResolver
         ensures { texts_added result ≡ [] }
@@ -37,8 +40,9 @@ impl VirtualResolver {
         }
     }
 
-    /// Adds the text of a module, in place of the one that was there. Where memory is refused nothing is changed.
+    /// Adds the text of a module at a path, in place of the one that was there. Where memory is refused nothing is changed.
     pub fn add_module(&mut self, path: ModulePath, text: Text) -> Result<(), AllocError>
+        ensures listed { OnOk result (texts_added self.new ≡ one_added path text (texts_added self.old)) }
         ensures added { OnOk result (IsAdded self.old (path_text path) text self.new) }
         ensures refused { OnErr result (texts_added self.new ≡ texts_added self.old) }
     {
@@ -80,9 +84,10 @@ impl VirtualResolver {
 
 impl Resolver for VirtualResolver {
     ghost use Rattle.std.specs.Prelude.{◌≡◌, Some, None};
-    ghost use Rattle.std.proofs.Common.{sym, ◌∙◌};
+    ghost use Rattle.std.specs.Option.{unwrap_or};
+    ghost use Rattle.std.proofs.Common.{ap, sym, ◌∙◌};
     ghost use Rattle.wesl_resolve.specs.Found.{Answer};
-    ghost use Rattle.weslc_calls.specs.Stored.{text_at, found_in};
+    ghost use Rattle.weslc_calls.specs.Stored.{text_at, found_in, text_of_found};
 
     ghost answers = { λ r p a. found_in (text_at r p) a };
 
@@ -106,5 +111,17 @@ impl Resolver for VirtualResolver {
         }
     }
 
+    fn display_name(
+        &mut self,
+        _alloc: Global,
+        _path: &ModulePath,
+    ) -> Result<Option<Text>, AllocError> {
+        Ok(None)
+    }
+
     ghost one_answer = { λ r p. elim (text_at r p) as (λ o. (a b : Answer) → found_in o a → found_in o b → a ≡ b) [ None ↦ λ _ _ h k. h ∙ sym k | Some text ↦ λ a _ h k. k.only a h.says ] };
+
+    ghost one_text = { λ r p a b h k. ap (λ text. unwrap_or text a) (sym h ∙ k) };
+
+    ghost text_of_unit = { λ r p u. text_of_found (text_at r p) u };
 }

@@ -1,7 +1,9 @@
+use Rattle.std.proofs.Common.{◌≡◌}
 use Rattle.wesl_resolve.specs.Found.{SameAnswers, SameTexts}
 use Rattle.wesl_sources.specs.Modules.{Modules as ListedModules}
 use Rattle.wesl_reach.specs.Loading.{AreTabled, AreSought}
 use Rattle.wesl_reach.proofs.LoadLemmas.{IsLoadedTo}
+use Rattle.wesl_reach.proofs.AskingLemmas.{IsAskedTo}
 use Rattle.wesl_reach.proofs.rounds.load_all.Given as goal
 
 abbrev pub invariant-loop-text : goal.invariant-loop-text
@@ -10,4 +12,7 @@ invariant-loop-text g l = record {
   texts : SameTexts (g.R.Resolver.texts l.initial.resolver) (g.R.Resolver.texts l.resolver);
   loads : (listed : ListedModules) → AreTabled l.initial.modules listed → AreSought l.initial.modules l.asked
       → IsLoadedTo (g.R.Resolver.answers l.initial.resolver) l.max_modules l.initial.modules listed l.asked l.modules l.text-iterator;
+  names : g.R.Resolver.display_names l.resolver ≡ g.R.Resolver.display_names l.initial.resolver;
+  asks : (listed : ListedModules) → AreTabled l.initial.modules listed → AreSought l.initial.modules l.asked
+      → IsAskedTo (g.R.Resolver.answers l.initial.resolver) l.max_modules l.initial.modules listed l.asked (g.R.Resolver.asked l.initial.resolver) (g.R.Resolver.asked l.resolver) l.modules l.text-iterator;
 }

@@ -1,7 +1,9 @@
-use Rattle.std.proofs.Common.{◌<◌, length, sym, subst, ap, ◌∙◌, Err, arith}
+use Rattle.std.proofs.Common.{◌<◌, length, sym, subst, ap, ◌∙◌, inr, Err, arith}
 use Rattle.std.proofs.lemmas.Result.{err_from_is_err_and}
+use Rattle.wgsl_path.specs.Paths.{path_text}
 use Rattle.wesl_reach.specs.Loading.{LoadsOne}
 use Rattle.wesl_reach.proofs.LoadLemmas.{one_more, unit_refused, module_refused, module_loaded}
+use Rattle.wesl_reach.proofs.AskingLemmas.{asked_it, asks_for_one}
 use Rattle.wesl_reach.proofs.rounds.load_one.Goals as goal
 
 pub returns-then-len-max_modules-clause-loads : goal.returns-then-len-max_modules-clause-loads
@@ -31,3 +33,32 @@ returns-clause-loads g c = λ is.
     module_loaded (g.R.Resolver.answers c.args.resolver.now) c.args.max_modules (length c.args.modules.now.entries) c.args.path.now c.args.text.now is
     c.args.modules.now c.insert.new.self c.in_ok-from_str.field-0 c.in_ok-unit.unit c.in_ok-module.module c.in_ok-insert.field-0
     less c.in_ok-unit.ensures.unit c.in_ok-module.ensures c.in_ok-from_str.ensures.ok c.in_ok-insert.ensures.updates c.in_ok-insert.ensures.old c.in_ok-insert.ensures.len c.in_ok-insert.ensures.ordered
+
+pub returns-in_err-module-clause-asks : goal.returns-in_err-module-clause-asks
+returns-in_err-module-clause-asks g c =
+    let less : length c.args.modules.now.entries < c.args.max_modules = omega (arith, c.len.ensures.len, c.if-len-max_modules.false) in
+    inr (less, asked_it (g.R.Resolver.asked c.args.resolver.now) (path_text c.args.path.now) c.in_ok-unit.unit (g.R.Resolver.asked c.resolve_module.new.self) c.in_ok-unit.ensures.asked)
+
+pub returns-in_err-from_str-clause-asks : goal.returns-in_err-from_str-clause-asks
+returns-in_err-from_str-clause-asks g c =
+    let less : length c.args.modules.now.entries < c.args.max_modules = omega (arith, c.len.ensures.len, c.if-len-max_modules.false) in
+    inr (less, asked_it (g.R.Resolver.asked c.args.resolver.now) (path_text c.args.path.now) c.in_ok-unit.unit (g.R.Resolver.asked c.resolve_module.new.self) c.in_ok-unit.ensures.asked)
+
+pub returns-in_err-insert-clause-asks : goal.returns-in_err-insert-clause-asks
+returns-in_err-insert-clause-asks g c =
+    let less : length c.args.modules.now.entries < c.args.max_modules = omega (arith, c.len.ensures.len, c.if-len-max_modules.false) in
+    inr (less, asked_it (g.R.Resolver.asked c.args.resolver.now) (path_text c.args.path.now) c.in_ok-unit.unit (g.R.Resolver.asked c.resolve_module.new.self) c.in_ok-unit.ensures.asked)
+
+pub returns-clause-asks : goal.returns-clause-asks
+returns-clause-asks g c =
+    let less : length c.args.modules.now.entries < c.args.max_modules = omega (arith, c.len.ensures.len, c.if-len-max_modules.false) in
+    inr (less, asked_it (g.R.Resolver.asked c.args.resolver.now) (path_text c.args.path.now) c.in_ok-unit.unit (g.R.Resolver.asked c.resolve_module.new.self) c.in_ok-unit.ensures.asked)
+
+pub returns-in_err-unit-clause-asks : goal.returns-in_err-unit-clause-asks
+returns-in_err-unit-clause-asks g c =
+    let less : length c.args.modules.now.entries < c.args.max_modules = omega (arith, c.len.ensures.len, c.if-len-max_modules.false) in
+    asks_for_one (g.R.Resolver.asked c.args.resolver.now) (length c.args.modules.now.entries) c.args.max_modules (path_text c.args.path.now) (Err c.in_err-unit.field-0.0) (g.R.Resolver.asked c.resolve_module.new.self)
+    less c.in_err-unit.ensures.asked
+
+pub returns-clause-asked : goal.returns-clause-asked
+returns-clause-asked g c = asked_it (g.R.Resolver.asked c.args.resolver.now) (path_text c.args.path.now) c.in_ok-unit.unit (g.R.Resolver.asked c.resolve_module.new.self) c.in_ok-unit.ensures.asked

@@ -10,6 +10,9 @@ use Rattle.wesl_reach.specs.Answers.{Loading}
 use Rattle.wesl_reach.specs.Closed.{IsClosed, RefusesClosing}
 use Rattle.wesl_reach.proofs.LoadLemmas.{same_refuses, same_all_loaded, two_same}
 use Rattle.wesl_reach.proofs.GoesLemmas.{no_entries, all_ended, sought, loading_refused, too_many, closing_refused, one_round}
+use Rattle.wesl_sources.specs.Asks.{printed_paths}
+use Rattle.wesl_reach.specs.Loading.{paths_of}
+use Rattle.wesl_reach.proofs.AskingLemmas.{among_moves, all_asked_moves, end_asked, end_loaded, round_refused, round_asked}
 use Rattle.wesl_reach.proofs.rounds.load_rounds.Goals as goal
 
 pub returns-then-is_empty-clause-loading : goal.returns-then-is_empty-clause-loading
@@ -71,6 +74,24 @@ loop-round-preserved g c = record {
       (subst (λ q. IsClosed c.loop-round.reached.modules q c.args.keep.now c.loop-round.reached.held c.loop-round.asked
       → IsClosed c.load_all.new.modules q c.args.keep.now c.close_asked.new.held c.in_ok-asked.asked) here
       (λ closed. c.in_ok-asked.ensures.closed c.loop-round.reached.modules all.tabled.keyed closed all.on) e.closed);
+  names = c.load_all.ensures.same_names ∙ c.loop-round.invariant.names;
+  asks = λ start.
+      let sources = g.R.Resolver.answers c.args.resolver.now in
+      let root : Path = string_bytes c.args.reached.root in
+      let between = g.R.Resolver.asked c.loop-round.resolver in
+      let next = g.R.Resolver.asked c.load_all.new.resolver in
+      let e = c.loop-round.invariant.asks start in
+      let some : c.loop-round.asked.entries ≢ [] = λ is. (let both : true ≡ false = sym (c.is_empty.ensures.1 (ap length is)) ∙ c.if-is_empty.false in absurd (cc)) in
+      let seek = sought sources c.args.max_modules root c.args.keep.now c.loop-round.reached c.loop-round.asked c.loop-round._round e.end in
+      let all = all_asked_moves sources (g.R.Resolver.answers c.loop-round.resolver) c.args.max_modules between next c.loop-round.reached.modules e.end.modules c.loop-round.asked c.load_all.new.modules
+      c.loop-round.invariant.answers (c.in_ok-load_all.ensures.asks e.end.modules e.end.tabled seek) in
+      let here : c.as_str.result.now ≡ root = c.as_str.ensures.value ∙ c.loop-round.invariant.root in
+      let after : Reached = record { modules = c.load_all.new.modules; root = c.loop-round.reached.root; held = c.close_asked.new.held } in
+      round_asked sources c.args.max_modules root c.args.keep.now (g.R.Resolver.asked c.args.resolver.now) between c.loop-round.reached c.loop-round.asked c.loop-round._round e c.in_ok-load_all.ensures.ordered
+      next some c.load_all.new.modules all after c.in_ok-asked.asked refl
+      (subst (λ q. IsClosed c.loop-round.reached.modules q c.args.keep.now c.loop-round.reached.held c.loop-round.asked
+      → IsClosed c.load_all.new.modules q c.args.keep.now c.close_asked.new.held c.in_ok-asked.asked) here
+      (λ closed. c.in_ok-asked.ensures.closed c.loop-round.reached.modules all.loaded.tabled.keyed closed all.loaded.on) e.end.closed);
 }
 
 pub returns-in_ok-clone_in-in-Some-clause-loading : goal.returns-in_ok-clone_in-in-Some-clause-loading
@@ -87,3 +108,56 @@ returns-in-None-clause-loading g c = λ start.
       all_ended (g.R.Resolver.answers c.args.resolver.now) c.args.max_modules (string_bytes c.args.reached.root) c.args.keep.now c.loop-round.reached c.loop-round.asked c.loop-round._round
           (c.loop-round.invariant.loading start) empty,
     )
+
+pub returns-then-is_empty-clause-asked : goal.returns-then-is_empty-clause-asked
+returns-then-is_empty-clause-asked g c = λ start. end_asked (g.R.Resolver.answers c.args.resolver.now) c.args.max_modules (string_bytes c.args.reached.root) c.args.keep.now (g.R.Resolver.asked c.args.resolver.now) (g.R.Resolver.asked c.loop-round.resolver) c.loop-round.reached c.loop-round.asked c.loop-round._round
+    (c.loop-round.invariant.asks start)
+
+pub returns-in_ok-clone_in-in-Some-clause-asked : goal.returns-in_ok-clone_in-in-Some-clause-asked
+returns-in_ok-clone_in-in-Some-clause-asked g c = λ start. end_asked (g.R.Resolver.answers c.args.resolver.now) c.args.max_modules (string_bytes c.args.reached.root) c.args.keep.now (g.R.Resolver.asked c.args.resolver.now) (g.R.Resolver.asked c.loop-round.resolver) c.loop-round.reached c.loop-round.asked c.loop-round._round
+    (c.loop-round.invariant.asks start)
+
+pub returns-in_err-clone_in-in-Some-clause-asked : goal.returns-in_err-clone_in-in-Some-clause-asked
+returns-in_err-clone_in-in-Some-clause-asked g c = λ start. end_asked (g.R.Resolver.answers c.args.resolver.now) c.args.max_modules (string_bytes c.args.reached.root) c.args.keep.now (g.R.Resolver.asked c.args.resolver.now) (g.R.Resolver.asked c.loop-round.resolver) c.loop-round.reached c.loop-round.asked c.loop-round._round
+    (c.loop-round.invariant.asks start)
+
+pub returns-in-None-clause-asked : goal.returns-in-None-clause-asked
+returns-in-None-clause-asked g c = λ start. end_asked (g.R.Resolver.answers c.args.resolver.now) c.args.max_modules (string_bytes c.args.reached.root) c.args.keep.now (g.R.Resolver.asked c.args.resolver.now) (g.R.Resolver.asked c.loop-round.resolver) c.loop-round.reached c.loop-round.asked c.loop-round._round
+    (c.loop-round.invariant.asks start)
+
+pub returns-then-is_empty-clause-all_asked : goal.returns-then-is_empty-clause-all_asked
+returns-then-is_empty-clause-all_asked g c = λ start.
+    let empty : c.loop-round.asked.entries ≡ [] = no_entries c.loop-round.asked.entries (c.is_empty.ensures.0 c.if-is_empty.true) in
+    end_loaded (g.R.Resolver.answers c.args.resolver.now) c.args.max_modules (string_bytes c.args.reached.root) c.args.keep.now (g.R.Resolver.asked c.args.resolver.now) (g.R.Resolver.asked c.loop-round.resolver) c.loop-round.reached c.loop-round.asked c.loop-round._round
+    (c.loop-round.invariant.asks start) empty
+
+pub returns-in-None-clause-all_asked : goal.returns-in-None-clause-all_asked
+returns-in-None-clause-all_asked g c = λ start.
+    let empty : c.loop-round.asked.entries ≡ [] = sym c.iter.ensures.rest ∙ rest_all deref_pair c.iter.result c.next.new.self c.next.result c.in-None.is c.next.ensures.steps in
+    end_loaded (g.R.Resolver.answers c.args.resolver.now) c.args.max_modules (string_bytes c.args.reached.root) c.args.keep.now (g.R.Resolver.asked c.args.resolver.now) (g.R.Resolver.asked c.loop-round.resolver) c.loop-round.reached c.loop-round.asked c.loop-round._round
+    (c.loop-round.invariant.asks start) empty
+
+pub returns-in_err-load_all-clause-asked : goal.returns-in_err-load_all-clause-asked
+returns-in_err-load_all-clause-asked g c = λ start.
+    let sources = g.R.Resolver.answers c.args.resolver.now in
+    let root : Path = string_bytes c.args.reached.root in
+    let between = g.R.Resolver.asked c.loop-round.resolver in
+    let next = g.R.Resolver.asked c.load_all.new.resolver in
+    let e = c.loop-round.invariant.asks start in
+    let seek = sought sources c.args.max_modules root c.args.keep.now c.loop-round.reached c.loop-round.asked c.loop-round._round e.end in
+    let these = c.in_err-load_all.ensures.asks e.end.modules e.end.tabled seek in
+    round_refused sources c.args.max_modules root c.args.keep.now (g.R.Resolver.asked c.args.resolver.now) between c.loop-round.reached c.loop-round.asked c.loop-round._round e c.in_err-load_all.ensures.ordered
+    next these.0 (among_moves sources (g.R.Resolver.answers c.loop-round.resolver) c.args.max_modules between next e.end.modules (paths_of c.loop-round.asked) these.0 c.loop-round.invariant.answers these.1)
+
+pub returns-in_err-asked-clause-asked : goal.returns-in_err-asked-clause-asked
+returns-in_err-asked-clause-asked g c = λ start.
+    let sources = g.R.Resolver.answers c.args.resolver.now in
+    let root : Path = string_bytes c.args.reached.root in
+    let between = g.R.Resolver.asked c.loop-round.resolver in
+    let next = g.R.Resolver.asked c.load_all.new.resolver in
+    let e = c.loop-round.invariant.asks start in
+    let seek = sought sources c.args.max_modules root c.args.keep.now c.loop-round.reached c.loop-round.asked c.loop-round._round e.end in
+    let all = all_asked_moves sources (g.R.Resolver.answers c.loop-round.resolver) c.args.max_modules between next c.loop-round.reached.modules e.end.modules c.loop-round.asked c.load_all.new.modules
+    c.loop-round.invariant.answers (c.in_ok-load_all.ensures.asks e.end.modules e.end.tabled seek) in
+    round_refused sources c.args.max_modules root c.args.keep.now (g.R.Resolver.asked c.args.resolver.now) between c.loop-round.reached c.loop-round.asked c.loop-round._round e c.in_ok-load_all.ensures.ordered
+    next (printed_paths all.loaded.more) all.among

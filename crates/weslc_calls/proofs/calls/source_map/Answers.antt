@@ -3,11 +3,11 @@ use Rattle.std.proofs.Common.{◌≡◌, map, sym, ap, ◌∙◌, subst, Bor}
 use Rattle.wgsl_path.specs.Paths.{path_text}
 use Rattle.std.proofs.lemmas.Result.{err_from_is_err_and}
 use Rattle.wgsl_path.specs.declared.path.ModulePath.{ModulePath as Path}
-use Rattle.weslc_calls.specs.Mapped.{AreAllFound, HaveTexts}
+use Rattle.weslc_calls.specs.Mapped.{AreAllFound, HaveTexts, AddsOnly}
 use Rattle.std.specs.Prelude.{string_bytes}
 use Rattle.wesl_reach.specs.Resolved.{modules_of}
 use Rattle.wesl_resolve.specs.declared.source_map.BasicSourceMap.{BasicSourceMap}
-use Rattle.weslc_calls.proofs.Mapping.{text_kept, found_moved, refused_for_memory}
+use Rattle.weslc_calls.proofs.Mapping.{text_kept, no_names, names_kept, only_added, only_kept, found_moved, refused_for_memory}
 use Rattle.weslc_calls.proofs.Recorded.{told_kept}
 use Rattle.weslc_calls.proofs.calls.source_map.Goals as goal
 
@@ -39,3 +39,18 @@ pub returns-clause-decls : goal.returns-clause-decls
 returns-clause-decls g c keep r =
     told_kept (modules_of c.args.resolutions.now.modules) (string_bytes c.args.resolutions.now.root) keep c.new-map.result c.add_decls.new.map c.set_default_source.new.self c.new-map.ensures.decls
     (ap (λ (m : BasicSourceMap). m.decls) c.set_default_source.ensures ∙ c.in_ok-add_sources.ensures.decls) (c.in_ok-add_decls.ensures.told keep r)
+
+pub returns-clause-only : goal.returns-clause-only
+returns-clause-only g c =
+    let listed = map (λ e. e.1.path) c.args.resolutions.now.modules.entries in
+    let paths : map (λ (p : Bor Path). p.now) c.as_slice.result.now ≡ map (λ e. e.1.path) c.args.resolutions.now.modules.entries
+    = ap (map (λ (p : Bor Path). p.now)) c.as_slice.ensures.value ∙ c.in_ok-paths.ensures in
+    let adds = subst (λ ps. AddsOnly ps c.add_decls.new.map c.add_sources.new.recorded) paths c.in_ok-add_sources.ensures.only in
+    only_kept c.add_sources.new.recorded c.set_default_source.new.self listed (ap (λ (m : BasicSourceMap). m.sources) c.set_default_source.ensures)
+    (only_added c.new-map.result c.add_decls.new.map c.add_sources.new.recorded listed c.new-map.ensures.sources c.in_ok-add_decls.ensures.sources adds)
+
+pub returns-clause-names : goal.returns-clause-names
+returns-clause-names g c =
+    let names = g.R.Resolver.display_names c.args.resolver.now in
+    names_kept names c.add_sources.new.recorded c.set_default_source.new.self (ap (λ (m : BasicSourceMap). m.sources) c.set_default_source.ensures)
+    (c.in_ok-add_sources.ensures.names (names_kept names c.new-map.result c.add_decls.new.map c.in_ok-add_decls.ensures.sources (no_names names c.new-map.result c.new-map.ensures.sources)))
