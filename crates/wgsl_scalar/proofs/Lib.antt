@@ -1,1 +1,3 @@
 pub mod Widened
+pub mod Types
+pub mod Stages

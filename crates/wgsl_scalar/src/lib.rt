@@ -4,6 +4,7 @@
 mod binary;
 mod conversion;
 mod exact;
+pub mod laws;
 mod scalar;
 mod shift;
 mod unary;
