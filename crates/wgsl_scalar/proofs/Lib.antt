@@ -1,0 +1,3 @@
+pub mod Widened
+pub mod Types
+pub mod Stages

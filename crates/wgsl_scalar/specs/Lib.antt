@@ -1,0 +1,4 @@
+pub mod Scalars
+pub mod Conversions
+pub mod Operators
+pub mod Laws

@@ -1,0 +1,16 @@
+//! Values of scalars: their conversions, and the operators on them at each stage. The part of values that needs no memory.
+#![tactic(auto)]
+
+mod binary;
+mod conversion;
+mod exact;
+pub mod laws;
+mod scalar;
+mod shift;
+mod unary;
+
+pub use binary::binary_scalar_op;
+pub use conversion::{construct_scalar, convert_scalar};
+pub use scalar::{IntegerType, ScalarType, type_of};
+pub use unary::unary_scalar_op;
+pub use wgsl_enumerations::ShaderStage;
