@@ -13,8 +13,9 @@ use stream::{Sink, Source};
 use weslc_bundle::serve_bundle;
 
 /// The files of cases, each a list.
-const FILES: [&str; 6] = [
+const FILES: [&str; 7] = [
     "bundles.json",
+    "fields.json",
     "texts.json",
     "links.json",
     "compiled.json",
