@@ -8,7 +8,7 @@ use Rattle.std.proofs.lemmas.Map.Text.{hash_map_updates_str}
 use Rattle.std.proofs.lemmas.List.{take_more, map-append}
 use Rattle.std.proofs.lemmas.List.Folds.{list_any-append}
 use denote.Ref.{Bor}
-use Rattle.wesl_sources.specs.Occurrences.{Name, is_among}
+use Rattle.wesl_link_spec.specs.Occurrences.{Name, is_among}
 use Rattle.wesl_rename.specs.Scopes.{texts}
 use Rattle.wesl_link.specs.Clashing.{is_twice, sharing_in, sharing_at}
 use Rattle.wesl_scopes.proofs.ScopeLemmas.{same_name, self_name}

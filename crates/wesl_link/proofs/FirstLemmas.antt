@@ -6,15 +6,15 @@ use Rattle.std.specs.String.{string_cmp}
 use Rattle.std.specs.Option.{IsSome}
 use Rattle.std.specs.List.{Contains}
 use Rattle.std.specs.BTreeMap.{IsOrdered}
-use Rattle.wgsl_syntax.specs.Tree.{Decl, Unit}
+use Rattle.wgsl_syntax.specs.Tree.{Decl, UnitTree}
 use Rattle.wgsl_path.specs.declared.path.ModulePath.{ModulePath}
 use Rattle.wgsl_path.specs.Paths.{path_text}
-use Rattle.wesl_sources.specs.Occurrences.{Name, names_before, names_behind, names_in_body, locals, occurrences, declared_name}
-use Rattle.wesl_sources.specs.Modules.{Path, Symbol, Modules, IsModule, IsDeclaration, Reached}
-use Rattle.wesl_sources.specs.Names.{IsPrinted}
-use Rattle.wesl_sources.specs.Linked.{IsInOrder, IsShared, Clashes}
-use Rattle.wesl_sources.specs.Loaded.{IsClashFree}
-use Rattle.wesl_sources.specs.Clashing.{IsFirst, Mention, occurs, declares, mentions, MentionClashes, occurrence, own, DeclarationClashes, ModuleClashes, IsFirstClash}
+use Rattle.wesl_link_spec.specs.Occurrences.{Name, names_before, names_behind, names_in_body, locals, occurrences, declared_name}
+use Rattle.wesl_link_spec.specs.Modules.{Path, Symbol, Modules, IsModule, IsDeclaration, Reached}
+use Rattle.wesl_link_spec.specs.Names.{IsPrinted}
+use Rattle.wesl_link_spec.specs.Linked.{IsInOrder, IsShared, Clashes}
+use Rattle.wesl_link_spec.specs.Loaded.{IsClashFree}
+use Rattle.wesl_link_spec.specs.Clashing.{IsFirst, Mention, occurs, declares, mentions, MentionClashes, occurrence, own, DeclarationClashes, ModuleClashes, IsFirstClash}
 use Rattle.wesl_scopes.specs.Outcomes.{loaded, home_of, outcome, meant_as}
 use Rattle.wesl_scopes.specs.Tells.{IsFinder, StandsAt}
 use Rattle.wesl_reach.specs.Closing.{HeldNames, held_at}
@@ -210,7 +210,7 @@ module _ (ms : LoadedModules) (root : Path) (keep : List Name) (held : HeldNames
   abbrev sharing : Sharing
   sharing = sharing_in (held_names held ms.entries)
 
-  module _ (m : Path × Unit) (here : loaded ms m.0 ≡ Some m) where
+  module _ (m : Path × UnitTree) (here : loaded ms m.0 ≡ Some m) where
     abbrev printed : Name → Option Name
     printed x = printed_of (held_at held) (outcome (loaded ms) m x)
 
@@ -329,7 +329,7 @@ module _ (ms : LoadedModules) (root : Path) (keep : List Name) (held : HeldNames
       λ z is. record { unit = m.1; is_module = home; first = declarations_decide.0 z is },
       λ none z c.
           let unit : m ≡ (m.0, c.unit) = found_unit (modules_of ms) (loaded ms) finds m.0 c.unit m c.is_module here in
-          declarations_decide.1 none z (subst (λ (h : Path × Unit). IsFirst (DeclarationClashes (modules_of ms) root keep m.0) h.1.declarations z) (sym unit) c.first),
+          declarations_decide.1 none z (subst (λ (h : Path × UnitTree). IsFirst (DeclarationClashes (modules_of ms) root keep m.0) h.1.declarations z) (sym unit) c.first),
     )
 
     -- no name of a held declaration clashes
@@ -377,12 +377,12 @@ module _ (ms : LoadedModules) (root : Path) (keep : List Name) (held : HeldNames
       let p = from_contains (modules_of ms) (r.rooted.1.path, r.rooted.0) r.rooted.1.stands in
       subst (λ l. Contains l root) (printed_keys ms r.keyed ordered ms.entries whole)
       (to_contains (map (λ m. path_text m.0) (modules_of ms)) p.0 root
-      (get_map (λ (m : ModulePath × Unit). path_text m.0) (modules_of ms) p.0 (r.rooted.1.path, r.rooted.0) p.1 ∙ ap (λ q. Some q) r.rooted.1.printed))
+      (get_map (λ (m : ModulePath × UnitTree). path_text m.0) (modules_of ms) p.0 (r.rooted.1.path, r.rooted.0) p.1 ∙ ap (λ q. Some q) r.rooted.1.printed))
 
   is_order : IsInOrder (modules_of ms) root order
   is_order = in_order root (modules_of ms) (texts_of ms.entries) (printed_keys ms r.keyed ordered ms.entries whole) (sorted_texts ms r.keyed ordered ms.entries ordered) root_in
 
-  order_loaded : (p : Path) → Contains order p → (m : Path × Unit) × (loaded ms p ≡ Some m)
+  order_loaded : (p : Path) → Contains order p → (m : Path × UnitTree) × (loaded ms p ≡ Some m)
   order_loaded p c =
       all_there ms r.keyed ordered ms.entries whole p (subst (λ l. Contains l p) (printed_keys ms r.keyed ordered ms.entries whole) ((is_order.each p).0 c))
 
@@ -402,11 +402,11 @@ module _ (ms : LoadedModules) (root : Path) (keep : List Name) (held : HeldNames
 
   -- ---- where nothing clashes
 
-  path_in : (p : Path) (u : Unit) → IsModule (modules_of ms) p u → Contains order p
+  path_in : (p : Path) (u : UnitTree) → IsModule (modules_of ms) p u → Contains order p
   path_in p u is =
       let c = from_contains (modules_of ms) (is.path, u) is.stands in
       (is_order.each p).1
-      (to_contains (map (λ m. path_text m.0) (modules_of ms)) c.0 p (get_map (λ (m : ModulePath × Unit). path_text m.0) (modules_of ms) c.0 (is.path, u) c.1 ∙ ap (λ q. Some q) is.printed))
+      (to_contains (map (λ m. path_text m.0) (modules_of ms)) c.0 p (get_map (λ (m : ModulePath × UnitTree). path_text m.0) (modules_of ms) c.0 (is.path, u) c.1 ∙ ap (λ q. Some q) is.printed))
 
   module _ (none : unit_clash ms held root ≡ None) where
     all_free : (s : Symbol) (d : Decl) → Reached (modules_of ms) root keep s → IsDeclaration (modules_of ms) s d → (a : Mention) → Contains (mentions d) a

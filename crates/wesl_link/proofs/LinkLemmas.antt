@@ -3,12 +3,12 @@ use Rattle.std.proofs.Common.{◌≡◌, refl, sym, ap, ◌∙◌, subst, ℕ, z
 use Rattle.std.specs.Prelude.{if◌then◌else◌, slice_get, is_some}
 use Rattle.std.specs.Option.{IsSome}
 use Rattle.std.specs.Str.{bytes_eq}
-use Rattle.wgsl_syntax.specs.Tree.{Decl, Unit}
+use Rattle.wgsl_syntax.specs.Tree.{Decl, UnitTree}
 use Rattle.wesl_resolve.specs.Mangling.{mangled}
-use Rattle.wesl_sources.specs.Occurrences.{Name, declared_name}
-use Rattle.wesl_sources.specs.Modules.{Path, Symbol, Modules, IsModule, Declares, Imports, IsFree, Reached}
-use Rattle.wesl_sources.specs.Names.{IsPrinted, stays, is_mangled}
-use Rattle.wesl_sources.specs.Linked.{renamed_declaration, IsNaming, Selects, nothing_left, takes, leaves, IsLinkedModule}
+use Rattle.wesl_link_spec.specs.Occurrences.{Name, declared_name}
+use Rattle.wesl_link_spec.specs.Modules.{Path, Symbol, Modules, IsModule, Declares, Imports, IsFree, Reached}
+use Rattle.wesl_link_spec.specs.Names.{IsPrinted, stays, is_mangled}
+use Rattle.wesl_link_spec.specs.Linked.{renamed_declaration, IsNaming, Selects, nothing_left, takes, leaves, IsLinkedModule}
 use Rattle.wesl_scopes.specs.Meanings.{Known, declared, imported, bare, known}
 use Rattle.wesl_scopes.specs.Outcomes.{Outcome, symbol_at, unloaded, missing, private, free, Loaded, meant_as, outcome}
 use Rattle.wesl_scopes.specs.Tells.{IsFinder, StandsAt, Tells}
@@ -28,7 +28,7 @@ module _ (modules : Modules) (find : Loaded) (finder : IsFinder modules find) (r
   pub one_symbol : (p : Path) (i : ℕ) (s t : Symbol) → StandsAt modules p i s → StandsAt modules p i t → s ≡ t
   one_symbol p i s t at on =
       let unit : (p, on.unit) ≡ (p, at.unit) = found_unit modules find finder p at.unit (p, on.unit) at.is_module (finder.finds p on.unit on.is_module) in
-      let there : slice_get at.unit.declarations i ≡ Some on.declaration = subst (λ (h : Path × Unit). slice_get h.1.declarations i ≡ Some on.declaration) unit on.stands in
+      let there : slice_get at.unit.declarations i ≡ Some on.declaration = subst (λ (h : Path × UnitTree). slice_get h.1.declarations i ≡ Some on.declaration) unit on.stands in
       let same : at.declaration ≡ on.declaration = the_declaration (slice_get at.unit.declarations i) at.declaration on.declaration at.stands there in
       λ k. record { home = (at.home ∙ sym on.home) k; name = (at.name ∙ ap declared_name same ∙ sym on.name) k }
 
@@ -87,7 +87,7 @@ module _ (modules : Modules) (find : Loaded) (finder : IsFinder modules find) (r
   ideal_settled m x (private u) t s = absurd s
   ideal_settled m x free t s = refl
 
-  module _ (m : Path × Unit) (here : find m.0 ≡ Some m) where
+  module _ (m : Path × UnitTree) (here : find m.0 ≡ Some m) where
     abbrev ideal : Name → Name
     ideal x = ideal_of m.0 x (outcome find m x) (tells modules find finder m here x)
 
@@ -98,10 +98,10 @@ module _ (modules : Modules) (find : Loaded) (finder : IsFinder modules find) (r
         unit = found_unit modules find finder m.0 is.unit m is.is_module here
 
         undeclared : Declares m.1 x → ⊥
-        undeclared d = is.undeclared (subst (λ (h : Path × Unit). Declares h.1 x) unit d)
+        undeclared d = is.undeclared (subst (λ (h : Path × UnitTree). Declares h.1 x) unit d)
 
         unimported : Imports m.1 x → ⊥
-        unimported d = is.unimported (subst (λ (h : Path × Unit). Imports h.1 x) unit d)
+        unimported d = is.unimported (subst (λ (h : Path × UnitTree). Imports h.1 x) unit d)
 
         at : (o : Option Known) → known m.1 x ≡ o → meant_as find m.0 o ≡ free
         at None e = refl

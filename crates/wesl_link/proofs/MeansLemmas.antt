@@ -13,13 +13,13 @@ use Rattle.std.specs.declared.cmp.Ordering.TheVariants.{Less}
 use Rattle.std.proofs.lemmas.Map.Text.{is_eq-slice_cmp}
 use Rattle.wgsl_path.specs.declared.path.ModulePath.{ModulePath}
 use Rattle.wgsl_path.specs.Paths.{path_text}
-use Rattle.wgsl_syntax.specs.Tree.{Unit}
+use Rattle.wgsl_syntax.specs.Tree.{UnitTree}
 use Rattle.wgsl_syntax.specs.View.{unit_tree}
 use Rattle.wesl_resolve.specs.Mangling.{mangled}
-use Rattle.wesl_sources.specs.Occurrences.{Name, is_among}
-use Rattle.wesl_sources.specs.Modules.{Path, Symbol, Modules, IsModule, Denotes, IsFree, Reached}
-use Rattle.wesl_sources.specs.Names.{IsPrinted, stays, is_mangled}
-use Rattle.wesl_sources.specs.Linked.{IsShared, IsTaken, Clashes, shared, hidden, captured}
+use Rattle.wesl_link_spec.specs.Occurrences.{Name, is_among}
+use Rattle.wesl_link_spec.specs.Modules.{Path, Symbol, Modules, IsModule, Denotes, IsFree, Reached}
+use Rattle.wesl_link_spec.specs.Names.{IsPrinted, stays, is_mangled}
+use Rattle.wesl_link_spec.specs.Linked.{IsShared, IsTaken, Clashes, shared, hidden, captured}
 use Rattle.wesl_scopes.specs.declared.module.Module.{Module}
 use Rattle.wesl_scopes.specs.Outcomes.{Outcome, symbol_at, unloaded, missing, private, free, loaded, outcome}
 use Rattle.wesl_scopes.specs.Tells.{IsFinder, StandsAt, Tells}
@@ -39,7 +39,7 @@ use Rattle.wesl_link.proofs.SharedLemmas.{Entry, NamedAt, among_of, twice_of, pl
 -- ---- printed names
 
 abbrev Mangled : Modules → Path → Symbol → Name → Type 0
-Mangled modules root s y = (p : ModulePath) × (u : Unit) × (s.home ≡ root → ⊥) × Contains modules (p, u) × (path_text p ≡ s.home) × (y ≡ mangled p s.name)
+Mangled modules root s y = (p : ModulePath) × (u : UnitTree) × (s.home ≡ root → ⊥) × Contains modules (p, u) × (path_text p ≡ s.home) × (y ≡ mangled p s.name)
 
 printed_as : {modules : Modules} {root : Path} {s : Symbol} {y : Name} → IsPrinted modules root s y → ((s.home ≡ root) × (y ≡ s.name)) ⊎ Mangled modules root s y
 printed_as (stays {x}) = inl (refl, refl)
@@ -100,18 +100,18 @@ module _ (ms : LoadedModules) (root : Path) (keep : List Name) (held : HeldNames
   abbrev names : List Name
   names = held_names held ms.entries
 
-  key_text : (i : ℕ) (e : Entry) → slice_get ms.entries i ≡ Some e → string_bytes e.1.text ≡ string_bytes e.0
+  key_text : (i : ℕ) (e : Entry) → slice_get ms.entries i ≡ Some e → string_bytes e.1.printed_path ≡ string_bytes e.0
   key_text i e at = r.keyed (string_bytes e.0) e.1 (found_entry ms r.keyed ordered i e.0 e.1 at)
 
   -- modules that print alike are one
-  one_path : (a b : ModulePath) (u v : Unit) → Contains (modules_of ms) (a, u) → Contains (modules_of ms) (b, v) → path_text a ≡ path_text b → a ≡ b
+  one_path : (a b : ModulePath) (u v : UnitTree) → Contains (modules_of ms) (a, u) → Contains (modules_of ms) (b, v) → path_text a ≡ path_text b → a ≡ b
   one_path a b u v c d same =
       let i = from_contains (modules_of ms) (a, u) c in
       let j = from_contains (modules_of ms) (b, v) d in
       let e = map_get (λ (e : Entry). (e.1.path, unit_tree e.1.unit)) ms.entries i.0 (a, u) i.1 in
       let f = map_get (λ (e : Entry). (e.1.path, unit_tree e.1.unit)) ms.entries j.0 (b, v) j.1 in
-      let path_a : e.0.1.path ≡ a = ap (λ (m : ModulePath × Unit). m.0) e.2 in
-      let path_b : f.0.1.path ≡ b = ap (λ (m : ModulePath × Unit). m.0) f.2 in
+      let path_a : e.0.1.path ≡ a = ap (λ (m : ModulePath × UnitTree). m.0) e.2 in
+      let path_b : f.0.1.path ≡ b = ap (λ (m : ModulePath × UnitTree). m.0) f.2 in
       let keys : string_bytes e.0.0 ≡ string_bytes f.0.0 = sym (key_is ms r.keyed ordered i.0 e.0 e.1) ∙ ap path_text path_a ∙ same ∙ ap path_text (sym path_b) ∙ key_is ms r.keyed ordered j.0 f.0 f.1 in
       let one : Some e.0.1 ≡ Some f.0.1 = sym (found_entry ms r.keyed ordered i.0 e.0.0 e.0.1 e.1) ∙ ap (get_by_text ms) keys ∙ found_entry ms r.keyed ordered j.0 f.0.0 f.0.1 f.1 in
       let module_same : e.0.1 ≡ f.0.1 = cc in
@@ -138,11 +138,11 @@ module _ (ms : LoadedModules) (root : Path) (keep : List Name) (held : HeldNames
       (t.0, t.1, o.1 ∙ ap (λ n. Some n) (printed_one s o.0 y (r.named s.home t.0 s o.0 t.1 o.1) printed))
 
   -- the entry of a module
-  entry_of : (m : Path) (u : Unit) → IsModule (modules_of ms) m u → (i : ℕ) × (e : Entry) × (slice_get ms.entries i ≡ Some e) × (string_bytes e.1.text ≡ m) × (unit_tree e.1.unit ≡ u)
+  entry_of : (m : Path) (u : UnitTree) → IsModule (modules_of ms) m u → (i : ℕ) × (e : Entry) × (slice_get ms.entries i ≡ Some e) × (string_bytes e.1.printed_path ≡ m) × (unit_tree e.1.unit ≡ u)
   entry_of m u is =
       let c = from_contains (modules_of ms) (is.path, u) is.stands in
       let e = map_get (λ (e : Entry). (e.1.path, unit_tree e.1.unit)) ms.entries c.0 (is.path, u) c.1 in
-      (c.0, e.0, e.1, e.0.1.printed ∙ ap (λ (x : ModulePath × Unit). path_text x.0) e.2 ∙ is.printed, ap (λ (x : ModulePath × Unit). x.1) e.2)
+      (c.0, e.0, e.1, e.0.1.printed ∙ ap (λ (x : ModulePath × UnitTree). path_text x.0) e.2 ∙ is.printed, ap (λ (x : ModulePath × UnitTree). x.1) e.2)
 
   -- the entry and the place of a held symbol
   pub record Standing (s : Symbol) (y : Name) : Type 0 where
@@ -150,7 +150,7 @@ module _ (ms : LoadedModules) (root : Path) (keep : List Name) (held : HeldNames
     pub entry : Entry
     pub place : ℕ
     pub there : slice_get ms.entries index ≡ Some entry
-    pub text : string_bytes entry.1.text ≡ s.home
+    pub text : string_bytes entry.1.printed_path ≡ s.home
     pub at : StandsAt (modules_of ms) s.home place s
     pub named : NamedAt held y entry place
 
@@ -167,7 +167,7 @@ module _ (ms : LoadedModules) (root : Path) (keep : List Name) (held : HeldNames
         at = p.1;
         named = record {
           declaration = p.1.declaration;
-          stands = ap (λ (u : Unit). slice_get u.declarations p.0) e.4 ∙ p.1.stands;
+          stands = ap (λ (u : UnitTree). slice_get u.declarations p.0) e.4 ∙ p.1.stands;
           named = ap (λ t. held_at held t p.0) e.3 ∙ p.2;
         };
       }
@@ -185,7 +185,7 @@ module _ (ms : LoadedModules) (root : Path) (keep : List Name) (held : HeldNames
       twice_of held y ms.entries s.index o.index s.entry o.entry s.place o.place s.there o.there s.named o.named
       (λ index place.
       let entry : s.entry ≡ o.entry = same_entry s.index o.index s.entry o.entry s.there o.there index in
-      let home : t.one.home ≡ t.other.home = sym s.text ∙ ap (λ (e : Entry). string_bytes e.1.text) entry ∙ o.text in
+      let home : t.one.home ≡ t.other.home = sym s.text ∙ ap (λ (e : Entry). string_bytes e.1.printed_path) entry ∙ o.text in
       t.differ (one_symbol (modules_of ms) (loaded ms) finds root (held_at held) r.named t.one.home s.place t.one t.other s.at
       (subst (λ h. StandsAt (modules_of ms) h s.place t.other) (sym home) (subst (λ k. StandsAt (modules_of ms) t.other.home k t.other) (sym place) o.at))))
 
@@ -204,19 +204,19 @@ module _ (ms : LoadedModules) (root : Path) (keep : List Name) (held : HeldNames
   pub taken_is : (y : Name) → is_among y names ≡ true → IsTaken (modules_of ms) root keep y
   taken_is y e =
       let p = placed held y ms.entries e in
-      let s = symbolic (string_bytes p.entry.1.text) p.place y p.named in
+      let s = symbolic (string_bytes p.entry.1.printed_path) p.place y p.named in
       record { symbol = s.symbol; held = s.held_there; printed = s.printed }
 
   pub shared_is : (y : Name) → is_twice y names ≡ true → IsShared (modules_of ms) root keep y
   shared_is y e =
       let p = placed_twice held y ms.entries e in
-      let s = symbolic (string_bytes p.one.entry.1.text) p.one.place y p.one.named in
-      let t = symbolic (string_bytes p.other.entry.1.text) p.other.place y p.other.named in
+      let s = symbolic (string_bytes p.one.entry.1.printed_path) p.one.place y p.one.named in
+      let t = symbolic (string_bytes p.other.entry.1.printed_path) p.other.place y p.other.named in
       record {
         one = s.symbol;
         other = t.symbol;
         differ = λ same.
-            let texts : string_bytes p.one.entry.1.text ≡ string_bytes p.other.entry.1.text = sym s.at.home ∙ ap (λ (x : Symbol). x.home) same ∙ t.at.home in
+            let texts : string_bytes p.one.entry.1.printed_path ≡ string_bytes p.other.entry.1.printed_path = sym s.at.home ∙ ap (λ (x : Symbol). x.home) same ∙ t.at.home in
             ⊎_elim
             (λ less.
             texts_apart (map (λ (e : Entry). string_bytes e.0) ms.entries) (sorted_texts ms r.keyed ordered ms.entries ordered) p.one.index p.other.index _ _ less
@@ -225,7 +225,7 @@ module _ (ms : LoadedModules) (root : Path) (keep : List Name) (held : HeldNames
             (sym (key_text p.one.index p.one.entry p.one.stands) ∙ texts ∙ key_text p.other.index p.other.entry p.other.stands))
             (λ both.
             let place : p.other.place ≡ p.one.place =
-            same_place (modules_of ms) (loaded ms) finds (string_bytes p.one.entry.1.text) p.one.place p.other.place s.symbol t.at.unit t.at.declaration s.at
+            same_place (modules_of ms) (loaded ms) finds (string_bytes p.one.entry.1.printed_path) p.one.place p.other.place s.symbol t.at.unit t.at.declaration s.at
             (subst (λ m. IsModule (modules_of ms) m t.at.unit) (sym texts) t.at.is_module) t.at.stands (sym t.at.name ∙ sym (ap (λ (x : Symbol). x.name) same)) in
             let less : p.one.place < p.other.place = both.1 in
             absurd (omega (arith, place, less)))
@@ -238,7 +238,7 @@ module _ (ms : LoadedModules) (root : Path) (keep : List Name) (held : HeldNames
 
   -- ---- one name
 
-  module _ (m : Path × Unit) (here : loaded ms m.0 ≡ Some m) (locals : List Name) (x : Name) where
+  module _ (m : Path × UnitTree) (here : loaded ms m.0 ≡ Some m) (locals : List Name) (x : Name) where
     abbrev ClashesAs : Name → Type 0
     ClashesAs y = Clashes (modules_of ms) root keep m.0 locals x y
 

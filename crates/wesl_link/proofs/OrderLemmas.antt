@@ -10,11 +10,11 @@ use Rattle.std.specs.declared.cmp.Ordering.{Ordering}
 use Rattle.std.specs.declared.cmp.Ordering.TheVariants.{Less}
 use Rattle.wgsl_path.specs.declared.path.ModulePath.{ModulePath}
 use Rattle.wgsl_path.specs.Paths.{path_text}
-use Rattle.wgsl_syntax.specs.Tree.{Unit}
-use Rattle.wesl_sources.specs.Occurrences.{Name}
-use Rattle.wesl_sources.specs.Modules.{Path, Modules}
-use Rattle.wesl_sources.specs.Rounds.{IsAscending, no_path, one_path, one_before}
-use Rattle.wesl_sources.specs.Linked.{IsInOrder, IsLinkedModule, AreLinkedModules, no_module, a_module, IsLinked}
+use Rattle.wgsl_syntax.specs.Tree.{UnitTree}
+use Rattle.wesl_link_spec.specs.Occurrences.{Name}
+use Rattle.wesl_link_spec.specs.Modules.{Path, Modules}
+use Rattle.wesl_link_spec.specs.Rounds.{IsAscending, no_path, one_path, one_before}
+use Rattle.wesl_link_spec.specs.Linked.{IsInOrder, IsLinkedModule, AreLinkedModules, no_module, a_module, IsLinked}
 use Rattle.wesl_scopes.specs.Outcomes.{Loaded}
 use Rattle.wesl_scopes.specs.Tells.{IsFinder}
 use Rattle.wesl_reach.specs.Reach.{Holding, IsSettled, KeepsAll, IsRooted}
@@ -108,7 +108,7 @@ module _ (root : Path) where
 
 pub unit_linked : (modules : Modules) (find : Loaded) → IsFinder modules find → (root : Path) (keep : List Name) (held : Holding) → IsRooted modules root keep
     → NamesHeld modules root held → KeepsAll find root keep held → HoldsReached find root keep held → IsSettled find held
-    → (ps : List Path) → map (λ m. path_text m.0) modules ≡ ps → IsStrictlySortedBy cmp_paths ps → ((p : Path) → Contains ps p → (m : Path × Unit) × (find p ≡ Some m))
+    → (ps : List Path) → map (λ m. path_text m.0) modules ≡ ps → IsStrictlySortedBy cmp_paths ps → ((p : Path) → Contains ps p → (m : Path × UnitTree) × (find p ≡ Some m))
     → IsLinked modules root keep (linked_unit find held root ps)
 unit_linked modules find finder root keep held rooted names keeps sound settled ps same sorted each =
     record { no_imports = refl; order = root ∷ without root ps; in_order = order; declares = all (root ∷ without root ps) (λ p c. found p ((order.each p).0 c)) }
@@ -117,21 +117,21 @@ unit_linked modules find finder root keep held rooted names keeps sound settled 
     root_in =
         let p = from_contains modules (rooted.1.path, rooted.0) rooted.1.stands in
         subst (λ l. Contains l root) same
-        (to_contains (map (λ m. path_text m.0) modules) p.0 root (get_map (λ (m : ModulePath × Unit). path_text m.0) modules p.0 (rooted.1.path, rooted.0) p.1 ∙ ap (λ q. Some q) rooted.1.printed))
+        (to_contains (map (λ m. path_text m.0) modules) p.0 root (get_map (λ (m : ModulePath × UnitTree). path_text m.0) modules p.0 (rooted.1.path, rooted.0) p.1 ∙ ap (λ q. Some q) rooted.1.printed))
 
     order : IsInOrder modules root (root ∷ without root ps)
     order = ordered root modules ps same sorted root_in
 
-    found : (p : Path) → Contains (map (λ m. path_text m.0) modules) p → (m : Path × Unit) × (find p ≡ Some m)
+    found : (p : Path) → Contains (map (λ m. path_text m.0) modules) p → (m : Path × UnitTree) × (find p ≡ Some m)
     found p c = each p (subst (λ l. Contains l p) same c)
 
-    one : (p : Path) (o : Option (Path × Unit)) → find p ≡ o → (m : Path × Unit) × (find p ≡ Some m) → IsLinkedModule modules root keep p (linked_at find held o)
+    one : (p : Path) (o : Option (Path × UnitTree)) → find p ≡ o → (m : Path × UnitTree) × (find p ≡ Some m) → IsLinkedModule modules root keep p (linked_at find held o)
     one p None e m = let both : None ≡ Some m.0 = sym e ∙ m.1 in absurd (cc)
     one p (Some h) e m =
         let at = finder.found p h e in
         subst (λ q. IsLinkedModule modules root keep q (linked_module find held h)) at.1
         (module_linked modules find finder root held names h (ap find at.1 ∙ e) settled keep rooted keeps sound)
 
-    all : (qs : List Path) → ((p : Path) → Contains qs p → (m : Path × Unit) × (find p ≡ Some m)) → AreLinkedModules modules root keep qs (flat_map (λ p. linked_at find held (find p)) qs)
+    all : (qs : List Path) → ((p : Path) → Contains qs p → (m : Path × UnitTree) × (find p ≡ Some m)) → AreLinkedModules modules root keep qs (flat_map (λ p. linked_at find held (find p)) qs)
     all [] each = no_module
     all (q ∷ qs) each = a_module (one q (find q) refl (each q (first_in q qs))) (all qs (λ p c. each p (later_in q qs p c)))

@@ -13,9 +13,9 @@ use Rattle.wgsl_syntax.specs.declared.declaration.GlobalDeclaration.{GlobalDecla
 use Rattle.wgsl_syntax.specs.Tree.{Decl}
 use Rattle.wgsl_syntax.specs.View.{unit_tree, declaration_tree}
 use Rattle.wesl_resolve.specs.SourceMaps.{IsSet}
-use Rattle.wesl_sources.specs.Occurrences.{Name, declared_name}
-use Rattle.wesl_sources.specs.Modules.{Path, Symbol, IsModule, Reached}
-use Rattle.wesl_sources.specs.Names.{IsPrinted}
+use Rattle.wesl_link_spec.specs.Occurrences.{Name, declared_name}
+use Rattle.wesl_link_spec.specs.Modules.{Path, Symbol, IsModule, Reached}
+use Rattle.wesl_link_spec.specs.Names.{IsPrinted}
 use Rattle.wesl_scopes.specs.Outcomes.{loaded}
 use Rattle.wesl_scopes.specs.Tells.{StandsAt}
 use Rattle.wesl_reach.specs.Closing.{HeldNames, held_at}
@@ -181,13 +181,13 @@ module _ (held : HeldNames) where
     pub index : ℕ
     pub entry : Entry
     pub there : slice_get es index ≡ Some entry
-    pub at : PlacedAfter (held_at held (string_bytes entry.1.text)) entry.1.path 0 (unit_tree entry.1.unit).declarations y v
+    pub at : PlacedAfter (held_at held (string_bytes entry.1.printed_path)) entry.1.path 0 (unit_tree entry.1.unit).declarations y v
 
   of_entries : (es : List Entry) (y : Name) (v : Source) → Contains (records_of held es) (y, v) → RecordOf es y v
   of_entries [] y v c = absurd (in_none (y, v) c)
   of_entries (e ∷ es) y v c =
       ⊎_elim
-      (λ here. record { index = zero; entry = e; there = refl; at = in_among (held_at held (string_bytes e.1.text)) e.1.path 0 (unit_tree e.1.unit).declarations y v here })
+      (λ here. record { index = zero; entry = e; there = refl; at = in_among (held_at held (string_bytes e.1.printed_path)) e.1.path 0 (unit_tree e.1.unit).declarations y v here })
       (λ rest. let r = of_entries es y v rest in record { index = suc r.index; entry = r.entry; there = r.there; at = r.at })
       (Contains-append_cases (records_in held e.1) (records_of held es) (y, v) c)
 
@@ -206,7 +206,7 @@ module _ (ms : LoadedModules) (root : Path) (keep : List Name) (held : HeldNames
   of_held y v c =
       let f = of_entries held ms.entries y v c in
       let m = f.entry.1 in
-      let home = string_bytes m.text in
+      let home = string_bytes m.printed_path in
       let k = f.at.0 in
       let d = f.at.1 in
       let n : 0 + k ≡ k = omega arith in
@@ -236,8 +236,8 @@ module _ (ms : LoadedModules) (root : Path) (keep : List Name) (held : HeldNames
       let n : 0 + t.place ≡ t.place = omega arith in (
         v,
         in_entries held ms.entries t.index t.entry y v t.there
-            (among_in (held_at held (string_bytes t.entry.1.text)) t.entry.1.path 0 (unit_tree t.entry.1.unit).declarations t.place t.named.declaration y t.named.stands
-            (ap (held_at held (string_bytes t.entry.1.text)) n ∙ t.named.named)),
+            (among_in (held_at held (string_bytes t.entry.1.printed_path)) t.entry.1.path 0 (unit_tree t.entry.1.unit).declarations t.place t.named.declaration y t.named.stands
+            (ap (held_at held (string_bytes t.entry.1.printed_path)) n ∙ t.named.named)),
       )
 
   pub all_told : (old new : Telling) → AreRecorded (records_of held ms.entries) old new → AreTold (modules_of ms) root keep old new

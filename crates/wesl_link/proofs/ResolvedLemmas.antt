@@ -16,11 +16,11 @@ use Rattle.std.proofs.lemmas.List.{length-map}
 use Rattle.std.proofs.lemmas.Map.Entries.{btree_map_get_place}
 use Rattle.wgsl_path.specs.declared.path.ModulePath.{ModulePath}
 use Rattle.wgsl_path.specs.Paths.{path_text}
-use Rattle.wgsl_syntax.specs.Tree.{Unit}
+use Rattle.wgsl_syntax.specs.Tree.{UnitTree}
 use Rattle.wgsl_syntax.specs.View.{unit_tree}
-use Rattle.wesl_sources.specs.Occurrences.{Name}
-use Rattle.wesl_sources.specs.Modules.{Path}
-use Rattle.wesl_sources.specs.Linked.{IsLinked}
+use Rattle.wesl_link_spec.specs.Occurrences.{Name}
+use Rattle.wesl_link_spec.specs.Modules.{Path}
+use Rattle.wesl_link_spec.specs.Linked.{IsLinked}
 use Rattle.wesl_scopes.specs.declared.module.Module.{Module}
 use Rattle.wesl_scopes.specs.Outcomes.{loaded, home_of}
 use Rattle.wesl_scopes.specs.Tells.{IsFinder}
@@ -35,7 +35,7 @@ use Rattle.wesl_link.proofs.OrderLemmas.{unit_linked}
 abbrev Entry : Type 0
 Entry = String Global × Module
 
-abbrev path_and_unit : Entry → ModulePath × Unit
+abbrev path_and_unit : Entry → ModulePath × UnitTree
 path_and_unit e = (e.1.path, unit_tree e.1.unit)
 
 module _ (ms : LoadedModules) (keyed : IsKeyed ms) (ordered : IsOrdered string_cmp ms) where
@@ -75,7 +75,7 @@ module _ (ms : LoadedModules) (keyed : IsKeyed ms) (ordered : IsOrdered string_c
       less [] a = a
       less (d ∷ ds) a = (a.0, less ds a.1)
 
-  pub all_there : (es : List Entry) → Entries es → (p : Path) → Contains (texts_of es) p → (m : Path × Unit) × (loaded ms p ≡ Some m)
+  pub all_there : (es : List Entry) → Entries es → (p : Path) → Contains (texts_of es) p → (m : Path × UnitTree) × (loaded ms p ≡ Some m)
   all_there es each p c =
       let at = from_contains (texts_of es) p c in
       let e = map_get (λ (e : Entry). string_bytes e.0) es at.0 p at.1 in

@@ -7,7 +7,7 @@ use Rattle.std.specs.declared.alloc.Global.{Global}
 use Rattle.std.proofs.lemmas.List.Folds.{list_any-append}
 use Rattle.wgsl_syntax.specs.Tree.{Decl}
 use Rattle.wgsl_syntax.specs.View.{unit_tree}
-use Rattle.wesl_sources.specs.Occurrences.{Name, is_among}
+use Rattle.wesl_link_spec.specs.Occurrences.{Name, is_among}
 use Rattle.wesl_scopes.specs.declared.module.Module.{Module}
 use Rattle.wesl_scopes.specs.Outcomes.{home_of}
 use Rattle.wesl_reach.specs.Closing.{HeldNames, held_at}
@@ -150,14 +150,14 @@ Entry = String Global × Module
 pub record NamedAt (held : HeldNames) (y : Name) (e : Entry) (k : ℕ) : Type 0 where
   pub declaration : Decl
   pub stands : slice_get (unit_tree e.1.unit).declarations k ≡ Some declaration
-  pub named : held_at held (string_bytes e.1.text) k ≡ Some y
+  pub named : held_at held (string_bytes e.1.printed_path) k ≡ Some y
 
 module _ (held : HeldNames) (y : Name) where
   abbrev of_one : Entry → List Name
   of_one e = names_in (held_at held) (home_of e.1)
 
   here_among : (e : Entry) (k : ℕ) → NamedAt held y e k → is_among y (of_one e) ≡ true
-  here_among e k n = among_at (held_at held (string_bytes e.1.text)) y 0 (unit_tree e.1.unit).declarations k n.declaration n.stands (from_zero (held_at held (string_bytes e.1.text)) y k n.named)
+  here_among e k n = among_at (held_at held (string_bytes e.1.printed_path)) y 0 (unit_tree e.1.unit).declarations k n.declaration n.stands (from_zero (held_at held (string_bytes e.1.printed_path)) y k n.named)
 
   pub among_of : (es : List Entry) (i : ℕ) (e : Entry) (k : ℕ) → slice_get es i ≡ Some e → NamedAt held y e k → is_among y (held_names held es) ≡ true
   among_of [] i e k at n = absurd (cc)
@@ -166,8 +166,8 @@ module _ (held : HeldNames) (y : Name) where
 
   two_here : (g : Entry) (k l : ℕ) → NamedAt held y g k → NamedAt held y g l → (k ≡ l → ⊥) → is_twice y (of_one g) ≡ true
   two_here g k l m p apart =
-      twice_at (held_at held (string_bytes g.1.text)) y 0 (unit_tree g.1.unit).declarations k l m.declaration p.declaration m.stands p.stands apart
-      (from_zero (held_at held (string_bytes g.1.text)) y k m.named) (from_zero (held_at held (string_bytes g.1.text)) y l p.named)
+      twice_at (held_at held (string_bytes g.1.printed_path)) y 0 (unit_tree g.1.unit).declarations k l m.declaration p.declaration m.stands p.stands apart
+      (from_zero (held_at held (string_bytes g.1.printed_path)) y k m.named) (from_zero (held_at held (string_bytes g.1.printed_path)) y l p.named)
 
   the_entry : (g e : Entry) → Some g ≡ Some e → e ≡ g
   the_entry g e same = cc
@@ -203,7 +203,7 @@ module _ (held : HeldNames) (y : Name) where
     pub entry : Entry
     pub place : ℕ
     pub stands : slice_get es index ≡ Some entry
-    pub named : held_at held (string_bytes entry.1.text) place ≡ Some y
+    pub named : held_at held (string_bytes entry.1.printed_path) place ≡ Some y
 
   abbrev later : (e : Entry) (es : List Entry) → Placed es → Placed (e ∷ es)
   later e es p = record { index = suc p.index; entry = p.entry; place = p.place; stands = p.stands; named = p.named }
@@ -213,7 +213,7 @@ module _ (held : HeldNames) (y : Name) where
   placed (f ∷ es) e =
       ⊎_elim
       (λ here.
-      let r = at_among (held_at held (string_bytes f.1.text)) y 0 (unit_tree f.1.unit).declarations here in
+      let r = at_among (held_at held (string_bytes f.1.printed_path)) y 0 (unit_tree f.1.unit).declarations here in
       record { index = zero; entry = f; place = r.0; stands = refl; named = r.2 })
       (λ rest. later f es (placed es rest))
       (or_cases (is_among y (of_one f)) (is_among y (held_names held es)) (sym (among_append y (of_one f) (held_names held es)) ∙ e))
@@ -230,7 +230,7 @@ module _ (held : HeldNames) (y : Name) where
       ⊎_elim
       (λ both.
       let b = and_both (is_among y (of_one f)) (is_among y (held_names held es)) both in
-      let r = at_among (held_at held (string_bytes f.1.text)) y 0 (unit_tree f.1.unit).declarations b.0 in
+      let r = at_among (held_at held (string_bytes f.1.printed_path)) y 0 (unit_tree f.1.unit).declarations b.0 in
       let p = placed es b.1 in
       let less : 0 < suc p.index = omega arith in
       record {
@@ -241,7 +241,7 @@ module _ (held : HeldNames) (y : Name) where
       (λ one.
       ⊎_elim
       (λ here.
-      let r = at_twice (held_at held (string_bytes f.1.text)) y 0 (unit_tree f.1.unit).declarations here in
+      let r = at_twice (held_at held (string_bytes f.1.printed_path)) y 0 (unit_tree f.1.unit).declarations here in
       record {
         one = record { index = zero; entry = f; place = r.0; stands = refl; named = r.3 };
         other = record { index = zero; entry = f; place = r.1; stands = refl; named = r.4 };

@@ -6,11 +6,11 @@ use Rattle.std.specs.declared.string.String.{String}
 use Rattle.std.specs.declared.alloc.Global.{Global}
 use Rattle.wgsl_path.specs.declared.span.Spanned.{Spanned}
 use Rattle.wgsl_syntax.specs.declared.declaration.GlobalDeclaration.{GlobalDeclaration}
-use Rattle.wgsl_syntax.specs.Tree.{Decl, Unit}
+use Rattle.wgsl_syntax.specs.Tree.{Decl, UnitTree}
 use Rattle.wgsl_syntax.specs.View.{declaration_tree}
-use Rattle.wesl_sources.specs.Occurrences.{Name}
-use Rattle.wesl_sources.specs.Modules.{Path}
-use Rattle.wesl_sources.specs.Linked.{renamed_declaration}
+use Rattle.wesl_link_spec.specs.Occurrences.{Name}
+use Rattle.wesl_link_spec.specs.Modules.{Path}
+use Rattle.wesl_link_spec.specs.Linked.{renamed_declaration}
 use Rattle.wesl_scopes.specs.declared.module.Module.{Module}
 use Rattle.wesl_scopes.specs.Outcomes.{Outcome, symbol_at, unloaded, missing, private, free, Loaded, outcome, loaded, home_of}
 use Rattle.wesl_reach.specs.Reach.{Holding}
@@ -31,7 +31,7 @@ named_or (Some y) x = y
 named_or None x = x
 
 -- the new name of a name of a module
-abbrev pub naming : Loaded → Holding → Path × Unit → Name → Name
+abbrev pub naming : Loaded → Holding → Path × UnitTree → Name → Name
 naming find held m x = named_or (printed_of held (outcome find m x)) x
 
 -- the declarations at places that are held, where the first stands at this place
@@ -40,11 +40,11 @@ held_among is_held place [] = []
 held_among is_held place (d ∷ ds) = if is_held place then d ∷ held_among is_held (place + 1) ds else held_among is_held (place + 1) ds
 
 -- what a module has in the linked unit
-abbrev pub linked_module : Loaded → Holding → Path × Unit → List Decl
+abbrev pub linked_module : Loaded → Holding → Path × UnitTree → List Decl
 linked_module find held m = map (renamed_declaration (naming find held m)) (held_among (λ place. is_some (held m.0 place)) 0 m.1.declarations)
 
 -- what the module that is found, if one is, has in the linked unit
-abbrev pub linked_at : Loaded → Holding → Option (Path × Unit) → List Decl
+abbrev pub linked_at : Loaded → Holding → Option (Path × UnitTree) → List Decl
 linked_at find held None = []
 linked_at find held (Some m) = linked_module find held m
 
@@ -54,7 +54,7 @@ without root [] = []
 without root (p ∷ ps) = if bytes_eq p root then without root ps else p ∷ without root ps
 
 -- what is held in the modules at these paths: the root's first
-abbrev pub linked_unit : Loaded → Holding → Path → List Path → Unit
+abbrev pub linked_unit : Loaded → Holding → Path → List Path → UnitTree
 linked_unit find held root ps = record { imports = []; declarations = flat_map (λ p. linked_at find held (find p)) (root ∷ without root ps) }
 
 abbrev pub declaration_trees : List (Spanned GlobalDeclaration) → List Decl
@@ -65,7 +65,7 @@ abbrev pub others_linked : LoadedModules → HeldNames → Path → List (String
 others_linked ms held root es = flat_map (λ e. if bytes_eq (string_bytes e.0) root then [] else linked_module (loaded ms) (held_at held) (home_of e.1)) es
 
 -- what is held in the loaded modules: the root's first
-abbrev pub assembled : LoadedModules → HeldNames → Path → Unit
+abbrev pub assembled : LoadedModules → HeldNames → Path → UnitTree
 assembled ms held root = record { imports = []; declarations = linked_at (loaded ms) (held_at held) (loaded ms root) ++ others_linked ms held root ms.entries }
 
 -- a held declaration under its new names
@@ -76,5 +76,5 @@ abbrev pub linked_trees : LoadedModules → HeldNames → List HeldDeclaration �
 linked_trees ms held ds = map (linked_tree ms held) ds
 
 -- the unit of held declarations under their new names
-abbrev pub linked_of : LoadedModules → HeldNames → List HeldDeclaration → Unit
+abbrev pub linked_of : LoadedModules → HeldNames → List HeldDeclaration → UnitTree
 linked_of ms held ds = record { imports = []; declarations = linked_trees ms held ds }

@@ -7,9 +7,9 @@ use Rattle.std.specs.HashMap.{HashMap, get_by}
 use Rattle.std.specs.declared.string.String.{String}
 use Rattle.std.specs.declared.alloc.Global.{Global}
 use denote.Ref.{Bor}
-use Rattle.wgsl_syntax.specs.Tree.{Decl, Unit}
-use Rattle.wesl_sources.specs.Occurrences.{Name, is_among, names_before, names_behind, names_in_body, locals}
-use Rattle.wesl_sources.specs.Modules.{Path}
+use Rattle.wgsl_syntax.specs.Tree.{Decl, UnitTree}
+use Rattle.wesl_link_spec.specs.Occurrences.{Name, is_among, names_before, names_behind, names_in_body, locals}
+use Rattle.wesl_link_spec.specs.Modules.{Path}
 use Rattle.wesl_scopes.specs.declared.module.Module.{Module}
 use Rattle.wesl_scopes.specs.Outcomes.{Loaded, outcome, loaded, home_of}
 use Rattle.wesl_reach.specs.Reach.{Holding}
@@ -38,7 +38,7 @@ abbrev pub names_among : (ℕ → Option Name) → ℕ → List Decl → List Na
 names_among held place [] = []
 names_among held place (d ∷ ds) = names_of (held place) ++ names_among held (place + 1) ds
 
-abbrev pub names_in : Holding → Path × Unit → List Name
+abbrev pub names_in : Holding → Path × UnitTree → List Name
 names_in held m = names_among (held m.0) 0 m.1.declarations
 
 -- the names of all that is held
@@ -93,10 +93,10 @@ module _ (sharing : Sharing) where
     clash_among held place [] = None
     clash_among held place (d ∷ ds) = or_else (held_clash (held place) d) (clash_among held (place + 1) ds)
 
-  abbrev pub module_clash : Loaded → Holding → Path × Unit → Option Name
+  abbrev pub module_clash : Loaded → Holding → Path × UnitTree → Option Name
   module_clash find held m = clash_among (λ x. printed_of held (outcome find m x)) (held m.0) 0 m.1.declarations
 
-  abbrev pub clash_at : Loaded → Holding → Option (Path × Unit) → Option Name
+  abbrev pub clash_at : Loaded → Holding → Option (Path × UnitTree) → Option Name
   clash_at find held (Some m) = module_clash find held m
   clash_at find held None = None
 

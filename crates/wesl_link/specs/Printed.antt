@@ -3,7 +3,7 @@ use Rattle.std.specs.Prelude.{Option}
 use Rattle.std.specs.BTreeMap.{BTreeMap}
 use Rattle.std.specs.declared.string.String.{String}
 use Rattle.std.specs.declared.alloc.Global.{Global}
-use Rattle.wesl_sources.specs.Occurrences.{Name}
+use Rattle.wesl_link_spec.specs.Occurrences.{Name}
 use Rattle.wesl_scopes.specs.Outcomes.{outcome, home_of, loaded}
 use Rattle.wesl_reach.specs.Closing.{HeldNames, held_at}
 use Rattle.wesl_link.specs.Assembling.{printed_of}

@@ -6,11 +6,11 @@ use Rattle.std.specs.declared.string.String.{String}
 use Rattle.std.specs.declared.alloc.Global.{Global}
 use Rattle.wgsl_path.specs.declared.path.ModulePath.{ModulePath}
 use Rattle.wgsl_path.specs.Paths.{path_text}
-use Rattle.wgsl_syntax.specs.Tree.{Decl, Unit}
+use Rattle.wgsl_syntax.specs.Tree.{Decl, UnitTree}
 use Rattle.wgsl_syntax.specs.View.{unit_tree}
-use Rattle.wesl_sources.specs.Occurrences.{Name, declared_name}
-use Rattle.wesl_sources.specs.Modules.{Path, Symbol, Modules, Declares, Reached}
-use Rattle.wesl_sources.specs.Names.{IsPrinted}
+use Rattle.wesl_link_spec.specs.Occurrences.{Name, declared_name}
+use Rattle.wesl_link_spec.specs.Modules.{Path, Symbol, Modules, Declares, Reached}
+use Rattle.wesl_link_spec.specs.Names.{IsPrinted}
 use Rattle.wesl_scopes.specs.declared.module.Module.{Module}
 use Rattle.wesl_reach.specs.Closing.{HeldNames, held_at}
 
@@ -38,7 +38,7 @@ records_among held p place [] = []
 records_among held p place (d ∷ ds) = record_of p d (held place) ++ records_among held p (place + 1) ds
 
 abbrev pub records_in : HeldNames → Module → List (Name × Source)
-records_in held m = records_among (held_at held (string_bytes m.text)) m.path 0 (unit_tree m.unit).declarations
+records_in held m = records_among (held_at held (string_bytes m.printed_path)) m.path 0 (unit_tree m.unit).declarations
 
 abbrev pub records_of : HeldNames → List (String Global × Module) → List (Name × Source)
 records_of held es = flat_map (λ e. records_in held e.1) es
@@ -58,7 +58,7 @@ pub record IsHeldAs (modules : Modules) (root : Path) (keep : List Name) (y : Na
 
 -- a loaded module and a name that it declares, which is held under this printed name
 pub record IsSourceOf (modules : Modules) (root : Path) (keep : List Name) (y : Name) (v : Source) : Type 0 where
-  pub unit : Unit
+  pub unit : UnitTree
   pub loaded : Contains modules (v.0, unit)
   pub declares : Declares unit v.1
   pub held : IsHeldAs modules root keep y (source_symbol v)

@@ -5,8 +5,8 @@ ghost use Rattle.std.specs.BTreeMap.{IsOrdered};
 ghost use Rattle.std.specs.Str.{bytes_eq};
 ghost use Rattle.std.specs.String.{string_cmp};
 ghost use Rattle.wgsl_syntax.specs.View.{unit_tree, declaration_tree};
-ghost use Rattle.wesl_sources.specs.Occurrences.{Name};
-ghost use Rattle.wesl_sources.specs.Linked.{renamed_declaration, IsLinked};
+ghost use Rattle.wesl_link_spec.specs.Occurrences.{Name};
+ghost use Rattle.wesl_link_spec.specs.Linked.{renamed_declaration, IsLinked};
 ghost use Rattle.wesl_scopes.specs.Outcomes.{loaded, home_of};
 ghost use Rattle.wesl_reach.specs.Closing.{held_at};
 ghost use Rattle.wesl_link.specs.Assembling.{naming, linked_at, linked_module};
@@ -151,7 +151,7 @@ impl Resolutions {
         node: &'a GlobalDeclarationNode,
         found: &mut Vec<HeldDeclaration<'a>>,
     ) -> Result<(), AllocError>
-        ensures { OnOk result (linked_trees self.now.modules self.now.held found.new.items ≡ linked_trees self.now.modules self.now.held found.old.items ++ (if is_some (held_at self.now.held (string_bytes symbol.entry.«module».now.text) symbol.entry.place) then renamed_declaration (naming (loaded self.now.modules) (held_at self.now.held) (home_of symbol.entry.«module».now)) (declaration_tree node.now.node) ∷ [] else [])) }
+        ensures { OnOk result (linked_trees self.now.modules self.now.held found.new.items ≡ linked_trees self.now.modules self.now.held found.old.items ++ (if is_some (held_at self.now.held (string_bytes symbol.entry.«module».now.printed_path) symbol.entry.place) then renamed_declaration (naming (loaded self.now.modules) (held_at self.now.held) (home_of symbol.entry.«module».now)) (declaration_tree node.now.node) ∷ [] else [])) }
     {
         if !is_held(&self.held, symbol) {
             return Ok(());
@@ -220,7 +220,7 @@ impl Resolutions {
         node: &GlobalDeclarationNode,
         map: &mut BasicSourceMap,
     ) -> Result<(), AllocError>
-        ensures recorded { OnOk result (AreRecorded (record_of symbol.entry.«module».now.path (declaration_tree node.now.node) (held_at self.now.held (string_bytes symbol.entry.«module».now.text) symbol.entry.place)) (decl_at map.old) (decl_at map.new)) }
+        ensures recorded { OnOk result (AreRecorded (record_of symbol.entry.«module».now.path (declaration_tree node.now.node) (held_at self.now.held (string_bytes symbol.entry.«module».now.printed_path) symbol.entry.place)) (decl_at map.old) (decl_at map.new)) }
         ensures sources { map.new.sources ≡ map.old.sources }
         ensures default_source { map.new.default_source ≡ map.old.default_source }
     {

@@ -5,9 +5,9 @@ ghost use Rattle.std.specs.BTreeMap.{IsOrdered};
 ghost use Rattle.std.specs.Str.{bytes_eq};
 ghost use Rattle.std.specs.String.{string_cmp};
 ghost use Rattle.wgsl_syntax.specs.View.{declaration_tree};
-ghost use Rattle.wesl_sources.specs.Occurrences.{Name, locals};
-ghost use Rattle.wesl_sources.specs.Clashing.{IsFirstClash};
-ghost use Rattle.wesl_sources.specs.Loaded.{IsClashFree};
+ghost use Rattle.wesl_link_spec.specs.Occurrences.{Name, locals};
+ghost use Rattle.wesl_link_spec.specs.Clashing.{IsFirstClash};
+ghost use Rattle.wesl_link_spec.specs.Loaded.{IsClashFree};
 ghost use Rattle.wesl_link.specs.Clashing as spec;
 ghost use Rattle.wesl_link.specs.Clashing.{sharing_at, sharing_in};
 ghost use Rattle.wesl_reach.specs.Closing.{held_at};
@@ -162,7 +162,7 @@ impl Resolutions {
         symbol: Symbol<'_>,
         declaration: &GlobalDeclaration,
     ) -> Result<Option<Text>, AllocError>
-        ensures { IfOk result (λ clash. clash ≡ spec.held_clash (sharing_at sharing.now) (printed_in self.now.held self.now.modules symbol.entry.«module».now) (held_at self.now.held (string_bytes symbol.entry.«module».now.text) symbol.entry.place) (declaration_tree declaration.now)) }
+        ensures { IfOk result (λ clash. clash ≡ spec.held_clash (sharing_at sharing.now) (printed_in self.now.held self.now.modules symbol.entry.«module».now) (held_at self.now.held (string_bytes symbol.entry.«module».now.printed_path) symbol.entry.place) (declaration_tree declaration.now)) }
     {
         match held_name(&self.held, symbol) {
             None => Ok(None),

@@ -7,7 +7,7 @@ ghost use Rattle.wesl_link.specs.Printed.{printed_in};
 
 use crate::rounds::Resolutions;
 use std::alloc::{AllocError, Global};
-use wesl_reach::Held;
+use wesl_reach::HeldNames;
 use wesl_rename::Naming;
 use wesl_scopes::{Denoted, Module, Symbol, denotation};
 use wgsl_items::Text;
@@ -46,9 +46,11 @@ pub fn printed<'a>(resolutions: &'a Resolutions, module: &'a Module, name: &str)
 }
 
 /// The printed name of a symbol, where it is held.
-pub fn held_name<'a>(held: &'a Held, symbol: Symbol<'_>) -> Option<&'a str>
-    ensures { option_copied result ≡ held_at held.now (string_bytes symbol.entry.«module».now.text) symbol.entry.place }
+pub fn held_name<'a>(held: &'a HeldNames, symbol: Symbol<'_>) -> Option<&'a str>
+    ensures { option_copied result ≡ held_at held.now (string_bytes symbol.entry.«module».now.printed_path) symbol.entry.place }
 {
-    let name = held.get(symbol.module.text.as_str())?.get(&symbol.place)?;
+    let name = held
+        .get(symbol.module.printed_path.as_str())?
+        .get(&symbol.place)?;
     Some(name.as_str())
 }

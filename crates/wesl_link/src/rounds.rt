@@ -4,12 +4,12 @@ ghost use Rattle.std.specs.Prelude.{◌≡◌, OnOk};
 ghost use Rattle.wgsl_path.specs.Paths.{path_text};
 ghost use Rattle.wgsl_syntax.specs.View.{unit_tree};
 ghost use Rattle.wesl_resolve.specs.Found.{unit_of, SameAnswers, SameTexts};
-ghost use Rattle.wesl_sources.specs.Kept.{kept_names};
+ghost use Rattle.wesl_link_spec.specs.Kept.{kept_names};
 ghost use Rattle.wesl_reach.specs.Asking.{AreAskedBehind, AreThoseLoaded};
 ghost use Rattle.wesl_link.specs.Answers.{Resolves};
 
 use std::alloc::Global;
-use wesl_reach::{Held, Reached, load_reached};
+use wesl_reach::{HeldNames, Reached, load_reached};
 use wesl_resolve::Resolver;
 use wesl_scopes::{ImportError, Modules};
 use wgsl_items::Text;
@@ -22,7 +22,7 @@ pub struct Resolutions {
     pub(crate) modules: Modules,
     /// The root's printed path.
     pub(crate) root: String,
-    pub(crate) held: Held,
+    pub(crate) held: HeldNames,
 }
 
 /// Loads the modules that the kept names of the root lead to. Where no name is kept, the root's entry points are.

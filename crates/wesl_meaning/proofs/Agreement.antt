@@ -3,16 +3,16 @@ use Rattle.std.specs.Prelude.{◌↔◌}
 use Rattle.std.proofs.Common.{◌≡◌, List, refl, sym, ◌∙◌, map, subst, Contains}
 use Rattle.wgsl_path.specs.declared.path.ModulePath.{ModulePath}
 use Rattle.wgsl_path.specs.Paths.{path_text}
-use Rattle.wgsl_syntax.specs.Tree.{Decl, Unit}
+use Rattle.wgsl_syntax.specs.Tree.{Decl, UnitTree}
 use Rattle.wgsl_syntax.specs.Names.{declared_name}
-use Rattle.wesl_sources.specs.Occurrences.{Name}
-use Rattle.wesl_sources.specs.Modules.{Path, Symbol, Modules, Denotes, Reached}
-use Rattle.wesl_sources.specs.Named.{AreNamedByImports, ImportsAreApart}
-use Rattle.wesl_sources.specs.Names.{IsPrinted, stays, is_mangled}
-use Rattle.wesl_sources.specs.Rounds.{Sources}
-use Rattle.wesl_sources.specs.Linked.{IsNaming, Selects, nothing_left, takes, leaves, IsInOrder, IsLinkedModule, AreLinkedModules, no_module, a_module, IsLinked, IsShared, IsTaken, Clashes, shared, hidden, captured}
-use Rattle.wesl_sources.specs.Loaded.{IsClashFree}
-use Rattle.wesl_sources.specs.Clashing.{IsFirst, Mention, MentionClashes, occurrence, own, DeclarationClashes, ModuleClashes, IsFirstClash}
+use Rattle.wesl_link_spec.specs.Occurrences.{Name}
+use Rattle.wesl_link_spec.specs.Modules.{Path, Symbol, Modules, Denotes, Reached}
+use Rattle.wesl_link_spec.specs.Named.{AreNamedByImports, ImportsAreApart}
+use Rattle.wesl_link_spec.specs.Names.{IsPrinted, stays, is_mangled}
+use Rattle.wesl_link_spec.specs.Rounds.{Sources}
+use Rattle.wesl_link_spec.specs.Linked.{IsNaming, Selects, nothing_left, takes, leaves, IsInOrder, IsLinkedModule, AreLinkedModules, no_module, a_module, IsLinked, IsShared, IsTaken, Clashes, shared, hidden, captured}
+use Rattle.wesl_link_spec.specs.Loaded.{IsClashFree}
+use Rattle.wesl_link_spec.specs.Clashing.{IsFirst, Mention, MentionClashes, occurrence, own, DeclarationClashes, ModuleClashes, IsFirstClash}
 use Rattle.wesl_meaning.specs.Agreement.{AreAlike, ListedModulesAreAlike, HoldsOfAlikeModules}
 use Rattle.wesl_meaning.specs.Declared.{IsHeldAs}
 use Rattle.wesl_meaning.specs.Runs.{AreFound}
@@ -144,7 +144,7 @@ module _ (root : Path) (a b : Modules) (e : AreAlike root a b) (keep : List Name
 
   -- ---- what holds
 
-  pub linked_alike : (unit : Unit) → IsLinked a root keep unit → IsLinked b root keep unit
+  pub linked_alike : (unit : UnitTree) → IsLinked a root keep unit → IsLinked b root keep unit
   linked_alike unit h = record {
     no_imports = h.no_imports;
     order = h.order;
@@ -185,7 +185,7 @@ holds_of_alike_modules = record {
 
 module _ (found : Sources) (apart : ImportsAreApart found) (root : Path) (a b : Modules) (e : SameUnits a b) (a_found : AreFound found a) (b_found : AreFound found b) (a_named : AreNamedByImports a root) (b_named : AreNamedByImports b root) where
   -- the path that another has for the same unit is the same
-  path_moves : (path : ModulePath) (u : Unit) → (path_text path ≡ root → ⊥) → Contains a (path, u) → Contains b (path, u)
+  path_moves : (path : ModulePath) (u : UnitTree) → (path_text path ≡ root → ⊥) → Contains a (path, u) → Contains b (path, u)
   path_moves path u n c =
       let i = (e (path_text path) u).0 (record { path = path; stands = c; printed = refl }) in
       let here = a_named path u c n in

@@ -3,12 +3,12 @@ use Rattle.std.proofs.Common.{◌≡◌, ◌⊎◌, inl, inr, List, [], ◌∷�
 use Rattle.std.proofs.lemmas.List.Elements.{Contains-append_left, Contains-append_right, Contains-append_cases}
 use Rattle.wgsl_syntax.specs.Tree.{Decl}
 use Rattle.wgsl_syntax.specs.Names.{declared_name}
-use Rattle.wesl_sources.specs.Occurrences.{Name, names_before, names_behind, names_in_body, locals}
-use Rattle.wesl_sources.specs.Modules.{Path, Symbol, Modules, IsFree, IsDeclaration, Denotes, Reached}
-use Rattle.wesl_sources.specs.Names.{IsPrinted}
-use Rattle.wesl_sources.specs.Linked.{IsShared, Clashes, shared, hidden, captured}
-use Rattle.wesl_sources.specs.Loaded.{AreLoaded, IsClashFree}
-use Rattle.wesl_sources.specs.Clashing.{IsFirst, Mention, occurs, declares, mentions, MentionClashes, occurrence, own, DeclarationClashes, ModuleClashes, IsFirstClash}
+use Rattle.wesl_link_spec.specs.Occurrences.{Name, names_before, names_behind, names_in_body, locals}
+use Rattle.wesl_link_spec.specs.Modules.{Path, Symbol, Modules, IsFree, IsDeclaration, Denotes, Reached}
+use Rattle.wesl_link_spec.specs.Names.{IsPrinted}
+use Rattle.wesl_link_spec.specs.Linked.{IsShared, Clashes, shared, hidden, captured}
+use Rattle.wesl_link_spec.specs.Loaded.{AreLoaded, IsClashFree}
+use Rattle.wesl_link_spec.specs.Clashing.{IsFirst, Mention, occurs, declares, mentions, MentionClashes, occurrence, own, DeclarationClashes, ModuleClashes, IsFirstClash}
 use Rattle.wesl_meaning.specs.Agreement.{ClashesAreOne}
 use Rattle.wgsl_items.proofs.Members.{first_in, in_cases, from_map}
 use Rattle.wesl_meaning.proofs.Order.{order_once}

@@ -2,14 +2,14 @@
 use Rattle.std.proofs.Common.{◌≡◌, ◌⊎◌, inl, inr, List, [], ◌∷◌, ◌++◌, map, Option, Some, None, Bool, true, false, refl, sym, ap, ◌∙◌, subst, Contains, append_assoc, append-nil}
 use Rattle.std.proofs.lemmas.List.Elements.{Contains-append_right, Contains-append_cases}
 use Rattle.wgsl_items.proofs.Bools.{none_if, false_if}
-use Rattle.wgsl_syntax.specs.Tree.{Decl, Unit}
+use Rattle.wgsl_syntax.specs.Tree.{Decl, UnitTree}
 use Rattle.wgsl_syntax.specs.Names.{declared_name}
 use Rattle.wgsl_meaning.specs.Names.{Name, find_decl}
-use Rattle.wesl_sources.specs.Occurrences.{is_among, occurrences, names_before, names_behind, names_in_body, locals}
-use Rattle.wesl_sources.specs.Modules.{Path, Symbol, Modules, Declares, local_name, IsDeclaration, Reached, onto}
-use Rattle.wesl_sources.specs.Names.{IsPrinted}
-use Rattle.wesl_sources.specs.Rounds.{AreDistinct, no_names, another, IsAscending, scope_names}
-use Rattle.wesl_sources.specs.Linked.{renamed_declaration, IsNaming, Selects, takes, leaves, IsLinkedModule, AreLinkedModules, no_module, a_module, Clashes, hidden, captured}
+use Rattle.wesl_link_spec.specs.Occurrences.{is_among, occurrences, names_before, names_behind, names_in_body, locals}
+use Rattle.wesl_link_spec.specs.Modules.{Path, Symbol, Modules, Declares, local_name, IsDeclaration, Reached, onto}
+use Rattle.wesl_link_spec.specs.Names.{IsPrinted}
+use Rattle.wesl_link_spec.specs.Rounds.{AreDistinct, no_names, another, IsAscending, scope_names}
+use Rattle.wesl_link_spec.specs.Linked.{renamed_declaration, IsNaming, Selects, takes, leaves, IsLinkedModule, AreLinkedModules, no_module, a_module, Clashes, hidden, captured}
 use Rattle.wesl_meaning.specs.SourcePrograms.{declared_symbol}
 use Rattle.wesl_meaning.specs.Runs.{AreLinkedWell}
 use Rattle.wesl_meaning.specs.Declared.{IsHeldAs, StandsAs, DeclaresWhatIsHeld, LinkedUnitsDeclareWhatIsHeld}
@@ -77,7 +77,7 @@ ascending_differ : (ps : List Path) → IsAscending ps → Once ps
 ascending_differ [] a = tt
 ascending_differ (p ∷ ps) a = (λ c. not_before p (behind_first p ps a p c), ascending_differ ps (rest_ascends p ps a))
 
-module _ (modules : Modules) (root : Path) (keep : List Name) (unit : Unit) (well : AreLinkedWell modules root keep unit) where
+module _ (modules : Modules) (root : Path) (keep : List Name) (unit : UnitTree) (well : AreLinkedWell modules root keep unit) where
   -- ---- each
 
   module _ (s : Symbol) (d : Decl) (reached : Reached modules root keep s) (declares : IsDeclaration modules s d) where

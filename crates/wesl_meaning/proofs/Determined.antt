@@ -4,11 +4,11 @@ use Rattle.std.proofs.lemmas.List.Elements.{Contains-append_right}
 use Rattle.wgsl_path.specs.declared.path.ModulePath.{ModulePath}
 use Rattle.wgsl_path.specs.Paths.{path_text}
 use Rattle.wgsl_token.specs.declared.error.Error.{Error}
-use Rattle.wgsl_syntax.specs.Tree.{Unit}
-use Rattle.wesl_sources.specs.Occurrences.{Name}
-use Rattle.wesl_sources.specs.Modules.{Path, Modules, Declares}
+use Rattle.wgsl_syntax.specs.Tree.{UnitTree}
+use Rattle.wesl_link_spec.specs.Occurrences.{Name}
+use Rattle.wesl_link_spec.specs.Modules.{Path, Modules, Declares}
 use Rattle.wesl_resolve.specs.Found.{unit_of, not_found, faulty}
-use Rattle.wesl_sources.specs.Rounds.{Sources, Refusal, too_many_modules, module_not_found, syntax, duplicate_symbol, missing_decl, scope_names, AreDistinct, IsFirstAgain, Loads, all_loaded, one_too_many, is_not_found, is_faulty, has_a_name_twice, loaded_then_refused, loaded, IsNextRound, NoneRefused, IsFirstRefused, Goes, an_occurrence_refused, nothing_asked, a_module_refused, a_round, IsFirstUnkept, ComesTo, root_refused, kept_name_missing, goes_on}
+use Rattle.wesl_link_spec.specs.Rounds.{Sources, LoadError, too_many_modules, module_not_found, syntax, duplicate_symbol, missing_decl, scope_names, AreDistinct, IsFirstAgain, Loads, all_loaded, one_too_many, is_not_found, is_faulty, has_a_name_twice, loaded_then_refused, loaded, IsNextRound, NoneRefused, IsFirstRefused, LoadsRounds, an_occurrence_refused, nothing_asked, a_module_refused, a_round, IsFirstUnkept, IsLoadingResult, root_refused, kept_name_missing, goes_on}
 use Rattle.wesl_meaning.specs.Determined.{listed, IsFunctional, SameOutcome, LoadingComesToOne}
 use Rattle.wgsl_items.proofs.Members.{first_in, in_cases, in_none}
 use Rattle.wesl_meaning.proofs.Members.{length_map}
@@ -27,15 +27,15 @@ listed_length a b e = sym (length_map (λ z. (path_text z.0, z.1)) a) ∙ ap len
 
 module _ (found : Sources) (functional : IsFunctional found) (max : ℕ) where
   -- what the first of some paths comes to
-  data Step (n : ℕ) (p : Path) (ps : List Path) (o : Result Modules Refusal) : Type 0 where
+  data Step (n : ℕ) (p : Path) (ps : List Path) (o : Result Modules LoadError) : Type 0 where
     too_many : max ≤ n → o ≡ Err (too_many_modules p) → Step n p ps o
     missing : n < max → found p not_found → o ≡ Err (module_not_found p) → Step n p ps o
     bad : (e : Error) → n < max → found p (faulty e) → o ≡ Err (syntax p e) → Step n p ps o
-    twice : (u : Unit) (x : Name) → n < max → found p (unit_of u) → IsFirstAgain (scope_names u) x → o ≡ Err (duplicate_symbol p x) → Step n p ps o
-    then_refused : (u : Unit) (r : Refusal) → n < max → found p (unit_of u) → AreDistinct (scope_names u) → Loads found max (n + 1) ps (Err r) → o ≡ Err r → Step n p ps o
-    then_loaded : (u : Unit) (path : ModulePath) (ms : Modules) → n < max → found p (unit_of u) → AreDistinct (scope_names u) → path_text path ≡ p → Loads found max (n + 1) ps (Ok ms) → o ≡ Ok ((path, u) ∷ ms) → Step n p ps o
+    twice : (u : UnitTree) (x : Name) → n < max → found p (unit_of u) → IsFirstAgain (scope_names u) x → o ≡ Err (duplicate_symbol p x) → Step n p ps o
+    then_refused : (u : UnitTree) (r : LoadError) → n < max → found p (unit_of u) → AreDistinct (scope_names u) → Loads found max (n + 1) ps (Err r) → o ≡ Err r → Step n p ps o
+    then_loaded : (u : UnitTree) (path : ModulePath) (ms : Modules) → n < max → found p (unit_of u) → AreDistinct (scope_names u) → path_text path ≡ p → Loads found max (n + 1) ps (Ok ms) → o ≡ Ok ((path, u) ∷ ms) → Step n p ps o
 
-  step_of : (n : ℕ) (p : Path) (ps : List Path) (o : Result Modules Refusal) → Loads found max n (p ∷ ps) o → Step n p ps o
+  step_of : (n : ℕ) (p : Path) (ps : List Path) (o : Result Modules LoadError) → Loads found max n (p ∷ ps) o → Step n p ps o
   step_of n p ps _ (one_too_many l) = too_many l refl
   step_of n p ps _ (is_not_found l f) = missing l f refl
   step_of n p ps _ (is_faulty {e = e} l f) = bad e l f refl
@@ -43,13 +43,13 @@ module _ (found : Sources) (functional : IsFunctional found) (max : ℕ) where
   step_of n p ps _ (loaded_then_refused {u = u} {r = r} l f d rest) = then_refused u r l f d rest refl
   step_of n p ps _ (loaded {u = u} {path = path} {modules = ms} l f d t rest) = then_loaded u path ms l f d t rest refl
 
-  units_same : (p : Path) (u v : Unit) → found p (unit_of u) → found p (unit_of v) → u ≡ v
+  units_same : (p : Path) (u v : UnitTree) → found p (unit_of u) → found p (unit_of v) → u ≡ v
   units_same p u v e f = let s : unit_of u ≡ unit_of v = functional p _ _ e f in cc
 
-  same_refusal : (o q : Result Modules Refusal) (r s : Refusal) → o ≡ Err r → q ≡ Err s → r ≡ s → SameOutcome o q
+  same_refusal : (o q : Result Modules LoadError) (r s : LoadError) → o ≡ Err r → q ≡ Err s → r ≡ s → SameOutcome o q
   same_refusal o q r s e f t = subst (λ z. SameOutcome z q) (sym e) (subst (SameOutcome (Err r)) (sym f) t)
 
-  steps_same : (n : ℕ) (p : Path) (ps : List Path) (o q : Result Modules Refusal) → ((r s : Result Modules Refusal) → Loads found max (n + 1) ps r → Loads found max (n + 1) ps s → SameOutcome r s) → Step n p ps o → Step n p ps q → SameOutcome o q
+  steps_same : (n : ℕ) (p : Path) (ps : List Path) (o q : Result Modules LoadError) → ((r s : Result Modules LoadError) → Loads found max (n + 1) ps r → Loads found max (n + 1) ps s → SameOutcome r s) → Step n p ps o → Step n p ps q → SameOutcome o q
   steps_same n p ps o q more (too_many l e) (too_many k f) = same_refusal o q _ _ e f refl
   steps_same n p ps o q more (too_many l e) (missing k g f) = absurd (omega arith)
   steps_same n p ps o q more (too_many l e) (bad x k g f) = absurd (omega arith)
@@ -92,11 +92,11 @@ module _ (found : Sources) (functional : IsFunctional found) (max : ℕ) where
       ap (λ c. (c, v) ∷ listed ms) paths ∙ ap (λ c. (path_text road, c) ∷ listed ms) (units_same p v u h g) ∙ ap (λ c. (path_text road, u) ∷ c) rest in
       subst (λ c. SameOutcome c q) (sym e) (subst (SameOutcome (Ok ((path, v) ∷ ms))) (sym f) whole)
 
-  pub loads_once : (n : ℕ) (ps : List Path) (o q : Result Modules Refusal) → Loads found max n ps o → Loads found max n ps q → SameOutcome o q
+  pub loads_once : (n : ℕ) (ps : List Path) (o q : Result Modules LoadError) → Loads found max n ps o → Loads found max n ps q → SameOutcome o q
   loads_once n [] _ _ all_loaded all_loaded = refl
   loads_once n (p ∷ ps) o q a b = steps_same n p ps o q (λ r s c d. loads_once (n + 1) ps r s c d) (step_of n p ps o a) (step_of n p ps q b)
 
-abbrev first_unit : Unit → List (Path × Unit) → Unit
+abbrev first_unit : UnitTree → List (Path × UnitTree) → UnitTree
 first_unit u [] = u
 first_unit u (a ∷ rest) = a.1
 
@@ -106,16 +106,16 @@ round_once : (modules : Modules) (root : Path) (keep : List Name) (ps qs : List 
 round_once modules root keep ps qs a b = ascending_same ps qs a.ascending b.ascending (λ x c. (b.asked x).1 ((a.asked x).0 c)) (λ x c. (a.asked x).1 ((b.asked x).0 c))
 
 module _ (found : Sources) (functional : IsFunctional found) (root : Path) (keep : List Name) (max : ℕ) where
-  contradicts : (a b : Modules) → listed a ≡ listed b → (r : Refusal) → NoneRefused a root keep → IsFirstRefused b root keep r → ⊥
+  contradicts : (a b : Modules) → listed a ≡ listed b → (r : LoadError) → NoneRefused a root keep → IsFirstRefused b root keep r → ⊥
   contradicts a b e r n f = none_moves a b root keep (same_listed a b e) n f.home f.declaration f.occurrence r f.refused
 
-  loads_here : (a b : Modules) → listed a ≡ listed b → (ps qs : List Path) (o : Result Modules Refusal) → ps ≡ qs → Loads found max (length b) qs o → Loads found max (length a) ps o
+  loads_here : (a b : Modules) → listed a ≡ listed b → (ps qs : List Path) (o : Result Modules LoadError) → ps ≡ qs → Loads found max (length b) qs o → Loads found max (length a) ps o
   loads_here a b e ps qs o s l = subst (λ n. Loads found max n ps o) (sym (listed_length a b e)) (subst (λ z. Loads found max (length b) z o) (sym s) l)
 
-  none_to_load : (n : ℕ) (r : Refusal) → Loads found max n [] (Err r) → ⊥
+  none_to_load : (n : ℕ) (r : LoadError) → Loads found max n [] (Err r) → ⊥
   none_to_load n r l = elim l [ ]
 
-  goes_once : (a b : Modules) (o q : Result Modules Refusal) → listed a ≡ listed b → Apart a → Goes found root keep max a o → Goes found root keep max b q → SameOutcome o q
+  goes_once : (a b : Modules) (o q : Result Modules LoadError) → listed a ≡ listed b → Apart a → LoadsRounds found root keep max a o → LoadsRounds found root keep max b q → SameOutcome o q
   goes_once a b _ _ e apart (an_occurrence_refused {r = r} f) (an_occurrence_refused {r = s} g) = first_once a root keep apart r s f (first_moves b a root keep (same_listed b a (sym e)) s g)
   goes_once a b _ _ e apart (an_occurrence_refused {r = r} f) (nothing_asked n k) = absurd (contradicts b a (sym e) r n f)
   goes_once a b _ _ e apart (an_occurrence_refused {r = r} f) (a_module_refused n k l) = absurd (contradicts b a (sym e) r n f)
@@ -143,24 +143,24 @@ module _ (found : Sources) (functional : IsFunctional found) (root : Path) (keep
 
   -- ---- from the root
 
-  root_apart : (path : ModulePath) (u : Unit) → Loads found max 0 (root ∷ []) (Ok ((path, u) ∷ [])) → Apart ((path, u) ∷ [])
+  root_apart : (path : ModulePath) (u : UnitTree) → Loads found max 0 (root ∷ []) (Ok ((path, u) ∷ [])) → Apart ((path, u) ∷ [])
   root_apart path u l = record {
     apart = λ a b c d e. alone a b (in_cases (path, u) [] a c) (in_cases (path, u) [] b d);
     distinct = λ a c. (loading found max 0 (root ∷ []) ((path, u) ∷ []) l).names a c;
   }
     where
-      alone : (a b : ModulePath × Unit) → ((path, u) ≡ a) ⊎ Contains [] a → ((path, u) ≡ b) ⊎ Contains [] b → a ≡ b
+      alone : (a b : ModulePath × UnitTree) → ((path, u) ≡ a) ⊎ Contains [] a → ((path, u) ≡ b) ⊎ Contains [] b → a ≡ b
       alone a b (inl e) (inl f) = sym e ∙ f
       alone a b (inl e) (inr c) = absurd (in_none b c)
       alone a b (inr c) f = absurd (in_none a c)
 
-  root_units : (path road : ModulePath) (u v : Unit) → listed ((path, u) ∷ []) ≡ listed ((road, v) ∷ []) → u ≡ v
+  root_units : (path road : ModulePath) (u v : UnitTree) → listed ((path, u) ∷ []) ≡ listed ((road, v) ∷ []) → u ≡ v
   root_units path road u v e = ap (first_unit u) e
 
-  all_kept : (u : Unit) (x : Name) → IsFirstUnkept found root keep max u x → ((y : Name) → Contains keep y → Declares u y) → ⊥
+  all_kept : (u : UnitTree) (x : Name) → IsFirstUnkept found root keep max u x → ((y : Name) → Contains keep y → Declares u y) → ⊥
   all_kept u x f h = f.undeclared (h x (subst (λ l. Contains l x) (sym f.whole) (Contains-append_right f.before (x ∷ f.behind) x (first_in x f.behind))))
 
-  comes_once : (o q : Result Modules Refusal) → ComesTo found root keep max o → ComesTo found root keep max q → SameOutcome o q
+  comes_once : (o q : Result Modules LoadError) → IsLoadingResult found root keep max o → IsLoadingResult found root keep max q → SameOutcome o q
   comes_once _ _ (root_refused {r = r} a) (root_refused {r = s} b) = loads_once found functional max 0 (root ∷ []) (Err r) (Err s) a b
   comes_once _ _ (root_refused {r = r} a) (kept_name_missing {path = path} {u = u} b f) = absurd (loads_once found functional max 0 (root ∷ []) (Err r) (Ok ((path, u) ∷ [])) a b)
   comes_once _ q (root_refused {r = r} a) (goes_on {path = path} {u = u} b h g) = absurd (loads_once found functional max 0 (root ∷ []) (Err r) (Ok ((path, u) ∷ [])) a b)

@@ -1,8 +1,8 @@
 -- Lists in which each name stands once.
 use Rattle.std.proofs.Common.{◌≡◌, ◌⊎◌, inl, inr, List, [], ◌∷◌, ◌++◌, map, sym, ap, ◌∙◌, subst, Contains}
 use Rattle.std.proofs.lemmas.List.Elements.{Contains-append_left, Contains-append_cases}
-use Rattle.wesl_sources.specs.Occurrences.{Name}
-use Rattle.wesl_sources.specs.Rounds.{AreDistinct, no_names, another}
+use Rattle.wesl_link_spec.specs.Occurrences.{Name}
+use Rattle.wesl_link_spec.specs.Rounds.{AreDistinct, no_names, another}
 use Rattle.wgsl_items.proofs.Members.{first_in, later_in, in_cases, in_none, in_map}
 
 -- from the front

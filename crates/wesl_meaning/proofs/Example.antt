@@ -5,14 +5,14 @@ use Rattle.std.specs.Str.{bytes_eq}
 use Rattle.std.proofs.lemmas.List.Elements.{Contains-append_left, Contains-append_right}
 use Rattle.wgsl_path.specs.declared.path.ModulePath.{ModulePath}
 use Rattle.wgsl_path.specs.Paths.{path_text}
-use Rattle.wgsl_syntax.specs.Tree.{Decl, Imp, Unit}
+use Rattle.wgsl_syntax.specs.Tree.{Decl, Imp, UnitTree}
 use Rattle.wgsl_meaning.specs.Names.{Name}
-use Rattle.wesl_sources.specs.Occurrences.{occurrences, locals, names_before, names_behind, names_in_body}
-use Rattle.wesl_sources.specs.Modules.{Path, Symbol, IsModule, Declares, Imports, local_name, IsFree, IsDeclaration, Denotes, own, imported, Reached, kept, onto}
-use Rattle.wesl_sources.specs.Names.{IsPrinted, stays, is_mangled}
-use Rattle.wesl_sources.specs.Rounds.{AreDistinct, no_names, another, one_path, scope_names}
-use Rattle.wesl_sources.specs.Linked.{IsNaming, nothing_left, takes, IsInOrder, IsLinkedModule, no_module, a_module, IsLinked, IsShared, IsTaken, Clashes, shared, hidden, captured}
-use Rattle.wesl_sources.specs.Loaded.{AreLoaded, IsClashFree}
+use Rattle.wesl_link_spec.specs.Occurrences.{occurrences, locals, names_before, names_behind, names_in_body}
+use Rattle.wesl_link_spec.specs.Modules.{Path, Symbol, IsModule, Declares, Imports, local_name, IsFree, IsDeclaration, Denotes, own, imported, Reached, kept, onto}
+use Rattle.wesl_link_spec.specs.Names.{IsPrinted, stays, is_mangled}
+use Rattle.wesl_link_spec.specs.Rounds.{AreDistinct, no_names, another, one_path, scope_names}
+use Rattle.wesl_link_spec.specs.Linked.{IsNaming, nothing_left, takes, IsInOrder, IsLinkedModule, no_module, a_module, IsLinked, IsShared, IsTaken, Clashes, shared, hidden, captured}
+use Rattle.wesl_link_spec.specs.Loaded.{AreLoaded, IsClashFree}
 use Rattle.wesl_meaning.specs.SourcePrograms.{of_none, of_more}
 use Rattle.wesl_meaning.specs.Example.{const_of_two, entry_of, root_path, other_path, import_of_two, root_unit, other_unit, two_modules, linked_unit, entry, the_two, PremisesAreMet}
 use Rattle.wgsl_items.proofs.Members.{first_in, later_in, in_cases, in_none, same_bytes, bytes_same}
@@ -44,30 +44,30 @@ sg = record { home = the_root; name = codes "g" }
 abbrev st : Symbol
 st = record { home = the_other; name = codes "two" }
 
-module_cases : (a : ModulePath × Unit) → Contains two_modules a → ((root_path, root_unit) ≡ a) ⊎ ((other_path, other_unit) ≡ a)
+module_cases : (a : ModulePath × UnitTree) → Contains two_modules a → ((root_path, root_unit) ≡ a) ⊎ ((other_path, other_unit) ≡ a)
 module_cases a c = at (in_cases (root_path, root_unit) ((other_path, other_unit) ∷ []) a c)
   where
     at : ((root_path, root_unit) ≡ a) ⊎ Contains ((other_path, other_unit) ∷ []) a → ((root_path, root_unit) ≡ a) ⊎ ((other_path, other_unit) ≡ a)
     at (inl e) = inl e
     at (inr d) = inr (only_one (other_path, other_unit) a d)
 
-abbrev text_of : ModulePath × Unit → Path
+abbrev text_of : ModulePath × UnitTree → Path
 text_of a = path_text a.0
 
-abbrev unit_of_pair : ModulePath × Unit → Unit
+abbrev unit_of_pair : ModulePath × UnitTree → UnitTree
 unit_of_pair a = a.1
 
-root_unit_is : (u : Unit) → IsModule two_modules the_root u → root_unit ≡ u
+root_unit_is : (u : UnitTree) → IsModule two_modules the_root u → root_unit ≡ u
 root_unit_is u i = at (i.path, u) (module_cases (i.path, u) i.stands) i.printed
   where
-    at : (a : ModulePath × Unit) → ((root_path, root_unit) ≡ a) ⊎ ((other_path, other_unit) ≡ a) → path_text a.0 ≡ the_root → root_unit ≡ a.1
+    at : (a : ModulePath × UnitTree) → ((root_path, root_unit) ≡ a) ⊎ ((other_path, other_unit) ≡ a) → path_text a.0 ≡ the_root → root_unit ≡ a.1
     at a (inl e) p = ap unit_of_pair e
     at a (inr e) p = absurd (differ the_other the_root refl (ap text_of e ∙ p))
 
-other_unit_is : (u : Unit) → IsModule two_modules the_other u → other_unit ≡ u
+other_unit_is : (u : UnitTree) → IsModule two_modules the_other u → other_unit ≡ u
 other_unit_is u i = at (i.path, u) (module_cases (i.path, u) i.stands) i.printed
   where
-    at : (a : ModulePath × Unit) → ((root_path, root_unit) ≡ a) ⊎ ((other_path, other_unit) ≡ a) → path_text a.0 ≡ the_other → other_unit ≡ a.1
+    at : (a : ModulePath × UnitTree) → ((root_path, root_unit) ≡ a) ⊎ ((other_path, other_unit) ≡ a) → path_text a.0 ≡ the_other → other_unit ≡ a.1
     at a (inl e) p = absurd (differ the_root the_other refl (ap text_of e ∙ p))
     at a (inr e) p = ap unit_of_pair e
 
@@ -187,13 +187,13 @@ all_loaded = record {
   resolved = λ s d x r i c. resolve s d x i c (reached_held s r);
 }
   where
-    both : (a b : ModulePath × Unit) → path_text a.0 ≡ path_text b.0 → ((root_path, root_unit) ≡ a) ⊎ ((other_path, other_unit) ≡ a) → ((root_path, root_unit) ≡ b) ⊎ ((other_path, other_unit) ≡ b) → a ≡ b
+    both : (a b : ModulePath × UnitTree) → path_text a.0 ≡ path_text b.0 → ((root_path, root_unit) ≡ a) ⊎ ((other_path, other_unit) ≡ a) → ((root_path, root_unit) ≡ b) ⊎ ((other_path, other_unit) ≡ b) → a ≡ b
     both a b e (inl f) (inl g) = sym f ∙ g
     both a b e (inl f) (inr g) = absurd (differ the_root the_other refl (ap text_of f ∙ e ∙ sym (ap text_of g)))
     both a b e (inr f) (inl g) = absurd (differ the_other the_root refl (ap text_of f ∙ e ∙ sym (ap text_of g)))
     both a b e (inr f) (inr g) = sym f ∙ g
 
-    names : (a : ModulePath × Unit) → ((root_path, root_unit) ≡ a) ⊎ ((other_path, other_unit) ≡ a) → AreDistinct (scope_names a.1)
+    names : (a : ModulePath × UnitTree) → ((root_path, root_unit) ≡ a) ⊎ ((other_path, other_unit) ≡ a) → AreDistinct (scope_names a.1)
     names a (inl e) = subst (λ z. AreDistinct (scope_names z.1)) e (another {x = codes "g"} {xs = codes "two" ∷ []} (another {x = codes "two"} {xs = []} no_names (in_none (codes "two"))) (λ c. differ (codes "two") (codes "g") refl (only_one (codes "two") (codes "g") c)))
     names a (inr e) = subst (λ z. AreDistinct (scope_names z.1)) e (another {x = codes "two"} {xs = []} no_names (in_none (codes "two")))
 

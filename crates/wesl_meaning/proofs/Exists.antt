@@ -4,15 +4,15 @@ use Rattle.std.specs.Prelude.{if◌then◌else◌}
 use Rattle.std.specs.Str.{bytes_eq}
 use Rattle.wgsl_path.specs.declared.path.ModulePath.{ModulePath}
 use Rattle.wgsl_path.specs.Paths.{path_text}
-use Rattle.wgsl_syntax.specs.Tree.{Decl, Imp, Unit}
+use Rattle.wgsl_syntax.specs.Tree.{Decl, Imp, UnitTree}
 use Rattle.wgsl_syntax.specs.Names.{declared_name}
 use Rattle.wgsl_meaning.specs.Names.{Name, Symbol, find_decl}
 use Rattle.wgsl_meaning.specs.Programs.{Program}
-use Rattle.wesl_sources.specs.Modules.{Path, Modules, IsModule, local_name, IsImport, IsDeclaration, Denotes, own, imported}
-use Rattle.wesl_sources.specs.Modules.{Symbol as SourceSymbol}
-use Rattle.wesl_sources.specs.Rounds.{scope_names}
-use Rattle.wesl_sources.specs.Linked.{AreLinkedModules, no_module, a_module, IsLinked}
-use Rattle.wesl_sources.specs.Loaded.{AreLoaded}
+use Rattle.wesl_link_spec.specs.Modules.{Path, Modules, IsModule, local_name, IsImport, IsDeclaration, Denotes, own, imported}
+use Rattle.wesl_link_spec.specs.Modules.{Symbol as SourceSymbol}
+use Rattle.wesl_link_spec.specs.Rounds.{scope_names}
+use Rattle.wesl_link_spec.specs.Linked.{AreLinkedModules, no_module, a_module, IsLinked}
+use Rattle.wesl_link_spec.specs.Loaded.{AreLoaded}
 use Rattle.wesl_meaning.specs.SourcePrograms.{source_symbol, declared_symbol, AreHeld, of_none, of_more, IsHeldList, IsProgramOf, unit_at, import_at, declared_at, item_of, if_declared, import_target, imported_symbol, own_or_imported, denoted_in, sources}
 use Rattle.wgsl_items.proofs.Members.{first_in, later_in, in_cases, in_none, in_map, from_map, same_bytes, bytes_same}
 use Rattle.wesl_meaning.proofs.Distinct.{Once, once_of, once_left, once_right, once_same}
@@ -20,7 +20,7 @@ use Rattle.wesl_meaning.proofs.Symbols.{found_in, finds_one, one_unit}
 
 -- ---- look-ups
 
-pub unit_is : (modules : Modules) (m : Path) (u : Unit) → unit_at modules m ≡ Some u → IsModule modules m u
+pub unit_is : (modules : Modules) (m : Path) (u : UnitTree) → unit_at modules m ≡ Some u → IsModule modules m u
 unit_is [] m u e = absurd (cc)
 unit_is (a ∷ rest) m u e = at (unit_is rest m u) (bytes_eq (path_text a.0) m) refl e
   where
@@ -28,11 +28,11 @@ unit_is (a ∷ rest) m u e = at (unit_is rest m u) (bytes_eq (path_text a.0) m) 
     at more true is f = let s : a.1 ≡ u = cc in record { path = a.0; stands = subst (λ z. Contains (a ∷ rest) (a.0, z)) s (first_in a rest); printed = same_bytes (path_text a.0) m is }
     at more false is f = let r = more f in record { path = r.path; stands = later_in (r.path, u) a rest r.stands; printed = r.printed }
 
-pub unit_there : (modules : Modules) (m : Path) (path : ModulePath) (u : Unit) → Contains modules (path, u) → path_text path ≡ m → (v : Unit) × (unit_at modules m ≡ Some v)
+pub unit_there : (modules : Modules) (m : Path) (path : ModulePath) (u : UnitTree) → Contains modules (path, u) → path_text path ≡ m → (v : UnitTree) × (unit_at modules m ≡ Some v)
 unit_there [] m path u c e = absurd (in_none (path, u) c)
 unit_there (a ∷ rest) m path u c e = at (λ d. unit_there rest m path u d e) (bytes_eq (path_text a.0) m) refl (in_cases a rest (path, u) c)
   where
-    at : (Contains rest (path, u) → (v : Unit) × (unit_at rest m ≡ Some v)) → (b : Bool) → bytes_eq (path_text a.0) m ≡ b → (a ≡ (path, u)) ⊎ Contains rest (path, u) → (v : Unit) × ((if b then Some a.1 else unit_at rest m) ≡ Some v)
+    at : (Contains rest (path, u) → (v : UnitTree) × (unit_at rest m ≡ Some v)) → (b : Bool) → bytes_eq (path_text a.0) m ≡ b → (a ≡ (path, u)) ⊎ Contains rest (path, u) → (v : UnitTree) × ((if b then Some a.1 else unit_at rest m) ≡ Some v)
     at more true is cases = (a.1, refl)
     at more false is (inl s) = let t : bytes_eq (path_text a.0) m ≡ true = ap (λ z. bytes_eq (path_text z.0) m) s ∙ ap (λ z. bytes_eq z m) e ∙ bytes_same m in absurd (cc)
     at more false is (inr d) = more d
@@ -70,18 +70,18 @@ none_cases x ds n None e = refl
 none_cases x ds n (Some d) e = absurd (n (declares_if x ds d e))
 
 module _ (modules : Modules) (root : Path) (keep : List Name) (loaded : AreLoaded modules root keep) where
-  one : (m : Path) (u v : Unit) → IsModule modules m u → IsModule modules m v → u ≡ v
+  one : (m : Path) (u v : UnitTree) → IsModule modules m u → IsModule modules m v → u ≡ v
   one = one_unit modules root keep loaded
 
-  unit_found : (m : Path) (u : Unit) → IsModule modules m u → unit_at modules m ≡ Some u
+  unit_found : (m : Path) (u : UnitTree) → IsModule modules m u → unit_at modules m ≡ Some u
   unit_found m u i = let f = unit_there modules m i.path u i.stands i.printed in f.1 ∙ ap Some (one m f.0 u (unit_is modules m f.0 f.1) i)
 
-  once_in : (m : Path) (u : Unit) → IsModule modules m u → Once (scope_names u)
+  once_in : (m : Path) (u : UnitTree) → IsModule modules m u → Once (scope_names u)
   once_in m u i = once_of (scope_names u) (loaded.distinct (i.path, u) i.stands)
 
   -- ---- items
 
-  item_declares : (s : Symbol) (d : Decl) (o : Option Unit) → unit_at modules (path_text s.home) ≡ o → declared_at s.called o ≡ Some d → IsDeclaration modules (source_symbol s) d
+  item_declares : (s : Symbol) (d : Decl) (o : Option UnitTree) → unit_at modules (path_text s.home) ≡ o → declared_at s.called o ≡ Some d → IsDeclaration modules (source_symbol s) d
   item_declares s d None e f = absurd (cc)
   item_declares s d (Some u) e f = let there = found_in s.called u.declarations d f in
       record { unit = u; is_module = unit_is modules (path_text s.home) u e; stands = there.0; name = there.1 }
@@ -109,7 +109,7 @@ module _ (modules : Modules) (root : Path) (keep : List Name) (loaded : AreLoade
           (imported (record { import = i; is_import = im; path = path; is_path = e; home = refl; item = refl }) declares.is_module
           (subst (Contains (map declared_name declares.unit.declarations)) declares.name (in_map declared_name declares.unit.declarations d declares.stands)))
 
-  own_denotes : (m : ModulePath) (x : Name) (u : Unit) → IsModule modules (path_text m) u → (o : Option Decl) → find_decl x u.declarations ≡ o → (s : Symbol) → own_or_imported modules m x u o ≡ Some s → Denotes modules (path_text m) x (source_symbol s)
+  own_denotes : (m : ModulePath) (x : Name) (u : UnitTree) → IsModule modules (path_text m) u → (o : Option Decl) → find_decl x u.declarations ≡ o → (s : Symbol) → own_or_imported modules m x u o ≡ Some s → Denotes modules (path_text m) x (source_symbol s)
   own_denotes m x u i (Some d) e s f =
       let to : record { home = m; called = x } ≡ s = cc in
       subst (λ z. Denotes modules (path_text m) x (source_symbol z)) to (own i (declares_if x u.declarations d e))
@@ -120,11 +120,11 @@ module _ (modules : Modules) (root : Path) (keep : List Name) (loaded : AreLoade
       at (Some j) is g = let there = import_is x u.imports j is in
           target_denotes m x j (record { unit = u; is_module = i; undeclared = declares_none x u.declarations e; stands = there.0; local = there.1 }) j.path refl s g
 
-  found_denotes : (m : ModulePath) (x : Name) (s : Symbol) (o : Option Unit) → unit_at modules (path_text m) ≡ o → denoted_in modules m x o ≡ Some s → Denotes modules (path_text m) x (source_symbol s)
+  found_denotes : (m : ModulePath) (x : Name) (s : Symbol) (o : Option UnitTree) → unit_at modules (path_text m) ≡ o → denoted_in modules m x o ≡ Some s → Denotes modules (path_text m) x (source_symbol s)
   found_denotes m x s None e f = absurd (cc)
   found_denotes m x s (Some u) e f = own_denotes m x u (unit_is modules (path_text m) u e) (find_decl x u.declarations) refl s f
 
-  denoted_at : (m : ModulePath) (x : Name) (u : Unit) → IsModule modules (path_text m) u → denoted_in modules m x (unit_at modules (path_text m)) ≡ own_or_imported modules m x u (find_decl x u.declarations)
+  denoted_at : (m : ModulePath) (x : Name) (u : UnitTree) → IsModule modules (path_text m) u → denoted_in modules m x (unit_at modules (path_text m)) ≡ own_or_imported modules m x u (find_decl x u.declarations)
   denoted_at m x u i = ap (denoted_in modules m x) (unit_found (path_text m) u i)
 
   if_there : (s : Symbol) (o : Option Decl) (d : Decl) → o ≡ Some d → if_declared s o ≡ Some s
@@ -136,7 +136,7 @@ module _ (modules : Modules) (root : Path) (keep : List Name) (loaded : AreLoade
       (record { home = m; called = x }, denoted_at m x u i ∙ ap (own_or_imported modules m x u) f.1, refl)
   denotes_found m x t (imported {u = v} ii j d) =
       let i = ii.is_import in
-      let u : Unit = i.unit in
+      let u : UnitTree = i.unit in
       let none : find_decl x u.declarations ≡ None = none_cases x u.declarations i.undeclared (find_decl x u.declarations) refl in
       let f = import_there x u.imports ii.import i.stands i.local in
       let there = import_is x u.imports f.0 f.1 in
@@ -153,7 +153,7 @@ module _ (modules : Modules) (root : Path) (keep : List Name) (loaded : AreLoade
   pub denotes_once : (m : Path) (x : Name) (s t : SourceSymbol) → Denotes modules m x s → Denotes modules m x t → s ≡ t
   denotes_once m x s t a b = let i = (scope_of s a).1 in at_path i.path (subst (λ z. Denotes modules z x s) (sym i.printed) a) (subst (λ z. Denotes modules z x t) (sym i.printed) b)
     where
-      scope_of : (y : SourceSymbol) → Denotes modules m x y → (u : Unit) × IsModule modules m u
+      scope_of : (y : SourceSymbol) → Denotes modules m x y → (u : UnitTree) × IsModule modules m u
       scope_of _ (own {u = u} i d) = (u, i)
       scope_of y (imported i j d) = (i.is_import.unit, i.is_import.is_module)
 
@@ -185,7 +185,7 @@ module _ (modules : Modules) (root : Path) (keep : List Name) (loaded : AreLoade
       let to : map (declared_symbol (path_text l.is_module.path)) l.held ++ map source_symbol r.0 ≡ map (declared_symbol m) l.held ++ map source_symbol r.0 = ap (λ z. map (declared_symbol z) l.held ++ map source_symbol r.0) l.is_module.printed in
       (hs.0, subst (AreHeld modules root keep (m ∷ ms)) (sym (hs.1 ∙ to)) (of_more l.unit l.held l.is_module l.selected r.1))
 
-  pub have_a_program : (unit : Unit) → IsLinked modules root keep unit → (p : Program) × IsProgramOf modules root keep p
+  pub have_a_program : (unit : UnitTree) → IsLinked modules root keep unit → (p : Program) × IsProgramOf modules root keep p
   have_a_program unit linked =
       let h = held_symbols linked.order unit.declarations linked.declares in
       (sources modules h.0, sources_are h.0 (record { order = linked.order; in_order = linked.in_order; are_held = h.1 }))

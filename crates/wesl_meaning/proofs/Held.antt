@@ -1,16 +1,16 @@
 -- Held symbols and the declarations of the linked unit.
 use Rattle.std.proofs.Common.{◌≡◌, ◌≢◌, ◌⊎◌, inl, inr, Some, sym, ap, ◌∙◌, subst, List}
-use Rattle.wgsl_syntax.specs.Tree.{Decl, Unit}
+use Rattle.wgsl_syntax.specs.Tree.{Decl, UnitTree}
 use Rattle.wgsl_syntax.specs.Names.{declared_name}
 use Rattle.wgsl_meaning.specs.Names.{Name, find_decl}
-use Rattle.wesl_sources.specs.Modules.{Path, Symbol, Modules, Reached}
-use Rattle.wesl_sources.specs.Names.{IsPrinted}
-use Rattle.wesl_sources.specs.Linked.{IsTaken}
+use Rattle.wesl_link_spec.specs.Modules.{Path, Symbol, Modules, Reached}
+use Rattle.wesl_link_spec.specs.Names.{IsPrinted}
+use Rattle.wesl_link_spec.specs.Linked.{IsTaken}
 use Rattle.wesl_meaning.specs.SourcePrograms.{declared_symbol}
 use Rattle.wesl_meaning.specs.Runs.{AreLinkedWell}
 use Rattle.wesl_meaning.proofs.Symbols.{name_renamed, symbol_cases, found_in, named_as, Origin, origin}
 
-module _ (modules : Modules) (root : Path) (keep : List Name) (unit : Unit) (well : AreLinkedWell modules root keep unit) where
+module _ (modules : Modules) (root : Path) (keep : List Name) (unit : UnitTree) (well : AreLinkedWell modules root keep unit) where
   abbrev pub From : Decl → Type 0
   From e = Origin modules root keep well.loaded e
 

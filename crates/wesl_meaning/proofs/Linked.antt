@@ -4,17 +4,17 @@ use Rattle.std.specs.Prelude.{IsTrue}
 use Rattle.std.proofs.lemmas.List.Elements.{Contains-append_left, Contains-append_right}
 use Rattle.wgsl_items.proofs.Bools.{none_if, false_if}
 use Rattle.wgsl_path.specs.Paths.{path_text}
-use Rattle.wgsl_syntax.specs.Tree.{Decl, Unit}
+use Rattle.wgsl_syntax.specs.Tree.{Decl, UnitTree}
 use Rattle.wgsl_syntax.specs.Names.{declared_name}
 use Rattle.wgsl_meaning.specs.declared.value.Value.{Value}
 use Rattle.wgsl_meaning.specs.Outcome.{Outcome, Done, Failed, Deep}
 use Rattle.wgsl_meaning.specs.Names.{Name, Symbol, find_decl}
 use Rattle.wgsl_meaning.specs.Programs.{Program, Inputs, run, here, program_of}
-use Rattle.wesl_sources.specs.Occurrences.{is_among, occurrences, names_before, names_behind, names_in_body, locals}
-use Rattle.wesl_sources.specs.Modules.{Path, Modules, IsModule, IsFree, IsDeclaration, Denotes, Reached, kept, onto}
-use Rattle.wesl_sources.specs.Modules.{Symbol as SourceSymbol}
-use Rattle.wesl_sources.specs.Names.{IsPrinted, stays}
-use Rattle.wesl_sources.specs.Linked.{renamed_declaration, IsNaming, Selects, AreLinkedModules, no_module, a_module, Clashes, hidden, captured}
+use Rattle.wesl_link_spec.specs.Occurrences.{is_among, occurrences, names_before, names_behind, names_in_body, locals}
+use Rattle.wesl_link_spec.specs.Modules.{Path, Modules, IsModule, IsFree, IsDeclaration, Denotes, Reached, kept, onto}
+use Rattle.wesl_link_spec.specs.Modules.{Symbol as SourceSymbol}
+use Rattle.wesl_link_spec.specs.Names.{IsPrinted, stays}
+use Rattle.wesl_link_spec.specs.Linked.{renamed_declaration, IsNaming, Selects, AreLinkedModules, no_module, a_module, Clashes, hidden, captured}
 use Rattle.wesl_meaning.specs.Alike.{Alike}
 use Rattle.wesl_meaning.specs.SourcePrograms.{source_symbol, declared_symbol, AreHeld, of_none, of_more, IsProgramOf}
 use Rattle.wesl_meaning.specs.Runs.{AreLinkedWell, IsKept, LinkedUnitsRunAlike, LinkedUnitsEndWell}
@@ -29,7 +29,7 @@ is_true : (b : Bool) → b ≡ true → IsTrue b
 is_true true e = refl
 is_true false e = absurd (cc)
 
-module _ (modules : Modules) (root : Path) (keep : List Name) (unit : Unit) (p : Program) (well : AreLinkedWell modules root keep unit) (program : IsProgramOf modules root keep p) where
+module _ (modules : Modules) (root : Path) (keep : List Name) (unit : UnitTree) (p : Program) (well : AreLinkedWell modules root keep unit) (program : IsProgramOf modules root keep p) where
   -- a symbol is reached, and has this printed name
   pub record IsHeld (s : Symbol) (y : Name) : Type 0 where
     pub reached : Reached modules root keep (source_symbol s)
@@ -106,7 +106,7 @@ module _ (modules : Modules) (root : Path) (keep : List Name) (unit : Unit) (p :
     no_pairs : Paired [] []
     one_pair : {ss : List SourceSymbol} {es : List Decl} (s : SourceSymbol) (e : Decl) → Reached modules root keep s → IsPrinted modules root s (declared_name e) → Paired ss es → Paired (s ∷ ss) (e ∷ es)
 
-  paired_module : (m : Path) (u : Unit) (new : Name → Name) → IsModule modules m u → IsNaming modules root m new → (held : List Decl)
+  paired_module : (m : Path) (u : UnitTree) (new : Name → Name) → IsModule modules m u → IsNaming modules root m new → (held : List Decl)
       → ((d : Decl) → Contains held d → Contains u.declarations d × Reached modules root keep (declared_symbol m d)) → (ss : List SourceSymbol) (es : List Decl) → Paired ss es
       → Paired (map (declared_symbol m) held ++ ss) (map (renamed_declaration new) held ++ es)
   paired_module m u new i n [] all ss es rest = rest

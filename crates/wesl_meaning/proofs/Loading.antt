@@ -4,13 +4,13 @@ use Rattle.std.specs.Str.{bytes_eq}
 use Rattle.std.proofs.lemmas.List.Elements.{Contains-append_left, Contains-append_cases}
 use Rattle.wgsl_path.specs.declared.path.ModulePath.{ModulePath}
 use Rattle.wgsl_path.specs.Paths.{path_text}
-use Rattle.wgsl_syntax.specs.Tree.{Decl, Imp, Unit}
+use Rattle.wgsl_syntax.specs.Tree.{Decl, Imp, UnitTree}
 use Rattle.wgsl_syntax.specs.Names.{declared_name}
 use Rattle.wesl_resolve.specs.Found.{unit_of}
-use Rattle.wesl_sources.specs.Occurrences.{Name, occurrences}
-use Rattle.wesl_sources.specs.Modules.{Path, Symbol, Modules, IsModule, Declares, Imports, local_name, IsImport, IsImported, IsMissing, lacking, bare, IsPrivate, IsFree, IsDeclaration, Denotes, own, imported, Reached}
-use Rattle.wesl_sources.specs.Rounds.{Sources, Refusal, missing_decl, private, scope_names, AreDistinct, Loads, all_loaded, loaded, IsAscending, IsNextRound, NoneRefused, Goes, nothing_asked, a_round, ComesTo, goes_on}
-use Rattle.wesl_sources.specs.Loaded.{AreLoaded}
+use Rattle.wesl_link_spec.specs.Occurrences.{Name, occurrences}
+use Rattle.wesl_link_spec.specs.Modules.{Path, Symbol, Modules, IsModule, Declares, Imports, local_name, IsImport, IsImported, IsMissing, lacking, bare, IsPrivate, IsFree, IsDeclaration, Denotes, own, imported, Reached}
+use Rattle.wesl_link_spec.specs.Rounds.{Sources, LoadError, missing_decl, private, scope_names, AreDistinct, Loads, all_loaded, loaded, IsAscending, IsNextRound, NoneRefused, LoadsRounds, nothing_asked, a_round, IsLoadingResult, goes_on}
+use Rattle.wesl_link_spec.specs.Loaded.{AreLoaded}
 use Rattle.wgsl_items.proofs.Members.{first_in, later_in, in_cases, in_none, from_map, same_bytes, bytes_same}
 use Rattle.wesl_meaning.proofs.Order.{behind_first, rest_ascends, not_before}
 use Rattle.wesl_meaning.proofs.Exists.{unit_is, unit_there, import_is, import_there}
@@ -43,13 +43,13 @@ decide_in x (y ∷ ys) = at (bytes_eq x y) refl (decide_in x ys)
 -- ---- modules that are loaded one after another
 
 pub record Apart (modules : Modules) : Type 0 where
-  pub apart : (a b : ModulePath × Unit) → Contains modules a → Contains modules b → path_text a.0 ≡ path_text b.0 → a ≡ b
-  pub distinct : (a : ModulePath × Unit) → Contains modules a → AreDistinct (scope_names a.1)
+  pub apart : (a b : ModulePath × UnitTree) → Contains modules a → Contains modules b → path_text a.0 ≡ path_text b.0 → a ≡ b
+  pub distinct : (a : ModulePath × UnitTree) → Contains modules a → AreDistinct (scope_names a.1)
 
 -- their paths are those that were asked for
 pub record Loading (ps : List Path) (more : Modules) : Type 0 where
-  pub asked : (a : ModulePath × Unit) → Contains more a → Contains ps (path_text a.0)
-  pub names : (a : ModulePath × Unit) → Contains more a → AreDistinct (scope_names a.1)
+  pub asked : (a : ModulePath × UnitTree) → Contains more a → Contains ps (path_text a.0)
+  pub names : (a : ModulePath × UnitTree) → Contains more a → AreDistinct (scope_names a.1)
 
 pub loading : (sources : Sources) (max n : ℕ) (ps : List Path) (more : Modules) → Loads sources max n ps (Ok more) → Loading ps more
 loading sources max n [] (m ∷ ms) h = elim h [ ]
@@ -61,20 +61,20 @@ loading sources max n (p ∷ ps) _ (loaded {u = u} {path = path} {modules = more
       names = λ a c. names_of r a (in_cases (path, u) more a c);
     }
   where
-    asked_of : Loading ps more → (a : ModulePath × Unit) → ((path, u) ≡ a) ⊎ Contains more a → Contains (p ∷ ps) (path_text a.0)
+    asked_of : Loading ps more → (a : ModulePath × UnitTree) → ((path, u) ≡ a) ⊎ Contains more a → Contains (p ∷ ps) (path_text a.0)
     asked_of r a (inl s) = subst (Contains (p ∷ ps)) (sym e ∙ ap (λ z. path_text z.0) s) (first_in p ps)
     asked_of r a (inr c) = later_in (path_text a.0) p ps (r.asked a c)
 
-    names_of : Loading ps more → (a : ModulePath × Unit) → ((path, u) ≡ a) ⊎ Contains more a → AreDistinct (scope_names a.1)
+    names_of : Loading ps more → (a : ModulePath × UnitTree) → ((path, u) ≡ a) ⊎ Contains more a → AreDistinct (scope_names a.1)
     names_of r a (inl s) = subst (λ z. AreDistinct (scope_names z.1)) s d
     names_of r a (inr c) = r.names a c
 
-pub loading_apart : (sources : Sources) (max n : ℕ) (ps : List Path) (more : Modules) → IsAscending ps → Loads sources max n ps (Ok more) → (a b : ModulePath × Unit) → Contains more a → Contains more b → path_text a.0 ≡ path_text b.0 → a ≡ b
+pub loading_apart : (sources : Sources) (max n : ℕ) (ps : List Path) (more : Modules) → IsAscending ps → Loads sources max n ps (Ok more) → (a b : ModulePath × UnitTree) → Contains more a → Contains more b → path_text a.0 ≡ path_text b.0 → a ≡ b
 loading_apart sources max n [] (m ∷ ms) asc h a b c d e = elim h [ ]
 loading_apart sources max n [] [] asc all_loaded a b c d e = absurd (in_none a c)
 loading_apart sources max n (p ∷ ps) _ asc (loaded {u = u} {path = path} {modules = more} lt is ds to rest) a b c d e = at (λ k l. loading_apart sources max (n + 1) ps more (rest_ascends p ps asc) rest a b k l e) (in_cases (path, u) more a c) (in_cases (path, u) more b d)
   where
-    clash : (z : ModulePath × Unit) → Contains more z → path_text z.0 ≡ p → ⊥
+    clash : (z : ModulePath × UnitTree) → Contains more z → path_text z.0 ≡ p → ⊥
     clash z k s = not_before p (behind_first p ps asc p (subst (Contains ps) s ((loading sources max (n + 1) ps more rest).asked z k)))
 
     at : (Contains more a → Contains more b → a ≡ b) → ((path, u) ≡ a) ⊎ Contains more a → ((path, u) ≡ b) ⊎ Contains more b → a ≡ b
@@ -94,29 +94,29 @@ module _ (root : Path) (keep : List Name) where
       facts : Loading ps more
       facts = loading sources max n ps more loads
 
-      new_is_new : (a b : ModulePath × Unit) → Contains modules a → Contains more b → path_text a.0 ≡ path_text b.0 → ⊥
+      new_is_new : (a b : ModulePath × UnitTree) → Contains modules a → Contains more b → path_text a.0 ≡ path_text b.0 → ⊥
       new_is_new a b c d e =
           let q = (round.asked (path_text b.0)).0 (facts.asked b d) in
           q.unloaded.unloaded a.1 (record { path = a.0; stands = c; printed = e ∙ sym q.home })
 
-      both : (a b : ModulePath × Unit) → Contains modules a ⊎ Contains more a → Contains modules b ⊎ Contains more b → path_text a.0 ≡ path_text b.0 → a ≡ b
+      both : (a b : ModulePath × UnitTree) → Contains modules a ⊎ Contains more a → Contains modules b ⊎ Contains more b → path_text a.0 ≡ path_text b.0 → a ≡ b
       both a b (inl c) (inl d) e = old.apart a b c d e
       both a b (inl c) (inr d) e = absurd (new_is_new a b c d e)
       both a b (inr c) (inl d) e = absurd (new_is_new b a d c (sym e))
       both a b (inr c) (inr d) e = loading_apart sources max n ps more round.ascending loads a b c d e
 
-      names : (a : ModulePath × Unit) → Contains modules a ⊎ Contains more a → AreDistinct (scope_names a.1)
+      names : (a : ModulePath × UnitTree) → Contains modules a ⊎ Contains more a → AreDistinct (scope_names a.1)
       names a (inl c) = old.distinct a c
       names a (inr c) = facts.names a c
 
   abbrev RootKeeps : Modules → Type 0
-  RootKeeps modules = (x : Name) → Contains keep x → (u : Unit) × IsModule modules root u × Declares u x
+  RootKeeps modules = (x : Name) → Contains keep x → (u : UnitTree) × IsModule modules root u × Declares u x
 
   -- ---- nothing is refused and nothing is asked for
 
   module _ (modules : Modules) (apart : Apart modules) (none : NoneRefused modules root keep) (round : IsNextRound modules root keep []) where
     module _ (s : Symbol) (d : Decl) (x : Name) (reached : Reached modules root keep s) (declares : IsDeclaration modules s d) (occurs : Contains (occurrences d) x) where
-      refused : (t : Symbol) (r : Refusal) → (IsMissing modules s.home x t × (r ≡ missing_decl t.home t.name)) ⊎ (IsPrivate modules s.home x t × (r ≡ private t.home t.name)) → ⊥
+      refused : (t : Symbol) (r : LoadError) → (IsMissing modules s.home x t × (r ≡ missing_decl t.home t.name)) ⊎ (IsPrivate modules s.home x t × (r ≡ private t.home t.name)) → ⊥
       refused t r why =
           let place = place_of declares.unit.declarations d declares.stands in
           let at = place_of (occurrences d) x occurs in
@@ -132,7 +132,7 @@ module _ (root : Path) (keep : List Name) where
             why = why;
           })
 
-      loaded_target : (t : Symbol) → IsImported modules s.home x t → (o : Option Unit) → unit_at modules t.home ≡ o → (u : Unit) × IsModule modules t.home u
+      loaded_target : (t : Symbol) → IsImported modules s.home x t → (o : Option UnitTree) → unit_at modules t.home ≡ o → (u : UnitTree) × IsModule modules t.home u
       loaded_target t i (Some u) e = (u, unit_is modules t.home u e)
       loaded_target t i None e = absurd (in_none t.home ((round.asked t.home).1 (record {
         from = s;
@@ -146,7 +146,7 @@ module _ (root : Path) (keep : List Name) where
         unloaded = record { imported = i; unloaded = λ u m. let f = unit_there modules t.home m.path u m.stands m.printed in absurd (cc (e, f.1)) };
       })))
 
-      target_denotes : (t : Symbol) → IsImported modules s.home x t → (u : Unit) → IsModule modules t.home u → Denotes modules s.home x t
+      target_denotes : (t : Symbol) → IsImported modules s.home x t → (u : UnitTree) → IsModule modules t.home u → Denotes modules s.home x t
       target_denotes t i u m = at (decide_in t.name (map declared_name u.declarations)) (decide_in t.name (map local_name u.imports))
         where
           at : Declares u t.name ⊎ (Declares u t.name → ⊥) → Imports u t.name ⊎ (Imports u t.name → ⊥) → Denotes modules s.home x t
@@ -165,7 +165,7 @@ module _ (root : Path) (keep : List Name) where
       resolved : ((t : Symbol) × Denotes modules s.home x t) ⊎ IsFree modules s.home x
       resolved = at (decide_in x (map declared_name u.declarations)) (import_at x u.imports) refl
         where
-          u : Unit
+          u : UnitTree
           u = declares.unit
 
           i : IsModule modules s.home declares.unit
@@ -186,16 +186,16 @@ module _ (root : Path) (keep : List Name) where
     all_loaded_here : RootKeeps modules → AreLoaded modules root keep
     all_loaded_here keeps = record { apart = apart.apart; distinct = apart.distinct; kept = keeps; resolved = resolved }
 
-  module_stays : (modules more : Modules) (m : Path) (u : Unit) → IsModule modules m u → IsModule (modules ++ more) m u
+  module_stays : (modules more : Modules) (m : Path) (u : UnitTree) → IsModule modules m u → IsModule (modules ++ more) m u
   module_stays modules more m u i = record { path = i.path; stands = Contains-append_left modules more (i.path, u) i.stands; printed = i.printed }
 
-  going : (sources : Sources) (max : ℕ) (before after : Modules) → Goes sources root keep max before (Ok after) → Apart before → RootKeeps before → AreLoaded after root keep
+  going : (sources : Sources) (max : ℕ) (before after : Modules) → LoadsRounds sources root keep max before (Ok after) → Apart before → RootKeeps before → AreLoaded after root keep
   going sources max before _ (nothing_asked none round) apart keeps = all_loaded_here before apart none round keeps
   going sources max before after (a_round {more = more} {ps = ps} none round some loads rest) apart keeps =
       going sources max (before ++ more) after rest (next_apart sources max (length before) before more ps apart round loads)
       (λ x c. let k = keeps x c in (k.0, module_stays before more root k.0 k.1, k.2))
 
-pub loaded_modules : (sources : Sources) (root : Path) (keep : List Name) (max : ℕ) (modules : Modules) → ComesTo sources root keep max (Ok modules) → AreLoaded modules root keep
+pub loaded_modules : (sources : Sources) (root : Path) (keep : List Name) (max : ℕ) (modules : Modules) → IsLoadingResult sources root keep max (Ok modules) → AreLoaded modules root keep
 loaded_modules sources root keep max modules (goes_on {path = path} {u = u} loads keeps goes) =
     let facts = loading sources max 0 (root ∷ []) ((path, u) ∷ []) loads in
     let at_root : path_text path ≡ root = only (in_cases root [] (path_text path) (facts.asked (path, u) (first_in (path, u) []))) in
@@ -210,7 +210,7 @@ loaded_modules sources root keep max modules (goes_on {path = path} {u = u} load
     only (inl e) = sym e
     only (inr c) = absurd (in_none (path_text path) c)
 
-    alone : (a b : ModulePath × Unit) → ((path, u) ≡ a) ⊎ Contains [] a → ((path, u) ≡ b) ⊎ Contains [] b → a ≡ b
+    alone : (a b : ModulePath × UnitTree) → ((path, u) ≡ a) ⊎ Contains [] a → ((path, u) ≡ b) ⊎ Contains [] b → a ≡ b
     alone a b (inl e) (inl f) = sym e ∙ f
     alone a b (inl e) (inr c) = absurd (in_none b c)
     alone a b (inr c) f = absurd (in_none a c)
@@ -219,7 +219,7 @@ loaded_modules sources root keep max modules (goes_on {path = path} {u = u} load
 
 module _ (sources : Sources) where
   abbrev AllFound : Modules → Type 0
-  AllFound modules = (a : ModulePath × Unit) → Contains modules a → sources (path_text a.0) (unit_of a.1)
+  AllFound modules = (a : ModulePath × UnitTree) → Contains modules a → sources (path_text a.0) (unit_of a.1)
 
   found_loading : (max n : ℕ) (ps : List Path) (more : Modules) → Loads sources max n ps (Ok more) → AllFound more
   found_loading max n [] (m ∷ ms) h a c = elim h [ ]
@@ -230,12 +230,12 @@ module _ (sources : Sources) where
       at later (inl s) = subst (λ z. sources (path_text z.0) (unit_of z.1)) s (subst (λ z. sources z (unit_of u)) (sym e) is)
       at later (inr b) = later a b
 
-  found_going : (root : Path) (keep : List Name) (max : ℕ) (before after : Modules) → Goes sources root keep max before (Ok after) → AllFound before → AllFound after
+  found_going : (root : Path) (keep : List Name) (max : ℕ) (before after : Modules) → LoadsRounds sources root keep max before (Ok after) → AllFound before → AllFound after
   found_going root keep max before _ (nothing_asked none round) found = found
   found_going root keep max before after (a_round {more = more} {ps = ps} none round some loads rest) found =
       found_going root keep max (before ++ more) after rest (λ a c. ⊎_elim (found a) (found_loading max (length before) ps more loads a) (Contains-append_cases before more a c))
 
-  pub found_modules : (root : Path) (keep : List Name) (max : ℕ) (modules : Modules) → ComesTo sources root keep max (Ok modules) → AreFound sources modules
+  pub found_modules : (root : Path) (keep : List Name) (max : ℕ) (modules : Modules) → IsLoadingResult sources root keep max (Ok modules) → AreFound sources modules
   found_modules root keep max modules (goes_on {path = path} {u = u} loads keeps goes) m v i =
       subst (λ z. sources z (unit_of v)) i.printed (found_going root keep max ((path, u) ∷ []) modules goes (found_loading max 0 (root ∷ []) ((path, u) ∷ []) loads) (i.path, v) i.stands)
 

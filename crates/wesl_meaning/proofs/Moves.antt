@@ -2,21 +2,21 @@
 use Rattle.std.specs.Prelude.{◌↔◌}
 use Rattle.std.proofs.Common.{◌≡◌, ℕ, inl, inr, ⊎_elim, List, sym, ap, ◌∙◌, subst, Contains}
 use Rattle.wgsl_path.specs.Paths.{path_text}
-use Rattle.wgsl_syntax.specs.Tree.{Decl, Imp, Unit}
-use Rattle.wesl_sources.specs.Occurrences.{Name}
-use Rattle.wesl_sources.specs.Modules.{Path, Symbol, Modules, IsModule, IsImport, IsImported, IsMissing, lacking, bare, IsPrivate, IsFree, IsUnloaded, IsDeclaration, Denotes, own, imported, Reached, kept, onto, IsAsked}
-use Rattle.wesl_sources.specs.Rounds.{Refusal, IsNextRound, IsRefusedAt, NoneRefused, IsFirstRefused}
+use Rattle.wgsl_syntax.specs.Tree.{Decl, Imp, UnitTree}
+use Rattle.wesl_link_spec.specs.Occurrences.{Name}
+use Rattle.wesl_link_spec.specs.Modules.{Path, Symbol, Modules, IsModule, IsImport, IsImported, IsMissing, lacking, bare, IsPrivate, IsFree, IsUnloaded, IsDeclaration, Denotes, own, imported, Reached, kept, onto, IsAsked}
+use Rattle.wesl_link_spec.specs.Rounds.{LoadError, IsNextRound, IsRefusedAt, NoneRefused, IsFirstRefused}
 use Rattle.wesl_meaning.specs.Determined.{listed}
 use Rattle.wgsl_items.proofs.Members.{in_map, from_map}
 
 -- the same units at the same printed paths
 abbrev pub SameUnits : Modules → Modules → Type 0
-SameUnits a b = (m : Path) (u : Unit) → IsModule a m u ↔ IsModule b m u
+SameUnits a b = (m : Path) (u : UnitTree) → IsModule a m u ↔ IsModule b m u
 
 pub turned : (a b : Modules) → SameUnits a b → SameUnits b a
 turned a b e m u = ((e m u).1, (e m u).0)
 
-module_moves : (a b : Modules) → listed a ≡ listed b → (m : Path) (u : Unit) → IsModule a m u → IsModule b m u
+module_moves : (a b : Modules) → listed a ≡ listed b → (m : Path) (u : UnitTree) → IsModule a m u → IsModule b m u
 module_moves a b e m u i =
     let c : Contains (listed a) (path_text i.path, u) = in_map (λ z. (path_text z.0, z.1)) a (i.path, u) i.stands in
     let z = from_map (λ z. (path_text z.0, z.1)) b (path_text i.path, u) (subst (λ l. Contains l (path_text i.path, u)) e c) in
@@ -26,10 +26,10 @@ pub same_listed : (a b : Modules) → listed a ≡ listed b → SameUnits a b
 same_listed a b e m u = (module_moves a b e m u, module_moves b a (sym e) m u)
 
 module _ (a b : Modules) (root : Path) (keep : List Name) (e : SameUnits a b) where
-  to : (m : Path) (u : Unit) → IsModule a m u → IsModule b m u
+  to : (m : Path) (u : UnitTree) → IsModule a m u → IsModule b m u
   to m u = (e m u).0
 
-  from : (m : Path) (u : Unit) → IsModule b m u → IsModule a m u
+  from : (m : Path) (u : UnitTree) → IsModule b m u → IsModule a m u
   from m u = (e m u).1
 
   import_moves : (m : Path) (x : Name) (i : Imp) → IsImport a m x i → IsImport b m x i
@@ -75,7 +75,7 @@ module _ (a b : Modules) (root : Path) (keep : List Name) (e : SameUnits a b) wh
     home = h.home;
   }
 
-  refused_moves : (m : Path) (d o : ℕ) (r : Refusal) → IsRefusedAt a root keep m d o r → IsRefusedAt b root keep m d o r
+  refused_moves : (m : Path) (d o : ℕ) (r : LoadError) → IsRefusedAt a root keep m d o r → IsRefusedAt b root keep m d o r
   refused_moves m d o r h = record {
     unit = h.unit;
     is_module = to m h.unit h.is_module;
@@ -98,7 +98,7 @@ module _ (a b : Modules) (root : Path) (keep : List Name) (e : SameUnits a b) wh
   pub none_moves : NoneRefused a root keep → NoneRefused b root keep
   none_moves h m d o r at = h m d o r (refused_moves b a root keep (turned a b e) m d o r at)
 
-  pub first_moves : (r : Refusal) → IsFirstRefused a root keep r → IsFirstRefused b root keep r
+  pub first_moves : (r : LoadError) → IsFirstRefused a root keep r → IsFirstRefused b root keep r
   first_moves r h = record {
     home = h.home;
     declaration = h.declaration;

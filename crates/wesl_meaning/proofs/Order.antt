@@ -4,9 +4,9 @@ use Rattle.std.specs.Ordering.{nat_cmp}
 use Rattle.std.specs.Cmp.Lexicographic.{slice_cmp}
 use Rattle.std.specs.declared.cmp.Ordering.TheVariants.{Equal}
 use Rattle.std.proofs.lemmas.Cmp.{nat_list_cmp_total, tied_itself}
-use Rattle.wesl_sources.specs.Modules.{Path, Modules}
-use Rattle.wesl_sources.specs.Rounds.{IsBefore, IsAscending, no_path, one_path, one_before}
-use Rattle.wesl_sources.specs.Linked.{IsInOrder}
+use Rattle.wesl_link_spec.specs.Modules.{Path, Modules}
+use Rattle.wesl_link_spec.specs.Rounds.{IsBefore, IsAscending, no_path, one_path, one_before}
+use Rattle.wesl_link_spec.specs.Linked.{IsInOrder}
 use Rattle.wgsl_items.proofs.Members.{first_in, later_in, in_cases, in_none}
 
 before_trans : (p q r : Path) → IsBefore p q → IsBefore q r → IsBefore p r

@@ -14,7 +14,7 @@ use Rattle.wgsl_meaning.specs.Names.{Name, Symbol, find_decl, built_in_type}
 use Rattle.wgsl_meaning.specs.Meaning.{World, const_in, call_in, call_type}
 use Rattle.wgsl_meaning.specs.Programs.{Program, const_at, called_at, call_type_at, type_at, Inside, opened, inside, world, Inputs, entered, started_by, started, run, root, here, here_if, plain}
 use Rattle.wgsl_meaning.proofs.Simulates.{same_stage}
-use Rattle.wesl_sources.specs.Linked.{renamed_declaration}
+use Rattle.wesl_link_spec.specs.Linked.{renamed_declaration}
 use Rattle.wesl_meaning.specs.Alike.{Alike}
 use Rattle.wesl_meaning.proofs.Outcomes.{alike_refl, kept_alike}
 use Rattle.wesl_meaning.proofs.Renamed.{Meets, DeclFits, const_alike, call_alike, call_type_alike, started_alike, entered_alike}

@@ -7,11 +7,11 @@ use Rattle.std.specs.declared.cmp.Ordering.TheVariants.{Less, Equal, Greater}
 use Rattle.std.proofs.lemmas.Cmp.{nat_list_cmp_total}
 use Rattle.std.proofs.lemmas.Map.Text.{is_eq-slice_cmp}
 use Rattle.wgsl_path.specs.Paths.{path_text}
-use Rattle.wgsl_syntax.specs.Tree.{Imp, Unit}
+use Rattle.wgsl_syntax.specs.Tree.{Imp, UnitTree}
 use Rattle.wgsl_syntax.specs.Names.{declared_name}
-use Rattle.wesl_sources.specs.Occurrences.{Name, occurrences}
-use Rattle.wesl_sources.specs.Modules.{Path, Symbol, Modules, IsModule, Imports, local_name, IsImport, IsImported, IsMissing, lacking, bare, IsPrivate}
-use Rattle.wesl_sources.specs.Rounds.{Refusal, missing_decl, private, scope_names, IsBefore, IsRefusedAt, StandsBefore, by_module, by_declaration, by_occurrence, IsFirstRefused}
+use Rattle.wesl_link_spec.specs.Occurrences.{Name, occurrences}
+use Rattle.wesl_link_spec.specs.Modules.{Path, Symbol, Modules, IsModule, Imports, local_name, IsImport, IsImported, IsMissing, lacking, bare, IsPrivate}
+use Rattle.wesl_link_spec.specs.Rounds.{LoadError, missing_decl, private, scope_names, IsBefore, IsRefusedAt, StandsBefore, by_module, by_declaration, by_occurrence, IsFirstRefused}
 use Rattle.wgsl_items.proofs.Members.{same_bytes}
 use Rattle.wesl_meaning.proofs.Distinct.{once_of, once_left, once_same}
 use Rattle.wesl_meaning.proofs.Loading.{Apart}
@@ -68,7 +68,7 @@ places m d o n e p = by (path_cases m n)
 -- ---- a refusal at a place
 
 module _ (modules : Modules) (root : Path) (keep : List Name) (apart : Apart modules) where
-  one : (m : Path) (u v : Unit) → IsModule modules m u → IsModule modules m v → u ≡ v
+  one : (m : Path) (u v : UnitTree) → IsModule modules m u → IsModule modules m v → u ≡ v
   one m u v i j = ap (λ z. z.1) (apart.apart (i.path, u) (j.path, v) i.stands j.stands (i.printed ∙ sym j.printed))
 
   import_once : (m : Path) (x : Name) (i j : Imp) → IsImport modules m x i → IsImport modules m x j → i ≡ j
@@ -85,16 +85,16 @@ module _ (modules : Modules) (root : Path) (keep : List Name) (apart : Apart mod
       ap (λ z. record { home = z; name = s.name }) (sym a.home ∙ ap path_text paths ∙ b.home)
       ∙ ap (λ z. record { home = t.home; name = z }) (sym a.item ∙ ap (λ i. i.item) imports ∙ b.item)
 
-  data Kind (m : Path) (x : Name) (s : Symbol) (r : Refusal) : Type 0 where
-    is_lacking : IsImported modules m x s → (u : Unit) → IsModule modules s.home u → (Imports u s.name → ⊥) → r ≡ missing_decl s.home s.name → Kind m x s r
-    is_private : IsImported modules m x s → (u : Unit) → IsModule modules s.home u → Imports u s.name → r ≡ private s.home s.name → Kind m x s r
+  data Kind (m : Path) (x : Name) (s : Symbol) (r : LoadError) : Type 0 where
+    is_lacking : IsImported modules m x s → (u : UnitTree) → IsModule modules s.home u → (Imports u s.name → ⊥) → r ≡ missing_decl s.home s.name → Kind m x s r
+    is_private : IsImported modules m x s → (u : UnitTree) → IsModule modules s.home u → Imports u s.name → r ≡ private s.home s.name → Kind m x s r
     is_bare : (i : Imp) → IsImport modules m x i → i.path ≡ None → r ≡ missing_decl m i.item → Kind m x s r
 
-  missing_kind : (m : Path) (x : Name) (s : Symbol) (r : Refusal) → IsMissing modules m x s → r ≡ missing_decl s.home s.name → Kind m x s r
+  missing_kind : (m : Path) (x : Name) (s : Symbol) (r : LoadError) → IsMissing modules m x s → r ≡ missing_decl s.home s.name → Kind m x s r
   missing_kind m x s r (lacking {u = u} i j d k) e = is_lacking i u j k e
   missing_kind m x _ r (bare {i = i} h p) e = is_bare i h p e
 
-  kind_of : (m : Path) (x : Name) (s : Symbol) (r : Refusal) → (IsMissing modules m x s × (r ≡ missing_decl s.home s.name)) ⊎ (IsPrivate modules m x s × (r ≡ private s.home s.name)) → Kind m x s r
+  kind_of : (m : Path) (x : Name) (s : Symbol) (r : LoadError) → (IsMissing modules m x s × (r ≡ missing_decl s.home s.name)) ⊎ (IsPrivate modules m x s × (r ≡ private s.home s.name)) → Kind m x s r
   kind_of m x s r (inl w) = missing_kind m x s r w.0 w.1
   kind_of m x s r (inr w) = is_private w.0.imported w.0.unit w.0.is_module w.0.only_imported w.1
 
@@ -103,13 +103,13 @@ module _ (modules : Modules) (root : Path) (keep : List Name) (apart : Apart mod
       let imports : a.import ≡ i = import_once m x a.import i a.is_import b in
       let no : Some a.path ≡ None = sym a.is_path ∙ ap (λ i. i.path) imports ∙ e in absurd (cc)
 
-  not_both : (m : Path) (x : Name) (s t : Symbol) (u v : Unit) → IsImported modules m x s → IsModule modules s.home u → (Imports u s.name → ⊥) → IsImported modules m x t → IsModule modules t.home v → Imports v t.name → ⊥
+  not_both : (m : Path) (x : Name) (s t : Symbol) (u v : UnitTree) → IsImported modules m x s → IsModule modules s.home u → (Imports u s.name → ⊥) → IsImported modules m x t → IsModule modules t.home v → Imports v t.name → ⊥
   not_both m x s t u v a i n b j c =
       let same : t ≡ s = target_once m x t s b a in
       let units : v ≡ u = one s.home v u (subst (λ z. IsModule modules z.home v) same j) i in
       n (subst (λ z. Imports z s.name) units (subst (λ z. Imports v z.name) same c))
 
-  kinds_same : (m : Path) (x : Name) (s t : Symbol) (r q : Refusal) → Kind m x s r → Kind m x t q → r ≡ q
+  kinds_same : (m : Path) (x : Name) (s t : Symbol) (r q : LoadError) → Kind m x s r → Kind m x t q → r ≡ q
   kinds_same m x s t r q (is_lacking a u i n e) (is_lacking b v j k f) = e ∙ ap (λ z. missing_decl z.home z.name) (target_once m x s t a b) ∙ sym f
   kinds_same m x s t r q (is_lacking a u i n e) (is_private b v j c f) = absurd (not_both m x s t u v a i n b j c)
   kinds_same m x s t r q (is_lacking a u i n e) (is_bare k b p f) = absurd (not_bare m x s k a b p)
@@ -120,7 +120,7 @@ module _ (modules : Modules) (root : Path) (keep : List Name) (apart : Apart mod
   kinds_same m x s t r q (is_bare k a p e) (is_private b v j c f) = absurd (not_bare m x t k b a p)
   kinds_same m x s t r q (is_bare k a p e) (is_bare l b o f) = e ∙ ap (λ i. missing_decl m i.item) (import_once m x k l a b) ∙ sym f
 
-  refused_once : (m : Path) (d o : ℕ) (r q : Refusal) → IsRefusedAt modules root keep m d o r → IsRefusedAt modules root keep m d o q → r ≡ q
+  refused_once : (m : Path) (d o : ℕ) (r q : LoadError) → IsRefusedAt modules root keep m d o r → IsRefusedAt modules root keep m d o q → r ≡ q
   refused_once m d o r q a b =
       let units : a.unit ≡ b.unit = one m a.unit b.unit a.is_module b.is_module in
       let there : Some a.stands ≡ Some b.stands = sym a.is_there ∙ ap (λ u. slice_get u.declarations d) units ∙ b.is_there in
@@ -129,7 +129,7 @@ module _ (modules : Modules) (root : Path) (keep : List Name) (apart : Apart mod
       let names : a.name ≡ b.name = cc in
       kinds_same m b.name a.target b.target r q (subst (λ z. Kind m z a.target r) names (kind_of m a.name a.target r a.why)) (kind_of m b.name b.target q b.why)
 
-  pub first_once : (r q : Refusal) → IsFirstRefused modules root keep r → IsFirstRefused modules root keep q → r ≡ q
+  pub first_once : (r q : LoadError) → IsFirstRefused modules root keep r → IsFirstRefused modules root keep q → r ≡ q
   first_once r q a b = at (places a.home a.declaration a.occurrence b.home b.declaration b.occurrence)
     where
       at : Places a.home a.declaration a.occurrence b.home b.declaration b.occurrence → r ≡ q

@@ -9,15 +9,15 @@ use Rattle.wgsl_meaning.specs.declared.fault.Fault.TheVariants.{Name as Named}
 use Rattle.wgsl_meaning.specs.declared.fault.NumberFault.TheVariants.{Conversion, ParamType}
 use Rattle.wgsl_meaning.specs.declared.fault.NameFault.TheVariants.{NotCallable, ParamCount, NotEntrypoint, ReturnType}
 use Rattle.wgsl_meaning.specs.Values.{type_of, converts, converted, unary_type, binary_type}
-use Rattle.wgsl_meaning.specs.Outcome.{Outcome, Done, Failed, after, andthen, at_once, computed}
+use Rattle.wgsl_meaning.specs.Outcome.{Outcome, Done, Failed, after, bind, at_once, computed}
 use Rattle.wgsl_meaning.specs.Names.{Name, find, plain_name}
 use Rattle.wgsl_meaning.specs.Meaning.{Env, World, local_or, called_or, value_here, result_here, value, type_here, result_type_here, typed, all_typed, type_written, initial, initialized, const_in, bound, returned_by, handed_back, return_type_of, body_of, needed, call_in, call_type}
 use Rattle.wgsl_meaning.specs.Programs.{Inputs, attribute_number, location_of, input_at, inputs_bound, has_stage, entered, started_by}
 use Rattle.wgsl_meaning.specs.Follows.{Follows, FollowAll, keeps_literal, keeps_parentheses, keeps_unary, keeps_binary, keeps_call, keeps_name, no_more, one_more}
 use Rattle.wgsl_meaning.proofs.Simulates.{StagesMeet, simulates}
 use Rattle.wgsl_meaning.proofs.Meets.{one_step}
-use Rattle.wesl_sources.specs.Occurrences.{is_among, unless_local, in_expression, in_expressions, in_type, in_some, in_attributes, in_statement, in_block, in_parameter, parameter_names, names_before, names_behind, locals, names_in_body}
-use Rattle.wesl_sources.specs.Linked.{new_name, renamed, all_renamed, renamed_type, renamed_attributes, renamed_statement, renamed_block, renamed_parameter, renamed_declaration}
+use Rattle.wesl_link_spec.specs.Occurrences.{is_among, unless_local, in_expression, in_expressions, in_type, in_some, in_attributes, in_statement, in_block, in_parameter, parameter_names, names_before, names_behind, locals, names_in_body}
+use Rattle.wesl_link_spec.specs.Linked.{new_name, renamed, all_renamed, renamed_type, renamed_attributes, renamed_statement, renamed_block, renamed_parameter, renamed_declaration}
 use Rattle.wesl_meaning.specs.Alike.{Alike}
 use Rattle.wesl_meaning.proofs.Outcomes.{alike_refl, kept_alike, Yields, yields_on, yields_then, alike_then}
 use Rattle.wgsl_items.proofs.Members.{first_in}
@@ -31,7 +31,7 @@ pub record Meets (new : Name → Name) (Q : Name → Type 0) (w u : World) : Typ
   pub by_result_type : (f : Name) (ts : List NumericType) → Q f → Alike NumericType (w.result_type f ts) (u.result_type (new f) ts)
   pub by_type : (x : Name) → Q x → Alike NumericType (at_once (w.type_named x)) (at_once (u.type_named (new x)))
 
-on : (A B : Type 0) (o p : Outcome A) (f g : A → Outcome B) → Alike A o p → ((x : A) → Alike B (f x) (g x)) → Alike B (andthen o f) (andthen p g)
+on : (A B : Type 0) (o p : Outcome A) (f g : A → Outcome B) → Alike A o p → ((x : A) → Alike B (f x) (g x)) → Alike B (bind o f) (bind p g)
 on = kept_alike.going_on
 
 module _ (new : Name → Name) (Q : Name → Type 0) where

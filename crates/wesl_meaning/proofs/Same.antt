@@ -1,8 +1,8 @@
 -- What holds of modules doesn't depend on the order of their list.
 use Rattle.std.proofs.Common.{⊎_elim, inl, inr}
-use Rattle.wgsl_syntax.specs.Tree.{Unit}
-use Rattle.wesl_sources.specs.Modules.{Path, Modules, IsModule}
-use Rattle.wesl_sources.specs.Same.{SameModules}
+use Rattle.wgsl_syntax.specs.Tree.{UnitTree}
+use Rattle.wesl_link_spec.specs.Modules.{Path, Modules, IsModule}
+use Rattle.wesl_link_spec.specs.Same.{SameModules}
 use Rattle.wesl_meaning.specs.Agreement.{AreAlike}
 use Rattle.wesl_meaning.specs.Same.{LoadedInAnyOrder, ClashFreeInAnyOrder, LinkedInAnyOrder, LinkedWellInAnyOrder, FirstClashInAnyOrder, FirstRefusedInAnyOrder, NoneRefusedInAnyOrder, NextRoundInAnyOrder, OrderOfModulesDoesNotCount}
 use Rattle.wesl_meaning.proofs.Agreement.{linked_alike, clash_free_alike, first_clash_alike}
@@ -15,7 +15,7 @@ same_turned a b e m = ((e m).1, (e m).0)
 
 -- ---- lists with the same elements are alike, whichever is the root
 
-module_by : (a b : Modules) → SameModules a b → (m : Path) (u : Unit) → IsModule a m u → IsModule b m u
+module_by : (a b : Modules) → SameModules a b → (m : Path) (u : UnitTree) → IsModule a m u → IsModule b m u
 module_by a b e m u i = record { path = i.path; stands = (e (i.path, u)).0 i.stands; printed = i.printed }
 
 pub same_units : (a b : Modules) → SameModules a b → SameUnits a b

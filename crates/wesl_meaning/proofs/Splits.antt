@@ -1,10 +1,10 @@
 -- Lists that are split in two ways, and the first of their members with a property.
 use Rattle.std.proofs.Common.{◌≡◌, ℕ, List, [], ◌∷◌, ◌++◌, refl, sym, ap, ◌∙◌, subst, Contains}
 use Rattle.std.proofs.lemmas.List.Elements.{Contains-append_right}
-use Rattle.wgsl_syntax.specs.Tree.{Unit}
-use Rattle.wesl_sources.specs.Occurrences.{Name}
-use Rattle.wesl_sources.specs.Modules.{Path}
-use Rattle.wesl_sources.specs.Rounds.{Sources, AreDistinct, IsFirstAgain, IsFirstUnkept}
+use Rattle.wgsl_syntax.specs.Tree.{UnitTree}
+use Rattle.wesl_link_spec.specs.Occurrences.{Name}
+use Rattle.wesl_link_spec.specs.Modules.{Path}
+use Rattle.wesl_link_spec.specs.Rounds.{Sources, AreDistinct, IsFirstAgain, IsFirstUnkept}
 use Rattle.wgsl_items.proofs.Members.{first_in}
 use Rattle.wesl_meaning.proofs.Distinct.{Once, once_of}
 use Rattle.wesl_meaning.proofs.Declared.{away}
@@ -40,7 +40,7 @@ again_once names x y a b = at (splits a.before x a.behind b.before y b.behind (s
 pub again_not_distinct : (names : List Name) (x : Name) → IsFirstAgain names x → AreDistinct names → ⊥
 again_not_distinct names x a d = away a.before x a.behind (subst Once a.whole (once_of names d)) a.again
 
-pub unkept_once : (found : Sources) (root : Path) (keep : List Name) (max : ℕ) (u : Unit) (x y : Name) → IsFirstUnkept found root keep max u x → IsFirstUnkept found root keep max u y → x ≡ y
+pub unkept_once : (found : Sources) (root : Path) (keep : List Name) (max : ℕ) (u : UnitTree) (x y : Name) → IsFirstUnkept found root keep max u x → IsFirstUnkept found root keep max u y → x ≡ y
 unkept_once found root keep max u x y a b = at (splits a.before x a.behind b.before y b.behind (sym a.whole ∙ b.whole))
   where
     at : Splits a.before x b.before y → x ≡ y

@@ -5,14 +5,14 @@ use Rattle.std.specs.Str.{bytes_eq}
 use Rattle.std.proofs.lemmas.List.Elements.{Contains-append_left, Contains-append_right, Contains-append_cases}
 use Rattle.wgsl_path.specs.declared.path.ModulePath.{ModulePath}
 use Rattle.wgsl_path.specs.Paths.{path_text}
-use Rattle.wgsl_syntax.specs.Tree.{Decl, variable, function, Unit}
+use Rattle.wgsl_syntax.specs.Tree.{Decl, variable, function, UnitTree}
 use Rattle.wgsl_syntax.specs.Names.{declared_name}
 use Rattle.wgsl_meaning.specs.Names.{Name, find_decl}
-use Rattle.wesl_sources.specs.Modules.{Path, Symbol, Modules, IsModule, Declares, Imports, local_name, IsFree, IsDeclaration, Denotes, own, imported, Reached, kept, onto}
+use Rattle.wesl_link_spec.specs.Modules.{Path, Symbol, Modules, IsModule, Declares, Imports, local_name, IsFree, IsDeclaration, Denotes, own, imported, Reached, kept, onto}
 use Rattle.wesl_resolve.specs.Mangling.{mangled}
-use Rattle.wesl_sources.specs.Names.{IsPrinted, stays, is_mangled}
-use Rattle.wesl_sources.specs.Linked.{renamed_declaration, IsNaming, Selects, nothing_left, takes, leaves, IsInOrder, IsLinkedModule, AreLinkedModules, no_module, a_module, IsLinked}
-use Rattle.wesl_sources.specs.Loaded.{AreLoaded}
+use Rattle.wesl_link_spec.specs.Names.{IsPrinted, stays, is_mangled}
+use Rattle.wesl_link_spec.specs.Linked.{renamed_declaration, IsNaming, Selects, nothing_left, takes, leaves, IsInOrder, IsLinkedModule, AreLinkedModules, no_module, a_module, IsLinked}
+use Rattle.wesl_link_spec.specs.Loaded.{AreLoaded}
 use Rattle.wesl_meaning.specs.SourcePrograms.{declared_symbol}
 use Rattle.wgsl_items.proofs.Members.{first_in, later_in, in_cases, in_none, in_map, from_map, same_bytes, bytes_same}
 
@@ -87,13 +87,13 @@ finds_one y (d ∷ ds) e c n = at (λ r. finds_one y ds e r n) (bytes_eq y (decl
 -- ---- modules
 
 module _ (modules : Modules) (root : Path) (keep : List Name) (loaded : AreLoaded modules root keep) where
-  pub one_unit : (m : Path) (u v : Unit) → IsModule modules m u → IsModule modules m v → u ≡ v
+  pub one_unit : (m : Path) (u v : UnitTree) → IsModule modules m u → IsModule modules m v → u ≡ v
   one_unit m u v i j = ap (λ z. z.1) (loaded.apart (i.path, u) (j.path, v) i.stands j.stands (i.printed ∙ sym j.printed))
 
   -- a name of a symbol is the only one
   data NameCases (s : Symbol) (y : Name) : Type 0 where
     at_root : s.home ≡ root → y ≡ s.name → NameCases s y
-    elsewhere : (s.home ≡ root → ⊥) → (path : ModulePath) (u : Unit) → Contains modules (path, u) → path_text path ≡ s.home → y ≡ mangled path s.name → NameCases s y
+    elsewhere : (s.home ≡ root → ⊥) → (path : ModulePath) (u : UnitTree) → Contains modules (path, u) → path_text path ≡ s.home → y ≡ mangled path s.name → NameCases s y
 
   name_cases : (s : Symbol) (y : Name) → IsPrinted modules root s y → NameCases s y
   name_cases s y stays = at_root refl refl
@@ -118,7 +118,7 @@ module _ (modules : Modules) (root : Path) (keep : List Name) (loaded : AreLoade
 
   -- ---- declarations
 
-  declared_in : (m : Path) (x : Name) (u : Unit) → IsModule modules m u → Declares u x → (d : Decl) × IsDeclaration modules (record { home = m; name = x }) d
+  declared_in : (m : Path) (x : Name) (u : UnitTree) → IsModule modules m u → Declares u x → (d : Decl) × IsDeclaration modules (record { home = m; name = x }) d
   declared_in m x u i h = let d = from_map declared_name u.declarations x h in (d.0, record { unit = u; is_module = i; stands = d.1; name = d.2 })
 
   denoted_declared : (m : Path) (x : Name) (s : Symbol) → Denotes modules m x s → (d : Decl) × IsDeclaration modules s d
@@ -130,7 +130,7 @@ module _ (modules : Modules) (root : Path) (keep : List Name) (loaded : AreLoade
   reached_declared t (onto {s = s} {x = x} r i o den) = denoted_declared s.home x t den
 
   -- the name of a declaration in its module's naming is its symbol's
-  pub named_as : (m : Path) (u : Unit) (new : Name → Name) (d : Decl) → IsModule modules m u → IsNaming modules root m new → Contains u.declarations d → IsPrinted modules root (declared_symbol m d) (new (declared_name d))
+  pub named_as : (m : Path) (u : UnitTree) (new : Name → Name) (d : Decl) → IsModule modules m u → IsNaming modules root m new → Contains u.declarations d → IsPrinted modules root (declared_symbol m d) (new (declared_name d))
   named_as m u new d i n c = n.denoting (declared_name d) (declared_symbol m d) (own i (in_map declared_name u.declarations d c))
 
   -- ---- the linked unit
@@ -138,7 +138,7 @@ module _ (modules : Modules) (root : Path) (keep : List Name) (loaded : AreLoade
   -- where a declaration of the linked unit comes from
   pub record Origin (e : Decl) : Type 0 where
     pub home : Path
-    pub unit : Unit
+    pub unit : UnitTree
     pub is_module : IsModule modules home unit
     pub new : Name → Name
     pub naming : IsNaming modules root home new
@@ -167,13 +167,13 @@ module _ (modules : Modules) (root : Path) (keep : List Name) (loaded : AreLoade
     pub naming : IsNaming modules root m new
     pub stands : Contains ds (renamed_declaration new d)
 
-  copied_in : (m : Path) (ds : List Decl) → IsLinkedModule modules root keep m ds → (u : Unit) (d : Decl) → IsModule modules m u → Contains u.declarations d → Reached modules root keep (declared_symbol m d) → Copied m ds d
+  copied_in : (m : Path) (ds : List Decl) → IsLinkedModule modules root keep m ds → (u : UnitTree) (d : Decl) → IsModule modules m u → Contains u.declarations d → Reached modules root keep (declared_symbol m d) → Copied m ds d
   copied_in m ds l u d i c r =
       let here = subst (λ v. Contains v.declarations d) (one_unit m u l.unit i l.is_module) c in
       let held = selected_to (λ z. Reached modules root keep (declared_symbol m z)) l.unit.declarations l.held l.selected d here r in
       record { new = l.new; naming = l.naming; stands = subst (λ z. Contains z (renamed_declaration l.new d)) (sym l.whole) (in_map (renamed_declaration l.new) l.held d held) }
 
-  copied : (order : List Path) (ds : List Decl) → AreLinkedModules modules root keep order ds → (m : Path) (u : Unit) (d : Decl) → Contains order m → IsModule modules m u → Contains u.declarations d → Reached modules root keep (declared_symbol m d) → Copied m ds d
+  copied : (order : List Path) (ds : List Decl) → AreLinkedModules modules root keep order ds → (m : Path) (u : UnitTree) (d : Decl) → Contains order m → IsModule modules m u → Contains u.declarations d → Reached modules root keep (declared_symbol m d) → Copied m ds d
   copied [] _ no_module m u d at i c r = absurd (in_none m at)
   copied (n ∷ ns) _ (a_module {ds = ds} {es = es} l rest) m u d at i c r = by (λ b. copied ns es rest m u d b i c r) (in_cases n ns m at)
     where
@@ -183,10 +183,10 @@ module _ (modules : Modules) (root : Path) (keep : List Name) (loaded : AreLoade
       by more (inr b) = let k = more b in
           record { new = k.new; naming = k.naming; stands = Contains-append_right ds es (renamed_declaration k.new d) k.stands }
 
-  module_in_order : (order : List Path) → IsInOrder modules root order → (m : Path) (u : Unit) → IsModule modules m u → Contains order m
+  module_in_order : (order : List Path) → IsInOrder modules root order → (m : Path) (u : UnitTree) → IsModule modules m u → Contains order m
   module_in_order order o m u i = (o.each m).1 (subst (Contains (map (λ z. path_text z.0) modules)) i.printed (in_map (λ z. path_text z.0) modules (i.path, u) i.stands))
 
-  module _ (unit : Unit) (linked : IsLinked modules root keep unit) where
+  module _ (unit : UnitTree) (linked : IsLinked modules root keep unit) where
     pub origin : (e : Decl) → Contains unit.declarations e → Origin e
     origin e c = origin_of linked.order unit.declarations linked.declares e c
 

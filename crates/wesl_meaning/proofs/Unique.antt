@@ -2,12 +2,12 @@
 use Rattle.std.proofs.Common.{◌≡◌, ◌⊎◌, inl, inr, List, [], ◌∷◌, ◌++◌, map, Option, Some, None, Bool, true, false, refl, sym, ap, ◌∙◌, subst, Contains, flat_map, option_map}
 use Rattle.std.specs.Prelude.{if◌then◌else◌}
 use Rattle.std.proofs.lemmas.List.Elements.{Contains-append_left, Contains-append_right}
-use Rattle.wgsl_syntax.specs.Tree.{Exp, Exps, literal, parenthesized, unary, binary, call, named, nil, cons, Typ, simple, templated, Attr, fragment, location, Stm, returning, Block, Param, Decl, variable, function, Unit as Module}
+use Rattle.wgsl_syntax.specs.Tree.{Exp, Exps, literal, parenthesized, unary, binary, call, named, nil, cons, Typ, simple, templated, Attr, fragment, location, Stm, returning, Block, Param, Decl, variable, function, UnitTree as Module}
 use Rattle.wgsl_syntax.specs.Names.{declared_name}
-use Rattle.wesl_sources.specs.Occurrences.{Name, is_among, unless_local, in_expression, in_expressions, in_type, in_some, in_attribute, in_attributes, in_statement, in_block, in_parameter, parameter_names, occurrences}
-use Rattle.wesl_sources.specs.Modules.{Path, Symbol, Modules, IsModule, IsFree, Denotes, Reached}
-use Rattle.wesl_sources.specs.Linked.{new_name, renamed, all_renamed, renamed_type, renamed_attribute, renamed_attributes, renamed_statement, renamed_block, renamed_parameter, renamed_declaration, IsNaming, Selects, IsLinkedModule, AreLinkedModules, no_module, a_module, IsLinked}
-use Rattle.wesl_sources.specs.Loaded.{AreLoaded}
+use Rattle.wesl_link_spec.specs.Occurrences.{Name, is_among, unless_local, in_expression, in_expressions, in_type, in_some, in_attribute, in_attributes, in_statement, in_block, in_parameter, parameter_names, occurrences}
+use Rattle.wesl_link_spec.specs.Modules.{Path, Symbol, Modules, IsModule, IsFree, Denotes, Reached}
+use Rattle.wesl_link_spec.specs.Linked.{new_name, renamed, all_renamed, renamed_type, renamed_attribute, renamed_attributes, renamed_statement, renamed_block, renamed_parameter, renamed_declaration, IsNaming, Selects, IsLinkedModule, AreLinkedModules, no_module, a_module, IsLinked}
+use Rattle.wesl_link_spec.specs.Loaded.{AreLoaded}
 use Rattle.wesl_meaning.specs.SourcePrograms.{declared_symbol}
 use Rattle.wesl_meaning.specs.Unique.{LinkedUnitsAreOne}
 use Rattle.wgsl_items.proofs.Members.{first_in}

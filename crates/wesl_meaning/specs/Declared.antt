@@ -1,14 +1,14 @@
 -- What the linked unit declares, and what its names mean by scope alone.
 use Rattle.std.specs.Prelude.{◌≡◌, List, map, Some, None, false}
 use Rattle.std.specs.List.{Contains}
-use Rattle.wgsl_syntax.specs.Tree.{Decl, Unit}
+use Rattle.wgsl_syntax.specs.Tree.{Decl, UnitTree}
 use Rattle.wgsl_syntax.specs.Names.{declared_name}
 use Rattle.wgsl_meaning.specs.Names.{find_decl}
-use Rattle.wesl_sources.specs.Occurrences.{Name, is_among, occurrences, names_in_body, locals}
-use Rattle.wesl_sources.specs.Modules.{Path, Symbol, Modules, Declares, IsFree, IsDeclaration, Denotes, Reached}
-use Rattle.wesl_sources.specs.Names.{IsPrinted}
-use Rattle.wesl_sources.specs.Rounds.{AreDistinct}
-use Rattle.wesl_sources.specs.Linked.{renamed_declaration}
+use Rattle.wesl_link_spec.specs.Occurrences.{Name, is_among, occurrences, names_in_body, locals}
+use Rattle.wesl_link_spec.specs.Modules.{Path, Symbol, Modules, Declares, IsFree, IsDeclaration, Denotes, Reached}
+use Rattle.wesl_link_spec.specs.Names.{IsPrinted}
+use Rattle.wesl_link_spec.specs.Rounds.{AreDistinct}
+use Rattle.wesl_link_spec.specs.Linked.{renamed_declaration}
 use Rattle.wesl_meaning.specs.Runs.{AreLinkedWell}
 
 module _ (modules : Modules) (root : Path) (keep : List Name) where
@@ -17,7 +17,7 @@ module _ (modules : Modules) (root : Path) (keep : List Name) where
     pub held : Reached modules root keep s
     pub printed : IsPrinted modules root s y
 
-module _ (modules : Modules) (root : Path) (keep : List Name) (unit : Unit) where
+module _ (modules : Modules) (root : Path) (keep : List Name) (unit : UnitTree) where
   -- A symbol's declaration stands under this name, renamed: each occurrence that denotes a symbol has this symbol's name, which no
   -- local hides, and each that is free stays and is declared nowhere.
   pub record StandsAs (s : Symbol) (y : Name) : Type 0 where
@@ -36,4 +36,4 @@ module _ (modules : Modules) (root : Path) (keep : List Name) (unit : Unit) wher
     pub once : AreDistinct (map declared_name unit.declarations)
 
 abbrev pub LinkedUnitsDeclareWhatIsHeld : Type 0
-LinkedUnitsDeclareWhatIsHeld = (modules : Modules) (root : Path) (keep : List Name) (unit : Unit) → AreLinkedWell modules root keep unit → DeclaresWhatIsHeld modules root keep unit
+LinkedUnitsDeclareWhatIsHeld = (modules : Modules) (root : Path) (keep : List Name) (unit : UnitTree) → AreLinkedWell modules root keep unit → DeclaresWhatIsHeld modules root keep unit

@@ -4,11 +4,11 @@ use Rattle.wgsl_path.specs.declared.path.ModulePath.{ModulePath}
 use Rattle.wgsl_path.specs.declared.path.PathOrigin.TheVariants.{Absolute}
 use Rattle.wgsl_syntax.specs.declared.expression.LiteralExpression.TheVariants as L
 use Rattle.wgsl_syntax.specs.declared.declaration.DeclarationKind.TheVariants.{Const}
-use Rattle.wgsl_syntax.specs.Tree.{literal, named, simple, fragment, returning, Decl, variable, function, Imp, Unit}
+use Rattle.wgsl_syntax.specs.Tree.{literal, named, simple, fragment, returning, Decl, variable, function, Imp, UnitTree}
 use Rattle.wgsl_meaning.specs.declared.value.Value.TheVariants as V
 use Rattle.wgsl_meaning.specs.Names.{Name, Symbol}
 use Rattle.wgsl_meaning.specs.Programs.{Program, Inputs, EndsWell}
-use Rattle.wesl_sources.specs.Modules.{Modules}
+use Rattle.wesl_link_spec.specs.Modules.{Modules}
 use Rattle.wesl_meaning.specs.SourcePrograms.{IsProgramOf, sources}
 use Rattle.wesl_meaning.specs.Runs.{AreLinkedWell}
 
@@ -30,16 +30,16 @@ other_path = record { origin = Absolute; components = codes "m" ∷ [] }
 abbrev pub import_of_two : Imp
 import_of_two = record { attributes = []; path = Some other_path; item = codes "two"; rename = None }
 
-abbrev pub root_unit : Unit
+abbrev pub root_unit : UnitTree
 root_unit = record { imports = import_of_two ∷ []; declarations = entry_of (codes "two") ∷ [] }
 
-abbrev pub other_unit : Unit
+abbrev pub other_unit : UnitTree
 other_unit = record { imports = []; declarations = const_of_two (codes "two") ∷ [] }
 
 abbrev pub two_modules : Modules
 two_modules = (root_path, root_unit) ∷ (other_path, other_unit) ∷ []
 
-abbrev pub linked_unit : Unit
+abbrev pub linked_unit : UnitTree
 linked_unit = record { imports = []; declarations = entry_of (codes "package_m_two") ∷ const_of_two (codes "package_m_two") ∷ [] }
 
 abbrev pub entry : Symbol

@@ -1,13 +1,13 @@
 -- What holds of modules doesn't depend on the order of their list.
 use Rattle.std.specs.Prelude.{List}
-use Rattle.wgsl_syntax.specs.Tree.{Unit}
-use Rattle.wesl_sources.specs.Occurrences.{Name}
-use Rattle.wesl_sources.specs.Modules.{Path, Modules}
-use Rattle.wesl_sources.specs.Rounds.{Refusal, IsNextRound, NoneRefused, IsFirstRefused}
-use Rattle.wesl_sources.specs.Linked.{IsLinked}
-use Rattle.wesl_sources.specs.Loaded.{AreLoaded, IsClashFree}
-use Rattle.wesl_sources.specs.Clashing.{IsFirstClash}
-use Rattle.wesl_sources.specs.Same.{SameModules}
+use Rattle.wgsl_syntax.specs.Tree.{UnitTree}
+use Rattle.wesl_link_spec.specs.Occurrences.{Name}
+use Rattle.wesl_link_spec.specs.Modules.{Path, Modules}
+use Rattle.wesl_link_spec.specs.Rounds.{LoadError, IsNextRound, NoneRefused, IsFirstRefused}
+use Rattle.wesl_link_spec.specs.Linked.{IsLinked}
+use Rattle.wesl_link_spec.specs.Loaded.{AreLoaded, IsClashFree}
+use Rattle.wesl_link_spec.specs.Clashing.{IsFirstClash}
+use Rattle.wesl_link_spec.specs.Same.{SameModules}
 use Rattle.wesl_meaning.specs.Runs.{AreLinkedWell}
 
 -- what is true of some modules is true of a list with the same elements, for each root and whatever is kept
@@ -22,17 +22,17 @@ abbrev pub ClashFreeInAnyOrder : Type 0
 ClashFreeInAnyOrder = InAnyOrder IsClashFree
 
 abbrev pub LinkedInAnyOrder : Type 0
-LinkedInAnyOrder = (unit : Unit) → InAnyOrder (λ modules root keep. IsLinked modules root keep unit)
+LinkedInAnyOrder = (unit : UnitTree) → InAnyOrder (λ modules root keep. IsLinked modules root keep unit)
 
 abbrev pub LinkedWellInAnyOrder : Type 0
-LinkedWellInAnyOrder = (unit : Unit) → InAnyOrder (λ modules root keep. AreLinkedWell modules root keep unit)
+LinkedWellInAnyOrder = (unit : UnitTree) → InAnyOrder (λ modules root keep. AreLinkedWell modules root keep unit)
 
 -- and with refusals: the first clash, the first occurrence that denotes nothing or that there is none, what is asked for next
 abbrev pub FirstClashInAnyOrder : Type 0
 FirstClashInAnyOrder = (y : Name) → InAnyOrder (λ modules root keep. IsFirstClash modules root keep y)
 
 abbrev pub FirstRefusedInAnyOrder : Type 0
-FirstRefusedInAnyOrder = (r : Refusal) → InAnyOrder (λ modules root keep. IsFirstRefused modules root keep r)
+FirstRefusedInAnyOrder = (r : LoadError) → InAnyOrder (λ modules root keep. IsFirstRefused modules root keep r)
 
 abbrev pub NoneRefusedInAnyOrder : Type 0
 NoneRefusedInAnyOrder = InAnyOrder NoneRefused

@@ -3,12 +3,12 @@ use Rattle.std.specs.Prelude.{◌≡◌, List, [], ◌∷◌, ◌++◌, map, Opt
 use Rattle.std.specs.Str.{bytes_eq}
 use Rattle.wgsl_path.specs.declared.path.ModulePath.{ModulePath}
 use Rattle.wgsl_path.specs.Paths.{path_text}
-use Rattle.wgsl_syntax.specs.Tree.{Decl, Imp, Unit}
+use Rattle.wgsl_syntax.specs.Tree.{Decl, Imp, UnitTree}
 use Rattle.wgsl_syntax.specs.Names.{declared_name}
-use Rattle.wesl_sources.specs.Occurrences.{Name}
-use Rattle.wesl_sources.specs.Modules.{Path, Modules, local_name, IsModule, IsDeclaration, Denotes, Reached}
-use Rattle.wesl_sources.specs.Modules.{Symbol as SourceSymbol}
-use Rattle.wesl_sources.specs.Linked.{Selects, IsInOrder}
+use Rattle.wesl_link_spec.specs.Occurrences.{Name}
+use Rattle.wesl_link_spec.specs.Modules.{Path, Modules, local_name, IsModule, IsDeclaration, Denotes, Reached}
+use Rattle.wesl_link_spec.specs.Modules.{Symbol as SourceSymbol}
+use Rattle.wesl_link_spec.specs.Linked.{Selects, IsInOrder}
 use Rattle.wgsl_meaning.specs.Names.{Symbol, find_decl}
 use Rattle.wgsl_meaning.specs.Programs.{Program}
 
@@ -24,7 +24,7 @@ module _ (modules : Modules) (root : Path) (keep : List Name) where
   -- the held symbols of these modules: of each in turn, those whose declarations are reached, in text order
   pub data AreHeld : List Path → List SourceSymbol → Type 0 where
     of_none : AreHeld [] []
-    of_more : {m : Path} {ms : List Path} {ss : List SourceSymbol} (unit : Unit) (held : List Decl) → IsModule modules m unit
+    of_more : {m : Path} {ms : List Path} {ss : List SourceSymbol} (unit : UnitTree) (held : List Decl) → IsModule modules m unit
         → Selects (λ d. Reached modules root keep (declared_symbol m d)) unit.declarations held → AreHeld ms ss
         → AreHeld (m ∷ ms) (map (declared_symbol m) held ++ ss)
 
@@ -46,7 +46,7 @@ module _ (modules : Modules) (root : Path) (keep : List Name) where
 -- ---- that program, as a function of the modules and of what is held
 
 -- the first module at a printed path
-abbrev pub unit_at : Modules → Path → Option Unit
+abbrev pub unit_at : Modules → Path → Option UnitTree
 unit_at [] m = None
 unit_at (a ∷ rest) m = if bytes_eq (path_text a.0) m then Some a.1 else unit_at rest m
 
@@ -55,7 +55,7 @@ abbrev pub import_at : Name → List Imp → Option Imp
 import_at x [] = None
 import_at x (i ∷ rest) = if bytes_eq x (local_name i) then Some i else import_at x rest
 
-abbrev pub declared_at : Name → Option Unit → Option Decl
+abbrev pub declared_at : Name → Option UnitTree → Option Decl
 declared_at x (Some u) = find_decl x u.declarations
 declared_at x None = None
 
@@ -76,11 +76,11 @@ imported_symbol modules (Some i) = import_target modules i i.path
 imported_symbol modules None = None
 
 -- the module's own, else what its import names
-abbrev pub own_or_imported : Modules → ModulePath → Name → Unit → Option Decl → Option Symbol
+abbrev pub own_or_imported : Modules → ModulePath → Name → UnitTree → Option Decl → Option Symbol
 own_or_imported modules m x u (Some d) = Some (record { home = m; called = x })
 own_or_imported modules m x u None = imported_symbol modules (import_at x u.imports)
 
-abbrev pub denoted_in : Modules → ModulePath → Name → Option Unit → Option Symbol
+abbrev pub denoted_in : Modules → ModulePath → Name → Option UnitTree → Option Symbol
 denoted_in modules m x (Some u) = own_or_imported modules m x u (find_decl x u.declarations)
 denoted_in modules m x None = None
 

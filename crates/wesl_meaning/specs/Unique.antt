@@ -1,11 +1,11 @@
 -- Modules are linked into one unit.
 use Rattle.std.specs.Prelude.{◌≡◌, List}
-use Rattle.wgsl_syntax.specs.Tree.{Unit}
-use Rattle.wesl_sources.specs.Occurrences.{Name}
-use Rattle.wesl_sources.specs.Modules.{Path, Modules}
-use Rattle.wesl_sources.specs.Linked.{IsLinked}
-use Rattle.wesl_sources.specs.Loaded.{AreLoaded}
+use Rattle.wgsl_syntax.specs.Tree.{UnitTree}
+use Rattle.wesl_link_spec.specs.Occurrences.{Name}
+use Rattle.wesl_link_spec.specs.Modules.{Path, Modules}
+use Rattle.wesl_link_spec.specs.Linked.{IsLinked}
+use Rattle.wesl_link_spec.specs.Loaded.{AreLoaded}
 
 abbrev pub LinkedUnitsAreOne : Type 0
-LinkedUnitsAreOne = (modules : Modules) (root : Path) (keep : List Name) (unit other : Unit) → AreLoaded modules root keep → IsLinked modules root keep unit
+LinkedUnitsAreOne = (modules : Modules) (root : Path) (keep : List Name) (unit other : UnitTree) → AreLoaded modules root keep → IsLinked modules root keep unit
     → IsLinked modules root keep other → unit ≡ other

@@ -12,9 +12,9 @@ use Rattle.std.specs.declared.alloc.Global.{Global}
 use Rattle.std.proofs.lemmas.List.Folds.{Any-from_list_any, list_any-from_Any}
 use Rattle.std.proofs.lemmas.Map.Entries.{place_from_lookup}
 use Rattle.std.proofs.lemmas.Map.Text.{is_eq-slice_cmp}
-use Rattle.wgsl_syntax.specs.Tree.{Unit}
-use Rattle.wesl_sources.specs.Occurrences.{Name}
-use Rattle.wesl_sources.specs.Modules.{Path, Symbol}
+use Rattle.wgsl_syntax.specs.Tree.{UnitTree}
+use Rattle.wesl_link_spec.specs.Occurrences.{Name}
+use Rattle.wesl_link_spec.specs.Modules.{Path, Symbol}
 use Rattle.wesl_scopes.specs.declared.module.Module.{Module}
 use Rattle.wesl_scopes.specs.declared.denote.Symbol.{Symbol as Place}
 use Rattle.wesl_scopes.specs.Meanings.{Known, declared, imported, bare, known}
@@ -28,7 +28,7 @@ use Rattle.wesl_reach.specs.Stages.{place_of, AskedNames, name_asked, asks, stag
 use Rattle.wesl_reach.specs.Closing.{HeldNames, held_at, AllReached, IsReached, IsSound}
 use Rattle.wesl_reach.specs.Resolved.{LoadedModules, IsKeyed}
 use Rattle.wesl_reach.specs.Closed.{IsAskedAt, IsClosed, IsLoadedOn}
-use Rattle.wesl_reach.specs.Underway.{NamesAll, IsInOrder, IsUnderway, LeadsOn, IsSought, EachName}
+use Rattle.wesl_reach.specs.Underway.{NamesAll, IsConsistent, IsUnderway, LeadsOn, IsSought, EachName}
 use Rattle.wesl_reach.proofs.RoundLemmas.{Grows, item_grown, reached_grown, followed_grown}
 
 -- ---- what is asked for, as the table keeps it
@@ -76,7 +76,7 @@ module _ (find more : Loaded) (grows : Grows find more) where
   not_in m u v (Some (imported w)) e = absurd (cc)
   not_in m u v (Some (bare w)) e = absurd (cc)
 
-  item_unloaded : (v u : Symbol) (o : Option (Path × Unit)) → item_at v o ≡ unloaded u → v ≡ u
+  item_unloaded : (v u : Symbol) (o : Option (Path × UnitTree)) → item_at v o ≡ unloaded u → v ≡ u
   item_unloaded v u None e = cc
   item_unloaded v u (Some h) e = absurd (not_in h.0 v u (known h.1 v.name) e)
 
@@ -146,10 +146,10 @@ module _ (l : Linking) (old : LoadedModules) (was : HeldNames) (asked : AskedNam
         subst (λ x. Handled (stage held (asks now) missing reached) (item_at (record { home = u.home; name = x }) (loaded l.modules.now u.home))) name.2
         (subst (λ p. IsSought l (stage held (asks now) missing reached) p (string_bytes name.0)) entry.2 is come.0 come.1)
 
-    still_loaded : (m : Path) (k : ℕ) → IsSome (held_at was m k) → (g : Path × Unit) × (loaded old m ≡ Some g)
+    still_loaded : (m : Path) (k : ℕ) → IsSome (held_at was m k) → (g : Path × UnitTree) × (loaded old m ≡ Some g)
     still_loaded m k some = at (held_at was m k) refl some
       where
-        at : (o : Option Name) → held_at was m k ≡ o → IsSome o → (g : Path × Unit) × (loaded old m ≡ Some g)
+        at : (o : Option Name) → held_at was m k ≡ o → IsSome o → (g : Path × UnitTree) × (loaded old m ≡ Some g)
         at None is h = absurd (cc)
         at (Some y) is h = let n = closed.named m k y is in (home_of n.home, ap (option_map home_of) n.found)
 
@@ -171,7 +171,7 @@ module _ (l : Linking) (old : LoadedModules) (was : HeldNames) (asked : AskedNam
           moves.stays_held k.0 k.1 k.3,
         )
 
-    pub asked_underway : IsKeyed l.modules.now → (AllLead l asked → AllReached l was → IsSound l held reached) → (IsKeyed l.modules.now → NamesAll l was → IsInOrder l held now)
+    pub asked_underway : IsKeyed l.modules.now → (AllLead l asked → AllReached l was → IsSound l held reached) → (IsKeyed l.modules.now → NamesAll l was → IsConsistent l held now)
         → IsUnderway l held now missing reached
     asked_underway keyed sound order = record {
       keyed = keyed;

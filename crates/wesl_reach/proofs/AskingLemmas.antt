@@ -8,16 +8,16 @@ use Rattle.std.specs.BTreeMap.{get_by_text, IsOrdered}
 use Rattle.std.proofs.lemmas.List.{length-append, append-nil, map-append}
 use Rattle.wgsl_path.specs.declared.path.ModulePath.{ModulePath}
 use Rattle.wgsl_path.specs.Paths.{path_text}
-use Rattle.wgsl_syntax.specs.Tree.{Unit}
+use Rattle.wgsl_syntax.specs.Tree.{UnitTree}
 use Rattle.wgsl_syntax.specs.declared.unit.TranslationUnit.{TranslationUnit}
 use Rattle.wgsl_syntax.specs.View.{unit_tree}
 use Rattle.wesl_resolve.specs.Found.{unit_of, Asked, HasAsked, AsksFor, SameAnswers}
 use Rattle.wesl_resolve.specs.declared.error.ResolveError.{ResolveError}
 use Rattle.wesl_resolve.specs.declared.error.ResolveError.TheVariants.{OutOfMemory}
-use Rattle.wesl_sources.specs.Occurrences.{Name}
-use Rattle.wesl_sources.specs.Modules.{Path, Modules}
-use Rattle.wesl_sources.specs.Rounds.{Sources, AreDistinct, no_names, another}
-use Rattle.wesl_sources.specs.Asks.{printed_paths, Asks, AsksAmong, asks_first, asks_next, in_this_round, in_a_later_round, onward}
+use Rattle.wesl_link_spec.specs.Occurrences.{Name}
+use Rattle.wesl_link_spec.specs.Modules.{Path, Modules}
+use Rattle.wesl_link_spec.specs.Rounds.{Sources, AreDistinct, no_names, another}
+use Rattle.wesl_link_spec.specs.Asks.{printed_paths, Asks, AsksAmong, asks_first, asks_next, in_this_round, in_a_later_round, onward}
 use Rattle.wesl_scopes.specs.declared.module.Module.{Module}
 use Rattle.wesl_scopes.proofs.ScopeLemmas.{to_contains, from_contains, map_get}
 use Rattle.wesl_reach.specs.declared.rounds.Reached.{Reached}
@@ -88,9 +88,9 @@ asks_then sources max n old p new l same ps q rest = let less : n < max = omega 
 not_listed : (now : LoadedModules) (modules : Modules) (p : Path) → AreTabled now modules → get_by_text now p ≡ None → Contains (printed_paths modules) p → ⊥
 not_listed now modules p t missing c =
     let at = from_contains (printed_paths modules) p c in
-    let m = map_get (λ (m : ModulePath × Unit). path_text m.0) modules at.0 p at.1 in
+    let m = map_get (λ (m : ModulePath × UnitTree). path_text m.0) modules at.0 p at.1 in
     let f = listed_found now t.ordered m.0 ((t.same m.0).0 (to_contains modules at.0 m.0 m.1)) in
-    let key : f.0 ≡ p = sym (t.keyed f.0 f.1 f.2) ∙ f.1.printed ∙ ap (λ (x : ModulePath × Unit). path_text x.0) f.3 ∙ m.2 in
+    let key : f.0 ≡ p = sym (t.keyed f.0 f.1 f.2) ∙ f.1.printed ∙ ap (λ (x : ModulePath × UnitTree). path_text x.0) f.3 ∙ m.2 in
     let both : Some f.1 ≡ None = sym f.2 ∙ ap (get_by_text now) key ∙ missing in
     absurd (cc)
 
@@ -205,7 +205,7 @@ module _ (sources : Sources) (max : ℕ) (root : Path) (keep : List Name) (befor
     unfolding one_round
     round_asked some new a then more same closed =
         let these = printed_paths a.loaded.more in
-        let whole = map-append (λ (m : ModulePath × Unit). path_text m.0) e.end.modules a.loaded.more in
+        let whole = map-append (λ (m : ModulePath × UnitTree). path_text m.0) e.end.modules a.loaded.more in
         record {
           end = one_round sources max root keep r asked n e.end ordered some new a.loaded then more same closed;
           behind = e.behind ++ these;

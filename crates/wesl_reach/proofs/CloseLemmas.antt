@@ -3,8 +3,8 @@ use Rattle.std.proofs.Common.{◌≡◌, sym, ◌∙◌, subst, ℕ, inr, Bool, 
 use Rattle.std.specs.Prelude.{IfErr, Result, Ok, Err}
 use Rattle.std.specs.Result.{IsErrAnd}
 use Rattle.std.specs.Option.{IsSome}
-use Rattle.wesl_sources.specs.Occurrences.{Name}
-use Rattle.wesl_sources.specs.Modules.{Path}
+use Rattle.wesl_link_spec.specs.Occurrences.{Name}
+use Rattle.wesl_link_spec.specs.Modules.{Path}
 use Rattle.wesl_scopes.specs.declared.error.ImportError.{ImportError}
 use Rattle.wesl_scopes.specs.declared.denote.Symbol.{Symbol as Place}
 use Rattle.wesl_scopes.specs.Outcomes.{Loaded, loaded}
@@ -16,7 +16,7 @@ use Rattle.wesl_reach.specs.Closing.{HeldNames, held_at, IsSound}
 use Rattle.wesl_reach.specs.Missing.{FindsMissing}
 use Rattle.wesl_reach.specs.Resolved.{IsKeyed}
 use Rattle.wesl_reach.specs.Closed.{IsClosed, RefusesClosing}
-use Rattle.wesl_reach.specs.Underway.{IsInOrder, IsUnderway, IsWhole}
+use Rattle.wesl_reach.specs.Underway.{IsConsistent, IsUnderway, IsFinished}
 
 -- what is reached is held, where the kept names are and all is followed
 pub reached_held : (find : Loaded) (root : Path) (keep : List Name) (s : Stage) → KeepsAll find root keep s.held → AllFollowed find s
@@ -30,7 +30,7 @@ pub kept_stays : (find : Loaded) (root : Path) (keep : List Name) (old new : Hel
 kept_stays find root keep old new stays keeps x c = let k = keeps x c in (k.0, k.1, k.2, stays k.0 k.1 k.3)
 
 module _ (l : Linking) where
-  pub closed_whole : (held : HeldNames) (asked : AskedNames) (missing : Bool) (reached : List Place) → IsWhole l held asked missing reached
+  pub closed_whole : (held : HeldNames) (asked : AskedNames) (missing : Bool) (reached : List Place) → IsFinished l held asked missing reached
       → AllFollowed (loaded l.modules.now) (stage held (asks asked) false []) → IsClosed l.modules.now l.root.now l.keep.now held asked
   closed_whole held asked missing reached w all = record {
     sound = w.sound;
@@ -43,7 +43,7 @@ module _ (l : Linking) where
   }
 
   pub refused_whole : (held : HeldNames) (asked : AskedNames) (missing : Bool) (reached : List Place) (o : Option ImportError) (e : ImportError) → o ≡ Some e
-      → FindsMissing (loaded l.modules.now) (held_at held) o → IsWhole l held asked missing reached → RefusesClosing l.modules.now l.root.now l.keep.now held e
+      → FindsMissing (loaded l.modules.now) (held_at held) o → IsFinished l held asked missing reached → RefusesClosing l.modules.now l.root.now l.keep.now held e
   refused_whole held asked missing reached o e is finds w =
       let found = subst (FindsMissing (loaded l.modules.now) (held_at held)) is finds in
       inr (
@@ -60,9 +60,9 @@ module _ (l : Linking) where
   pub underway_whole : (old new : HeldNames) (before after : AskedNames) (was is : Bool) (xs ys : List Place) → IsUnderway l old before was xs
       → (IsSound l old xs → IsSound l new ys)
       → Moves (stage old (asks before) was xs) (stage new (asks after) is ys)
-      → (IsKeyed l.modules.now → IsSound l old xs → IsInOrder l old before → IsInOrder l new after)
+      → (IsKeyed l.modules.now → IsSound l old xs → IsConsistent l old before → IsConsistent l new after)
       → (FollowedTo (loaded l.modules.now) (stage old (asks before) was xs) 0 → AllFollowed (loaded l.modules.now) (stage new (asks after) is ys))
-      → IsWhole l new after is ys
+      → IsFinished l new after is ys
   underway_whole old new before after was is xs ys u sound moves order followed = record {
     sound = (sound u.sound).0;
     in_order = order u.keyed u.sound u.in_order;

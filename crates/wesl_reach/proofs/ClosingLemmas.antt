@@ -16,8 +16,8 @@ use Rattle.std.proofs.lemmas.List.Elements.{All-push}
 use denote.Ref.{Bor}
 use Rattle.wesl_scopes.specs.declared.denote.Symbol.{Symbol as Found}
 use Rattle.wesl_reach.specs.declared.linking.Linking.{Linking}
-use Rattle.wesl_sources.specs.Occurrences.{Name}
-use Rattle.wesl_sources.specs.Modules.{Path}
+use Rattle.wesl_link_spec.specs.Occurrences.{Name}
+use Rattle.wesl_link_spec.specs.Modules.{Path}
 use Rattle.wesl_rename.specs.Scopes.{texts}
 use Rattle.wesl_reach.specs.Closing.{HeldNames, name_among, held_at, Holds, LeadsTo, IsReached, IsSound}
 use Rattle.wesl_scopes.proofs.ScopeLemmas.{same_name, get_map, to_contains}
@@ -55,16 +55,16 @@ pub held_there : {A : Type 0} (P : A → Type 0) (xs ys : List A) (at : ℕ) (x 
 held_there P xs ys at x e h is all = subst P (sym is) (subst (All P) (sym e) all at x h)
 
 pub sound_more : (l : Linking) (old new : HeldNames) (xs ys : List Found) (s : Found) (name : Name)
-    → IsReached l s → IsSound l old xs → Holds old (string_bytes s.«module».now.text) s.place name new → ys ≡ xs ++ s ∷ [] → IsSound l new ys
+    → IsReached l s → IsSound l old xs → Holds old (string_bytes s.«module».now.printed_path) s.place name new → ys ≡ xs ++ s ∷ [] → IsSound l new ys
 sound_more l old new xs ys s name reached sound holds e = (
-  λ m k some. at m k (bytes_eq (string_bytes s.«module».now.text) m) (nat_eq s.place k) refl refl (subst IsSome (holds m k) some),
+  λ m k some. at m k (bytes_eq (string_bytes s.«module».now.printed_path) m) (nat_eq s.place k) refl refl (subst IsSome (holds m k) some),
   subst (All (IsReached l)) (sym e) (All-push (IsReached l) xs s sound.1 reached),
 )
   where
-    at : (m : Path) (k : ℕ) (b c : Bool) → bytes_eq (string_bytes s.«module».now.text) m ≡ b → nat_eq s.place k ≡ c
+    at : (m : Path) (k : ℕ) (b c : Bool) → bytes_eq (string_bytes s.«module».now.printed_path) m ≡ b → nat_eq s.place k ≡ c
         → IsSome (if b then (if c then Some name else held_at old m k) else held_at old m k) → LeadsTo l m k
     at m k true true is here some =
-        subst (λ n. LeadsTo l n k) (same_name (string_bytes s.«module».now.text) m is)
-        (subst (λ n. LeadsTo l (string_bytes s.«module».now.text) n) (eqb-true s.place k here) reached)
+        subst (λ n. LeadsTo l n k) (same_name (string_bytes s.«module».now.printed_path) m is)
+        (subst (λ n. LeadsTo l (string_bytes s.«module».now.printed_path) n) (eqb-true s.place k here) reached)
     at m k true false is here some = sound.0 m k some
     at m k false c is here some = sound.0 m k some

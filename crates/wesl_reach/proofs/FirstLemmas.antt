@@ -22,10 +22,10 @@ use Rattle.std.proofs.lemmas.Map.Entries.{btree_map_get_place}
 use denote.Ref.{Bor}
 use Rattle.wgsl_path.specs.declared.path.ModulePath.{ModulePath}
 use Rattle.wgsl_path.specs.Paths.{path_text}
-use Rattle.wgsl_syntax.specs.Tree.{Decl, Unit}
-use Rattle.wesl_sources.specs.Occurrences.{Name, occurrences}
-use Rattle.wesl_sources.specs.Modules.{Path}
-use Rattle.wesl_sources.specs.Rounds.{Refusal, missing_decl, private as is_private, IsBefore, StandsBefore, by_module, by_declaration, by_occurrence}
+use Rattle.wgsl_syntax.specs.Tree.{Decl, UnitTree}
+use Rattle.wesl_link_spec.specs.Occurrences.{Name, occurrences}
+use Rattle.wesl_link_spec.specs.Modules.{Path}
+use Rattle.wesl_link_spec.specs.Rounds.{LoadError, missing_decl, private as is_private, IsBefore, StandsBefore, by_module, by_declaration, by_occurrence}
 use Rattle.wesl_rename.specs.Scopes.{texts}
 use Rattle.wesl_scopes.specs.Outcomes.{Outcome, symbol_at, unloaded, missing, private, free, Loaded, outcome}
 use Rattle.wesl_scopes.specs.declared.error.ImportError.{ImportError}
@@ -48,14 +48,14 @@ private_why o p q x y is path name =
     (is_private (path_text p) x, refl, subst (λ t. RefusedFor t (is_private (path_text p) x)) is (λ i. is_private (path_text (path i)) (name i)))
 
 -- what nothing is missing in is present
-pub present_of : (o : Outcome) → ((r : Refusal) → RefusedFor o r → ⊥) → IsPresent o
+pub present_of : (o : Outcome) → ((r : LoadError) → RefusedFor o r → ⊥) → IsPresent o
 present_of (symbol_at m k) never = tt
 present_of (unloaded u) never = tt
 present_of (missing u) never = never (missing_decl u.home u.name) refl
 present_of (private u) never = never (is_private u.home u.name) refl
 present_of free never = tt
 
-pub not_refused : (o : Outcome) (r : Refusal) → IsPresent o → RefusedFor o r → ⊥
+pub not_refused : (o : Outcome) (r : LoadError) → IsPresent o → RefusedFor o r → ⊥
 not_refused (symbol_at m k) r p why = why
 not_refused (unloaded u) r p why = why
 not_refused (missing u) r p why = p
@@ -100,19 +100,19 @@ is_alone m n k j home place =
     subst (IsSome {T = Name}) (λ i. if sym is i then (if sym here i then Some [] else None) else None) refl
 
 -- what is missing at a place that is known
-missing_there : (find : Loaded) (held : Holding) (m n : Path) (k j o : ℕ) (h : Path × Unit) (d : Decl) (s : Refusal) → n ≡ m → j ≡ k → find m ≡ Some h → slice_get h.1.declarations k ≡ Some d
+missing_there : (find : Loaded) (held : Holding) (m n : Path) (k j o : ℕ) (h : Path × UnitTree) (d : Decl) (s : LoadError) → n ≡ m → j ≡ k → find m ≡ Some h → slice_get h.1.declarations k ≡ Some d
     → IsMissingAt find held n j o s → (x : Name) × (slice_get (occurrences d) o ≡ Some x) × RefusedFor (outcome find h x) s
 missing_there find held m n k j o h d s home place here there at =
     let both : Some at.home ≡ Some h = sym at.is_found ∙ ap find home ∙ here in
     let unit : at.home ≡ h = cc in
     let two : Some at.stands ≡ Some d = sym at.is_there ∙ (λ i. slice_get (unit i).1.declarations (place i)) ∙ there in
     let same : at.stands ≡ d = cc in
-    (at.name, ap (λ t. slice_get (occurrences t) o) (sym same) ∙ at.occurs, subst (λ (t : Path × Unit). RefusedFor (outcome find t at.name) s) unit at.why)
+    (at.name, ap (λ t. slice_get (occurrences t) o) (sym same) ∙ at.occurs, subst (λ (t : Path × UnitTree). RefusedFor (outcome find t at.name) s) unit at.why)
 
 module _ (find : Loaded) (m : Path) (k : ℕ) where
-  module _ (h : Path × Unit) (here : find m ≡ Some h) where
+  module _ (h : Path × UnitTree) (here : find m ≡ Some h) where
     module _ (d : Decl) (there : slice_get h.1.declarations k ≡ Some d) (names : List (Bor (List ℕ))) (whole : texts names ≡ occurrences d) (n : ℕ) (below : PresentBelow find h names n) where
-      none_below : (held : Holding) (p : Path) (j o : ℕ) (s : Refusal) → m ≡ p → k ≡ j → o < n → IsMissingAt find held p j o s → ⊥
+      none_below : (held : Holding) (p : Path) (j o : ℕ) (s : LoadError) → m ≡ p → k ≡ j → o < n → IsMissingAt find held p j o s → ⊥
       none_below held p j o s home place less at =
           let x = missing_there find held m p k j o h d s (sym home) (sym place) here there at in
           not_refused (outcome find h x.0) s (below o x.0 less (ap (λ l. slice_get l o) whole ∙ x.1)) x.2
@@ -147,7 +147,7 @@ module _ (find : Loaded) (m : Path) (k : ℕ) where
         },
       )
         where
-          not_before : (p : Path) (j o : ℕ) (s : Refusal) → IsMissingAt find (held_alone m k) p j o s → (m ≡ p) × (k ≡ j)
+          not_before : (p : Path) (j o : ℕ) (s : LoadError) → IsMissingAt find (held_alone m k) p j o s → (m ≡ p) × (k ≡ j)
               → IsBefore p m ⊎ (((p ≡ m) × (j < k)) ⊎ ((p ≡ m) × (j ≡ k) × (o < n))) → ⊥
           not_before p j o s at same cases = ⊎_elim
               (λ less. not_itself (slice_cmp nat_cmp) nat_list_cmp_total p m (sym same.0) less)
@@ -194,7 +194,7 @@ pub record AreParts {K : Type 0} (part : K → Holding) (whole : Holding) (befor
   pub from : (m : Path) (k : ℕ) → IsSome (whole m k) → (e : K) × Contains all e × IsSome (part e m k)
   pub apart : (e f : K) (m n : Path) (k j o p : ℕ) → before e f → IsSome (part e m k) → IsSome (part f n j) → StandsBefore n j o m k p → ⊥
 
-held_by : (find : Loaded) (held other : Holding) (m : Path) (k o : ℕ) (s : Refusal) → IsSome (other m k) → IsMissingAt find held m k o s → IsMissingAt find other m k o s
+held_by : (find : Loaded) (held other : Holding) (m : Path) (k o : ℕ) (s : LoadError) → IsSome (other m k) → IsMissingAt find held m k o s → IsMissingAt find other m k o s
 held_by find held other m k o s some at = record {
   is_held = some;
   home = at.home;
@@ -212,13 +212,13 @@ module _ {K : Type 0} (find : Loaded) (part : K → Holding) (whole : Holding) (
       let e = parts.from m k at.is_held in
       all_done (λ e. NoneMissing find (part e)) left all is so.0 e.0 e.1 m k o s (held_by find whole (part e.0) m k o s e.2 at)
 
-  module _ (left rest : List K) (y : K) (is : left ≡ y ∷ rest) (so : IsLeft find part before left all) (r : Refusal) (now : IsFirstMissing find (part y) r) where
+  module _ (left rest : List K) (y : K) (is : left ≡ y ∷ rest) (so : IsLeft find part before left all) (r : LoadError) (now : IsFirstMissing find (part y) r) where
     later_part : (m : Path) (k o : ℕ) → StandsBefore m k o now.home now.declaration now.occurrence → (f : K) → IsSome (part f m k) → Contains rest f → ⊥
     later_part m k o less f some c =
         let up = subst (Ascends before) is so.2 in
         parts.apart y f now.home m now.declaration k o now.occurrence (up.0 f c) now.refused.is_held some less
 
-    no_earlier : (m : Path) (k o : ℕ) (s : Refusal) → IsMissingAt find whole m k o s → StandsBefore m k o now.home now.declaration now.occurrence
+    no_earlier : (m : Path) (k o : ℕ) (s : LoadError) → IsMissingAt find whole m k o s → StandsBefore m k o now.home now.declaration now.occurrence
         → (f : K) → IsSome (part f m k) → NoneMissing find (part f) ⊎ Contains left f → ⊥
     no_earlier m k o s at less f some cases = ⊎_elim
         (λ none. none m k o s (held_by find whole (part f) m k o s some at))

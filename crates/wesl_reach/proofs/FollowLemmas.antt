@@ -3,7 +3,7 @@ use Rattle.std.proofs.Common.{◌≡◌, sym, ap, ◌∙◌, subst, ℕ, ◌+◌
 use Rattle.std.specs.Prelude.{slice_get}
 use Rattle.std.proofs.lemmas.Option.{slice_get_within}
 use Rattle.std.proofs.lemmas.List.{append-nil}
-use Rattle.wesl_sources.specs.Modules.{Path}
+use Rattle.wesl_link_spec.specs.Modules.{Path}
 use Rattle.wesl_scopes.specs.Outcomes.{Outcome, symbol_at, unloaded, missing, private, free, Loaded, outcome}
 use Rattle.wesl_reach.specs.Following.{Stage, Handled, IsFollowed, IsLater, Moves, FollowedTo, AllFollowed}
 use Rattle.wesl_scopes.proofs.ScopeLemmas.{append_left}

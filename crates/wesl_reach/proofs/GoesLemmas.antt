@@ -15,13 +15,13 @@ use Rattle.std.proofs.lemmas.List.{length-append, length-map}
 use Rattle.std.proofs.lemmas.Map.Entries.{btree_map_get_place}
 use Rattle.wgsl_path.specs.declared.path.ModulePath.{ModulePath}
 use Rattle.wgsl_path.specs.Paths.{path_text}
-use Rattle.wgsl_syntax.specs.Tree.{Unit}
+use Rattle.wgsl_syntax.specs.Tree.{UnitTree}
 use Rattle.wgsl_syntax.specs.View.{unit_tree}
-use Rattle.wesl_sources.specs.Occurrences.{Name}
-use Rattle.wesl_sources.specs.Modules.{Path, Symbol, Modules, IsModule, Declares}
-use Rattle.wesl_sources.specs.Named.{HasImportOf, AreNamedByImports}
-use Rattle.wesl_sources.specs.Rounds.{Sources, Refusal, too_many_modules, missing_decl, Loads, all_loaded, one_too_many, is_not_found, is_faulty, has_a_name_twice, loaded_then_refused, loaded as one_loaded, IsNextRound, NoneRefused, IsFirstRefused, Goes, an_occurrence_refused, a_module_refused, a_round, IsFirstUnkept, ComesTo, root_refused, kept_name_missing, goes_on}
-use Rattle.wesl_sources.specs.Rounds as rounds
+use Rattle.wesl_link_spec.specs.Occurrences.{Name}
+use Rattle.wesl_link_spec.specs.Modules.{Path, Symbol, Modules, IsModule, Declares}
+use Rattle.wesl_link_spec.specs.Named.{HasImportOf, AreNamedByImports}
+use Rattle.wesl_link_spec.specs.Rounds.{Sources, LoadError, too_many_modules, missing_decl, Loads, all_loaded, one_too_many, is_not_found, is_faulty, has_a_name_twice, loaded_then_refused, loaded as one_loaded, IsNextRound, NoneRefused, IsFirstRefused, LoadsRounds, an_occurrence_refused, a_module_refused, a_round, IsFirstUnkept, IsLoadingResult, root_refused, kept_name_missing, goes_on}
+use Rattle.wesl_link_spec.specs.Rounds as rounds
 use Rattle.wesl_scopes.specs.declared.error.ImportError.{ImportError}
 use Rattle.wesl_scopes.specs.declared.module.Module.{Module}
 use Rattle.wesl_scopes.specs.Meanings.{Known, declared, imported, bare, known, names, entries, first_again}
@@ -44,7 +44,7 @@ use Rattle.wesl_reach.proofs.LoadLemmas.{AskedEntry, texts_of, in_left, one_in, 
 
 -- ---- the modules of a table, by their paths
 
-found_one : (o : Option Module) (m : Path × Unit) → option_map home_of o ≡ Some m → (v : Module) × (o ≡ Some v) × (home_of v ≡ m)
+found_one : (o : Option Module) (m : Path × UnitTree) → option_map home_of o ≡ Some m → (v : Module) × (o ≡ Some v) × (home_of v ≡ m)
 found_one None m e = absurd (cc)
 found_one (Some v) m e = let same : home_of v ≡ m = cc in (v, refl, same)
 
@@ -56,24 +56,24 @@ pub tabled_finder : (ms : LoadedModules) (modules : Modules) → AreTabled ms mo
 tabled_finder ms modules t = record {
   found = λ p m e.
       let f = found_one (get_by_text ms p) m e in
-      let home : string_bytes f.0.text ≡ p = t.keyed p f.0 f.1 in (
+      let home : string_bytes f.0.printed_path ≡ p = t.keyed p f.0 f.1 in (
         record {
           path = f.0.path;
-          stands = subst (λ (h : Path × Unit). Contains modules (f.0.path, h.1)) f.2 ((t.same (path_and_unit f.0)).1 (found_listed ms p f.0 f.1));
+          stands = subst (λ (h : Path × UnitTree). Contains modules (f.0.path, h.1)) f.2 ((t.same (path_and_unit f.0)).1 (found_listed ms p f.0 f.1));
           printed = sym f.0.printed ∙ home;
         },
-        ap (λ (h : Path × Unit). h.0) (sym f.2) ∙ home,
+        ap (λ (h : Path × UnitTree). h.0) (sym f.2) ∙ home,
       );
   finds = λ p u is.
       let f = listed_found ms t.ordered (is.path, u) ((t.same (is.path, u)).0 is.stands) in
-      let same_path : f.1.path ≡ is.path = ap (λ (x : ModulePath × Unit). x.0) f.3 in
-      let same_unit : unit_tree f.1.unit ≡ u = ap (λ (x : ModulePath × Unit). x.1) f.3 in
-      let home : string_bytes f.1.text ≡ p = f.1.printed ∙ ap path_text same_path ∙ is.printed in
+      let same_path : f.1.path ≡ is.path = ap (λ (x : ModulePath × UnitTree). x.0) f.3 in
+      let same_unit : unit_tree f.1.unit ≡ u = ap (λ (x : ModulePath × UnitTree). x.1) f.3 in
+      let home : string_bytes f.1.printed_path ≡ p = f.1.printed ∙ ap path_text same_path ∙ is.printed in
       let key : f.0 ≡ p = sym (t.keyed f.0 f.1 f.2) ∙ home in
       subst (λ q. loaded ms q ≡ Some (p, u)) key (ap (option_map home_of) f.2 ∙ (λ k. Some (home k, same_unit k)));
   fresh = λ p m e.
       let f = found_one (get_by_text ms p) m e in
-      subst (λ (h : Path × Unit). first_again [] (names (entries h.1)) ≡ None) f.2 f.0.fresh;
+      subst (λ (h : Path × UnitTree). first_again [] (names (entries h.1)) ≡ None) f.2 f.0.fresh;
 }
 
 -- ---- what is asked for is not loaded
@@ -85,7 +85,7 @@ module _ (find : Loaded) where
   in_loaded m u v (Some (imported w)) e = absurd (cc)
   in_loaded m u v (Some (bare w)) e = absurd (cc)
 
-  item_unloaded : (t s : Symbol) (o : Option (Path × Unit)) → find t.home ≡ o → item_at t o ≡ unloaded s → find s.home ≡ None
+  item_unloaded : (t s : Symbol) (o : Option (Path × UnitTree)) → find t.home ≡ o → item_at t o ≡ unloaded s → find s.home ≡ None
   item_unloaded t s None is e = let same : t ≡ s = cc in subst (λ (x : Symbol). find x.home ≡ None) same is
   item_unloaded t s (Some h) is e = absurd (in_loaded h.0 t s (known h.1 t.name) e)
 
@@ -110,7 +110,7 @@ declared_there m n s k (Some (declared j)) e = (j, refl)
 declared_there m n s k (Some (imported t)) e = absurd (cc)
 declared_there m n s k (Some (bare y)) e = absurd (cc)
 
-pub declares_kept : (find : Loaded) (root : Path) (keep : List Name) (held : HeldNames) (u : Unit) → find root ≡ Some (root, u) → KeepsAll find root keep (held_at held)
+pub declares_kept : (find : Loaded) (root : Path) (keep : List Name) (held : HeldNames) (u : UnitTree) → find root ≡ Some (root, u) → KeepsAll find root keep (held_at held)
     → (x : Name) → Contains keep x → Declares u x
 declares_kept find root keep held u here kept x c =
     let s : Symbol = record { home = root; name = x } in
@@ -144,10 +144,10 @@ module _ (ms : LoadedModules) (modules : Modules) (t : AreTabled ms modules) (ro
   pub nothing_asked : (held : HeldNames) (asked : AskedNames) → IsClosed ms root keep held asked → asked.entries ≡ [] → IsNextRound modules root keep []
   nothing_asked held asked closed empty = refused.nothing_asked modules ms finder root keep held asked closed empty
 
-  first_refused : (held : HeldNames) (r : Refusal) → IsStopped ms root keep held r → IsFirstRefused modules root keep r
+  first_refused : (held : HeldNames) (r : LoadError) → IsStopped ms root keep held r → IsFirstRefused modules root keep r
   first_refused held r stopped = stopped_refused modules ms finder root keep held r stopped
 
-  module _ (u : Unit) (here : IsModule modules root u) where
+  module _ (u : UnitTree) (here : IsModule modules root u) where
     found_root : loaded ms root ≡ Some (root, u)
     found_root = finder.finds root u here
 
@@ -182,7 +182,7 @@ named_more old asked new root on only by_import before p m here other = ⊎_elim
 pub named_by_imports : (ms : LoadedModules) (modules : Modules) (root : Path) → AreTabled ms modules → AreNamedInTable ms root → AreNamedByImports modules root
 named_by_imports ms modules root t named path u there other =
     let f = listed_found ms t.ordered (path, u) ((t.same (path, u)).0 there) in
-    let same : f.1.path ≡ path = ap (λ (x : ModulePath × Unit). x.0) f.3 in
+    let same : f.1.path ≡ path = ap (λ (x : ModulePath × UnitTree). x.0) f.3 in
     let key : path_text path ≡ f.0 = ap path_text (sym same) ∙ sym f.1.printed ∙ t.keyed f.0 f.1 f.2 in
     let n = named f.0 f.1 f.2 (λ is. other (key ∙ is)) in
     record {
@@ -218,17 +218,17 @@ module _ (sources : Sources) (max : ℕ) (root : Path) (keep : List Name) (r : R
     pub next : IsNextRound e.modules root keep (paths_of asked)
     next = next_round r.modules e.modules e.tabled root keep r.held asked e.closed ordered
 
-    pub loading_refused : (o : Option Refusal) → RefusesLoading sources max (length e.modules) (paths_of asked) o → Refuses sources root keep max o
+    pub loading_refused : (o : Option LoadError) → RefusesLoading sources max (length e.modules) (paths_of asked) o → Refuses sources root keep max o
     loading_refused None l = tt
     loading_refused (Some why) l = e.goes (Err why) (a_module_refused none next l)
 
     pub too_many : (key : String Global) (a : AskedModule) (rest : List AskedEntry) (path : ModulePath) → max ≤ n → asked.entries ≡ (key, a) ∷ rest → path ≡ a.path
-        → ComesTo sources root keep max (Err (too_many_modules (path_text path)))
+        → IsLoadingResult sources root keep max (Err (too_many_modules (path_text path)))
     too_many key a rest path full is same =
         let here : get_by_text asked (string_bytes key) ≡ Some a = btree_map_get_place string_cmp_total asked 0 key a ordered (λ k. at (is k)) in
         let text : path_text path ≡ string_bytes key = ap path_text same ∙ (sought (string_bytes key) a here).0 in
         let most : max ≤ length e.modules = omega (arith, full, e.many) in
-        subst (λ t. ComesTo sources root keep max (Err (too_many_modules t))) (sym text)
+        subst (λ t. IsLoadingResult sources root keep max (Err (too_many_modules t))) (sym text)
         (loading_refused (Some (too_many_modules (string_bytes key))) (subst (λ es. Loads sources max (length e.modules) (texts_of es) (Err (too_many_modules (string_bytes key)))) (sym is) (one_too_many most)))
       where
         at : List AskedEntry → Option AskedEntry
@@ -270,7 +270,7 @@ pub nothing_held : (held : HeldNames) → held.entries ≡ [] → HoldsNothing h
 nothing_held held empty m place = ap (λ es. name_among (lookup (λ k. is_eq (slice_cmp nat_cmp m (string_bytes k))) es) place) empty
 
 module _ (sources : Sources) (max : ℕ) (root : Path) (keep : List Name) where
-  pub root_not_loaded : (o : Option Refusal) → ((ps : List Path) → RefusesLoading sources max 0 (root ∷ ps) o) → Refuses sources root keep max o
+  pub root_not_loaded : (o : Option LoadError) → ((ps : List Path) → RefusesLoading sources max 0 (root ∷ ps) o) → Refuses sources root keep max o
   root_not_loaded None l = tt
   root_not_loaded (Some r) l = root_refused (l [])
 
@@ -331,6 +331,6 @@ module _ (sources : Sources) (max : ℕ) (root : Path) (keep : List Name) where
         closing)
         (λ kept.
         subst (Refuses sources root keep max) (sym kept.2.1)
-        (subst (λ why. ComesTo sources root keep max (Err why)) (sym kept.2.2)
+        (subst (λ why. IsLoadingResult sources root keep max (Err why)) (sym kept.2.2)
         (kept_name_missing there (first_unkept new (path_and_unit l.one ∷ []) tabled root keep (unit_tree l.one.unit) at_root sources max kept.0 kept.1))))
         why

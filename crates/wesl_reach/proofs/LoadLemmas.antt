@@ -18,14 +18,14 @@ use Rattle.std.proofs.lemmas.Map.Entries.{place_from_lookup, btree_map_get_place
 use Rattle.std.proofs.lemmas.Map.Text.{btree_map_updates_text, is_eq-slice_cmp}
 use Rattle.wgsl_path.specs.declared.path.ModulePath.{ModulePath}
 use Rattle.wgsl_path.specs.Paths.{path_text}
-use Rattle.wgsl_syntax.specs.Tree.{Unit}
+use Rattle.wgsl_syntax.specs.Tree.{UnitTree}
 use Rattle.wgsl_syntax.specs.declared.unit.TranslationUnit.{TranslationUnit}
 use Rattle.wgsl_syntax.specs.View.{unit_tree}
 use Rattle.wesl_resolve.specs.declared.error.ResolveError.{ResolveError}
 use Rattle.wesl_resolve.specs.declared.error.ResolveError.TheVariants as resolve
 use Rattle.wesl_resolve.specs.Found.{unit_of, not_found, faulty, TellsUnit, SameAnswers}
-use Rattle.wesl_sources.specs.Modules.{Path, Modules}
-use Rattle.wesl_sources.specs.Rounds.{Sources, Refusal, too_many_modules, module_not_found, syntax, duplicate_symbol, scope_names, AreDistinct, Loads, all_loaded, one_too_many, is_not_found, is_faulty, has_a_name_twice, loaded_then_refused, loaded}
+use Rattle.wesl_link_spec.specs.Modules.{Path, Modules}
+use Rattle.wesl_link_spec.specs.Rounds.{Sources, LoadError, too_many_modules, module_not_found, syntax, duplicate_symbol, scope_names, AreDistinct, Loads, all_loaded, one_too_many, is_not_found, is_faulty, has_a_name_twice, loaded_then_refused, loaded}
 use Rattle.wesl_scopes.specs.declared.error.ImportError.{ImportError}
 use Rattle.wesl_scopes.specs.declared.error.ImportError.TheVariants as import
 use Rattle.wesl_scopes.specs.declared.module.Module.{Module}
@@ -42,7 +42,7 @@ use Rattle.wesl_reach.proofs.PresentLemmas.{DoneBut, in_cases, all_done}
 -- ---- one module
 
 module _ (sources : Sources) (max n : ℕ) (path : ModulePath) (p : Path) (is : path_text path ≡ p) where
-  told : (e : ImportError) (r : Option Refusal) → refusal_of e ≡ r → ((ps : List Path) → RefusesLoading sources max n (p ∷ ps) r) → (ps : List Path) → RefusesLoading sources max n (p ∷ ps) (refusal_of e)
+  told : (e : ImportError) (r : Option LoadError) → refusal_of e ≡ r → ((ps : List Path) → RefusesLoading sources max n (p ∷ ps) r) → (ps : List Path) → RefusesLoading sources max n (p ∷ ps) (refusal_of e)
   told e r same h ps = subst (RefusesLoading sources max n (p ∷ ps)) (sym same) (h ps)
 
   pub one_more : (q : ModulePath) → q ≡ path → max ≤ n → (ps : List Path) → Loads sources max n (p ∷ ps) (Err (too_many_modules (path_text q)))
@@ -112,7 +112,7 @@ one_in x = to_contains (x ∷ []) 0 x refl
 abbrev Entry : Type 0
 Entry = String Global × Module
 
-abbrev pub path_and_unit : Module → ModulePath × Unit
+abbrev pub path_and_unit : Module → ModulePath × UnitTree
 path_and_unit m = (m.path, unit_tree m.unit)
 
 -- the entry of what is found
@@ -124,7 +124,7 @@ entry_of ms p m e =
 pub found_listed : (ms : LoadedModules) (p : Path) (m : Module) → get_by_text ms p ≡ Some m → Contains (modules_of ms) (path_and_unit m)
 found_listed ms p m e = let f = entry_of ms p m e in to_contains (modules_of ms) f.0 (path_and_unit m) (get_map (λ (e : Entry). path_and_unit e.1) ms.entries f.0 (f.1, m) f.2)
 
-pub listed_found : (ms : LoadedModules) → IsOrdered string_cmp ms → (x : ModulePath × Unit) → Contains (modules_of ms) x → (p : Path) × (m : Module) × (get_by_text ms p ≡ Some m) × (path_and_unit m ≡ x)
+pub listed_found : (ms : LoadedModules) → IsOrdered string_cmp ms → (x : ModulePath × UnitTree) → Contains (modules_of ms) x → (p : Path) × (m : Module) × (get_by_text ms p ≡ Some m) × (path_and_unit m ≡ x)
 listed_found ms ordered x c =
     let at = from_contains (modules_of ms) x c in
     let e = map_get (λ (e : Entry). path_and_unit e.1) ms.entries at.0 x at.1 in
@@ -156,7 +156,7 @@ module _ (old new : LoadedModules) (p : Path) (one : Module) (none : get_by_text
 pub one_tabled : (sources : Sources) (max : ℕ) (old new : LoadedModules) (modules : Modules) {path : ModulePath} (p : Path) → AreTabled old modules → get_by_text old p ≡ None
     → (l : IsLoadedOne sources max old path p new) → AreTabled new (modules ++ path_and_unit l.one ∷ [])
 one_tabled sources max old new modules p t none l = record {
-  keyed = λ q m e. ⊎_elim (λ before. t.keyed q m before) (λ now. ap (λ (x : Module). string_bytes x.text) (sym now.1) ∙ l.one.printed ∙ l.printed ∙ now.0) (old_or_new old new p l.one none l.stands q m e);
+  keyed = λ q m e. ⊎_elim (λ before. t.keyed q m before) (λ now. ap (λ (x : Module). string_bytes x.printed_path) (sym now.1) ∙ l.one.printed ∙ l.printed ∙ now.0) (old_or_new old new p l.one none l.stands q m e);
   ordered = l.ordered;
   same = λ x. (
     λ c. ⊎_elim
@@ -176,7 +176,7 @@ one_tabled sources max old new modules p t none l = record {
 -- ---- one module after another
 
 -- what more modules come to behind these
-abbrev pub behind : Modules → Result Modules Refusal → Result Modules Refusal
+abbrev pub behind : Modules → Result Modules LoadError → Result Modules LoadError
 behind before (Ok more) = Ok (before ++ more)
 behind before (Err r) = Err r
 
@@ -186,7 +186,7 @@ AskedEntry = String Global × AskedModule
 abbrev pub texts_of : List AskedEntry → List Path
 texts_of es = map (λ e. string_bytes e.0) es
 
-pub same_loads : (a b : Sources) (max n : ℕ) (ps : List Path) (o : Result Modules Refusal) → SameAnswers a b → Loads b max n ps o → Loads a max n ps o
+pub same_loads : (a b : Sources) (max n : ℕ) (ps : List Path) (o : Result Modules LoadError) → SameAnswers a b → Loads b max n ps o → Loads a max n ps o
 same_loads a b max n ps o same (all_loaded) = all_loaded
 same_loads a b max n ps o same (one_too_many full) = one_too_many full
 same_loads a b max n ps o same (is_not_found {p = p} less s) = is_not_found less ((same p not_found).1 s)
@@ -195,7 +195,7 @@ same_loads a b max n ps o same (has_a_name_twice {p = p} {u = u} less s twice) =
 same_loads a b max n ps o same (loaded_then_refused {n = k} {p = p} {ps = qs} {u = u} {r = r} less s d l) = loaded_then_refused less ((same p (unit_of u)).1 s) d (same_loads a b max (k + 1) qs (Err r) same l)
 same_loads a b max n ps o same (loaded {n = k} {p = p} {ps = qs} {u = u} {modules = m} less s d is l) = loaded less ((same p (unit_of u)).1 s) d is (same_loads a b max (k + 1) qs (Ok m) same l)
 
-pub same_refuses : (a b : Sources) (max n : ℕ) (ps : List Path) (r : Option Refusal) → SameAnswers a b → RefusesLoading b max n ps r → RefusesLoading a max n ps r
+pub same_refuses : (a b : Sources) (max n : ℕ) (ps : List Path) (r : Option LoadError) → SameAnswers a b → RefusesLoading b max n ps r → RefusesLoading a max n ps r
 same_refuses a b max n ps None same l = tt
 same_refuses a b max n ps (Some r) same l = same_loads a b max n ps (Err r) same l
 
@@ -214,11 +214,11 @@ same_loaded_one a b max old p new same l = record {
 }
 
 pub one_then : (sources : Sources) (max n : ℕ) (old : LoadedModules) {path : ModulePath} (p : Path) (new : LoadedModules) (l : IsLoadedOne sources max old path p new) → n ≡ length old.entries → (ps : List Path)
-    → (o : Result Modules Refusal) → Loads sources max (n + 1) ps o → Loads sources max n (p ∷ ps) (behind (path_and_unit l.one ∷ []) o)
+    → (o : Result Modules LoadError) → Loads sources max (n + 1) ps o → Loads sources max n (p ∷ ps) (behind (path_and_unit l.one ∷ []) o)
 one_then sources max n old p new l same ps (Ok more) rest = let less : n < max = omega (arith, same, l.within) in loaded less l.found l.distinct l.printed rest
 one_then sources max n old p new l same ps (Err r) rest = let less : n < max = omega (arith, same, l.within) in loaded_then_refused less l.found l.distinct rest
 
-pub two_behind : (a b : Modules) (o : Result Modules Refusal) → behind a (behind b o) ≡ behind (a ++ b) o
+pub two_behind : (a b : Modules) (o : Result Modules LoadError) → behind a (behind b o) ≡ behind (a ++ b) o
 two_behind a b (Ok more) = ap Ok (sym (append_assoc a b more))
 two_behind a b (Err r) = refl
 
@@ -226,7 +226,7 @@ two_behind a b (Err r) = refl
 pub record IsLoadedTo (sources : Sources) (max : ℕ) (old : LoadedModules) (modules : Modules) (asked : AskedNames) (now : LoadedModules) (left : List AskedEntry) : Type 0 where
   pub more : Modules
   pub tabled : AreTabled now (modules ++ more)
-  pub goes : (o : Result Modules Refusal) → Loads sources max (length (modules ++ more)) (texts_of left) o → Loads sources max (length modules) (paths_of asked) (behind more o)
+  pub goes : (o : Result Modules LoadError) → Loads sources max (length (modules ++ more)) (texts_of left) o → Loads sources max (length modules) (paths_of asked) (behind more o)
   pub stay : (p : Path) (m : Module) → get_by_text old p ≡ Some m → get_by_text now p ≡ Some m
   pub come : DoneBut (λ e. (m : Module) × (get_by_text now (string_bytes e.0) ≡ Some m)) left asked.entries
   pub only : (p : Path) (m : Module) → get_by_text now p ≡ Some m → IsOldOrAsked old asked p m
@@ -248,7 +248,7 @@ none_loaded sources max old modules asked t sought ordered = record {
   sorted = ordered;
 }
   where
-    whole : (o : Result Modules Refusal) → Loads sources max (length modules) (paths_of asked) o → Loads sources max (length modules) (paths_of asked) (behind [] o)
+    whole : (o : Result Modules LoadError) → Loads sources max (length modules) (paths_of asked) o → Loads sources max (length modules) (paths_of asked) (behind [] o)
     whole (Ok more) l = l
     whole (Err r) l = l
 
@@ -264,14 +264,14 @@ module _ (sources : Sources) (max : ℕ) (old : LoadedModules) (modules : Module
       → RefusesLoading sources max (length modules) (paths_of asked) (refusal_of error)
   first_refused error told = at (refusal_of error) (told (texts_of rest))
     where
-      at : (r : Option Refusal) → RefusesLoading sources max (length now.entries) (string_bytes e.0 ∷ texts_of rest) r → RefusesLoading sources max (length modules) (paths_of asked) r
+      at : (r : Option LoadError) → RefusesLoading sources max (length now.entries) (string_bytes e.0 ∷ texts_of rest) r → RefusesLoading sources max (length modules) (paths_of asked) r
       at None l = tt
       at (Some r) l =
           t.goes (Err r) (subst (λ ps. Loads sources max (length (modules ++ t.more)) ps (Err r)) (sym (ap texts_of is))
           (subst (λ n. Loads sources max n (string_bytes e.0 ∷ texts_of rest) (Err r)) (sym t.tabled.many) l))
 
   module _ (new : LoadedModules) (l : IsLoadedOne sources max now e.1.path (string_bytes e.0) new) where
-    abbrev one : ModulePath × Unit
+    abbrev one : ModulePath × UnitTree
     one = path_and_unit l.one
 
     pub less_apart : (x y : String Global) → string_cmp x y ≡ Less → bytes_eq (string_bytes x) (string_bytes y) ≡ false

@@ -13,19 +13,19 @@ use Rattle.std.proofs.lemmas.Bool.{eqb-true}
 use Rattle.std.proofs.lemmas.Map.Entries.{place_from_lookup}
 use Rattle.std.proofs.lemmas.Map.Text.{is_eq-slice_cmp}
 use denote.Ref.{Bor}
-use Rattle.wgsl_syntax.specs.Tree.{Unit}
-use Rattle.wesl_sources.specs.Occurrences.{Name}
-use Rattle.wesl_sources.specs.Modules.{Path}
+use Rattle.wgsl_syntax.specs.Tree.{UnitTree}
+use Rattle.wesl_link_spec.specs.Occurrences.{Name}
+use Rattle.wesl_link_spec.specs.Modules.{Path}
 use Rattle.wesl_rename.specs.Scopes.{texts}
 use Rattle.wesl_scopes.specs.Outcomes.{Outcome, symbol_at, unloaded, missing, private, free, Loaded, outcome}
 use Rattle.wesl_reach.specs.Closing.{HeldNames, name_among, held_at}
 use Rattle.wesl_reach.specs.Following.{Stage, Handled, AllFollowed, IsPresent, ArePresent}
 use Rattle.wesl_scopes.proofs.ScopeLemmas.{to_contains, from_contains, get_map, same_name}
 
-abbrev pub PresentBelow : Loaded → Path × Unit → List (Bor (List ℕ)) → ℕ → Type 0
+abbrev pub PresentBelow : Loaded → Path × UnitTree → List (Bor (List ℕ)) → ℕ → Type 0
 PresentBelow find h names n = (i : ℕ) (x : Name) → i < n → slice_get (texts names) i ≡ Some x → IsPresent (outcome find h x)
 
-pub one_present : (find : Loaded) (h : Path × Unit) (names : List (Bor (List ℕ))) (n : ℕ) (x : Name) → slice_get (texts names) n ≡ Some x
+pub one_present : (find : Loaded) (h : Path × UnitTree) (names : List (Bor (List ℕ))) (n : ℕ) (x : Name) → slice_get (texts names) n ≡ Some x
     → PresentBelow find h names n → IsPresent (outcome find h x) → PresentBelow find h names (n + 1)
 one_present find h names n x is below now i y less there = ⊎_elim
     (λ before. below i y before there)

@@ -3,10 +3,10 @@ use Rattle.std.proofs.Common.{◌≡◌, refl, sym, ap, ◌∙◌, subst, ℕ, L
 use Rattle.std.specs.Prelude.{slice_get}
 use Rattle.std.specs.Option.{IsSome}
 use Rattle.std.specs.List.{Contains}
-use Rattle.wgsl_syntax.specs.Tree.{Decl, Unit}
-use Rattle.wesl_sources.specs.Occurrences.{Name, declared_name}
-use Rattle.wesl_sources.specs.Modules.{Path, Symbol, Modules, IsModule, Declares, Imports, local_name, IsImport, IsImported, Denotes, IsDeclaration, Reached}
-use Rattle.wesl_sources.specs.Modules as spec
+use Rattle.wgsl_syntax.specs.Tree.{Decl, UnitTree}
+use Rattle.wesl_link_spec.specs.Occurrences.{Name, declared_name}
+use Rattle.wesl_link_spec.specs.Modules.{Path, Symbol, Modules, IsModule, Declares, Imports, local_name, IsImport, IsImported, Denotes, IsDeclaration, Reached}
+use Rattle.wesl_link_spec.specs.Modules as spec
 use Rattle.wesl_scopes.specs.Meanings.{Known, declared, imported, bare, known, import_known}
 use Rattle.wesl_scopes.specs.Outcomes.{symbol_at, Loaded, item_in, item_at, meant_as, outcome}
 use Rattle.wesl_scopes.specs.Tells.{IsFinder, StandsAt, Tells}
@@ -14,7 +14,7 @@ use Rattle.wesl_reach.specs.Reach.{ReachedAt, kept, onto, Holding, Settled, IsSe
 use Rattle.wesl_scopes.proofs.ScopeLemmas.{to_contains, from_contains, import_means, value_means}
 use Rattle.wesl_scopes.proofs.TellLemmas.{declared_known, declares, tells}
 
-the_unit : (o : Option (Path × Unit)) (p : Path) (u : Unit) (h : Path × Unit) → o ≡ Some (p, u) → o ≡ Some h → h ≡ (p, u)
+the_unit : (o : Option (Path × UnitTree)) (p : Path) (u : UnitTree) (h : Path × UnitTree) → o ≡ Some (p, u) → o ≡ Some h → h ≡ (p, u)
 the_unit o p u h e f = let both : Some h ≡ Some (p, u) = sym f ∙ e in cc
 
 pub the_declaration : (o : Option Decl) (d e : Decl) → o ≡ Some d → o ≡ Some e → d ≡ e
@@ -24,11 +24,11 @@ the_place : (o : Option Known) (i j : ℕ) → o ≡ Some (declared i) → o ≡
 the_place o i j p q = let both : Some (declared i) ≡ Some (declared j) = sym p ∙ q in cc
 
 module _ (modules : Modules) (find : Loaded) (finder : IsFinder modules find) where
-  pub found_unit : (p : Path) (u : Unit) (h : Path × Unit) → IsModule modules p u → find p ≡ Some h → h ≡ (p, u)
+  pub found_unit : (p : Path) (u : UnitTree) (h : Path × UnitTree) → IsModule modules p u → find p ≡ Some h → h ≡ (p, u)
   found_unit p u h is e = the_unit (find p) p u h (finder.finds p u is) e
 
   -- the declaration that a module has under a name
-  at_home : (p : Path) (u : Unit) (x : Name) → IsModule modules p u → Declares u x
+  at_home : (p : Path) (u : UnitTree) (x : Name) → IsModule modules p u → Declares u x
       → (j : ℕ) × (known u x ≡ Some (declared j)) × StandsAt modules p j (record { home = p; name = x })
   at_home p u x is has =
       let k = declared_known u x (finder.fresh p (p, u) (finder.finds p u is)) has in
@@ -36,24 +36,24 @@ module _ (modules : Modules) (find : Loaded) (finder : IsFinder modules find) wh
       (k.0, k.1, record { unit = u; declaration = d.0; is_module = is; stands = d.1; home = refl; name = sym d.2 })
 
   -- an item that a module declares, where it is sought
-  pub sought_at : (s : Symbol) (u : Unit) → IsModule modules s.home u → Declares u s.name
+  pub sought_at : (s : Symbol) (u : UnitTree) → IsModule modules s.home u → Declares u s.name
       → (j : ℕ) × (item_at s (find s.home) ≡ symbol_at s.home j) × StandsAt modules s.home j s
   sought_at s u is has =
       let t = at_home s.home u s.name is has in
       (t.0, ap (item_at s) (finder.finds s.home u is) ∙ ap (item_in s.home s) t.1, t.2)
 
-  module _ (m : Path × Unit) (here : find m.0 ≡ Some m) (x : Name) where
-    own_found : (u : Unit) → IsModule modules m.0 u → Declares u x → (j : ℕ) × (outcome find m x ≡ symbol_at m.0 j) × StandsAt modules m.0 j (record { home = m.0; name = x })
+  module _ (m : Path × UnitTree) (here : find m.0 ≡ Some m) (x : Name) where
+    own_found : (u : UnitTree) → IsModule modules m.0 u → Declares u x → (j : ℕ) × (outcome find m x ≡ symbol_at m.0 j) × StandsAt modules m.0 j (record { home = m.0; name = x })
     own_found u is has =
         let t = at_home m.0 u x is has in
-        (t.0, ap (λ (h : Path × Unit). meant_as find m.0 (known h.1 x)) (found_unit m.0 u m is here) ∙ ap (meant_as find m.0) t.1, t.2)
+        (t.0, ap (λ (h : Path × UnitTree). meant_as find m.0 (known h.1 x)) (found_unit m.0 u m is here) ∙ ap (meant_as find m.0) t.1, t.2)
 
     pub import_found : (s : Symbol) → (to : IsImported modules m.0 x s) → known m.1 x ≡ Some (imported (to.path, s))
     import_found s to =
         let i = to.is_import in
         let unit : m ≡ (m.0, i.unit) = found_unit m.0 i.unit m i.is_module here in
         let means = import_means i.unit to.import (finder.fresh m.0 (m.0, i.unit) (finder.finds m.0 i.unit i.is_module)) i.stands in
-        ap (λ (h : Path × Unit). known h.1 x) unit
+        ap (λ (h : Path × UnitTree). known h.1 x) unit
         ∙ ap (known i.unit) (sym i.local)
         ∙ means
         ∙ ap (λ o. Some (import_known o to.import.item)) to.is_path
@@ -67,19 +67,19 @@ module _ (modules : Modules) (find : Loaded) (finder : IsFinder modules find) wh
         (t.0, ap (meant_as find m.0) (import_found s to) ∙ t.1, t.2)
 
   -- where a declaration of a name stands, there is no other
-  pub same_place : (p : Path) (i j : ℕ) (s : Symbol) (u : Unit) (d : Decl) → StandsAt modules p i s → IsModule modules p u → slice_get u.declarations j ≡ Some d → declared_name d ≡ s.name → j ≡ i
+  pub same_place : (p : Path) (i j : ℕ) (s : Symbol) (u : UnitTree) (d : Decl) → StandsAt modules p i s → IsModule modules p u → slice_get u.declarations j ≡ Some d → declared_name d ≡ s.name → j ≡ i
   same_place p i j s u d at is there name =
       let fresh = finder.fresh p (p, u) (finder.finds p u is) in
       let unit : (p, at.unit) ≡ (p, u) = found_unit p u (p, at.unit) is (finder.finds p at.unit at.is_module) in
-      let there_too : slice_get u.declarations i ≡ Some at.declaration = subst (λ (h : Path × Unit). slice_get h.1.declarations i ≡ Some at.declaration) unit at.stands in
+      let there_too : slice_get u.declarations i ≡ Some at.declaration = subst (λ (h : Path × UnitTree). slice_get h.1.declarations i ≡ Some at.declaration) unit at.stands in
       the_place (known u s.name) j i
       (ap (known u) (sym name) ∙ value_means u j d fresh there)
       (ap (known u) at.name ∙ value_means u i at.declaration fresh there_too)
 
-  pub stands_there : (p : Path) (i : ℕ) (s : Symbol) (h : Path × Unit) (d : Decl) → StandsAt modules p i s → find p ≡ Some h → slice_get h.1.declarations i ≡ Some d → IsDeclaration modules s d
+  pub stands_there : (p : Path) (i : ℕ) (s : Symbol) (h : Path × UnitTree) (d : Decl) → StandsAt modules p i s → find p ≡ Some h → slice_get h.1.declarations i ≡ Some d → IsDeclaration modules s d
   stands_there p i s h d at is there =
       let unit : h ≡ (p, at.unit) = found_unit p at.unit h at.is_module is in
-      let same : d ≡ at.declaration = the_declaration (slice_get at.unit.declarations i) d at.declaration (subst (λ (g : Path × Unit). slice_get g.1.declarations i ≡ Some d) unit there) at.stands in
+      let same : d ≡ at.declaration = the_declaration (slice_get at.unit.declarations i) d at.declaration (subst (λ (g : Path × UnitTree). slice_get g.1.declarations i ≡ Some d) unit there) at.stands in
       record {
         unit = at.unit;
         is_module = subst (λ q. IsModule modules q at.unit) (sym at.home) at.is_module;
@@ -88,7 +88,7 @@ module _ (modules : Modules) (find : Loaded) (finder : IsFinder modules find) wh
       }
 
   module _ (root : Path) (keep : List Name) where
-    kept_symbol : (x : Name) (o : Option (Path × Unit)) (m : Path) (place : ℕ) → find root ≡ o → item_at (record { home = root; name = x }) o ≡ symbol_at m place
+    kept_symbol : (x : Name) (o : Option (Path × UnitTree)) (m : Path) (place : ℕ) → find root ≡ o → item_at (record { home = root; name = x }) o ≡ symbol_at m place
         → StandsAt modules m place (record { home = root; name = x })
     kept_symbol x None m place is e = absurd (cc)
     kept_symbol x (Some h) m place is e = at (known h.1 x) refl e

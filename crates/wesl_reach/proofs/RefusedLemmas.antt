@@ -17,14 +17,14 @@ use Rattle.std.proofs.lemmas.Map.Keys.{sorted_head, sorted_tail}
 use Rattle.std.proofs.lemmas.Map.Text.{is_eq-slice_cmp}
 use Rattle.std.proofs.lemmas.Map.Entries.{place_from_lookup, btree_map_get_place}
 use Rattle.wgsl_path.specs.declared.path.ModulePath.{ModulePath}
-use Rattle.wgsl_syntax.specs.Tree.{Imp, Unit}
+use Rattle.wgsl_syntax.specs.Tree.{Imp, UnitTree}
 use Rattle.wgsl_syntax.specs.View.{unit_tree}
 use Rattle.wesl_resolve.specs.Mangling.{mangled}
-use Rattle.wesl_sources.specs.Occurrences.{Name, declared_name, occurrences}
-use Rattle.wesl_sources.specs.Modules.{Path, Symbol, Modules, IsModule, Declares, Imports, local_name, IsImport, IsImported, IsMissing, lacking, bare as is_bare, IsPrivate, IsUnloaded, IsDeclaration, Reached, IsAsked}
-use Rattle.wesl_sources.specs.Modules as spec
-use Rattle.wesl_sources.specs.Names.{IsPrinted, stays, is_mangled}
-use Rattle.wesl_sources.specs.Rounds.{Sources, IsFirstUnkept, Refusal, missing_decl, private as is_private, IsRefusedAt, IsFirstRefused, NoneRefused, IsAscending, no_path, one_path, one_before, IsNextRound}
+use Rattle.wesl_link_spec.specs.Occurrences.{Name, declared_name, occurrences}
+use Rattle.wesl_link_spec.specs.Modules.{Path, Symbol, Modules, IsModule, Declares, Imports, local_name, IsImport, IsImported, IsMissing, lacking, bare as is_bare, IsPrivate, IsUnloaded, IsDeclaration, Reached, IsAsked}
+use Rattle.wesl_link_spec.specs.Modules as spec
+use Rattle.wesl_link_spec.specs.Names.{IsPrinted, stays, is_mangled}
+use Rattle.wesl_link_spec.specs.Rounds.{Sources, IsFirstUnkept, LoadError, missing_decl, private as is_private, IsRefusedAt, IsFirstRefused, NoneRefused, IsAscending, no_path, one_path, one_before, IsNextRound}
 use Rattle.wesl_scopes.specs.Meanings.{Known, declared, imported, bare, known, import_known}
 use Rattle.wesl_scopes.specs.Outcomes.{Outcome, symbol_at, unloaded, missing, private, free, Loaded, item_in, item_at, meant_as, outcome, home_of, loaded}
 use Rattle.wesl_scopes.specs.Tells.{IsFinder, StandsAt, Tells}
@@ -43,14 +43,14 @@ use Rattle.wesl_reach.proofs.ReachLemmas.{found_unit, sought_at, import_found, d
 
 -- ---- what a unit has under a name
 
-import_known_there : (u : Unit) (x : Name) → IsFresh u → Imports u x → (i : Imp) × (known u x ≡ Some (import_known i.path i.item))
+import_known_there : (u : UnitTree) (x : Name) → IsFresh u → Imports u x → (i : Imp) × (known u x ≡ Some (import_known i.path i.item))
 import_known_there u x fresh c =
     let p = from_contains (map local_name u.imports) x c in
     let i = map_get local_name u.imports p.0 x p.1 in
     (i.0, ap (known u) (sym i.2) ∙ import_means u i.0 fresh (to_contains u.imports p.0 i.0 i.1))
 
 -- what a unit neither declares nor imports
-known_not : (u : Unit) (x : Name) → (Declares u x → ⊥) → (Imports u x → ⊥) → known u x ≡ None
+known_not : (u : UnitTree) (x : Name) → (Declares u x → ⊥) → (Imports u x → ⊥) → known u x ≡ None
 known_not u x undeclared unimported = at (known u x) refl
   where
     at : (o : Option Known) → known u x ≡ o → o ≡ None
@@ -60,7 +60,7 @@ known_not u x undeclared unimported = at (known u x) refl
     at (Some (bare y)) e = absurd (unimported (has_imported u x (bare y) (λ j both. absurd (cc)) e))
 
 -- an item that a module only imports
-only_imports : (m : Path) (s : Symbol) (u : Unit) → IsFresh u → (Declares u s.name → ⊥) → Imports u s.name → item_in m s (known u s.name) ≡ private s
+only_imports : (m : Path) (s : Symbol) (u : UnitTree) → IsFresh u → (Declares u s.name → ⊥) → Imports u s.name → item_in m s (known u s.name) ≡ private s
 only_imports m s u fresh undeclared has =
     let i = import_known_there u s.name fresh has in
     ap (item_in m s) i.1 ∙ at i.0.path i.0.item
@@ -75,8 +75,8 @@ same_symbol s m x home name = λ i. record { home = home i; name = name i }
 -- ---- what denotes nothing
 
 module _ (modules : Modules) (find : Loaded) (finder : IsFinder modules find) where
-  module _ (m : Path × Unit) (here : find m.0 ≡ Some m) (x : Name) where
-    item_known : (s : Symbol) (u : Unit) → IsImported modules m.0 x s → IsModule modules s.home u → outcome find m x ≡ item_in s.home s (known u s.name)
+  module _ (m : Path × UnitTree) (here : find m.0 ≡ Some m) (x : Name) where
+    item_known : (s : Symbol) (u : UnitTree) → IsImported modules m.0 x s → IsModule modules s.home u → outcome find m x ≡ item_in s.home s (known u s.name)
     item_known s u to is =
         ap (meant_as find m.0) (import_found modules find finder m here x s to) ∙ ap (item_at s) (finder.finds s.home u is)
 
@@ -87,7 +87,7 @@ module _ (modules : Modules) (find : Loaded) (finder : IsFinder modules find) wh
         let unit : m ≡ (m.0, import.unit) = found_unit modules find finder m.0 import.unit m import.is_module here in
         let means = import_means import.unit i (finder.fresh m.0 (m.0, import.unit) (finder.finds m.0 import.unit import.is_module)) import.stands in
         let is : known m.1 x ≡ Some (bare i.item) =
-        ap (λ (h : Path × Unit). known h.1 x) unit ∙ ap (known import.unit) (sym import.local) ∙ means ∙ ap (λ o. Some (import_known o i.item)) none in
+        ap (λ (h : Path × UnitTree). known h.1 x) unit ∙ ap (known import.unit) (sym import.local) ∙ means ∙ ap (λ o. Some (import_known o i.item)) none in
         ap (meant_as find m.0) is
 
     private_told : (s : Symbol) → IsPrivate modules m.0 x s → outcome find m x ≡ private s
@@ -99,11 +99,11 @@ module _ (modules : Modules) (find : Loaded) (finder : IsFinder modules find) wh
     unloaded_told s is =
         ap (meant_as find m.0) (import_found modules find finder m here x s is.imported) ∙ ap (item_at s) (none (find s.home) refl)
       where
-        none : (o : Option (Path × Unit)) → find s.home ≡ o → o ≡ None
+        none : (o : Option (Path × UnitTree)) → find s.home ≡ o → o ≡ None
         none None e = refl
         none (Some h) e = absurd (is.unloaded h.1 (finder.found s.home h e).0)
 
-  told_refused : (m : Path) (x : Name) (r : Refusal) (o : Outcome) → Tells modules m x o → RefusedFor o r
+  told_refused : (m : Path) (x : Name) (r : LoadError) (o : Outcome) → Tells modules m x o → RefusedFor o r
       → (target : Symbol) × ((IsMissing modules m x target × (r ≡ missing_decl target.home target.name)) ⊎ (IsPrivate modules m x target × (r ≡ is_private target.home target.name)))
   told_refused m x r (symbol_at n k) told why = absurd why
   told_refused m x r (unloaded s) told why = absurd why
@@ -113,7 +113,7 @@ module _ (modules : Modules) (find : Loaded) (finder : IsFinder modules find) wh
 
   module _ (root : Path) (keep : List Name) where
     -- a declaration that is reached, by its place
-    pub declared_reached : {s : Symbol} → Reached modules root keep s → (u : Unit) → IsModule modules s.home u → Declares u s.name
+    pub declared_reached : {s : Symbol} → Reached modules root keep s → (u : UnitTree) → IsModule modules s.home u → Declares u s.name
         → (j : ℕ) × StandsAt modules s.home j s × ReachedAt find root keep s.home j
     declared_reached (spec.kept {x} c) u is has =
         let t = sought_at modules find finder (record { home = root; name = x }) u is has in
@@ -127,7 +127,7 @@ module _ (modules : Modules) (find : Loaded) (finder : IsFinder modules find) wh
         (found.0, found.2, onto from.2 here (subst (λ k. slice_get is.unit.declarations k ≡ Some d) place p.1) c found.1)
 
     module _ (held : Holding) where
-      missing_refused : HoldsReached find root keep held → (m : Path) (d o : ℕ) (r : Refusal) → IsMissingAt find held m d o r → IsRefusedAt modules root keep m d o r
+      missing_refused : HoldsReached find root keep held → (m : Path) (d o : ℕ) (r : LoadError) → IsMissingAt find held m d o r → IsRefusedAt modules root keep m d o r
       missing_refused sound m d o r at =
           let found = finder.found m at.home at.is_found in
           let s = reached_there modules find finder root keep (sound m d at.is_held) in
@@ -145,7 +145,7 @@ module _ (modules : Modules) (find : Loaded) (finder : IsFinder modules find) wh
             why = subst (λ p. (IsMissing modules p at.name why.0 × (r ≡ missing_decl why.0.home why.0.name)) ⊎ (IsPrivate modules p at.name why.0 × (r ≡ is_private why.0.home why.0.name))) found.1 why.1;
           }
 
-      refused_missing : HoldsAllReached find root keep held → (m : Path) (d o : ℕ) (r : Refusal) → IsRefusedAt modules root keep m d o r → IsMissingAt find held m d o r
+      refused_missing : HoldsAllReached find root keep held → (m : Path) (d o : ℕ) (r : LoadError) → IsRefusedAt modules root keep m d o r → IsMissingAt find held m d o r
       refused_missing whole m d o r at =
           let here : find m ≡ Some (m, at.unit) = finder.finds m at.unit at.is_module in
           let has : Declares at.unit (declared_name at.stands) = to_contains (map declared_name at.unit.declarations) d (declared_name at.stands) (get_map declared_name at.unit.declarations d at.stands at.is_there) in
@@ -165,7 +165,7 @@ module _ (modules : Modules) (find : Loaded) (finder : IsFinder modules find) wh
                 at.why;
           }
 
-      pub first_refused : HoldsReached find root keep held → HoldsAllReached find root keep held → (r : Refusal) → IsFirstMissing find held r → IsFirstRefused modules root keep r
+      pub first_refused : HoldsReached find root keep held → HoldsAllReached find root keep held → (r : LoadError) → IsFirstMissing find held r → IsFirstRefused modules root keep r
       first_refused sound whole r first = record {
         home = first.home;
         declaration = first.declaration;
@@ -178,7 +178,7 @@ module _ (modules : Modules) (find : Loaded) (finder : IsFinder modules find) wh
       none_refused whole none m d o r at = none m d o r (refused_missing whole m d o r at)
 
 -- where it is not noted that something is missing, nothing is
-handled_present : (s : Stage) (o : Outcome) (r : Refusal) → s.is_missing ≡ false → Handled s o → RefusedFor o r → ⊥
+handled_present : (s : Stage) (o : Outcome) (r : LoadError) → s.is_missing ≡ false → Handled s o → RefusedFor o r → ⊥
 handled_present s (symbol_at m k) r sure h why = why
 handled_present s (unloaded t) r sure h why = why
 handled_present s (missing t) r sure h why = let both : false ≡ true = sym sure ∙ h in absurd (cc)
@@ -193,7 +193,7 @@ none_missing find s sure all m d o r at =
 -- ---- the kept names of the root
 
 -- a name that is found in a loaded module is declared there, and the other way round
-name_declared : (h : Path × Unit) (s : Symbol) (m : Path) (place : ℕ) → item_at s (Some h) ≡ symbol_at m place → Declares h.1 s.name
+name_declared : (h : Path × UnitTree) (s : Symbol) (m : Path) (place : ℕ) → item_at s (Some h) ≡ symbol_at m place → Declares h.1 s.name
 name_declared h s m place e = at (known h.1 s.name) refl e
   where
     at : (o : Option Known) → known h.1 s.name ≡ o → item_in h.0 s o ≡ symbol_at m place → Declares h.1 s.name
@@ -202,7 +202,7 @@ name_declared h s m place e = at (known h.1 s.name) refl e
     at (Some (imported t)) is f = absurd (cc)
     at (Some (bare y)) is f = absurd (cc)
 
-pub first_unkept : (modules : Modules) (find : Loaded) → IsFinder modules find → (sources : Sources) (root : Path) (keep : List Name) (max : ℕ) (h : Path × Unit) (x : Name) → find root ≡ Some h
+pub first_unkept : (modules : Modules) (find : Loaded) → IsFinder modules find → (sources : Sources) (root : Path) (keep : List Name) (max : ℕ) (h : Path × UnitTree) (x : Name) → find root ≡ Some h
     → IsFirstUndeclared find root keep x → IsFirstUnkept sources root keep max h.1 x
 first_unkept modules find finder sources root keep max h x here first = record {
   before = first.before;
@@ -368,6 +368,6 @@ module _ (modules : Modules) (ms : LoadedModules) (finder : IsFinder modules (lo
       (none_missing (loaded ms) (stage held (asks asked) false []) refl closed.followed)
 
 -- what a closing is refused for is the first that is refused
-pub stopped_refused : (modules : Modules) (ms : LoadedModules) → IsFinder modules (loaded ms) → (root : Path) (keep : List Name) (held : HeldNames) (r : Refusal) → IsStopped ms root keep held r
+pub stopped_refused : (modules : Modules) (ms : LoadedModules) → IsFinder modules (loaded ms) → (root : Path) (keep : List Name) (held : HeldNames) (r : LoadError) → IsStopped ms root keep held r
     → IsFirstRefused modules root keep r
 stopped_refused modules ms finder root keep held r stopped = first_refused modules (loaded ms) finder root keep (held_at held) stopped.sound stopped.whole r stopped.first

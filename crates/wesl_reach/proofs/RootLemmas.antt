@@ -5,9 +5,9 @@ use Rattle.std.specs.Ordering.{nat_cmp, is_eq}
 use Rattle.std.specs.Cmp.Lexicographic.{slice_cmp}
 use Rattle.std.specs.Map.{lookup}
 use Rattle.std.specs.BTreeMap.{get_by_text}
-use Rattle.wesl_sources.specs.Occurrences.{Name}
-use Rattle.wesl_sources.specs.Modules.{Path}
-use Rattle.wesl_sources.specs.Rounds.{missing_decl}
+use Rattle.wesl_link_spec.specs.Occurrences.{Name}
+use Rattle.wesl_link_spec.specs.Modules.{Path}
+use Rattle.wesl_link_spec.specs.Rounds.{missing_decl}
 use Rattle.wesl_scopes.specs.declared.error.ImportError.{ImportError}
 use Rattle.wesl_scopes.specs.Outcomes.{symbol_at, Loaded, item_at, loaded}
 use Rattle.wesl_scopes.proofs.ScopeLemmas.{from_contains}
@@ -15,13 +15,13 @@ use Rattle.wesl_reach.specs.declared.linking.Linking.{Linking}
 use Rattle.wesl_reach.specs.Stages.{AskedNames, name_asked}
 use Rattle.wesl_reach.specs.Closing.{HeldNames}
 use Rattle.wesl_reach.specs.Closed.{HoldsNothing, IsFirstUndeclared, RefusesRoot}
-use Rattle.wesl_reach.specs.Underway.{NamesAll, IsInOrder, LacksKept}
+use Rattle.wesl_reach.specs.Underway.{NamesAll, IsConsistent, LacksKept}
 use Rattle.wesl_reach.proofs.StageLemmas.{KeptBelow}
 
 pub names_nothing : (l : Linking) (held : HeldNames) → HoldsNothing held → NamesAll l held
 names_nothing l held nothing m place y e = let both : None ≡ Some y = sym (nothing m place) ∙ e in absurd (cc)
 
-pub asks_nothing : (l : Linking) (held : HeldNames) (asked : AskedNames) → asked.entries ≡ [] → NamesAll l held → IsInOrder l held asked
+pub asks_nothing : (l : Linking) (held : HeldNames) (asked : AskedNames) → asked.entries ≡ [] → NamesAll l held → IsConsistent l held asked
 asks_nothing l held asked empty named = record {
   named = named;
   asked_at = λ s e. let both : false ≡ true = ap (λ o. name_asked o s.name) (sym (none s.home)) ∙ e in absurd (cc);

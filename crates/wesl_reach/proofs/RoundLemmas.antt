@@ -1,19 +1,19 @@
 -- What stays when more modules are loaded: for the rounds behind the root's.
 use Rattle.std.proofs.Common.{◌≡◌, refl, sym, ap, ◌∙◌, subst, ℕ, List, true, false, Option, Some, None}
 use Rattle.std.specs.Option.{IsSome}
-use Rattle.wgsl_syntax.specs.Tree.{Unit}
-use Rattle.wesl_sources.specs.Occurrences.{Name}
-use Rattle.wesl_sources.specs.Modules.{Path, Symbol}
+use Rattle.wgsl_syntax.specs.Tree.{UnitTree}
+use Rattle.wesl_link_spec.specs.Occurrences.{Name}
+use Rattle.wesl_link_spec.specs.Modules.{Path, Symbol}
 use Rattle.wesl_scopes.specs.Meanings.{Known, declared, imported, bare, known}
 use Rattle.wesl_scopes.specs.Outcomes.{Outcome, symbol_at, unloaded, missing, private, free, Loaded, item_in, item_at, meant_as}
 use Rattle.wesl_reach.specs.Reach.{ReachedAt, kept, onto}
 use Rattle.wesl_reach.specs.Following.{Stage, Handled, IsFollowed}
 
 abbrev pub Grows : Loaded → Loaded → Type 0
-Grows find more = (p : Path) (h : Path × Unit) → find p ≡ Some h → more p ≡ Some h
+Grows find more = (p : Path) (h : Path × UnitTree) → find p ≡ Some h → more p ≡ Some h
 
 module _ (find more : Loaded) (grows : Grows find more) where
-  pub item_grown : (t : Symbol) (m : Path) (k : ℕ) (o : Option (Path × Unit)) → find t.home ≡ o → item_at t o ≡ symbol_at m k → item_at t (more t.home) ≡ symbol_at m k
+  pub item_grown : (t : Symbol) (m : Path) (k : ℕ) (o : Option (Path × UnitTree)) → find t.home ≡ o → item_at t o ≡ symbol_at m k → item_at t (more t.home) ≡ symbol_at m k
   item_grown t m k None is e = absurd (cc)
   item_grown t m k (Some h) is e = ap (item_at t) (grows t.home h is) ∙ e
 
@@ -43,7 +43,7 @@ module _ (find more : Loaded) (grows : Grows find more) where
     in_loaded m u v (Some (imported w)) e = absurd (cc)
     in_loaded m u v (Some (bare w)) e = absurd (cc)
 
-    item_handled : (u : Symbol) (o : Option (Path × Unit)) → find u.home ≡ o → Handled s (item_at u o) → Handled t (item_at u (more u.home))
+    item_handled : (u : Symbol) (o : Option (Path × UnitTree)) → find u.home ≡ o → Handled s (item_at u o) → Handled t (item_at u (more u.home))
     item_handled u None is h = sought u h
     item_handled u (Some g) is h =
         subst (λ o. Handled t (item_at u o)) (sym (grows u.home g is)) (handled_same (item_in g.0 u (known g.1 u.name)) (λ v e. in_loaded g.0 u v (known g.1 u.name) e) h)
@@ -54,7 +54,7 @@ module _ (find more : Loaded) (grows : Grows find more) where
     meant_handled home (Some (imported u)) h = item_handled u.1 (find u.1.home) refl h
     meant_handled home (Some (bare y)) h = let both : false ≡ true = sym sure ∙ h in absurd (cc)
 
-    pub followed_grown : (m : Path) (k : ℕ) (g : Path × Unit) → find m ≡ Some g → IsFollowed find s m k → IsFollowed more t m k
+    pub followed_grown : (m : Path) (k : ℕ) (g : Path × UnitTree) → find m ≡ Some g → IsFollowed find s m k → IsFollowed more t m k
     followed_grown m k g loaded f h d x is there c =
         let both : Some h ≡ Some g = sym is ∙ grows m g loaded in
         let same : g ≡ h = (let e : h ≡ g = cc in sym e) in

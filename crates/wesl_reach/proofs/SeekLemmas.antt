@@ -3,8 +3,8 @@ use Rattle.std.proofs.Common.{◌≡◌, refl, sym, ap, ◌∙◌, subst, zero, 
 use Rattle.std.specs.Option.{option_map}
 use Rattle.std.specs.List.{Contains}
 use Rattle.std.proofs.lemmas.List.{append-nil}
-use Rattle.wesl_sources.specs.Occurrences.{Name}
-use Rattle.wesl_sources.specs.Modules.{Path, Symbol}
+use Rattle.wesl_link_spec.specs.Occurrences.{Name}
+use Rattle.wesl_link_spec.specs.Modules.{Path, Symbol}
 use Rattle.wesl_scopes.specs.declared.denote.Symbol.{Symbol as Place}
 use Rattle.wesl_scopes.specs.declared.denote.Item.{Item}
 use Rattle.wesl_scopes.specs.declared.denote.Item.TheVariants as item

@@ -14,9 +14,9 @@ use Rattle.std.specs.declared.alloc.Global.{Global}
 use Rattle.wesl_reach.specs.declared.linking.AskedModule.{AskedModule}
 use Rattle.std.proofs.lemmas.List.{map-append, append-nil}
 use denote.Ref.{Bor}
-use Rattle.wgsl_syntax.specs.Tree.{Decl, Unit}
-use Rattle.wesl_sources.specs.Occurrences.{Name, occurrences}
-use Rattle.wesl_sources.specs.Modules.{Path, Symbol}
+use Rattle.wgsl_syntax.specs.Tree.{Decl, UnitTree}
+use Rattle.wesl_link_spec.specs.Occurrences.{Name, occurrences}
+use Rattle.wesl_link_spec.specs.Modules.{Path, Symbol}
 use Rattle.wesl_scopes.specs.declared.denote.Symbol.{Symbol as Place}
 use Rattle.wesl_rename.specs.Scopes.{texts}
 use Rattle.wesl_scopes.specs.Outcomes.{Loaded, outcome}
@@ -68,13 +68,13 @@ moves_more old new asked missing xs ys s name holds e = record {
     from m k false c is here h = inl h
 
 -- the occurrences below an index are handled
-abbrev pub HandledBelow : Loaded → Stage → Path × Unit → List (Bor (List ℕ)) → ℕ → Type 0
+abbrev pub HandledBelow : Loaded → Stage → Path × UnitTree → List (Bor (List ℕ)) → ℕ → Type 0
 HandledBelow find s h names n = (i : ℕ) (x : Name) → i < n → slice_get (texts names) i ≡ Some x → Handled s (outcome find h x)
 
-pub none_below : (find : Loaded) (s : Stage) (h : Path × Unit) (names : List (Bor (List ℕ))) → HandledBelow find s h names 0
+pub none_below : (find : Loaded) (s : Stage) (h : Path × UnitTree) (names : List (Bor (List ℕ))) → HandledBelow find s h names 0
 none_below find s h names i x less is = absurd (omega arith)
 
-pub one_below : (find : Loaded) (s t : Stage) (h : Path × Unit) (names : List (Bor (List ℕ))) (n : ℕ) (x : Name) → slice_get (texts names) n ≡ Some x
+pub one_below : (find : Loaded) (s t : Stage) (h : Path × UnitTree) (names : List (Bor (List ℕ))) (n : ℕ) (x : Name) → slice_get (texts names) n ≡ Some x
     → Moves s t → HandledBelow find s h names n → Handled t (outcome find h x) → HandledBelow find t h names (n + 1)
 one_below find s t h names n x is moves below now i y less there = ⊎_elim
     (λ before. handled_moves s t (outcome find h y) moves (below i y before there))
@@ -84,19 +84,19 @@ one_below find s t h names n x is moves below now i y less there = ⊎_elim
     either : (i n : ℕ) → i < n + 1 → (i < n) ⊎ (i ≡ n)
     either i n h = grind arith
 
-pub followed_below : (find : Loaded) (s : Stage) (m : Path) (k : ℕ) (h : Path × Unit) (d : Decl) (names : List (Bor (List ℕ))) (n : ℕ)
+pub followed_below : (find : Loaded) (s : Stage) (m : Path) (k : ℕ) (h : Path × UnitTree) (d : Decl) (names : List (Bor (List ℕ))) (n : ℕ)
     → find m ≡ Some h → slice_get h.1.declarations k ≡ Some d → texts names ≡ occurrences d → length names ≤ n → HandledBelow find s h names n → IsFollowed find s m k
 followed_below find s m k h d names n here there whole all below g e x is at c =
     let both : Some h ≡ Some g = sym here ∙ is in
     let same : h ≡ g = cc in
-    let at_home : slice_get h.1.declarations k ≡ Some e = subst (λ (f : Path × Unit). slice_get f.1.declarations k ≡ Some e) (sym same) at in
+    let at_home : slice_get h.1.declarations k ≡ Some e = subst (λ (f : Path × UnitTree). slice_get f.1.declarations k ≡ Some e) (sym same) at in
     let two : Some d ≡ Some e = sym there ∙ at_home in
     let declared : d ≡ e = cc in
     let p = from_contains (occurrences d) x (subst (λ f. Contains (occurrences f) x) (sym declared) c) in
     let found : slice_get (texts names) p.0 ≡ Some x = ap (λ l. slice_get l p.0) whole ∙ p.1 in
     let inside = map_get (λ (t : Bor (List ℕ)). t.now) names p.0 x found in
     let less : p.0 < n = (let within : p.0 < length names = slice_get_within names p.0 inside.0 inside.1 in omega arith) in
-    subst (λ (f : Path × Unit). Handled s (outcome find f x)) same (below p.0 x less found)
+    subst (λ (f : Path × UnitTree). Handled s (outcome find f x)) same (below p.0 x less found)
 
 pub place_there : (xs ys : List Place) (at : ℕ) (x : Place) → xs ≡ ys → at < length xs → x ≡ get_or xs at x → slice_get (map place_of ys) at ≡ Some (place_of x)
 place_there xs ys at x same less is = ap (λ l. slice_get (map place_of l) at) (sym same) ∙ get_map place_of xs at x (at_place xs at x less (sym is))
@@ -105,11 +105,11 @@ pub text_there : (names : List (Bor (List ℕ))) (xs : List (Bor (List ℕ))) (i
 text_there names xs i d same less =
     ap (λ l. slice_get (texts l) i) (sym same) ∙ get_map (λ (t : Bor (List ℕ)). t.now) xs i (get_or xs i d) (at_default xs i d less)
 
-pub none_there : (find : Loaded) (s : Stage) (m : Path) (k : ℕ) (g : Path × Unit) → find m ≡ Some g → slice_get g.1.declarations k ≡ None → IsFollowed find s m k
+pub none_there : (find : Loaded) (s : Stage) (m : Path) (k : ℕ) (g : Path × UnitTree) → find m ≡ Some g → slice_get g.1.declarations k ≡ None → IsFollowed find s m k
 none_there find s m k g here none h d x is there c =
     let both : Some g ≡ Some h = sym here ∙ is in
     let same : g ≡ h = cc in
-    let two : None ≡ Some d = sym none ∙ subst (λ (f : Path × Unit). slice_get f.1.declarations k ≡ Some d) (sym same) there in
+    let two : None ≡ Some d = sym none ∙ subst (λ (f : Path × UnitTree). slice_get f.1.declarations k ≡ Some d) (sym same) there in
     absurd (cc)
 
 -- ---- one more item that is asked for

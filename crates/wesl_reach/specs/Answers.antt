@@ -1,10 +1,10 @@
 -- What loading answers.
 use Rattle.std.specs.Prelude.{◌≡◌, ⊤, ℕ, List, Option, Some, None, Result, Ok, Err, string_bytes}
-use Rattle.wesl_sources.specs.Occurrences.{Name}
-use Rattle.wesl_sources.specs.Modules.{Path, Modules}
-use Rattle.wesl_sources.specs.Named.{AreNamedByImports}
-use Rattle.wesl_sources.specs.Rounds.{Sources, Refusal, ComesTo}
-use Rattle.wesl_sources.specs.Same.{SameModules}
+use Rattle.wesl_link_spec.specs.Occurrences.{Name}
+use Rattle.wesl_link_spec.specs.Modules.{Path, Modules}
+use Rattle.wesl_link_spec.specs.Named.{AreNamedByImports}
+use Rattle.wesl_link_spec.specs.Rounds.{Sources, LoadError, IsLoadingResult}
+use Rattle.wesl_link_spec.specs.Same.{SameModules}
 use Rattle.wesl_scopes.specs.declared.error.ImportError.{ImportError}
 use Rattle.wesl_reach.specs.declared.rounds.Reached.{Reached}
 use Rattle.wesl_reach.specs.Missing.{refusal_of}
@@ -16,14 +16,14 @@ module _ (sources : Sources) (root : Path) (keep : List Name) (max : ℕ) where
   pub record AreLoadedTables (ms : LoadedModules) (held : HeldNames) : Type 0 where
     pub resolved : IsResolved ms root keep held
     pub modules : Modules
-    pub loaded : ComesTo sources root keep max (Ok modules)
+    pub loaded : IsLoadingResult sources root keep max (Ok modules)
     pub same : SameModules modules (modules_of ms)
     pub named : AreNamedByImports modules root
 
   -- the refusal that loading comes to, where one is told
-  abbrev pub Refuses : Option Refusal → Type 0
+  abbrev pub Refuses : Option LoadError → Type 0
   Refuses None = ⊤
-  Refuses (Some r) = ComesTo sources root keep max (Err r)
+  Refuses (Some r) = IsLoadingResult sources root keep max (Err r)
 
   -- memory aside
   abbrev pub Loading : Result Reached ImportError → Type 0

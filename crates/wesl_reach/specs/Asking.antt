@@ -2,11 +2,11 @@
 use Rattle.std.specs.Prelude.{◌≡◌, ◌⊎◌, ℕ, ◌<◌, List, [], ◌∷◌, ◌++◌, length, Result, Ok, Err}
 use Rattle.std.specs.List.{Contains}
 use Rattle.wesl_resolve.specs.Found.{Asked, HasAsked}
-use Rattle.wesl_sources.specs.Occurrences.{Name}
-use Rattle.wesl_sources.specs.Modules.{Path, Modules}
-use Rattle.wesl_sources.specs.Named.{AreNamedByImports}
-use Rattle.wesl_sources.specs.Rounds.{Sources, AreDistinct, ComesTo}
-use Rattle.wesl_sources.specs.Asks.{printed_paths, AsksAmong, AsksFrom, Asks}
+use Rattle.wesl_link_spec.specs.Occurrences.{Name}
+use Rattle.wesl_link_spec.specs.Modules.{Path, Modules}
+use Rattle.wesl_link_spec.specs.Named.{AreNamedByImports}
+use Rattle.wesl_link_spec.specs.Rounds.{Sources, AreDistinct, IsLoadingResult}
+use Rattle.wesl_link_spec.specs.Asks.{printed_paths, AsksAmong, AsksFrom, Asks}
 use Rattle.wesl_scopes.specs.Meanings.{Done}
 use Rattle.wesl_scopes.specs.declared.error.ImportError.{ImportError}
 use Rattle.wesl_reach.specs.declared.rounds.Reached.{Reached}
@@ -55,7 +55,7 @@ module _ (sources : Sources) (root : Path) (keep : List Name) (max : ℕ) where
   -- they are those of the loaded modules behind the root, in order
   pub record AreThoseLoaded (before after : Asked) : Type 0 where
     pub modules : Modules
-    pub loaded : ComesTo sources root keep max (Ok modules)
+    pub loaded : IsLoadingResult sources root keep max (Ok modules)
     pub named : AreNamedByImports modules root
     pub behind : List Path
     pub are : printed_paths modules ≡ root ∷ behind

@@ -6,13 +6,13 @@ use Rattle.std.specs.Str.{bytes_eq}
 use Rattle.std.specs.BTreeMap.{get_by_text}
 use Rattle.wgsl_path.specs.declared.path.ModulePath.{ModulePath}
 use Rattle.wgsl_path.specs.Paths.{path_text}
-use Rattle.wgsl_syntax.specs.Tree.{Decl, Unit}
+use Rattle.wgsl_syntax.specs.Tree.{Decl, UnitTree}
 use Rattle.wgsl_syntax.specs.View.{unit_tree}
 use Rattle.wesl_resolve.specs.Mangling.{mangled}
-use Rattle.wesl_sources.specs.Occurrences.{Name, occurrences, declared_name}
-use Rattle.wesl_sources.specs.Modules.{Path, Symbol}
-use Rattle.wesl_sources.specs.Named.{HasImportOf}
-use Rattle.wesl_sources.specs.Rounds.{Refusal, missing_decl}
+use Rattle.wesl_link_spec.specs.Occurrences.{Name, occurrences, declared_name}
+use Rattle.wesl_link_spec.specs.Modules.{Path, Symbol}
+use Rattle.wesl_link_spec.specs.Named.{HasImportOf}
+use Rattle.wesl_link_spec.specs.Rounds.{LoadError, missing_decl}
 use Rattle.wesl_scopes.specs.declared.error.ImportError.{ImportError}
 use Rattle.wesl_scopes.specs.declared.error.ImportError.TheVariants.{OutOfMemory}
 use Rattle.wesl_scopes.specs.declared.module.Module.{Module}
@@ -44,7 +44,7 @@ pub record IsAskedAt (find : Loaded) (root : Path) (keep : List Name) (s : Symbo
   pub home : Path
   pub place : ℕ
   pub reached : ReachedAt find root keep home place
-  pub there : Path × Unit
+  pub there : Path × UnitTree
   pub found : find home ≡ Some there
   pub declaration : Decl
   pub stands : slice_get there.1.declarations place ≡ Some declaration
@@ -100,7 +100,7 @@ pub record IsFirstUndeclared (find : Loaded) (root : Path) (keep : List Name) (x
   pub undeclared : (m : Path) (place : ℕ) → item_at (record { home = root; name = x }) (find root) ≡ symbol_at m place → ⊥
 
 -- the first occurrence in what is reached that denotes nothing
-pub record IsStopped (ms : LoadedModules) (root : Path) (keep : List Name) (held : HeldNames) (r : Refusal) : Type 0 where
+pub record IsStopped (ms : LoadedModules) (root : Path) (keep : List Name) (held : HeldNames) (r : LoadError) : Type 0 where
   pub sound : HoldsReached (loaded ms) root keep (held_at held)
   pub whole : HoldsAllReached (loaded ms) root keep (held_at held)
   pub kept : KeepsAll (loaded ms) root keep (held_at held)
@@ -108,9 +108,9 @@ pub record IsStopped (ms : LoadedModules) (root : Path) (keep : List Name) (held
 
 -- what a closing is refused for, memory aside
 abbrev pub RefusesClosing : LoadedModules → Path → List Name → HeldNames → ImportError → Type 0
-RefusesClosing ms root keep held e = (e ≡ OutOfMemory) ⊎ ((r : Refusal) × (refusal_of e ≡ Some r) × IsStopped ms root keep held r)
+RefusesClosing ms root keep held e = (e ≡ OutOfMemory) ⊎ ((r : LoadError) × (refusal_of e ≡ Some r) × IsStopped ms root keep held r)
 
 -- likewise in the root's round, where a kept name may be missing
 abbrev pub RefusesRoot : LoadedModules → Path → List Name → HeldNames → ImportError → Type 0
 RefusesRoot ms root keep held e =
-    RefusesClosing ms root keep held e ⊎ ((x : Name) × IsFirstUndeclared (loaded ms) root keep x × ((r : Refusal) × (refusal_of e ≡ Some r) × (r ≡ missing_decl root x)))
+    RefusesClosing ms root keep held e ⊎ ((x : Name) × IsFirstUndeclared (loaded ms) root keep x × ((r : LoadError) × (refusal_of e ≡ Some r) × (r ≡ missing_decl root x)))

@@ -7,8 +7,8 @@ use Rattle.std.specs.Ordering.{nat_cmp}
 use Rattle.std.specs.BTreeMap.{BTreeMap, get, get_by_text}
 use Rattle.std.specs.declared.string.String.{String}
 use Rattle.std.specs.declared.alloc.Global.{Global}
-use Rattle.wesl_sources.specs.Occurrences.{Name}
-use Rattle.wesl_sources.specs.Modules.{Path}
+use Rattle.wesl_link_spec.specs.Occurrences.{Name}
+use Rattle.wesl_link_spec.specs.Modules.{Path}
 use Rattle.wesl_scopes.specs.Outcomes.{loaded}
 use Rattle.wesl_reach.specs.Reach.{ReachedAt}
 use Rattle.wesl_scopes.specs.declared.denote.Symbol.{Symbol as Found}
@@ -34,7 +34,7 @@ abbrev pub LeadsTo : Linking → Path → ℕ → Type 0
 LeadsTo l m place = ReachedAt (loaded l.modules.now) l.root.now l.keep.now m place
 
 abbrev pub IsReached : Linking → Found → Type 0
-IsReached l s = LeadsTo l (string_bytes s.«module».now.text) s.place
+IsReached l s = LeadsTo l (string_bytes s.«module».now.printed_path) s.place
 
 -- nothing is held but what is reached
 abbrev pub AllReached : Linking → HeldNames → Type 0

@@ -2,9 +2,9 @@
 use Rattle.std.specs.Prelude.{◌≡◌, ℕ, ◌≤◌, ◌⊎◌, List, ◌++◌, length, Bool, true, Some, slice_get}
 use Rattle.std.specs.Option.{IsSome}
 use Rattle.std.specs.List.{Contains}
-use Rattle.wgsl_syntax.specs.Tree.{Decl, Unit}
-use Rattle.wesl_sources.specs.Occurrences.{Name, occurrences}
-use Rattle.wesl_sources.specs.Modules.{Path, Symbol}
+use Rattle.wgsl_syntax.specs.Tree.{Decl, UnitTree}
+use Rattle.wesl_link_spec.specs.Occurrences.{Name, occurrences}
+use Rattle.wesl_link_spec.specs.Modules.{Path, Symbol}
 use Rattle.wesl_scopes.specs.Outcomes.{Outcome, symbol_at, unloaded, missing, private, free, Loaded, outcome}
 use Rattle.wesl_reach.specs.Reach.{Holding}
 
@@ -25,7 +25,7 @@ Handled s free = Prim.Unit {0}
 
 -- every occurrence in the declaration at a place is handled
 abbrev pub IsFollowed : Loaded → Stage → Path → ℕ → Type 0
-IsFollowed find s m k = (h : Path × Unit) (d : Decl) (x : Name) → find m ≡ Some h → slice_get h.1.declarations k ≡ Some d → Contains (occurrences d) x → Handled s (outcome find h x)
+IsFollowed find s m k = (h : Path × UnitTree) (d : Decl) (x : Name) → find m ≡ Some h → slice_get h.1.declarations k ≡ Some d → Contains (occurrences d) x → Handled s (outcome find h x)
 
 -- this place was reached, at this index or later
 abbrev pub IsLater : ℕ → List (Path × ℕ) → Path → ℕ → Type 0
@@ -57,4 +57,4 @@ IsPresent free = Prim.Unit {0}
 
 -- nothing is missing in the declaration at a place
 abbrev pub ArePresent : Loaded → Path → ℕ → Type 0
-ArePresent find m k = (h : Path × Unit) (d : Decl) (x : Name) → find m ≡ Some h → slice_get h.1.declarations k ≡ Some d → Contains (occurrences d) x → IsPresent (outcome find h x)
+ArePresent find m k = (h : Path × UnitTree) (d : Decl) (x : Name) → find m ≡ Some h → slice_get h.1.declarations k ≡ Some d → Contains (occurrences d) x → IsPresent (outcome find h x)

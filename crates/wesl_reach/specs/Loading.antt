@@ -5,13 +5,13 @@ use Rattle.std.specs.String.{string_cmp}
 use Rattle.std.specs.BTreeMap.{get_by_text, IsOrdered}
 use Rattle.wgsl_path.specs.declared.path.ModulePath.{ModulePath}
 use Rattle.wgsl_path.specs.Paths.{path_text}
-use Rattle.wgsl_syntax.specs.Tree.{Unit}
+use Rattle.wgsl_syntax.specs.Tree.{UnitTree}
 use Rattle.wgsl_syntax.specs.View.{unit_tree}
 use Rattle.wesl_resolve.specs.Found.{unit_of}
-use Rattle.wesl_sources.specs.Occurrences.{Name}
-use Rattle.wesl_sources.specs.Modules.{Path, Modules, IsModule}
-use Rattle.wesl_sources.specs.Rounds.{Sources, Refusal, scope_names, AreDistinct, Loads, Goes, ComesTo}
-use Rattle.wesl_sources.specs.Same.{SameModules}
+use Rattle.wesl_link_spec.specs.Occurrences.{Name}
+use Rattle.wesl_link_spec.specs.Modules.{Path, Modules, IsModule}
+use Rattle.wesl_link_spec.specs.Rounds.{Sources, LoadError, scope_names, AreDistinct, Loads, LoadsRounds, IsLoadingResult}
+use Rattle.wesl_link_spec.specs.Same.{SameModules}
 use Rattle.wesl_scopes.specs.Meanings.{Done}
 use Rattle.wesl_scopes.specs.declared.error.ImportError.{ImportError}
 use Rattle.wesl_scopes.specs.declared.module.Module.{Module}
@@ -43,7 +43,7 @@ IsOldOrAsked old asked p m = (get_by_text old p ≡ Some m) ⊎ ((a : AskedModul
 
 module _ (sources : Sources) (max : ℕ) where
   -- the refusal of the first of these paths that is refused, where one is told
-  abbrev pub RefusesLoading : ℕ → List Path → Option Refusal → Type 0
+  abbrev pub RefusesLoading : ℕ → List Path → Option LoadError → Type 0
   RefusesLoading n ps None = ⊤
   RefusesLoading n ps (Some r) = Loads sources max n ps (Err r)
 
@@ -80,9 +80,9 @@ module _ (sources : Sources) (max : ℕ) where
   pub record IsRoundEnd (root : Path) (keep : List Name) (r : Reached) (asked : AskedNames) (n : ℕ) : Type 0 where
     pub modules : Modules
     pub tabled : AreTabled r.modules modules
-    pub unit : Unit
+    pub unit : UnitTree
     pub rooted : IsModule modules root unit
     pub closed : IsClosed r.modules root keep r.held asked
     pub named : AreNamedInTable r.modules root
     pub many : n ≤ length modules
-    pub goes : (o : Result Modules Refusal) → Goes sources root keep max modules o → ComesTo sources root keep max o
+    pub goes : (o : Result Modules LoadError) → LoadsRounds sources root keep max modules o → IsLoadingResult sources root keep max o

@@ -5,10 +5,10 @@ use Rattle.std.specs.BTreeMap.{BTreeMap, get_by_text}
 use Rattle.std.specs.declared.string.String.{String}
 use Rattle.std.specs.declared.alloc.Global.{Global}
 use Rattle.wgsl_syntax.specs.View.{unit_tree}
-use Rattle.wesl_sources.specs.Occurrences.{Name}
-use Rattle.wesl_sources.specs.Modules as spec
-use Rattle.wesl_sources.specs.Modules.{Path, Symbol, Modules}
-use Rattle.wesl_sources.specs.Names.{IsPrinted}
+use Rattle.wesl_link_spec.specs.Occurrences.{Name}
+use Rattle.wesl_link_spec.specs.Modules as spec
+use Rattle.wesl_link_spec.specs.Modules.{Path, Symbol, Modules}
+use Rattle.wesl_link_spec.specs.Names.{IsPrinted}
 use Rattle.wesl_scopes.specs.declared.module.Module.{Module}
 use Rattle.wesl_scopes.specs.Outcomes.{Loaded, loaded}
 use Rattle.wesl_scopes.specs.Tells.{StandsAt}
@@ -24,7 +24,7 @@ modules_of ms = map (λ e. (e.1.path, unit_tree e.1.unit)) ms.entries
 
 -- each module stands under its own printed path
 abbrev pub IsKeyed : LoadedModules → Type 0
-IsKeyed ms = (p : Path) (m : Module) → get_by_text ms p ≡ Some m → string_bytes m.text ≡ p
+IsKeyed ms = (p : Path) (m : Module) → get_by_text ms p ≡ Some m → string_bytes m.printed_path ≡ p
 
 -- each place that is held has the printed name of what is declared there
 abbrev pub NamesHeld : Modules → Path → Holding → Type 0

@@ -6,8 +6,8 @@ use Rattle.std.specs.BTreeSet.{contains_by}
 use Rattle.std.specs.BTreeMap.{BTreeMap, get_by_text}
 use Rattle.std.specs.declared.string.String.{String}
 use Rattle.std.specs.declared.alloc.Global.{Global}
-use Rattle.wesl_sources.specs.Occurrences.{Name}
-use Rattle.wesl_sources.specs.Modules.{Path, Symbol}
+use Rattle.wesl_link_spec.specs.Occurrences.{Name}
+use Rattle.wesl_link_spec.specs.Modules.{Path, Symbol}
 use Rattle.wesl_scopes.specs.declared.denote.Symbol.{Symbol as Place}
 use Rattle.wesl_reach.specs.declared.linking.AskedModule.{AskedModule}
 use Rattle.wesl_reach.specs.Closing.{HeldNames, held_at}
@@ -25,7 +25,7 @@ abbrev pub asks : AskedNames → Symbol → Bool
 asks asked s = name_asked (get_by_text asked s.home) s.name
 
 abbrev pub place_of : Place → Path × ℕ
-place_of s = (string_bytes s.«module».now.text, s.place)
+place_of s = (string_bytes s.«module».now.printed_path, s.place)
 
 abbrev pub stage : HeldNames → (Symbol → Bool) → Bool → List Place → Stage
 stage held asks missing reached = record { held = held_at held; asks = asks; is_missing = missing; reached = map place_of reached }

@@ -7,9 +7,9 @@ use Rattle.std.specs.declared.string.String.{String}
 use Rattle.std.specs.declared.alloc.Global.{Global}
 use Rattle.wgsl_syntax.specs.Tree.{Decl}
 use Rattle.wgsl_syntax.specs.View.{unit_tree}
-use Rattle.wesl_sources.specs.Occurrences.{Name}
-use Rattle.wesl_sources.specs.Modules.{Path, Symbol}
-use Rattle.wesl_sources.specs.Rounds.{missing_decl}
+use Rattle.wesl_link_spec.specs.Occurrences.{Name}
+use Rattle.wesl_link_spec.specs.Modules.{Path, Symbol}
+use Rattle.wesl_link_spec.specs.Rounds.{missing_decl}
 use Rattle.wesl_scopes.specs.declared.error.ImportError.{ImportError}
 use Rattle.wesl_scopes.specs.declared.error.ImportError.TheVariants.{OutOfMemory}
 use Rattle.wesl_scopes.specs.declared.module.Module.{Module}
@@ -26,7 +26,7 @@ use Rattle.wesl_reach.specs.Closed.{AreNamed, AreAskedByName, AreAskedByImport, 
 
 -- a declaration of a module that stands under its own printed path
 pub record IsPlaced (ms : LoadedModules) (s : Place) : Type 0 where
-  pub home : get_by_text ms (string_bytes s.«module».now.text) ≡ Some s.«module».now
+  pub home : get_by_text ms (string_bytes s.«module».now.printed_path) ≡ Some s.«module».now
   pub declaration : Decl
   pub stands : slice_get (unit_tree s.«module».now.unit).declarations s.place ≡ Some declaration
 
@@ -35,7 +35,7 @@ abbrev pub NamesAll : Linking → HeldNames → Type 0
 NamesAll l held = AreNamed l.modules.now l.root.now (held_at held)
 
 -- what is held has its printed name, and what is asked for occurs in what is reached, is not loaded, and is named by an import
-pub record IsInOrder (l : Linking) (held : HeldNames) (asked : AskedNames) : Type 0 where
+pub record IsConsistent (l : Linking) (held : HeldNames) (asked : AskedNames) : Type 0 where
   pub named : NamesAll l held
   pub asked_at : (s : Symbol) → asks asked s ≡ true → IsAskedAt (loaded l.modules.now) l.root.now l.keep.now s
   pub by_name : AreAskedByName asked
@@ -45,14 +45,14 @@ pub record IsInOrder (l : Linking) (held : HeldNames) (asked : AskedNames) : Typ
 pub record IsUnderway (l : Linking) (held : HeldNames) (asked : AskedNames) (missing : Bool) (reached : List Place) : Type 0 where
   pub keyed : IsKeyed l.modules.now
   pub sound : IsSound l held reached
-  pub in_order : IsInOrder l held asked
+  pub in_order : IsConsistent l held asked
   pub kept : KeepsAll (loaded l.modules.now) l.root.now l.keep.now (held_at held)
   pub followed : FollowedTo (loaded l.modules.now) (stage held (asks asked) missing reached) 0
 
 -- what it comes to: all that is held is followed
-pub record IsWhole (l : Linking) (held : HeldNames) (asked : AskedNames) (missing : Bool) (reached : List Place) : Type 0 where
+pub record IsFinished (l : Linking) (held : HeldNames) (asked : AskedNames) (missing : Bool) (reached : List Place) : Type 0 where
   pub sound : AllReached l held
-  pub in_order : IsInOrder l held asked
+  pub in_order : IsConsistent l held asked
   pub kept : KeepsAll (loaded l.modules.now) l.root.now l.keep.now (held_at held)
   pub followed : AllFollowed (loaded l.modules.now) (stage held (asks asked) missing reached)
 

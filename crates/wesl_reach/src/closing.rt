@@ -7,8 +7,8 @@ ghost use Rattle.std.specs.Ordering.{nat_cmp};
 ghost use Rattle.std.specs.Str.{bytes_eq};
 ghost use Rattle.std.specs.BTreeMap.{get, get_by_text};
 ghost use Rattle.wgsl_syntax.specs.View.{unit_tree, declaration_tree};
-ghost use Rattle.wesl_sources.specs.Occurrences as spec;
-ghost use Rattle.wesl_sources.specs.Modules.{Path, Symbol as Sought};
+ghost use Rattle.wesl_link_spec.specs.Occurrences as spec;
+ghost use Rattle.wesl_link_spec.specs.Modules.{Path, Symbol as Sought};
 ghost use Rattle.wesl_scopes.specs.Outcomes.{loaded, home_of, outcome, item_at, IsInTable};
 ghost use Rattle.wesl_reach.specs.Following.{Moves, Handled, IsFollowed, FollowedTo, AllFollowed};
 ghost use Rattle.wesl_reach.specs.Reach.{KeepsAll, KeepsOne};
@@ -16,12 +16,12 @@ ghost use Rattle.wesl_reach.specs.Stages.{asks, name_asked, stage};
 ghost use Rattle.wgsl_path.specs.Paths.{path_text};
 ghost use Rattle.wesl_reach.specs.Resolved.{LoadedModules, IsKeyed};
 ghost use Rattle.wesl_reach.specs.Closed.{HoldsNothing, IsClosed, IsLoadedOn, RefusesClosing, RefusesRoot, AreAskedByName, AreAskedByImport, IsNamedInTable};
-ghost use Rattle.wesl_reach.specs.Underway.{IsPlaced, NamesAll, IsInOrder, IsUnderway, IsWhole, LeadsOn, IsSought, EachName, LacksKept};
+ghost use Rattle.wesl_reach.specs.Underway.{IsPlaced, NamesAll, IsConsistent, IsUnderway, IsFinished, LeadsOn, IsSought, EachName, LacksKept};
 ghost use Rattle.wesl_resolve.specs.Mangling.{mangled};
 ghost use Rattle.wgsl_syntax.specs.Tree.{Decl};
 ghost use Rattle.wesl_reach.specs.Closing.{IsReached, AllReached, IsSound, Holds, held_at};
 
-use crate::linking::{Asked, AskedModule, Held, Linking};
+use crate::linking::{Asked, AskedModule, HeldNames, Linking};
 use crate::missing::first_missing;
 use std::alloc::{AllocError, Global};
 use std::collections::{BTreeMap, BTreeSet};
@@ -61,7 +61,7 @@ pub fn close_root(
     alloc: Global,
     linking: &Linking<'_>,
     path: &ModulePath,
-    held: &mut Held,
+    held: &mut HeldNames,
 ) -> Result<Asked, ImportError>
     requires { AllReached linking.now held.old }
     ensures sound { OnOk result (AllReached linking.now held.new) }
@@ -83,7 +83,7 @@ fn reach_kept<'a>(
     linking: &Linking<'a>,
     path: &ModulePath,
     name: &Text,
-    held: &mut Held,
+    held: &mut HeldNames,
     reached: &mut Vec<Symbol<'a>>,
 ) -> Result<(), ImportError>
     requires keep { Contains linking.now.keep.now name.now }
@@ -106,7 +106,7 @@ pub fn close_asked(
     alloc: Global,
     linking: &Linking<'_>,
     asked: &Asked,
-    held: &mut Held,
+    held: &mut HeldNames,
 ) -> Result<Asked, ImportError>
     ensures closed { (old : LoadedModules) → IsKeyed linking.now.modules.now → IsClosed old linking.now.root.now linking.now.keep.now held.old asked.now → IsLoadedOn old asked.now linking.now.modules.now → IfOk result (λ more. IsClosed linking.now.modules.now linking.now.root.now linking.now.keep.now held.new more) }
     ensures refused { (old : LoadedModules) → IsKeyed linking.now.modules.now → IsClosed old linking.now.root.now linking.now.keep.now held.old asked.now → IsLoadedOn old asked.now linking.now.modules.now → IfErr result (RefusesClosing linking.now.modules.now linking.now.root.now linking.now.keep.now held.new) }
@@ -131,11 +131,11 @@ fn seek_all<'a>(
     linking: &Linking<'a>,
     text: &str,
     names: &BTreeSet<String>,
-    held: &mut Held,
+    held: &mut HeldNames,
     found: &mut Found<'a>,
 ) -> Result<(), AllocError>
     ensures sound { EachName (LeadsOn linking.now text.now) names.now → IsSound linking.now held.old found.old.reached.items → OnOk result (IsSound linking.now held.new found.new.reached.items) }
-    ensures in_order { IsKeyed linking.now.modules.now → IsInOrder linking.now held.old found.old.asked → OnOk result (IsInOrder linking.now held.new found.new.asked) }
+    ensures in_order { IsKeyed linking.now.modules.now → IsConsistent linking.now held.old found.old.asked → OnOk result (IsConsistent linking.now held.new found.new.asked) }
     ensures moves { OnOk result (Moves (stage held.old (asks found.old.asked) found.old.is_missing found.old.reached.items) (stage held.new (asks found.new.asked) found.new.is_missing found.new.reached.items)) }
     ensures handled { OnOk result (EachName (IsSought linking.now (stage held.new (asks found.new.asked) found.new.is_missing found.new.reached.items) text.now) names.now) }
 {
@@ -151,11 +151,11 @@ fn seek<'a>(
     linking: &Linking<'a>,
     text: &str,
     name: &str,
-    held: &mut Held,
+    held: &mut HeldNames,
     found: &mut Found<'a>,
 ) -> Result<(), AllocError>
     ensures sound { LeadsOn linking.now text.now name.now → IsSound linking.now held.old found.old.reached.items → OnOk result (IsSound linking.now held.new found.new.reached.items) }
-    ensures in_order { IsKeyed linking.now.modules.now → IsInOrder linking.now held.old found.old.asked → OnOk result (IsInOrder linking.now held.new found.new.asked) }
+    ensures in_order { IsKeyed linking.now.modules.now → IsConsistent linking.now held.old found.old.asked → OnOk result (IsConsistent linking.now held.new found.new.asked) }
     ensures moves { OnOk result (Moves (stage held.old (asks found.old.asked) found.old.is_missing found.old.reached.items) (stage held.new (asks found.new.asked) found.new.is_missing found.new.reached.items)) }
     ensures handled { OnOk result (IsSought linking.now (stage held.new (asks found.new.asked) found.new.is_missing found.new.reached.items) text.now name.now) }
 {
@@ -172,7 +172,7 @@ fn seek<'a>(
 fn close<'a>(
     alloc: Global,
     linking: &Linking<'a>,
-    held: &mut Held,
+    held: &mut HeldNames,
     mut found: Found<'a>,
 ) -> Result<Asked, ImportError>
     ensures sound { IsSound linking.now held.old found.entry.reached.items → OnOk result (AllReached linking.now held.new) }
@@ -189,11 +189,11 @@ fn close<'a>(
 fn follow_all<'a>(
     alloc: Global,
     linking: &Linking<'a>,
-    held: &mut Held,
+    held: &mut HeldNames,
     found: &mut Found<'a>,
 ) -> Result<(), AllocError>
     ensures sound { IsSound linking.now held.old found.old.reached.items → OnOk result (IsSound linking.now held.new found.new.reached.items) }
-    ensures in_order { IsKeyed linking.now.modules.now → IsSound linking.now held.old found.old.reached.items → IsInOrder linking.now held.old found.old.asked → OnOk result (IsInOrder linking.now held.new found.new.asked) }
+    ensures in_order { IsKeyed linking.now.modules.now → IsSound linking.now held.old found.old.reached.items → IsConsistent linking.now held.old found.old.asked → OnOk result (IsConsistent linking.now held.new found.new.asked) }
     ensures moves { OnOk result (Moves (stage held.old (asks found.old.asked) found.old.is_missing found.old.reached.items) (stage held.new (asks found.new.asked) found.new.is_missing found.new.reached.items)) }
     ensures followed { FollowedTo (loaded linking.now.modules.now) (stage held.old (asks found.old.asked) found.old.is_missing found.old.reached.items) 0 → OnOk result (AllFollowed (loaded linking.now.modules.now) (stage held.new (asks found.new.asked) found.new.is_missing found.new.reached.items)) }
 {
@@ -212,11 +212,11 @@ fn follow_all<'a>(
 fn outcome_of(
     alloc: Global,
     linking: &Linking<'_>,
-    held: &Held,
+    held: &HeldNames,
     found: Found<'_>,
 ) -> Result<Asked, ImportError>
-    ensures closed { IsWhole linking.now held.now found.entry.asked found.entry.is_missing found.entry.reached.items → IfOk result (λ asked. IsClosed linking.now.modules.now linking.now.root.now linking.now.keep.now held.now asked) }
-    ensures refused { IsWhole linking.now held.now found.entry.asked found.entry.is_missing found.entry.reached.items → IfErr result (RefusesClosing linking.now.modules.now linking.now.root.now linking.now.keep.now held.now) }
+    ensures closed { IsFinished linking.now held.now found.entry.asked found.entry.is_missing found.entry.reached.items → IfOk result (λ asked. IsClosed linking.now.modules.now linking.now.root.now linking.now.keep.now held.now asked) }
+    ensures refused { IsFinished linking.now held.now found.entry.asked found.entry.is_missing found.entry.reached.items → IfErr result (RefusesClosing linking.now.modules.now linking.now.root.now linking.now.keep.now held.now) }
     ensures followed { AllFollowed (loaded linking.now.modules.now) (stage held.now (asks found.entry.asked) found.entry.is_missing found.entry.reached.items) → IfOk result (λ asked. AllFollowed (loaded linking.now.modules.now) (stage held.now (asks asked) false [])) }
 {
     if !found.is_missing {
@@ -232,15 +232,15 @@ fn follow<'a>(
     alloc: Global,
     linking: &Linking<'a>,
     symbol: Symbol<'a>,
-    held: &mut Held,
+    held: &mut HeldNames,
     found: &mut Found<'a>,
 ) -> Result<(), AllocError>
-    ensures in_order { IsKeyed linking.now.modules.now → IsReached linking.now symbol.entry → IsInOrder linking.now held.old found.old.asked → OnOk result (IsInOrder linking.now held.new found.new.asked) }
+    ensures in_order { IsKeyed linking.now.modules.now → IsReached linking.now symbol.entry → IsConsistent linking.now held.old found.old.asked → OnOk result (IsConsistent linking.now held.new found.new.asked) }
     ensures sound { IsReached linking.now symbol.entry → IsSound linking.now held.old found.old.reached.items → OnOk result (IsSound linking.now held.new found.new.reached.items) }
     ensures moves { OnOk result (Moves (stage held.old (asks found.old.asked) found.old.is_missing found.old.reached.items) (stage held.new (asks found.new.asked) found.new.is_missing found.new.reached.items)) }
-    ensures followed { OnOk result (IsFollowed (loaded linking.now.modules.now) (stage held.new (asks found.new.asked) found.new.is_missing found.new.reached.items) (string_bytes symbol.entry.«module».now.text) symbol.entry.place) }
+    ensures followed { OnOk result (IsFollowed (loaded linking.now.modules.now) (stage held.new (asks found.new.asked) found.new.is_missing found.new.reached.items) (string_bytes symbol.entry.«module».now.printed_path) symbol.entry.place) }
 {
-    let Some(home) = linking.modules.get(symbol.module.text.as_str()) else {
+    let Some(home) = linking.modules.get(symbol.module.printed_path.as_str()) else {
         return Ok(());
     };
     match home.declaration(symbol.place) {
@@ -255,16 +255,16 @@ fn follow_each<'a>(
     symbol: Symbol<'a>,
     home: &'a Module,
     declaration: &GlobalDeclaration,
-    held: &mut Held,
+    held: &mut HeldNames,
     found: &mut Found<'a>,
 ) -> Result<(), AllocError>
-    requires home { loaded linking.now.modules.now (string_bytes symbol.«module».now.text) ≡ Some (home_of home.now) }
+    requires home { loaded linking.now.modules.now (string_bytes symbol.«module».now.printed_path) ≡ Some (home_of home.now) }
     requires declaration { slice_get (unit_tree home.now.unit).declarations symbol.place ≡ Some (declaration_tree declaration.now) }
     requires in_table { IsInTable linking.now.modules.now home.now }
-    ensures in_order { IsKeyed linking.now.modules.now → IsReached linking.now symbol.entry → IsInOrder linking.now held.old found.old.asked → OnOk result (IsInOrder linking.now held.new found.new.asked) }
+    ensures in_order { IsKeyed linking.now.modules.now → IsReached linking.now symbol.entry → IsConsistent linking.now held.old found.old.asked → OnOk result (IsConsistent linking.now held.new found.new.asked) }
     ensures sound { IsReached linking.now symbol.entry → IsSound linking.now held.old found.old.reached.items → OnOk result (IsSound linking.now held.new found.new.reached.items) }
     ensures moves { OnOk result (Moves (stage held.old (asks found.old.asked) found.old.is_missing found.old.reached.items) (stage held.new (asks found.new.asked) found.new.is_missing found.new.reached.items)) }
-    ensures followed { OnOk result (IsFollowed (loaded linking.now.modules.now) (stage held.new (asks found.new.asked) found.new.is_missing found.new.reached.items) (string_bytes symbol.entry.«module».now.text) symbol.entry.place) }
+    ensures followed { OnOk result (IsFollowed (loaded linking.now.modules.now) (stage held.new (asks found.new.asked) found.new.is_missing found.new.reached.items) (string_bytes symbol.entry.«module».now.printed_path) symbol.entry.place) }
 {
     let names = occurrences(alloc, declaration)?;
     for name in names.as_slice() {
@@ -280,14 +280,14 @@ fn follow_name<'a>(
     home: &'a Module,
     declaration: &GlobalDeclaration,
     name: &str,
-    held: &mut Held,
+    held: &mut HeldNames,
     found: &mut Found<'a>,
 ) -> Result<(), AllocError>
-    requires home { loaded linking.now.modules.now (string_bytes from.«module».now.text) ≡ Some (home_of home.now) }
+    requires home { loaded linking.now.modules.now (string_bytes from.«module».now.printed_path) ≡ Some (home_of home.now) }
     requires declaration { slice_get (unit_tree home.now.unit).declarations from.place ≡ Some (declaration_tree declaration.now) }
     requires occurs { Contains (spec.occurrences (declaration_tree declaration.now)) name.now }
     requires in_table { IsInTable linking.now.modules.now home.now }
-    ensures in_order { IsKeyed linking.now.modules.now → IsReached linking.now from.entry → IsInOrder linking.now held.old found.old.asked → OnOk result (IsInOrder linking.now held.new found.new.asked) }
+    ensures in_order { IsKeyed linking.now.modules.now → IsReached linking.now from.entry → IsConsistent linking.now held.old found.old.asked → OnOk result (IsConsistent linking.now held.new found.new.asked) }
     ensures sound { IsReached linking.now from.entry → IsSound linking.now held.old found.old.reached.items → OnOk result (IsSound linking.now held.new found.new.reached.items) }
     ensures moves { OnOk result (Moves (stage held.old (asks found.old.asked) found.old.is_missing found.old.reached.items) (stage held.new (asks found.new.asked) found.new.is_missing found.new.reached.items)) }
     ensures handled { OnOk result (Handled (stage held.new (asks found.new.asked) found.new.is_missing found.new.reached.items) (outcome (loaded linking.now.modules.now) (home_of home.now) name.now)) }
@@ -310,12 +310,12 @@ fn reach<'a>(
     alloc: Global,
     linking: &Linking<'a>,
     symbol: Symbol<'a>,
-    held: &mut Held,
+    held: &mut HeldNames,
     reached: &mut Vec<Symbol<'a>>,
 ) -> Result<(), AllocError>
     ensures sound { IsReached linking.now symbol.entry → IsSound linking.now held.old reached.old.items → OnOk result (IsSound linking.now held.new reached.new.items) }
     ensures moves { OnOk result ((asked : Sought → Bool) (missing : Bool) → Moves (stage held.old asked missing reached.old.items) (stage held.new asked missing reached.new.items)) }
-    ensures held { OnOk result (IsSome (held_at held.new (string_bytes symbol.entry.«module».now.text) symbol.entry.place)) }
+    ensures held { OnOk result (IsSome (held_at held.new (string_bytes symbol.entry.«module».now.printed_path) symbol.entry.place)) }
     ensures named { IsPlaced linking.now.modules.now symbol.entry → NamesAll linking.now held.old → OnOk result (NamesAll linking.now held.new) }
 {
     if is_held(held, symbol) {
@@ -328,24 +328,35 @@ fn reach<'a>(
 }
 
 /// Whether a symbol is held.
-pub fn is_held(held: &Held, symbol: Symbol<'_>) -> bool
-    ensures { result ≡ is_some (held_at held.now (string_bytes symbol.entry.«module».now.text) symbol.entry.place) }
+pub fn is_held(held: &HeldNames, symbol: Symbol<'_>) -> bool
+    ensures { result ≡ is_some (held_at held.now (string_bytes symbol.entry.«module».now.printed_path) symbol.entry.place) }
 {
-    match held.get(symbol.module.text.as_str()) {
+    match held.get(symbol.module.printed_path.as_str()) {
         None => false,
         Some(places) => places.contains_key(&symbol.place),
     }
 }
 
-fn hold(alloc: Global, held: &mut Held, symbol: Symbol<'_>, name: Text) -> Result<(), AllocError>
-    ensures { OnOk result (Holds held.old (string_bytes symbol.entry.«module».now.text) symbol.entry.place name held.new) }
+fn hold(
+    alloc: Global,
+    held: &mut HeldNames,
+    symbol: Symbol<'_>,
+    name: Text,
+) -> Result<(), AllocError>
+    ensures { OnOk result (Holds held.old (string_bytes symbol.entry.«module».now.printed_path) symbol.entry.place name held.new) }
 {
-    hold_at(alloc, held, symbol.module.text.as_str(), symbol.place, name)
+    hold_at(
+        alloc,
+        held,
+        symbol.module.printed_path.as_str(),
+        symbol.place,
+        name,
+    )
 }
 
 fn hold_at(
     alloc: Global,
-    held: &mut Held,
+    held: &mut HeldNames,
     text: &str,
     place: usize,
     name: Text,
@@ -359,7 +370,7 @@ fn hold_at(
 }
 
 /// Takes the held places of a module.
-fn take_places(alloc: Global, held: &mut Held, text: &str) -> BTreeMap<usize, Text>
+fn take_places(alloc: Global, held: &mut HeldNames, text: &str) -> BTreeMap<usize, Text>
     ensures places { (place : ℕ) → get nat_cmp result place ≡ held_at held.old text.now place }
     ensures others { (m : Path) → get_by_text held.new m ≡ (if bytes_eq text.now m then None else get_by_text held.old m) }
 {
@@ -371,13 +382,13 @@ fn take_places(alloc: Global, held: &mut Held, text: &str) -> BTreeMap<usize, Te
 
 /// The name of a symbol in the linked unit: the root's names stay.
 fn printed_name(alloc: Global, root: &str, symbol: Symbol<'_>) -> Result<Text, AllocError>
-    ensures { IfOk result (λ name. (d : Decl) → slice_get (unit_tree symbol.entry.«module».now.unit).declarations symbol.entry.place ≡ Some d → name ≡ (if bytes_eq (string_bytes symbol.entry.«module».now.text) root.now then spec.declared_name d else mangled symbol.entry.«module».now.path (spec.declared_name d))) }
+    ensures { IfOk result (λ name. (d : Decl) → slice_get (unit_tree symbol.entry.«module».now.unit).declarations symbol.entry.place ≡ Some d → name ≡ (if bytes_eq (string_bytes symbol.entry.«module».now.printed_path) root.now then spec.declared_name d else mangled symbol.entry.«module».now.path (spec.declared_name d))) }
 {
     let Some(declaration) = symbol.declaration() else {
         return Ok(Text::new(alloc));
     };
     let name = declared_name(declaration);
-    if symbol.module.text.as_str() == root {
+    if symbol.module.printed_path.as_str() == root {
         return Text::from_str(alloc, name);
     }
     EscapeMangler.mangle(alloc, &symbol.module.path, name)
@@ -386,24 +397,24 @@ fn printed_name(alloc: Global, root: &str, symbol: Symbol<'_>) -> Result<Text, A
 fn ask(alloc: Global, asked: &mut Asked, target: &Target) -> Result<(), AllocError>
     ensures by_name { AreAskedByName asked.old → OnOk result (AreAskedByName asked.new) }
     ensures by_import { (ms : LoadedModules) → IsNamedInTable ms target.now.path → AreAskedByImport ms asked.old → OnOk result (AreAskedByImport ms asked.new) }
-    ensures asks { OnOk result ((s : Sought) → asks asked.new s ≡ (if bytes_eq (string_bytes target.now.text) s.home then (if bytes_eq target.now.item s.name then true else asks asked.old s) else asks asked.old s)) }
+    ensures asks { OnOk result ((s : Sought) → asks asked.new s ≡ (if bytes_eq (string_bytes target.now.printed_path) s.home then (if bytes_eq target.now.item s.name then true else asks asked.old s) else asks asked.old s)) }
 {
     let mut module = take_asked(alloc, asked, target)?;
     module
         .names
         .insert(String::from_str(alloc, target.item.as_str())?)?;
-    asked.insert(target.text.clone()?, module)?;
+    asked.insert(target.printed_path.clone()?, module)?;
     Ok(())
 }
 
 /// Takes what is asked of a target's module.
 fn take_asked(alloc: Global, asked: &mut Asked, target: &Target) -> Result<AskedModule, AllocError>
-    ensures names { IfOk result (λ m. (x : spec.Name) → name_asked (Some m) x ≡ asks asked.old (record { home = string_bytes target.now.text; name = x })) }
-    ensures paths { AreAskedByName asked.old → IfOk result (λ m. path_text m.path ≡ string_bytes target.now.text) }
+    ensures names { IfOk result (λ m. (x : spec.Name) → name_asked (Some m) x ≡ asks asked.old (record { home = string_bytes target.now.printed_path; name = x })) }
+    ensures paths { AreAskedByName asked.old → IfOk result (λ m. path_text m.path ≡ string_bytes target.now.printed_path) }
     ensures by_import { (ms : LoadedModules) → IsNamedInTable ms target.now.path → AreAskedByImport ms asked.old → IfOk result (λ m. IsNamedInTable ms m.path) }
-    ensures others { OnOk result ((m : Path) → get_by_text asked.new m ≡ (if bytes_eq (string_bytes target.now.text) m then None else get_by_text asked.old m)) }
+    ensures others { OnOk result ((m : Path) → get_by_text asked.new m ≡ (if bytes_eq (string_bytes target.now.printed_path) m then None else get_by_text asked.old m)) }
 {
-    match asked.remove(target.text.as_str()) {
+    match asked.remove(target.printed_path.as_str()) {
         Some(module) => Ok(module),
         None => Ok(AskedModule {
             path: target.path.clone_in(alloc)?,

@@ -7,5 +7,5 @@ mod missing;
 mod rounds;
 
 pub use closing::is_held;
-pub use linking::Held;
+pub use linking::HeldNames;
 pub use rounds::{Reached, load_reached};

@@ -14,7 +14,7 @@ pub struct Linking<'a> {
 }
 
 /// The reached declarations: for each module, by its printed path, their places there and their names in the linked unit.
-pub type Held = BTreeMap<String, BTreeMap<usize, Text>>;
+pub type HeldNames = BTreeMap<String, BTreeMap<usize, Text>>;
 
 /// The modules that are asked for and not loaded, by their printed paths.
 pub type Asked = BTreeMap<String, AskedModule>;

@@ -2,13 +2,13 @@
 
 ghost use Rattle.std.specs.Prelude.{◌≡◌, ℕ, Some, None, IfOk};
 ghost use Rattle.std.specs.Option.{IsSome};
-ghost use Rattle.wesl_sources.specs.Modules.{Path};
+ghost use Rattle.wesl_link_spec.specs.Modules.{Path};
 ghost use Rattle.wesl_scopes.specs.Outcomes.{loaded, home_of, outcome};
 ghost use Rattle.wesl_reach.specs.Closing.{held_at};
 ghost use Rattle.wesl_reach.specs.Following.{ArePresent};
 ghost use Rattle.wesl_reach.specs.Missing.{FindsMissing, TellsWhy, held_in, held_alone};
 
-use crate::linking::Held;
+use crate::linking::HeldNames;
 use std::alloc::{AllocError, Global};
 use std::collections::BTreeMap;
 use wesl_rename::occurrences;
@@ -19,7 +19,7 @@ use wgsl_items::{CloneIn, Text};
 pub fn first_missing(
     alloc: Global,
     modules: &Modules,
-    held: &Held,
+    held: &HeldNames,
 ) -> Result<Option<ImportError>, AllocError>
     ensures present { IfOk result (λ found. found ≡ None → (m : Path) (place : ℕ) → IsSome (held_at held.now m place) → ArePresent (loaded modules.now) m place) }
     ensures first { IfOk result (λ found. FindsMissing (loaded modules.now) (held_at held.now) found) }

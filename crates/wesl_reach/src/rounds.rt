@@ -6,14 +6,14 @@ ghost use Rattle.std.specs.BTreeMap.{IsOrdered};
 ghost use Rattle.wgsl_path.specs.Paths.{path_text};
 ghost use Rattle.wgsl_syntax.specs.View.{unit_tree};
 ghost use Rattle.wesl_resolve.specs.Found.{unit_of, SameAnswers, SameTexts, HasAsked};
-ghost use Rattle.wesl_sources.specs.Kept.{kept_names};
-ghost use Rattle.wesl_sources.specs.Modules.{Modules as ListedModules};
+ghost use Rattle.wesl_link_spec.specs.Kept.{kept_names};
+ghost use Rattle.wesl_link_spec.specs.Modules.{Modules as ListedModules};
 ghost use Rattle.wesl_reach.specs.Answers.{Loading};
 ghost use Rattle.wesl_reach.specs.Loading.{AreTabled, AreSought, LoadsOne, LoadsAll, IsRoundEnd};
 ghost use Rattle.wesl_reach.specs.Asking.{AsksForOne, AsksForAll, IsAskedEnd, AreAskedBehind, AreThoseLoaded};
 
 use crate::closing::{close_asked, close_root};
-use crate::linking::{Asked, Held, Linking};
+use crate::linking::{Asked, HeldNames, Linking};
 use std::alloc::{AllocError, Global};
 use wesl_resolve::Resolver;
 use wesl_scopes::{ImportError, Module, Modules, entry_points};
@@ -27,7 +27,7 @@ pub struct Reached {
     pub modules: Modules,
     /// The root's printed path.
     pub root: String,
-    pub held: Held,
+    pub held: HeldNames,
 }
 
 /// Loads the modules that the kept names of the root lead to. Where no name is kept, the root's entry points are.
@@ -58,7 +58,7 @@ pub fn load_reached<R: Resolver>(
     let module = Module::new(alloc, path, unit)?;
     let mut modules = Modules::new(alloc);
     modules.insert(root.clone()?, module)?;
-    let mut held = Held::new(alloc);
+    let mut held = HeldNames::new(alloc);
     let start = Linking {
         modules: &modules,
         root: root.as_str(),

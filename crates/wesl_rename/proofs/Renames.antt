@@ -20,8 +20,8 @@ use Rattle.wgsl_syntax.specs.declared.declaration.FormalParameter.{FormalParamet
 use Rattle.wgsl_syntax.specs.declared.statement.Statement.{Statement}
 use Rattle.wgsl_syntax.specs.View.{typed, tree, node_tree, type_tree, attribute_tree, attributes_tree, statement_tree, parameter_tree}
 use Rattle.wgsl_syntax.proofs.Trees.{tree_of_literal, tree_of_parenthesized, tree_of_unary, tree_of_binary, tree_of_call, tree_of_named}
-use Rattle.wesl_sources.specs.Occurrences.{Name, is_among}
-use Rattle.wesl_sources.specs.Linked.{new_name, renamed, all_renamed, renamed_type, renamed_attribute, renamed_attributes, renamed_statement, renamed_block, renamed_parameter}
+use Rattle.wesl_link_spec.specs.Occurrences.{Name, is_among}
+use Rattle.wesl_link_spec.specs.Linked.{new_name, renamed, all_renamed, renamed_type, renamed_attribute, renamed_attributes, renamed_statement, renamed_block, renamed_parameter}
 use Rattle.wesl_rename.specs.Renaming.{renamed_at}
 
 map-same : {A B : Type 0} (f g : A → B) → ((x : A) → f x ≡ g x) → (xs : List A) → map f xs ≡ map g xs

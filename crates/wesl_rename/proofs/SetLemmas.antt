@@ -12,7 +12,7 @@ use Rattle.std.proofs.lemmas.List.{take_more}
 use denote.Ref.{Bor}
 use Rattle.wgsl_syntax.specs.declared.declaration.FormalParameter.{FormalParameter}
 use Rattle.wgsl_syntax.specs.View.{parameter_tree}
-use Rattle.wesl_sources.specs.Occurrences.{Name, is_among, parameter_names}
+use Rattle.wesl_link_spec.specs.Occurrences.{Name, is_among, parameter_names}
 
 or_turn : (a b c : Bool) → (a || (b || c)) ≡ (b || (a || c))
 or_turn true true c = refl

@@ -7,7 +7,7 @@ use Rattle.wgsl_syntax.specs.declared.expression.Expression.TheVariants.{Functio
 use Rattle.wgsl_syntax.specs.Tree.{exps}
 use Rattle.wgsl_syntax.specs.View.{tree, node_tree, type_tree}
 use Rattle.wgsl_syntax.proofs.Trees.{tree_of_call, tree_of_named}
-use Rattle.wesl_sources.specs.Occurrences.{Name, in_expression, in_expressions, in_type}
+use Rattle.wesl_link_spec.specs.Occurrences.{Name, in_expression, in_expressions, in_type}
 
 pub in_call : (locals : List Name) (x : FunctionCallOf Expression)
     → in_expression locals (tree (FunctionCall x)) ≡ in_type locals (type_tree x.ty) ++ in_expressions locals (exps (map node_tree x.arguments))

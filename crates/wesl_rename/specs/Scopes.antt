@@ -4,7 +4,7 @@ use Rattle.std.specs.BTreeSet.{BTreeSet, contains_by}
 use Rattle.std.specs.Ordering.{nat_cmp}
 use Rattle.std.specs.Cmp.Lexicographic.{slice_cmp}
 use denote.Ref.{Bor}
-use Rattle.wesl_sources.specs.Occurrences.{Name, is_among}
+use Rattle.wesl_link_spec.specs.Occurrences.{Name, is_among}
 
 -- the texts behind references
 abbrev pub texts : List (Bor (List ℕ)) → List Name

@@ -1,7 +1,7 @@
 //! New names for the names that occur.
 
 ghost use Rattle.std.specs.Prelude.{◌≡◌, ℕ, List, IfOk, if◌then◌else◌};
-ghost use Rattle.wesl_sources.specs.Occurrences.{is_among};
+ghost use Rattle.wesl_link_spec.specs.Occurrences.{is_among};
 
 use crate::scope::Scope;
 use std::alloc::{AllocError, Global};

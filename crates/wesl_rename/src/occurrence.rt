@@ -5,7 +5,7 @@ ghost use Rattle.std.specs.Option.{option_map};
 ghost use Rattle.std.specs.List.{flat_map};
 ghost use Rattle.wgsl_syntax.specs.View.{tree, type_tree, node_tree, attribute_tree, attributes_tree, statement_tree, block_tree, parameter_tree, declaration_tree};
 ghost use Rattle.wgsl_syntax.specs.Tree.{exps};
-ghost use Rattle.wesl_sources.specs.Occurrences as spec;
+ghost use Rattle.wesl_link_spec.specs.Occurrences as spec;
 ghost use Rattle.wesl_rename.specs.Scopes.{texts};
 
 use crate::scope::Scope;

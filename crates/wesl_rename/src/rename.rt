@@ -5,8 +5,8 @@ ghost use Rattle.std.specs.Option.{option_map};
 ghost use Rattle.wgsl_syntax.specs.View.{tree, node_tree, type_tree, attribute_tree, attributes_tree, block_tree, statement_tree, parameter_tree, declaration_tree};
 ghost use Rattle.wgsl_syntax.specs.declared.declaration.GlobalDeclaration.TheVariants as global;
 ghost use Rattle.wgsl_syntax.specs.declared.expression.Expression.TheVariants as variants;
-ghost use Rattle.wesl_sources.specs.Occurrences.{parameter_names};
-ghost use Rattle.wesl_sources.specs.Linked as spec;
+ghost use Rattle.wesl_link_spec.specs.Occurrences.{parameter_names};
+ghost use Rattle.wesl_link_spec.specs.Linked as spec;
 ghost use Rattle.wesl_rename.specs.Renaming.{renamed_at};
 
 use crate::naming::{BodyNaming, Naming};

@@ -2,7 +2,7 @@
 
 ghost use Rattle.std.specs.Prelude.{◌≡◌, [], map, IfOk};
 ghost use Rattle.wgsl_syntax.specs.View.{parameter_tree};
-ghost use Rattle.wesl_sources.specs.Occurrences.{is_among, parameter_names};
+ghost use Rattle.wesl_link_spec.specs.Occurrences.{is_among, parameter_names};
 
 use std::alloc::{AllocError, Global};
 use std::collections::BTreeSet;
@@ -19,7 +19,7 @@ pub struct Scope<'a> {
 impl<'a> Model for Scope<'a> {
     ghost use Rattle.std.specs.Prelude.{List, map};
     ghost use Rattle.wgsl_syntax.specs.View.{parameter_tree};
-    ghost use Rattle.wesl_sources.specs.Occurrences.{Name, parameter_names};
+    ghost use Rattle.wesl_link_spec.specs.Occurrences.{Name, parameter_names};
     ghost use Rattle.wesl_rename.specs.Scopes.{HasNames};
 
     ghost Value = { List Name };

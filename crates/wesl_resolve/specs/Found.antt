@@ -3,7 +3,7 @@ use Rattle.std.specs.Prelude.{◌≡◌, ⊤, ◌↔◌, ◌⊎◌, List, [], �
 use Rattle.std.specs.Option.{option_map}
 use Rattle.wgsl_path.specs.declared.path.ModulePath.{ModulePath}
 use Rattle.wgsl_token.specs.declared.error.Error.{Error}
-use Rattle.wgsl_syntax.specs.Tree.{Unit}
+use Rattle.wgsl_syntax.specs.Tree.{UnitTree}
 use Rattle.wgsl_syntax.specs.declared.unit.TranslationUnit.{TranslationUnit}
 use Rattle.wgsl_syntax.specs.View.{unit_tree}
 use Rattle.wesl_resolve.specs.declared.error.ResolveError.{ResolveError}
@@ -11,7 +11,7 @@ use Rattle.wesl_resolve.specs.declared.error.ResolveError.TheVariants.{ModuleNot
 
 -- a module's unit, that there is none, or what is wrong with its text
 pub data Answer : Type 0 where
-  unit_of : Unit → Answer
+  unit_of : UnitTree → Answer
   not_found : Answer
   faulty : Error → Answer
 

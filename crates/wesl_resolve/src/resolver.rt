@@ -2,7 +2,7 @@
 
 ghost use Rattle.std.specs.Prelude.{◌≡◌, ℕ, List, Option, None, IfOk};
 ghost use Rattle.wgsl_path.specs.Paths.{path_text};
-ghost use Rattle.wgsl_syntax.specs.Tree.{Unit};
+ghost use Rattle.wgsl_syntax.specs.Tree.{UnitTree};
 ghost use Rattle.wesl_resolve.specs.Found.{Answer, unit_of, TellsUnit, TellsText, SameAnswers, SameTexts, IsSomeText, Asked, AsksFor};
 
 use crate::error::ResolveError;
@@ -47,11 +47,7 @@ pub trait Resolver: Drop {
         ensures asked { AsksFor (asked self.old) (path_text path.now) result (asked self.new) };
 
     /// The name that a message gives the module, where it has one. It is refused for memory alone.
-    fn display_name(
-        &mut self,
-        alloc: Global,
-        path: &ModulePath,
-    ) -> Result<Option<Text>, AllocError>
+    fn display_name(&mut self, alloc: Global, path: &ModulePath) -> Result<Option<Text>, AllocError>
         ensures name { IfOk result (λ name. name ≡ display_names self.old (path_text path.now)) }
         ensures same_answers { SameAnswers (answers self.old) (answers self.new) }
         ensures same_texts { SameTexts (texts self.old) (texts self.new) }
@@ -65,5 +61,5 @@ pub trait Resolver: Drop {
     ghost one_text: { (r : Self) (p a b : List ℕ) → texts r p a → texts r p b → a ≡ b };
 
     /// Where a unit is found there is a text.
-    ghost text_of_unit: { (r : Self) (p : List ℕ) (u : Unit) → answers r p (unit_of u) → IsSomeText (texts r p) };
+    ghost text_of_unit: { (r : Self) (p : List ℕ) (u : UnitTree) → answers r p (unit_of u) → IsSomeText (texts r p) };
 }

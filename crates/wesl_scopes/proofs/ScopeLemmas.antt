@@ -13,10 +13,10 @@ use Rattle.std.specs.Option.{option_map}
 use Rattle.wgsl_path.specs.declared.span.Spanned.{Spanned}
 use Rattle.wgsl_syntax.specs.declared.declaration.GlobalDeclaration.{GlobalDeclaration}
 use Rattle.wgsl_syntax.specs.View.{declaration_tree}
-use Rattle.wgsl_syntax.specs.Tree.{Decl, Imp, Unit}
-use Rattle.wesl_sources.specs.Occurrences.{Name, is_among, declared_name}
-use Rattle.wesl_sources.specs.Modules.{local_name}
-use Rattle.wesl_sources.specs.Rounds.{scope_names, AreDistinct, no_names, another, IsFirstAgain}
+use Rattle.wgsl_syntax.specs.Tree.{Decl, Imp, UnitTree}
+use Rattle.wesl_link_spec.specs.Occurrences.{Name, is_among, declared_name}
+use Rattle.wesl_link_spec.specs.Modules.{local_name}
+use Rattle.wesl_link_spec.specs.Rounds.{scope_names, AreDistinct, no_names, another, IsFirstAgain}
 use Rattle.wesl_scopes.specs.Meanings.{Known, declared, meant, known, names, first_again, import_known, import_entry, declared_entries, entries}
 
 -- ---- elements by their places
@@ -134,15 +134,15 @@ value_names : (k : ℕ) (ds : List Decl) → map (λ (e : Name × Known). e.0) (
 value_names k [] = refl
 value_names k (d ∷ ds) = ap (λ l. declared_name d ∷ l) (value_names (k + 1) ds)
 
-pub names_entries : (u : Unit) → names (entries u) ≡ scope_names u
+pub names_entries : (u : UnitTree) → names (entries u) ≡ scope_names u
 names_entries u =
     map-append (λ (e : Name × Known). e.0) (map import_entry u.imports) (declared_entries 0 u.declarations)
     ∙ (λ k. import_names u.imports k ++ value_names 0 u.declarations k)
 
-pub distinct_names : (u : Unit) → first_again [] (names (entries u)) ≡ None → AreDistinct (scope_names u)
+pub distinct_names : (u : UnitTree) → first_again [] (names (entries u)) ≡ None → AreDistinct (scope_names u)
 distinct_names u e = none_again [] (scope_names u) no_names (ap (first_again []) (sym (names_entries u)) ∙ e)
 
-pub first_again_named : (u : Unit) (x : Name) → first_again [] (names (entries u)) ≡ Some x → IsFirstAgain (scope_names u) x
+pub first_again_named : (u : UnitTree) (x : Name) → first_again [] (names (entries u)) ≡ Some x → IsFirstAgain (scope_names u) x
 first_again_named u x e = some_again [] (scope_names u) x no_names (ap (first_again []) (sym (names_entries u)) ∙ e)
 
 -- ---- what a name means
@@ -208,7 +208,7 @@ get_declared k (x ∷ ds) (suc i) d is =
     get_declared (k + 1) ds i d is ∙ ap (λ n. Some (declared_name d, declared n)) here
 
 -- an entry is that of an import or of a declaration
-pub entry_cases : (u : Unit) (i : ℕ) (e : Name × Known) → slice_get (entries u) i ≡ Some e
+pub entry_cases : (u : UnitTree) (i : ℕ) (e : Name × Known) → slice_get (entries u) i ≡ Some e
     → ((j : ℕ) × (import : Imp) × (slice_get u.imports j ≡ Some import) × (import_entry import ≡ e)) ⊎ ((j : ℕ) × (d : Decl) × (slice_get u.declarations j ≡ Some d) × ((declared_name d, declared j) ≡ e))
 entry_cases u i e is =
     ⊎_elim
@@ -216,13 +216,13 @@ entry_cases u i e is =
     (λ l. let r = declared_get 0 u.declarations l.0 e l.1 in let here : l.0 ≡ 0 + l.0 = omega arith in inr (l.0, r.0, r.1, ap (λ n. (declared_name r.0, declared n)) here ∙ r.2))
     (append_cases (map import_entry u.imports) (declared_entries 0 u.declarations) i e is)
 
-pub import_means : (u : Unit) (i : Imp) → first_again [] (names (entries u)) ≡ None → Contains u.imports i → known u (local_name i) ≡ Some (import_known i.path i.item)
+pub import_means : (u : UnitTree) (i : Imp) → first_again [] (names (entries u)) ≡ None → Contains u.imports i → known u (local_name i) ≡ Some (import_known i.path i.item)
 import_means u i fresh c =
     let p = from_contains u.imports i c in
     meant_once (entries u) p.0 (local_name i) (import_known i.path i.item) fresh
     (append_left (map import_entry u.imports) (declared_entries 0 u.declarations) p.0 (import_entry i) (get_map import_entry u.imports p.0 i p.1))
 
-pub value_means : (u : Unit) (j : ℕ) (d : Decl) → first_again [] (names (entries u)) ≡ None → slice_get u.declarations j ≡ Some d → known u (declared_name d) ≡ Some (declared j)
+pub value_means : (u : UnitTree) (j : ℕ) (d : Decl) → first_again [] (names (entries u)) ≡ None → slice_get u.declarations j ≡ Some d → known u (declared_name d) ≡ Some (declared j)
 value_means u j d fresh is =
     let e : Name × Known = (declared_name d, declared j) in
     let p = append_right (map import_entry u.imports) (declared_entries 0 u.declarations) j e (get_declared 0 u.declarations j d is ∙ (let here : 0 + j ≡ j = omega arith in ap (λ n. Some (declared_name d, declared n)) here)) in

@@ -15,14 +15,14 @@ use Rattle.wgsl_path.specs.declared.span.Spanned.{Spanned}
 use Rattle.wgsl_syntax.specs.declared.import.ImportStatement.{ImportStatement}
 use Rattle.wgsl_syntax.specs.declared.declaration.GlobalDeclaration.{GlobalDeclaration}
 use Rattle.wgsl_syntax.specs.declared.unit.TranslationUnit.{TranslationUnit}
-use Rattle.wgsl_syntax.specs.Tree.{Decl, Unit}
+use Rattle.wgsl_syntax.specs.Tree.{Decl, UnitTree}
 use Rattle.wgsl_syntax.specs.View.{import_tree, declaration_tree, unit_tree}
-use Rattle.wesl_sources.specs.Occurrences.{Name, is_among, declared_name}
-use Rattle.wesl_sources.specs.Modules.{local_name}
+use Rattle.wesl_link_spec.specs.Occurrences.{Name, is_among, declared_name}
+use Rattle.wesl_link_spec.specs.Modules.{local_name}
 use Rattle.wesl_scopes.specs.declared.error.ImportError.{ImportError}
 use Rattle.wesl_scopes.specs.declared.error.ImportError.TheVariants.{OutOfMemory, DuplicateSymbol, TooManyModules, Resolve, MissingDecl, Private}
 use Rattle.wesl_scopes.specs.declared.target.Meaning.{Meaning}
-use Rattle.wesl_scopes.specs.Meanings.{Done, Known, declared, Table, Answers, Adds, meant, known_of, names, first_again, import_known, import_entry, declared_entries, entries, Tabulates}
+use Rattle.wesl_scopes.specs.Meanings.{Done, Known, declared, Table, IsTableOf, Adds, meant, known_of, names, first_again, import_known, import_entry, declared_entries, entries, Tabulates}
 
 -- ---- one entry
 
@@ -85,7 +85,7 @@ present (e ∷ es) x some = at (bytes_eq x e.0) refl (present es x)
 -- ---- a table that has the first entries
 
 pub record Tabulated (table : Table) (es : List (Name × Known)) (k : ℕ) : Type 0 where
-  pub answers : Answers table (take k es)
+  pub answers : IsTableOf table (take k es)
   pub fresh : first_again (names (take k es)) (names (drop k es)) ≡ first_again [] (names es)
 
 pub none_tabulated : (table : Table) (es : List (Name × Known)) → ((x : Name) → get_by_text table x ≡ None) → Tabulated table es 0
@@ -118,7 +118,7 @@ refused_at path old es k e t h is some =
     ∙ ap (λ b. if b then Some e.0 else first_again (names (take k es) ++ e.0 ∷ []) (names (drop (k + 1) es)))
     (present (take k es) e.0 (λ none. some (t.answers e.0 ∙ none)))
 
-pub all_tabulated : (table : Table) (es : List (Name × Known)) (k : ℕ) → k ≡ length es → Tabulated table es k → Answers table es × (first_again [] (names es) ≡ None)
+pub all_tabulated : (table : Table) (es : List (Name × Known)) (k : ℕ) → k ≡ length es → Tabulated table es k → IsTableOf table es × (first_again [] (names es) ≡ None)
 all_tabulated table es k e t =
     let long : length es ≤ k = omega arith in
     let whole : take k es ≡ es = take_all k es long in
@@ -171,11 +171,11 @@ entries_length is ds = length-append (import_entries is) (value_entries ds) ∙ 
 -- ---- a step of the loops
 
 -- what a step leaves: one more entry, or the refusal
-abbrev pub Steps : ModulePath → Unit → Table → ℕ → Result Done ImportError → Type 0
+abbrev pub Steps : ModulePath → UnitTree → Table → ℕ → Result Done ImportError → Type 0
 Steps path u new k (Ok done) = Tabulated new (entries u) k
 Steps path u new k (Err e) = Tabulates path u (Err e)
 
-step : (path : ModulePath) (old new : Table) (u : Unit) (k : ℕ) (e : Name × Known) (r : Result Done ImportError)
+step : (path : ModulePath) (old new : Table) (u : UnitTree) (k : ℕ) (e : Name × Known) (r : Result Done ImportError)
     → Tabulated old (entries u) k → k < length (entries u) → get_or (entries u) k e ≡ e → Adds path old e.0 e.1 r new → Steps path u new (k + 1) r
 step path old new u k e (Ok done) t h is a = one_more path old new (entries u) k e done t h is a
 step path old new u k e (Err OutOfMemory) t h is a = tt
@@ -210,7 +210,7 @@ value_step path old new u place item x k r t h is name means a =
     (subst (λ (y : Name × Known). Adds path old y.0 y.1 r new) (sym same) a))
 
 pub whole_table : (table : Table) (u : TranslationUnit) (place : ℕ) → length u.global_declarations ≤ place → place ≤ length u.global_declarations
-    → Tabulated table (entries (unit_tree u)) (length u.imports + place) → Answers table (entries (unit_tree u)) × (first_again [] (names (entries (unit_tree u))) ≡ None)
+    → Tabulated table (entries (unit_tree u)) (length u.imports + place) → IsTableOf table (entries (unit_tree u)) × (first_again [] (names (entries (unit_tree u))) ≡ None)
 whole_table table u place ge le t =
     let all : length u.imports + place ≡ length (entries (unit_tree u)) = omega (arith, entries_length u.imports u.global_declarations, ge, le) in
     all_tabulated table (entries (unit_tree u)) (length u.imports + place) all t

@@ -5,12 +5,12 @@ use Rattle.std.specs.List.{Contains}
 use Rattle.wgsl_path.specs.declared.path.ModulePath.{ModulePath}
 use Rattle.wgsl_path.specs.Paths.{path_text}
 use Rattle.wgsl_syntax.specs.declared.unit.TranslationUnit.{TranslationUnit}
-use Rattle.wgsl_syntax.specs.Tree.{Decl, Imp, Unit}
+use Rattle.wgsl_syntax.specs.Tree.{Decl, Imp, UnitTree}
 use Rattle.wgsl_syntax.specs.View.{unit_tree}
-use Rattle.wesl_sources.specs.Occurrences.{Name, declared_name}
-use Rattle.wesl_sources.specs.Modules.{Path, Symbol, Modules, IsModule, Declares, Imports, local_name, IsImport, IsImported, Denotes, own, IsMissing, lacking, IsPrivate, IsFree, IsUnloaded}
-use Rattle.wesl_sources.specs.Modules as spec
-use Rattle.wesl_sources.specs.Named.{HasImportOf}
+use Rattle.wesl_link_spec.specs.Occurrences.{Name, declared_name}
+use Rattle.wesl_link_spec.specs.Modules.{Path, Symbol, Modules, IsModule, Declares, Imports, local_name, IsImport, IsImported, Denotes, own, IsMissing, lacking, IsPrivate, IsFree, IsUnloaded}
+use Rattle.wesl_link_spec.specs.Modules as spec
+use Rattle.wesl_link_spec.specs.Named.{HasImportOf}
 use Rattle.wesl_scopes.specs.declared.error.ImportError.{ImportError}
 use Rattle.wesl_scopes.specs.declared.error.ImportError.TheVariants.{OutOfMemory, DuplicateSymbol, TooManyModules, Resolve, MissingDecl, Private}
 use Rattle.wesl_scopes.specs.Meanings.{Known, declared, imported, bare, known, names, first_again, import_known, import_entry, entries, Tabulates}
@@ -28,16 +28,16 @@ refused path unit (Private p x) t = absurd t
 
 -- ---- one scope
 
-abbrev pub IsFresh : Unit → Type 0
+abbrev pub IsFresh : UnitTree → Type 0
 IsFresh u = first_again [] (names (entries u)) ≡ None
 
-pub declared_known : (u : Unit) (x : Name) → IsFresh u → Declares u x → (j : ℕ) × (known u x ≡ Some (declared j))
+pub declared_known : (u : UnitTree) (x : Name) → IsFresh u → Declares u x → (j : ℕ) × (known u x ≡ Some (declared j))
 declared_known u x fresh c =
     let p = from_contains (map declared_name u.declarations) x c in
     let d = map_get declared_name u.declarations p.0 x p.1 in
     (p.0, ap (known u) (sym d.2) ∙ value_means u p.0 d.0 fresh d.1)
 
-imported_known : (u : Unit) (x : Name) → IsFresh u → Imports u x → (i : Imp) × (known u x ≡ Some (import_known i.path i.item))
+imported_known : (u : UnitTree) (x : Name) → IsFresh u → Imports u x → (i : Imp) × (known u x ≡ Some (import_known i.path i.item))
 imported_known u x fresh c =
     let p = from_contains (map local_name u.imports) x c in
     let i = map_get local_name u.imports p.0 x p.1 in
@@ -65,7 +65,7 @@ meaning_of : (e : Name × Known) (x : Name) (k : Known) → e ≡ (x, k) → e.1
 meaning_of e x k is = ap (λ (y : Name × Known). y.1) is
 
 -- the declaration that a name means
-pub declares : (u : Unit) (x : Name) (j : ℕ) → known u x ≡ Some (declared j) → (d : Decl) × (slice_get u.declarations j ≡ Some d) × (declared_name d ≡ x)
+pub declares : (u : UnitTree) (x : Name) (j : ℕ) → known u x ≡ Some (declared j) → (d : Decl) × (slice_get u.declarations j ≡ Some d) × (declared_name d ≡ x)
 declares u x j e =
     let m = meant_at (entries u) x (declared j) e in
     ⊎_elim
@@ -76,7 +76,7 @@ declares u x j e =
     (entry_cases u m.0 (x, declared j) m.1)
 
 -- the import that a name means
-imports : (u : Unit) (x : Name) (k : Known) → ((j : ℕ) → declared j ≡ k → ⊥) → known u x ≡ Some k → (i : Imp) × Contains u.imports i × (local_name i ≡ x) × (import_known i.path i.item ≡ k)
+imports : (u : UnitTree) (x : Name) (k : Known) → ((j : ℕ) → declared j ≡ k → ⊥) → known u x ≡ Some k → (i : Imp) × Contains u.imports i × (local_name i ≡ x) × (import_known i.path i.item ≡ k)
 imports u x k other e =
     let m = meant_at (entries u) x k e in
     ⊎_elim
@@ -85,21 +85,21 @@ imports u x k other e =
     (entry_cases u m.0 (x, k) m.1)
 
 -- the path of what a name means by an import is that of an import
-pub has_import : (u : Unit) (x : Name) (t : ModulePath × Symbol) → known u x ≡ Some (imported t) → HasImportOf u t.0
+pub has_import : (u : UnitTree) (x : Name) (t : ModulePath × Symbol) → known u x ≡ Some (imported t) → HasImportOf u t.0
 has_import u x t e =
     let i = imports u x (imported t) (λ j both. absurd (cc)) e in
     record { import = i.0; stands = i.1; is_path = (import_target i.0.path i.0.item t i.3).0 }
 
-pub has_declared : (u : Unit) (x : Name) (j : ℕ) → known u x ≡ Some (declared j) → Declares u x
+pub has_declared : (u : UnitTree) (x : Name) (j : ℕ) → known u x ≡ Some (declared j) → Declares u x
 has_declared u x j e = let d = declares u x j e in to_contains (map declared_name u.declarations) j x (get_map declared_name u.declarations j d.0 d.1 ∙ ap (λ y. Some y) d.2)
 
-not_declared : (u : Unit) (x : Name) (o : Option Known) → IsFresh u → known u x ≡ o → ((j : ℕ) → o ≡ Some (declared j) → ⊥) → Declares u x → ⊥
+not_declared : (u : UnitTree) (x : Name) (o : Option Known) → IsFresh u → known u x ≡ o → ((j : ℕ) → o ≡ Some (declared j) → ⊥) → Declares u x → ⊥
 not_declared u x o fresh e other c = let k = declared_known u x fresh c in other k.0 (sym e ∙ k.1)
 
-not_imported : (u : Unit) (x : Name) → IsFresh u → known u x ≡ None → Imports u x → ⊥
+not_imported : (u : UnitTree) (x : Name) → IsFresh u → known u x ≡ None → Imports u x → ⊥
 not_imported u x fresh e c = let k = imported_known u x fresh c in let both : None ≡ Some (import_known k.0.path k.0.item) = sym e ∙ k.1 in absurd (cc)
 
-pub has_imported : (u : Unit) (x : Name) (k : Known) → ((j : ℕ) → declared j ≡ k → ⊥) → known u x ≡ Some k → Imports u x
+pub has_imported : (u : UnitTree) (x : Name) (k : Known) → ((j : ℕ) → declared j ≡ k → ⊥) → known u x ≡ Some k → Imports u x
 has_imported u x k other e =
     let i = imports u x k other e in
     let p = from_contains u.imports i.0 i.1 in
@@ -107,8 +107,8 @@ has_imported u x k other e =
 
 -- ---- the loaded modules
 
-module _ (modules : Modules) (find : Loaded) (finder : IsFinder modules find) (m : Path × Unit) (here : find m.0 ≡ Some m) (x : Name) where
-  abbrev u : Unit
+module _ (modules : Modules) (find : Loaded) (finder : IsFinder modules find) (m : Path × UnitTree) (here : find m.0 ≡ Some m) (x : Name) where
+  abbrev u : UnitTree
   u = m.1
 
   fresh : IsFresh u
@@ -128,7 +128,7 @@ module _ (modules : Modules) (find : Loaded) (finder : IsFinder modules find) (m
       let is = import_target i.0.path i.0.item t i.2 in
       record { import = i.0; is_import = i.1; path = t.0; is_path = is.0; home = is.1; item = is.2 }
 
-  sought : (s : Symbol) (h : Path × Unit) → IsImported modules m.0 x s → find s.home ≡ Some h → (o : Option Known) → known h.1 s.name ≡ o → Tells modules m.0 x (item_in h.0 s o)
+  sought : (s : Symbol) (h : Path × UnitTree) → IsImported modules m.0 x s → find s.home ≡ Some h → (o : Option Known) → known h.1 s.name ≡ o → Tells modules m.0 x (item_in h.0 s o)
   sought s h to is None e =
       let at = finder.found s.home h is in let new = finder.fresh s.home h is in
       lacking to at.0 (not_declared h.1 s.name None new e (λ j both. absurd (cc))) (not_imported h.1 s.name new e)
@@ -145,7 +145,7 @@ module _ (modules : Modules) (find : Loaded) (finder : IsFinder modules find) (m
       let at = finder.found s.home h is in let new = finder.fresh s.home h is in
       record { imported = to; unit = h.1; is_module = at.0; undeclared = not_declared h.1 s.name (Some (bare t)) new e (λ j both. absurd (cc)); only_imported = has_imported h.1 s.name (bare t) (λ j both. absurd (cc)) e }
 
-  sought_at : (s : Symbol) → IsImported modules m.0 x s → (o : Option (Path × Unit)) → find s.home ≡ o → Tells modules m.0 x (item_at s o)
+  sought_at : (s : Symbol) → IsImported modules m.0 x s → (o : Option (Path × UnitTree)) → find s.home ≡ o → Tells modules m.0 x (item_at s o)
   sought_at s to None e = record { imported = to; unloaded = λ v at. let both : None ≡ Some (s.home, v) = sym e ∙ finder.finds s.home v at in absurd (cc) }
   sought_at s to (Some h) e = sought s h to e (known h.1 s.name) refl
 

@@ -10,9 +10,9 @@ use Rattle.std.specs.declared.hash.BuildHasherDefault.{BuildHasherDefault}
 use Rattle.std.specs.declared.hash.FoldHasher.{FoldHasher}
 use Rattle.wgsl_path.specs.declared.path.ModulePath.{ModulePath}
 use Rattle.wgsl_path.specs.Paths.{path_text}
-use Rattle.wgsl_syntax.specs.Tree.{Decl, Imp, Unit}
-use Rattle.wesl_sources.specs.Occurrences.{Name, is_among, declared_name}
-use Rattle.wesl_sources.specs.Modules.{Symbol, local_name}
+use Rattle.wgsl_syntax.specs.Tree.{Decl, Imp, UnitTree}
+use Rattle.wesl_link_spec.specs.Occurrences.{Name, is_among, declared_name}
+use Rattle.wesl_link_spec.specs.Modules.{Symbol, local_name}
 use Rattle.wesl_resolve.specs.declared.error.ResolveError.{ResolveError}
 use Rattle.wesl_resolve.specs.declared.error.ResolveError.TheVariants as resolve
 use Rattle.wesl_scopes.specs.declared.error.ImportError.{ImportError}
@@ -41,26 +41,26 @@ declared_entries place [] = []
 declared_entries place (d ∷ ds) = (declared_name d, declared place) ∷ declared_entries (place + 1) ds
 
 -- the names of a unit's scope, each with what it means
-abbrev pub entries : Unit → List (Name × Known)
+abbrev pub entries : UnitTree → List (Name × Known)
 entries u = map import_entry u.imports ++ declared_entries 0 u.declarations
 
 abbrev pub meant : List (Name × Known) → Name → Option Known
 meant es x = lookup (λ y. bytes_eq x y) es
 
-abbrev pub known : Unit → Name → Option Known
+abbrev pub known : UnitTree → Name → Option Known
 known u x = meant (entries u) x
 
 abbrev pub known_of : Meaning → Known
 known_of (Declared place) = declared place
-known_of (Imported t) = imported (t.path, record { home = string_bytes t.text; name = t.item })
+known_of (Imported t) = imported (t.path, record { home = string_bytes t.printed_path; name = t.item })
 known_of (Bare item) = bare item
 
 abbrev pub Table : Type 0
 Table = HashMap (String Global) Meaning (BuildHasherDefault FoldHasher)
 
 -- the table's answer for each name
-abbrev pub Answers : Table → List (Name × Known) → Type 0
-Answers table es = (x : Name) → option_map known_of (get_by_text table x) ≡ meant es x
+abbrev pub IsTableOf : Table → List (Name × Known) → Type 0
+IsTableOf table es = (x : Name) → option_map known_of (get_by_text table x) ≡ meant es x
 
 abbrev pub names : List (Name × Known) → List Name
 names es = map (λ e. e.0) es
@@ -70,8 +70,8 @@ abbrev pub first_again : List Name → List Name → Option Name
 first_again before [] = None
 first_again before (x ∷ xs) = if is_among x before then Some x else first_again (before ++ x ∷ []) xs
 
-abbrev pub Tabulates : ModulePath → Unit → Result Table ImportError → Type 0
-Tabulates path u (Ok table) = Answers table (entries u) × (first_again [] (names (entries u)) ≡ None)
+abbrev pub Tabulates : ModulePath → UnitTree → Result Table ImportError → Type 0
+Tabulates path u (Ok table) = IsTableOf table (entries u) × (first_again [] (names (entries u)) ≡ None)
 Tabulates path u (Err OutOfMemory) = Done
 Tabulates path u (Err (DuplicateSymbol p x)) = (p ≡ path) × (first_again [] (names (entries u)) ≡ Some x)
 Tabulates path u (Err e) = ⊥

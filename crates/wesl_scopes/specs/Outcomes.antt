@@ -5,11 +5,11 @@ use Rattle.std.specs.BTreeMap.{BTreeMap, get_by_text}
 use Rattle.std.specs.declared.string.String.{String}
 use Rattle.std.specs.declared.alloc.Global.{Global}
 use Rattle.wgsl_path.specs.Paths.{path_text}
-use Rattle.wgsl_syntax.specs.Tree.{Unit}
+use Rattle.wgsl_syntax.specs.Tree.{UnitTree}
 use Rattle.wgsl_syntax.specs.View.{unit_tree}
-use Rattle.wesl_sources.specs.Occurrences.{Name}
-use Rattle.wesl_sources.specs.Modules.{Path, Symbol}
-use Rattle.wesl_sources.specs.Named.{HasImportOf}
+use Rattle.wesl_link_spec.specs.Occurrences.{Name}
+use Rattle.wesl_link_spec.specs.Modules.{Path, Symbol}
+use Rattle.wesl_link_spec.specs.Named.{HasImportOf}
 use Rattle.wesl_scopes.specs.Meanings.{Known, declared, imported, bare, known}
 use Rattle.wesl_scopes.specs.declared.module.Module.{Module}
 use Rattle.wesl_scopes.specs.declared.denote.Denoted.{Denoted}
@@ -26,7 +26,7 @@ pub data Outcome : Type 0 where
 
 -- the loaded module at each path
 abbrev pub Loaded : Type 0
-Loaded = Path → Option (Path × Unit)
+Loaded = Path → Option (Path × UnitTree)
 
 abbrev pub item_in : Path → Symbol → Option Known → Outcome
 item_in m s None = missing s
@@ -35,7 +35,7 @@ item_in m s (Some (imported t)) = private s
 item_in m s (Some (bare y)) = private s
 
 -- an item that is sought in a module
-abbrev pub item_at : Symbol → Option (Path × Unit) → Outcome
+abbrev pub item_at : Symbol → Option (Path × UnitTree) → Outcome
 item_at s None = unloaded s
 item_at s (Some m) = item_in m.0 s (known m.1 s.name)
 
@@ -46,24 +46,24 @@ meant_as loaded m (Some (imported t)) = item_at t.1 (loaded t.1.home)
 meant_as loaded m (Some (bare y)) = missing (record { home = m; name = y })
 
 -- a name that occurs in a module
-abbrev pub outcome : Loaded → Path × Unit → Name → Outcome
+abbrev pub outcome : Loaded → Path × UnitTree → Name → Outcome
 outcome loaded m x = meant_as loaded m.0 (known m.1 x)
 
-abbrev pub home_of : Module → Path × Unit
-home_of m = (string_bytes m.text, unit_tree m.unit)
+abbrev pub home_of : Module → Path × UnitTree
+home_of m = (string_bytes m.printed_path, unit_tree m.unit)
 
 abbrev pub loaded : BTreeMap (String Global) Module → Loaded
 loaded modules path = option_map home_of (get_by_text modules path)
 
 abbrev pub outcome_of : Denoted → Outcome
-outcome_of (Declared s) = symbol_at (string_bytes s.«module».now.text) s.place
-outcome_of (Unloaded t) = unloaded (record { home = string_bytes t.now.text; name = t.now.item })
+outcome_of (Declared s) = symbol_at (string_bytes s.«module».now.printed_path) s.place
+outcome_of (Unloaded t) = unloaded (record { home = string_bytes t.now.printed_path; name = t.now.item })
 outcome_of (Missing path x) = missing (record { home = path_text path.now; name = x.now })
 outcome_of (Private path x) = private (record { home = path_text path.now; name = x.now })
 outcome_of Free = free
 
 abbrev pub item_outcome : Symbol → Item → Outcome
-item_outcome s (item.Declared found) = symbol_at (string_bytes found.«module».now.text) found.place
+item_outcome s (item.Declared found) = symbol_at (string_bytes found.«module».now.printed_path) found.place
 item_outcome s item.Imported = private s
 item_outcome s item.Absent = missing s
 item_outcome s item.Unloaded = unloaded s
@@ -83,6 +83,6 @@ StandsUnder modules path (item.Declared found) = get_by_text modules path ≡ So
 StandsUnder modules path i = ⊤
 
 -- where a name denotes an item of a module that is not loaded, an import of this unit names that module by the target's path
-abbrev pub IsNamedIn : Unit → Denoted → Type 0
+abbrev pub IsNamedIn : UnitTree → Denoted → Type 0
 IsNamedIn unit (Unloaded t) = HasImportOf unit t.now.path
 IsNamedIn unit d = ⊤

@@ -1,12 +1,12 @@
 -- What the code finds, in the words of the definitions.
 use Rattle.std.specs.Prelude.{◌≡◌, ℕ, [], Some, None, Result, Ok, Err, slice_get}
 use Rattle.wgsl_path.specs.declared.path.ModulePath.{ModulePath}
-use Rattle.wgsl_syntax.specs.Tree.{Decl, Unit}
+use Rattle.wgsl_syntax.specs.Tree.{Decl, UnitTree}
 use Rattle.wgsl_syntax.specs.declared.unit.TranslationUnit.{TranslationUnit}
 use Rattle.wgsl_syntax.specs.View.{unit_tree}
-use Rattle.wesl_sources.specs.Occurrences.{Name, declared_name}
-use Rattle.wesl_sources.specs.Modules.{Path, Symbol, Modules, IsModule, Denotes, IsMissing, IsPrivate, IsFree, IsUnloaded}
-use Rattle.wesl_sources.specs.Rounds.{scope_names, AreDistinct, IsFirstAgain}
+use Rattle.wesl_link_spec.specs.Occurrences.{Name, declared_name}
+use Rattle.wesl_link_spec.specs.Modules.{Path, Symbol, Modules, IsModule, Denotes, IsMissing, IsPrivate, IsFree, IsUnloaded}
+use Rattle.wesl_link_spec.specs.Rounds.{scope_names, AreDistinct, IsFirstAgain}
 use Rattle.wesl_scopes.specs.declared.error.ImportError.{ImportError}
 use Rattle.wesl_scopes.specs.declared.error.ImportError.TheVariants.{OutOfMemory, DuplicateSymbol}
 use Rattle.wesl_scopes.specs.declared.module.Module.{Module}
@@ -22,13 +22,13 @@ Opens path unit (Err e) = ⊥
 
 -- these are the modules that are found at their printed paths, and none has a name twice
 pub record IsFinder (modules : Modules) (find : Loaded) : Type 0 where
-  pub found : (p : Path) (m : Path × Unit) → find p ≡ Some m → IsModule modules p m.1 × (m.0 ≡ p)
-  pub finds : (p : Path) (u : Unit) → IsModule modules p u → find p ≡ Some (p, u)
-  pub fresh : (p : Path) (m : Path × Unit) → find p ≡ Some m → first_again [] (names (entries m.1)) ≡ None
+  pub found : (p : Path) (m : Path × UnitTree) → find p ≡ Some m → IsModule modules p m.1 × (m.0 ≡ p)
+  pub finds : (p : Path) (u : UnitTree) → IsModule modules p u → find p ≡ Some (p, u)
+  pub fresh : (p : Path) (m : Path × UnitTree) → find p ≡ Some m → first_again [] (names (entries m.1)) ≡ None
 
 -- the declaration at a place of a loaded module
 pub record StandsAt (modules : Modules) (m : Path) (place : ℕ) (s : Symbol) : Type 0 where
-  pub unit : Unit
+  pub unit : UnitTree
   pub declaration : Decl
   pub is_module : IsModule modules m unit
   pub stands : slice_get unit.declarations place ≡ Some declaration

@@ -1,10 +1,10 @@
 //! What names denote.
 
 ghost use Rattle.std.specs.Prelude.{◌≡◌, Some, string_bytes};
-ghost use Rattle.wgsl_syntax.specs.Tree.{Unit};
+ghost use Rattle.wgsl_syntax.specs.Tree.{UnitTree};
 ghost use Rattle.wgsl_syntax.specs.View.{unit_tree};
-ghost use Rattle.wesl_sources.specs.Modules as spec;
-ghost use Rattle.wesl_sources.specs.Named.{HasImportOf};
+ghost use Rattle.wesl_link_spec.specs.Modules as spec;
+ghost use Rattle.wesl_link_spec.specs.Named.{HasImportOf};
 ghost use Rattle.wesl_scopes.specs.Outcomes.{item_at, item_outcome, outcome, outcome_of, home_of, loaded, IsInTable, DenotesInTable, StandsUnder, IsNamedIn};
 ghost use Rattle.wesl_scopes.specs.Tells.{IsFinder, Tells};
 
@@ -51,7 +51,7 @@ pub enum Denoted<'a> {
 /// What a name of a module denotes: its own declaration, else what its import names.
 pub fn denotation<'a>(modules: &'a Modules, module: &'a Module, name: &str) -> Denoted<'a>
     ensures found { outcome_of result ≡ outcome (loaded modules.now) (home_of module.now) name.now }
-    ensures means { (ms : spec.Modules) → IsFinder ms (loaded modules.now) → loaded modules.now (string_bytes module.now.text) ≡ Some (home_of module.now) → Tells ms (string_bytes module.now.text) name.now (outcome_of result) }
+    ensures means { (ms : spec.Modules) → IsFinder ms (loaded modules.now) → loaded modules.now (string_bytes module.now.printed_path) ≡ Some (home_of module.now) → Tells ms (string_bytes module.now.printed_path) name.now (outcome_of result) }
     ensures in_table { IsInTable modules.now module.now → DenotesInTable modules.now result }
     ensures named { IsNamedIn (unit_tree module.now.unit) result }
 {
@@ -69,17 +69,17 @@ fn looked_up<'a>(modules: &'a Modules, module: &'a Module, name: &str) -> Denote
             module,
             place: *place,
         }),
-        Some(Meaning::Imported(target)) => sought(modules, target),
+        Some(Meaning::Imported(target)) => imported_item(modules, target),
         Some(Meaning::Bare(item)) => Denoted::Missing(&module.path, item),
     }
 }
 
-fn sought<'a>(modules: &'a Modules, target: &'a Target) -> Denoted<'a>
+fn imported_item<'a>(modules: &'a Modules, target: &'a Target) -> Denoted<'a>
     ensures in_table { DenotesInTable modules.now result }
-    ensures named { (unit : Unit) → HasImportOf unit target.now.path → IsNamedIn unit result }
-    ensures found { outcome_of result ≡ item_at (record { home = string_bytes target.now.text; name = target.now.item }) (loaded modules.now (string_bytes target.now.text)) }
+    ensures named { (unit : UnitTree) → HasImportOf unit target.now.path → IsNamedIn unit result }
+    ensures found { outcome_of result ≡ item_at (record { home = string_bytes target.now.printed_path; name = target.now.item }) (loaded modules.now (string_bytes target.now.printed_path)) }
 {
-    match item_of(modules, target.text.as_str(), target.item.as_str()) {
+    match item_of(modules, target.printed_path.as_str(), target.item.as_str()) {
         Item::Declared(symbol) => Denoted::Declared(symbol),
         Item::Imported => Denoted::Private(&target.path, &target.item),
         Item::Absent => Denoted::Missing(&target.path, &target.item),

@@ -4,8 +4,8 @@ ghost use Rattle.std.specs.Prelude.{◌≡◌, ◌++◌, [], None, IfOk, OnOk, s
 ghost use Rattle.std.specs.List.{list_any};
 ghost use Rattle.wgsl_path.specs.Paths.{path_text};
 ghost use Rattle.wgsl_syntax.specs.View.{unit_tree, declaration_tree, attributes_tree, attribute_tree};
-ghost use Rattle.wesl_sources.specs.Kept as spec;
-ghost use Rattle.wesl_scopes.specs.Meanings.{Answers, entries, names, first_again};
+ghost use Rattle.wesl_link_spec.specs.Kept as spec;
+ghost use Rattle.wesl_scopes.specs.Meanings.{IsTableOf, entries, names, first_again};
 
 use crate::error::ImportError;
 use crate::table::meanings_of;
@@ -21,11 +21,11 @@ use wgsl_syntax::{Attribute, AttributeNode, GlobalDeclaration, TranslationUnit};
 pub struct Module {
     pub path: ModulePath,
     /// The path as it is printed.
-    pub text: String,
+    pub printed_path: String,
     pub unit: TranslationUnit,
     pub meanings: HashMap<String, Meaning>,
-    ghost printed: { string_bytes text ≡ path_text path },
-    ghost tabulated: { Answers meanings (entries (unit_tree unit)) },
+    ghost printed: { string_bytes printed_path ≡ path_text path },
+    ghost tabulated: { IsTableOf meanings (entries (unit_tree unit)) },
     ghost fresh: { first_again [] (names (entries (unit_tree unit))) ≡ None },
 }
 
@@ -49,7 +49,7 @@ impl Module {
         let meanings = meanings_of(alloc, path, &unit)?;
         Ok(Module {
             path: path.clone_in(alloc)?,
-            text: path.to_string(alloc)?,
+            printed_path: path.to_string(alloc)?,
             unit,
             meanings,
         })

@@ -2,8 +2,8 @@
 
 ghost use Rattle.std.specs.Prelude.{◌≡◌, Some, IfOk};
 ghost use Rattle.wgsl_syntax.specs.View.{unit_tree, import_tree, declaration_tree};
-ghost use Rattle.wesl_sources.specs.Occurrences as occurrences;
-ghost use Rattle.wesl_sources.specs.Modules as spec;
+ghost use Rattle.wesl_link_spec.specs.Occurrences as occurrences;
+ghost use Rattle.wesl_link_spec.specs.Modules as spec;
 ghost use Rattle.wesl_scopes.specs.Meanings.{Adds, Tabulates, known_of, import_known};
 
 use crate::error::ImportError;

@@ -12,9 +12,9 @@ use wgsl_path::ModulePath;
 pub struct Target {
     pub path: ModulePath,
     /// The module's path as it is printed.
-    pub text: String,
+    pub printed_path: String,
     pub item: Text,
-    ghost printed: { string_bytes text ≡ path_text path },
+    ghost printed: { string_bytes printed_path ≡ path_text path },
 }
 
 impl Target {
@@ -24,7 +24,7 @@ impl Target {
         ensures item { IfOk result (λ target. target.item ≡ item.now) }
     {
         Ok(Target {
-            text: path.to_string(alloc)?,
+            printed_path: path.to_string(alloc)?,
             path: path.clone_in(alloc)?,
             item: item.clone_in(alloc)?,
         })

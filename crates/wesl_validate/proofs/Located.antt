@@ -3,7 +3,7 @@ use Rattle.std.proofs.Common.{◌≡◌, ◌⊎◌, inl, inr, ⊎_elim, ℕ, zer
 use Rattle.std.specs.Prelude.{if◌then◌else◌, slice_get}
 use Rattle.std.specs.List.{flat_map}
 use Rattle.wgsl_items.proofs.Members.{first_in, later_in, to_contains, get_map}
-use Rattle.wgsl_syntax.specs.Tree.{Decl, Unit}
+use Rattle.wgsl_syntax.specs.Tree.{Decl, UnitTree}
 use Rattle.wgsl_syntax.specs.Names.{declared_name}
 use Rattle.wesl_validate.specs.declared.error.ValidateError.{ValidateError}
 use Rattle.wesl_validate.specs.declared.error.ValidateError.TheVariants.{UndefinedSymbol, Duplicate}
@@ -78,7 +78,7 @@ module _ (at : Name → Place → List ValidateFault) (named : (holder : Name) (
 
 -- ---- the law
 
-names_of_rows : (unit : Unit) → map (λ r. r.name) (rows unit) ≡ names unit
+names_of_rows : (unit : UnitTree) → map (λ r. r.name) (rows unit) ≡ names unit
 names_of_rows unit = map-map (λ (r : Row). r.name) (row_of (global_of unit)) unit.declarations
 
 pub faults_are_in_declarations : FaultsAreInDeclarations

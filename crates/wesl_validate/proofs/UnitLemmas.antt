@@ -5,7 +5,7 @@ use Rattle.std.specs.Result.{IsErrAnd}
 use Rattle.std.specs.Str.{bytes_eq}
 use Rattle.wgsl_path.specs.declared.span.Spanned.{Spanned}
 use Rattle.wgsl_syntax.specs.declared.declaration.GlobalDeclaration.{GlobalDeclaration}
-use Rattle.wgsl_syntax.specs.Tree.{Decl, Unit}
+use Rattle.wgsl_syntax.specs.Tree.{Decl, UnitTree}
 use Rattle.wgsl_syntax.specs.View.{declaration_tree, unit_tree}
 use Rattle.wgsl_syntax.specs.declared.unit.TranslationUnit.{TranslationUnit}
 use Rattle.wgsl_syntax.specs.Names.{declared_name}
@@ -36,15 +36,15 @@ distinct_is u ds are h = subst (λ xs. duplicates [] (trees xs) ≡ []) are h
 
 -- ---- each case
 
-abbrev pub NamesFirstFault : Unit → List Name → Refusal → Type 0
+abbrev pub NamesFirstFault : UnitTree → List Name → Refusal → Type 0
 NamesFirstFault unit table = UnlessOutOfMemory (IsFirstFault unit table)
 
-pub through : (U : Type 0) (unit : Unit) (table : List Name) (r : Result U Refusal) (e : Refusal) → IsErrAnd r (λ x. x ≡ e)
+pub through : (U : Type 0) (unit : UnitTree) (table : List Name) (r : Result U Refusal) (e : Refusal) → IsErrAnd r (λ x. x ≡ e)
     → NamesFirstFault unit table e → IfErr r (NamesFirstFault unit table)
 through U unit table (Ok x) e p h = absurd p
 through U unit table (Err x) e p h = subst (NamesFirstFault unit table) (sym p) h
 
-module _ (unit : Unit) (table : List Name) where
+module _ (unit : UnitTree) (table : List Name) where
   pub names_duplicate : (e : Refusal) → Refuses (duplicates_of unit) e → NamesFirstFault unit table e
   names_duplicate (Error f) h = duplicate f h
   names_duplicate OutOfMemory h = tt

@@ -3,7 +3,7 @@
 use Rattle.std.specs.Prelude.{ℕ, List, [], ◌∷◌, ◌++◌, filter, Bool, true, false, ◌||◌, if◌then◌else◌, Option, Some, None, is_some, unwrap_or}
 use Rattle.std.specs.List.{flat_map}
 use Rattle.std.specs.Str.{bytes_eq}
-use Rattle.wgsl_syntax.specs.Tree.{Decl, Unit}
+use Rattle.wgsl_syntax.specs.Tree.{Decl, UnitTree}
 use Rattle.wgsl_syntax.specs.Names.{declared_name}
 use Rattle.wesl_validate.specs.Scopes.{Name, parameters_of, names, is_in}
 
@@ -23,7 +23,7 @@ abbrev pub unclear_in : (Name → Bool) → (Name → Bool) → Decl → List Na
 unclear_in global local d = filter global (declared_name d ∷ []) ++ filter local (parameters_of d)
 
 -- the unclear names of a unit, in text order
-abbrev pub unclear : Unit → List Name → List Name
+abbrev pub unclear : UnitTree → List Name → List Name
 unclear unit table = flat_map (unclear_in (is_unclear_global table (names unit)) (is_unclear_local table (names unit))) unit.declarations
 
 -- ---- by a look-up, which says of each name that is declared whether two declarations share it

@@ -5,7 +5,7 @@ use Rattle.std.specs.Prelude.{◌≡◌, ℕ, ◌<◌, List, [], ◌∷◌, ◌+
 use Rattle.std.specs.List.{flat_map}
 use Rattle.wgsl_items.specs.declared.error.OrOutOfMemory.{OrOutOfMemory}
 use Rattle.wgsl_items.specs.Memory.{UnlessOutOfMemory}
-use Rattle.wgsl_syntax.specs.Tree.{Decl, Unit}
+use Rattle.wgsl_syntax.specs.Tree.{Decl, UnitTree}
 use Rattle.wgsl_syntax.specs.Names.{declared_name}
 use Rattle.wesl_validate.specs.declared.error.ValidateError.{ValidateError}
 use Rattle.wesl_validate.specs.declared.error.ValidateError.TheVariants.{UndefinedSymbol, ParamCount, NotCallable, Duplicate, Cycle}
@@ -78,28 +78,28 @@ miscall_at rows holder p = maybe_fault holder p.name (call_fault rows p.argument
 abbrev pub faults_at : (Name → Place → List ValidateFault) → List Row → List ValidateFault
 faults_at at rows = flat_map (λ r. flat_map (at r.name) r.places) rows
 
-abbrev pub duplicates_of : Unit → List ValidateFault
+abbrev pub duplicates_of : UnitTree → List ValidateFault
 duplicates_of unit = duplicates [] unit.declarations
 
-abbrev pub undefined_of : Unit → List Name → List ValidateFault
+abbrev pub undefined_of : UnitTree → List Name → List ValidateFault
 undefined_of unit table = faults_at (undefined_at table) (rows unit)
 
-abbrev pub miscalls_of : Unit → List ValidateFault
+abbrev pub miscalls_of : UnitTree → List ValidateFault
 miscalls_of unit = faults_at (miscall_at (rows unit)) (rows unit)
 
 -- a unit has no fault that stands at one place
-pub record IsFlat (unit : Unit) (table : List Name) : Type 0 where
+pub record IsFlat (unit : UnitTree) (table : List Name) : Type 0 where
   pub distinct : duplicates_of unit ≡ []
   pub defined : undefined_of unit table ≡ []
   pub called : miscalls_of unit ≡ []
 
 -- a unit has no fault
-pub record IsFaultless (unit : Unit) (table : List Name) : Type 0 where
+pub record IsFaultless (unit : UnitTree) (table : List Name) : Type 0 where
   pub flat : IsFlat unit table
   pub ringless : (i : ℕ) → ¬ IsOnRing (rows unit) i
 
 -- the fault of a unit: the first of the first case that has any
-pub data IsFirstFault (unit : Unit) (table : List Name) : ValidateFault → Type 0 where
+pub data IsFirstFault (unit : UnitTree) (table : List Name) : ValidateFault → Type 0 where
   duplicate : (f : ValidateFault) → first (duplicates_of unit) ≡ Some f → IsFirstFault unit table f
   undefined : (f : ValidateFault) → duplicates_of unit ≡ [] → first (undefined_of unit table) ≡ Some f → IsFirstFault unit table f
   miscall : (f : ValidateFault) → duplicates_of unit ≡ [] → undefined_of unit table ≡ [] → first (miscalls_of unit) ≡ Some f

@@ -3,7 +3,7 @@ use Rattle.std.specs.Prelude.{ℕ, List, [], ◌∷◌, ◌++◌, map, length, �
 use Rattle.std.specs.List.{flat_map, list_any}
 use Rattle.std.specs.Str.{bytes_eq}
 use Rattle.wgsl_path.specs.declared.path.ModulePath.{ModulePath}
-use Rattle.wgsl_syntax.specs.Tree.{Exp, literal, parenthesized, unary, binary, call, named, Exps, nil, cons, Typ, simple, templated, Attr, fragment, location, Stm, returning, Block, Param, Decl, variable, function, Unit}
+use Rattle.wgsl_syntax.specs.Tree.{Exp, literal, parenthesized, unary, binary, call, named, Exps, nil, cons, Typ, simple, templated, Attr, fragment, location, Stm, returning, Block, Param, Decl, variable, function, UnitTree}
 use Rattle.wgsl_syntax.specs.Names.{declared_name}
 -- another name for it, which crates above use
 pub use Rattle.wgsl_syntax.specs.Names.{declared_name as name_of}
@@ -21,7 +21,7 @@ parameters_of (variable attributes kind name type initializer) = []
 parameters_of (function attributes name parameters result_attributes result body) = map (λ p. p.name) parameters
 
 -- the names that a unit declares, in text order
-abbrev pub names : Unit → List Name
+abbrev pub names : UnitTree → List Name
 names unit = map declared_name unit.declarations
 
 -- ---- what a name denotes
@@ -107,7 +107,7 @@ decl_places global (function attributes name parameters result_attributes result
     head_places global attributes parameters result_attributes result ++ body_places global (map (λ p. p.name) parameters) body
 
 -- where a unit declares a name first
-abbrev pub global_of : Unit → Name → Option ℕ
+abbrev pub global_of : UnitTree → Name → Option ℕ
 global_of unit x = position (bytes_eq x) (names unit)
 
 -- how many parameters a function has; a value has none
@@ -119,5 +119,5 @@ arity (function attributes name parameters result_attributes result body) = Some
 abbrev pub row_of : (Name → Option ℕ) → Decl → Row
 row_of global d = record { name = declared_name d; parameters = arity d; places = decl_places global d }
 
-abbrev pub rows : Unit → List Row
+abbrev pub rows : UnitTree → List Row
 rows unit = map (row_of (global_of unit)) unit.declarations

@@ -1,15 +1,15 @@
 -- Sources that agree on what is asked of one of them get the same answer.
 use Rattle.std.proofs.Common.{◌≡◌, inl, inr, ℕ, List, Result, Ok, Err, refl, sym, ap, ◌∙◌, subst}
-use Rattle.wgsl_syntax.specs.Tree.{Unit}
+use Rattle.wgsl_syntax.specs.Tree.{UnitTree}
 use Rattle.wgsl_syntax.specs.Print.{unit_text}
 use Rattle.wesl_resolve.specs.Found.{unit_of}
 use Rattle.wesl_resolve.specs.SourceMaps.{decl_at}
-use Rattle.wesl_sources.specs.Occurrences.{Name}
-use Rattle.wesl_sources.specs.Modules.{Path, Modules}
-use Rattle.wesl_sources.specs.Named.{ImportsAreApart}
-use Rattle.wesl_sources.specs.Rounds.{Sources, Refusal, ComesTo}
-use Rattle.wesl_sources.specs.Loaded.{IsClashFree}
-use Rattle.wesl_sources.specs.Clashing.{IsFirstClash}
+use Rattle.wesl_link_spec.specs.Occurrences.{Name}
+use Rattle.wesl_link_spec.specs.Modules.{Path, Modules}
+use Rattle.wesl_link_spec.specs.Named.{ImportsAreApart}
+use Rattle.wesl_link_spec.specs.Rounds.{Sources, LoadError, IsLoadingResult}
+use Rattle.wesl_link_spec.specs.Loaded.{IsClashFree}
+use Rattle.wesl_link_spec.specs.Clashing.{IsFirstClash}
 use Rattle.wesl_meaning.specs.Agreement.{AreAlike}
 use Rattle.wesl_meaning.specs.Determined.{IsFunctional}
 use Rattle.wesl_meaning.proofs.Agreement.{holds_of_alike_modules}
@@ -21,13 +21,13 @@ use Rattle.weslc_unit.specs.declared.error.UnitRefusal.{UnitRefusal}
 use Rattle.weslc_unit.specs.declared.error.UnitRefusal.TheVariants as of
 use Rattle.weslc_unit.proofs.Once.{compiled_once, refused_once, compiled_or_refused, told_once}
 use Rattle.weslc_laws.specs.Headline.{IsLinkedFrom}
-use Rattle.weslc_calls.specs.Answers.{AreLoadedFrom, IsRefusedLoading, IsFirstClashFrom, RefusesLinking}
-use Rattle.weslc_calls.specs.Mapped.{TellsHeld}
-use Rattle.weslc_calls.specs.Told.{about_name, Tells}
-use Rattle.weslc_calls.specs.declared.error.ResolveKind.TheVariants.{ModuleNotFound}
-use Rattle.weslc_calls.specs.declared.error.ImportKind.TheVariants.{DuplicateSymbol, MissingDecl, Private}
-use Rattle.weslc_calls.specs.declared.error.CompileError.{CompileError}
-use Rattle.weslc_calls.specs.declared.error.CompileError.TheVariants.{TooManyModules, Resolve, Syntax, Import, NameClash, Validate, UnclearName, Eval, Unprintable, OutOfMemory}
+use Rattle.weslc_api.specs.Answers.{AreLoadedFrom, IsRefusedLoading, IsFirstClashFrom, RefusesLinking}
+use Rattle.weslc_api.specs.Mapped.{TellsHeld}
+use Rattle.weslc_api.specs.Told.{about_name, Tells}
+use Rattle.weslc_api.specs.declared.error.ResolveKind.TheVariants.{ModuleNotFound}
+use Rattle.weslc_api.specs.declared.error.ImportKind.TheVariants.{DuplicateSymbol, MissingDecl, Private}
+use Rattle.weslc_api.specs.declared.error.CompileError.{CompileError}
+use Rattle.weslc_api.specs.declared.error.CompileError.TheVariants.{TooManyModules, Resolve, Syntax, Import, NameClash, Validate, UnclearName, Eval, Unprintable, OutOfMemory}
 use Rattle.weslc_agreement.specs.Asked.{AgreesOnAsked, HasAskedUnits}
 use Rattle.weslc_agreement.specs.Answers.{SameAnswer, TellTheSame, IsCompiledAnswer, IsLinkedAnswer, CompiledAlike, LinkedAlike}
 use Rattle.weslc_agreement.proofs.Units.{units_are_one}
@@ -38,7 +38,7 @@ use Rattle.weslc_agreement.proofs.Told.{refused_first, refused_last, TellsLoadin
 
 -- what may be said of the modules, the root, the kept names, the linked unit and the answer
 abbrev Saying : Type 1
-Saying = Modules → Path → List Name → Unit → Result (List ℕ) CompileError → Type 0
+Saying = Modules → Path → List Name → UnitTree → Result (List ℕ) CompileError → Type 0
 
 -- by `compile`: its compiled text, or its refusal, as one tells it who tells where its names come from
 abbrev OfCompiling : Saying
@@ -52,7 +52,7 @@ OfLinking modules root keep linked (Err e) = (x : Name) × (e ≡ Unprintable (a
 
 -- the same is answered of alike modules
 abbrev IsOne : Saying → Type 0
-IsOne Of = (root : Path) (modules others : Modules) → AreAlike root modules others → (keep : List Name) (linked : Unit) (one two : Result (List ℕ) CompileError)
+IsOne Of = (root : Path) (modules others : Modules) → AreAlike root modules others → (keep : List Name) (linked : UnitTree) (one two : Result (List ℕ) CompileError)
     → Of modules root keep linked one → Of others root keep linked two → SameAnswer one two
 
 memory_told : (tell : Telling) (refusal : UnitRefusal) (e : CompileError) → refusal ≡ of.OutOfMemory → Tells tell refusal e → e ≡ OutOfMemory
@@ -79,9 +79,9 @@ linking_is_one root modules others alike keep linked (Err e) (Err f) (x, is, unr
 module _ (Of : Saying) (found : Sources) (root : Path) (asked : List Name) (max : ℕ) where
   data Ends : Result (List ℕ) CompileError → Type 0 where
     for_memory : Ends (Err OutOfMemory)
-    in_loading : {e : CompileError} (r : Refusal) → IsRefusedLoading found root asked max r → TellsLoading r e → Ends (Err e)
+    in_loading : {e : CompileError} (r : LoadError) → IsRefusedLoading found root asked max r → TellsLoading r e → Ends (Err e)
     in_a_clash : {e : CompileError} (y : Name) → IsFirstClashFrom found root asked max y → e ≡ NameClash (about_name y) → Ends (Err e)
-    with_a_unit : {answer : Result (List ℕ) CompileError} (linked : Unit) (from : IsLinkedFrom found root asked max linked) → Of from.modules root from.kept linked answer → Ends answer
+    with_a_unit : {answer : Result (List ℕ) CompileError} (linked : UnitTree) (from : IsLinkedFrom found root asked max linked) → Of from.modules root from.kept linked answer → Ends answer
 
   refused_ends : (e : CompileError) → RefusesLinking found root asked max e → Ends (Err e)
   refused_ends (TooManyModules c) (m, is, refused) = in_loading _ refused (m, ap TooManyModules is, refl)
@@ -109,16 +109,16 @@ linking_ends found root asked max (Err e) (inr u) = with_a_unit u.linked u.from 
 
 -- ---- two runs
 
-loaded_of : (found : Sources) (root : Path) (asked : List Name) (max : ℕ) (linked : Unit) (from : IsLinkedFrom found root asked max linked) → AreLoadedFrom found root asked max from.kept from.modules
+loaded_of : (found : Sources) (root : Path) (asked : List Name) (max : ℕ) (linked : UnitTree) (from : IsLinkedFrom found root asked max linked) → AreLoadedFrom found root asked max from.kept from.modules
 loaded_of found root asked max linked from = record { are_kept = from.are_kept; loaded = from.loaded; named = from.named }
 
 module _ (Of : Saying) (is_one : IsOne Of) (found other : Sources) (functional : IsFunctional found) (functional_too : IsFunctional other) (apart : ImportsAreApart found) (root : Path) (asked : List Name) (max : ℕ) (agree : AgreesOnAsked found root asked max other) where
   -- modules that one run loads, and a refusal of the other's loading
-  not_refused : (keep : List Name) (modules : Modules) → AreLoadedFrom found root asked max keep modules → (r : Refusal) → IsRefusedLoading other root asked max r → ⊥
+  not_refused : (keep : List Name) (modules : Modules) → AreLoadedFrom found root asked max keep modules → (r : LoadError) → IsRefusedLoading other root asked max r → ⊥
   not_refused keep modules l r refused =
       same_outcome found other functional functional_too root asked max agree (Ok modules) (Err r) (loaded_outcome found root asked max keep modules l) (refused_outcome other root asked max r refused)
 
-  refused_not : (r : Refusal) → IsRefusedLoading found root asked max r → (keep : List Name) (modules : Modules) → AreLoadedFrom other root asked max keep modules → ⊥
+  refused_not : (r : LoadError) → IsRefusedLoading found root asked max r → (keep : List Name) (modules : Modules) → AreLoadedFrom other root asked max keep modules → ⊥
   refused_not r refused keep modules l =
       same_outcome found other functional functional_too root asked max agree (Err r) (Ok modules) (refused_outcome found root asked max r refused) (loaded_outcome other root asked max keep modules l)
 
@@ -128,33 +128,33 @@ module _ (Of : Saying) (is_one : IsOne Of) (found other : Sources) (functional :
       let kept = kept_are_one found other functional functional_too root asked max agree c.kept d.kept c.modules c.loaded d.loaded.are_kept in
       let alike = loaded_alike found other functional functional_too root asked max agree apart c.kept d.kept c.modules d.modules c.loaded d.loaded in
       clashes_are_one.once d.modules root c.kept y z
-      (loaded_modules other root c.kept max d.modules (subst (λ k. ComesTo other root k max (Ok d.modules)) kept d.loaded.loaded))
+      (loaded_modules other root c.kept max d.modules (subst (λ k. IsLoadingResult other root k max (Ok d.modules)) kept d.loaded.loaded))
       (holds_of_alike_modules.first_clash y root c.modules d.modules alike c.kept c.clash)
       (subst (λ k. IsFirstClash d.modules root k z) kept d.clash)
 
   -- a clash, and modules that are free of clashes
-  clash_not_free : (y : Name) → IsFirstClashFrom found root asked max y → (linked : Unit) → IsLinkedFrom other root asked max linked → ⊥
+  clash_not_free : (y : Name) → IsFirstClashFrom found root asked max y → (linked : UnitTree) → IsLinkedFrom other root asked max linked → ⊥
   clash_not_free y c linked from =
       let there = loaded_of other root asked max linked from in
       let kept = kept_are_one found other functional functional_too root asked max agree c.kept from.kept c.modules c.loaded from.are_kept in
       let alike = loaded_alike found other functional functional_too root asked max agree apart c.kept from.kept c.modules from.modules c.loaded there in
       clashes_are_one.never from.modules root c.kept y
-      (loaded_modules other root c.kept max from.modules (subst (λ k. ComesTo other root k max (Ok from.modules)) kept from.loaded))
+      (loaded_modules other root c.kept max from.modules (subst (λ k. IsLoadingResult other root k max (Ok from.modules)) kept from.loaded))
       (subst (λ k. IsClashFree from.modules root k) kept from.linked_well.clash_free)
       (holds_of_alike_modules.first_clash y root c.modules from.modules alike c.kept c.clash)
 
-  free_not_clash : (linked : Unit) → IsLinkedFrom found root asked max linked → (y : Name) → IsFirstClashFrom other root asked max y → ⊥
+  free_not_clash : (linked : UnitTree) → IsLinkedFrom found root asked max linked → (y : Name) → IsFirstClashFrom other root asked max y → ⊥
   free_not_clash linked from y c =
       let here = loaded_of found root asked max linked from in
       let kept = kept_are_one found other functional functional_too root asked max agree from.kept c.kept from.modules here c.loaded.are_kept in
       let alike = loaded_alike found other functional functional_too root asked max agree apart from.kept c.kept from.modules c.modules here c.loaded in
       clashes_are_one.never c.modules root from.kept y
-      (loaded_modules other root from.kept max c.modules (subst (λ k. ComesTo other root k max (Ok c.modules)) kept c.loaded.loaded))
+      (loaded_modules other root from.kept max c.modules (subst (λ k. IsLoadingResult other root k max (Ok c.modules)) kept c.loaded.loaded))
       (holds_of_alike_modules.clash_free root from.modules c.modules alike from.kept from.linked_well.clash_free)
       (subst (λ k. IsFirstClash c.modules root k y) kept c.clash)
 
   -- two linked units
-  units_said : (one two : Result (List ℕ) CompileError) (linked more : Unit) (from : IsLinkedFrom found root asked max linked) (onto : IsLinkedFrom other root asked max more)
+  units_said : (one two : Result (List ℕ) CompileError) (linked more : UnitTree) (from : IsLinkedFrom found root asked max linked) (onto : IsLinkedFrom other root asked max more)
       → Of from.modules root from.kept linked one → Of onto.modules root onto.kept more two → SameAnswer one two
   units_said one two linked more from onto a b =
       let here = loaded_of found root asked max linked from in

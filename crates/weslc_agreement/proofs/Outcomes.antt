@@ -3,21 +3,21 @@ use Rattle.std.specs.Prelude.{◌↔◌}
 use Rattle.std.proofs.Common.{◌≡◌, ◌⊎◌, inl, inr, ℕ, ◌<◌, List, [], ◌∷◌, Result, Ok, Err, refl, sym, ap, ◌∙◌, subst, arith}
 use Rattle.std.proofs.lemmas.Bool.{cases_order}
 use Rattle.wesl_resolve.specs.Found.{Answer, unit_of}
-use Rattle.wesl_sources.specs.Occurrences.{Name}
-use Rattle.wesl_sources.specs.Modules.{Path, Modules}
-use Rattle.wesl_sources.specs.Named.{ImportsAreApart}
-use Rattle.wesl_sources.specs.Kept.{kept_names}
-use Rattle.wesl_sources.specs.Rounds.{Sources, Refusal, too_many_modules, Loads, one_too_many, is_not_found, is_faulty, has_a_name_twice, loaded_then_refused, loaded, ComesTo, root_refused, kept_name_missing, goes_on}
+use Rattle.wesl_link_spec.specs.Occurrences.{Name}
+use Rattle.wesl_link_spec.specs.Modules.{Path, Modules}
+use Rattle.wesl_link_spec.specs.Named.{ImportsAreApart}
+use Rattle.wesl_link_spec.specs.Kept.{kept_names}
+use Rattle.wesl_link_spec.specs.Rounds.{Sources, LoadError, too_many_modules, Loads, one_too_many, is_not_found, is_faulty, has_a_name_twice, loaded_then_refused, loaded, IsLoadingResult, root_refused, kept_name_missing, goes_on}
 use Rattle.wesl_meaning.specs.Agreement.{AreAlike}
-use Rattle.wesl_sources.specs.Asks.{Asks, AsksAmong, asks_first, asks_next, for_the_root, onward}
+use Rattle.wesl_link_spec.specs.Asks.{Asks, AsksAmong, asks_first, asks_next, for_the_root, onward}
 use Rattle.wesl_meaning.specs.Determined.{IsFunctional, SameOutcome}
 use Rattle.wesl_meaning.proofs.Agreement.{listed_modules_are_alike}
 use Rattle.wesl_meaning.proofs.Asked.{only_what_is_asked_counts}
 use Rattle.wesl_meaning.proofs.Determined.{loads_once}
 use Rattle.wesl_meaning.proofs.Loading.{found_modules}
 use Rattle.weslc_laws.specs.Headline.{AreKept}
-use Rattle.weslc_calls.specs.Answers.{AreLoadedFrom, IsRefusedLoading, of_the_root, behind_the_root}
-use Rattle.weslc_calls.specs.Asked.{IsAskedOf, the_root, behind_the_root as asked_behind}
+use Rattle.weslc_api.specs.Answers.{AreLoadedFrom, IsRefusedLoading, of_the_root, behind_the_root}
+use Rattle.weslc_api.specs.Asked.{IsAskedOf, the_root, behind_the_root as asked_behind}
 use Rattle.weslc_agreement.specs.Asked.{AgreesOnAsked}
 use Rattle.weslc_agreement.proofs.Units.{some_come}
 
@@ -25,11 +25,11 @@ use Rattle.weslc_agreement.proofs.Units.{some_come}
 
 module _ (found : Sources) (root : Path) (asked : List Name) (max : ℕ) where
   -- the root is refused, or this is what loading comes to where its unit's names are kept
-  pub data Outcome : Result Modules Refusal → Type 0 where
-    at_the_root : {r : Refusal} → Loads found max 0 (root ∷ []) (Err r) → Outcome (Err r)
-    from_the_root : {keep : List Name} {o : Result Modules Refusal} → AreKept found root asked keep → ComesTo found root keep max o → Outcome o
+  pub data Outcome : Result Modules LoadError → Type 0 where
+    at_the_root : {r : LoadError} → Loads found max 0 (root ∷ []) (Err r) → Outcome (Err r)
+    from_the_root : {keep : List Name} {o : Result Modules LoadError} → AreKept found root asked keep → IsLoadingResult found root keep max o → Outcome o
 
-  pub refused_outcome : (r : Refusal) → IsRefusedLoading found root asked max r → Outcome (Err r)
+  pub refused_outcome : (r : LoadError) → IsRefusedLoading found root asked max r → Outcome (Err r)
   refused_outcome r (of_the_root l) = at_the_root l
   refused_outcome r (behind_the_root {unit = unit} is c) = from_the_root (record { unit = unit; found = is; are = refl }) c
 
@@ -37,7 +37,7 @@ module _ (found : Sources) (root : Path) (asked : List Name) (max : ℕ) where
   loaded_outcome keep modules l = from_the_root l.are_kept l.loaded
 
   -- where no module may be loaded, the root is one too many
-  none_loads : (0 < max → ⊥) → (o : Result Modules Refusal) → Loads found max 0 (root ∷ []) o → o ≡ Err (too_many_modules root)
+  none_loads : (0 < max → ⊥) → (o : Result Modules LoadError) → Loads found max 0 (root ∷ []) o → o ≡ Err (too_many_modules root)
   none_loads none _ (one_too_many l) = refl
   none_loads none _ (is_not_found l f) = absurd (none l)
   none_loads none _ (is_faulty l f) = absurd (none l)
@@ -48,12 +48,12 @@ module _ (found : Sources) (root : Path) (asked : List Name) (max : ℕ) where
   none_loaded : (0 < max → ⊥) → (modules : Modules) → Loads found max 0 (root ∷ []) (Ok modules) → ⊥
   none_loaded none modules l = let is : Ok modules ≡ Err (too_many_modules root) = none_loads none (Ok modules) l in absurd (cc)
 
-  none_comes : (0 < max → ⊥) → (keep : List Name) (o : Result Modules Refusal) → ComesTo found root keep max o → o ≡ Err (too_many_modules root)
+  none_comes : (0 < max → ⊥) → (keep : List Name) (o : Result Modules LoadError) → IsLoadingResult found root keep max o → o ≡ Err (too_many_modules root)
   none_comes none keep _ (root_refused {r = r} l) = none_loads none (Err r) l
   none_comes none keep _ (kept_name_missing l f) = absurd (none_loaded none _ l)
   none_comes none keep o (goes_on l h g) = absurd (none_loaded none _ l)
 
-  pub none_may : (0 < max → ⊥) → (o : Result Modules Refusal) → Outcome o → o ≡ Err (too_many_modules root)
+  pub none_may : (0 < max → ⊥) → (o : Result Modules LoadError) → Outcome o → o ≡ Err (too_many_modules root)
   none_may none _ (at_the_root {r = r} l) = none_loads none (Err r) l
   none_may none o (from_the_root {keep = keep} are c) = none_comes none keep o c
 
@@ -86,22 +86,22 @@ module _ (found other : Sources) (one : IsFunctional found) (two : IsFunctional 
   asks_the_root some p (asks_next l f d rest) = elim rest [ ]
 
   -- where the root is refused, nothing else is
-  agrees_at : 0 < max → (r : Refusal) → Loads found max 0 (root ∷ []) (Err r) → (keep : List Name) (p : Path) → Asks found root keep max p → (a : Answer) → found p a ↔ other p a
+  agrees_at : 0 < max → (r : LoadError) → Loads found max 0 (root ∷ []) (Err r) → (keep : List Name) (p : Path) → Asks found root keep max p → (a : Answer) → found p a ↔ other p a
   agrees_at some r l keep p (for_the_root a) = agree p (asks_the_root some p a)
   agrees_at some r l keep p (onward {path = path} {u = u} k h g) = absurd (loads_once found one max 0 (root ∷ []) (Err r) (Ok ((path, u) ∷ [])) l k)
 
-  outcomes_same : 0 < max → (o q : Result Modules Refusal) → Outcome found root asked max o → Outcome other root asked max q → SameOutcome o q
+  outcomes_same : 0 < max → (o q : Result Modules LoadError) → Outcome found root asked max o → Outcome other root asked max q → SameOutcome o q
   outcomes_same some _ _ (at_the_root {r = r} l) (at_the_root {r = s} k) = only_what_is_asked_counts found other two root [] max (agrees_at some r l []) (Err r) (Err s) (root_refused l) (root_refused k)
   outcomes_same some _ q (at_the_root {r = r} l) (from_the_root {keep = keep} are c) = only_what_is_asked_counts found other two root keep max (agrees_at some r l keep) (Err r) q (root_refused l) c
   outcomes_same some o _ (from_the_root {keep = keep} are c) (at_the_root {r = s} k) = only_what_is_asked_counts found other two root keep max (agrees_behind keep are) o (Err s) c (root_refused k)
   outcomes_same some o q (from_the_root {keep = keep} are c) (from_the_root {keep = more} there d) =
-      only_what_is_asked_counts found other two root keep max (agrees_behind keep are) o q c (subst (λ k. ComesTo other root k max q) (kept_alike some keep more are there) d)
+      only_what_is_asked_counts found other two root keep max (agrees_behind keep are) o q c (subst (λ k. IsLoadingResult other root k max q) (kept_alike some keep more are there) d)
 
   -- both come to the same
-  pub same_outcome : (o q : Result Modules Refusal) → Outcome found root asked max o → Outcome other root asked max q → SameOutcome o q
+  pub same_outcome : (o q : Result Modules LoadError) → Outcome found root asked max o → Outcome other root asked max q → SameOutcome o q
   same_outcome o q a b = by (some_or_none max)
     where
-      refused : Result Modules Refusal
+      refused : Result Modules LoadError
       refused = Err (too_many_modules root)
 
       by : (0 < max) ⊎ (0 < max → ⊥) → SameOutcome o q

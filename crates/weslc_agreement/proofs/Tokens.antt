@@ -2,28 +2,28 @@
 use Rattle.std.proofs.Common.{◌≡◌, List, ℕ, Option, Some, None, sym, ◌∙◌}
 use Rattle.wgsl_lex.proofs.Once.{lexed_once}
 use Rattle.wgsl_parse.proofs.Texts as parsing
-use Rattle.wgsl_syntax.specs.Tree.{Unit}
-use Rattle.wgsl_laws.specs.Printing.{StandsFor}
-use Rattle.wgsl_laws.specs.Same.{HaveSameTokens}
-use Rattle.wgsl_laws.proofs.Apart.{imports_of_texts_are_apart}
-use Rattle.wgsl_laws.proofs.Same.{same_tokens_stand_for_the_same}
+use Rattle.wgsl_syntax.specs.Tree.{UnitTree}
+use Rattle.wgsl_round_trip.specs.Printing.{StandsFor}
+use Rattle.wgsl_round_trip.specs.Same.{HaveSameTokens}
+use Rattle.wgsl_round_trip.proofs.Apart.{imports_of_texts_are_apart}
+use Rattle.wgsl_round_trip.proofs.Same.{same_tokens_stand_for_the_same}
 use Rattle.wesl_resolve.specs.Found.{Answer, unit_of, not_found, faulty}
-use Rattle.wesl_sources.specs.Occurrences.{Name}
-use Rattle.wesl_sources.specs.Modules.{Path}
+use Rattle.wesl_link_spec.specs.Occurrences.{Name}
+use Rattle.wesl_link_spec.specs.Modules.{Path}
 use Rattle.wesl_meaning.specs.Determined.{IsFunctional}
 use Rattle.weslc_unit.specs.Compiled.{IsTextOf}
-use Rattle.weslc_calls.specs.Stored.{text_at, Says, SaysOnly, found_in}
-use Rattle.weslc_calls.specs.declared.resolver.VirtualResolver.{VirtualResolver}
+use Rattle.weslc_api.specs.Stored.{text_at, Says, SaysOnly, found_in}
+use Rattle.weslc_api.specs.declared.resolver.VirtualResolver.{VirtualResolver}
 use Rattle.weslc_agreement.specs.Asked.{HasAskedUnits}
 use Rattle.weslc_agreement.specs.Texts.{added, AreOfSameTokens, HaveTheSameTokens, AddedImportsAreApart, SameTokensCompileAlike, SameTokensLinkAlike}
 use Rattle.weslc_agreement.proofs.Texts.{compiled_texts_are_one, linked_texts_are_one}
 
 -- ---- a text that is read as a unit stands for it
 
-text_of : (text : List ℕ) (u : Unit) → StandsFor text u → IsTextOf u text
+text_of : (text : List ℕ) (u : UnitTree) → StandsFor text u → IsTextOf u text
 text_of text u s = (s.unit, record { tokens = s.tokens; lexed = s.lexed; stands = s.derived }, s.same)
 
-stands_for : (text : List ℕ) (u : Unit) → IsTextOf u text → StandsFor text u
+stands_for : (text : List ℕ) (u : UnitTree) → IsTextOf u text → StandsFor text u
 stands_for text u is = record { tokens = is.1.tokens; unit = is.0; lexed = is.1.lexed; derived = is.1.stands; same = is.2 }
 
 -- ---- what is found
@@ -37,7 +37,7 @@ added_once : (r : VirtualResolver) → IsFunctional (added r)
 added_once r p = found_once (text_at r p)
 
 -- a unit by its text
-found_text : (o : Option (List ℕ)) (u : Unit) → found_in o (unit_of u) → (text : List ℕ) × StandsFor text u
+found_text : (o : Option (List ℕ)) (u : UnitTree) → found_in o (unit_of u) → (text : List ℕ) × StandsFor text u
 found_text None u is = absurd (cc)
 found_text (Some text) u is = (text, stands_for text u is.says)
 
@@ -46,10 +46,10 @@ found_text (Some text) u is = (text, stands_for text u is.says)
 turned : (one other : List ℕ) → HaveSameTokens one other → HaveSameTokens other one
 turned one other h = record { ones = h.others; others = h.ones; one_lexed = h.other_lexed; other_lexed = h.one_lexed; same = sym h.same }
 
-read_too : (one other : List ℕ) → HaveSameTokens one other → (u : Unit) → IsTextOf u one → IsTextOf u other
+read_too : (one other : List ℕ) → HaveSameTokens one other → (u : UnitTree) → IsTextOf u one → IsTextOf u other
 read_too one other same u is = text_of other u (same_tokens_stand_for_the_same one other same u (stands_for one u is))
 
-says_too : (one other : List ℕ) → HaveSameTokens one other → (u : Unit) → SaysOnly one (unit_of u) → SaysOnly other (unit_of u)
+says_too : (one other : List ℕ) → HaveSameTokens one other → (u : UnitTree) → SaysOnly one (unit_of u) → SaysOnly other (unit_of u)
 says_too one other same u s = record { says = is; only = only }
   where
     is : IsTextOf u other
@@ -60,7 +60,7 @@ says_too one other same u s = record { says = is; only = only }
     only not_found none = absurd none
     only (faulty e) fault = absurd (parsing.apart (lexed_once other) is.1 fault)
 
-found_too : (o p : Option (List ℕ)) → AreOfSameTokens o p → (u : Unit) → found_in o (unit_of u) → found_in p (unit_of u)
+found_too : (o p : Option (List ℕ)) → AreOfSameTokens o p → (u : UnitTree) → found_in o (unit_of u) → found_in p (unit_of u)
 found_too None None same u is = is
 found_too None (Some other) same u is = absurd same
 found_too (Some one) None same u is = absurd same

@@ -2,24 +2,24 @@
 use Rattle.std.proofs.Common.{◌≡◌, ◌⊎◌, inl, inr, ℕ, List, Option, Some, None, Result, Ok, Err, refl, sym, ap, ◌∙◌, subst}
 use Rattle.wgsl_path.specs.declared.path.ModulePath.{ModulePath}
 use Rattle.wgsl_path.specs.Paths.{path_text}
-use Rattle.wesl_sources.specs.Occurrences.{Name}
-use Rattle.wesl_sources.specs.Modules.{Path, Modules, Symbol}
-use Rattle.wesl_sources.specs.Rounds.{Refusal, too_many_modules, module_not_found, syntax, duplicate_symbol, missing_decl, private}
+use Rattle.wesl_link_spec.specs.Occurrences.{Name}
+use Rattle.wesl_link_spec.specs.Modules.{Path, Modules, Symbol}
+use Rattle.wesl_link_spec.specs.Rounds.{LoadError, too_many_modules, module_not_found, syntax, duplicate_symbol, missing_decl, private}
 use Rattle.wesl_validate.specs.declared.error.ValidateFault.{ValidateFault}
-use Rattle.wgsl_eval.specs.declared.error.Refusal.{Refusal as Evaluation}
+use Rattle.wgsl_eval.specs.declared.error.DeclarationFault.{DeclarationFault as Evaluation}
 use Rattle.wesl_meaning.specs.Agreement.{AreAlike}
 use Rattle.wesl_meaning.proofs.Agreement.{alike_turned, holds_of_alike_modules}
 use Rattle.wesl_link.specs.Recording.{Source, Telling, source_symbol, IsHeldAs}
 use Rattle.weslc_unit.specs.Once.{SameRefusal}
 use Rattle.weslc_unit.specs.declared.error.UnitRefusal.{UnitRefusal}
 use Rattle.weslc_unit.specs.declared.error.UnitRefusal.TheVariants as of
-use Rattle.weslc_calls.specs.Mapped.{IsTold, TellsHeld}
-use Rattle.weslc_calls.specs.Told.{about_module, about_item, about_name, about_declaration, fault_name, TellsOfFault, TellsOfEvaluation, Tells}
-use Rattle.weslc_calls.specs.declared.error.ResolveKind.TheVariants.{ModuleNotFound}
-use Rattle.weslc_calls.specs.declared.error.ImportKind.TheVariants.{DuplicateSymbol, MissingDecl, Private}
-use Rattle.weslc_calls.specs.declared.error.CompileError.{CompileError}
-use Rattle.weslc_calls.specs.declared.error.CompileError.TheVariants.{TooManyModules, Resolve, Syntax, Import, NameClash, Validate, UnclearName, Eval, Unprintable, OutOfMemory}
-use Rattle.weslc_agreement.specs.Answers.{SameConcern, TellTheSame, SameAnswer}
+use Rattle.weslc_api.specs.Mapped.{IsTold, TellsHeld}
+use Rattle.weslc_api.specs.Told.{about_module, about_item, about_name, about_declaration, fault_name, TellsOfFault, TellsOfEvaluation, Tells}
+use Rattle.weslc_api.specs.declared.error.ResolveKind.TheVariants.{ModuleNotFound}
+use Rattle.weslc_api.specs.declared.error.ImportKind.TheVariants.{DuplicateSymbol, MissingDecl, Private}
+use Rattle.weslc_api.specs.declared.error.CompileError.{CompileError}
+use Rattle.weslc_api.specs.declared.error.CompileError.TheVariants.{TooManyModules, Resolve, Syntax, Import, NameClash, Validate, UnclearName, Eval, Unprintable, OutOfMemory}
+use Rattle.weslc_agreement.specs.Answers.{SameContext, TellTheSame, SameAnswer}
 
 -- ---- want of memory tells nothing
 
@@ -45,13 +45,13 @@ refused_last (Err e) = memory_last e
 
 -- ---- what errors are about
 
-modules_same : (m n : ModulePath) → path_text m ≡ path_text n → SameConcern (about_module m) (about_module n)
+modules_same : (m n : ModulePath) → path_text m ≡ path_text n → SameContext (about_module m) (about_module n)
 modules_same m n e = record { same_module = e; same_declaration = refl; same_name = refl }
 
-items_same : (m n : ModulePath) (x : Name) → path_text m ≡ path_text n → SameConcern (about_item m x) (about_item n x)
+items_same : (m n : ModulePath) (x : Name) → path_text m ≡ path_text n → SameContext (about_item m x) (about_item n x)
 items_same m n x e = record { same_module = e; same_declaration = refl; same_name = refl }
 
-pub names_same : (x y : Name) → x ≡ y → SameConcern (about_name x) (about_name y)
+pub names_same : (x y : Name) → x ≡ y → SameContext (about_name x) (about_name y)
 names_same x y e = record { same_module = tt; same_declaration = refl; same_name = ap Some e }
 
 -- the errors are these
@@ -61,7 +61,7 @@ told_by e f g h a b same = subst (λ z. TellTheSame z f) (sym a) (subst (TellThe
 -- ---- refusals of loading
 
 -- the error for what loading is refused for
-abbrev pub TellsLoading : Refusal → CompileError → Type 0
+abbrev pub TellsLoading : LoadError → CompileError → Type 0
 TellsLoading (too_many_modules p) e = (m : ModulePath) × (e ≡ TooManyModules (about_module m)) × (path_text m ≡ p)
 TellsLoading (module_not_found p) e = (m : ModulePath) × (e ≡ Resolve (about_module m) ModuleNotFound) × (path_text m ≡ p)
 TellsLoading (syntax p f) e = (m : ModulePath) × (e ≡ Syntax (about_module m) f) × (path_text m ≡ p)
@@ -69,7 +69,7 @@ TellsLoading (duplicate_symbol p x) e = (m : ModulePath) × (e ≡ Import (about
 TellsLoading (missing_decl p x) e = (m : ModulePath) × (e ≡ Import (about_item m x) MissingDecl) × (path_text m ≡ p)
 TellsLoading (private p x) e = (m : ModulePath) × (e ≡ Import (about_item m x) Private) × (path_text m ≡ p)
 
-pub loading_told : (r : Refusal) (e f : CompileError) → TellsLoading r e → TellsLoading r f → TellTheSame e f
+pub loading_told : (r : LoadError) (e f : CompileError) → TellsLoading r e → TellsLoading r f → TellTheSame e f
 loading_told (too_many_modules p) e f (m, a, i) (n, b, j) = told_by e f _ _ a b (modules_same m n (i ∙ sym j))
 loading_told (module_not_found p) e f (m, a, i) (n, b, j) = told_by e f _ _ a b (modules_same m n (i ∙ sym j), refl)
 loading_told (syntax p x) e f (m, a, i) (n, b, j) = told_by e f _ _ a b (modules_same m n (i ∙ sym j), refl)
@@ -86,7 +86,7 @@ clash_told y z e f a b same = told_by e f _ _ a b (names_same y z same)
 
 -- two that tell of each name modules that print alike and one name there, or both nothing
 abbrev pub TellAlike : Telling → Telling → Type 0
-TellAlike tell more = (y : Name) (x : Option Name) → SameConcern (about_declaration (tell y) x) (about_declaration (more y) x)
+TellAlike tell more = (y : Name) (x : Option Name) → SameContext (about_declaration (tell y) x) (about_declaration (more y) x)
 
 module _ (root : Path) (a b : Modules) (alike : AreAlike root a b) (keep : List Name) where
   held_there : (y : Name) (s : Symbol) → IsHeldAs a root keep y s → IsHeldAs b root keep y s
@@ -99,7 +99,7 @@ module _ (root : Path) (a b : Modules) (alike : AreAlike root a b) (keep : List 
   told_there tell more t u y v is = u.each y (source_symbol v) (held_there y (source_symbol v) (t.only y v is).held)
 
 declared_same : (o q : Option Source) (x : Option Name) → ((v : Source) → o ≡ Some v → (w : Source) × (q ≡ Some w) × (path_text w.0 ≡ path_text v.0) × (w.1 ≡ v.1))
-    → ((v : Source) → q ≡ Some v → (w : Source) × (o ≡ Some w)) → SameConcern (about_declaration o x) (about_declaration q x)
+    → ((v : Source) → q ≡ Some v → (w : Source) × (o ≡ Some w)) → SameContext (about_declaration o x) (about_declaration q x)
 declared_same None None x there back = record { same_module = tt; same_declaration = refl; same_name = refl }
 declared_same None (Some w) x there back = let v = back w refl in absurd (cc (v.1))
 declared_same (Some v) None x there back = let w = there v refl in absurd (cc (w.1))
@@ -142,7 +142,7 @@ fault_tells tell f (Unprintable c) t = absurd t
 
 evaluation_tells : (tell : Telling) (r : Evaluation) (e : CompileError) → TellsOfEvaluation tell r e → (e ≡ OutOfMemory) ⊎ (e ≡ error_of tell (of.Eval r))
 evaluation_tells tell r (Eval c f) t =
-    let concern : c ≡ about_declaration (tell r.declaration) (fault_name r.fault) = t.1 in
+    let context : c ≡ about_declaration (tell r.declaration) (fault_name r.fault) = t.1 in
     let fault : f ≡ r.fault = t.0 in
     inr (cc)
 evaluation_tells tell r OutOfMemory t = inl refl

@@ -2,14 +2,14 @@
 use Rattle.std.specs.Prelude.{◌≡◌, ◌⊎◌, ⊤, ℕ, List, Option, Some, None, Result, Ok, Err}
 use Rattle.wgsl_path.specs.declared.path.ModulePath.{ModulePath}
 use Rattle.wgsl_path.specs.Paths.{path_text}
-use Rattle.wesl_sources.specs.Occurrences.{Name}
-use Rattle.wesl_sources.specs.Modules.{Path}
-use Rattle.wesl_sources.specs.Rounds.{Sources}
-use Rattle.wesl_sources.specs.Named.{ImportsAreApart}
-use Rattle.weslc_calls.specs.Answers.{IsLinkedText, IsCompiledText, RefusesLinking, IsUnprintable, IsRefusedUnit}
-use Rattle.weslc_calls.specs.declared.error.Concern.{Concern}
-use Rattle.weslc_calls.specs.declared.error.CompileError.{CompileError}
-use Rattle.weslc_calls.specs.declared.error.CompileError.TheVariants.{TooManyModules, Resolve, Syntax, Import, NameClash, Validate, UnclearName, Eval, Unprintable, OutOfMemory}
+use Rattle.wesl_link_spec.specs.Occurrences.{Name}
+use Rattle.wesl_link_spec.specs.Modules.{Path}
+use Rattle.wesl_link_spec.specs.Rounds.{Sources}
+use Rattle.wesl_link_spec.specs.Named.{ImportsAreApart}
+use Rattle.weslc_api.specs.Answers.{IsLinkedText, IsCompiledText, RefusesLinking, IsUnprintable, IsRefusedUnit}
+use Rattle.weslc_api.specs.declared.error.ErrorContext.{ErrorContext}
+use Rattle.weslc_api.specs.declared.error.CompileError.{CompileError}
+use Rattle.weslc_api.specs.declared.error.CompileError.TheVariants.{TooManyModules, Resolve, Syntax, Import, NameClash, Validate, UnclearName, Eval, Unprintable, OutOfMemory}
 use Rattle.weslc_agreement.specs.Asked.{AgreesOnAsked}
 
 -- ---- errors
@@ -22,7 +22,7 @@ SameModule None (Some b) = ⊥
 SameModule (Some a) None = ⊥
 
 -- about the same module, declaration and name
-pub record SameConcern (c d : Concern) : Type 0 where
+pub record SameContext (c d : ErrorContext) : Type 0 where
   pub same_module : SameModule c.«module» d.«module»
   pub same_declaration : c.decl ≡ d.decl
   pub same_name : c.name ≡ d.name
@@ -31,15 +31,15 @@ pub record SameConcern (c d : Concern) : Type 0 where
 abbrev pub TellTheSame : CompileError → CompileError → Type 0
 TellTheSame OutOfMemory e = ⊤
 TellTheSame e OutOfMemory = ⊤
-TellTheSame (TooManyModules c) (TooManyModules d) = SameConcern c d
-TellTheSame (Resolve c k) (Resolve d l) = SameConcern c d × (k ≡ l)
-TellTheSame (Syntax c f) (Syntax d g) = SameConcern c d × (f ≡ g)
-TellTheSame (Import c k) (Import d l) = SameConcern c d × (k ≡ l)
-TellTheSame (NameClash c) (NameClash d) = SameConcern c d
-TellTheSame (Validate c k) (Validate d l) = SameConcern c d × (k ≡ l)
-TellTheSame (UnclearName c) (UnclearName d) = SameConcern c d
-TellTheSame (Eval c f) (Eval d g) = SameConcern c d × (f ≡ g)
-TellTheSame (Unprintable c) (Unprintable d) = SameConcern c d
+TellTheSame (TooManyModules c) (TooManyModules d) = SameContext c d
+TellTheSame (Resolve c k) (Resolve d l) = SameContext c d × (k ≡ l)
+TellTheSame (Syntax c f) (Syntax d g) = SameContext c d × (f ≡ g)
+TellTheSame (Import c k) (Import d l) = SameContext c d × (k ≡ l)
+TellTheSame (NameClash c) (NameClash d) = SameContext c d
+TellTheSame (Validate c k) (Validate d l) = SameContext c d × (k ≡ l)
+TellTheSame (UnclearName c) (UnclearName d) = SameContext c d
+TellTheSame (Eval c f) (Eval d g) = SameContext c d × (f ≡ g)
+TellTheSame (Unprintable c) (Unprintable d) = SameContext c d
 TellTheSame e f = ⊥
 
 -- ---- answers

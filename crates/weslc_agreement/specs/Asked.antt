@@ -1,11 +1,11 @@
 -- Sources that agree on what is asked of one of them.
 use Rattle.std.specs.Prelude.{ℕ, ◌↔◌, List}
-use Rattle.wgsl_syntax.specs.Tree.{Unit}
+use Rattle.wgsl_syntax.specs.Tree.{UnitTree}
 use Rattle.wesl_resolve.specs.Found.{Answer, unit_of}
-use Rattle.wesl_sources.specs.Occurrences.{Name}
-use Rattle.wesl_sources.specs.Modules.{Path}
-use Rattle.wesl_sources.specs.Rounds.{Sources}
-use Rattle.weslc_calls.specs.Asked.{IsAskedOf}
+use Rattle.wesl_link_spec.specs.Occurrences.{Name}
+use Rattle.wesl_link_spec.specs.Modules.{Path}
+use Rattle.wesl_link_spec.specs.Rounds.{Sources}
+use Rattle.weslc_api.specs.Asked.{IsAskedOf}
 
 -- What is found at each path, the root's path, the names that are asked for, and how many modules may be loaded.
 module _ (found : Sources) (root : Path) (asked : List Name) (max : ℕ) where
@@ -15,4 +15,4 @@ module _ (found : Sources) (root : Path) (asked : List Name) (max : ℕ) where
 
   -- other sources have each unit that is asked of these
   abbrev pub HasAskedUnits : Sources → Type 0
-  HasAskedUnits other = (p : Path) → IsAskedOf found root asked max p → (u : Unit) → found p (unit_of u) → other p (unit_of u)
+  HasAskedUnits other = (p : Path) → IsAskedOf found root asked max p → (u : UnitTree) → found p (unit_of u) → other p (unit_of u)

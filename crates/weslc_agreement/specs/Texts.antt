@@ -1,14 +1,14 @@
 -- Texts that are answered for the same units, and for texts with the same tokens.
 use Rattle.std.specs.Prelude.{◌≡◌, ⊤, ℕ, List, Option, Some, None}
-use Rattle.wgsl_laws.specs.Same.{HaveSameTokens}
-use Rattle.wesl_sources.specs.Occurrences.{Name}
-use Rattle.wesl_sources.specs.Modules.{Path}
-use Rattle.wesl_sources.specs.Rounds.{Sources}
-use Rattle.wesl_sources.specs.Named.{ImportsAreApart}
-use Rattle.weslc_calls.specs.Answers.{IsLinkedText, IsCompiledText}
-use Rattle.weslc_calls.specs.Stored.{text_at, found_in}
-use Rattle.weslc_calls.specs.declared.resolver.VirtualResolver.{VirtualResolver}
-use Rattle.weslc_calls.specs.Asked.{IsAskedOf}
+use Rattle.wgsl_round_trip.specs.Same.{HaveSameTokens}
+use Rattle.wesl_link_spec.specs.Occurrences.{Name}
+use Rattle.wesl_link_spec.specs.Modules.{Path}
+use Rattle.wesl_link_spec.specs.Rounds.{Sources}
+use Rattle.wesl_link_spec.specs.Named.{ImportsAreApart}
+use Rattle.weslc_api.specs.Answers.{IsLinkedText, IsCompiledText}
+use Rattle.weslc_api.specs.Stored.{text_at, found_in}
+use Rattle.weslc_api.specs.declared.resolver.VirtualResolver.{VirtualResolver}
+use Rattle.weslc_api.specs.Asked.{IsAskedOf}
 use Rattle.weslc_agreement.specs.Asked.{HasAskedUnits}
 
 -- Where other sources have each unit that is asked of one, one text is answered.

@@ -7,15 +7,15 @@ use Rattle.std.proofs.lemmas.Bool.{false_from_ne_true}
 use Rattle.std.proofs.lemmas.Slice.Eq.{bytes_eq-Decides}
 use Rattle.wgsl_path.specs.Paths.{path_text}
 use Rattle.wgsl_path.specs.declared.path.ModulePath.{ModulePath}
-use Rattle.weslc_calls.specs.Stored.{text_at, found_in, IsAdded}
-use Rattle.weslc_calls.specs.declared.resolver.VirtualResolver.{VirtualResolver}
-use Rattle.weslc_calls.specs.declared.options.Options.{Options}
-use Rattle.weslc_calls.specs.declared.error.CompileError.{CompileError}
+use Rattle.weslc_api.specs.Stored.{text_at, found_in, IsAdded}
+use Rattle.weslc_api.specs.declared.resolver.VirtualResolver.{VirtualResolver}
+use Rattle.weslc_api.specs.declared.options.Options.{Options}
+use Rattle.weslc_api.specs.declared.error.CompileError.{CompileError}
 use Rattle.weslc_bundle.specs.declared.request.Command.{Command}
 use Rattle.weslc_bundle.specs.declared.request.Module.{Module}
 use Rattle.weslc_bundle.specs.declared.request.Request.{Request}
 use Rattle.weslc_bundle.specs.declared.bundle.Bundle.{Bundle}
-use Rattle.weslc_bundle.specs.declared.serve.Refusal.{Refusal}
+use Rattle.weslc_bundle.specs.declared.serve.ServeError.{ServeError}
 use Rattle.weslc_bundle.specs.Bundles.{IsApart, IsBundle, HandsOver}
 use Rattle.weslc_bundle.specs.Held.{text_in}
 use Rattle.weslc_bundle.specs.Served.{AreRead, IsTextOf, IsRefusalOf, IsAnswer, IsRefused, Answered, Refused, RefusesCall}
@@ -96,7 +96,7 @@ module _ (left : Option (List ℕ)) (bytes : List ℕ) (read : AreRead left byte
       → IsTextFrom (text_at bundle.resolver) bundle.command bundle.root bundle.options text → Answered left text
   text_answered text (request, whole, over) is = (bytes, request, read, whole, answer_moved request bundle text over is)
 
-  pub call_refused : (e : CompileError) (refusal : Refusal) → (request : Request) × IsBundle bytes request × HandsOver request bundle
+  pub call_refused : (e : CompileError) (refusal : ServeError) → (request : Request) × IsBundle bytes request × HandsOver request bundle
       → IsRefusalFrom (text_at bundle.resolver) bundle.command bundle.root bundle.options e → RefusesCall e refusal → Refused left refusal
   call_refused e refusal (request, whole, over) is (inl same) = subst (Refused left) (sym same) (bytes, request, read, whole, refusal_moved request bundle e over is)
   call_refused e refusal of is (inr memory) = subst (Refused left) (sym memory.1) tt

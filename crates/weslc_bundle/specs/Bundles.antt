@@ -5,7 +5,7 @@ use Rattle.serde_json.specs.Data.{Data, Items, no_items, item, Members, no_membe
 use Rattle.serde_json.specs.Read.{read}
 use Rattle.serde_json.specs.Find.{get, as_object, as_array, as_str, as_number, as_u64}
 use Rattle.wgsl_path.specs.Paths.{path_text}
-use Rattle.wgsl_path.specs.Reading.{Reads, parts, path_of}
+use Rattle.wgsl_path.specs.Reading.{PathResult, parts, path_of}
 use Rattle.wgsl_path.specs.declared.path.PathOrigin.{PathOrigin}
 use Rattle.wgsl_path.specs.declared.path.PathOrigin.TheVariants.{Absolute, Relative, Package}
 use Rattle.wgsl_path.specs.declared.path.ModulePath.{ModulePath}
@@ -64,7 +64,7 @@ if_absolute Absolute path = Some path
 if_absolute (Relative levels) path = None
 if_absolute (Package name) path = None
 
-abbrev pub absolute : Reads ModulePath → Option ModulePath
+abbrev pub absolute : PathResult ModulePath → Option ModulePath
 absolute (Ok path) = if_absolute path.origin path
 absolute (Err e) = None
 

@@ -2,12 +2,12 @@
 use Rattle.std.specs.Prelude.{◌≡◌, ◌⊎◌, ◌<◌, ◌≤◌, ◌+◌, ⊤, ℕ, List, length, Option, IfSome}
 use Rattle.std.specs.Io.KnownBytes.{Consumes}
 use Rattle.wgsl_path.specs.Paths.{path_text}
-use Rattle.wesl_sources.specs.Occurrences.{Name}
-use Rattle.wesl_sources.specs.Modules.{Path}
-use Rattle.wesl_sources.specs.Rounds.{Sources}
-use Rattle.weslc_calls.specs.Answers.{IsLinkedText, IsCompiledText, RefusesLinking, IsUnprintable, IsRefusedUnit}
-use Rattle.weslc_calls.specs.declared.error.CompileError.{CompileError}
-use Rattle.weslc_calls.specs.declared.error.CompileError.TheVariants as calls
+use Rattle.wesl_link_spec.specs.Occurrences.{Name}
+use Rattle.wesl_link_spec.specs.Modules.{Path}
+use Rattle.wesl_link_spec.specs.Rounds.{Sources}
+use Rattle.weslc_api.specs.Answers.{IsLinkedText, IsCompiledText, RefusesLinking, IsUnprintable, IsRefusedUnit}
+use Rattle.weslc_api.specs.declared.error.CompileError.{CompileError}
+use Rattle.weslc_api.specs.declared.error.CompileError.TheVariants as calls
 use Rattle.weslc_bundle.specs.declared.input.TheConstants.{MAX_BUNDLE_LEN}
 use Rattle.weslc_bundle.specs.declared.input.InputError.{InputError}
 use Rattle.weslc_bundle.specs.declared.input.InputError.TheVariants as input
@@ -16,8 +16,8 @@ use Rattle.weslc_bundle.specs.declared.request.Command.TheVariants.{Link, Compil
 use Rattle.weslc_bundle.specs.declared.request.Request.{Request}
 use Rattle.weslc_bundle.specs.declared.request.BundleError.{BundleError}
 use Rattle.weslc_bundle.specs.declared.request.BundleError.TheVariants as bundle
-use Rattle.weslc_bundle.specs.declared.serve.Refusal.{Refusal}
-use Rattle.weslc_bundle.specs.declared.serve.Refusal.TheVariants as of
+use Rattle.weslc_bundle.specs.declared.serve.ServeError.{ServeError}
+use Rattle.weslc_bundle.specs.declared.serve.ServeError.TheVariants as of
 use Rattle.weslc_bundle.specs.Held.{found_among}
 use Rattle.weslc_bundle.specs.Bundles.{IsBundle, IsFault}
 use Rattle.weslc_bundle.specs.Output.{AppendsBeginning}
@@ -69,7 +69,7 @@ abbrev pub Answered : Option (List ℕ) → List ℕ → Type 0
 Answered left text = (bytes : List ℕ) × (request : Request) × AreRead left bytes × IsBundle bytes request × IsAnswer request text
 
 -- why there is no text: a read failed, what was left is too long or is no bundle, the call is refused, or memory was refused
-abbrev pub Refused : Option (List ℕ) → Refusal → Type 0
+abbrev pub Refused : Option (List ℕ) → ServeError → Type 0
 Refused left of.Read = ⊤
 Refused left of.TooLong = AreTooMany left
 Refused left (of.Bundle fault) = (bytes : List ℕ) × AreRead left bytes × IsFault bytes fault
@@ -78,14 +78,14 @@ Refused left of.OutOfMemory = ⊤
 
 -- There is no text, for such a reason.
 abbrev pub HasRefusal : Option (List ℕ) → Type 0
-HasRefusal left = (refusal : Refusal) × Refused left refusal
+HasRefusal left = (refusal : ServeError) × Refused left refusal
 
 -- What was left is a bundle, and of the answer to it a writer got a beginning.
 abbrev pub IsCutShort : Option (List ℕ) → Option (List ℕ) → Option (List ℕ) → Type 0
 IsCutShort left old new = (text : List ℕ) × Answered left text × AppendsBeginning old new text
 
 -- 1 for a refused call and for memory, 2 for what is no bundle and for a read that fails
-abbrev pub status_of : Refusal → ℕ
+abbrev pub status_of : ServeError → ℕ
 status_of of.Read = 2
 status_of of.TooLong = 2
 status_of (of.Bundle fault) = 2
@@ -94,12 +94,12 @@ status_of of.OutOfMemory = 1
 
 -- ---- one error as another
 
-abbrev pub refused_input : InputError → Refusal
+abbrev pub refused_input : InputError → ServeError
 refused_input input.Read = of.Read
 refused_input input.TooLong = of.TooLong
 refused_input input.OutOfMemory = of.OutOfMemory
 
-abbrev pub refused_bundle : BundleError → Refusal
+abbrev pub refused_bundle : BundleError → ServeError
 refused_bundle bundle.NotAnObject = of.Bundle bundle.NotAnObject
 refused_bundle (bundle.UnknownKey name) = of.Bundle (bundle.UnknownKey name)
 refused_bundle (bundle.Value key) = of.Bundle (bundle.Value key)
@@ -107,5 +107,5 @@ refused_bundle (bundle.DuplicateModule path) = of.Bundle (bundle.DuplicateModule
 refused_bundle bundle.OutOfMemory = of.OutOfMemory
 
 -- a refusal of a call, or that memory was refused
-abbrev pub RefusesCall : CompileError → Refusal → Type 0
+abbrev pub RefusesCall : CompileError → ServeError → Type 0
 RefusesCall e refusal = (refusal ≡ of.Compile e) ⊎ ((e ≡ calls.OutOfMemory) × (refusal ≡ of.OutOfMemory))

@@ -7,7 +7,7 @@ ghost use Rattle.weslc_bundle.specs.Held.{Holds};
 use crate::request::{BundleError, Command, Module, Request, read_request};
 use std::alloc::{AllocError, Global};
 use std::collections::BTreeSet;
-use weslc_calls::{Options, VirtualResolver};
+use weslc_api::{Options, VirtualResolver};
 use wgsl_items::{CloneIn, Items};
 use wgsl_path::ModulePath;
 

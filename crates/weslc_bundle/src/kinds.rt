@@ -1,6 +1,6 @@
 //! The words by which a line tells the kind of an inner fault.
 
-use weslc_calls::{ErrorKind, Fault, NameFault, NumberFault, ValidateError};
+use weslc_api::{ErrorKind, Fault, NameFault, NumberFault, ValidateError};
 
 pub(crate) fn syntax_kind(kind: ErrorKind) -> &'static str {
     match kind {

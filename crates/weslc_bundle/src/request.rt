@@ -8,7 +8,7 @@ ghost use Rattle.weslc_bundle.specs.Bundles.{Answers, is_key, unknown, keys_know
 use serde_json::{Map, Value};
 use std::alloc::{AllocError, AllocFailed, Global};
 use std::fmt;
-use weslc_calls::Options;
+use weslc_api::Options;
 use wgsl_items::{Items, Text};
 use wgsl_path::{ModulePath, ModulePathParseError, PathOrigin};
 

@@ -13,13 +13,13 @@ use crate::request::{BundleError, Command};
 use std::alloc::Global;
 use std::io;
 use std::io::{Read, Write};
-use weslc_calls::{CompileError, Concern, compile, link};
+use weslc_api::{CompileError, ErrorContext, compile, link};
 use wgsl_items::Text;
 use wgsl_path::{ModulePath, Span};
 
 /// Why the program writes no text.
 #[derive(Debug, Drop)]
-enum Refusal {
+enum ServeError {
     Read,
     TooLong,
     Bundle(BundleError),
@@ -27,42 +27,42 @@ enum Refusal {
     OutOfMemory,
 }
 
-impl From<InputError> for Refusal {
+impl From<InputError> for ServeError {
     ghost use Rattle.weslc_bundle.specs.Served.{refused_input};
 
     ghost from_gives = { λ e refusal. refusal ≡ refused_input e };
 
-    fn from(error: InputError) -> Refusal {
+    fn from(error: InputError) -> ServeError {
         match error {
-            InputError::Read => Refusal::Read,
-            InputError::TooLong => Refusal::TooLong,
-            InputError::OutOfMemory => Refusal::OutOfMemory,
+            InputError::Read => ServeError::Read,
+            InputError::TooLong => ServeError::TooLong,
+            InputError::OutOfMemory => ServeError::OutOfMemory,
         }
     }
 }
 
-impl From<BundleError> for Refusal {
+impl From<BundleError> for ServeError {
     ghost use Rattle.weslc_bundle.specs.Served.{refused_bundle};
 
     ghost from_gives = { λ e refusal. refusal ≡ refused_bundle e };
 
-    fn from(error: BundleError) -> Refusal {
+    fn from(error: BundleError) -> ServeError {
         match error {
-            BundleError::OutOfMemory => Refusal::OutOfMemory,
-            error => Refusal::Bundle(error),
+            BundleError::OutOfMemory => ServeError::OutOfMemory,
+            error => ServeError::Bundle(error),
         }
     }
 }
 
-impl From<CompileError> for Refusal {
+impl From<CompileError> for ServeError {
     ghost use Rattle.weslc_bundle.specs.Served.{RefusesCall};
 
     ghost from_gives = { RefusesCall };
 
-    fn from(error: CompileError) -> Refusal {
+    fn from(error: CompileError) -> ServeError {
         match error {
-            CompileError::OutOfMemory => Refusal::OutOfMemory,
-            error => Refusal::Compile(error),
+            CompileError::OutOfMemory => ServeError::OutOfMemory,
+            error => ServeError::Compile(error),
         }
     }
 }
@@ -79,10 +79,10 @@ pub fn serve_bundle<R: Read, W: Write, E: Write>(
     ensures text { result ≡ 0 → (text : List ℕ) × Answered (R.remaining reader.old) text × Appends (W.contents writer.old) (W.contents writer.new) text × (errors.new ≡ errors.old) }
     ensures refused { result ≡ 1 → (HasRefusal (R.remaining reader.old) × (writer.new ≡ writer.old))
         ⊎ (IsCutShort (R.remaining reader.old) (W.contents writer.old) (W.contents writer.new) × (errors.new ≡ errors.old)) }
-    ensures no_bundle { result ≡ 2 → (refusal : Refusal) × Refused (R.remaining reader.old) refusal × (status_of refusal ≡ 2) × (writer.new ≡ writer.old) }
+    ensures no_bundle { result ≡ 2 → (refusal : ServeError) × Refused (R.remaining reader.old) refusal × (status_of refusal ≡ 2) × (writer.new ≡ writer.old) }
     ensures statuses { result ≤ 2 }
 {
-    match served(alloc, reader) {
+    match run_bundle(alloc, reader) {
         Ok(text) => match write_text(writer, text.as_str()) {
             Ok(()) => 0,
             Err(_) => 1,
@@ -94,7 +94,7 @@ pub fn serve_bundle<R: Read, W: Write, E: Write>(
     }
 }
 
-fn served<R: Read>(alloc: Global, reader: &mut R) -> Result<String, Refusal>
+fn run_bundle<R: Read>(alloc: Global, reader: &mut R) -> Result<String, ServeError>
     ensures text { IfOk result (λ text. Answered (R.remaining reader.old) (string_bytes text)) }
     ensures refusal { IfErr result (λ refusal. Refused (R.remaining reader.old) refusal) }
 {
@@ -108,23 +108,23 @@ fn served<R: Read>(alloc: Global, reader: &mut R) -> Result<String, Refusal>
     Ok(text)
 }
 
-fn status(refusal: &Refusal) -> u8
+fn status(refusal: &ServeError) -> u8
     ensures { result ≡ status_of refusal.now }
 {
     match refusal {
-        Refusal::Read | Refusal::TooLong | Refusal::Bundle(_) => 2,
-        Refusal::Compile(_) | Refusal::OutOfMemory => 1,
+        ServeError::Read | ServeError::TooLong | ServeError::Bundle(_) => 2,
+        ServeError::Compile(_) | ServeError::OutOfMemory => 1,
     }
 }
 
 /// Writes the line about a refusal. It needs no memory.
-fn write_refusal<E: Write>(errors: &mut E, refusal: &Refusal) -> io::Result<()> {
+fn write_refusal<E: Write>(errors: &mut E, refusal: &ServeError) -> io::Result<()> {
     match refusal {
-        Refusal::Read => errors.write_all(b"error: Read - - - -\n"),
-        Refusal::TooLong => errors.write_all(b"error: Bundle - - - size\n"),
-        Refusal::OutOfMemory => errors.write_all(b"error: OutOfMemory - - - -\n"),
-        Refusal::Bundle(error) => write_bundle_error(errors, error),
-        Refusal::Compile(error) => write_compile_error(errors, error),
+        ServeError::Read => errors.write_all(b"error: Read - - - -\n"),
+        ServeError::TooLong => errors.write_all(b"error: Bundle - - - size\n"),
+        ServeError::OutOfMemory => errors.write_all(b"error: OutOfMemory - - - -\n"),
+        ServeError::Bundle(error) => write_bundle_error(errors, error),
+        ServeError::Compile(error) => write_compile_error(errors, error),
     }?;
     errors.flush()
 }
@@ -147,58 +147,58 @@ fn write_bundle_error<E: Write>(errors: &mut E, error: &BundleError) -> io::Resu
 
 fn write_compile_error<E: Write>(errors: &mut E, error: &CompileError) -> io::Result<()> {
     match error {
-        CompileError::TooManyModules(concern) => {
+        CompileError::TooManyModules(context) => {
             errors.write_all(b"error: TooManyModules")?;
-            write_concern(errors, concern, None)
+            write_context(errors, context, None)
         }
-        CompileError::Resolve(concern, kind) => {
+        CompileError::Resolve(context, kind) => {
             write!(errors, "error: Resolve.{kind}")?;
-            write_concern(errors, concern, None)
+            write_context(errors, context, None)
         }
-        CompileError::Syntax(concern, error) => {
+        CompileError::Syntax(context, error) => {
             let kind = syntax_kind(error.kind);
             write!(errors, "error: Syntax.{kind}")?;
-            write_concern(errors, concern, Some(error.span))
+            write_context(errors, context, Some(error.span))
         }
-        CompileError::Import(concern, kind) => {
+        CompileError::Import(context, kind) => {
             write!(errors, "error: Import.{kind}")?;
-            write_concern(errors, concern, None)
+            write_context(errors, context, None)
         }
-        CompileError::NameClash(concern) => {
+        CompileError::NameClash(context) => {
             errors.write_all(b"error: NameClash")?;
-            write_concern(errors, concern, None)
+            write_context(errors, context, None)
         }
-        CompileError::Validate(concern, kind) => {
+        CompileError::Validate(context, kind) => {
             let kind = validate_kind(*kind);
             write!(errors, "error: Validate.{kind}")?;
-            write_concern(errors, concern, None)
+            write_context(errors, context, None)
         }
-        CompileError::UnclearName(concern) => {
+        CompileError::UnclearName(context) => {
             errors.write_all(b"error: UnclearName")?;
-            write_concern(errors, concern, None)
+            write_context(errors, context, None)
         }
-        CompileError::Eval(concern, fault) => {
+        CompileError::Eval(context, fault) => {
             let kind = eval_kind(fault);
             write!(errors, "error: Eval.{kind}")?;
-            write_concern(errors, concern, None)
+            write_context(errors, context, None)
         }
-        CompileError::Unprintable(concern) => {
+        CompileError::Unprintable(context) => {
             errors.write_all(b"error: Unprintable")?;
-            write_concern(errors, concern, None)
+            write_context(errors, context, None)
         }
         CompileError::OutOfMemory => errors.write_all(b"error: OutOfMemory - - - -\n"),
     }
 }
 
 /// The rest of an error line: module, declaration, place and name.
-fn write_concern<E: Write>(
+fn write_context<E: Write>(
     errors: &mut E,
-    concern: &Concern,
+    context: &ErrorContext,
     span: Option<Span>,
 ) -> io::Result<()> {
-    let module: Field<'_, ModulePath> = Field(concern.module.as_ref());
-    let decl: Field<'_, Text> = Field(concern.decl.as_ref());
-    let name: Field<'_, Text> = Field(concern.name.as_ref());
+    let module: Field<'_, ModulePath> = Field(context.module.as_ref());
+    let decl: Field<'_, Text> = Field(context.decl.as_ref());
+    let name: Field<'_, Text> = Field(context.name.as_ref());
     match span {
         Some(span) => {
             let (start, end) = (span.start, span.end);

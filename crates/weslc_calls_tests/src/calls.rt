@@ -1,7 +1,7 @@
 //! What the calls answer. The expected bytes are those of the project's description.
 
 use std::test::Fail;
-use weslc_calls::{EscapeMangler, Options, SourceMap, VirtualResolver, compile, link};
+use weslc_api::{EscapeMangler, Options, SourceMap, VirtualResolver, compile, link};
 use wgsl_items::Text;
 use wgsl_path::ModulePath;
 

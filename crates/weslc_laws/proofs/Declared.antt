@@ -1,17 +1,17 @@
 -- The lowered unit declares the held functions.
 use Rattle.std.proofs.Common.{◌≡◌, ◌⊎◌, inl, inr, List, [], ◌∷◌, map, Option, true, false, Result, Ok, Err, refl, sym, ap, ◌∙◌, subst, Contains}
-use Rattle.wgsl_syntax.specs.Tree.{Attr, Typ, Block, Param, Decl, variable, function, Unit as Module}
+use Rattle.wgsl_syntax.specs.Tree.{Attr, Typ, Block, Param, Decl, variable, function, UnitTree as Module}
 use Rattle.wgsl_syntax.specs.Names.{declared_name}
 use Rattle.wgsl_meaning.specs.Values.{Checked, and_then}
 use Rattle.wgsl_meaning.specs.Names.{Name}
 use Rattle.wgsl_meaning.specs.ConstStage.{Scope, module_scope}
-use Rattle.wgsl_eval.specs.declared.error.Refusal.{Refusal}
+use Rattle.wgsl_eval.specs.declared.error.DeclarationFault.{DeclarationFault}
 use Rattle.wgsl_eval.specs.Start.{then_more, consts_of}
 use Rattle.wgsl_lower.specs.Lowered.{refusing, lowered_attributes, lowered_parameters, parameter_types, checked_type, lowered_body, with_parameters, lowered_rest, lowered_function, lowered_declarations, lowered_unit}
-use Rattle.wesl_sources.specs.Modules.{Path, Symbol, Modules, Declares, local_name, IsDeclaration}
-use Rattle.wesl_sources.specs.Names.{IsPrinted}
-use Rattle.wesl_sources.specs.Rounds.{scope_names}
-use Rattle.wesl_sources.specs.Linked.{renamed_declaration}
+use Rattle.wesl_link_spec.specs.Modules.{Path, Symbol, Modules, Declares, local_name, IsDeclaration}
+use Rattle.wesl_link_spec.specs.Names.{IsPrinted}
+use Rattle.wesl_link_spec.specs.Rounds.{scope_names}
+use Rattle.wesl_link_spec.specs.Linked.{renamed_declaration}
 use Rattle.wesl_meaning.specs.Declared.{IsHeldAs, DeclaresWhatIsHeld}
 use Rattle.wgsl_items.proofs.Members.{first_in, later_in, in_cases, in_none, in_map, from_map}
 use Rattle.wesl_meaning.proofs.Distinct.{Once, once_of, once_right, once_same}
@@ -53,7 +53,7 @@ function_named s attributes f parameters return_attributes type body =
 
 -- ---- lowered declarations
 
-then_ok : {A B : Type 0} (o : Result A Refusal) (f : A → Result B Refusal) (y : B) → then_more o f ≡ Ok y → (x : A) × (o ≡ Ok x) × (f x ≡ Ok y)
+then_ok : {A B : Type 0} (o : Result A DeclarationFault) (f : A → Result B DeclarationFault) (y : B) → then_more o f ≡ Ok y → (x : A) × (o ≡ Ok x) × (f x ≡ Ok y)
 then_ok (Ok x) f y e = (x, refl, e)
 then_ok (Err r) f y e = absurd (cc)
 

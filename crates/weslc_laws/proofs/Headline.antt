@@ -2,22 +2,22 @@
 use Rattle.std.proofs.Common.{◌≡◌, ℕ, List, Ok, ap, ◌∙◌}
 use Rattle.wgsl_token.specs.declared.token.SpannedToken.{SpannedToken}
 use Rattle.wgsl_syntax.specs.declared.unit.TranslationUnit.{TranslationUnit}
-use Rattle.wgsl_syntax.specs.Tree.{Unit}
+use Rattle.wgsl_syntax.specs.Tree.{UnitTree}
 use Rattle.wgsl_syntax.specs.View.{unit_tree}
 use Rattle.wgsl_lex.specs.Tokens.{IsLexed}
 use Rattle.wgsl_grammar.specs.Declarations.{IsUnit}
-use Rattle.wgsl_laws.specs.Printing.{StandsFor}
+use Rattle.wgsl_round_trip.specs.Printing.{StandsFor}
 use Rattle.wgsl_lower.specs.Lowered.{lowered_unit}
 use Rattle.wgsl_lower.specs.Keeps.{AreClear}
 use Rattle.wesl_resolve.specs.Found.{unit_of}
-use Rattle.wesl_sources.specs.Occurrences.{Name}
-use Rattle.wesl_sources.specs.Modules.{Path, Modules, IsModule}
-use Rattle.wesl_sources.specs.Named.{AreNamedByImports}
-use Rattle.wesl_sources.specs.Rounds.{Sources, ComesTo}
-use Rattle.wesl_sources.specs.Kept.{kept_names}
-use Rattle.wesl_sources.specs.Linked.{IsLinked}
-use Rattle.wesl_sources.specs.Loaded.{IsClashFree}
-use Rattle.wesl_sources.specs.Same.{SameModules}
+use Rattle.wesl_link_spec.specs.Occurrences.{Name}
+use Rattle.wesl_link_spec.specs.Modules.{Path, Modules, IsModule}
+use Rattle.wesl_link_spec.specs.Named.{AreNamedByImports}
+use Rattle.wesl_link_spec.specs.Rounds.{Sources, IsLoadingResult}
+use Rattle.wesl_link_spec.specs.Kept.{kept_names}
+use Rattle.wesl_link_spec.specs.Linked.{IsLinked}
+use Rattle.wesl_link_spec.specs.Loaded.{IsClashFree}
+use Rattle.wesl_link_spec.specs.Same.{SameModules}
 use Rattle.wesl_meaning.specs.Determined.{IsFunctional}
 use Rattle.wesl_meaning.proofs.Loading.{loaded_modules, found_modules}
 use Rattle.wesl_meaning.proofs.Declared.{linked_units_declare_what_is_held}
@@ -28,12 +28,12 @@ use Rattle.weslc_laws.proofs.Runs.{sources_run_in_the_lowered_unit, linked_unit_
 use Rattle.weslc_laws.proofs.Declared.{declares_held_functions}
 
 -- a text that lexes and parses to a unit with this tree stands for it
-pub stands_for : (text : List ℕ) (tokens : List SpannedToken) (unit : TranslationUnit) (tree : Unit) → IsLexed text tokens → IsUnit tokens unit → unit_tree unit ≡ tree → StandsFor text tree
+pub stands_for : (text : List ℕ) (tokens : List SpannedToken) (unit : TranslationUnit) (tree : UnitTree) → IsLexed text tokens → IsUnit tokens unit → unit_tree unit ≡ tree → StandsFor text tree
 stands_for text tokens unit tree lexed derived same = record { tokens = tokens; unit = unit; lexed = lexed; derived = derived; same = same }
 
 module _ (sources : Sources) (root : Path) (keep : List Name) where
   -- where one answer is found at each path, there is one list of kept names
-  pub kept_once : IsFunctional sources → (kept : List Name) → AreKept sources root keep kept → (u : Unit) → sources root (unit_of u) → kept ≡ kept_names keep u
+  pub kept_once : IsFunctional sources → (kept : List Name) → AreKept sources root keep kept → (u : UnitTree) → sources root (unit_of u) → kept ≡ kept_names keep u
   kept_once functional kept k u found =
       let answers : unit_of k.unit ≡ unit_of u = functional root _ _ k.found found in
       let units : k.unit ≡ u = cc in
@@ -41,12 +41,12 @@ module _ (sources : Sources) (root : Path) (keep : List Name) where
 
   module _ (max : ℕ) where
     -- they are those of the root's unit
-    pub kept_of_root : IsFunctional sources → (linked : Unit) (from : IsLinkedFrom sources root keep max linked) (u : Unit) → IsModule from.modules root u → from.kept ≡ kept_names keep u
+    pub kept_of_root : IsFunctional sources → (linked : UnitTree) (from : IsLinkedFrom sources root keep max linked) (u : UnitTree) → IsModule from.modules root u → from.kept ≡ kept_names keep u
     kept_of_root functional linked from u i = kept_once functional from.kept from.are_kept u (found_modules sources root from.kept max from.modules from.loaded root u i)
 
     -- the clashes and the linked unit may be those of another list with the same modules
-    pub linked_from : (kept : List Name) → AreKept sources root keep kept → (modules others : Modules) → ComesTo sources root kept max (Ok modules) → AreNamedByImports modules root → SameModules modules others
-        → (linked : Unit) → IsClashFree others root kept → IsLinked others root kept linked → IsLinkedFrom sources root keep max linked
+    pub linked_from : (kept : List Name) → AreKept sources root keep kept → (modules others : Modules) → IsLoadingResult sources root kept max (Ok modules) → AreNamedByImports modules root → SameModules modules others
+        → (linked : UnitTree) → IsClashFree others root kept → IsLinked others root kept linked → IsLinkedFrom sources root keep max linked
     linked_from kept are modules others loaded named same linked free is = record {
       kept = kept;
       are_kept = are;
@@ -60,7 +60,7 @@ module _ (sources : Sources) (root : Path) (keep : List Name) where
       };
     }
 
-    pub runs_as_sources : (linked lowered : Unit) (from : IsLinkedFrom sources root keep max linked) → AreClear linked.declarations → lowered_unit linked ≡ Ok lowered
+    pub runs_as_sources : (linked lowered : UnitTree) (from : IsLinkedFrom sources root keep max linked) → AreClear linked.declarations → lowered_unit linked ≡ Ok lowered
         → RunsAsSources from.modules root from.kept linked lowered
     runs_as_sources linked lowered from clear is =
         let c : AreCompiled from.modules root from.kept lowered = record { linked = linked; linked_well = from.linked_well; clear = clear; is_lowered = is } in
@@ -69,7 +69,7 @@ module _ (sources : Sources) (root : Path) (keep : List Name) where
           declares = declares_held_functions from.modules root from.kept lowered c;
         }
 
-    pub runs_exactly_as_sources : (linked : Unit) (from : IsLinkedFrom sources root keep max linked) → RunsExactlyAsSources from.modules root from.kept linked
+    pub runs_exactly_as_sources : (linked : UnitTree) (from : IsLinkedFrom sources root keep max linked) → RunsExactlyAsSources from.modules root from.kept linked
     runs_exactly_as_sources linked from = record {
       runs = linked_unit_runs_exactly from.modules root from.kept linked from.linked_well;
       declares = linked_units_declare_what_is_held from.modules root from.kept linked from.linked_well;

@@ -1,10 +1,10 @@
 -- What the lowered unit declares.
 use Rattle.std.specs.Prelude.{◌≡◌, List, [], ◌∷◌, map, Bool, true, false}
-use Rattle.wgsl_syntax.specs.Tree.{Decl, variable, function, Unit}
+use Rattle.wgsl_syntax.specs.Tree.{Decl, variable, function, UnitTree}
 use Rattle.wgsl_syntax.specs.Names.{declared_name}
-use Rattle.wesl_sources.specs.Occurrences.{Name}
-use Rattle.wesl_sources.specs.Modules.{Path, Symbol, Modules, Declares, IsDeclaration}
-use Rattle.wesl_sources.specs.Rounds.{AreDistinct}
+use Rattle.wesl_link_spec.specs.Occurrences.{Name}
+use Rattle.wesl_link_spec.specs.Modules.{Path, Symbol, Modules, Declares, IsDeclaration}
+use Rattle.wesl_link_spec.specs.Rounds.{AreDistinct}
 use Rattle.wesl_meaning.specs.Declared.{IsHeldAs}
 use Rattle.weslc_laws.specs.Compiled.{AreCompiled}
 
@@ -26,7 +26,7 @@ module _ (modules : Modules) (root : Path) (keep : List Name) where
     pub function : is_function declaration ≡ true
 
   -- the held functions, each once under its printed name, in the order of the linked unit: no other declaration and no import
-  pub record DeclaresHeldFunctions (linked lowered : Unit) : Type 0 where
+  pub record DeclaresHeldFunctions (linked lowered : UnitTree) : Type 0 where
     pub no_imports : lowered.imports ≡ []
     pub functions : functions_of lowered.declarations ≡ lowered.declarations
     pub in_order : map declared_name lowered.declarations ≡ map declared_name (functions_of linked.declarations)
@@ -35,5 +35,5 @@ module _ (modules : Modules) (root : Path) (keep : List Name) where
     pub once : AreDistinct (map declared_name lowered.declarations)
 
 abbrev pub CompiledUnitsDeclareHeldFunctions : Type 0
-CompiledUnitsDeclareHeldFunctions = (modules : Modules) (root : Path) (keep : List Name) (lowered : Unit) (c : AreCompiled modules root keep lowered)
+CompiledUnitsDeclareHeldFunctions = (modules : Modules) (root : Path) (keep : List Name) (lowered : UnitTree) (c : AreCompiled modules root keep lowered)
     → DeclaresHeldFunctions modules root keep c.linked lowered

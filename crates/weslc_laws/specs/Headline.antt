@@ -1,13 +1,13 @@
 -- What linking and compiling give of what is found at the paths of modules: one text that runs as its sources do.
 use Rattle.std.specs.Prelude.{◌≡◌, ℕ, List, Ok}
-use Rattle.wgsl_syntax.specs.Tree.{Unit}
-use Rattle.wgsl_laws.specs.Printing.{StandsFor}
+use Rattle.wgsl_syntax.specs.Tree.{UnitTree}
+use Rattle.wgsl_round_trip.specs.Printing.{StandsFor}
 use Rattle.wesl_resolve.specs.Found.{unit_of}
-use Rattle.wesl_sources.specs.Occurrences.{Name}
-use Rattle.wesl_sources.specs.Modules.{Path, Modules}
-use Rattle.wesl_sources.specs.Named.{AreNamedByImports}
-use Rattle.wesl_sources.specs.Rounds.{Sources, ComesTo}
-use Rattle.wesl_sources.specs.Kept.{kept_names}
+use Rattle.wesl_link_spec.specs.Occurrences.{Name}
+use Rattle.wesl_link_spec.specs.Modules.{Path, Modules}
+use Rattle.wesl_link_spec.specs.Named.{AreNamedByImports}
+use Rattle.wesl_link_spec.specs.Rounds.{Sources, IsLoadingResult}
+use Rattle.wesl_link_spec.specs.Kept.{kept_names}
 use Rattle.wesl_meaning.specs.Runs.{AreLinkedWell}
 use Rattle.wesl_meaning.specs.Declared.{DeclaresWhatIsHeld}
 use Rattle.wgsl_lower.specs.Lowered.{lowered_unit}
@@ -17,54 +17,54 @@ use Rattle.weslc_laws.specs.Declared.{DeclaresHeldFunctions}
 
 -- the names of the root that are kept: those that are asked for, or where none is, the entry points of the unit that is found there
 pub record AreKept (sources : Sources) (root : Path) (keep kept : List Name) : Type 0 where
-  pub unit : Unit
+  pub unit : UnitTree
   pub found : sources root (unit_of unit)
   pub are : kept ≡ kept_names keep unit
 
 -- The unit is linked from these sources: loading from the root comes to modules, each but the root under the path by which an import
 -- names it; none of their names clashes, and they are linked into it.
-pub record IsLinkedFrom (sources : Sources) (root : Path) (keep : List Name) (max : ℕ) (linked : Unit) : Type 0 where
+pub record IsLinkedFrom (sources : Sources) (root : Path) (keep : List Name) (max : ℕ) (linked : UnitTree) : Type 0 where
   pub kept : List Name
   pub are_kept : AreKept sources root keep kept
   pub modules : Modules
-  pub loaded : ComesTo sources root kept max (Ok modules)
+  pub loaded : IsLoadingResult sources root kept max (Ok modules)
   pub named : AreNamedByImports modules root
   pub linked_well : AreLinkedWell modules root kept linked
 
 module _ (modules : Modules) (root : Path) (keep : List Name) where
   -- what the lowered unit keeps of the modules: each run that ends well, and the held functions
-  pub record RunsAsSources (linked lowered : Unit) : Type 0 where
+  pub record RunsAsSources (linked lowered : UnitTree) : Type 0 where
     pub runs : RunsAsItsSources modules root keep lowered
     pub declares : DeclaresHeldFunctions modules root keep linked lowered
 
   -- what the linked unit keeps: each run, both ways, and all that is held
-  pub record RunsExactlyAsSources (linked : Unit) : Type 0 where
+  pub record RunsExactlyAsSources (linked : UnitTree) : Type 0 where
     pub runs : RunsExactlyAsItsSources modules root keep linked
     pub declares : DeclaresWhatIsHeld modules root keep linked
 
 module _ (sources : Sources) (root : Path) (keep : List Name) (max : ℕ) where
   -- a text of what is linked from the sources and lowered
   pub record IsCompiledFrom (text : List ℕ) : Type 0 where
-    pub linked : Unit
+    pub linked : UnitTree
     pub from : IsLinkedFrom sources root keep max linked
-    pub lowered : Unit
+    pub lowered : UnitTree
     pub is_lowered : lowered_unit linked ≡ Ok lowered
     pub stands : StandsFor text lowered
     pub keeps : RunsAsSources from.modules root from.kept linked lowered
 
   -- a text of what is linked from them
   pub record IsLinkedTextFrom (text : List ℕ) : Type 0 where
-    pub linked : Unit
+    pub linked : UnitTree
     pub from : IsLinkedFrom sources root keep max linked
     pub stands : StandsFor text linked
     pub keeps : RunsExactlyAsSources from.modules root from.kept linked
 
 -- Whatever is found at each path: what is linked, lowered with clear names, and stands in a text, is compiled from its sources.
 abbrev pub CompiledTextsAreOfTheirSources : Sources → Type 0
-CompiledTextsAreOfTheirSources sources = (root : Path) (keep : List Name) (max : ℕ) (linked lowered : Unit) → IsLinkedFrom sources root keep max linked
+CompiledTextsAreOfTheirSources sources = (root : Path) (keep : List Name) (max : ℕ) (linked lowered : UnitTree) → IsLinkedFrom sources root keep max linked
     → AreClear linked.declarations → lowered_unit linked ≡ Ok lowered → (text : List ℕ) → StandsFor text lowered → IsCompiledFrom sources root keep max text
 
 -- and what is linked and stands in a text, is linked from its sources
 abbrev pub LinkedTextsAreOfTheirSources : Sources → Type 0
-LinkedTextsAreOfTheirSources sources = (root : Path) (keep : List Name) (max : ℕ) (linked : Unit) → IsLinkedFrom sources root keep max linked
+LinkedTextsAreOfTheirSources sources = (root : Path) (keep : List Name) (max : ℕ) (linked : UnitTree) → IsLinkedFrom sources root keep max linked
     → (text : List ℕ) → StandsFor text linked → IsLinkedTextFrom sources root keep max text

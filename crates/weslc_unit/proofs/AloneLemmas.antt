@@ -6,7 +6,7 @@ use Rattle.wgsl_syntax.specs.declared.import.ImportStatement.{ImportStatement}
 use Rattle.wgsl_syntax.specs.declared.unit.TranslationUnit.{TranslationUnit}
 use Rattle.wgsl_syntax.specs.Tree.{Decl, Imp}
 use Rattle.wgsl_syntax.specs.View.{declaration_tree, import_tree, unit_tree}
-use Rattle.wgsl_laws.specs.Printing.{alone}
+use Rattle.wgsl_round_trip.specs.Printing.{alone}
 
 no_imports : (imports : List ImportStatement) → map import_tree imports ≡ [] → imports ≡ []
 no_imports [] e = refl

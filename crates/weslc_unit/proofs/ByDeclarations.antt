@@ -1,8 +1,8 @@
 -- Declarations are read from one text exactly where each is read from its own.
 use Rattle.std.proofs.Common.{ℕ, List}
-use Rattle.wgsl_syntax.specs.Tree.{Unit as Module}
-use Rattle.wgsl_laws.specs.Printing.{StandsFor}
-use Rattle.wgsl_laws.proofs.ByDeclarations.{stands_by_declarations}
+use Rattle.wgsl_syntax.specs.Tree.{UnitTree as Module}
+use Rattle.wgsl_round_trip.specs.Printing.{StandsFor}
+use Rattle.wgsl_round_trip.proofs.ByDeclarations.{stands_by_declarations}
 use Rattle.weslc_unit.specs.Compiled.{IsTextOf}
 use Rattle.weslc_unit.specs.ByDeclarations.{ReadByDeclarations}
 

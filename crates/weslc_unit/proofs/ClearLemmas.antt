@@ -3,7 +3,7 @@ use Rattle.std.proofs.Common.{◌≡◌, ℕ, List, [], ◌∷◌, ◌++◌, map
 use Rattle.std.specs.Prelude.{codes, filter, ◌||◌}
 use Rattle.std.specs.List.{flat_map}
 use Rattle.std.proofs.lemmas.Bool.{or_parts, false≢true}
-use Rattle.wgsl_syntax.specs.Tree.{Attr, Block, Param, Decl, variable, function, Unit as Module}
+use Rattle.wgsl_syntax.specs.Tree.{Attr, Block, Param, Decl, variable, function, UnitTree as Module}
 use Rattle.wgsl_builtin.specs.Names.{Name, is_in}
 use Rattle.wgsl_builtin.specs.Builtin.{builtin_names}
 use Rattle.wesl_validate.specs.Scopes.{names}

@@ -2,7 +2,7 @@
 use Rattle.std.proofs.Common.{◌≡◌, ◌⊎◌, inl, inr, ℕ, ◌<◌, List, [], Some, None, Ok, refl, sym, ap, ◌∙◌, subst}
 use Rattle.std.specs.Prelude.{slice_get, slice_range}
 use Rattle.std.proofs.lemmas.Bool.{cases_order}
-use Rattle.wgsl_syntax.specs.Tree.{Decl, Unit as Module}
+use Rattle.wgsl_syntax.specs.Tree.{Decl, UnitTree as Module}
 use Rattle.wgsl_syntax.specs.Print.{decl_text, unit_text}
 use Rattle.wgsl_builtin.specs.Names.{Name}
 use Rattle.wgsl_builtin.specs.Builtin.{builtin_names}

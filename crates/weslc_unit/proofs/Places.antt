@@ -10,7 +10,7 @@ use Rattle.wgsl_token.specs.declared.error.Error.{Error}
 use Rattle.wgsl_lex.specs.Tokens.{IsLexed, Lexes, at_the_end, behind_trivia, a_token, no_token, size, spanned}
 use Rattle.wgsl_lex.proofs.Sizes.{size-append}
 use Rattle.wgsl_parse.specs.Texts.{IsFaultIn, at_token, at_the_end as cut_short, IsFaultOf}
-use Rattle.wgsl_laws.proofs.Declarations.{scalars_behind}
+use Rattle.wgsl_round_trip.proofs.Declarations.{scalars_behind}
 
 -- The characters before a token, those of it, and those behind it.
 record IsPlaced (at : ℕ) (cs : List ℕ) (k : SpannedToken) : Type 0 where

@@ -6,10 +6,10 @@ use Rattle.std.proofs.lemmas.List.Elements.{All-from_recursion, recursion_from_A
 use Rattle.wgsl_path.specs.declared.span.Spanned.{Spanned}
 use Rattle.wgsl_syntax.specs.declared.declaration.GlobalDeclaration.{GlobalDeclaration}
 use Rattle.wgsl_syntax.specs.declared.unit.TranslationUnit.{TranslationUnit}
-use Rattle.wgsl_syntax.specs.Tree.{Decl, Unit as Module}
+use Rattle.wgsl_syntax.specs.Tree.{Decl, UnitTree as Module}
 use Rattle.wgsl_syntax.specs.View.{declaration_tree, import_tree, unit_tree}
 use Rattle.wgsl_syntax.specs.Print.{decl_text, unit_text}
-use Rattle.wgsl_laws.specs.Printing.{alone}
+use Rattle.wgsl_round_trip.specs.Printing.{alone}
 use Rattle.weslc_unit.specs.declared.error.PrintError.{PrintError}
 use Rattle.weslc_unit.specs.declared.error.PrintError.TheVariants.{Unprintable, OutOfMemory}
 use Rattle.weslc_unit.specs.Compiled.{IsTextOf, IsReadAlone, IsUnprintable, declared_name, IsToldOf, IsToldOfAll, nothing, of_first, of_later, TellsOf}

@@ -3,12 +3,12 @@ use Rattle.std.specs.Prelude.{◌≡◌, ◌≢◌, ⊤, List, ℕ, [], ◌∷�
 use Rattle.wgsl_token.specs.declared.error.Error.{Error}
 use Rattle.wgsl_token.specs.declared.error.ErrorKind.TheVariants.{ReservedWord}
 use Rattle.wgsl_syntax.specs.declared.unit.TranslationUnit.{TranslationUnit}
-use Rattle.wgsl_syntax.specs.Tree.{Decl, Unit}
+use Rattle.wgsl_syntax.specs.Tree.{Decl, UnitTree}
 use Rattle.wgsl_syntax.specs.View.{unit_tree}
 pub use Rattle.wgsl_syntax.specs.Names.{declared_name}
 use Rattle.wgsl_syntax.specs.Print.{decl_text, unit_text}
 use Rattle.wgsl_parse.specs.Texts.{Derives, IsFaultOf}
-use Rattle.wgsl_laws.specs.Printing.{alone}
+use Rattle.wgsl_round_trip.specs.Printing.{alone}
 use Rattle.wgsl_builtin.specs.Builtin.{builtin_names}
 use Rattle.wesl_validate.specs.First.{first}
 use Rattle.wesl_validate.specs.Faults.{IsFaultless, IsFirstFault}
@@ -23,21 +23,21 @@ use Rattle.weslc_unit.specs.declared.error.PrintError.TheVariants as print
 -- ---- the steps
 
 -- a unit without fault
-abbrev pub IsValid : Unit → Type 0
+abbrev pub IsValid : UnitTree → Type 0
 IsValid unit = IsFaultless unit builtin_names
 
 -- each name of it is read as meant
-abbrev pub IsClear : Unit → Type 0
+abbrev pub IsClear : UnitTree → Type 0
 IsClear unit = unclear unit builtin_names ≡ []
 
 -- a valid unit with clear names, and what it is lowered to
-pub record IsLowered (unit low : Unit) : Type 0 where
+pub record IsLowered (unit low : UnitTree) : Type 0 where
   pub valid : IsValid unit
   pub clear : IsClear unit
   pub lowered : lowered_unit unit ≡ Ok low
 
 -- the text is read as this tree
-abbrev pub IsTextOf : Unit → List ℕ → Type 0
+abbrev pub IsTextOf : UnitTree → List ℕ → Type 0
 IsTextOf meant text = (unit : TranslationUnit) × Derives text unit × (unit_tree unit ≡ meant)
 
 -- the text of a declaration is read as that declaration alone
@@ -48,8 +48,8 @@ IsReadAlone d = IsTextOf (alone d) (decl_text d)
 
 -- the text of what a unit is lowered to, which is read as that. Every run of the unit that ends well ends well in the lowered
 -- unit, with the same answer and in no more steps.
-pub record IsCompiled (unit : Unit) (text : List ℕ) : Type 0 where
-  pub low : Unit
+pub record IsCompiled (unit : UnitTree) (text : List ℕ) : Type 0 where
+  pub low : UnitTree
   pub lowered : IsLowered unit low
   pub whole : text ≡ unit_text low
   pub reads : IsTextOf low text
@@ -75,21 +75,21 @@ TellsOf ds print.OutOfMemory = ⊤
 
 -- ---- what is refused: each case after those before it don't hold
 
-abbrev pub RefusesInvalid : Unit → UnitRefusal → Type 0
+abbrev pub RefusesInvalid : UnitTree → UnitRefusal → Type 0
 RefusesInvalid unit (Validate f) = IsFirstFault unit builtin_names f
 RefusesInvalid unit OutOfMemory = ⊤
 RefusesInvalid unit (UnclearName x) = ⊥
 RefusesInvalid unit (Eval r) = ⊥
 RefusesInvalid unit (Unprintable x) = ⊥
 
-abbrev pub RefusesUnclear : Unit → UnitRefusal → Type 0
+abbrev pub RefusesUnclear : UnitTree → UnitRefusal → Type 0
 RefusesUnclear unit (UnclearName x) = first (unclear unit builtin_names) ≡ Some x
 RefusesUnclear unit OutOfMemory = ⊤
 RefusesUnclear unit (Validate f) = ⊥
 RefusesUnclear unit (Eval r) = ⊥
 RefusesUnclear unit (Unprintable x) = ⊥
 
-abbrev pub RefusesValues : Unit → UnitRefusal → Type 0
+abbrev pub RefusesValues : UnitTree → UnitRefusal → Type 0
 RefusesValues unit (Eval r) = lowered_unit unit ≡ Err r
 RefusesValues unit OutOfMemory = ⊤
 RefusesValues unit (Validate f) = ⊥
@@ -97,13 +97,13 @@ RefusesValues unit (UnclearName x) = ⊥
 RefusesValues unit (Unprintable x) = ⊥
 
 -- memory aside, what is printed of the unit is not read as the unit
-abbrev pub IsUnprintable : Unit → PrintError → Type 0
+abbrev pub IsUnprintable : UnitTree → PrintError → Type 0
 IsUnprintable unit (print.Unprintable x) = IsTextOf unit (unit_text unit) → ⊥
 IsUnprintable unit print.OutOfMemory = ⊤
 
-abbrev pub Refuses : Unit → UnitRefusal → Type 0
+abbrev pub Refuses : UnitTree → UnitRefusal → Type 0
 Refuses unit (Validate f) = IsFirstFault unit builtin_names f
 Refuses unit (UnclearName x) = IsValid unit × (first (unclear unit builtin_names) ≡ Some x)
 Refuses unit (Eval r) = IsValid unit × IsClear unit × (lowered_unit unit ≡ Err r)
-Refuses unit (Unprintable x) = (low : Unit) × IsLowered unit low × (IsTextOf low (unit_text low) → ⊥) × IsToldOfAll low.declarations x
+Refuses unit (Unprintable x) = (low : UnitTree) × IsLowered unit low × (IsTextOf low (unit_text low) → ⊥) × IsToldOfAll low.declarations x
 Refuses unit OutOfMemory = ⊤

@@ -1,7 +1,7 @@
 -- Which declaration a refusal is about.
 use Rattle.std.specs.Prelude.{◌≡◌, Option, Some, None}
 use Rattle.std.specs.List.{Contains}
-use Rattle.wgsl_syntax.specs.Tree.{Unit}
+use Rattle.wgsl_syntax.specs.Tree.{UnitTree}
 use Rattle.wesl_validate.specs.Scopes.{Name, names}
 use Rattle.weslc_unit.specs.declared.error.UnitRefusal.{UnitRefusal}
 use Rattle.weslc_unit.specs.declared.error.UnitRefusal.TheVariants.{Validate, UnclearName, Eval, Unprintable, OutOfMemory}
@@ -17,4 +17,4 @@ declaration_of OutOfMemory = None
 
 -- it is one that the unit declares
 abbrev pub RefusalsAreInDeclarations : Type 0
-RefusalsAreInDeclarations = (unit : Unit) (refusal : UnitRefusal) (y : Name) → Refuses unit refusal → declaration_of refusal ≡ Some y → Contains (names unit) y
+RefusalsAreInDeclarations = (unit : UnitTree) (refusal : UnitRefusal) (y : Name) → Refuses unit refusal → declaration_of refusal ≡ Some y → Contains (names unit) y

@@ -1,6 +1,6 @@
 -- A unit is compiled or refused in one way, whatever does it.
 use Rattle.std.specs.Prelude.{◌≡◌, ⊤, List, ℕ}
-use Rattle.wgsl_syntax.specs.Tree.{Unit}
+use Rattle.wgsl_syntax.specs.Tree.{UnitTree}
 use Rattle.weslc_unit.specs.declared.error.UnitRefusal.{UnitRefusal}
 use Rattle.weslc_unit.specs.declared.error.UnitRefusal.TheVariants.{Validate, UnclearName, Eval, Unprintable, OutOfMemory}
 use Rattle.weslc_unit.specs.Compiled.{IsCompiled, Refuses}
@@ -17,12 +17,12 @@ SameRefusal r q = ⊥
 
 -- a unit has one compiled text
 abbrev pub CompiledOnce : Type 0
-CompiledOnce = (unit : Unit) (one other : List ℕ) → IsCompiled unit one → IsCompiled unit other → one ≡ other
+CompiledOnce = (unit : UnitTree) (one other : List ℕ) → IsCompiled unit one → IsCompiled unit other → one ≡ other
 
 -- it is refused in one way
 abbrev pub RefusedOnce : Type 0
-RefusedOnce = (unit : Unit) (one other : UnitRefusal) → Refuses unit one → Refuses unit other → SameRefusal one other
+RefusedOnce = (unit : UnitTree) (one other : UnitRefusal) → Refuses unit one → Refuses unit other → SameRefusal one other
 
 -- what is compiled is refused for memory alone
 abbrev pub CompiledOrRefused : Type 0
-CompiledOrRefused = (unit : Unit) (text : List ℕ) (refusal : UnitRefusal) → IsCompiled unit text → Refuses unit refusal → refusal ≡ OutOfMemory
+CompiledOrRefused = (unit : UnitTree) (text : List ℕ) (refusal : UnitRefusal) → IsCompiled unit text → Refuses unit refusal → refusal ≡ OutOfMemory

@@ -3,7 +3,7 @@
 use std::alloc::AllocError;
 use thiserror::Error as Message;
 use wesl_validate::ValidateFault;
-use wgsl_eval::Refusal;
+use wgsl_eval::DeclarationFault;
 use wgsl_items::Text;
 
 /// Why a linked unit is not compiled. The first fault is named, in the order of these variants; names are those of the
@@ -17,7 +17,7 @@ pub enum UnitRefusal {
     UnclearName(Text),
     /// A const has no value, or what is rewritten is at fault.
     #[error("an evaluation goes wrong")]
-    Eval(Refusal),
+    Eval(DeclarationFault),
     /// What is compiled has no text: of its first declaration that isn't read from its own text, the reserved word at the
     /// text's fault, else the declaration's name.
     #[error("no text stands for {0}")]

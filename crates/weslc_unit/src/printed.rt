@@ -4,7 +4,7 @@ ghost use Rattle.std.specs.Prelude.{◌≡◌, ◌↔◌, [], ◌∷◌, All, If
 ghost use Rattle.std.specs.List.{flat_map};
 ghost use Rattle.wgsl_syntax.specs.View.{declaration_tree, unit_tree};
 ghost use Rattle.wgsl_syntax.specs.Print.{decl_text, unit_text};
-ghost use Rattle.wgsl_laws.specs.Printing.{alone};
+ghost use Rattle.wgsl_round_trip.specs.Printing.{alone};
 ghost use Rattle.weslc_unit.specs.ByDeclarations.{AreUnprintable};
 ghost use Rattle.weslc_unit.specs.Compiled.{IsTextOf, IsReadAlone, IsUnprintable, IsToldOf, TellsOf};
 
@@ -12,7 +12,7 @@ use crate::error::PrintError;
 use std::alloc::{AllocError, Global};
 use wgsl_items::Text;
 use wgsl_parse::{ErrorKind, parse_str};
-use wgsl_plain::is_plain_declaration;
+use wgsl_printable::is_plain_declaration;
 use wgsl_same::{is_same_declaration, is_same_unit};
 use wgsl_syntax::{GlobalDeclaration, GlobalDeclarationNode, TranslationUnit};
 

@@ -20,8 +20,8 @@ use Rattle.wgsl_enumerations.specs.declared.address.Enumerant.{Enumerant}
 use Rattle.wgsl_enumerations.specs.declared.address.Enumerant.TheVariants as enumerant
 
 -- A word is read exactly where a value has it for its text: `spelled` gives each value its text, or nothing where no text names it.
-abbrev pub Reads : {T E : Type 0} → (T → Option (List ℕ)) → List ℕ → Result T E → Type 0
-Reads {T} spelled text result = MatchResult result (λ value. spelled value ≡ Some text) (λ _. (value : T) → spelled value ≢ Some text)
+abbrev pub ParsesExactly : {T E : Type 0} → (T → Option (List ℕ)) → List ℕ → Result T E → Type 0
+ParsesExactly {T} spelled text result = MatchResult result (λ value. spelled value ≡ Some text) (λ _. (value : T) → spelled value ≢ Some text)
 
 -- An address space (WGSL, "Address spaces").
 abbrev pub address_space_text : AddressSpace → List ℕ

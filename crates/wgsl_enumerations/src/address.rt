@@ -43,11 +43,11 @@ impl fmt::Display for AddressSpace {
 }
 
 impl FromStr for AddressSpace {
-    ghost use Rattle.wgsl_enumerations.specs.Texts.{Reads, address_space_spelled};
+    ghost use Rattle.wgsl_enumerations.specs.Texts.{ParsesExactly, address_space_spelled};
 
     type Err = ();
 
-    ghost from_str_gives = { Reads address_space_spelled };
+    ghost from_str_gives = { ParsesExactly address_space_spelled };
 
     fn from_str(text: &str) -> Result<AddressSpace, ()> {
         match text {
@@ -88,11 +88,11 @@ impl fmt::Display for AccessMode {
 }
 
 impl FromStr for AccessMode {
-    ghost use Rattle.wgsl_enumerations.specs.Texts.{Reads, access_mode_spelled};
+    ghost use Rattle.wgsl_enumerations.specs.Texts.{ParsesExactly, access_mode_spelled};
 
     type Err = ();
 
-    ghost from_str_gives = { Reads access_mode_spelled };
+    ghost from_str_gives = { ParsesExactly access_mode_spelled };
 
     fn from_str(text: &str) -> Result<AccessMode, ()> {
         match text {
@@ -162,11 +162,11 @@ impl fmt::Display for Enumerant {
 }
 
 impl FromStr for Enumerant {
-    ghost use Rattle.wgsl_enumerations.specs.Texts.{Reads, enumerant_spelled};
+    ghost use Rattle.wgsl_enumerations.specs.Texts.{ParsesExactly, enumerant_spelled};
 
     type Err = ();
 
-    ghost from_str_gives = { Reads enumerant_spelled };
+    ghost from_str_gives = { ParsesExactly enumerant_spelled };
 
     fn from_str(text: &str) -> Result<Enumerant, ()> {
         if let Ok(mode) = AccessMode::from_str(text) {

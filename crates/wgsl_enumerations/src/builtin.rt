@@ -66,11 +66,11 @@ impl fmt::Display for BuiltinValue {
 }
 
 impl FromStr for BuiltinValue {
-    ghost use Rattle.wgsl_enumerations.specs.Texts.{Reads, builtin_value_spelled};
+    ghost use Rattle.wgsl_enumerations.specs.Texts.{ParsesExactly, builtin_value_spelled};
 
     type Err = ();
 
-    ghost from_str_gives = { Reads builtin_value_spelled };
+    ghost from_str_gives = { ParsesExactly builtin_value_spelled };
 
     fn from_str(text: &str) -> Result<BuiltinValue, ()> {
         match text {

@@ -33,11 +33,11 @@ impl fmt::Display for DiagnosticSeverity {
 }
 
 impl FromStr for DiagnosticSeverity {
-    ghost use Rattle.wgsl_enumerations.specs.Texts.{Reads, diagnostic_severity_spelled};
+    ghost use Rattle.wgsl_enumerations.specs.Texts.{ParsesExactly, diagnostic_severity_spelled};
 
     type Err = ();
 
-    ghost from_str_gives = { Reads diagnostic_severity_spelled };
+    ghost from_str_gives = { ParsesExactly diagnostic_severity_spelled };
 
     fn from_str(text: &str) -> Result<DiagnosticSeverity, ()> {
         match text {
@@ -77,11 +77,11 @@ impl fmt::Display for InterpolationType {
 }
 
 impl FromStr for InterpolationType {
-    ghost use Rattle.wgsl_enumerations.specs.Texts.{Reads, interpolation_type_spelled};
+    ghost use Rattle.wgsl_enumerations.specs.Texts.{ParsesExactly, interpolation_type_spelled};
 
     type Err = ();
 
-    ghost from_str_gives = { Reads interpolation_type_spelled };
+    ghost from_str_gives = { ParsesExactly interpolation_type_spelled };
 
     fn from_str(text: &str) -> Result<InterpolationType, ()> {
         match text {
@@ -126,11 +126,11 @@ impl fmt::Display for InterpolationSampling {
 }
 
 impl FromStr for InterpolationSampling {
-    ghost use Rattle.wgsl_enumerations.specs.Texts.{Reads, interpolation_sampling_spelled};
+    ghost use Rattle.wgsl_enumerations.specs.Texts.{ParsesExactly, interpolation_sampling_spelled};
 
     type Err = ();
 
-    ghost from_str_gives = { Reads interpolation_sampling_spelled };
+    ghost from_str_gives = { ParsesExactly interpolation_sampling_spelled };
 
     fn from_str(text: &str) -> Result<InterpolationSampling, ()> {
         match text {
@@ -172,11 +172,11 @@ impl fmt::Display for ShaderStage {
 }
 
 impl FromStr for ShaderStage {
-    ghost use Rattle.wgsl_enumerations.specs.Texts.{Reads, shader_stage_spelled};
+    ghost use Rattle.wgsl_enumerations.specs.Texts.{ParsesExactly, shader_stage_spelled};
 
     type Err = ();
 
-    ghost from_str_gives = { Reads shader_stage_spelled };
+    ghost from_str_gives = { ParsesExactly shader_stage_spelled };
 
     fn from_str(text: &str) -> Result<ShaderStage, ()> {
         match text {
@@ -239,11 +239,11 @@ impl fmt::Display for AssignmentOperator {
 }
 
 impl FromStr for AssignmentOperator {
-    ghost use Rattle.wgsl_enumerations.specs.Texts.{Reads, assignment_operator_spelled};
+    ghost use Rattle.wgsl_enumerations.specs.Texts.{ParsesExactly, assignment_operator_spelled};
 
     type Err = ();
 
-    ghost from_str_gives = { Reads assignment_operator_spelled };
+    ghost from_str_gives = { ParsesExactly assignment_operator_spelled };
 
     fn from_str(text: &str) -> Result<AssignmentOperator, ()> {
         match text {

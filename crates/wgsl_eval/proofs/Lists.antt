@@ -5,7 +5,7 @@ use Rattle.wgsl_path.specs.declared.span.Spanned.{Spanned}
 use Rattle.wgsl_syntax.specs.declared.expression.Expression.{Expression}
 use Rattle.wgsl_syntax.specs.Tree.{Exps, exps, cons, call, Typ}
 use Rattle.wgsl_syntax.specs.View.{node_tree}
-use Rattle.wgsl_meaning.specs.Outcome.{Outcome, Done, Failed, Deep, after, andthen}
+use Rattle.wgsl_meaning.specs.Outcome.{Outcome, Done, Failed, Deep, after, bind}
 use Rattle.wgsl_meaning.specs.declared.value.Value.{Value}
 use Rattle.wgsl_meaning.specs.Names.{Name, find, plain_name}
 use Rattle.wgsl_meaning.specs.Meaning.{World, Types, value, values, result_here, called_or, typed, all_typed, result_type_here}
@@ -15,7 +15,7 @@ use Rattle.wgsl_items.specs.declared.error.OrOutOfMemory.TheVariants.{Error, Out
 use Rattle.wgsl_meaning.specs.declared.fault.Fault.{Fault}
 use Rattle.wgsl_eval.specs.Ends.{Ends, first_these}
 
-pub pushed : {A : Type 0} (vs : List A) (x : A) (o : Outcome (List A)) → first_these (vs ++ x ∷ []) o ≡ first_these vs (after 0 (andthen o (λ xs. Done (x ∷ xs) 0)))
+pub pushed : {A : Type 0} (vs : List A) (x : A) (o : Outcome (List A)) → first_these (vs ++ x ∷ []) o ≡ first_these vs (after 0 (bind o (λ xs. Done (x ∷ xs) 0)))
 pushed vs x (Done ws n) = λ i. Done (append_assoc vs (x ∷ []) ws i) (sym (zero-add (n + 0) ∙ add-zero n) i)
 pushed vs x (Failed f) = refl
 pushed vs x Deep = refl
@@ -32,11 +32,11 @@ ends_after o (Err (Error f)) h = ap (after 0) h
 -- a call whose arguments have values
 pub called : (w : World) (t : Typ) (es : Exps) (vs : List Value) (f : Name) (r : Result Value (OrOutOfMemory Fault)) → values w [] es ≡ Done vs 0 → plain_name t ≡ Ok f → Ends (w.result_of f vs) r → Ends (value w [] (call t es)) r
 called w t es vs f r e n h =
-    subst (λ z. Ends (andthen z (λ xs. result_here w [] (plain_name t) xs)) r) (sym e)
-    (subst (λ z. Ends (andthen (Done vs 0) (λ xs. result_here w [] z xs)) r) (sym n) (ends_after (w.result_of f vs) r h))
+    subst (λ z. Ends (bind z (λ xs. result_here w [] (plain_name t) xs)) r) (sym e)
+    (subst (λ z. Ends (bind (Done vs 0) (λ xs. result_here w [] z xs)) r) (sym n) (ends_after (w.result_of f vs) r h))
 
 pub called_typed : (w : World) (env : Types) (t : Typ) (es : Exps) (ts : List NumericType) (f : Name) (r : Result NumericType (OrOutOfMemory Fault)) → all_typed w env es ≡ Done ts 0 → plain_name t ≡ Ok f →
     Ends (called_or f (find f env) (w.result_type f ts)) r → Ends (typed w env (call t es)) r
 called_typed w env t es ts f r e n h =
-    subst (λ z. Ends (andthen z (λ xs. result_type_here w env (plain_name t) xs)) r) (sym e)
-    (subst (λ z. Ends (andthen (Done ts 0) (λ xs. result_type_here w env z xs)) r) (sym n) (ends_after (called_or f (find f env) (w.result_type f ts)) r h))
+    subst (λ z. Ends (bind z (λ xs. result_type_here w env (plain_name t) xs)) r) (sym e)
+    (subst (λ z. Ends (bind (Done ts 0) (λ xs. result_type_here w env z xs)) r) (sym n) (ends_after (called_or f (find f env) (w.result_type f ts)) r h))

@@ -5,15 +5,15 @@ use Rattle.wgsl_items.specs.declared.error.OrOutOfMemory.TheVariants.{Error, Out
 use Rattle.wgsl_items.specs.Memory.{UnlessOutOfMemory}
 use Rattle.wgsl_meaning.specs.declared.fault.Fault.{Fault}
 use Rattle.wgsl_meaning.specs.Names.{Name}
-use Rattle.wgsl_eval.specs.declared.error.Refusal.{Refusal}
+use Rattle.wgsl_eval.specs.declared.error.DeclarationFault.{DeclarationFault}
 
 -- the refusal of a declaration for a fault, unless memory was refused
-abbrev pub IsRefusal : Name → OrOutOfMemory Fault → OrOutOfMemory Refusal → Type 0
+abbrev pub IsRefusal : Name → OrOutOfMemory Fault → OrOutOfMemory DeclarationFault → Type 0
 IsRefusal x error OutOfMemory = ⊤
 IsRefusal x OutOfMemory (Error r) = ⊥
 IsRefusal x (Error f) (Error r) = r ≡ record { declaration = x; fault = f }
 
 -- what is there or the refusal, as contracts see it, unless memory was refused
-abbrev pub Answers : {A B : Type 0} → (A → B) → Result B Refusal → Result A (OrOutOfMemory Refusal) → Type 0
+abbrev pub Answers : {A B : Type 0} → (A → B) → Result B DeclarationFault → Result A (OrOutOfMemory DeclarationFault) → Type 0
 Answers view o (Ok x) = o ≡ Ok (view x)
 Answers view o (Err e) = UnlessOutOfMemory (λ r. o ≡ Err r) e

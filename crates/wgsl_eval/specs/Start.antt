@@ -14,7 +14,7 @@ use Rattle.wgsl_meaning.specs.Outcome.{Outcome, Done, Failed, Deep}
 use Rattle.wgsl_meaning.specs.Names.{Name, find_decl}
 use Rattle.wgsl_meaning.specs.Meaning.{const_in}
 use Rattle.wgsl_meaning.specs.ConstStage.{Consts, stage, module_scope}
-use Rattle.wgsl_eval.specs.declared.error.Refusal.{Refusal}
+use Rattle.wgsl_eval.specs.declared.error.DeclarationFault.{DeclarationFault}
 use Rattle.wgsl_eval.specs.declared.start.Order.{Order}
 
 -- ---- the order
@@ -39,11 +39,11 @@ abbrev mutual
   all_names_in (cons e es) = names_in e ++ all_names_in es
 
 -- those that a const names. (A call of a function is a fault here, so that what functions name doesn't count yet.)
-abbrev pub mentioned : Option Decl → List Name
-mentioned (Some (variable attributes kind x type (Some e))) = names_in e
-mentioned (Some (variable attributes kind x type None)) = []
-mentioned (Some (function attributes f parameters return_attributes type body)) = []
-mentioned None = []
+abbrev pub initializer_names : Option Decl → List Name
+initializer_names (Some (variable attributes kind x type (Some e))) = names_in e
+initializer_names (Some (variable attributes kind x type None)) = []
+initializer_names (Some (function attributes f parameters return_attributes type body)) = []
+initializer_names None = []
 
 abbrev pub is_in : Name → List Name → Bool
 is_in x ys = list_any (λ y. bytes_eq x y) ys
@@ -57,7 +57,7 @@ finishing x o = record { met = o.met; done = o.done ++ x ∷ [] }
 -- a name after those it mentions; at most so many inside one another
 unfoldable pub reached : List Decl → ℕ → Order → Name → Order
 reached ds zero o x = o
-reached ds (suc k) o x = if is_in x o.met then o else finishing x (fold (reached ds k) (meeting x o) (mentioned (find_decl x ds)))
+reached ds (suc k) o x = if is_in x o.met then o else finishing x (fold (reached ds k) (meeting x o) (initializer_names (find_decl x ds)))
 
 abbrev pub const_names : List Decl → List Name
 const_names [] = []
@@ -73,28 +73,28 @@ order_of ds = (fold (reached ds (length ds + 1)) none_met (const_names ds)).done
 
 -- ---- the values
 
-abbrev pub refused : Name → Fault → Refusal
+abbrev pub refused : Name → Fault → DeclarationFault
 refused x f = record { declaration = x; fault = f }
 
-abbrev pub added : Consts → Name → Outcome Value → Result Consts Refusal
+abbrev pub added : Consts → Name → Outcome Value → Result Consts DeclarationFault
 added cs x (Done v n) = Ok (cs ++ (x, v) ∷ [])
 added cs x (Failed f) = Err (refused x f)
 added cs x Deep = Err (refused x (Named CyclicDecl x))
 
 -- a name's value, if it is a const's
-abbrev pub valued : List Decl → Consts → Name → Option Decl → Result Consts Refusal
+abbrev pub valued : List Decl → Consts → Name → Option Decl → Result Consts DeclarationFault
 valued ds cs x (Some (variable attributes kind y type e)) = added cs x (const_in (stage (module_scope ds cs)) x (Some (variable attributes kind y type e)))
 valued ds cs x (Some (function attributes f parameters return_attributes type body)) = Ok cs
 valued ds cs x None = Ok cs
 
-abbrev pub then_more : {A B : Type 0} → Result A Refusal → (A → Result B Refusal) → Result B Refusal
+abbrev pub then_more : {A B : Type 0} → Result A DeclarationFault → (A → Result B DeclarationFault) → Result B DeclarationFault
 then_more (Ok x) f = f x
 then_more (Err e) f = Err e
 
-abbrev pub all_valued : List Decl → Consts → List Name → Result Consts Refusal
+abbrev pub all_valued : List Decl → Consts → List Name → Result Consts DeclarationFault
 all_valued ds cs [] = Ok cs
 all_valued ds cs (x ∷ xs) = then_more (valued ds cs x (find_decl x ds)) (λ more. all_valued ds more xs)
 
 -- the consts with their values, or the first fault and its declaration
-abbrev pub consts_of : List Decl → Result Consts Refusal
+abbrev pub consts_of : List Decl → Result Consts DeclarationFault
 consts_of ds = all_valued ds [] (order_of ds)

@@ -22,14 +22,14 @@ pub(crate) fn named(alloc: Global, fault: NameFault, name: &Text) -> EvalError
 
 /// The fault of a declaration.
 #[derive(Debug, Drop, PartialEq)]
-pub struct Refusal {
+pub struct DeclarationFault {
     /// The name of the declaration whose value is sought, or that is rewritten.
     pub declaration: Text,
     pub fault: Fault,
 }
 
 /// Why a unit is refused, or that memory was.
-pub type UnitError = OrOutOfMemory<Refusal>;
+pub type UnitError = OrOutOfMemory<DeclarationFault>;
 
 /// The refusal of a declaration for a fault.
 pub fn refused(alloc: Global, declaration: &Text, error: EvalError) -> UnitError
@@ -38,7 +38,7 @@ pub fn refused(alloc: Global, declaration: &Text, error: EvalError) -> UnitError
     match error {
         OrOutOfMemory::OutOfMemory => OrOutOfMemory::OutOfMemory,
         OrOutOfMemory::Error(fault) => match declaration.clone_in(alloc) {
-            Ok(declaration) => OrOutOfMemory::Error(Refusal { declaration, fault }),
+            Ok(declaration) => OrOutOfMemory::Error(DeclarationFault { declaration, fault }),
             Err(_) => OrOutOfMemory::OutOfMemory,
         },
     }

@@ -8,7 +8,7 @@ mod scope;
 mod start;
 mod typing;
 
-pub use error::{EvalError, Refusal, UnitError, refused};
+pub use error::{DeclarationFault, EvalError, UnitError, refused};
 pub use evaluate::{callee, eval_value};
 pub use find::plain_name;
 pub use scope::Scope;

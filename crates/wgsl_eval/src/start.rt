@@ -77,12 +77,12 @@ fn is_in(name: &Text, names: &[Text]) -> bool
     names.iter().any(|other| name.as_str() == other.as_str())
 }
 
-fn mentioned(
+fn initializer_names(
     alloc: Global,
     name: &Text,
     declarations: &[GlobalDeclarationNode],
 ) -> Result<Items<Text>, AllocError>
-    ensures { IfOk result (λ names. names ≡ spec.mentioned (find_decl name.now (decls declarations.now))) }
+    ensures { IfOk result (λ names. names ≡ spec.initializer_names (find_decl name.now (decls declarations.now))) }
 {
     let mut names = Items::new(alloc);
     if let Some(GlobalDeclaration::Declaration(d)) = declaration(name, declarations) {
@@ -109,7 +109,7 @@ fn reach(
         return Ok(());
     }
     order.met.push(name.clone_in(alloc)?)?;
-    let names = mentioned(alloc, name, declarations)?;
+    let names = initializer_names(alloc, name, declarations)?;
     for other in names.as_slice() {
         reach(alloc, declarations, depth - 1, order, other)?;
     }

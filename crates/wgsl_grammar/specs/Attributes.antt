@@ -8,7 +8,7 @@ use Rattle.wgsl_token.specs.declared.token.SpannedToken.{SpannedToken}
 use Rattle.wgsl_syntax.specs.declared.expression.Expression.{Expression}
 use Rattle.wgsl_syntax.specs.declared.declaration.Attribute.{Attribute}
 use Rattle.wgsl_syntax.specs.declared.declaration.Attribute.TheVariants as a
-use Rattle.wgsl_phrases.specs.Languages.{◌⌢◌}
+use Rattle.wgsl_parser_spec.specs.Languages.{◌⌢◌}
 use Rattle.wgsl_grammar.specs.Terminals.{fixed, word, IsComma}
 use Rattle.wgsl_grammar.specs.Expressions.{IsSum}
 

@@ -19,7 +19,7 @@ use Rattle.wgsl_syntax.specs.declared.declaration.GlobalDeclaration.TheVariants.
 use Rattle.wgsl_syntax.specs.declared.import.ImportStatement.{ImportStatement}
 use Rattle.wgsl_syntax.specs.declared.import.ImportContent.TheVariants.{Item}
 use Rattle.wgsl_syntax.specs.declared.unit.TranslationUnit.{TranslationUnit}
-use Rattle.wgsl_phrases.specs.Languages.{◌⌢◌, OptionallyListed, Repeated}
+use Rattle.wgsl_parser_spec.specs.Languages.{◌⌢◌, OptionallyListed, Repeated}
 use Rattle.wgsl_grammar.specs.Terminals.{fixed, word, IsComma, type_named}
 use Rattle.wgsl_grammar.specs.Expressions.{IsSum}
 use Rattle.wgsl_grammar.specs.Attributes.{IsAttribute}

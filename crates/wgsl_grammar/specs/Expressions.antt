@@ -12,7 +12,7 @@ use Rattle.wgsl_token.specs.declared.token.SpannedToken.{SpannedToken}
 use Rattle.wgsl_syntax.specs.declared.expression.LiteralExpression.{LiteralExpression}
 use Rattle.wgsl_syntax.specs.declared.expression.Expression.{Expression}
 use Rattle.wgsl_syntax.specs.declared.expression.Expression.TheVariants as e
-use Rattle.wgsl_phrases.specs.Languages.{◌⌢◌}
+use Rattle.wgsl_parser_spec.specs.Languages.{◌⌢◌}
 use Rattle.wgsl_grammar.specs.Terminals.{fixed, word, IsComma, literal_of, additive, multiplicative, node, type_named}
 
 abbrev pub negated : Span → Spanned Expression → Spanned Expression

@@ -1,7 +1,7 @@
 //! A text that contracts see as its bytes.
 
 ghost use Rattle.std.specs.Prelude.{◌≡◌, [], ◌++◌, length, IfOk, IfSome, OnOk, OnErr, string_bytes, encode_utf8};
-ghost use Rattle.wgsl_items.specs.Texts.{held_bytes};
+ghost use Rattle.wgsl_items.specs.Texts.{storage_bytes};
 
 use crate::copies::CloneIn;
 use arrayvec::ArrayString;
@@ -11,7 +11,7 @@ use std::marker::Model;
 
 /// Where a text stands: in place, with the memory in which it may grow, or on the heap.
 #[derive(Debug, Drop)]
-enum Held {
+enum Storage {
     Short(ArrayString<16>, Global),
     Long(String),
 }
@@ -19,16 +19,16 @@ enum Held {
 /// A text, as UTF-8. Up to 16 bytes stand in place and need no memory.
 #[derive(Debug, Drop)]
 pub struct Text {
-    inner: Held,
+    inner: Storage,
 }
 
 impl Model for Text {
     ghost use Rattle.std.specs.Prelude.{List, ℕ};
-    ghost use Rattle.wgsl_items.specs.Texts.{held_bytes};
+    ghost use Rattle.wgsl_items.specs.Texts.{storage_bytes};
 
     ghost Value = { List ℕ };
 
-    ghost view = { λ t. held_bytes t.inner };
+    ghost view = { λ t. storage_bytes t.inner };
 }
 
 impl Text {
@@ -37,7 +37,7 @@ impl Text {
         ensures { result ≡ [] }
     {
         Text {
-            inner: Held::Short(ArrayString::new(), alloc),
+            inner: Storage::Short(ArrayString::new(), alloc),
         }
     }
 
@@ -45,8 +45,8 @@ impl Text {
         ensures { IfOk result (λ t. t ≡ text.now) }
     {
         let inner = match ArrayString::from(text) {
-            Ok(short) => Held::Short(short, alloc),
-            Err(_) => Held::Long(String::from_str(alloc, text)?),
+            Ok(short) => Storage::Short(short, alloc),
+            Err(_) => Storage::Long(String::from_str(alloc, text)?),
         };
         Ok(Text { inner })
     }
@@ -56,7 +56,7 @@ impl Text {
         ensures { result ≡ string_bytes inner }
     {
         Text {
-            inner: Held::Long(inner),
+            inner: Storage::Long(inner),
         }
     }
 
@@ -64,8 +64,8 @@ impl Text {
         ensures { result.now ≡ self.now }
     {
         match &self.inner {
-            Held::Short(short, _) => short.as_str(),
-            Held::Long(long) => long.as_str(),
+            Storage::Short(short, _) => short.as_str(),
+            Storage::Long(long) => long.as_str(),
         }
     }
 
@@ -82,13 +82,13 @@ impl Text {
         ensures err { OnErr result (self.new ≡ self.old) }
     {
         let grown = match &mut self.inner {
-            Held::Long(long) => return long.push_str(more),
-            Held::Short(short, alloc) => match short.try_push_str(more) {
+            Storage::Long(long) => return long.push_str(more),
+            Storage::Short(short, alloc) => match short.try_push_str(more) {
                 Ok(()) => return Ok(()),
                 Err(_) => joined(*alloc, short.as_str(), more)?,
             },
         };
-        self.inner = Held::Long(grown);
+        self.inner = Storage::Long(grown);
         Ok(())
     }
 
@@ -98,13 +98,13 @@ impl Text {
         ensures err { OnErr result (self.new ≡ self.old) }
     {
         let grown = match &mut self.inner {
-            Held::Long(long) => return long.push(character),
-            Held::Short(short, alloc) => match short.try_push(character) {
+            Storage::Long(long) => return long.push(character),
+            Storage::Short(short, alloc) => match short.try_push(character) {
                 Ok(()) => return Ok(()),
                 Err(_) => extended(*alloc, short.as_str(), character)?,
             },
         };
-        self.inner = Held::Long(grown);
+        self.inner = Storage::Long(grown);
         Ok(())
     }
 }

@@ -8,7 +8,7 @@ use Rattle.wgsl_meaning.specs.declared.value.ShaderStage.{ShaderStage}
 use Rattle.wgsl_meaning.specs.declared.value.ShaderStage.TheVariants.{Const, Override, Exec}
 use Rattle.wgsl_meaning.specs.declared.value.Value.{Value}
 use Rattle.wgsl_meaning.specs.declared.value.NumericType.{NumericType}
-use Rattle.wgsl_meaning.specs.Outcome.{Outcome, Done, Failed, Deep, after, andthen, at_once}
+use Rattle.wgsl_meaning.specs.Outcome.{Outcome, Done, Failed, Deep, after, bind, at_once}
 use Rattle.wgsl_meaning.specs.Names.{Name, Symbol, find, find_decl, built_in_type}
 use Rattle.wgsl_meaning.specs.Meaning.{World, called_or, construct, construct_type, const_in}
 use Rattle.wgsl_meaning.specs.Programs.{Program, const_at, called_at, call_type_at, inside, opened, world, root, here, here_if, plain}
@@ -31,13 +31,13 @@ find_last : {A : Type 0} (y : Name) (bs : List (Name × A)) (x : Name) (v : A) �
 find_last y [] x v = refl
 find_last y (b ∷ bs) x v = find_step (bytes_eq y b.0) b.1 _ _ _ (find_last y bs x v)
 
-pub called_none : (st : ShaderStage) (f : Name) (inner : Symbol → List Value → Outcome Value) (vs : List Value) → called_at st f None inner vs ≡ andthen (at_once (built_in_type f)) (λ t. construct f t vs)
+pub called_none : (st : ShaderStage) (f : Name) (inner : Symbol → List Value → Outcome Value) (vs : List Value) → called_at st f None inner vs ≡ bind (at_once (built_in_type f)) (λ t. construct f t vs)
 called_none Exec f inner vs = refl
 called_none Const f inner vs = refl
 called_none Override f inner vs = refl
 
 pub result_at : (ds : List Decl) (k : ℕ) (st : ShaderStage) (f : Name) (vs : List Value) → find_decl f ds ≡ None →
-    (world (plain ds) k st root).result_of f vs ≡ andthen (at_once (built_in_type f)) (λ t. construct f t vs)
+    (world (plain ds) k st root).result_of f vs ≡ bind (at_once (built_in_type f)) (λ t. construct f t vs)
 result_at ds k st f vs e = ap (λ o. called_at st f (here_if f o) (inside (plain ds) k st).call_value vs) e ∙ called_none st f (inside (plain ds) k st).call_value vs
 
 module _ (ds : List Decl) where

@@ -10,7 +10,7 @@ use Rattle.wgsl_meaning.specs.declared.value.NumericType.{NumericType}
 use Rattle.wgsl_meaning.specs.declared.value.NumericType.TheVariants.{AbstractInt, I32, U32}
 use Rattle.wgsl_meaning.specs.declared.fault.NumberFault.{NumberFault}
 use Rattle.wgsl_meaning.specs.Values.{Checked, and_then, type_of, fits, value_at}
-use Rattle.wgsl_meaning.specs.Outcome.{Outcome, Done, Failed, Deep, after, andthen, at_once, computed}
+use Rattle.wgsl_meaning.specs.Outcome.{Outcome, Done, Failed, Deep, after, bind, at_once, computed}
 use Rattle.wgsl_meaning.specs.Names.{Name, Symbol, find, find_decl, plain_name, built_in_type}
 use Rattle.wgsl_meaning.specs.Meaning.{Env, Types, World, local_or, called_or, value_here, result_here, value, typed, construct, construct_type, type_in_world}
 use Rattle.wgsl_meaning.specs.Programs.{called_at, call_type_at, inside, world, root, here_if, plain}
@@ -82,8 +82,8 @@ module _ (ds low : List Decl) (cs : Consts) (is_known : Known ds cs) (gone : (x 
   call_at f vs (Some t) d e g = tt
   call_at f vs None (Some d) e g = tt
   call_at f vs None None e g =
-      subst (λ z. Agree Value (andthen (at_once (built_in_type f)) (λ t. construct f t vs)) (called_or f z (from.result_of f vs))) (sym (none_in_env f env e))
-      (subst (λ z. Agree Value (andthen (at_once (built_in_type f)) (λ t. construct f t vs)) z) (sym (result_at ds k st f vs g)) (agree_refl Value _))
+      subst (λ z. Agree Value (bind (at_once (built_in_type f)) (λ t. construct f t vs)) (called_or f z (from.result_of f vs))) (sym (none_in_env f env e))
+      (subst (λ z. Agree Value (bind (at_once (built_in_type f)) (λ t. construct f t vs)) z) (sym (result_at ds k st f vs g)) (agree_refl Value _))
 
   agree_callee : (o : Checked Name) (vs : List Value) → Agree Value (result_here (stage s) [] o vs) (result_here from env o vs)
   agree_callee (Ok f) vs = call_at f vs (find f (types_of env)) (find_decl f ds) refl refl
@@ -158,7 +158,7 @@ module _ (ds low : List Decl) (cs : Consts) (is_known : Known ds cs) (gone : (x 
 
   result_fits : (f : Name) (vs : List Value) (d : Option Decl) → find_decl f ds ≡ d → Both HasType (call_type_at Const f (here_if f d) (λ x. Deep) (map type_of vs)) (from.result_of f vs)
   result_fits f vs (Some d) e = tt
-  result_fits f vs None e = subst (Both HasType (andthen (at_once (built_in_type f)) (λ t. construct_type f t (map type_of vs)))) (sym (result_at ds k st f vs e)) (built_in_fits f (built_in_type f) vs)
+  result_fits f vs None e = subst (Both HasType (bind (at_once (built_in_type f)) (λ t. construct_type f t (map type_of vs)))) (sym (result_at ds k st f vs e)) (built_in_fits f (built_in_type f) vs)
 
   types_agree : TypesAgree (stage s) from
   types_agree = record {

@@ -13,7 +13,7 @@ use Rattle.wgsl_meaning.specs.Outcome.{Outcome, Done, Failed, Deep}
 use Rattle.wgsl_meaning.specs.Names.{Name, find_decl}
 use Rattle.wgsl_meaning.specs.Meaning.{const_in}
 use Rattle.wgsl_meaning.specs.ConstStage.{Consts, Scope, stage, module_scope}
-use Rattle.wgsl_eval.specs.declared.error.Refusal.{Refusal}
+use Rattle.wgsl_eval.specs.declared.error.DeclarationFault.{DeclarationFault}
 use Rattle.wgsl_eval.specs.Start.{refused, added, valued, then_more, all_valued, order_of, consts_of}
 use Rattle.wgsl_lower.specs.Lowered.{lowered_function, refusing, lowered_declarations}
 use Rattle.wgsl_lower.specs.Located.{RefusalsAreInDeclarations}
@@ -37,33 +37,33 @@ found_in x (e ∷ ds) d h = at (bytes_eq x (declared_name e)) (found_in x ds d) 
 
 -- ---- refusals
 
-either_refused : {A B : Type 0} (o : Result A Refusal) (f : A → Result B Refusal) (r : Refusal) → then_more o f ≡ Err r → (o ≡ Err r) ⊎ ((x : A) × (f x ≡ Err r))
+either_refused : {A B : Type 0} (o : Result A DeclarationFault) (f : A → Result B DeclarationFault) (r : DeclarationFault) → then_more o f ≡ Err r → (o ≡ Err r) ⊎ ((x : A) × (f x ≡ Err r))
 either_refused (Ok x) f r h = inr (x, h)
 either_refused (Err q) f r h = let same : q ≡ r = cc in inl (ap Err same)
 
-added_here : (cs : Consts) (x : Name) (o : Outcome Value) (r : Refusal) → added cs x o ≡ Err r → r.declaration ≡ x
+added_here : (cs : Consts) (x : Name) (o : Outcome Value) (r : DeclarationFault) → added cs x o ≡ Err r → r.declaration ≡ x
 added_here cs x (Done v n) r h = absurd (cc)
-added_here cs x (Failed f) r h = let same : refused x f ≡ r = cc in sym (ap (λ (q : Refusal). q.declaration) same)
-added_here cs x Deep r h = let same : refused x (Named CyclicDecl x) ≡ r = cc in sym (ap (λ (q : Refusal). q.declaration) same)
+added_here cs x (Failed f) r h = let same : refused x f ≡ r = cc in sym (ap (λ (q : DeclarationFault). q.declaration) same)
+added_here cs x Deep r h = let same : refused x (Named CyclicDecl x) ≡ r = cc in sym (ap (λ (q : DeclarationFault). q.declaration) same)
 
-valued_in : (ds : List Decl) (cs : Consts) (x : Name) (o : Option Decl) (r : Refusal) → find_decl x ds ≡ o → valued ds cs x o ≡ Err r → Contains (map declared_name ds) r.declaration
+valued_in : (ds : List Decl) (cs : Consts) (x : Name) (o : Option Decl) (r : DeclarationFault) → find_decl x ds ≡ o → valued ds cs x o ≡ Err r → Contains (map declared_name ds) r.declaration
 valued_in ds cs x (Some (variable attributes kind y type e)) r is h =
     subst (Contains (map declared_name ds)) (sym (added_here cs x (const_in (stage (module_scope ds cs)) x (Some (variable attributes kind y type e))) r h))
     (found_in x ds (variable attributes kind y type e) is)
 valued_in ds cs x (Some (function attributes f parameters return_attributes type body)) r is h = absurd (cc)
 valued_in ds cs x None r is h = absurd (cc)
 
-all_valued_in : (ds : List Decl) (cs : Consts) (xs : List Name) (r : Refusal) → all_valued ds cs xs ≡ Err r → Contains (map declared_name ds) r.declaration
+all_valued_in : (ds : List Decl) (cs : Consts) (xs : List Name) (r : DeclarationFault) → all_valued ds cs xs ≡ Err r → Contains (map declared_name ds) r.declaration
 all_valued_in ds cs [] r h = absurd (cc)
 all_valued_in ds cs (x ∷ xs) r h =
     ⊎_elim (valued_in ds cs x (find_decl x ds) r refl) (λ later. all_valued_in ds later.0 xs r later.1)
     (either_refused (valued ds cs x (find_decl x ds)) (λ more. all_valued ds more xs) r h)
 
-refusing_here : {A : Type 0} (x : Name) (o : Checked A) (r : Refusal) → refusing x o ≡ Err r → r.declaration ≡ x
+refusing_here : {A : Type 0} (x : Name) (o : Checked A) (r : DeclarationFault) → refusing x o ≡ Err r → r.declaration ≡ x
 refusing_here x (Ok v) r h = absurd (cc)
-refusing_here x (Err f) r h = let same : refused x f ≡ r = cc in sym (ap (λ (q : Refusal). q.declaration) same)
+refusing_here x (Err f) r h = let same : refused x f ≡ r = cc in sym (ap (λ (q : DeclarationFault). q.declaration) same)
 
-lowered_in : (s : Scope) (ds : List Decl) (r : Refusal) → lowered_declarations s ds ≡ Err r → Contains (map declared_name ds) r.declaration
+lowered_in : (s : Scope) (ds : List Decl) (r : DeclarationFault) → lowered_declarations s ds ≡ Err r → Contains (map declared_name ds) r.declaration
 lowered_in s [] r h = absurd (cc)
 lowered_in s (variable attributes kind x type e ∷ ds) r h = later_in r.declaration x (map declared_name ds) (lowered_in s ds r h)
 lowered_in s (function attributes f parameters return_attributes type body ∷ ds) r h =

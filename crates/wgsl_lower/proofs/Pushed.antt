@@ -4,19 +4,19 @@ use Rattle.wgsl_syntax.specs.Tree.{Decl, variable, function}
 use Rattle.wgsl_meaning.specs.Values.{Checked}
 use Rattle.wgsl_meaning.specs.Names.{Name}
 use Rattle.wgsl_meaning.specs.ConstStage.{Scope}
-use Rattle.wgsl_eval.specs.declared.error.Refusal.{Refusal}
+use Rattle.wgsl_eval.specs.declared.error.DeclarationFault.{DeclarationFault}
 use Rattle.wgsl_eval.specs.Start.{then_more}
 use Rattle.wgsl_lower.specs.Lowered.{refusing, lowered_function, lowered_declarations, pushed, all_pushed}
 
-abbrev before : List Decl → Result (List Decl) Refusal → Result (List Decl) Refusal
+abbrev before : List Decl → Result (List Decl) DeclarationFault → Result (List Decl) DeclarationFault
 before done (Ok ds) = Ok (done ++ ds)
 before done (Err r) = Err r
 
-none_before : (o : Result (List Decl) Refusal) → before [] o ≡ o
+none_before : (o : Result (List Decl) DeclarationFault) → before [] o ≡ o
 none_before (Ok ds) = refl
 none_before (Err r) = refl
 
-one_before : (done : List Decl) (d : Decl) (o : Result (List Decl) Refusal) → before (done ++ d ∷ []) o ≡ before done (then_more o (λ more. Ok (d ∷ more)))
+one_before : (done : List Decl) (d : Decl) (o : Result (List Decl) DeclarationFault) → before (done ++ d ∷ []) o ≡ before done (then_more o (λ more. Ok (d ∷ more)))
 one_before done d (Ok ds) = ap Ok (append_assoc done (d ∷ []) ds)
 one_before done d (Err r) = refl
 
@@ -25,7 +25,7 @@ nothing_after [] = refl
 nothing_after (d ∷ ds) = ap (λ l. d ∷ l) (nothing_after ds)
 
 module _ (s : Scope) where
-  after_one : (done ds : List Decl) (o : Result Decl Refusal) → ((more : List Decl) → all_pushed s more ds ≡ before more (lowered_declarations s ds)) →
+  after_one : (done ds : List Decl) (o : Result Decl DeclarationFault) → ((more : List Decl) → all_pushed s more ds ≡ before more (lowered_declarations s ds)) →
       then_more (then_more o (λ d. Ok (done ++ d ∷ []))) (λ more. all_pushed s more ds) ≡ before done (then_more o (λ d. then_more (lowered_declarations s ds) (λ more. Ok (d ∷ more))))
   after_one done ds (Ok d) h = h (done ++ d ∷ []) ∙ one_before done d (lowered_declarations s ds)
   after_one done ds (Err r) h = refl

@@ -15,7 +15,7 @@ use Rattle.wgsl_meaning.specs.declared.fault.Fault.TheVariants.{Name as Named}
 use Rattle.wgsl_meaning.specs.declared.fault.NumberFault.{NumberFault}
 use Rattle.wgsl_meaning.specs.declared.fault.NameFault.TheVariants.{Todo}
 use Rattle.wgsl_meaning.specs.Values.{Checked, and_then, Numbers, type_of, fits, value_at, constructed}
-use Rattle.wgsl_meaning.specs.Outcome.{Outcome, Done, Failed, Deep, after, andthen, at_once, computed}
+use Rattle.wgsl_meaning.specs.Outcome.{Outcome, Done, Failed, Deep, after, bind, at_once, computed}
 use Rattle.wgsl_meaning.specs.Names.{Name, find, find_decl, plain_name, built_in_type}
 use Rattle.wgsl_meaning.specs.Meaning.{Env, Types, World, called_or, result_here, value, values, typed, construct, handed_back, returned_by, return_type_of, type_written}
 use Rattle.wgsl_meaning.specs.Programs.{world, root, here_if, plain, type_at}
@@ -35,12 +35,12 @@ after_after n m (Done x k) = ap (Done x) (sym (add_assoc n m k))
 after_after n m (Failed f) = refl
 after_after n m Deep = refl
 
-after_then : {A B : Type 0} (n : ℕ) (o : Outcome A) (g : A → Outcome B) → andthen (after n o) g ≡ after n (andthen o g)
+after_then : {A B : Type 0} (n : ℕ) (o : Outcome A) (g : A → Outcome B) → bind (after n o) g ≡ after n (bind o g)
 after_then n (Done x m) g = sym (after_after n m (g x))
 after_then n (Failed f) g = refl
 after_then n Deep g = refl
 
-then_then : {A B C : Type 0} (o : Outcome A) (f : A → Outcome B) (g : B → Outcome C) → andthen (andthen o f) g ≡ andthen o (λ x. andthen (f x) g)
+then_then : {A B C : Type 0} (o : Outcome A) (f : A → Outcome B) (g : B → Outcome C) → bind (bind o f) g ≡ bind o (λ x. bind (f x) g)
 then_then (Done x n) f g = after_then n (f x) g
 then_then (Failed e) f g = refl
 then_then Deep f g = refl
@@ -70,17 +70,17 @@ abbrev wrap : Value → Outcome (Option Value)
 wrap v = Done (Some v) 0
 
 either_returned : (b : Bool) (f : Name) (w : NumericType) (v : Value) (e : NumberFault) → Better (Option Value) (Done (Some v) 0) (handed_back f (Some w) (Some v)) →
-    Better (Option Value) (andthen (computed (if b then Ok v else Err e)) (λ x. Done (Some x) 0)) (andthen (andthen (after 0 (computed (if b then Ok v else Err e))) wrap) (handed_back f (Some w)))
+    Better (Option Value) (bind (computed (if b then Ok v else Err e)) (λ x. Done (Some x) 0)) (bind (bind (after 0 (computed (if b then Ok v else Err e))) wrap) (handed_back f (Some w)))
 either_returned true f w v e h = better_after (Option Value) (Done (Some v) 0) (handed_back f (Some w) (Some v)) 0 0 (omega arith) h
 either_returned false f w v e h = tt
 
 returned_so : (f : Name) (w : NumericType) (z : ℤ) →
-    Better (Option Value) (handed_back f (Some w) (Some (V.AbstractInt z))) (andthen (andthen (after 0 (computed (constructed w (V.AbstractInt z)))) wrap) (handed_back f (Some w)))
+    Better (Option Value) (handed_back f (Some w) (Some (V.AbstractInt z))) (bind (bind (after 0 (computed (constructed w (V.AbstractInt z)))) wrap) (handed_back f (Some w)))
 returned_so f AbstractInt z = (0, refl, omega arith)
 returned_so f I32 z = either_returned (fits I32 z) f I32 (V.I32 z) _ (0, refl, omega arith)
 returned_so f U32 z = either_returned (fits U32 z) f U32 (value_at U32 z) _ (0, refl, omega arith)
 
-no_type : (f : Name) (o : Outcome Value) (q : Outcome (Option Value)) → Better (Option Value) (andthen (andthen o wrap) (handed_back f None)) q
+no_type : (f : Name) (o : Outcome Value) (q : Outcome (Option Value)) → Better (Option Value) (bind (bind o wrap) (handed_back f None)) q
 no_type f (Done v n) q = tt
 no_type f (Failed e) q = tt
 no_type f Deep q = tt
@@ -110,38 +110,38 @@ module _ (ds low : List Decl) (cs : Consts) (is_known : Known ds cs) (gone : (x 
       ap (λ o. result_here from env o (v ∷ [])) x.1
       ∙ ap (λ o. called_or x.0 o (from.result_of x.0 (v ∷ []))) (not_local x.0 (built_in_names x.0 w b.1))
       ∙ result_at ds k Exec x.0 (v ∷ []) b.0
-      ∙ ap (λ o. andthen (at_once o) (λ u. construct x.0 u (v ∷ []))) b.1
+      ∙ ap (λ o. bind (at_once o) (λ u. construct x.0 u (v ∷ []))) b.1
 
   abbrev given : Exp → Name → Option NumericType → World → Outcome (Option Value)
-  given e f u w = andthen (andthen (value w env e) wrap) (handed_back f u)
+  given e f u w = bind (bind (value w env e) wrap) (handed_back f u)
 
   abbrev one_argument : Outcome Value → Typ → Outcome Value
-  one_argument o t = andthen (andthen o (λ x. andthen (Done [] 0) (λ xs. Done (x ∷ xs) 0))) (λ vs. result_here from env (plain_name t) vs)
+  one_argument o t = bind (bind o (λ x. bind (Done [] 0) (λ xs. Done (x ∷ xs) 0))) (λ vs. result_here from env (plain_name t) vs)
 
   converts_so : (t : Typ) (w : NumericType) (f : Name) (o : Outcome Value) → type_here s t ≡ Ok w → ((v : Value) (n : ℕ) → o ≡ Done v n → type_of v ≡ AbstractInt) →
-      Better (Option Value) (andthen (andthen o wrap) (handed_back f (Some w))) (andthen (andthen (one_argument o t) wrap) (handed_back f (Some w)))
+      Better (Option Value) (bind (bind o wrap) (handed_back f (Some w))) (bind (bind (one_argument o t) wrap) (handed_back f (Some w)))
   converts_so t w f o is abstract =
       let R : List Value → Outcome Value = λ vs. result_here from env (plain_name t) vs in
       let H : Option Value → Outcome (Option Value) = handed_back f (Some w) in
-      let left : andthen (andthen o wrap) H ≡ andthen o (λ v. andthen (wrap v) H) = then_then o wrap H in
+      let left : bind (bind o wrap) H ≡ bind o (λ v. bind (wrap v) H) = then_then o wrap H in
       let listed : Value → Outcome (List Value) = λ x. Done (x ∷ []) 0 in
-      let right : andthen (andthen (andthen (andthen o listed) R) wrap) H ≡ andthen o (λ v. andthen (andthen (andthen (listed v) R) wrap) H) =
-      ap (λ p. andthen (andthen p wrap) H) (then_then o listed R) ∙ ap (λ p. andthen p H) (then_then o (λ v. andthen (listed v) R) wrap) ∙ then_then o (λ v. andthen (andthen (listed v) R) wrap) H in
-      subst (λ p. Better (Option Value) p (andthen (andthen (one_argument o t) wrap) H)) (sym left)
-      (subst (λ p. Better (Option Value) (andthen o (λ v. andthen (wrap v) H)) p) (sym right)
+      let right : bind (bind (bind (bind o listed) R) wrap) H ≡ bind o (λ v. bind (bind (bind (listed v) R) wrap) H) =
+      ap (λ p. bind (bind p wrap) H) (then_then o listed R) ∙ ap (λ p. bind p H) (then_then o (λ v. bind (listed v) R) wrap) ∙ then_then o (λ v. bind (bind (listed v) R) wrap) H in
+      subst (λ p. Better (Option Value) p (bind (bind (one_argument o t) wrap) H)) (sym left)
+      (subst (λ p. Better (Option Value) (bind o (λ v. bind (wrap v) H)) p) (sym right)
       (better_from Value (Option Value) o o _ _ (kept_better.refl_of Value o) (λ v n e. each v (abstract_is v (abstract v n e)))))
     where
       each : (v : Value) → (z : ℤ) × (v ≡ V.AbstractInt z) →
-          Better (Option Value) (after 0 (handed_back f (Some w) (Some v))) (andthen (andthen (after 0 (result_here from env (plain_name t) (v ∷ []))) wrap) (handed_back f (Some w)))
+          Better (Option Value) (after 0 (handed_back f (Some w) (Some v))) (bind (bind (after 0 (result_here from env (plain_name t) (v ∷ []))) wrap) (handed_back f (Some w)))
       each v a =
-          subst (λ q. Better (Option Value) (after 0 (handed_back f (Some w) (Some v))) (andthen (andthen (after 0 q) wrap) (handed_back f (Some w)))) (sym (constructs t w v is))
-          (subst (λ q. Better (Option Value) (after 0 (handed_back f (Some w) (Some q))) (andthen (andthen (after 0 (after 0 (computed (constructed w q)))) wrap) (handed_back f (Some w)))) (sym a.1)
+          subst (λ q. Better (Option Value) (after 0 (handed_back f (Some w) (Some v))) (bind (bind (after 0 q) wrap) (handed_back f (Some w)))) (sym (constructs t w v is))
+          (subst (λ q. Better (Option Value) (after 0 (handed_back f (Some w) (Some q))) (bind (bind (after 0 (after 0 (computed (constructed w q)))) wrap) (handed_back f (Some w)))) (sym a.1)
           (twice (handed_back f (Some w) (Some (V.AbstractInt a.0))) (computed (constructed w (V.AbstractInt a.0))) (returned_so f w a.0)))
         where
-          twice : (o : Outcome (Option Value)) (q : Outcome Value) → Better (Option Value) o (andthen (andthen (after 0 q) wrap) (handed_back f (Some w))) → Better (Option Value) (after 0 o) (andthen (andthen (after 0 (after 0 q)) wrap) (handed_back f (Some w)))
+          twice : (o : Outcome (Option Value)) (q : Outcome Value) → Better (Option Value) o (bind (bind (after 0 q) wrap) (handed_back f (Some w))) → Better (Option Value) (after 0 o) (bind (bind (after 0 (after 0 q)) wrap) (handed_back f (Some w)))
           twice o q h =
-              subst (λ z. Better (Option Value) (after 0 o) (andthen (andthen z wrap) (handed_back f (Some w)))) (sym (after_after 0 0 q))
-              (subst (λ z. Better (Option Value) z (andthen (andthen (after 0 q) wrap) (handed_back f (Some w)))) (nothing o) h)
+              subst (λ z. Better (Option Value) (after 0 o) (bind (bind z wrap) (handed_back f (Some w)))) (sym (after_after 0 0 q))
+              (subst (λ z. Better (Option Value) z (bind (bind (after 0 q) wrap) (handed_back f (Some w)))) (nothing o) h)
             where
               nothing : (o : Outcome (Option Value)) → o ≡ after 0 o
               nothing (Done x n) = ap (Done x) (omega arith)
@@ -180,18 +180,18 @@ module _ (ds low : List Decl) (cs : Consts) (is_known : Known ds cs) (gone : (x 
       subst (λ z. Better (Option Value) (given e f z from) (given d f z to)) (sym is.1) (by_type t is.0 f e e1.0 d (typed (stage s) (types_of env) e) refl is.2 e1.1 e1.2)
 
   pub statements_better : (f : Name) (t : Option Typ) (u : Option NumericType) (body body' : List Stm) → IsTyped t u → lowered_statements s t body ≡ Ok body' →
-      Better (Option Value) (andthen (returned_by from env body) (handed_back f u)) (andthen (returned_by to env body') (handed_back f u))
-  statements_better f t u [] body' is h = let e : [] ≡ body' = cc in subst (λ b. Better (Option Value) (andthen (Done None 0) (handed_back f u)) (andthen (returned_by to env b) (handed_back f u))) e (kept_better.refl_of (Option Value) _)
+      Better (Option Value) (bind (returned_by from env body) (handed_back f u)) (bind (returned_by to env body') (handed_back f u))
+  statements_better f t u [] body' is h = let e : [] ≡ body' = cc in subst (λ b. Better (Option Value) (bind (Done None 0) (handed_back f u)) (bind (returned_by to env b) (handed_back f u))) e (kept_better.refl_of (Option Value) _)
   statements_better f t u (returning attributes None ∷ rest) body' is h =
       let x = then_ok (lowered_statement s t (returning attributes None)) (λ y. and_then (lowered_statements s t rest) (λ others. Ok (y ∷ others))) body' h in
       let a = then_ok (lowered_attributes s attributes) (λ more. Ok (returning more None)) x.0 x.1 in
       let r = then_ok (lowered_statements s t rest) (λ others. Ok (x.0 ∷ others)) body' x.2 in
       let e : returning a.0 None ∷ r.0 ≡ body' = cc in
-      subst (λ b. Better (Option Value) (andthen (Done None 0) (handed_back f u)) (andthen (returned_by to env b) (handed_back f u))) e (kept_better.refl_of (Option Value) _)
+      subst (λ b. Better (Option Value) (bind (Done None 0) (handed_back f u)) (bind (returned_by to env b) (handed_back f u))) e (kept_better.refl_of (Option Value) _)
   statements_better f t u (returning attributes (Some e) ∷ rest) body' is h =
       let x = then_ok (lowered_statement s t (returning attributes (Some e))) (λ y. and_then (lowered_statements s t rest) (λ others. Ok (y ∷ others))) body' h in
       let a = then_ok (lowered_attributes s attributes) (λ more. and_then (lowered_return s t e) (λ d. Ok (returning more (Some d)))) x.0 x.1 in
       let d = then_ok (lowered_return s t e) (λ d. Ok (returning a.0 (Some d))) x.0 a.2 in
       let r = then_ok (lowered_statements s t rest) (λ others. Ok (x.0 ∷ others)) body' x.2 in
       let so : returning a.0 (Some d.0) ∷ r.0 ≡ body' = cc in
-      subst (λ b. Better (Option Value) (given e f u from) (andthen (returned_by to env b) (handed_back f u))) so (return_better f t u e d.0 is d.1)
+      subst (λ b. Better (Option Value) (given e f u from) (bind (returned_by to env b) (handed_back f u))) so (return_better f t u e d.0 is d.1)

@@ -1,7 +1,7 @@
 -- A run of the lowered unit is as good as the run of the unit.
 use Rattle.std.proofs.Common.{◌≡◌, ℕ, ◌+◌, ◌≤◌, List, [], ◌∷◌, ◌++◌, map, Option, Some, None, Bool, true, false, Result, Ok, Err, IfOk, refl, sym, ap, ◌∙◌, subst, arith}
 use Rattle.std.specs.Prelude.{codes, if◌then◌else◌}
-use Rattle.wgsl_syntax.specs.Tree.{Exp, Typ, Attr, fragment, location, Stm, Block, Param, Decl, variable, function, Unit as Module}
+use Rattle.wgsl_syntax.specs.Tree.{Exp, Typ, Attr, fragment, location, Stm, Block, Param, Decl, variable, function, UnitTree as Module}
 use Rattle.wgsl_syntax.specs.Names.{declared_name}
 use Rattle.wgsl_meaning.specs.declared.value.ShaderStage.{ShaderStage}
 use Rattle.wgsl_meaning.specs.declared.value.ShaderStage.TheVariants.{Const, Exec}
@@ -10,7 +10,7 @@ use Rattle.wgsl_meaning.specs.declared.value.NumericType.{NumericType}
 use Rattle.wgsl_meaning.specs.declared.fault.Fault.TheVariants.{Name as Named}
 use Rattle.wgsl_meaning.specs.declared.fault.NameFault.TheVariants.{NotEntrypoint}
 use Rattle.wgsl_meaning.specs.Values.{Checked, and_then, type_of}
-use Rattle.wgsl_meaning.specs.Outcome.{Outcome, Done, Failed, Deep, after, andthen, at_once}
+use Rattle.wgsl_meaning.specs.Outcome.{Outcome, Done, Failed, Deep, after, bind, at_once}
 use Rattle.wgsl_meaning.specs.Names.{Name, Symbol, find, find_decl, plain_name, built_in_type}
 use Rattle.wgsl_meaning.specs.Meaning.{Env, Types, World, value, handed_back, returned_by, return_type_of, type_written, body_of, const_in}
 use Rattle.wgsl_meaning.specs.Programs.{Inputs, world, root, here, here_if, plain, type_at, attribute_number, location_of, input_at, inputs_bound, has_stage, entered, started_by, started, run}
@@ -20,7 +20,7 @@ use Rattle.wgsl_meaning.specs.ConstStage.{Consts, Scope, stage, module_scope, Se
 use Rattle.wgsl_meaning.proofs.Compares.{kept_better, better_from, better_after}
 use Rattle.wgsl_lower.specs.Lowered.{lowered, type_here, lowered_attribute, lowered_attributes, lowered_parameter, lowered_parameters, parameter_types, checked_type, lowered_statements, with_parameters, lowered_declarations}
 use Rattle.wgsl_items.specs.declared.error.OrOutOfMemory.{OrOutOfMemory}
-use Rattle.wgsl_eval.specs.declared.error.Refusal.{Refusal}
+use Rattle.wgsl_eval.specs.declared.error.DeclarationFault.{DeclarationFault}
 use Rattle.wgsl_eval.specs.Refusals.{Answers}
 use Rattle.wgsl_eval.specs.Start.{then_more, added, valued, all_valued, order_of, consts_of}
 use Rattle.wgsl_lower.specs.Lowered.{lowered_unit}
@@ -157,18 +157,18 @@ module _ (ds low : List Decl) (cs : Consts) (settled : Settled ds cs) (is_low : 
         record {
           type = Some u.0;
           is_typed = (u.0, refl, u.1);
-          before = ap (λ o. andthen o (λ w. Done (Some w) 0)) (written_from k t u.0 u.1);
-          later = ap (λ o. andthen o (λ w. Done (Some w) 0)) (written_to k t u.0 u.1);
+          before = ap (λ o. bind o (λ w. Done (Some w) 0)) (written_from k t u.0 u.1);
+          later = ap (λ o. bind o (λ w. Done (Some w) 0)) (written_to k t u.0 u.1);
         }
 
     body_better : (f : Name) (t : Option Typ) (body body' : List Stm) → checked_type ms t ≡ Ok tt →
         lowered_statements (record { declarations = ds; consts = cs; parameters = types_of env }) t body ≡ Ok body' → Better (Option Value) (body_of (from k Exec) f t body env) (body_of (to k Exec) f t body' env)
     body_better f t body body' type_is is =
         let r = result_typed t type_is in
-        let rest : Better (Option Value) (andthen (returned_by (from k Exec) env body) (handed_back f r.type)) (andthen (returned_by (to k Exec) env body') (handed_back f r.type)) =
+        let rest : Better (Option Value) (bind (returned_by (from k Exec) env body) (handed_back f r.type)) (bind (returned_by (to k Exec) env body') (handed_back f r.type)) =
         statements_better ds low cs is_known gone k env clear_i32 clear_u32 (clear_declaration ds clear) f t r.type body body' r.is_typed is in
-        subst (λ o. Better (Option Value) (andthen o (λ u. andthen (returned_by (from k Exec) env body) (λ v. handed_back f u v))) (body_of (to k Exec) f t body' env)) (sym r.before)
-        (subst (λ o. Better (Option Value) (after 0 (andthen (returned_by (from k Exec) env body) (handed_back f r.type))) (andthen o (λ u. andthen (returned_by (to k Exec) env body') (λ v. handed_back f u v)))) (sym r.later)
+        subst (λ o. Better (Option Value) (bind o (λ u. bind (returned_by (from k Exec) env body) (λ v. handed_back f u v))) (body_of (to k Exec) f t body' env)) (sym r.before)
+        (subst (λ o. Better (Option Value) (after 0 (bind (returned_by (from k Exec) env body) (handed_back f r.type))) (bind o (λ u. bind (returned_by (to k Exec) env body') (λ v. handed_back f u v)))) (sym r.later)
         (better_after (Option Value) _ _ 0 0 (omega arith) rest))
 
   -- ---- entry points
@@ -207,7 +207,7 @@ module _ (ds low : List Decl) (cs : Consts) (settled : Settled ds cs) (is_low : 
   nothing_starts : (k : ℕ) (l : List Decl) → started (plain low) k (map (λ d. here (declared_name d)) l) ≡ Done tt 0
   nothing_starts k [] = refl
   nothing_starts k (d ∷ l) =
-      ap (λ o. andthen o (λ u. started (plain low) k (map (λ d. here (declared_name d)) l))) (starts ms ds low is_low (world (plain low) k Const root) (declared_name d) (declared_name d))
+      ap (λ o. bind o (λ u. started (plain low) k (map (λ d. here (declared_name d)) l))) (starts ms ds low is_low (world (plain low) k Const root) (declared_name d) (declared_name d))
       ∙ ap (after 0) (nothing_starts k l)
 
   any_start : (o : Outcome (Unit {0})) → Better (Unit {0}) o (Done tt 0)
@@ -253,6 +253,6 @@ lowered_so u low clear is =
     let same : record { imports = []; declarations = ds.0 } ≡ low = cc in
     subst (Keeps u.declarations) (ap (λ (m : Module). m.declarations) same) (keeps u.declarations ds.0 cs.0 (settled u.declarations cs.0 cs.1) ds.1 clear)
 
-pub keeps_if : {A : Type 0} (view : A → Module) (u : Module) (r : Result A (OrOutOfMemory Refusal)) → AreClear u.declarations → Answers view (lowered_unit u) r → IfOk r (λ low. Keeps u.declarations (view low).declarations)
+pub keeps_if : {A : Type 0} (view : A → Module) (u : Module) (r : Result A (OrOutOfMemory DeclarationFault)) → AreClear u.declarations → Answers view (lowered_unit u) r → IfOk r (λ low. Keeps u.declarations (view low).declarations)
 keeps_if view u (Ok low) clear h = lowered_so u (view low) clear h
 keeps_if view u (Err e) clear h = tt

@@ -3,7 +3,7 @@ use Rattle.std.proofs.Common.{◌≡◌, ℕ, ◌+◌, ◌≤◌, List, [], ◌�
 use Rattle.std.specs.Prelude.{codes, if◌then◌else◌}
 use Rattle.std.specs.Str.{bytes_eq}
 use Rattle.std.specs.Cmp.Lexicographic.{same_text}
-use Rattle.wgsl_syntax.specs.Tree.{Exp, Typ, Attr, fragment, location, Stm, Block, Param, Decl, variable, function, Unit as Module}
+use Rattle.wgsl_syntax.specs.Tree.{Exp, Typ, Attr, fragment, location, Stm, Block, Param, Decl, variable, function, UnitTree as Module}
 use Rattle.wgsl_syntax.specs.declared.declaration.DeclarationKind.{DeclarationKind}
 use Rattle.wgsl_syntax.specs.Names.{declared_name}
 use Rattle.wgsl_meaning.specs.declared.value.ShaderStage.{ShaderStage}
@@ -13,7 +13,7 @@ use Rattle.wgsl_meaning.specs.declared.value.NumericType.{NumericType}
 use Rattle.wgsl_meaning.specs.declared.value.NumericType.TheVariants.{AbstractInt, I32, U32}
 use Rattle.wgsl_meaning.specs.declared.fault.Fault.{Fault}
 use Rattle.wgsl_meaning.specs.Values.{Checked, and_then, type_of, is_same_type}
-use Rattle.wgsl_meaning.specs.Outcome.{Outcome, Done, Failed, Deep, after, andthen, at_once}
+use Rattle.wgsl_meaning.specs.Outcome.{Outcome, Done, Failed, Deep, after, bind, at_once}
 use Rattle.wgsl_meaning.specs.Names.{Name, Symbol, find, find_decl, plain_name, built_in_type}
 use Rattle.wgsl_meaning.specs.Meaning.{Env, Types, World, value, handed_back, returned_by, return_type_of, type_written, body_of}
 use Rattle.wgsl_meaning.specs.Programs.{Inputs, world, root, here, here_if, plain, type_at, attribute_number, location_of, input_at, inputs_bound, has_stage, entered, started_by, started, run}
@@ -21,7 +21,7 @@ use Rattle.wgsl_meaning.specs.Compare.{Better}
 use Rattle.wgsl_meaning.specs.Typing.{types_of}
 use Rattle.wgsl_meaning.specs.ConstStage.{Consts, Scope, stage, module_scope, Settled}
 use Rattle.wgsl_meaning.proofs.Compares.{kept_better, better_from, better_after}
-use Rattle.wgsl_eval.specs.declared.error.Refusal.{Refusal}
+use Rattle.wgsl_eval.specs.declared.error.DeclarationFault.{DeclarationFault}
 use Rattle.wgsl_eval.specs.Start.{refused, then_more}
 use Rattle.wgsl_lower.specs.Lowered.{lowered, type_here, lowered_attribute, lowered_attributes, lowered_parameter, lowered_parameters, parameter_types, checked_type, lowered_statements, with_parameters, lowered_body, lowered_rest, lowered_function, refusing, lowered_declarations}
 use Rattle.wgsl_lower.specs.Keeps.{is_clear, ClearParameters, IsClear, AreClear, Keeps}
@@ -32,7 +32,7 @@ use Rattle.wgsl_lower.proofs.Returns.{not_declared, IsTyped, statements_better}
 
 -- ---- lists of declarations
 
-pub then_more_ok : {A B : Type 0} (o : Result A Refusal) (f : A → Result B Refusal) (d : B) → then_more o f ≡ Ok d → (x : A) × (o ≡ Ok x) × (f x ≡ Ok d)
+pub then_more_ok : {A B : Type 0} (o : Result A DeclarationFault) (f : A → Result B DeclarationFault) (d : B) → then_more o f ≡ Ok d → (x : A) × (o ≡ Ok x) × (f x ≡ Ok d)
 then_more_ok (Ok x) f d e = (x, refl, e)
 then_more_ok (Err g) f d e = absurd (cc)
 
@@ -207,7 +207,7 @@ pub record Parts (A B : Type 0) (o : Outcome A) (f : A → Outcome B) (y : B) : 
   pub more : ℕ
   pub then_is : f first ≡ Done y more
 
-pub parts_of : (A B : Type 0) (o : Outcome A) (f : A → Outcome B) (y : B) (m : ℕ) → andthen o f ≡ Done y m → Parts A B o f y
+pub parts_of : (A B : Type 0) (o : Outcome A) (f : A → Outcome B) (y : B) (m : ℕ) → bind o f ≡ Done y m → Parts A B o f y
 parts_of A B (Done x n) f y m e = let r = after_done n (f x) y m e in record { first = x; steps = n; first_is = refl; more = r.0; then_is = r.1 }
 parts_of A B (Failed g) f y m e = absurd (cc)
 parts_of A B Deep f y m e = absurd (cc)

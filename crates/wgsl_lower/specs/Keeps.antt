@@ -1,6 +1,6 @@
 -- What lowering keeps.
 use Rattle.std.specs.Prelude.{◌≡◌, ℕ, List, [], ◌∷◌, Option, Some, None, Result, Ok, Err, codes}
-use Rattle.wgsl_syntax.specs.Tree.{Attr, Block, Param, Decl, variable, function, Unit as Module}
+use Rattle.wgsl_syntax.specs.Tree.{Attr, Block, Param, Decl, variable, function, UnitTree as Module}
 use Rattle.wgsl_meaning.specs.Names.{Name, find_decl}
 use Rattle.wgsl_meaning.specs.Programs.{Inputs, plain, here, run}
 use Rattle.wgsl_meaning.specs.Compare.{Better}

@@ -1,7 +1,7 @@
 -- The lowered unit (this project's own): constant expressions are written as their values, consts go, and what a function returns
 -- is converted where WGSL would convert it.
 use Rattle.std.specs.Prelude.{◌≡◌, ℕ, List, [], ◌∷◌, ◌++◌, Option, Some, None, Bool, true, false, Result, Ok, Err, if◌then◌else◌}
-use Rattle.wgsl_syntax.specs.Tree.{Exp, Exps, literal, parenthesized, unary, binary, call, named, nil, cons, exps, Typ, Attr, fragment, location, Stm, returning, Block, Param, Decl, variable, function, Unit as Module}
+use Rattle.wgsl_syntax.specs.Tree.{Exp, Exps, literal, parenthesized, unary, binary, call, named, nil, cons, exps, Typ, Attr, fragment, location, Stm, returning, Block, Param, Decl, variable, function, UnitTree as Module}
 use Rattle.wgsl_syntax.specs.declared.declaration.DeclarationKind.{DeclarationKind}
 use Rattle.wgsl_meaning.specs.declared.value.Value.{Value}
 use Rattle.wgsl_meaning.specs.declared.value.NumericType.{NumericType}
@@ -16,7 +16,7 @@ use Rattle.wgsl_meaning.specs.Names.{Name, plain_name}
 use Rattle.wgsl_meaning.specs.Meaning.{Types, value, typed}
 use Rattle.wgsl_meaning.specs.ConstStage.{Consts, Scope, stage, module_scope, callee_of}
 use Rattle.wgsl_meaning.specs.Written.{written}
-use Rattle.wgsl_eval.specs.declared.error.Refusal.{Refusal}
+use Rattle.wgsl_eval.specs.declared.error.DeclarationFault.{DeclarationFault}
 use Rattle.wgsl_items.specs.declared.error.OrOutOfMemory.{OrOutOfMemory}
 use Rattle.wgsl_items.specs.declared.error.OrOutOfMemory.TheVariants.{Error, OutOfMemory}
 use Rattle.wgsl_eval.specs.Start.{refused, then_more, consts_of}
@@ -150,18 +150,18 @@ lowered_declaration s (function attributes f parameters return_attributes type b
 
 -- ---- units
 
-abbrev pub refusing : {A : Type 0} → Name → Checked A → Result A Refusal
+abbrev pub refusing : {A : Type 0} → Name → Checked A → Result A DeclarationFault
 refusing x (Ok v) = Ok v
 refusing x (Err f) = Err (refused x f)
 
-abbrev pub lowered_declarations : Scope → List Decl → Result (List Decl) Refusal
+abbrev pub lowered_declarations : Scope → List Decl → Result (List Decl) DeclarationFault
 lowered_declarations s [] = Ok []
 lowered_declarations s (variable attributes kind x type e ∷ ds) = lowered_declarations s ds
 lowered_declarations s (function attributes f parameters return_attributes type body ∷ ds) =
     then_more (refusing f (lowered_function s attributes f parameters return_attributes type body)) (λ d. then_more (lowered_declarations s ds) (λ more. Ok (d ∷ more)))
 
 -- first every const gets its value, then functions are rewritten, in text order; the refusal is the first
-abbrev pub lowered_unit : Module → Result Module Refusal
+abbrev pub lowered_unit : Module → Result Module DeclarationFault
 lowered_unit u =
     then_more (consts_of u.declarations) (λ cs. then_more (lowered_declarations (module_scope u.declarations cs) u.declarations) (λ low.
     Ok (record { imports = []; declarations = low })))
@@ -178,11 +178,11 @@ abbrev pub prepended : {A : Type 0} → List A → Checked (List A) → Checked 
 prepended ds (Ok es) = Ok (ds ++ es)
 prepended ds (Err f) = Err f
 
-abbrev pub pushed : Scope → List Decl → Decl → Result (List Decl) Refusal
+abbrev pub pushed : Scope → List Decl → Decl → Result (List Decl) DeclarationFault
 pushed s done (variable attributes kind x type e) = Ok done
 pushed s done (function attributes f parameters return_attributes type body) =
     then_more (refusing f (lowered_function s attributes f parameters return_attributes type body)) (λ d. Ok (done ++ d ∷ []))
 
-abbrev pub all_pushed : Scope → List Decl → List Decl → Result (List Decl) Refusal
+abbrev pub all_pushed : Scope → List Decl → List Decl → Result (List Decl) DeclarationFault
 all_pushed s done [] = Ok done
 all_pushed s done (d ∷ ds) = then_more (pushed s done d) (λ more. all_pushed s more ds)

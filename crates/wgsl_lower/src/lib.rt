@@ -10,5 +10,5 @@ mod write;
 pub use expression::lowered;
 pub use function::lowered_function;
 pub use unit::lower;
-pub use wgsl_eval::{Refusal, UnitError};
+pub use wgsl_eval::{DeclarationFault, UnitError};
 pub use write::to_expr;

@@ -13,7 +13,7 @@ use Rattle.wgsl_meaning.specs.declared.value.NumericType.TheVariants.{AbstractIn
 use Rattle.wgsl_meaning.specs.declared.fault.Fault.{Fault}
 use Rattle.wgsl_meaning.specs.declared.fault.NumberFault.{NumberFault}
 use Rattle.wgsl_meaning.specs.Values.{Checked, type_of, fits, value_at, converts, converted}
-use Rattle.wgsl_meaning.specs.Outcome.{Outcome, Done, Failed, Deep, after, andthen, at_once, computed}
+use Rattle.wgsl_meaning.specs.Outcome.{Outcome, Done, Failed, Deep, after, bind, at_once, computed}
 use Rattle.wgsl_meaning.specs.Names.{Name, Symbol}
 use Rattle.wgsl_meaning.specs.Meaning.{World, Env, construct, construct_type, type_written, bound, returned_by, handed_back, return_type_of, body_of, needed, call_in, call_type}
 use Rattle.wgsl_meaning.specs.Programs.{Program, called_at, call_type_at, inside, world}
@@ -31,7 +31,7 @@ right_after P x k n (Done y m) h = h
 right_after P x k n (Failed f) h = tt
 right_after P x k n Deep h = tt
 
-through : {A B C : Type 0} (P : A → B → Type 0) (o : Outcome A) (q : Outcome C) (g : C → Outcome B) → ((y : C) → Both P o (g y)) → Both P o (andthen q g)
+through : {A B C : Type 0} (P : A → B → Type 0) (o : Outcome A) (q : Outcome C) (g : C → Outcome B) → ((y : C) → Both P o (g y)) → Both P o (bind q g)
 through P (Done x k) (Done y n) g h = right_after P x k n (g y) (h y)
 through P (Done x k) (Failed f) g h = tt
 through P (Done x k) Deep g h = tt
@@ -59,7 +59,7 @@ construct_fits f U32 (V.I32 z ∷ []) = refl
 construct_fits f U32 (V.U32 n ∷ []) = refl
 construct_fits f t (v ∷ w ∷ vs) = tt
 
-pub built_in_fits : (f : Name) (o : Checked NumericType) (vs : List Value) → Both HasType (andthen (at_once o) (λ t. construct_type f t (map type_of vs))) (andthen (at_once o) (λ t. construct f t vs))
+pub built_in_fits : (f : Name) (o : Checked NumericType) (vs : List Value) → Both HasType (bind (at_once o) (λ t. construct_type f t (map type_of vs))) (bind (at_once o) (λ t. construct f t vs))
 built_in_fits f (Ok t) vs = after_both (construct_type f t (map type_of vs)) (construct f t vs) (construct_fits f t vs)
   where
     after_both : (o : Outcome NumericType) (q : Outcome Value) → Both HasType o q → Both HasType (after 0 o) (after 0 q)
@@ -87,7 +87,7 @@ converted_fits f U32 (V.AbstractInt z) = either_type (fits U32 z) U32 (value_at 
 converted_fits f U32 (V.I32 z) = tt
 converted_fits f U32 (V.U32 n) = refl
 
-some_fits : (u : NumericType) (q : Outcome Value) → Both HasType (Done u 0) q → Both Has (Done u 0) (andthen q (λ x. Done (Some x) 0))
+some_fits : (u : NumericType) (q : Outcome Value) → Both HasType (Done u 0) q → Both Has (Done u 0) (bind q (λ x. Done (Some x) 0))
 some_fits u (Done v n) h = h
 some_fits u (Failed f) h = tt
 some_fits u Deep h = tt
@@ -100,15 +100,15 @@ handed_fits : (f : Name) (u : NumericType) (v : Option Value) → Both Has (Done
 handed_fits f u None = tt
 handed_fits f u (Some v) = either_has (converts (type_of v) u) u _ _ (some_fits u _ (converted_fits _ u v))
 
-needed_fits : (f : Name) (u : NumericType) (q : Outcome (Option Value)) → Both Has (Done u 0) q → Both HasType (Done u 0) (andthen q (needed f))
+needed_fits : (f : Name) (u : NumericType) (q : Outcome (Option Value)) → Both Has (Done u 0) q → Both HasType (Done u 0) (bind q (needed f))
 needed_fits f u (Done (Some v) n) h = h
 needed_fits f u (Done None n) h = tt
 needed_fits f u (Failed e) h = tt
 needed_fits f u Deep h = tt
 
-body_fits : (w : World) (f : Name) (t : Typ) (body : List Stm) (env : Env) (o : Outcome NumericType) → type_written w t ≡ o → Both HasType o (andthen (body_of w f (Some t) body env) (needed f))
+body_fits : (w : World) (f : Name) (t : Typ) (body : List Stm) (env : Env) (o : Outcome NumericType) → type_written w t ≡ o → Both HasType o (bind (body_of w f (Some t) body env) (needed f))
 body_fits w f t body env (Done u n) e =
-    restep HasType u 0 n _ (subst (λ z. Both HasType (Done u 0) (andthen (andthen (andthen z (λ s. Done (Some s) 0)) (λ s. andthen (returned_by w env body) (λ v. handed_back f s v))) (needed f))) (sym e)
+    restep HasType u 0 n _ (subst (λ z. Both HasType (Done u 0) (bind (bind (bind z (λ s. Done (Some s) 0)) (λ s. bind (returned_by w env body) (λ v. handed_back f s v))) (needed f))) (sym e)
     (needed_fits f u _ (right_after Has u 0 (n + 0) _ (through Has (Done u 0) (returned_by w env body) (handed_back f (Some u)) (handed_fits f u)))))
 body_fits w f t body env (Failed g) e = tt
 body_fits w f t body env Deep e = tt

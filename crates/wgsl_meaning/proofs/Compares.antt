@@ -1,6 +1,6 @@
 -- The comparisons of outcomes are kept by going on.
 use Rattle.std.proofs.Common.{◌≡◌, ℕ, ◌+◌, ◌≤◌, refl, sym, ap, ◌∙◌, subst, arith}
-use Rattle.wgsl_meaning.specs.Outcome.{Outcome, Done, Failed, Deep, after, andthen}
+use Rattle.wgsl_meaning.specs.Outcome.{Outcome, Done, Failed, Deep, after, bind}
 use Rattle.wgsl_meaning.specs.Compare.{Better, Extends, Agree, Carries, Likewise}
 use Rattle.wgsl_meaning.proofs.Simulates.{Kept}
 
@@ -9,7 +9,7 @@ use Rattle.wgsl_meaning.proofs.Simulates.{Kept}
 abbrev pub Same : (A : Type 0) → Outcome A → Outcome A → Type 0
 Same A o p = o ≡ p
 
-same_on : (A B : Type 0) (o : Outcome A) (f g : A → Outcome B) → ((x : A) → f x ≡ g x) → andthen o f ≡ andthen o g
+same_on : (A B : Type 0) (o : Outcome A) (f g : A → Outcome B) → ((x : A) → f x ≡ g x) → bind o f ≡ bind o g
 same_on A B (Done x n) f g h = ap (after n) (h x)
 same_on A B (Failed e) f g h = refl
 same_on A B Deep f g h = refl
@@ -17,7 +17,7 @@ same_on A B Deep f g h = refl
 pub kept_same : Kept Same
 kept_same = record {
   refl_of = λ A o. refl;
-  going_on = λ A B o p f g e h. ap (λ q. andthen q f) e ∙ same_on A B p f g h;
+  going_on = λ A B o p f g e h. ap (λ q. bind q f) e ∙ same_on A B p f g h;
 }
 
 -- ---- better
@@ -32,9 +32,9 @@ better_after B (Done y k) p n m le b = (m + b.0, ap (after m) b.1, omega (arith,
 better_after B (Failed f) p n m le b = tt
 better_after B Deep p n m le b = tt
 
-better_on : (A B : Type 0) (o p : Outcome A) (f g : A → Outcome B) → Better A o p → ((x : A) → Better B (f x) (g x)) → Better B (andthen o f) (andthen p g)
+better_on : (A B : Type 0) (o p : Outcome A) (f g : A → Outcome B) → Better A o p → ((x : A) → Better B (f x) (g x)) → Better B (bind o f) (bind p g)
 better_on A B (Done x n) p f g b h =
-    subst (λ q. Better B (after n (f x)) (andthen q g)) (sym b.1) (better_after B (f x) (g x) n b.0 b.2 (h x))
+    subst (λ q. Better B (after n (f x)) (bind q g)) (sym b.1) (better_after B (f x) (g x) n b.0 b.2 (h x))
 better_on A B (Failed e) p f g b h = tt
 better_on A B Deep p f g b h = tt
 
@@ -59,9 +59,9 @@ extends_after B (Done y k) p n e = ap (after n) e
 extends_after B (Failed f) p n e = ap (after n) e
 extends_after B Deep p n e = tt
 
-extends_on : (A B : Type 0) (o p : Outcome A) (f g : A → Outcome B) → Extends A o p → ((x : A) → Extends B (f x) (g x)) → Extends B (andthen o f) (andthen p g)
-extends_on A B (Done x n) p f g e h = subst (λ q. Extends B (after n (f x)) (andthen q g)) (sym e) (extends_after B (f x) (g x) n (h x))
-extends_on A B (Failed f') p f g e h = ap (λ q. andthen q g) e
+extends_on : (A B : Type 0) (o p : Outcome A) (f g : A → Outcome B) → Extends A o p → ((x : A) → Extends B (f x) (g x)) → Extends B (bind o f) (bind p g)
+extends_on A B (Done x n) p f g e h = subst (λ q. Extends B (after n (f x)) (bind q g)) (sym e) (extends_after B (f x) (g x) n (h x))
+extends_on A B (Failed f') p f g e h = ap (λ q. bind q g) e
 extends_on A B Deep p f g e h = tt
 
 pub kept_extends : Kept Extends
@@ -84,8 +84,8 @@ carries_after B (Done y k) p n e = ap (after n) e
 carries_after B (Failed f) p n e = tt
 carries_after B Deep p n e = tt
 
-carries_on : (A B : Type 0) (o p : Outcome A) (f g : A → Outcome B) → Carries A o p → ((x : A) → Carries B (f x) (g x)) → Carries B (andthen o f) (andthen p g)
-carries_on A B (Done x n) p f g e h = subst (λ q. Carries B (after n (f x)) (andthen q g)) (sym e) (carries_after B (f x) (g x) n (h x))
+carries_on : (A B : Type 0) (o p : Outcome A) (f g : A → Outcome B) → Carries A o p → ((x : A) → Carries B (f x) (g x)) → Carries B (bind o f) (bind p g)
+carries_on A B (Done x n) p f g e h = subst (λ q. Carries B (after n (f x)) (bind q g)) (sym e) (carries_after B (f x) (g x) n (h x))
 carries_on A B (Failed f') p f g e h = tt
 carries_on A B Deep p f g e h = tt
 
@@ -113,7 +113,7 @@ agree_none B (Done x k) Deep h = tt
 agree_none B (Failed f) p h = tt
 agree_none B Deep p h = tt
 
-agree_on : (A B : Type 0) (o p : Outcome A) (f g : A → Outcome B) → Agree A o p → ((x : A) → Agree B (f x) (g x)) → Agree B (andthen o f) (andthen p g)
+agree_on : (A B : Type 0) (o p : Outcome A) (f g : A → Outcome B) → Agree A o p → ((x : A) → Agree B (f x) (g x)) → Agree B (bind o f) (bind p g)
 agree_on A B (Done x n) (Done y m) f g e h = subst (λ z. Agree B (after n (f x)) (after m (g z))) e (agree_after B (f x) (g x) n m (h x))
 agree_on A B (Done x n) (Failed f') f g e h = agree_none B (after n (f x)) (Failed f') (λ y k e. cc)
 agree_on A B (Done x n) Deep f g e h = agree_none B (after n (f x)) Deep (λ y k e. cc)
@@ -140,8 +140,8 @@ likewise_after B (Done y k) p n m b = (m + b.0, ap (after m) b.1)
 likewise_after B (Failed f) p n m b = tt
 likewise_after B Deep p n m b = tt
 
-likewise_on : (A B : Type 0) (o p : Outcome A) (f g : A → Outcome B) → Likewise A o p → ((x : A) → Likewise B (f x) (g x)) → Likewise B (andthen o f) (andthen p g)
-likewise_on A B (Done x n) p f g b h = subst (λ q. Likewise B (after n (f x)) (andthen q g)) (sym b.1) (likewise_after B (f x) (g x) n b.0 (h x))
+likewise_on : (A B : Type 0) (o p : Outcome A) (f g : A → Outcome B) → Likewise A o p → ((x : A) → Likewise B (f x) (g x)) → Likewise B (bind o f) (bind p g)
+likewise_on A B (Done x n) p f g b h = subst (λ q. Likewise B (after n (f x)) (bind q g)) (sym b.1) (likewise_after B (f x) (g x) n b.0 (h x))
 likewise_on A B (Failed e) p f g b h = tt
 likewise_on A B Deep p f g b h = tt
 
@@ -150,8 +150,8 @@ kept_likewise = record { refl_of = likewise_refl; going_on = likewise_on }
 
 -- ---- going on with what is known of the value
 
-pub better_from : (A B : Type 0) (o p : Outcome A) (f g : A → Outcome B) → Better A o p → ((x : A) (n : ℕ) → o ≡ Done x n → Better B (f x) (g x)) → Better B (andthen o f) (andthen p g)
+pub better_from : (A B : Type 0) (o p : Outcome A) (f g : A → Outcome B) → Better A o p → ((x : A) (n : ℕ) → o ≡ Done x n → Better B (f x) (g x)) → Better B (bind o f) (bind p g)
 better_from A B (Done x n) p f g b h =
-    subst (λ q. Better B (after n (f x)) (andthen q g)) (sym b.1) (better_after B (f x) (g x) n b.0 b.2 (h x n refl))
+    subst (λ q. Better B (after n (f x)) (bind q g)) (sym b.1) (better_after B (f x) (g x) n b.0 b.2 (h x n refl))
 better_from A B (Failed e) p f g b h = tt
 better_from A B Deep p f g b h = tt

@@ -8,7 +8,7 @@ use Rattle.wgsl_meaning.specs.declared.value.Value.{Value}
 use Rattle.wgsl_meaning.specs.declared.value.NumericType.{NumericType}
 use Rattle.wgsl_meaning.specs.declared.fault.Fault.TheVariants.{Name as Named}
 use Rattle.wgsl_meaning.specs.declared.fault.NameFault.TheVariants.{Todo, UnknownDecl}
-use Rattle.wgsl_meaning.specs.Outcome.{Outcome, Done, Failed, Deep, andthen, at_once}
+use Rattle.wgsl_meaning.specs.Outcome.{Outcome, Done, Failed, Deep, bind, at_once}
 use Rattle.wgsl_meaning.specs.Names.{Name, Symbol, built_in_type}
 use Rattle.wgsl_meaning.specs.Meaning.{World, construct, construct_type}
 use Rattle.wgsl_meaning.specs.Programs.{Program, const_at, called_at, call_type_at, Inside, opened, inside, world, Inputs, entered, started, run, EndsWell}

@@ -8,7 +8,7 @@ use Rattle.wgsl_meaning.specs.declared.fault.Fault.TheVariants.{Number, Name as 
 use Rattle.wgsl_meaning.specs.declared.fault.NumberFault.TheVariants.{Conversion, ParamType}
 use Rattle.wgsl_meaning.specs.declared.fault.NameFault.TheVariants.{NotCallable, UninitConst, UnknownDecl, ParamCount, Void, NotEntrypoint, InvalidEntrypointParam, NoReturn, UnexpectedReturn}
 use Rattle.wgsl_meaning.specs.Values.{Checked, and_then, type_of, literal_value, converted, unary_type, binary_type}
-use Rattle.wgsl_meaning.specs.Outcome.{Outcome, Done, Failed, Deep, after, andthen, at_once, computed}
+use Rattle.wgsl_meaning.specs.Outcome.{Outcome, Done, Failed, Deep, after, bind, at_once, computed}
 use Rattle.wgsl_meaning.specs.Names.{Name, find, plain_name}
 use Rattle.wgsl_meaning.specs.Meaning.{Env, Types, World, local_or, called_or, value_here, result_here, value, values, type_in_world, type_here, result_type_here, typed, all_typed, type_written, initial, initialized, const_in, bound, returned_by, handed_back, return_type_of, body_of, needed, call_in, call_type}
 use Rattle.wgsl_meaning.specs.Programs.{Inputs, attribute_number, location_of, input_at, inputs_bound, has_stage, entered, started_by}

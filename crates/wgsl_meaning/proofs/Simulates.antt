@@ -6,7 +6,7 @@ use Rattle.wgsl_syntax.specs.Tree.{Exp, Exps, literal, parenthesized, unary, bin
 use Rattle.wgsl_meaning.specs.declared.value.Value.{Value}
 use Rattle.wgsl_meaning.specs.declared.value.ShaderStage.{ShaderStage}
 use Rattle.wgsl_meaning.specs.Values.{literal_value, unary_value, binary_value}
-use Rattle.wgsl_meaning.specs.Outcome.{Outcome, Done, Failed, Deep, andthen, computed}
+use Rattle.wgsl_meaning.specs.Outcome.{Outcome, Done, Failed, Deep, bind, computed}
 use Rattle.wgsl_meaning.specs.Names.{plain_name}
 use Rattle.wgsl_meaning.specs.Meaning.{Env, World, value_here, result_here, value, values}
 use Rattle.wgsl_meaning.specs.Follows.{Follows, FollowAll, keeps_literal, keeps_parentheses, keeps_unary, keeps_binary, keeps_call, keeps_name, replaces, no_more, one_more}
@@ -14,7 +14,7 @@ use Rattle.wgsl_meaning.specs.Follows.{Follows, FollowAll, keeps_literal, keeps_
 -- a relation of outcomes that going on keeps
 pub record Kept (R : (A : Type 0) → Outcome A → Outcome A → Type 0) : Type 1 where
   pub refl_of : (A : Type 0) (o : Outcome A) → R A o o
-  pub going_on : (A B : Type 0) (o p : Outcome A) (f g : A → Outcome B) → R A o p → ((x : A) → R B (f x) (g x)) → R B (andthen o f) (andthen p g)
+  pub going_on : (A B : Type 0) (o p : Outcome A) (f g : A → Outcome B) → R A o p → ((x : A) → R B (f x) (g x)) → R B (bind o f) (bind p g)
 
 -- the operators of two stages are related
 pub record StagesMeet (R : (A : Type 0) → Outcome A → Outcome A → Type 0) (s t : ShaderStage) : Type 0 where

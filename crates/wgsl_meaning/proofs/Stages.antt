@@ -15,8 +15,8 @@ use Rattle.wgsl_meaning.specs.declared.value.NumericType.{NumericType}
 use Rattle.wgsl_meaning.specs.declared.value.NumericType.TheVariants.{AbstractInt, I32, U32}
 use Rattle.wgsl_meaning.specs.declared.fault.NumberFault.{NumberFault}
 use Rattle.wgsl_meaning.specs.declared.fault.NumberFault.TheVariants.{AddOverflow, SubOverflow, MulOverflow, DivByZero, RemZeroDiv, Unary, Binary}
-use Rattle.wgsl_meaning.specs.Values.{Numbers, then_number, type_of, number, fits, value_at, wrapped, is_lenient, instead, brought, converted, negated, unary_value, common_type, divides, arithmetic, binary_value}
-use Rattle.wgsl_meaning.specs.Outcome.{Outcome, Done, Failed, Deep, andthen, at_once, computed}
+use Rattle.wgsl_meaning.specs.Values.{Numbers, then_number, type_of, number, fits, value_at, wrapped, is_lenient, lenient_or_fault, wrap_or_fault, converted, negated, unary_value, common_type, divides, arithmetic, binary_value}
+use Rattle.wgsl_meaning.specs.Outcome.{Outcome, Done, Failed, Deep, bind, at_once, computed}
 use Rattle.wgsl_meaning.specs.Names.{Name, Symbol}
 use Rattle.wgsl_meaning.specs.Meaning.{Env, World, value}
 use Rattle.wgsl_meaning.specs.Programs.{Program, const_at, called_at, call_type_at, inside, world}
@@ -42,12 +42,12 @@ module _ (s t : ShaderStage) (strict : (ty : NumericType) → is_lenient s ty �
   choice_later true c v v' x y f e h = h
   choice_later false c v v' x y f e h = subst (λ d. Later (if d then x else Err f) y) (sym e) tt
 
-  brought_later : (f : NumberFault) (ty : NumericType) (z : ℤ) → Later (brought s f ty z) (brought t f ty z)
-  brought_later f ty z = choice_later (fits ty z) (is_lenient s ty) _ _ _ _ f (strict ty) refl
+  wrap_or_fault_later : (f : NumberFault) (ty : NumericType) (z : ℤ) → Later (wrap_or_fault s f ty z) (wrap_or_fault t f ty z)
+  wrap_or_fault_later f ty z = choice_later (fits ty z) (is_lenient s ty) _ _ _ _ f (strict ty) refl
 
   negated_later : (v : Value) → Later (negated s v) (negated t v)
-  negated_later (V.AbstractInt z) = brought_later SubOverflow AbstractInt (neg_ℤ z)
-  negated_later (V.I32 z) = same_later (brought Exec SubOverflow I32 (neg_ℤ z))
+  negated_later (V.AbstractInt z) = wrap_or_fault_later SubOverflow AbstractInt (neg_ℤ z)
+  negated_later (V.I32 z) = same_later (wrap_or_fault Exec SubOverflow I32 (neg_ℤ z))
   negated_later (V.U32 n) = tt
 
   unary_later : (o : UnaryOperator) (v : Value) → Later (unary_value s o v) (unary_value t o v)
@@ -58,11 +58,11 @@ module _ (s t : ShaderStage) (strict : (ty : NumericType) → is_lenient s ty �
   unary_later Indirection v = tt
 
   arithmetic_later : (o : BinaryOperator) (ty : NumericType) (a b : ℤ) → Later (arithmetic s o ty a b) (arithmetic t o ty a b)
-  arithmetic_later Addition ty a b = brought_later AddOverflow ty (a +ℤ b)
-  arithmetic_later Subtraction ty a b = brought_later SubOverflow ty (a -ℤ b)
-  arithmetic_later Multiplication ty a b = brought_later MulOverflow ty (a *ℤ b)
-  arithmetic_later Division ty a b = choice_later (divides ty a b) (is_lenient s ty) _ _ _ _ DivByZero (strict ty) (brought_later DivByZero ty (int_div a b))
-  arithmetic_later Remainder ty a b = choice_later (divides ty a b) (is_lenient s ty) _ _ _ _ RemZeroDiv (strict ty) (brought_later RemZeroDiv ty (int_rem a b))
+  arithmetic_later Addition ty a b = wrap_or_fault_later AddOverflow ty (a +ℤ b)
+  arithmetic_later Subtraction ty a b = wrap_or_fault_later SubOverflow ty (a -ℤ b)
+  arithmetic_later Multiplication ty a b = wrap_or_fault_later MulOverflow ty (a *ℤ b)
+  arithmetic_later Division ty a b = choice_later (divides ty a b) (is_lenient s ty) _ _ _ _ DivByZero (strict ty) (wrap_or_fault_later DivByZero ty (int_div a b))
+  arithmetic_later Remainder ty a b = choice_later (divides ty a b) (is_lenient s ty) _ _ _ _ RemZeroDiv (strict ty) (wrap_or_fault_later RemZeroDiv ty (int_rem a b))
   arithmetic_later ShortCircuitOr ty a b = tt
   arithmetic_later ShortCircuitAnd ty a b = tt
   arithmetic_later Equality ty a b = tt

@@ -15,8 +15,8 @@ use Rattle.wgsl_meaning.specs.declared.value.NumericType.{NumericType}
 use Rattle.wgsl_meaning.specs.declared.value.NumericType.TheVariants.{AbstractInt, I32, U32}
 use Rattle.wgsl_meaning.specs.declared.fault.NumberFault.{NumberFault}
 use Rattle.wgsl_meaning.specs.declared.fault.NumberFault.TheVariants.{AddOverflow, SubOverflow, MulOverflow, DivByZero, RemZeroDiv, Unary, Binary}
-use Rattle.wgsl_meaning.specs.Values.{Checked, Numbers, then_number, type_of, number, literal_value, fits, value_at, wrapped, is_lenient, instead, brought, converted, negated, unary_value, common_type, divides, arithmetic, binary_value, is_arithmetic, unary_type, binary_type}
-use Rattle.wgsl_meaning.specs.Outcome.{Outcome, Done, Failed, Deep, after, andthen, at_once, computed}
+use Rattle.wgsl_meaning.specs.Values.{Checked, Numbers, then_number, type_of, number, literal_value, fits, value_at, wrapped, is_lenient, lenient_or_fault, wrap_or_fault, converted, negated, unary_value, common_type, divides, arithmetic, binary_value, is_arithmetic, unary_type, binary_type}
+use Rattle.wgsl_meaning.specs.Outcome.{Outcome, Done, Failed, Deep, after, bind, at_once, computed}
 use Rattle.wgsl_meaning.specs.Names.{Name, find, plain_name}
 use Rattle.wgsl_meaning.specs.Meaning.{Env, Types, World, local_or, called_or, value_here, result_here, value, values, type_in_world, type_here, result_type_here, typed, all_typed}
 use Rattle.wgsl_meaning.specs.Typing.{Both, HasType, HaveTypes, types_of, TypesAgree}
@@ -38,7 +38,7 @@ right_fails P (Failed f) q h = tt
 right_fails P Deep q h = tt
 
 pub both_on : {A B C D : Type 0} (P : A → B → Type 0) (Q : C → D → Type 0) (o : Outcome A) (q : Outcome B) (f : A → Outcome C) (g : B → Outcome D) →
-    Both P o q → ((x : A) (y : B) → P x y → Both Q (f x) (g y)) → Both Q (andthen o f) (andthen q g)
+    Both P o q → ((x : A) (y : B) → P x y → Both Q (f x) (g y)) → Both Q (bind o f) (bind q g)
 both_on P Q (Done x n) (Done y m) f g h go = both_after Q n m (f x) (g y) (go x y h)
 both_on P Q (Done x n) (Failed e) f g h go = right_fails Q (after n (f x)) (Failed e) (λ y m e. cc)
 both_on P Q (Done x n) Deep f g h go = right_fails Q (after n (f x)) Deep (λ y m e. cc)
@@ -72,12 +72,12 @@ either_fits true c t v x f h i = h
 either_fits false true t v x f h i = i
 either_fits false false t v x f h i = tt
 
-brought_fits : (s : ShaderStage) (f : NumberFault) (t : NumericType) (z : ℤ) → Fits (Ok t) (brought s f t z)
-brought_fits s f t z = either_fits (fits t z) (is_lenient s t) t _ _ f (type_of-value_at t z) (type_of-wrapped t z)
+wrap_or_fault_fits : (s : ShaderStage) (f : NumberFault) (t : NumericType) (z : ℤ) → Fits (Ok t) (wrap_or_fault s f t z)
+wrap_or_fault_fits s f t z = either_fits (fits t z) (is_lenient s t) t _ _ f (type_of-value_at t z) (type_of-wrapped t z)
 
 unary_fits : (s : ShaderStage) (o : UnaryOperator) (v : Value) → Fits (unary_type o (type_of v)) (unary_value s o v)
-unary_fits s Negation (V.AbstractInt z) = brought_fits s SubOverflow AbstractInt (neg_ℤ z)
-unary_fits s Negation (V.I32 z) = brought_fits Exec SubOverflow I32 (neg_ℤ z)
+unary_fits s Negation (V.AbstractInt z) = wrap_or_fault_fits s SubOverflow AbstractInt (neg_ℤ z)
+unary_fits s Negation (V.I32 z) = wrap_or_fault_fits Exec SubOverflow I32 (neg_ℤ z)
 unary_fits s Negation (V.U32 n) = tt
 unary_fits s LogicalNegation v = tt
 unary_fits s BitwiseComplement v = tt
@@ -85,11 +85,11 @@ unary_fits s AddressOf v = tt
 unary_fits s Indirection v = tt
 
 arithmetic_fits : (s : ShaderStage) (o : BinaryOperator) (t : NumericType) (a b : ℤ) → Fits (if is_arithmetic o then Ok t else Err (Binary o t t)) (arithmetic s o t a b)
-arithmetic_fits s Addition t a b = brought_fits s AddOverflow t (a +ℤ b)
-arithmetic_fits s Subtraction t a b = brought_fits s SubOverflow t (a -ℤ b)
-arithmetic_fits s Multiplication t a b = brought_fits s MulOverflow t (a *ℤ b)
-arithmetic_fits s Division t a b = either_fits (divides t a b) (is_lenient s t) t _ _ DivByZero (brought_fits s DivByZero t (int_div a b)) (brought_fits s DivByZero t a)
-arithmetic_fits s Remainder t a b = either_fits (divides t a b) (is_lenient s t) t _ _ RemZeroDiv (brought_fits s RemZeroDiv t (int_rem a b)) (brought_fits s RemZeroDiv t (pos 0))
+arithmetic_fits s Addition t a b = wrap_or_fault_fits s AddOverflow t (a +ℤ b)
+arithmetic_fits s Subtraction t a b = wrap_or_fault_fits s SubOverflow t (a -ℤ b)
+arithmetic_fits s Multiplication t a b = wrap_or_fault_fits s MulOverflow t (a *ℤ b)
+arithmetic_fits s Division t a b = either_fits (divides t a b) (is_lenient s t) t _ _ DivByZero (wrap_or_fault_fits s DivByZero t (int_div a b)) (wrap_or_fault_fits s DivByZero t a)
+arithmetic_fits s Remainder t a b = either_fits (divides t a b) (is_lenient s t) t _ _ RemZeroDiv (wrap_or_fault_fits s RemZeroDiv t (int_rem a b)) (wrap_or_fault_fits s RemZeroDiv t (pos 0))
 arithmetic_fits s ShortCircuitOr t a b = tt
 arithmetic_fits s ShortCircuitAnd t a b = tt
 arithmetic_fits s Equality t a b = tt

@@ -8,7 +8,7 @@ use Rattle.wgsl_meaning.specs.declared.value.ShaderStage.{ShaderStage}
 use Rattle.wgsl_meaning.specs.declared.value.Value.{Value}
 use Rattle.wgsl_meaning.specs.declared.value.Value.TheVariants as V
 use Rattle.wgsl_meaning.specs.Values.{Numbers}
-use Rattle.wgsl_meaning.specs.Outcome.{Outcome, Done, Failed, Deep, after, computed, andthen}
+use Rattle.wgsl_meaning.specs.Outcome.{Outcome, Done, Failed, Deep, after, computed, bind}
 use Rattle.wgsl_meaning.specs.Meaning.{Env, World, value, result_here}
 use Rattle.wgsl_meaning.specs.Written.{HasConstructor, written, negative, least_abstract, least_signed}
 
@@ -29,7 +29,7 @@ module _ (w : World) (env : Env) (has : HasConstructor w env) where
   least_abstract_is = refl
 
   least_signed_is : Says least_signed (V.I32 (negsuc 2147483647))
-  least_signed_is = ap (λ o. andthen (Done (V.AbstractInt (negsuc 2147483647) ∷ []) 0) (λ vs. o)) has.least
+  least_signed_is = ap (λ o. bind (Done (V.AbstractInt (negsuc 2147483647) ∷ []) 0) (λ vs. o)) has.least
 
   negative_abstract : (n : ℕ) → nat_lt n 9223372036854775807 ≡ true → Says (negative (literal (L.AbstractInt (pos (suc n))))) (V.AbstractInt (negsuc n))
   negative_abstract n h = exact _ (V.AbstractInt (negsuc n)) _ (within n 9223372036854775807 (2 ^ 63) h (omega arith))

@@ -12,7 +12,7 @@ use Rattle.wgsl_meaning.specs.declared.fault.Fault.TheVariants.{Number, Name as 
 use Rattle.wgsl_meaning.specs.declared.fault.NumberFault.TheVariants.{Conversion, ParamType}
 use Rattle.wgsl_meaning.specs.declared.fault.NameFault.TheVariants.{UnknownDecl, NotCallable, UninitConst, Signature, ParamCount, Void, NoReturn, UnexpectedReturn, ReturnType}
 use Rattle.wgsl_meaning.specs.Values.{Checked, and_then, Numbers, type_of, literal_value, converts, converted, constructed, unary_value, binary_value, unary_type, binary_type}
-use Rattle.wgsl_meaning.specs.Outcome.{Outcome, Done, Failed, Deep, after, andthen, at_once, computed}
+use Rattle.wgsl_meaning.specs.Outcome.{Outcome, Done, Failed, Deep, after, bind, at_once, computed}
 use Rattle.wgsl_meaning.specs.Names.{Name, find, plain_name}
 
 -- ---- expressions
@@ -59,20 +59,20 @@ abbrev mutual
   pub value : World → Env → Exp → Outcome Value
   value w env (literal l) = Done (literal_value l) 0
   value w env (parenthesized e) = value w env e
-  value w env (unary o e) = andthen (value w env e) (λ x. computed (unary_value w.stage o x))
-  value w env (binary o a b) = andthen (value w env a) (λ x. andthen (value w env b) (λ y. computed (binary_value w.stage o x y)))
-  value w env (call f es) = andthen (values w env es) (λ vs. result_here w env (plain_name f) vs)
+  value w env (unary o e) = bind (value w env e) (λ x. computed (unary_value w.stage o x))
+  value w env (binary o a b) = bind (value w env a) (λ x. bind (value w env b) (λ y. computed (binary_value w.stage o x y)))
+  value w env (call f es) = bind (values w env es) (λ vs. result_here w env (plain_name f) vs)
   value w env (named x) = value_here w env (plain_name x)
 
   pub values : World → Env → Exps → Outcome (List Value)
   values w env nil = Done [] 0
-  values w env (cons e es) = andthen (value w env e) (λ x. andthen (values w env es) (λ xs. Done (x ∷ xs) 0))
+  values w env (cons e es) = bind (value w env e) (λ x. bind (values w env es) (λ xs. Done (x ∷ xs) 0))
 
 -- ---- their types
 
 -- an untyped const has the type of its value
 abbrev pub type_in_world : Outcome Value → Outcome NumericType
-type_in_world o = andthen o (λ v. Done (type_of v) 0)
+type_in_world o = bind o (λ v. Done (type_of v) 0)
 
 abbrev pub type_here : World → Types → Checked Name → Outcome NumericType
 type_here w env (Ok x) = local_or (find x env) (type_in_world (w.value_of x))
@@ -86,14 +86,14 @@ abbrev mutual
   pub typed : World → Types → Exp → Outcome NumericType
   typed w env (literal l) = Done (type_of (literal_value l)) 0
   typed w env (parenthesized e) = typed w env e
-  typed w env (unary o e) = andthen (typed w env e) (λ t. computed (unary_type o t))
-  typed w env (binary o a b) = andthen (typed w env a) (λ s. andthen (typed w env b) (λ t. computed (binary_type o s t)))
-  typed w env (call f es) = andthen (all_typed w env es) (λ ts. result_type_here w env (plain_name f) ts)
+  typed w env (unary o e) = bind (typed w env e) (λ t. computed (unary_type o t))
+  typed w env (binary o a b) = bind (typed w env a) (λ s. bind (typed w env b) (λ t. computed (binary_type o s t)))
+  typed w env (call f es) = bind (all_typed w env es) (λ ts. result_type_here w env (plain_name f) ts)
   typed w env (named x) = type_here w env (plain_name x)
 
   pub all_typed : World → Types → Exps → Outcome (List NumericType)
   all_typed w env nil = Done [] 0
-  all_typed w env (cons e es) = andthen (typed w env e) (λ t. andthen (all_typed w env es) (λ ts. Done (t ∷ ts) 0))
+  all_typed w env (cons e es) = bind (typed w env e) (λ t. bind (all_typed w env es) (λ ts. Done (t ∷ ts) 0))
 
 -- ---- constructors, consts and functions
 
@@ -114,8 +114,8 @@ type_written w t = at_once (and_then (plain_name t) w.type_named)
 
 -- the value of an initializer, under a written type or its own
 abbrev pub initial : World → Option Typ → Exp → Outcome Value
-initial w (Some t) e = andthen (type_written w t) (λ u. andthen (value w [] e) (λ v. computed (converted (Conversion (type_of v) u) u v)))
-initial w None e = andthen (typed w [] e) (λ u. value w [] e)
+initial w (Some t) e = bind (type_written w t) (λ u. bind (value w [] e) (λ v. computed (converted (Conversion (type_of v) u) u v)))
+initial w None e = bind (typed w [] e) (λ u. value w [] e)
 
 abbrev pub initialized : World → Name → Option Typ → Option Exp → Outcome Value
 initialized w x type (Some e) = initial w type e
@@ -132,18 +132,18 @@ abbrev pub bound : World → List Param → List Value → Outcome Env
 bound w [] vs = Done [] 0
 bound w (p ∷ ps) [] = Done [] 0
 bound w (p ∷ ps) (v ∷ vs) =
-    andthen (type_written w p.type) (λ t. andthen (computed (converted (ParamType (type_of v) t) t v)) (λ x.
-    andthen (bound w ps vs) (λ env. Done ((p.name, x) ∷ env) 0)))
+    bind (type_written w p.type) (λ t. bind (computed (converted (ParamType (type_of v) t) t v)) (λ x.
+    bind (bound w ps vs) (λ env. Done ((p.name, x) ∷ env) 0)))
 
 -- what a body of at most one return hands back
 abbrev pub returned_by : World → Env → List Stm → Outcome (Option Value)
 returned_by w env [] = Done None 0
 returned_by w env (returning attributes None ∷ rest) = Done None 0
-returned_by w env (returning attributes (Some e) ∷ rest) = andthen (value w env e) (λ v. Done (Some v) 0)
+returned_by w env (returning attributes (Some e) ∷ rest) = bind (value w env e) (λ v. Done (Some v) 0)
 
 abbrev pub converted_return : Name → NumericType → Value → Outcome (Option Value)
 converted_return f t v =
-    if converts (type_of v) t then andthen (computed (converted (Conversion (type_of v) t) t v)) (λ x. Done (Some x) 0)
+    if converts (type_of v) t then bind (computed (converted (Conversion (type_of v) t) t v)) (λ x. Done (Some x) 0)
     else Failed (Named (ReturnType (type_of v) t) f)
 
 -- it is converted to the function's type
@@ -155,10 +155,10 @@ handed_back f (Some t) (Some v) = converted_return f t v
 
 abbrev pub return_type_of : World → Option Typ → Outcome (Option NumericType)
 return_type_of w None = Done None 0
-return_type_of w (Some t) = andthen (type_written w t) (λ u. Done (Some u) 0)
+return_type_of w (Some t) = bind (type_written w t) (λ u. Done (Some u) 0)
 
 abbrev pub body_of : World → Name → Option Typ → List Stm → Env → Outcome (Option Value)
-body_of w f type body env = andthen (return_type_of w type) (λ t. andthen (returned_by w env body) (λ v. handed_back f t v))
+body_of w f type body env = bind (return_type_of w type) (λ t. bind (returned_by w env body) (λ v. handed_back f t v))
 
 -- a value where one is needed
 abbrev pub needed : Name → Option Value → Outcome Value
@@ -168,7 +168,7 @@ needed f None = Failed (Named Void f)
 -- a call, which is a step (WGSL, "Function Calls")
 abbrev pub call_in : World → Name → Option Decl → List Value → Outcome Value
 call_in w f (Some (function attributes g parameters return_attributes type body)) vs =
-    if length vs == length parameters then after 1 (andthen (bound w parameters vs) (λ env. andthen (body_of w f type body.statements env) (needed f)))
+    if length vs == length parameters then after 1 (bind (bound w parameters vs) (λ env. bind (body_of w f type body.statements env) (needed f)))
     else Failed (Named (ParamCount (length vs) (length parameters)) f)
 call_in w f (Some (variable attributes kind x type e)) vs = Failed (Named NotCallable f)
 call_in w f None vs = Failed (Named NotCallable f)

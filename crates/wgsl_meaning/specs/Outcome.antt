@@ -18,10 +18,10 @@ after m (Failed f) = Failed f
 after m Deep = Deep
 
 -- goes on with the value
-abbrev pub andthen : {A B : Type 0} → Outcome A → (A → Outcome B) → Outcome B
-andthen (Done x m) go = after m (go x)
-andthen (Failed f) go = Failed f
-andthen Deep go = Deep
+abbrev pub bind : {A B : Type 0} → Outcome A → (A → Outcome B) → Outcome B
+bind (Done x m) go = after m (go x)
+bind (Failed f) go = Failed f
+bind Deep go = Deep
 
 -- without a step
 abbrev pub at_once : {A : Type 0} → Checked A → Outcome A

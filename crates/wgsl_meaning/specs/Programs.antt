@@ -2,7 +2,7 @@
 use Rattle.std.specs.Prelude.{◌≡◌, ℕ, zero, suc, ◌≤◌, List, [], ◌∷◌, map, Option, Some, None, Bool, true, false, Result, Ok, Err, if◌then◌else◌, pos, negsuc, nat_lt, ◌^◌, ℤ}
 use Rattle.wgsl_path.specs.declared.path.ModulePath.{ModulePath}
 use Rattle.wgsl_path.specs.declared.path.PathOrigin.TheVariants.{Absolute}
-use Rattle.wgsl_syntax.specs.Tree.{Exp, Typ, Attr, fragment, location, Stm, Block, Param, Decl, variable, function, Unit as Module}
+use Rattle.wgsl_syntax.specs.Tree.{Exp, Typ, Attr, fragment, location, Stm, Block, Param, Decl, variable, function, UnitTree as Module}
 use Rattle.wgsl_syntax.specs.declared.declaration.DeclarationKind.{DeclarationKind}
 use Rattle.wgsl_syntax.specs.Names.{declared_name}
 use Rattle.wgsl_meaning.specs.declared.value.ShaderStage.{ShaderStage}
@@ -16,7 +16,7 @@ use Rattle.wgsl_meaning.specs.declared.fault.Fault.TheVariants.{Number, Name as 
 use Rattle.wgsl_meaning.specs.declared.fault.NumberFault.TheVariants.{NegativeAttr, ConvOverflow, ParamType}
 use Rattle.wgsl_meaning.specs.declared.fault.NameFault.TheVariants.{UnknownDecl, NotType, Todo, NotEntrypoint, InvalidEntrypointParam, MissingUserInput}
 use Rattle.wgsl_meaning.specs.Values.{Checked, type_of, number, is_same_type}
-use Rattle.wgsl_meaning.specs.Outcome.{Outcome, Done, Failed, Deep, andthen, at_once, computed}
+use Rattle.wgsl_meaning.specs.Outcome.{Outcome, Done, Failed, Deep, bind, at_once, computed}
 use Rattle.wgsl_meaning.specs.Names.{Name, Symbol, find_decl, built_in_type}
 use Rattle.wgsl_meaning.specs.Meaning.{World, Env, value, const_in, call_in, call_type, construct, construct_type, type_written, return_type_of, body_of}
 
@@ -38,13 +38,13 @@ abbrev pub called_at : ShaderStage → Name → Option Symbol → (Symbol → Li
 called_at Exec f (Some s) inner vs = inner s vs
 called_at Const f (Some s) inner vs = Failed (Named Todo f)
 called_at Override f (Some s) inner vs = Failed (Named Todo f)
-called_at stage f None inner vs = andthen (at_once (built_in_type f)) (λ t. construct f t vs)
+called_at stage f None inner vs = bind (at_once (built_in_type f)) (λ t. construct f t vs)
 
 abbrev pub call_type_at : ShaderStage → Name → Option Symbol → (Symbol → Outcome NumericType) → List NumericType → Outcome NumericType
 call_type_at Exec f (Some s) inner ts = inner s
 call_type_at Const f (Some s) inner ts = Failed (Named Todo f)
 call_type_at Override f (Some s) inner ts = Failed (Named Todo f)
-call_type_at stage f None inner ts = andthen (at_once (built_in_type f)) (λ t. construct_type f t ts)
+call_type_at stage f None inner ts = bind (at_once (built_in_type f)) (λ t. construct_type f t ts)
 
 abbrev pub type_at : Name → Option Symbol → Checked NumericType
 type_at x (Some s) = Err (Named NotType x)
@@ -95,7 +95,7 @@ attribute_number v = natural (number v)
 abbrev pub location_of : World → Name → List Attr → Outcome ℕ
 location_of consts x [] = Failed (Named InvalidEntrypointParam x)
 location_of consts x (fragment ∷ rest) = location_of consts x rest
-location_of consts x (location e ∷ rest) = andthen (value consts [] e) (λ v. at_once (attribute_number v))
+location_of consts x (location e ∷ rest) = bind (value consts [] e) (λ v. at_once (attribute_number v))
 
 abbrev pub input_at : Name → ℕ → NumericType → Option Value → Outcome Value
 input_at x n t None = Failed (Named (MissingUserInput n) x)
@@ -105,8 +105,8 @@ input_at x n t (Some v) = if is_same_type (type_of v) t then Done v 0 else Faile
 abbrev pub inputs_bound : World → World → Inputs → List Param → Outcome Env
 inputs_bound consts w inputs [] = Done [] 0
 inputs_bound consts w inputs (p ∷ ps) =
-    andthen (location_of consts p.name p.attributes) (λ n. andthen (type_written w p.type) (λ t. andthen (input_at p.name n t (inputs n)) (λ v.
-    andthen (inputs_bound consts w inputs ps) (λ env. Done ((p.name, v) ∷ env) 0))))
+    bind (location_of consts p.name p.attributes) (λ n. bind (type_written w p.type) (λ t. bind (input_at p.name n t (inputs n)) (λ v.
+    bind (inputs_bound consts w inputs ps) (λ env. Done ((p.name, v) ∷ env) 0))))
 
 -- an entry point has a stage
 abbrev pub has_stage : List Attr → Bool
@@ -116,7 +116,7 @@ has_stage (location e ∷ rest) = has_stage rest
 
 abbrev pub entered : World → World → Name → Option Decl → Inputs → Outcome (Option Value)
 entered consts w f (Some (function attributes g parameters return_attributes type body)) inputs =
-    if has_stage attributes then andthen (inputs_bound consts w inputs parameters) (λ env. body_of w f type body.statements env) else Failed (Named NotEntrypoint f)
+    if has_stage attributes then bind (inputs_bound consts w inputs parameters) (λ env. body_of w f type body.statements env) else Failed (Named NotEntrypoint f)
 entered consts w f (Some (variable attributes kind x type e)) inputs = Failed (Named NotEntrypoint f)
 entered consts w f None inputs = Failed (Named UnknownDecl f)
 
@@ -124,17 +124,17 @@ entered consts w f None inputs = Failed (Named UnknownDecl f)
 
 -- a declaration gets its value at the start, if it is of a value
 abbrev pub started_by : World → Name → Option Decl → Outcome (Unit {0})
-started_by w x (Some (variable attributes kind y type e)) = andthen (const_in w x (Some (variable attributes kind y type e))) (λ v. Done tt 0)
+started_by w x (Some (variable attributes kind y type e)) = bind (const_in w x (Some (variable attributes kind y type e))) (λ v. Done tt 0)
 started_by w x (Some (function attributes f parameters return_attributes type body)) = Done tt 0
 started_by w x None = Done tt 0
 
 abbrev pub started : Program → ℕ → List Symbol → Outcome (Unit {0})
 started p k [] = Done tt 0
-started p k (s ∷ rest) = andthen (started_by (world p k Const s.home) s.called (p.item s)) (λ u. started p k rest)
+started p k (s ∷ rest) = bind (started_by (world p k Const s.home) s.called (p.item s)) (λ u. started p k rest)
 
 -- a run of an entry point: the start, then the function. The answer is what it hands back, if anything
 abbrev pub run : Program → ℕ → Symbol → Inputs → Outcome (Option Value)
-run p k s inputs = andthen (started p k p.held) (λ u. entered (world p k Const s.home) (world p k Exec s.home) s.called (p.item s) inputs)
+run p k s inputs = bind (started p k p.held) (λ u. entered (world p k Const s.home) (world p k Exec s.home) s.called (p.item s) inputs)
 
 -- it ends well with this answer, within n steps: with some bound, and then with each larger one
 pub record EndsWell (p : Program) (s : Symbol) (inputs : Inputs) (n : ℕ) (answer : Option Value) : Type 0 where

@@ -95,12 +95,12 @@ is_lenient Const t = false
 is_lenient Override t = false
 
 -- this when the shader runs, else the fault
-abbrev pub instead : ShaderStage → NumericType → Numbers Value → NumberFault → Numbers Value
-instead s t v f = if is_lenient s t then v else Err f
+abbrev pub lenient_or_fault : ShaderStage → NumericType → Numbers Value → NumberFault → Numbers Value
+lenient_or_fault s t v f = if is_lenient s t then v else Err f
 
 -- an exact result, brought to its type
-abbrev pub brought : ShaderStage → NumberFault → NumericType → ℤ → Numbers Value
-brought s f t z = if fits t z then Ok (value_at t z) else instead s t (Ok (wrapped t z)) f
+abbrev pub wrap_or_fault : ShaderStage → NumberFault → NumericType → ℤ → Numbers Value
+wrap_or_fault s f t z = if fits t z then Ok (value_at t z) else lenient_or_fault s t (Ok (wrapped t z)) f
 
 -- ---- conversions
 
@@ -145,8 +145,8 @@ constructed U32 (V.U32 n) = Ok (V.U32 n)
 
 -- the negative; of the least i32 it is the number itself, at every stage
 abbrev pub negated : ShaderStage → Value → Numbers Value
-negated s (V.AbstractInt z) = brought s SubOverflow AbstractInt (neg_ℤ z)
-negated s (V.I32 z) = brought Exec SubOverflow I32 (neg_ℤ z)
+negated s (V.AbstractInt z) = wrap_or_fault s SubOverflow AbstractInt (neg_ℤ z)
+negated s (V.I32 z) = wrap_or_fault Exec SubOverflow I32 (neg_ℤ z)
 negated s (V.U32 n) = Err (Unary Negation U32)
 
 abbrev pub unary_value : ShaderStage → UnaryOperator → Value → Numbers Value
@@ -174,11 +174,11 @@ divides t a (negsuc b) = fits t (int_div a (negsuc b))
 
 -- of two numbers of one type; by 0, and for the least number by -1, x / y is x and x % y is 0 when the shader runs
 abbrev pub arithmetic : ShaderStage → BinaryOperator → NumericType → ℤ → ℤ → Numbers Value
-arithmetic s Addition t a b = brought s AddOverflow t (a +ℤ b)
-arithmetic s Subtraction t a b = brought s SubOverflow t (a -ℤ b)
-arithmetic s Multiplication t a b = brought s MulOverflow t (a *ℤ b)
-arithmetic s Division t a b = if divides t a b then brought s DivByZero t (int_div a b) else instead s t (brought s DivByZero t a) DivByZero
-arithmetic s Remainder t a b = if divides t a b then brought s RemZeroDiv t (int_rem a b) else instead s t (brought s RemZeroDiv t (pos 0)) RemZeroDiv
+arithmetic s Addition t a b = wrap_or_fault s AddOverflow t (a +ℤ b)
+arithmetic s Subtraction t a b = wrap_or_fault s SubOverflow t (a -ℤ b)
+arithmetic s Multiplication t a b = wrap_or_fault s MulOverflow t (a *ℤ b)
+arithmetic s Division t a b = if divides t a b then wrap_or_fault s DivByZero t (int_div a b) else lenient_or_fault s t (wrap_or_fault s DivByZero t a) DivByZero
+arithmetic s Remainder t a b = if divides t a b then wrap_or_fault s RemZeroDiv t (int_rem a b) else lenient_or_fault s t (wrap_or_fault s RemZeroDiv t (pos 0)) RemZeroDiv
 arithmetic s o t a b = Err (Binary o t t)
 
 abbrev pub binary_value : ShaderStage → BinaryOperator → Value → Value → Numbers Value

@@ -6,8 +6,8 @@ use Rattle.wgsl_operators.specs.declared.BinaryOperator.{BinaryOperator}
 use Rattle.wgsl_operators.specs.declared.BinaryOperator.TheVariants.{ShortCircuitOr, ShortCircuitAnd, Addition, Subtraction, Multiplication, Division, Remainder, Equality, Inequality, LessThan, LessThanEqual, GreaterThan, GreaterThanEqual, BitwiseOr, BitwiseAnd, BitwiseXor, ShiftLeft, ShiftRight}
 
 -- A sign is read exactly where it is a value's text.
-abbrev pub Reads : {T E : Type 0} → (T → List ℕ) → List ℕ → Result T E → Type 0
-Reads {T} written text result = MatchResult result (λ value. written value ≡ text) (λ _. (value : T) → written value ≢ text)
+abbrev pub ParsesExactly : {T E : Type 0} → (T → List ℕ) → List ℕ → Result T E → Type 0
+ParsesExactly {T} written text result = MatchResult result (λ value. written value ≡ text) (λ _. (value : T) → written value ≢ text)
 
 abbrev pub unary_text : UnaryOperator → List ℕ
 unary_text LogicalNegation = codes "!"

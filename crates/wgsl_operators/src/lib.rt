@@ -2,7 +2,7 @@
 #![tactic(auto)]
 
 ghost use Rattle.std.specs.Prelude.{Some};
-ghost use Rattle.wgsl_operators.specs.Operators.{Reads, unary_text, binary_text};
+ghost use Rattle.wgsl_operators.specs.Operators.{ParsesExactly, unary_text, binary_text};
 
 use std::fmt;
 use std::str::FromStr;
@@ -80,7 +80,7 @@ impl fmt::Display for UnaryOperator {
 impl FromStr for UnaryOperator {
     type Err = ();
 
-    ghost from_str_gives = { Reads unary_text };
+    ghost from_str_gives = { ParsesExactly unary_text };
 
     fn from_str(text: &str) -> Result<UnaryOperator, ()> {
         match text {
@@ -124,7 +124,7 @@ impl fmt::Display for BinaryOperator {
 impl FromStr for BinaryOperator {
     type Err = ();
 
-    ghost from_str_gives = { Reads binary_text };
+    ghost from_str_gives = { ParsesExactly binary_text };
 
     fn from_str(text: &str) -> Result<BinaryOperator, ()> {
         match text {

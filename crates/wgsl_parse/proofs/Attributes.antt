@@ -9,12 +9,12 @@ use Rattle.wgsl_syntax.specs.declared.expression.Expression.{Expression}
 use Rattle.wgsl_syntax.specs.declared.expression.TypeExpressionOf.{TypeExpressionOf}
 use Rattle.wgsl_syntax.specs.declared.declaration.Attribute.{Attribute}
 use Rattle.wgsl_syntax.specs.Print.{begins_with}
-use Rattle.wgsl_phrases.specs.declared.Stop.{Stop}
-use Rattle.wgsl_phrases.specs.declared.Stop.TheVariants.{Unexpected}
-use Rattle.wgsl_phrases.specs.Parsing.{first, Parses}
-use Rattle.wgsl_phrases.specs.Languages.{◌⌢◌, no_more}
-use Rattle.wgsl_phrases.specs.Sequences.{taken, Done, done, Then, next, left, right}
-use Rattle.wgsl_phrases.proofs.Steps.{Inhabited, Follows, IsBarred, at_end, some_injective, nowhere, parses_as, parses_done, parses_taking}
+use Rattle.wgsl_parser_spec.specs.declared.ParseFailure.{ParseFailure}
+use Rattle.wgsl_parser_spec.specs.declared.ParseFailure.TheVariants.{Unexpected}
+use Rattle.wgsl_parser_spec.specs.Parsing.{first, Parses}
+use Rattle.wgsl_parser_spec.specs.Languages.{◌⌢◌, no_more}
+use Rattle.wgsl_parser_spec.specs.Sequences.{taken, Done, done, Then, next, left, right}
+use Rattle.wgsl_parser_spec.proofs.Steps.{Inhabited, Follows, IsBarred, at_end, some_injective, nowhere, parses_as, parses_done, parses_taking}
 use Rattle.wgsl_grammar.specs.Terminals.{fixed, word}
 use Rattle.wgsl_grammar.specs.Attributes.{fragment_of, IsTrailing, no_comma, comma, IsAttribute, fragment, location}
 use Rattle.wgsl_grammar.specs.Declarations.{IsIdent, ident, IsType, type, IsAttributes}
@@ -82,7 +82,7 @@ only_location : (s : Span) (tokens u v : List SpannedToken) (x : Spanned Attribu
 only_location s tokens u v x differs (left (taken {o = p} op h)) f = absurd (differs p (sym f ∙ ap Some op))
 only_location s tokens u v x differs (right h) f = h
 
-pub parses_location : {F : Option SpannedToken → Bool} {tokens mid s1 s2 : List SpannedToken} {w : Span} {r : Result (Spanned Attribute) Stop} (s : Span) → mid ≡ tokens
+pub parses_location : {F : Option SpannedToken → Bool} {tokens mid s1 s2 : List SpannedToken} {w : Span} {r : Result (Spanned Attribute) ParseFailure} (s : Span) → mid ≡ tokens
     → ((p : Span) → first tokens ≢ Some (word (codes "fragment") p)) → mid ≡ word (codes "location") w ∷ s1 → Parses (LocationRest s) F s1 r s2
     → Parses (AttributeRest s) F tokens r s2
 parses_location {tokens = tokens} {w = w} s same differs is p =
@@ -96,7 +96,7 @@ no_attribute_at : (s : Span) (tokens u v : List SpannedToken) (x : Spanned Attri
 no_attribute_at s tokens u v x a b (left (taken {o = p} op h)) f = a p (sym f ∙ ap Some op)
 no_attribute_at s tokens u v x a b (right (taken {o = p} op h)) f = b p (sym f ∙ ap Some op)
 
-pub no_attribute_word : {F : Option SpannedToken → Bool} {old mid new : List SpannedToken} {e : Stop} (s : Span) → mid ≡ old → new ≡ mid → e ≡ Unexpected
+pub no_attribute_word : {F : Option SpannedToken → Bool} {old mid new : List SpannedToken} {e : ParseFailure} (s : Span) → mid ≡ old → new ≡ mid → e ≡ Unexpected
     → ((p : Span) → first old ≢ Some (word (codes "fragment") p)) → ((p : Span) → first mid ≢ Some (word (codes "location") p)) → Parses (AttributeRest s) F old (Err e) new
 no_attribute_word {old = old} s m n is a b =
     let b2 : (p : Span) → first old ≢ Some (word (codes "location") p) = rw m at b in
@@ -113,7 +113,7 @@ attribute_out : (u : List SpannedToken) (x : Spanned Attribute) → IsAttribute 
 attribute_out u x fragment = taken refl (left (taken refl done))
 attribute_out u x (location q h g) = let (c, o) = comma_out g in taken refl (right (taken refl (taken refl (next h (next o (taken refl done))))))
 
-pub parses_attribute : {F : Option SpannedToken → Bool} {tokens s1 s2 : List SpannedToken} {p : Span} {r : Result (Spanned Attribute) Stop} → tokens ≡ fixed f.Attr p ∷ s1
+pub parses_attribute : {F : Option SpannedToken → Bool} {tokens s1 s2 : List SpannedToken} {p : Span} {r : Result (Spanned Attribute) ParseFailure} → tokens ≡ fixed f.Attr p ∷ s1
     → Parses (AttributeRest p) F s1 r s2 → Parses IsAttribute F tokens r s2
 parses_attribute is q = parses_as attribute_is (λ u v x h may f. attribute_out u x h) (parses_mark is q)
 

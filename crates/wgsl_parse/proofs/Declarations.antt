@@ -12,12 +12,12 @@ use Rattle.wgsl_syntax.specs.declared.statement.Statement.{Statement}
 use Rattle.wgsl_syntax.specs.declared.declaration.Attribute.{Attribute}
 use Rattle.wgsl_syntax.specs.declared.declaration.FormalParameter.{FormalParameter}
 use Rattle.wgsl_syntax.specs.declared.declaration.GlobalDeclaration.{GlobalDeclaration}
-use Rattle.wgsl_phrases.specs.declared.Stop.{Stop}
-use Rattle.wgsl_phrases.specs.Parsing.{first, Parses}
-use Rattle.wgsl_phrases.specs.Parsing.{at_end as at_the_end}
-use Rattle.wgsl_phrases.specs.Languages.{◌⌢◌, OptionallyListed, no_list, no_more, again}
-use Rattle.wgsl_phrases.specs.Sequences.{taken, Done, done, Then, next, Either, left, right}
-use Rattle.wgsl_phrases.proofs.Steps.{Inhabited, IsBarred, at_end, some_injective, parses_as, parses_done}
+use Rattle.wgsl_parser_spec.specs.declared.ParseFailure.{ParseFailure}
+use Rattle.wgsl_parser_spec.specs.Parsing.{first, Parses}
+use Rattle.wgsl_parser_spec.specs.Parsing.{at_end as at_the_end}
+use Rattle.wgsl_parser_spec.specs.Languages.{◌⌢◌, OptionallyListed, no_list, no_more, again}
+use Rattle.wgsl_parser_spec.specs.Sequences.{taken, Done, done, Then, next, Either, left, right}
+use Rattle.wgsl_parser_spec.proofs.Steps.{Inhabited, IsBarred, at_end, some_injective, parses_as, parses_done}
 use Rattle.wgsl_grammar.specs.Terminals.{fixed, word, IsComma, type_named}
 use Rattle.wgsl_grammar.specs.Expressions.{IsSum}
 use Rattle.wgsl_grammar.specs.Attributes.{fragment, location}
@@ -67,7 +67,7 @@ type_is u x (next (ident {id = id} {s = s}) d) = at_end d (λ b y. IsType (word 
 type_out : (u : List SpannedToken) (x : TypeExpressionOf Expression) → IsType u x → Then IsIdent (λ name. Done (type_named name.name)) u x
 type_out u x type = next ident done
 
-pub parses_type : {F : Option SpannedToken → Bool} {tokens s1 : List SpannedToken} {r : Result (TypeExpressionOf Expression) Stop}
+pub parses_type : {F : Option SpannedToken → Bool} {tokens s1 : List SpannedToken} {r : Result (TypeExpressionOf Expression) ParseFailure}
     → Parses (Then IsIdent (λ name. Done (type_named name.name))) F tokens r s1 → Parses IsType F tokens r s1
 parses_type p = parses_as type_is (λ u v x h may f. type_out u x h) p
 
@@ -82,7 +82,7 @@ parameter_out u x (parameter {w = b} c {attributes = attributes} {name = name} {
     let n : Then IsType (λ ty. Done (parameter_of attributes name ty)) (b ++ []) (parameter_of attributes name ty) = next h done in
     next l (next g (taken refl (rw (append-nil b) at n)))
 
-pub parses_parameter : {F : Option SpannedToken → Bool} {tokens s1 : List SpannedToken} {r : Result FormalParameter Stop} → Parses ParameterRest F tokens r s1
+pub parses_parameter : {F : Option SpannedToken → Bool} {tokens s1 : List SpannedToken} {r : Result FormalParameter ParseFailure} → Parses ParameterRest F tokens r s1
     → Parses IsParameter F tokens r s1
 parses_parameter p = parses_as parameter_is (λ u v x h may f. parameter_out u x h) p
 
@@ -107,7 +107,7 @@ annotation_out : (u : List SpannedToken) (x : Option (TypeExpressionOf Expressio
 annotation_out u x unannotated = left done
 annotation_out u x (annotated {u = a} {ty = ty} h) = let n : Then IsType (λ ty. Done (Some ty)) (a ++ []) (Some ty) = next h done in right (taken refl (rw (append-nil a) at n))
 
-pub parses_annotation : {F : Option SpannedToken → Bool} {tokens s1 : List SpannedToken} {r : Result (Option (TypeExpressionOf Expression)) Stop} → Parses Annotated F tokens r s1
+pub parses_annotation : {F : Option SpannedToken → Bool} {tokens s1 : List SpannedToken} {r : Result (Option (TypeExpressionOf Expression)) ParseFailure} → Parses Annotated F tokens r s1
     → Parses IsAnnotation F tokens r s1
 parses_annotation p = parses_as annotation_is (λ u v x h may f. annotation_out u x h) p
 
@@ -125,7 +125,7 @@ result_out u attributes ty (result_of {v = b} {ty = t} l h) =
     let n : Then IsType (λ ty. Done (returned attributes (Some ty))) (b ++ []) (returned attributes (Some t)) = next h done in
     right (taken refl (next l (rw (append-nil b) at n)))
 
-pub parses_result : {F : Option SpannedToken → Bool} {tokens s1 : List SpannedToken} {r : Result FunctionResult Stop} → Parses Resulting F tokens r s1
+pub parses_result : {F : Option SpannedToken → Bool} {tokens s1 : List SpannedToken} {r : Result FunctionResult ParseFailure} → Parses Resulting F tokens r s1
     → Parses IsFunctionResult F tokens r s1
 parses_result p = parses_as result_is (λ u v x h may f. result_out u x.attributes x.ty h) p
 
@@ -150,7 +150,7 @@ value_out : (u v tokens : List SpannedToken) (x : Option (Spanned Expression)) �
 value_out u v tokens x differs no_value may g = absurd (no_semicolon (first v) may (λ p e. differs p (sym g ∙ e)))
 value_out u v tokens x differs (value h) may g = let n : SomeValue (u ++ []) x = next h done in rw (append-nil u) at n
 
-pub parses_value : {tokens s1 : List SpannedToken} {r : Result (Option (Spanned Expression)) Stop} → ((p : Span) → first tokens ≢ Some (fixed f.Semicolon p))
+pub parses_value : {tokens s1 : List SpannedToken} {r : Result (Option (Spanned Expression)) ParseFailure} → ((p : Span) → first tokens ≢ Some (fixed f.Semicolon p))
     → Parses SomeValue ends_statement tokens r s1 → Parses IsValue ends_statement tokens r s1
 parses_value {tokens = tokens} differs p = parses_as value_is (λ u v x h may g. value_out u v tokens x differs h may g) p
 
@@ -188,7 +188,7 @@ body_out u x (returns {u = a} {x = y} {r = r} e h) =
     let n : Then (ReturnRest r) (λ x. Done (x ∷ [])) ((a ++ fixed f.Semicolon e ∷ []) ++ []) (return_of r y e ∷ []) = next (next h (taken refl done)) done in
     right (taken refl (rw (append-nil (a ++ fixed f.Semicolon e ∷ [])) at n))
 
-pub parses_body : {F : Option SpannedToken → Bool} {tokens s1 : List SpannedToken} {r : Result (List (Spanned Statement)) Stop} → Parses Statements F tokens r s1 → Parses IsBody F tokens r s1
+pub parses_body : {F : Option SpannedToken → Bool} {tokens s1 : List SpannedToken} {r : Result (List (Spanned Statement)) ParseFailure} → Parses Statements F tokens r s1 → Parses IsBody F tokens r s1
 parses_body p = parses_as body_is (λ u v x h may f. body_out u x h) p
 
 -- declarations by their first token
@@ -222,11 +222,11 @@ function_out tokens u v x differs (constant e z ha hb hw) g = absurd (differs _ 
 function_out tokens u v x differs (function n p q b z {return_attributes = attributes} {ty = ty} ht ha hb hw hx) g =
     next ht (taken refl (next ha (taken refl (next hb (taken refl (next {x = returned attributes ty} hw (taken refl (next hx (taken refl done)))))))))
 
-pub parses_constant : {F : Option SpannedToken → Bool} {tokens s1 s2 : List SpannedToken} {p : Span} {r : Result (Spanned GlobalDeclaration) Stop} → tokens ≡ fixed f.Const p ∷ s1
+pub parses_constant : {F : Option SpannedToken → Bool} {tokens s1 s2 : List SpannedToken} {p : Span} {r : Result (Spanned GlobalDeclaration) ParseFailure} → tokens ≡ fixed f.Const p ∷ s1
     → Parses (ConstantRest p) F s1 r s2 → Parses IsDeclaration F tokens r s2
 parses_constant {tokens = tokens} {s1 = s1} is q = parses_as constant_is (λ u v x h may f. constant_out tokens s1 u v x is h f) (parses_mark is q)
 
-pub parses_function : {F : Option SpannedToken → Bool} {tokens mid s2 : List SpannedToken} {r : Result (Spanned GlobalDeclaration) Stop} → mid ≡ tokens
+pub parses_function : {F : Option SpannedToken → Bool} {tokens mid s2 : List SpannedToken} {r : Result (Spanned GlobalDeclaration) ParseFailure} → mid ≡ tokens
     → ((p : Span) → first tokens ≢ Some (fixed f.Const p)) → Parses Attributed F mid r s2 → Parses IsDeclaration F tokens r s2
 parses_function {tokens = tokens} same differs p = parses_as function_is (λ u v x h may f. function_out tokens u v x differs h f) (rw same at p)
 

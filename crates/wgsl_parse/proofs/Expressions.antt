@@ -10,11 +10,11 @@ use Rattle.wgsl_token.specs.declared.token.SpannedToken.{SpannedToken}
 use Rattle.wgsl_syntax.specs.declared.expression.Expression.{Expression}
 use Rattle.wgsl_syntax.specs.declared.expression.Expression.TheVariants as e
 use Rattle.wgsl_syntax.specs.declared.expression.LiteralExpression.{LiteralExpression}
-use Rattle.wgsl_phrases.specs.declared.Stop.{Stop}
-use Rattle.wgsl_phrases.specs.declared.Stop.TheVariants.{Unexpected}
-use Rattle.wgsl_phrases.specs.Parsing.{first, Parses}
-use Rattle.wgsl_phrases.specs.Sequences.{Taking, taken, Done, done, Then, next, left, right, Chain, Listing, no_item, item, Separated, no_separator, separated}
-use Rattle.wgsl_phrases.proofs.Steps.{IsSingle, Inhabited, IsRung, IsBarred, chained_one, chained_more, chain_onto, at_end, some_injective, nowhere, parses_as, parses_done, parses_taking}
+use Rattle.wgsl_parser_spec.specs.declared.ParseFailure.{ParseFailure}
+use Rattle.wgsl_parser_spec.specs.declared.ParseFailure.TheVariants.{Unexpected}
+use Rattle.wgsl_parser_spec.specs.Parsing.{first, Parses}
+use Rattle.wgsl_parser_spec.specs.Sequences.{Taking, taken, Done, done, Then, next, left, right, Chain, Listing, no_item, item, Separated, no_separator, separated}
+use Rattle.wgsl_parser_spec.proofs.Steps.{IsSingle, Inhabited, IsRung, IsBarred, chained_one, chained_more, chain_onto, at_end, some_injective, nowhere, parses_as, parses_done, parses_taking}
 use Rattle.wgsl_grammar.specs.Terminals.{fixed, word, IsComma, literal_of, additive, multiplicative, node, type_named}
 use Rattle.wgsl_grammar.specs.Expressions.{IsPrimary, number, name, call, paren, IsArguments, no_arguments, arguments, IsExpressions, last_expression, last_and_comma, more_expressions, IsUnary, primary, negation, IsProduct, unary, times, IsSum, product, plus, negated, joined}
 use Rattle.wgsl_parse.specs.declared.cursor.Number.{Number}
@@ -189,7 +189,7 @@ named_out tokens u v k x is named (name {id = id} {s = s}) f = next (taken {o = 
 named_out tokens u v k x is named (call {id = id} {s = s} q h) f = next (taken {o = record { ident = record { name = id }; span = s }} refl done) (right (taken refl (next h (taken refl done))))
 named_out tokens u v k x is named (paren {p = p} q h) f = absurd (named (ap (λ (k : SpannedToken). name_of k.token) (sym (some_injective (f ∙ is)))))
 
-pub parses_named : {F : Option SpannedToken → Bool} {tokens s1 : List SpannedToken} {k : SpannedToken} {r : Result (Spanned Expression) Stop} → first tokens ≡ Some k → name_of k.token ≢ None
+pub parses_named : {F : Option SpannedToken → Bool} {tokens s1 : List SpannedToken} {k : SpannedToken} {r : Result (Spanned Expression) ParseFailure} → first tokens ≡ Some k → name_of k.token ≢ None
     → Parses (Then IsWord Named) F tokens r s1 → Parses IsPrimary F tokens r s1
 parses_named {tokens = tokens} {k = k} is named p = parses_as named_is (λ u v x h may f. named_out tokens u v k x is named h f) p
 
@@ -209,7 +209,7 @@ paren_out tokens s1 u v x is name g = absurd (no_paren (some_injective (g ∙ ap
 paren_out tokens s1 u v x is (call q h) g = absurd (no_paren (some_injective (g ∙ ap first is)))
 paren_out tokens s1 u v x is (paren q h) g = taken refl (next h (taken refl done))
 
-pub parses_paren : {F : Option SpannedToken → Bool} {tokens s1 s2 : List SpannedToken} {p : Span} {r : Result (Spanned Expression) Stop} → tokens ≡ fixed f.ParenLeft p ∷ s1
+pub parses_paren : {F : Option SpannedToken → Bool} {tokens s1 s2 : List SpannedToken} {p : Span} {r : Result (Spanned Expression) ParseFailure} → tokens ≡ fixed f.ParenLeft p ∷ s1
     → Parses (Parenthesized p) F s1 r s2 → Parses IsPrimary F tokens r s2
 parses_paren {tokens = tokens} {s1 = s1} is q = parses_as paren_is (λ u v x h may f. paren_out tokens s1 u v x is h f) (parses_mark is q)
 
@@ -223,7 +223,7 @@ no_primary_at tokens a b c u v x name f = let e = b _ (sym f) in cc
 no_primary_at tokens a b c u v x (call q h) f = let e = b _ (sym f) in cc
 no_primary_at tokens a b c u v x (paren q h) f = c _ (sym f)
 
-pub primary_refused : {F : Option SpannedToken → Bool} {old mid new : List SpannedToken} {e : Stop} → mid ≡ old → new ≡ mid → e ≡ Unexpected
+pub primary_refused : {F : Option SpannedToken → Bool} {old mid new : List SpannedToken} {e : ParseFailure} → mid ≡ old → new ≡ mid → e ≡ Unexpected
     → ((k : SpannedToken) (n : Number) → IsNumber k n → first old ≢ Some k) → ((k : SpannedToken) → first mid ≡ Some k → name_of k.token ≡ None)
     → ((p : Span) → first mid ≢ Some (fixed f.ParenLeft p)) → Parses IsPrimary F old (Err e) new
 primary_refused {old = old} {mid = mid} m n is x y z =
@@ -254,11 +254,11 @@ primary_only : (tokens u v : List SpannedToken) (x : Spanned Expression) → ((p
 primary_only tokens u v x differs (negation h) f = absurd (differs _ (sym f))
 primary_only tokens u v x differs (primary h) f = h
 
-pub parses_negation : {F : Option SpannedToken → Bool} {tokens s1 s2 : List SpannedToken} {p : Span} {r : Result (Spanned Expression) Stop} → tokens ≡ fixed f.Minus p ∷ s1
+pub parses_negation : {F : Option SpannedToken → Bool} {tokens s1 s2 : List SpannedToken} {p : Span} {r : Result (Spanned Expression) ParseFailure} → tokens ≡ fixed f.Minus p ∷ s1
     → Parses (Negated p) F s1 r s2 → Parses IsUnary F tokens r s2
 parses_negation {tokens = tokens} {s1 = s1} is q = parses_as negation_is (λ u v x h may f. negation_out tokens s1 u v x is h f) (parses_mark is q)
 
-pub parses_primary : {F : Option SpannedToken → Bool} {tokens mid s2 : List SpannedToken} {r : Result (Spanned Expression) Stop} → mid ≡ tokens
+pub parses_primary : {F : Option SpannedToken → Bool} {tokens mid s2 : List SpannedToken} {r : Result (Spanned Expression) ParseFailure} → mid ≡ tokens
     → ((p : Span) → first tokens ≢ Some (fixed f.Minus p)) → Parses IsPrimary F mid r s2 → Parses IsUnary F tokens r s2
 parses_primary {tokens = tokens} same differs p = parses_as (λ u x h. primary h) (λ u v x h may f. primary_only tokens u v x differs h f) (rw same at p)
 
@@ -294,7 +294,7 @@ mutual
 arguments_is : (u : List SpannedToken) (xs : List (Spanned Expression)) → Listing IsSum IsComma [] u xs → IsArguments u xs
 arguments_is u xs h = let (ys, is, a) = list_of h in subst (λ l. IsArguments u l) (sym is) a
 
-pub parses_arguments : {F : Option SpannedToken → Bool} {tokens s1 : List SpannedToken} {r : Result (List (Spanned Expression)) Stop} → Parses (Listing IsSum IsComma []) F tokens r s1
+pub parses_arguments : {F : Option SpannedToken → Bool} {tokens s1 : List SpannedToken} {r : Result (List (Spanned Expression)) ParseFailure} → Parses (Listing IsSum IsComma []) F tokens r s1
     → Parses IsArguments F tokens r s1
 parses_arguments p = parses_as arguments_is (λ u v x h may f. arguments_out u x h) p
 

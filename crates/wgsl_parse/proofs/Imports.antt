@@ -6,11 +6,11 @@ use Rattle.wgsl_path.specs.Paths.{ident_of}
 use Rattle.wgsl_token.specs.declared.token.Fixed.TheVariants as f
 use Rattle.wgsl_token.specs.declared.token.SpannedToken.{SpannedToken}
 use Rattle.wgsl_syntax.specs.declared.import.ImportStatement.{ImportStatement}
-use Rattle.wgsl_phrases.specs.declared.Stop.{Stop}
-use Rattle.wgsl_phrases.specs.Parsing.{first, Parses, anything}
-use Rattle.wgsl_phrases.specs.Languages.{◌⌢◌}
-use Rattle.wgsl_phrases.specs.Sequences.{taken, Done, done, Then, next, Chain, chain_end, link}
-use Rattle.wgsl_phrases.proofs.Steps.{outcomes, Inhabited, IsRung, IsBarred, at_end, parses_as, chained_one}
+use Rattle.wgsl_parser_spec.specs.declared.ParseFailure.{ParseFailure}
+use Rattle.wgsl_parser_spec.specs.Parsing.{first, Parses, anything}
+use Rattle.wgsl_parser_spec.specs.Languages.{◌⌢◌}
+use Rattle.wgsl_parser_spec.specs.Sequences.{taken, Done, done, Then, next, Chain, chain_end, link}
+use Rattle.wgsl_parser_spec.proofs.Steps.{outcomes, Inhabited, IsRung, IsBarred, at_end, parses_as, chained_one}
 use Rattle.wgsl_grammar.specs.Terminals.{fixed, word}
 use Rattle.wgsl_grammar.specs.Declarations.{IsIdent, ident, IsComponents, no_components, component, IsImport, importing, import_of}
 use Rattle.wgsl_parse.specs.declared.import.ItemPath.{ItemPath}
@@ -122,7 +122,7 @@ import_out u x (importing {u = a} {components = components} {id = id} s z h) =
     next (path_from h id s) (taken refl done) in
     taken refl (taken refl (taken refl (rw (append_assoc a (word id s ∷ []) (fixed f.Semicolon z ∷ [])) at n)))
 
-pub parses_import : {F : Option SpannedToken → Bool} {tokens s1 s2 : List SpannedToken} {p : Span} {r : Result ImportStatement Stop} → tokens ≡ fixed f.Import p ∷ s1
+pub parses_import : {F : Option SpannedToken → Bool} {tokens s1 s2 : List SpannedToken} {p : Span} {r : Result ImportStatement ParseFailure} → tokens ≡ fixed f.Import p ∷ s1
     → Parses ImportRest F s1 r s2 → Parses IsImport F tokens r s2
 parses_import is q = parses_as import_is (λ u v x h may f. import_out u x h) (parses_mark is q)
 

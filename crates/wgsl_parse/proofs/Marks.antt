@@ -7,11 +7,11 @@ use Rattle.wgsl_token.specs.declared.token.Token.{Token}
 use Rattle.wgsl_token.specs.declared.token.Token.TheVariants as t
 use Rattle.wgsl_token.specs.declared.token.Fixed.{Fixed as FixedToken}
 use Rattle.wgsl_token.specs.declared.token.SpannedToken.{SpannedToken}
-use Rattle.wgsl_phrases.specs.declared.Stop.{Stop}
-use Rattle.wgsl_phrases.specs.declared.Stop.TheVariants.{Unexpected}
-use Rattle.wgsl_phrases.specs.Parsing.{first, Parses, anything}
-use Rattle.wgsl_phrases.specs.Sequences.{taken, Done, done, Then, next, Either}
-use Rattle.wgsl_phrases.proofs.Steps.{IsSingle, Inhabited, Follows, parses_as, parses_done, parses_taking, refuses_taking, follows_taking, inhabited_taking, parses_absent, parses_present, at_end}
+use Rattle.wgsl_parser_spec.specs.declared.ParseFailure.{ParseFailure}
+use Rattle.wgsl_parser_spec.specs.declared.ParseFailure.TheVariants.{Unexpected}
+use Rattle.wgsl_parser_spec.specs.Parsing.{first, Parses, anything}
+use Rattle.wgsl_parser_spec.specs.Sequences.{taken, Done, done, Then, next, Either}
+use Rattle.wgsl_parser_spec.proofs.Steps.{IsSingle, Inhabited, Follows, parses_as, parses_done, parses_taking, refuses_taking, follows_taking, inhabited_taking, parses_absent, parses_present, at_end}
 use Rattle.wgsl_grammar.specs.Terminals.{fixed, word}
 use Rattle.wgsl_grammar.specs.Declarations.{IsIdent, ident}
 use Rattle.wgsl_parse.specs.declared.cursor.Word.{Word}
@@ -29,11 +29,11 @@ module _ {A : Type 0} {kind : FixedToken} {H : Span → List SpannedToken → A 
   pub inhabited_mark : ((p : Span) → Inhabited (H p)) → Inhabited (Mark kind H)
   inhabited_mark i = inhabited_taking (fixed kind origin) origin refl (i origin)
 
-  pub parses_mark : {F : Option SpannedToken → Bool} {s s1 s2 : List SpannedToken} {p : Span} {r : Result A Stop} → s ≡ fixed kind p ∷ s1
+  pub parses_mark : {F : Option SpannedToken → Bool} {s s1 s2 : List SpannedToken} {p : Span} {r : Result A ParseFailure} → s ≡ fixed kind p ∷ s1
       → Parses (H p) F s1 r s2 → Parses (Mark kind H) F s r s2
   parses_mark {p = p} is q = parses_taking p is refl q single_fixed
 
-  pub refuses_mark : {F : Option SpannedToken → Bool} {s rest : List SpannedToken} {e : Stop} → e ≡ Unexpected → rest ≡ s → ((p : Span) → first s ≢ Some (fixed kind p))
+  pub refuses_mark : {F : Option SpannedToken → Bool} {s rest : List SpannedToken} {e : ParseFailure} → e ≡ Unexpected → rest ≡ s → ((p : Span) → first s ≢ Some (fixed kind p))
       → ((p : Span) → Inhabited (H p)) → Parses (Mark kind H) F s (Err e) rest
   refuses_mark is same differs i = refuses_taking is same (λ k o op f. differs o (f ∙ ap Some op)) (inhabited_mark i)
 
@@ -44,7 +44,7 @@ module _ {A : Type 0} {kind : FixedToken} {H : Span → List SpannedToken → A 
       → Parses (Either (Done y) (Mark kind H)) F s (Ok y) rest
   absent_mark same differs = rw same (parses_absent (λ k o op f. differs o (f ∙ ap Some op)))
 
-  pub present_mark : {F : Option SpannedToken → Bool} {s s1 s2 : List SpannedToken} {p : Span} {y : A} {r : Result A Stop} → s ≡ fixed kind p ∷ s1
+  pub present_mark : {F : Option SpannedToken → Bool} {s s1 s2 : List SpannedToken} {p : Span} {y : A} {r : Result A ParseFailure} → s ≡ fixed kind p ∷ s1
       → F (Some (fixed kind p)) ≡ false → Parses (H p) F s1 r s2 → Parses (Either (Done y) (Mark kind H)) F s r s2
   present_mark {p = p} is stops q = parses_present p is refl stops q single_fixed
 
@@ -94,6 +94,6 @@ ident_is u x (next {x = w} (taken {k = k} is done) d) =
 ident_out : (u : List SpannedToken) (x : Ident) → IsIdent u x → Then IsWord (λ w. Done w.ident) u x
 ident_out u x (ident {id = id} {s = s}) = next (taken {o = record { ident = ident_of id; span = s }} refl done) done
 
-pub parses_ident : {F : Option SpannedToken → Bool} {s s1 : List SpannedToken} {r : Result Ident Stop} → Parses (Then IsWord (λ w. Done w.ident)) F s r s1
+pub parses_ident : {F : Option SpannedToken → Bool} {s s1 : List SpannedToken} {r : Result Ident ParseFailure} → Parses (Then IsWord (λ w. Done w.ident)) F s r s1
     → Parses IsIdent F s r s1
 parses_ident p = parses_as ident_is (λ u v x h may f. ident_out u x h) p

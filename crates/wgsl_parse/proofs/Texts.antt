@@ -5,9 +5,9 @@ use Rattle.std.proofs.lemmas.Option.{slice_get_cases}
 use Rattle.wgsl_token.specs.declared.token.SpannedToken.{SpannedToken}
 use Rattle.wgsl_token.specs.declared.error.Error.{Error}
 use Rattle.wgsl_syntax.specs.declared.unit.TranslationUnit.{TranslationUnit}
-use Rattle.wgsl_phrases.specs.Sentences.{IsFaultAt}
-use Rattle.wgsl_phrases.proofs.Steps.{some_injective}
-use Rattle.wgsl_phrases.proofs.Whole.{no_sentence, one_fault, not_short}
+use Rattle.wgsl_parser_spec.specs.Sentences.{IsFaultAt}
+use Rattle.wgsl_parser_spec.proofs.Steps.{some_injective}
+use Rattle.wgsl_parser_spec.proofs.Whole.{no_sentence, one_fault, not_short}
 use Rattle.wgsl_grammar.specs.Declarations.{IsUnit}
 use Rattle.wgsl_lex.specs.Tokens.{IsLexed}
 use Rattle.wgsl_token.specs.declared.token.Token.{Token}

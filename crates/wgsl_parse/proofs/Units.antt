@@ -5,12 +5,12 @@ use Rattle.wgsl_token.specs.declared.token.SpannedToken.{SpannedToken}
 use Rattle.wgsl_syntax.specs.declared.declaration.GlobalDeclaration.{GlobalDeclaration}
 use Rattle.wgsl_syntax.specs.declared.import.ImportStatement.{ImportStatement}
 use Rattle.wgsl_syntax.specs.declared.unit.TranslationUnit.{TranslationUnit}
-use Rattle.wgsl_phrases.specs.declared.Stop.{Stop}
-use Rattle.wgsl_phrases.specs.Parsing.{first, Parses}
-use Rattle.wgsl_phrases.specs.Parsing.{at_end as at_the_end}
-use Rattle.wgsl_phrases.specs.Languages.{Repeated, no_more, again}
-use Rattle.wgsl_phrases.specs.Sequences.{Done, done, Then, next}
-use Rattle.wgsl_phrases.proofs.Steps.{Inhabited, Follows, at_end, parses_as}
+use Rattle.wgsl_parser_spec.specs.declared.ParseFailure.{ParseFailure}
+use Rattle.wgsl_parser_spec.specs.Parsing.{first, Parses}
+use Rattle.wgsl_parser_spec.specs.Parsing.{at_end as at_the_end}
+use Rattle.wgsl_parser_spec.specs.Languages.{Repeated, no_more, again}
+use Rattle.wgsl_parser_spec.specs.Sequences.{Done, done, Then, next}
+use Rattle.wgsl_parser_spec.proofs.Steps.{Inhabited, Follows, at_end, parses_as}
 use Rattle.wgsl_grammar.specs.Attributes.{fragment, location}
 use Rattle.wgsl_grammar.specs.Declarations.{IsImport, IsDeclaration, constant, function, IsUnit, unit}
 use Rattle.wgsl_parse.specs.Follow.{ends_imports}
@@ -29,7 +29,7 @@ unit_out : (u : List SpannedToken) (x : TranslationUnit) → IsUnit u x → Then
 unit_out u x (unit {v = b} {imports = imports} {declarations = declarations} h g) =
     let n : Declared imports (b ++ []) (unit_of imports declarations) = next g done in next h (rw (append-nil b) at n)
 
-pub parses_unit : {F : Option SpannedToken → Bool} {tokens s1 : List SpannedToken} {r : Result TranslationUnit Stop} → Parses (Then (Repeated IsImport) Declared) F tokens r s1
+pub parses_unit : {F : Option SpannedToken → Bool} {tokens s1 : List SpannedToken} {r : Result TranslationUnit ParseFailure} → Parses (Then (Repeated IsImport) Declared) F tokens r s1
     → Parses IsUnit F tokens r s1
 parses_unit p = parses_as unit_is (λ u v x h may f. unit_out u x h) p
 

@@ -6,8 +6,8 @@ use Rattle.wgsl_token.specs.declared.token.Token.{Token}
 use Rattle.wgsl_token.specs.declared.token.Token.TheVariants as t
 use Rattle.wgsl_token.specs.declared.token.Fixed.{Fixed as FixedToken}
 use Rattle.wgsl_token.specs.declared.token.SpannedToken.{SpannedToken}
-use Rattle.wgsl_phrases.specs.Sequences.{Taking, Done}
-use Rattle.wgsl_phrases.specs.Parsing.{first}
+use Rattle.wgsl_parser_spec.specs.Sequences.{Taking, Done}
+use Rattle.wgsl_parser_spec.specs.Parsing.{first}
 use Rattle.wgsl_grammar.specs.Terminals.{fixed, word, literal_of, additive, multiplicative}
 use Rattle.wgsl_parse.specs.declared.cursor.Word.{Word}
 use Rattle.wgsl_parse.specs.declared.cursor.Number.{Number}

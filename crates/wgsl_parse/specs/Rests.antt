@@ -12,8 +12,8 @@ use Rattle.wgsl_syntax.specs.declared.declaration.FormalParameter.{FormalParamet
 use Rattle.wgsl_syntax.specs.declared.declaration.GlobalDeclaration.{GlobalDeclaration}
 use Rattle.wgsl_syntax.specs.declared.statement.Statement.{Statement}
 use Rattle.wgsl_syntax.specs.declared.import.ImportStatement.{ImportStatement}
-use Rattle.wgsl_phrases.specs.Languages.{OptionallyListed}
-use Rattle.wgsl_phrases.specs.Sequences.{Then, Done, Either, Chain}
+use Rattle.wgsl_parser_spec.specs.Languages.{OptionallyListed}
+use Rattle.wgsl_parser_spec.specs.Sequences.{Then, Done, Either, Chain}
 use Rattle.wgsl_grammar.specs.Terminals.{IsComma, node, type_named}
 use Rattle.wgsl_grammar.specs.Expressions.{IsSum, IsUnary, IsArguments, negated}
 use Rattle.wgsl_grammar.specs.Attributes.{fragment_of, location_of}

@@ -8,7 +8,7 @@ use Rattle.wgsl_token.specs.declared.error.Error.{Error}
 use Rattle.wgsl_token.specs.declared.error.ErrorKind.{ErrorKind}
 use Rattle.wgsl_token.specs.declared.error.ErrorKind.TheVariants.{InvalidToken, ReservedWord, UnexpectedToken, UnexpectedEof, OutOfMemory}
 use Rattle.wgsl_syntax.specs.declared.unit.TranslationUnit.{TranslationUnit}
-use Rattle.wgsl_phrases.specs.Sentences.{IsFaultAt, IsCutShort}
+use Rattle.wgsl_parser_spec.specs.Sentences.{IsFaultAt, IsCutShort}
 use Rattle.wgsl_grammar.specs.Declarations.{IsUnit}
 use Rattle.wgsl_lex.specs.Tokens.{IsLexed}
 

@@ -1,7 +1,7 @@
 //! Attributes (WGSL, "Attributes"): `@fragment` and `@location(..)`.
 
 ghost use Rattle.std.specs.Prelude.{◌≤◌, length};
-ghost use Rattle.wgsl_phrases.specs.Parsing.{Parses, anything};
+ghost use Rattle.wgsl_parser_spec.specs.Parsing.{Parses, anything};
 ghost use Rattle.wgsl_grammar.specs.Declarations.{IsAttributes};
 ghost use Rattle.wgsl_parse.specs.Follow.{ends_attributes};
 ghost use Rattle.wgsl_parse.specs.Rests.{LocationRest, AttributeRest};
@@ -9,13 +9,13 @@ ghost use Rattle.wgsl_parse.specs.Rests.{LocationRest, AttributeRest};
 use crate::cursor::Cursor;
 use crate::expression::sum;
 use wgsl_items::Items;
+use wgsl_parser_spec::ParseFailure;
 use wgsl_path::{Span, Spanned};
-use wgsl_phrases::Stop;
 use wgsl_syntax::{Attribute, AttributeNode, Attributes};
 use wgsl_token::Fixed;
 
 /// Behind `@location`, whose `@` stands at `first`.
-fn location(cursor: &mut Cursor<'_>, first: Span) -> Result<AttributeNode, Stop>
+fn location(cursor: &mut Cursor<'_>, first: Span) -> Result<AttributeNode, ParseFailure>
     ensures parses { Parses (LocationRest first) anything cursor.old result cursor.new }
     ensures shrinks { length cursor.new ≤ length cursor.old }
 {
@@ -28,7 +28,7 @@ fn location(cursor: &mut Cursor<'_>, first: Span) -> Result<AttributeNode, Stop>
 }
 
 /// Behind `@`, which stands at `first`.
-fn attribute(cursor: &mut Cursor<'_>, first: Span) -> Result<AttributeNode, Stop>
+fn attribute(cursor: &mut Cursor<'_>, first: Span) -> Result<AttributeNode, ParseFailure>
     ensures parses { Parses (AttributeRest first) anything cursor.old result cursor.new }
     ensures shrinks { length cursor.new ≤ length cursor.old }
 {
@@ -40,7 +40,7 @@ fn attribute(cursor: &mut Cursor<'_>, first: Span) -> Result<AttributeNode, Stop
 }
 
 /// The attributes before a function, a parameter or a result.
-pub fn attributes(cursor: &mut Cursor<'_>) -> Result<Attributes, Stop>
+pub fn attributes(cursor: &mut Cursor<'_>) -> Result<Attributes, ParseFailure>
     ensures parses { Parses IsAttributes ends_attributes cursor.old result cursor.new }
     ensures shrinks { length cursor.new ≤ length cursor.old }
 {

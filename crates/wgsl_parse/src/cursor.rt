@@ -3,7 +3,7 @@
 ghost use Rattle.std.specs.Prelude.{◌≡◌, ◌≢◌, ◌∷◌, ◌≤◌, ◌↔◌, Some, None, IsTrue, IsFalse, IfOk, IfErr, MatchOption, length};
 ghost use Rattle.std.specs.Option.{option_copied};
 ghost use Rattle.wgsl_path.specs.declared.span.Span as declared_span;
-ghost use Rattle.wgsl_phrases.specs.Parsing.{first, Takes, Parses, anything};
+ghost use Rattle.wgsl_parser_spec.specs.Parsing.{first, Takes, Parses, anything};
 ghost use Rattle.wgsl_grammar.specs.Terminals as terminal;
 ghost use Rattle.wgsl_grammar.specs.Declarations.{IsIdent};
 ghost use Rattle.wgsl_parse.specs.Marks.{TakesFixed, TakesWord, IsAdditive, IsMultiplicative, IsNumber, IsWord, name_of};
@@ -12,8 +12,8 @@ use std::alloc::Global;
 use std::marker::Model;
 use wgsl_items::Text;
 use wgsl_operators::BinaryOperator;
+use wgsl_parser_spec::ParseFailure;
 use wgsl_path::{Ident, Span};
-use wgsl_phrases::Stop;
 use wgsl_syntax::LiteralExpression;
 use wgsl_token::{Fixed, SpannedToken, Token};
 
@@ -171,15 +171,15 @@ impl<'a> Cursor<'a> {
     }
 
     /// Takes the next token, which must have this spelling.
-    pub fn expect(&mut self, kind: Fixed) -> Result<Span, Stop>
+    pub fn expect(&mut self, kind: Fixed) -> Result<Span, ParseFailure>
         ensures ok { IfOk result (λ s. self.old ≡ terminal.fixed kind s ∷ self.new) }
-        ensures unexpected { IfErr result (λ e. e ≡ Stop.Unexpected) }
+        ensures unexpected { IfErr result (λ e. e ≡ ParseFailure.Unexpected) }
         ensures err { IfErr result (λ e. self.new ≡ self.old) }
         ensures differs { IfErr result (λ e. (s : declared_span.Span) → first self.old ≢ Some (terminal.fixed kind s)) }
     {
         match self.eat(kind) {
             Some(span) => Ok(span),
-            None => Err(Stop::Unexpected),
+            None => Err(ParseFailure::Unexpected),
         }
     }
 
@@ -205,15 +205,15 @@ impl<'a> Cursor<'a> {
     }
 
     /// Takes the next token, which must be this identifier.
-    pub fn expect_word(&mut self, name: &str) -> Result<Span, Stop>
+    pub fn expect_word(&mut self, name: &str) -> Result<Span, ParseFailure>
         ensures ok { IfOk result (λ s. self.old ≡ terminal.word name.now s ∷ self.new) }
-        ensures unexpected { IfErr result (λ e. e ≡ Stop.Unexpected) }
+        ensures unexpected { IfErr result (λ e. e ≡ ParseFailure.Unexpected) }
         ensures err { IfErr result (λ e. self.new ≡ self.old) }
         ensures differs { IfErr result (λ e. (s : declared_span.Span) → first self.old ≢ Some (terminal.word name.now s)) }
     {
         match self.eat_word(name) {
             Some(span) => Ok(span),
-            None => Err(Stop::Unexpected),
+            None => Err(ParseFailure::Unexpected),
         }
     }
 
@@ -260,15 +260,15 @@ impl<'a> Cursor<'a> {
     }
 
     /// An identifier and its place.
-    pub fn word(&mut self) -> Result<Word, Stop>
+    pub fn word(&mut self) -> Result<Word, ParseFailure>
         ensures parses { Parses IsWord anything self.old result self.new }
         ensures shrinks { length self.new ≤ length self.old }
     {
         let Some(next) = self.peek() else {
-            return Err(Stop::Unexpected);
+            return Err(ParseFailure::Unexpected);
         };
         let Some(name) = name(&next.token) else {
-            return Err(Stop::Unexpected);
+            return Err(ParseFailure::Unexpected);
         };
         let name = Text::from_str(self.alloc, name)?;
         self.bump();
@@ -279,7 +279,7 @@ impl<'a> Cursor<'a> {
     }
 
     /// An identifier.
-    pub fn ident(&mut self) -> Result<Ident, Stop>
+    pub fn ident(&mut self) -> Result<Ident, ParseFailure>
         ensures parses { Parses IsIdent anything self.old result self.new }
         ensures shrinks { length self.new ≤ length self.old }
     {

@@ -1,8 +1,8 @@
 //! Declarations of a module.
 
 ghost use Rattle.std.specs.Prelude.{◌≡◌, [], ◌≤◌, ◌<◌, OnOk, length};
-ghost use Rattle.wgsl_phrases.specs.Languages.{OptionallyListed, Repeated};
-ghost use Rattle.wgsl_phrases.specs.Parsing.{Parses, anything, at_end};
+ghost use Rattle.wgsl_parser_spec.specs.Languages.{OptionallyListed, Repeated};
+ghost use Rattle.wgsl_parser_spec.specs.Parsing.{Parses, anything, at_end};
 ghost use Rattle.wgsl_grammar.specs.Terminals.{IsComma};
 ghost use Rattle.wgsl_grammar.specs.Declarations as grammar;
 ghost use Rattle.wgsl_grammar.specs.Declarations.{IsType, IsParameter, IsAnnotation, IsValue, IsBody, IsDeclaration};
@@ -13,8 +13,8 @@ use crate::attribute::attributes;
 use crate::cursor::Cursor;
 use crate::expression::{sum, type_named};
 use wgsl_items::Items;
+use wgsl_parser_spec::ParseFailure;
 use wgsl_path::{Span, Spanned};
-use wgsl_phrases::Stop;
 use wgsl_syntax::{
     Attributes, CompoundStatementOf, Declaration, DeclarationKind, ExpressionNode, FormalParameter,
     Function, GlobalDeclaration, GlobalDeclarationNode, ReturnStatement, Statement, StatementNode,
@@ -30,7 +30,7 @@ pub struct FunctionResult {
 }
 
 /// A type: a name.
-fn type_expression(cursor: &mut Cursor<'_>) -> Result<TypeExpression, Stop>
+fn type_expression(cursor: &mut Cursor<'_>) -> Result<TypeExpression, ParseFailure>
     ensures parses { Parses IsType anything cursor.old result cursor.new }
     ensures shrinks { length cursor.new ≤ length cursor.old }
 {
@@ -38,7 +38,7 @@ fn type_expression(cursor: &mut Cursor<'_>) -> Result<TypeExpression, Stop>
     Ok(type_named(ident))
 }
 
-fn parameter(cursor: &mut Cursor<'_>) -> Result<FormalParameter, Stop>
+fn parameter(cursor: &mut Cursor<'_>) -> Result<FormalParameter, ParseFailure>
     ensures parses { Parses IsParameter anything cursor.old result cursor.new }
     ensures shrinks { length cursor.new ≤ length cursor.old }
 {
@@ -54,7 +54,7 @@ fn parameter(cursor: &mut Cursor<'_>) -> Result<FormalParameter, Stop>
 }
 
 /// The parameters of a function, up to `)`.
-fn parameters(cursor: &mut Cursor<'_>) -> Result<Items<FormalParameter>, Stop>
+fn parameters(cursor: &mut Cursor<'_>) -> Result<Items<FormalParameter>, ParseFailure>
     ensures parses { Parses (OptionallyListed IsParameter IsComma) closes cursor.old result cursor.new }
     ensures shrinks { length cursor.new ≤ length cursor.old }
 {
@@ -69,7 +69,7 @@ fn parameters(cursor: &mut Cursor<'_>) -> Result<Items<FormalParameter>, Stop>
 }
 
 /// `:` and a type, or nothing.
-fn annotation(cursor: &mut Cursor<'_>) -> Result<Option<TypeExpression>, Stop>
+fn annotation(cursor: &mut Cursor<'_>) -> Result<Option<TypeExpression>, ParseFailure>
     ensures parses { Parses IsAnnotation ends_annotation cursor.old result cursor.new }
     ensures shrinks { length cursor.new ≤ length cursor.old }
 {
@@ -81,7 +81,7 @@ fn annotation(cursor: &mut Cursor<'_>) -> Result<Option<TypeExpression>, Stop>
 }
 
 /// `->`, attributes and a type, or nothing.
-fn function_result(cursor: &mut Cursor<'_>) -> Result<FunctionResult, Stop>
+fn function_result(cursor: &mut Cursor<'_>) -> Result<FunctionResult, ParseFailure>
     ensures parses { Parses IsFunctionResult ends_result cursor.old result cursor.new }
     ensures shrinks { length cursor.new ≤ length cursor.old }
 {
@@ -100,7 +100,7 @@ fn function_result(cursor: &mut Cursor<'_>) -> Result<FunctionResult, Stop>
 }
 
 /// Behind `const`, which stands at `first`.
-fn constant(cursor: &mut Cursor<'_>, first: Span) -> Result<GlobalDeclarationNode, Stop>
+fn constant(cursor: &mut Cursor<'_>, first: Span) -> Result<GlobalDeclarationNode, ParseFailure>
     ensures parses { Parses (ConstantRest first) anything cursor.old result cursor.new }
     ensures shrinks { length cursor.new ≤ length cursor.old }
 {
@@ -120,7 +120,7 @@ fn constant(cursor: &mut Cursor<'_>, first: Span) -> Result<GlobalDeclarationNod
 }
 
 /// The value of a `return`, up to `;`.
-fn value(cursor: &mut Cursor<'_>) -> Result<Option<ExpressionNode>, Stop>
+fn value(cursor: &mut Cursor<'_>) -> Result<Option<ExpressionNode>, ParseFailure>
     ensures parses { Parses IsValue ends_statement cursor.old result cursor.new }
     ensures shrinks { length cursor.new ≤ length cursor.old }
 {
@@ -132,7 +132,7 @@ fn value(cursor: &mut Cursor<'_>) -> Result<Option<ExpressionNode>, Stop>
 }
 
 /// Behind `return`, which stands at `first`.
-fn return_statement(cursor: &mut Cursor<'_>, first: Span) -> Result<StatementNode, Stop>
+fn return_statement(cursor: &mut Cursor<'_>, first: Span) -> Result<StatementNode, ParseFailure>
     ensures parses { Parses (ReturnRest first) anything cursor.old result cursor.new }
     ensures shrinks { length cursor.new ≤ length cursor.old }
 {
@@ -146,7 +146,7 @@ fn return_statement(cursor: &mut Cursor<'_>, first: Span) -> Result<StatementNod
 }
 
 /// The statements of a function.
-fn body(cursor: &mut Cursor<'_>) -> Result<Items<StatementNode>, Stop>
+fn body(cursor: &mut Cursor<'_>) -> Result<Items<StatementNode>, ParseFailure>
     ensures parses { Parses IsBody ends_body cursor.old result cursor.new }
     ensures shrinks { length cursor.new ≤ length cursor.old }
 {
@@ -174,7 +174,7 @@ fn function(
     cursor: &mut Cursor<'_>,
     attributes: Attributes,
     keyword: Span,
-) -> Result<GlobalDeclarationNode, Stop>
+) -> Result<GlobalDeclarationNode, ParseFailure>
     ensures parses { Parses (FunctionRest attributes keyword) anything cursor.old result cursor.new }
     ensures shrinks { length cursor.new ≤ length cursor.old }
 {
@@ -202,7 +202,7 @@ fn function(
     Ok(Spanned::new(cursor.alloc(), tree, span)?)
 }
 
-fn declaration(cursor: &mut Cursor<'_>) -> Result<GlobalDeclarationNode, Stop>
+fn declaration(cursor: &mut Cursor<'_>) -> Result<GlobalDeclarationNode, ParseFailure>
     ensures parses { Parses IsDeclaration anything cursor.old result cursor.new }
     ensures shrinks { OnOk result (length cursor.new < length cursor.old) }
     ensures within { length cursor.new ≤ length cursor.old }
@@ -216,7 +216,7 @@ fn declaration(cursor: &mut Cursor<'_>) -> Result<GlobalDeclarationNode, Stop>
 }
 
 /// Declarations up to the end.
-pub fn declarations(cursor: &mut Cursor<'_>) -> Result<Items<GlobalDeclarationNode>, Stop>
+pub fn declarations(cursor: &mut Cursor<'_>) -> Result<Items<GlobalDeclarationNode>, ParseFailure>
     ensures parses { Parses (Repeated IsDeclaration) at_end cursor.old result cursor.new }
     ensures all { OnOk result (cursor.new ≡ []) }
     ensures shrinks { length cursor.new ≤ length cursor.old }

@@ -1,7 +1,7 @@
 //! Expressions (WGSL, "Expression Grammar Summary"): a function for each level.
 
 ghost use Rattle.std.specs.Prelude.{◌≡◌, ◌≤◌, length};
-ghost use Rattle.wgsl_phrases.specs.Parsing.{Parses};
+ghost use Rattle.wgsl_parser_spec.specs.Parsing.{Parses};
 ghost use Rattle.wgsl_grammar.specs.Terminals as terminal;
 ghost use Rattle.wgsl_grammar.specs.Expressions.{IsPrimary, IsUnary, IsProduct, IsSum, IsArguments};
 ghost use Rattle.wgsl_parse.specs.Follow.{ends_primary, ends_product, ends_sum, closes};
@@ -9,8 +9,8 @@ ghost use Rattle.wgsl_parse.specs.Rests.{Parenthesized, Named};
 
 use crate::cursor::{Cursor, Word};
 use wgsl_items::{Boxed, Items};
+use wgsl_parser_spec::ParseFailure;
 use wgsl_path::{Ident, Span, Spanned};
-use wgsl_phrases::Stop;
 use wgsl_syntax::{
     BinaryExpressionOf, Expression, ExpressionNode, FunctionCallOf, ParenthesizedExpressionOf,
     TypeExpression, UnaryExpressionOf, UnaryOperator,
@@ -30,7 +30,7 @@ pub fn type_named(ident: Ident) -> TypeExpression
 
 /// Behind `(`.
 #[cycle(expression)]
-fn parenthesized(cursor: &mut Cursor<'_>, opening: Span) -> Result<ExpressionNode, Stop>
+fn parenthesized(cursor: &mut Cursor<'_>, opening: Span) -> Result<ExpressionNode, ParseFailure>
     ensures parses { Parses (Parenthesized opening) ends_primary cursor.old result cursor.new }
     ensures shrinks { length cursor.new ≤ length cursor.old }
 {
@@ -42,7 +42,7 @@ fn parenthesized(cursor: &mut Cursor<'_>, opening: Span) -> Result<ExpressionNod
 
 /// Behind a name.
 #[cycle(expression)]
-fn named(cursor: &mut Cursor<'_>, word: Word) -> Result<ExpressionNode, Stop>
+fn named(cursor: &mut Cursor<'_>, word: Word) -> Result<ExpressionNode, ParseFailure>
     ensures parses { Parses (Named word) ends_primary cursor.old result cursor.new }
     ensures shrinks { length cursor.new ≤ length cursor.old }
 {
@@ -60,7 +60,7 @@ fn named(cursor: &mut Cursor<'_>, word: Word) -> Result<ExpressionNode, Stop>
 
 /// The arguments of a call, up to `)`.
 #[cycle(expression)]
-fn arguments(cursor: &mut Cursor<'_>) -> Result<Items<ExpressionNode>, Stop>
+fn arguments(cursor: &mut Cursor<'_>) -> Result<Items<ExpressionNode>, ParseFailure>
     ensures parses { Parses IsArguments closes cursor.old result cursor.new }
     ensures shrinks { length cursor.new ≤ length cursor.old }
 {
@@ -75,7 +75,7 @@ fn arguments(cursor: &mut Cursor<'_>) -> Result<Items<ExpressionNode>, Stop>
 }
 
 #[cycle(expression)]
-fn primary(cursor: &mut Cursor<'_>) -> Result<ExpressionNode, Stop>
+fn primary(cursor: &mut Cursor<'_>) -> Result<ExpressionNode, ParseFailure>
     ensures parses { Parses IsPrimary ends_primary cursor.old result cursor.new }
     ensures shrinks { length cursor.new ≤ length cursor.old }
 {
@@ -92,7 +92,7 @@ fn primary(cursor: &mut Cursor<'_>) -> Result<ExpressionNode, Stop>
 }
 
 #[cycle(expression)]
-fn unary(cursor: &mut Cursor<'_>) -> Result<ExpressionNode, Stop>
+fn unary(cursor: &mut Cursor<'_>) -> Result<ExpressionNode, ParseFailure>
     ensures parses { Parses IsUnary ends_primary cursor.old result cursor.new }
     ensures shrinks { length cursor.new ≤ length cursor.old }
 {
@@ -109,7 +109,7 @@ fn unary(cursor: &mut Cursor<'_>) -> Result<ExpressionNode, Stop>
 }
 
 #[cycle(expression)]
-fn product(cursor: &mut Cursor<'_>) -> Result<ExpressionNode, Stop>
+fn product(cursor: &mut Cursor<'_>) -> Result<ExpressionNode, ParseFailure>
     ensures parses { Parses IsProduct ends_product cursor.old result cursor.new }
     ensures shrinks { length cursor.new ≤ length cursor.old }
 {
@@ -129,7 +129,7 @@ fn product(cursor: &mut Cursor<'_>) -> Result<ExpressionNode, Stop>
 
 /// An expression.
 #[cycle(expression)]
-pub fn sum(cursor: &mut Cursor<'_>) -> Result<ExpressionNode, Stop>
+pub fn sum(cursor: &mut Cursor<'_>) -> Result<ExpressionNode, ParseFailure>
     ensures parses { Parses IsSum ends_sum cursor.old result cursor.new }
     ensures shrinks { length cursor.new ≤ length cursor.old }
 {

@@ -1,16 +1,16 @@
 //! Imports (WESL, "Imports").
 
 ghost use Rattle.std.specs.Prelude.{◌≤◌, length};
-ghost use Rattle.wgsl_phrases.specs.Languages.{Repeated};
-ghost use Rattle.wgsl_phrases.specs.Parsing.{Parses, anything};
+ghost use Rattle.wgsl_parser_spec.specs.Languages.{Repeated};
+ghost use Rattle.wgsl_parser_spec.specs.Parsing.{Parses, anything};
 ghost use Rattle.wgsl_grammar.specs.Declarations.{IsImport};
 ghost use Rattle.wgsl_parse.specs.Follow.{ends_path, ends_imports};
 ghost use Rattle.wgsl_parse.specs.Rests.{IsItemPath, ImportRest};
 
 use crate::cursor::Cursor;
 use wgsl_items::{Boxed, Items, Text};
+use wgsl_parser_spec::ParseFailure;
 use wgsl_path::{Ident, ModulePath, PathOrigin};
-use wgsl_phrases::Stop;
 use wgsl_syntax::{ImportContent, ImportItem, ImportStatement};
 use wgsl_token::Fixed;
 
@@ -22,7 +22,7 @@ pub struct ItemPath {
 }
 
 /// Names with `::` between.
-fn item_path(cursor: &mut Cursor<'_>) -> Result<ItemPath, Stop>
+fn item_path(cursor: &mut Cursor<'_>) -> Result<ItemPath, ParseFailure>
     ensures parses { Parses IsItemPath ends_path cursor.old result cursor.new }
     ensures shrinks { length cursor.new ≤ length cursor.old }
 {
@@ -38,7 +38,7 @@ fn item_path(cursor: &mut Cursor<'_>) -> Result<ItemPath, Stop>
 }
 
 /// Behind `import`.
-fn import(cursor: &mut Cursor<'_>) -> Result<ImportStatement, Stop>
+fn import(cursor: &mut Cursor<'_>) -> Result<ImportStatement, ParseFailure>
     ensures parses { Parses ImportRest anything cursor.old result cursor.new }
     ensures shrinks { length cursor.new ≤ length cursor.old }
 {
@@ -63,7 +63,7 @@ fn import(cursor: &mut Cursor<'_>) -> Result<ImportStatement, Stop>
 }
 
 /// The imports of a module.
-pub fn imports(cursor: &mut Cursor<'_>) -> Result<Items<ImportStatement>, Stop>
+pub fn imports(cursor: &mut Cursor<'_>) -> Result<Items<ImportStatement>, ParseFailure>
     ensures parses { Parses (Repeated IsImport) ends_imports cursor.old result cursor.new }
     ensures shrinks { length cursor.new ≤ length cursor.old }
 {

@@ -1,15 +1,15 @@
 //! Whole modules.
 
 ghost use Rattle.std.specs.Prelude.{◌≡◌, ◌⊎◌, [], ◌≤◌, IfOk, OnOk, Ok, Err, length};
-ghost use Rattle.wgsl_phrases.specs.Parsing.{Parses, at_end};
-ghost use Rattle.wgsl_phrases.specs.Sentences.{IsFaultAt, IsCutShort};
+ghost use Rattle.wgsl_parser_spec.specs.Parsing.{Parses, at_end};
+ghost use Rattle.wgsl_parser_spec.specs.Sentences.{IsFaultAt, IsCutShort};
 ghost use Rattle.wgsl_grammar.specs.Declarations.{IsUnit};
 
 use crate::cursor::Cursor;
 use crate::declaration::declarations;
 use crate::import::imports;
 use std::alloc::Global;
-use wgsl_phrases::Stop;
+use wgsl_parser_spec::ParseFailure;
 use wgsl_syntax::TranslationUnit;
 use wgsl_token::SpannedToken;
 
@@ -24,7 +24,7 @@ pub enum ParseError {
     UnexpectedEof,
 }
 
-fn translation_unit(cursor: &mut Cursor<'_>) -> Result<TranslationUnit, Stop>
+fn translation_unit(cursor: &mut Cursor<'_>) -> Result<TranslationUnit, ParseFailure>
     ensures parses { Parses IsUnit at_end cursor.old result cursor.new }
     ensures all { OnOk result (cursor.new ≡ []) }
     ensures shrinks { length cursor.new ≤ length cursor.old }
@@ -48,8 +48,8 @@ pub fn parse_tokens(alloc: Global, tokens: &[SpannedToken]) -> Result<Translatio
     let mut cursor = Cursor::new(alloc, tokens);
     match translation_unit(&mut cursor) {
         Ok(unit) => Ok(unit),
-        Err(Stop::Memory) => Err(ParseError::OutOfMemory),
-        Err(Stop::Unexpected) => {
+        Err(ParseFailure::Memory) => Err(ParseError::OutOfMemory),
+        Err(ParseFailure::Unexpected) => {
             let left = cursor.left();
             if left == 0 {
                 return Err(ParseError::UnexpectedEof);

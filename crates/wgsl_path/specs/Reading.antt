@@ -18,11 +18,11 @@ parts_behind part (c ∷ d ∷ cs) = if (c == 58) && (d == 58) then part ∷ par
 abbrev pub parts : List ℕ → List (List ℕ)
 parts text = parts_behind [] text
 
-abbrev pub Reads : Type 0 → Type 0
-Reads A = Result A ModulePathParseError
+abbrev pub PathResult : Type 0 → Type 0
+PathResult A = Result A ModulePathParseError
 
 -- a name behind the origin: not empty, and none of the words of origins
-abbrev pub component_of : List ℕ → Reads (List ℕ)
+abbrev pub component_of : List ℕ → PathResult (List ℕ)
 component_of part =
     if bytes_eq part (codes "") then Err Empty
     else if bytes_eq part (codes "package") then Err MisplacedPackage
@@ -30,25 +30,25 @@ component_of part =
     else if bytes_eq part (codes "super") then Err MisplacedSuper
     else Ok part
 
-abbrev pub then_read : {A B : Type 0} → Reads A → (A → Reads B) → Reads B
+abbrev pub then_read : {A B : Type 0} → PathResult A → (A → PathResult B) → PathResult B
 then_read (Ok x) f = f x
 then_read (Err e) f = Err e
 
 -- the names behind the origin, or what is wrong with the first that is none
-abbrev pub components_of : List (List ℕ) → Reads (List (List ℕ))
+abbrev pub components_of : List (List ℕ) → PathResult (List (List ℕ))
 components_of [] = Ok []
 components_of (part ∷ rest) = then_read (component_of part) (λ name. then_read (components_of rest) (λ names. Ok (name ∷ names)))
 
-abbrev pub path_behind : PathOrigin → List (List ℕ) → Reads ModulePath
+abbrev pub path_behind : PathOrigin → List (List ℕ) → PathResult ModulePath
 path_behind origin rest = then_read (components_of rest) (λ components. Ok (record { origin = origin; components = components }))
 
 -- behind so many `super`: more of them, or names
-abbrev pub path_above : ℕ → List (List ℕ) → Reads ModulePath
+abbrev pub path_above : ℕ → List (List ℕ) → PathResult ModulePath
 path_above levels [] = path_behind (Relative levels) []
 path_above levels (part ∷ rest) = if bytes_eq part (codes "super") then path_above (suc levels) rest else path_behind (Relative levels) (part ∷ rest)
 
 -- A path is `package`, `self`, one or more `super`, or a package's name; then names.
-abbrev pub path_of : List (List ℕ) → Reads ModulePath
+abbrev pub path_of : List (List ℕ) → PathResult ModulePath
 path_of [] = Err Empty
 path_of (part ∷ rest) =
     if bytes_eq part (codes "") then Err Empty
@@ -63,10 +63,10 @@ left_parts None = []
 left_parts (Some rest) = parts rest.now
 
 -- What is meant goes on from what was read; or it is refused so, or memory was refused.
-abbrev pub Continues : (A B : Type 0) → Reads A → Reads B → (A → Reads B) → Type 0
+abbrev pub Continues : (A B : Type 0) → PathResult A → PathResult B → (A → PathResult B) → Type 0
 Continues A B (Ok x) meant further = meant ≡ further x
 Continues A B (Err e) meant further = (e ≡ OutOfMemory) ⊎ (meant ≡ Err e)
 
 -- What is answered is meant, or memory was refused.
-abbrev pub Answers : (A : Type 0) → Reads A → Reads A → Type 0
+abbrev pub Answers : (A : Type 0) → PathResult A → PathResult A → Type 0
 Answers A answer meant = Continues A A answer meant (λ x. Ok x)

@@ -15,7 +15,7 @@ use Rattle.wgsl_syntax.specs.declared.declaration.DeclarationKind.{DeclarationKi
 use Rattle.wgsl_syntax.specs.declared.declaration.DeclarationKind.TheVariants.{Const}
 use Rattle.wgsl_syntax.specs.declared.import.ImportContent.{ImportContent}
 use Rattle.wgsl_syntax.specs.declared.import.ImportContent.TheVariants.{Item}
-use Rattle.wgsl_syntax.specs.Tree.{Exp, literal, parenthesized, unary, binary, call, named, Exps, nil, cons, Typ, simple, templated, Attr, fragment, location, Stm, returning, Block, Param, Decl, variable, function, Imp, Unit}
+use Rattle.wgsl_syntax.specs.Tree.{Exp, literal, parenthesized, unary, binary, call, named, Exps, nil, cons, Typ, simple, templated, Attr, fragment, location, Stm, returning, Block, Param, Decl, variable, function, Imp, UnitTree}
 
 -- a whole number in decimal, with its suffix
 abbrev pub literal_text : LiteralExpression → List ℕ
@@ -154,5 +154,5 @@ abbrev pub imp_text : Imp → List ℕ
 imp_text i = attrs_text i.attributes ++ codes "import " ++ qualifier_text i.path ++ item_text i.item i.rename ++ codes ";\n"
 
 -- the imports, and then the declarations
-abbrev pub unit_text : Unit → List ℕ
+abbrev pub unit_text : UnitTree → List ℕ
 unit_text u = flat_map imp_text u.imports ++ flat_map decl_text u.declarations

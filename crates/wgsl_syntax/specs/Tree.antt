@@ -59,6 +59,6 @@ pub record Imp : Type 0 where
   pub item : List ℕ
   pub rename : Option (List ℕ)
 
-pub record Unit : Type 0 where
+pub record UnitTree : Type 0 where
   pub imports : List Imp
   pub declarations : List Decl

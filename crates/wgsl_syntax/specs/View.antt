@@ -20,7 +20,7 @@ use Rattle.wgsl_syntax.specs.declared.import.ImportStatement.{ImportStatement}
 use Rattle.wgsl_syntax.specs.declared.import.ImportContent.{ImportContent}
 use Rattle.wgsl_syntax.specs.declared.import.ImportContent.TheVariants.{Item}
 use Rattle.wgsl_syntax.specs.declared.unit.TranslationUnit.{TranslationUnit}
-use Rattle.wgsl_syntax.specs.Tree.{Exp, literal, parenthesized, unary, binary, call, named, exps, Typ, simple, templated, Attr, fragment, location, Stm, returning, Block, Param, Decl, variable, function, Imp, Unit}
+use Rattle.wgsl_syntax.specs.Tree.{Exp, literal, parenthesized, unary, binary, call, named, exps, Typ, simple, templated, Attr, fragment, location, Stm, returning, Block, Param, Decl, variable, function, Imp, UnitTree}
 
 abbrev pub typed : {A : Type 0} → (A → Exp) → Option ModulePath → List ℕ → Option (List (TemplateArgOf A)) → Typ
 typed f path name None = simple path name
@@ -79,5 +79,5 @@ import_tree i = item_of i.content
     item_of : ImportContent → Imp
     item_of (Item x) = record { attributes = attributes_tree i.attributes; path = i.path; item = x.ident.name; rename = option_map (λ r. r.name) x.rename }
 
-abbrev pub unit_tree : TranslationUnit → Unit
+abbrev pub unit_tree : TranslationUnit → UnitTree
 unit_tree u = record { imports = map import_tree u.imports; declarations = map (λ n. declaration_tree n.node) u.global_declarations }

@@ -68,13 +68,13 @@ fn wrapped_signed(z: i128) -> i32
 }
 
 /// An exact result, brought to its type: out of its range it wraps when the shader runs, but for abstract numbers.
-pub(crate) fn brought(
+pub(crate) fn wrap_or_fault(
     stage: ShaderStage,
     fault: NumberFault,
     ty: NumericType,
     z: i128,
 ) -> Result<Value, NumberFault>
-    ensures { result ≡ spec.brought stage fault ty z }
+    ensures { result ≡ spec.wrap_or_fault stage fault ty z }
 {
     match value_at(ty, z) {
         Some(value) => Ok(value),

@@ -5,7 +5,7 @@ ghost use Rattle.std.specs.Int.{w64};
 ghost use Rattle.wgsl_meaning.specs.Values as spec;
 
 use crate::conversion::convert_to;
-use crate::number::{brought, number, type_of, value_at};
+use crate::number::{number, type_of, value_at, wrap_or_fault};
 use wgsl_meaning::{NumberFault, NumericType, ShaderStage, Value};
 use wgsl_operators::{BinaryOperator, UnaryOperator};
 
@@ -13,13 +13,13 @@ fn negated(stage: ShaderStage, value: Value) -> Result<Value, NumberFault>
     ensures { result ≡ spec.negated stage value }
 {
     match value {
-        Value::AbstractInt(z) => brought(
+        Value::AbstractInt(z) => wrap_or_fault(
             stage,
             NumberFault::SubOverflow,
             NumericType::AbstractInt,
             -(z as i128),
         ),
-        Value::I32(z) => brought(
+        Value::I32(z) => wrap_or_fault(
             ShaderStage::Exec,
             NumberFault::SubOverflow,
             NumericType::I32,
@@ -68,13 +68,13 @@ fn divides(ty: NumericType, a: i128, b: i128) -> bool
 }
 
 // What stands in place of a fault when the shader runs.
-fn instead(
+fn lenient_or_fault(
     stage: ShaderStage,
     ty: NumericType,
     value: Result<Value, NumberFault>,
     fault: NumberFault,
 ) -> Result<Value, NumberFault>
-    ensures { result ≡ spec.instead stage ty value fault }
+    ensures { result ≡ spec.lenient_or_fault stage ty value fault }
 {
     match (stage, ty) {
         (ShaderStage::Exec, NumericType::I32 | NumericType::U32) => value,
@@ -89,9 +89,9 @@ fn division(stage: ShaderStage, ty: NumericType, a: i128, b: i128) -> Result<Val
 {
     let fault = NumberFault::DivByZero;
     if divides(ty, a, b) {
-        brought(stage, fault, ty, a / b)
+        wrap_or_fault(stage, fault, ty, a / b)
     } else {
-        instead(stage, ty, brought(stage, fault, ty, a), fault)
+        lenient_or_fault(stage, ty, wrap_or_fault(stage, fault, ty, a), fault)
     }
 }
 
@@ -102,9 +102,9 @@ fn remainder(stage: ShaderStage, ty: NumericType, a: i128, b: i128) -> Result<Va
 {
     let fault = NumberFault::RemZeroDiv;
     if divides(ty, a, b) {
-        brought(stage, fault, ty, a % b)
+        wrap_or_fault(stage, fault, ty, a % b)
     } else {
-        instead(stage, ty, brought(stage, fault, ty, 0), fault)
+        lenient_or_fault(stage, ty, wrap_or_fault(stage, fault, ty, 0), fault)
     }
 }
 
@@ -120,9 +120,9 @@ fn arithmetic(
     ensures { result ≡ spec.arithmetic stage operator ty a b }
 {
     match operator {
-        BinaryOperator::Addition => brought(stage, NumberFault::AddOverflow, ty, a + b),
-        BinaryOperator::Subtraction => brought(stage, NumberFault::SubOverflow, ty, a - b),
-        BinaryOperator::Multiplication => brought(stage, NumberFault::MulOverflow, ty, a * b),
+        BinaryOperator::Addition => wrap_or_fault(stage, NumberFault::AddOverflow, ty, a + b),
+        BinaryOperator::Subtraction => wrap_or_fault(stage, NumberFault::SubOverflow, ty, a - b),
+        BinaryOperator::Multiplication => wrap_or_fault(stage, NumberFault::MulOverflow, ty, a * b),
         BinaryOperator::Division => division(stage, ty, a, b),
         BinaryOperator::Remainder => remainder(stage, ty, a, b),
         _ => Err(NumberFault::Binary(operator, ty, ty)),

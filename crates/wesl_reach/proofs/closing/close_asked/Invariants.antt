@@ -9,7 +9,7 @@ use Rattle.wesl_reach.specs.Following.{Moves}
 use Rattle.wesl_reach.specs.Stages.{asks, stage}
 use Rattle.wesl_reach.specs.Resolved.{IsKeyed}
 use Rattle.wesl_reach.specs.Closing.{AllReached, IsSound}
-use Rattle.wesl_reach.specs.Underway.{NamesAll, IsInOrder}
+use Rattle.wesl_reach.specs.Underway.{NamesAll, IsConsistent}
 use Rattle.wesl_reach.proofs.PresentLemmas.{DoneBut}
 use Rattle.wesl_reach.proofs.AskedLemmas.{AllLead, EntrySought}
 use Rattle.wesl_reach.proofs.closing.close_asked.Given as goal
@@ -17,7 +17,7 @@ use Rattle.wesl_reach.proofs.closing.close_asked.Given as goal
 abbrev pub invariant-loop-text : goal.invariant-loop-text
 invariant-loop-text l = record {
   sound : AllLead l.linking l.asked → AllReached l.linking l.initial.held → IsSound l.linking l.held l.found.reached.items;
-  in_order : IsKeyed l.linking.modules.now → NamesAll l.linking l.initial.held → IsInOrder l.linking l.held l.found.asked;
+  in_order : IsKeyed l.linking.modules.now → NamesAll l.linking l.initial.held → IsConsistent l.linking l.held l.found.asked;
   moves : Moves (stage l.initial.held (λ s. false) false []) (stage l.held (asks l.found.asked) l.found.is_missing l.found.reached.items);
   handled : DoneBut (EntrySought l.linking (stage l.held (asks l.found.asked) l.found.is_missing l.found.reached.items)) l.text-iterator l.asked.entries;
   among : (e : String Global × AskedModule) → Contains l.text-iterator e → get_by_text l.asked (string_bytes e.0) ≡ Some e.1;

@@ -3,12 +3,12 @@ use Rattle.wesl_reach.specs.Closing.{IsSound}
 use Rattle.wesl_reach.specs.Following.{Moves, FollowedTo}
 use Rattle.wesl_reach.specs.Stages.{asks, stage}
 use Rattle.wesl_reach.specs.Resolved.{IsKeyed}
-use Rattle.wesl_reach.specs.Underway.{IsInOrder}
+use Rattle.wesl_reach.specs.Underway.{IsConsistent}
 use Rattle.wesl_reach.proofs.closing.follow_all.Given as goal
 
 abbrev pub invariant-loop-at : goal.invariant-loop-at
 invariant-loop-at l = record {
-  in_order : IsKeyed l.linking.modules.now → IsSound l.linking l.initial.held l.initial.found.reached.items → IsInOrder l.linking l.initial.held l.initial.found.asked → IsInOrder l.linking l.held l.found.asked;
+  in_order : IsKeyed l.linking.modules.now → IsSound l.linking l.initial.held l.initial.found.reached.items → IsConsistent l.linking l.initial.held l.initial.found.asked → IsConsistent l.linking l.held l.found.asked;
   sound : IsSound l.linking l.initial.held l.initial.found.reached.items → IsSound l.linking l.held l.found.reached.items;
   moves : Moves (stage l.initial.held (asks l.initial.found.asked) l.initial.found.is_missing l.initial.found.reached.items) (stage l.held (asks l.found.asked) l.found.is_missing l.found.reached.items);
   followed : FollowedTo (loaded l.linking.modules.now) (stage l.initial.held (asks l.initial.found.asked) l.initial.found.is_missing l.initial.found.reached.items) 0

@@ -40,7 +40,7 @@ loop-name-preserved c =
 
 pub returns-clause-followed : goal.returns-clause-followed
 returns-clause-followed c =
-    followed_below (loaded c.args.linking.now.modules.now) (stage c.loop-name.held (asks c.loop-name.found.asked) c.loop-name.found.is_missing c.loop-name.found.reached.items) (string_bytes c.args.symbol.«module».now.text) c.args.symbol.place (home_of c.args.home.now) (declaration_tree c.args.declaration.now)
+    followed_below (loaded c.args.linking.now.modules.now) (stage c.loop-name.held (asks c.loop-name.found.asked) c.loop-name.found.is_missing c.loop-name.found.reached.items) (string_bytes c.args.symbol.«module».now.printed_path) c.args.symbol.place (home_of c.args.home.now) (declaration_tree c.args.declaration.now)
     c.as_slice-name-items.result.now c.loop-name.name-index c.requires.home c.requires.declaration
     (ap texts c.as_slice-name-items.ensures.value ∙ c.in_ok-names.ensures) c.loop-name-test.false c.loop-name.invariant.handled
 

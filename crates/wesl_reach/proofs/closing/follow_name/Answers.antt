@@ -17,16 +17,16 @@ returns-in-Declared-clause-sound c = λ reached sound.
 pub returns-in_ok-ask-in-Unloaded-clause-moves : goal.returns-in_ok-ask-in-Unloaded-clause-moves
 returns-in_ok-ask-in-Unloaded-clause-moves c =
     moves_asked c.args.held.now (asks c.args.found.now.asked) (asks c.ask.new.asked) c.args.found.now.is_missing c.args.found.now.reached.items
-    (record { home = string_bytes c.in-Unloaded.target.now.text; name = c.in-Unloaded.target.now.item }) c.in_ok-ask-in-Unloaded.ensures.asks
+    (record { home = string_bytes c.in-Unloaded.target.now.printed_path; name = c.in-Unloaded.target.now.item }) c.in_ok-ask-in-Unloaded.ensures.asks
 
 pub returns-in_ok-ask-in-Unloaded-clause-handled : goal.returns-in_ok-ask-in-Unloaded-clause-handled
 returns-in_ok-ask-in-Unloaded-clause-handled c =
     subst (Handled (stage c.args.held.now (asks c.ask.new.asked) c.args.found.now.is_missing c.args.found.now.reached.items)) c.in-Unloaded.ensures.found
-    (now_asked (asks c.args.found.now.asked) (asks c.ask.new.asked) (record { home = string_bytes c.in-Unloaded.target.now.text; name = c.in-Unloaded.target.now.item }) c.in_ok-ask-in-Unloaded.ensures.asks)
+    (now_asked (asks c.args.found.now.asked) (asks c.ask.new.asked) (record { home = string_bytes c.in-Unloaded.target.now.printed_path; name = c.in-Unloaded.target.now.item }) c.in_ok-ask-in-Unloaded.ensures.asks)
 
 pub returns-in-Declared-clause-in_order : goal.returns-in-Declared-clause-in_order
 returns-in-Declared-clause-in_order c = λ keyed reached before.
-    let placed = placed_denoted c.args.linking.now.modules.now c.args.home.now (string_bytes c.args.from.«module».now.text) c.args.name.now c.in-Declared.symbol keyed
+    let placed = placed_denoted c.args.linking.now.modules.now c.args.home.now (string_bytes c.args.from.«module».now.printed_path) c.args.name.now c.in-Declared.symbol keyed
     (c.in-Declared.ensures.in_table c.requires.in_table) c.requires.home c.in-Declared.ensures.found in
     on_ok_weaker c.reach.result
     (same_order c.args.linking.now c.args.held.now c.reach.new.held c.args.found.now.asked before)
@@ -35,9 +35,9 @@ returns-in-Declared-clause-in_order c = λ keyed reached before.
 pub returns-in_ok-ask-in-Unloaded-clause-in_order : goal.returns-in_ok-ask-in-Unloaded-clause-in_order
 returns-in_ok-ask-in-Unloaded-clause-in_order c = λ keyed reached before.
     order_asked c.args.linking.now c.args.held.now c.args.found.now.asked c.ask.new.asked
-    (record { home = string_bytes c.in-Unloaded.target.now.text; name = c.in-Unloaded.target.now.item })
+    (record { home = string_bytes c.in-Unloaded.target.now.printed_path; name = c.in-Unloaded.target.now.item })
     (record {
-      home = string_bytes c.args.from.«module».now.text;
+      home = string_bytes c.args.from.«module».now.printed_path;
       place = c.args.from.place;
       reached = reached;
       there = home_of c.args.home.now;

@@ -16,7 +16,7 @@ returns-clause-moves c = λ asked missing.
     moves_more c.args.held.now c.hold.new.held asked missing c.args.reached.now.items c.push.new.self.items c.args.symbol _ c.in_ok-hold.ensures c.in_ok-push.ensures.items
 
 pub returns-clause-held : goal.returns-clause-held
-returns-clause-held c = now_held c.args.held.now c.hold.new.held (string_bytes c.args.symbol.«module».now.text) c.args.symbol.place _ c.in_ok-hold.ensures
+returns-clause-held c = now_held c.args.held.now c.hold.new.held (string_bytes c.args.symbol.«module».now.printed_path) c.args.symbol.place _ c.in_ok-hold.ensures
 
 pub returns-then-is_held-clause-moves : goal.returns-then-is_held-clause-moves
 returns-then-is_held-clause-moves c = λ asked missing. no_move (stage c.args.held.now asked missing c.args.reached.now.items)

@@ -15,7 +15,7 @@ returns-in_ok-reach-in-Declared-clause-sound c = λ sound.
 
 pub returns-in_ok-reach-in-Declared-clause-kept : goal.returns-in_ok-reach-in-Declared-clause-kept
 returns-in_ok-reach-in-Declared-clause-kept c = (
-  string_bytes c.in-Declared.symbol.«module».now.text,
+  string_bytes c.in-Declared.symbol.«module».now.printed_path,
   c.in-Declared.symbol.place,
   ap (λ n. item_at (record { home = c.args.linking.now.root.now; name = n }) (loaded c.args.linking.now.modules.now c.args.linking.now.root.now)) (sym c.as_str.ensures)
       ∙ sym c.in-Declared.ensures.found,

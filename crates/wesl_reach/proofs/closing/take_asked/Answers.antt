@@ -13,8 +13,8 @@ returns-in-Some-clause-others c = λ m.
 
 pub returns-in-Some-clause-paths : goal.returns-in-Some-clause-paths
 returns-in-Some-clause-paths c = λ by_name.
-    (by_name (string_bytes c.args.target.now.text) c.in-Some.«module» (ap (get_by_text c.args.asked.now) (sym c.as_str.ensures.value) ∙ sym c.remove.ensures.value ∙ c.in-Some.is)).0
+    (by_name (string_bytes c.args.target.now.printed_path) c.in-Some.«module» (ap (get_by_text c.args.asked.now) (sym c.as_str.ensures.value) ∙ sym c.remove.ensures.value ∙ c.in-Some.is)).0
 
 pub returns-in-Some-clause-by_import : goal.returns-in-Some-clause-by_import
 returns-in-Some-clause-by_import c = λ ms named by_import.
-    by_import (string_bytes c.args.target.now.text) c.in-Some.«module» (ap (get_by_text c.args.asked.now) (sym c.as_str.ensures.value) ∙ sym c.remove.ensures.value ∙ c.in-Some.is)
+    by_import (string_bytes c.args.target.now.printed_path) c.in-Some.«module» (ap (get_by_text c.args.asked.now) (sym c.as_str.ensures.value) ∙ sym c.remove.ensures.value ∙ c.in-Some.is)

@@ -1,6 +1,6 @@
 use Rattle.std.proofs.Common.{◌≡◌}
 use Rattle.wesl_resolve.specs.Found.{SameAnswers, SameTexts}
-use Rattle.wesl_sources.specs.Modules.{Modules as ListedModules}
+use Rattle.wesl_link_spec.specs.Modules.{Modules as ListedModules}
 use Rattle.wesl_reach.specs.Loading.{AreTabled, AreSought}
 use Rattle.wesl_reach.proofs.LoadLemmas.{IsLoadedTo}
 use Rattle.wesl_reach.proofs.AskingLemmas.{IsAskedTo}

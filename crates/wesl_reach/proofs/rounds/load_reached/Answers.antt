@@ -3,9 +3,9 @@ use Rattle.std.specs.Prelude.{OnOk, string_bytes}
 use Rattle.std.proofs.lemmas.Result.{err_from_is_err_and}
 use Rattle.wgsl_path.specs.Paths.{path_text}
 use Rattle.wgsl_syntax.specs.View.{unit_tree}
-use Rattle.wesl_sources.specs.Occurrences.{Name}
-use Rattle.wesl_sources.specs.Modules.{Path}
-use Rattle.wesl_sources.specs.Kept.{kept_names}
+use Rattle.wesl_link_spec.specs.Occurrences.{Name}
+use Rattle.wesl_link_spec.specs.Modules.{Path}
+use Rattle.wesl_link_spec.specs.Kept.{kept_names}
 use Rattle.wesl_reach.specs.declared.rounds.Reached.{Reached}
 use Rattle.wesl_reach.specs.Missing.{refusal_of}
 use Rattle.wesl_reach.specs.Answers.{Loading}
@@ -16,7 +16,7 @@ use Rattle.wesl_reach.proofs.GoesLemmas.{root_not_loaded, root_ended, root_stopp
 use Rattle.wesl_reach.proofs.rounds.load_reached.Goals as goal
 use Rattle.wesl_reach.specs.Asking.{IsAskedEnd, AreAskedBehind, AreThoseLoaded}
 use Rattle.wesl_reach.proofs.AskingLemmas.{none_behind, root_asked}
-use Rattle.wesl_sources.specs.Rounds.{too_many_modules}
+use Rattle.wesl_link_spec.specs.Rounds.{too_many_modules}
 use Rattle.std.proofs.Common.{Some}
 
 pub returns-then-max_modules-eq0-clause-loading : goal.returns-then-max_modules-eq0-clause-loading

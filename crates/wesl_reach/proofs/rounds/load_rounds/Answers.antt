@@ -3,14 +3,14 @@ use Rattle.std.specs.Prelude.{string_bytes}
 use Rattle.std.specs.Map.Iter.{deref_pair}
 use Rattle.std.proofs.lemmas.Map.Iter.{rest_more, rest_all}
 use Rattle.std.proofs.lemmas.Result.{err_from_is_err_and}
-use Rattle.wesl_sources.specs.Modules.{Path}
+use Rattle.wesl_link_spec.specs.Modules.{Path}
 use Rattle.wesl_reach.specs.declared.rounds.Reached.{Reached}
 use Rattle.wesl_reach.specs.Missing.{refusal_of}
 use Rattle.wesl_reach.specs.Answers.{Loading}
 use Rattle.wesl_reach.specs.Closed.{IsClosed, RefusesClosing}
 use Rattle.wesl_reach.proofs.LoadLemmas.{same_refuses, same_all_loaded, two_same}
 use Rattle.wesl_reach.proofs.GoesLemmas.{no_entries, all_ended, sought, loading_refused, too_many, closing_refused, one_round}
-use Rattle.wesl_sources.specs.Asks.{printed_paths}
+use Rattle.wesl_link_spec.specs.Asks.{printed_paths}
 use Rattle.wesl_reach.specs.Loading.{paths_of}
 use Rattle.wesl_reach.proofs.AskingLemmas.{among_moves, all_asked_moves, end_asked, end_loaded, round_refused, round_asked}
 use Rattle.wesl_reach.proofs.rounds.load_rounds.Goals as goal

@@ -1,7 +1,7 @@
 use Rattle.std.proofs.Common.{◌≡◌, ◌+◌, ◌*◌, ◌++◌, drop, map}
 use Rattle.wgsl_syntax.specs.View.{node_tree}
 use Rattle.wgsl_syntax.specs.Tree.{exps}
-use Rattle.wesl_sources.specs.Occurrences.{in_expressions}
+use Rattle.wesl_link_spec.specs.Occurrences.{in_expressions}
 use Rattle.wesl_rename.specs.Scopes.{texts}
 use Rattle.wesl_rename.proofs.occurrence.+occurring.Given as goal
 

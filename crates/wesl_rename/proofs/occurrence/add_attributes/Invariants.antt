@@ -1,6 +1,6 @@
 use Rattle.std.proofs.Common.{◌≡◌, ◌++◌, drop}
 use Rattle.wgsl_syntax.specs.View.{attributes_tree}
-use Rattle.wesl_sources.specs.Occurrences.{in_attributes}
+use Rattle.wesl_link_spec.specs.Occurrences.{in_attributes}
 use Rattle.wesl_rename.specs.Scopes.{texts}
 use Rattle.wesl_rename.proofs.occurrence.add_attributes.Given as goal
 

@@ -1,7 +1,7 @@
 use Rattle.std.proofs.Common.{◌≡◌, ◌++◌, drop, map}
 use Rattle.std.specs.List.{flat_map}
 use Rattle.wgsl_syntax.specs.View.{parameter_tree}
-use Rattle.wesl_sources.specs.Occurrences.{in_parameter}
+use Rattle.wesl_link_spec.specs.Occurrences.{in_parameter}
 use Rattle.wesl_rename.specs.Scopes.{texts}
 use Rattle.wesl_rename.proofs.occurrence.add_signature.Given as goal
 

@@ -1,7 +1,7 @@
 use Rattle.std.proofs.Common.{◌≡◌, refl, sym, ap, ◌∙◌, ℕ, List, map, []}
 use Rattle.wgsl_path.specs.declared.ident.Ident.{Ident}
 use Rattle.wgsl_syntax.specs.View.{tree, node_tree, typed}
-use Rattle.wesl_sources.specs.Linked.{renamed}
+use Rattle.wesl_link_spec.specs.Linked.{renamed}
 use Rattle.wesl_rename.specs.Renaming.{renamed_at}
 use Rattle.wesl_rename.proofs.Renames.{renames_parenthesized, renames_unary, renames_binary, renames_call, renames_typed}
 use Rattle.wesl_rename.proofs.rename.+renaming.Goals as goal

@@ -1,6 +1,6 @@
 use Rattle.std.proofs.Common.{◌≡◌, ◌+◌, ◌*◌, map, take, []}
 use Rattle.wgsl_syntax.specs.View.{node_tree}
-use Rattle.wesl_sources.specs.Linked.{renamed}
+use Rattle.wesl_link_spec.specs.Linked.{renamed}
 use Rattle.wesl_rename.proofs.rename.+renaming.Given as goal
 
 abbrev pub decreases-renamed_expression : goal.decreases-renamed_expression

@@ -2,7 +2,7 @@ use Rattle.std.proofs.Common.{sym, ap, ◌∙◌, List, map, []}
 use Rattle.wgsl_path.specs.declared.span.Spanned.{Spanned}
 use Rattle.wgsl_syntax.specs.declared.declaration.Attribute.{Attribute}
 use Rattle.wgsl_syntax.specs.View.{attribute_tree}
-use Rattle.wesl_sources.specs.Linked.{renamed_attribute}
+use Rattle.wesl_link_spec.specs.Linked.{renamed_attribute}
 use Rattle.wesl_rename.proofs.Renames.{attributes_renamed}
 use Rattle.wesl_rename.proofs.rename.renamed_attributes.Goals as goal
 

@@ -2,7 +2,7 @@ use Rattle.std.proofs.Common.{sym, ap, ◌∙◌, List, map, []}
 use Rattle.wgsl_path.specs.declared.span.Spanned.{Spanned}
 use Rattle.wgsl_syntax.specs.declared.statement.Statement.{Statement}
 use Rattle.wgsl_syntax.specs.View.{statement_tree}
-use Rattle.wesl_sources.specs.Linked.{renamed_statement}
+use Rattle.wesl_link_spec.specs.Linked.{renamed_statement}
 use Rattle.wesl_rename.proofs.Renames.{statements_renamed}
 use Rattle.wesl_rename.proofs.rename.renamed_block.Goals as goal
 

@@ -1,8 +1,8 @@
 use Rattle.std.proofs.Common.{◌∙◌, ap, List, map}
 use Rattle.wgsl_syntax.specs.declared.declaration.FormalParameter.{FormalParameter}
 use Rattle.wgsl_syntax.specs.View.{block_tree, parameter_tree}
-use Rattle.wesl_sources.specs.Occurrences.{parameter_names}
-use Rattle.wesl_sources.specs.Linked.{renamed_block}
+use Rattle.wesl_link_spec.specs.Occurrences.{parameter_names}
+use Rattle.wesl_link_spec.specs.Linked.{renamed_block}
 use Rattle.wesl_rename.proofs.Renames.{block_inside}
 use Rattle.wesl_rename.proofs.rename.renamed_body.Goals as goal
 

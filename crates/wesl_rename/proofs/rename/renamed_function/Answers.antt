@@ -2,7 +2,7 @@ use Rattle.std.proofs.Common.{sym, ap, ◌∙◌, List, map, []}
 use Rattle.wgsl_syntax.specs.declared.declaration.FormalParameter.{FormalParameter}
 use Rattle.wgsl_syntax.specs.Tree.{function}
 use Rattle.wgsl_syntax.specs.View.{parameter_tree}
-use Rattle.wesl_sources.specs.Linked.{renamed_parameter}
+use Rattle.wesl_link_spec.specs.Linked.{renamed_parameter}
 use Rattle.wesl_rename.proofs.Renames.{parameters_renamed}
 use Rattle.wesl_rename.proofs.rename.renamed_function.Goals as goal
 

@@ -1,6 +1,6 @@
 use Rattle.std.proofs.Common.{◌≡◌, map, take}
 use Rattle.wgsl_syntax.specs.View.{parameter_tree}
-use Rattle.wesl_sources.specs.Linked.{renamed_parameter}
+use Rattle.wesl_link_spec.specs.Linked.{renamed_parameter}
 use Rattle.wesl_rename.proofs.rename.renamed_parameters.Given as goal
 
 abbrev pub invariant-loop-parameter : goal.invariant-loop-parameter

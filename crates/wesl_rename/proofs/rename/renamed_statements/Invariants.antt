@@ -1,6 +1,6 @@
 use Rattle.std.proofs.Common.{◌≡◌, map, take, []}
 use Rattle.wgsl_syntax.specs.View.{statement_tree}
-use Rattle.wesl_sources.specs.Linked.{renamed_statement}
+use Rattle.wesl_link_spec.specs.Linked.{renamed_statement}
 use Rattle.wesl_rename.proofs.rename.renamed_statements.Given as goal
 
 abbrev pub invariant-loop-statement : goal.invariant-loop-statement

@@ -1,6 +1,6 @@
 use Rattle.std.proofs.Common.{◌≡◌, ◌++◌, drop, map}
 use Rattle.wgsl_syntax.specs.View.{declaration_tree}
-use Rattle.wesl_sources.specs.Kept as spec
+use Rattle.wesl_link_spec.specs.Kept as spec
 use Rattle.wesl_scopes.proofs.module.entry_points.Given as goal
 
 abbrev pub invariant-loop-declaration : goal.invariant-loop-declaration

@@ -1,7 +1,7 @@
 use Rattle.std.proofs.Common.{◌≡◌, drop}
 use Rattle.std.specs.List.{list_any}
 use Rattle.wgsl_syntax.specs.View.{attributes_tree}
-use Rattle.wesl_sources.specs.Kept as spec
+use Rattle.wesl_link_spec.specs.Kept as spec
 use Rattle.wesl_scopes.proofs.module.has_stage.Given as goal
 
 abbrev pub invariant-loop-attribute : goal.invariant-loop-attribute

@@ -2,7 +2,7 @@ use Rattle.std.proofs.Common.{refl, ap, ◌∙◌, Ok, Err}
 use Rattle.std.proofs.lemmas.Result.{err_from_is_err_and}
 use Rattle.wgsl_syntax.specs.View.{declaration_tree}
 use Rattle.wgsl_syntax.specs.declared.declaration.GlobalDeclaration.{GlobalDeclaration}
-use Rattle.wesl_sources.specs.Occurrences.{Name, declared_name}
+use Rattle.wesl_link_spec.specs.Occurrences.{Name, declared_name}
 use Rattle.wesl_scopes.proofs.TableLemmas.{import_step, value_step, whole_table}
 use Rattle.wesl_scopes.proofs.table.meanings_of.Goals as goal
 

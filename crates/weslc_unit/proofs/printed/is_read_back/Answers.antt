@@ -1,8 +1,8 @@
 -- What is printed of a plain declaration stands for it.
 use Rattle.std.proofs.Common.{refl, sym, subst}
 use Rattle.wgsl_syntax.specs.View.{declaration_tree}
-use Rattle.wgsl_laws.specs.Printing.{alone}
-use Rattle.wgsl_laws.proofs.Written.{written_declarations_stand}
+use Rattle.wgsl_round_trip.specs.Printing.{alone}
+use Rattle.wgsl_round_trip.proofs.Written.{written_declarations_stand}
 use Rattle.weslc_unit.specs.Compiled.{IsTextOf}
 use Rattle.weslc_unit.proofs.ByDeclarations.{text_of}
 use Rattle.weslc_unit.proofs.printed.is_read_back.Goals as goal

@@ -4,7 +4,7 @@ use Rattle.std.specs.Prelude.{string_bytes}
 use Rattle.std.proofs.lemmas.Bool.{false≢true}
 use Rattle.wgsl_syntax.specs.View.{declaration_tree}
 use Rattle.wgsl_syntax.specs.Print.{decl_text}
-use Rattle.wgsl_laws.specs.Printing.{alone}
+use Rattle.wgsl_round_trip.specs.Printing.{alone}
 use Rattle.weslc_unit.specs.Compiled.{IsTextOf, of_first}
 use Rattle.weslc_unit.proofs.ToldLemmas.{told_here}
 use Rattle.weslc_unit.proofs.printed.print_declaration.Goals as goal

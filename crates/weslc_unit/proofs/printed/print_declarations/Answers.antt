@@ -5,7 +5,7 @@ use Rattle.std.specs.List.{flat_map}
 use Rattle.std.proofs.lemmas.List.{take_all}
 use Rattle.std.proofs.lemmas.List.Elements.{All-more}
 use Rattle.wgsl_syntax.specs.Print.{decl_text}
-use Rattle.wgsl_laws.specs.Printing.{alone}
+use Rattle.wgsl_round_trip.specs.Printing.{alone}
 use Rattle.weslc_unit.specs.Compiled.{IsTextOf, IsReadAlone, IsUnprintable, TellsOf}
 use Rattle.weslc_unit.specs.ByDeclarations.{AreUnprintable}
 use Rattle.weslc_unit.proofs.PrintedLemmas.{tree_of, read_of, tells_at, unprintable_at, printed_more, flat_mapped, error_as}

@@ -1,4 +1,4 @@
-use Rattle.wgsl_phrases.proofs.Steps.{passes, exhausts}
+use Rattle.wgsl_parser_spec.proofs.Steps.{passes, exhausts}
 use Rattle.wgsl_parse.proofs.Attributes.{parses_fragment, parses_location, no_attribute_word}
 use Rattle.wgsl_parse.proofs.attribute.attribute.Goals as goal
 

@@ -1,5 +1,5 @@
 use Rattle.std.proofs.Common.{ap, arith, length}
-use Rattle.wgsl_phrases.proofs.Steps.{passes, exhausts, parses_repeated, parses_run, stops_run, parses_run_end, follows_anything}
+use Rattle.wgsl_parser_spec.proofs.Steps.{passes, exhausts, parses_repeated, parses_run, stops_run, parses_run_end, follows_anything}
 use Rattle.wgsl_parse.proofs.Attributes.{parses_attribute, attribute_barred, attribute_goes_on}
 use Rattle.wgsl_parse.proofs.attribute.attributes.Goals as goal
 

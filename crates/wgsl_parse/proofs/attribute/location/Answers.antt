@@ -1,4 +1,4 @@
-use Rattle.wgsl_phrases.proofs.Steps.{outcomes, passes, exhausts, inhabited_done, parses_then, stops_then}
+use Rattle.wgsl_parser_spec.proofs.Steps.{outcomes, passes, exhausts, inhabited_done, parses_then, stops_then}
 use Rattle.wgsl_parse.proofs.Marks.{marks, parses_mark}
 use Rattle.wgsl_parse.proofs.Expressions.{inhabited_sum}
 use Rattle.wgsl_parse.proofs.Attributes.{follows_comma, inhabited_closing, parses_comma}

@@ -1,4 +1,4 @@
-use Rattle.wgsl_phrases.proofs.Steps.{outcomes, passes}
+use Rattle.wgsl_parser_spec.proofs.Steps.{outcomes, passes}
 use Rattle.wgsl_parse.proofs.Marks.{marks, absent_mark}
 use Rattle.wgsl_parse.proofs.Declarations.{inhabited, parses_annotation}
 use Rattle.wgsl_parse.proofs.declaration.annotation.Goals as goal

@@ -1,4 +1,4 @@
-use Rattle.wgsl_phrases.proofs.Steps.{outcomes, passes, exhausts}
+use Rattle.wgsl_parser_spec.proofs.Steps.{outcomes, passes, exhausts}
 use Rattle.wgsl_parse.proofs.Marks.{marks, absent_mark}
 use Rattle.wgsl_parse.proofs.Declarations.{inhabited, parses_body}
 use Rattle.wgsl_parse.proofs.declaration.body.Goals as goal

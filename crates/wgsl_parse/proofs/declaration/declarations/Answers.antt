@@ -1,5 +1,5 @@
 use Rattle.std.proofs.Common.{arith}
-use Rattle.wgsl_phrases.proofs.Steps.{passes, exhausts, parses_repeated, parses_run, stops_run, parses_run_end, follows_anything}
+use Rattle.wgsl_parser_spec.proofs.Steps.{passes, exhausts, parses_repeated, parses_run, stops_run, parses_run_end, follows_anything}
 use Rattle.wgsl_parse.proofs.Declarations.{ended, goes_on}
 use Rattle.wgsl_parse.proofs.declaration.declarations.Goals as goal
 

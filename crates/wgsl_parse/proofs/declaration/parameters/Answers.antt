@@ -1,5 +1,5 @@
 use Rattle.std.proofs.Common.{Some, refl, ap, ◌∙◌, arith, length}
-use Rattle.wgsl_phrases.proofs.Steps.{passes, exhausts, parses_listed, parses_item, stops_item, parses_no_item, parses_separated, parses_no_separator}
+use Rattle.wgsl_parser_spec.proofs.Steps.{passes, exhausts, parses_listed, parses_item, stops_item, parses_no_item, parses_separated, parses_no_separator}
 use Rattle.wgsl_parse.proofs.Expressions.{not_closed}
 use Rattle.wgsl_parse.proofs.Declarations.{parameter_barred}
 use Rattle.wgsl_parse.proofs.declaration.parameters.Goals as goal

@@ -1,4 +1,4 @@
-use Rattle.wgsl_phrases.proofs.Steps.{outcomes, passes, exhausts}
+use Rattle.wgsl_parser_spec.proofs.Steps.{outcomes, passes, exhausts}
 use Rattle.wgsl_parse.proofs.Marks.{marks}
 use Rattle.wgsl_parse.proofs.Declarations.{inhabited}
 use Rattle.wgsl_parse.proofs.declaration.return_statement.Goals as goal

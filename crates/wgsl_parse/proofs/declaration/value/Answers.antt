@@ -1,5 +1,5 @@
 use Rattle.std.proofs.Common.{refl}
-use Rattle.wgsl_phrases.proofs.Steps.{outcomes, passes}
+use Rattle.wgsl_parser_spec.proofs.Steps.{outcomes, passes}
 use Rattle.wgsl_parse.proofs.Marks.{marks}
 use Rattle.wgsl_parse.proofs.Declarations.{inhabited, parses_value, parses_no_value, statement_sum}
 use Rattle.wgsl_parse.proofs.declaration.value.Goals as goal

@@ -1,5 +1,5 @@
 use Rattle.std.proofs.Common.{Some, length, refl, ap, sym, ◌∙◌, arith}
-use Rattle.wgsl_phrases.proofs.Steps.{outcomes, passes, exhausts, parses_chained, stops_chained, parses_link, stops_link, parses_chain_end, parses_item, stops_item, parses_separated, parses_no_separator, parses_no_item}
+use Rattle.wgsl_parser_spec.proofs.Steps.{outcomes, passes, exhausts, parses_chained, stops_chained, parses_link, stops_link, parses_chain_end, parses_item, stops_item, parses_separated, parses_no_separator, parses_no_item}
 use Rattle.wgsl_parse.proofs.Marks.{marks, absent_mark}
 use Rattle.wgsl_parse.proofs.Expressions.{factors, terms, product_is, product_out, sum_is, sum_out, sum_barred, parses_number, parses_named, parses_paren, primary_refused, parses_negation, parses_primary, parses_arguments, not_closed, closes_sum, comma_sum}
 use Rattle.wgsl_parse.proofs.expression.+expression.Goals as goal

@@ -2,9 +2,9 @@ use Rattle.std.proofs.Common.{◌≤◌, ◌+◌, ◌*◌, length, List, Result}
 use Rattle.wgsl_path.specs.declared.span.Spanned.{Spanned}
 use Rattle.wgsl_token.specs.declared.token.SpannedToken.{SpannedToken}
 use Rattle.wgsl_syntax.specs.declared.expression.Expression.{Expression}
-use Rattle.wgsl_phrases.specs.declared.Stop.{Stop}
-use Rattle.wgsl_phrases.specs.Parsing.{Parses}
-use Rattle.wgsl_phrases.specs.Sequences.{Chain, Listing}
+use Rattle.wgsl_parser_spec.specs.declared.ParseFailure.{ParseFailure}
+use Rattle.wgsl_parser_spec.specs.Parsing.{Parses}
+use Rattle.wgsl_parser_spec.specs.Sequences.{Chain, Listing}
 use Rattle.wgsl_grammar.specs.Terminals.{IsComma}
 use Rattle.wgsl_grammar.specs.Expressions.{IsUnary, IsProduct, IsSum, IsArguments, joined}
 use Rattle.wgsl_parse.specs.Marks.{IsAdditive, IsMultiplicative}
@@ -37,7 +37,7 @@ decreases-parenthesized l = length l.cursor.now * 8 + 5
 abbrev pub invariant-arguments-loop-arguments : goal.invariant-arguments-loop-arguments
 invariant-arguments-loop-arguments l = record {
   within : length l.cursor ≤ length l.fn.cursor;
-  goes_on : (r : Result (List (Spanned Expression)) Stop) (rest : List SpannedToken) → Parses (Listing IsSum IsComma l.arguments) closes l.cursor r rest
+  goes_on : (r : Result (List (Spanned Expression)) ParseFailure) (rest : List SpannedToken) → Parses (Listing IsSum IsComma l.arguments) closes l.cursor r rest
       → Parses IsArguments closes l.fn.cursor r rest;
 }
 
@@ -47,7 +47,7 @@ decreases-arguments-loop-arguments l = length l.cursor
 abbrev pub invariant-product-loop-operator : goal.invariant-product-loop-operator
 invariant-product-loop-operator l = record {
   within : length l.cursor ≤ length l.fn.cursor;
-  goes_on : (r : Result (Spanned Expression) Stop) (rest : List SpannedToken) → Parses (Chain IsUnary IsMultiplicative joined l.left) ends_product l.cursor r rest
+  goes_on : (r : Result (Spanned Expression) ParseFailure) (rest : List SpannedToken) → Parses (Chain IsUnary IsMultiplicative joined l.left) ends_product l.cursor r rest
       → Parses IsProduct ends_product l.fn.cursor r rest;
 }
 
@@ -57,7 +57,7 @@ decreases-product-loop-operator l = length l.cursor
 abbrev pub invariant-sum-loop-operator : goal.invariant-sum-loop-operator
 invariant-sum-loop-operator l = record {
   within : length l.cursor ≤ length l.fn.cursor;
-  goes_on : (r : Result (Spanned Expression) Stop) (rest : List SpannedToken) → Parses (Chain IsProduct IsAdditive joined l.left) ends_sum l.cursor r rest
+  goes_on : (r : Result (Spanned Expression) ParseFailure) (rest : List SpannedToken) → Parses (Chain IsProduct IsAdditive joined l.left) ends_sum l.cursor r rest
       → Parses IsSum ends_sum l.fn.cursor r rest;
 }
 

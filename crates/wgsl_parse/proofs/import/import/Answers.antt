@@ -1,4 +1,4 @@
-use Rattle.wgsl_phrases.proofs.Steps.{outcomes, passes, exhausts}
+use Rattle.wgsl_parser_spec.proofs.Steps.{outcomes, passes, exhausts}
 use Rattle.wgsl_parse.proofs.Marks.{marks}
 use Rattle.wgsl_parse.proofs.Imports.{inhabited_path}
 use Rattle.wgsl_parse.proofs.import.import.Goals as goal

@@ -1,5 +1,5 @@
 use Rattle.std.proofs.Common.{ap, arith, length}
-use Rattle.wgsl_phrases.proofs.Steps.{passes, exhausts, parses_repeated, parses_run, stops_run, parses_run_end, follows_anything}
+use Rattle.wgsl_parser_spec.proofs.Steps.{passes, exhausts, parses_repeated, parses_run, stops_run, parses_run_end, follows_anything}
 use Rattle.wgsl_parse.proofs.Imports.{parses_import, import_barred, import_goes_on}
 use Rattle.wgsl_parse.proofs.import.imports.Goals as goal
 

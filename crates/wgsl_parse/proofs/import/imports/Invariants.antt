@@ -1,10 +1,10 @@
 use Rattle.std.proofs.Common.{◌≤◌, length, List, Result}
 use Rattle.wgsl_token.specs.declared.token.SpannedToken.{SpannedToken}
 use Rattle.wgsl_syntax.specs.declared.import.ImportStatement.{ImportStatement}
-use Rattle.wgsl_phrases.specs.declared.Stop.{Stop}
-use Rattle.wgsl_phrases.specs.Languages.{Repeated}
-use Rattle.wgsl_phrases.specs.Parsing.{Parses}
-use Rattle.wgsl_phrases.specs.Sequences.{Run}
+use Rattle.wgsl_parser_spec.specs.declared.ParseFailure.{ParseFailure}
+use Rattle.wgsl_parser_spec.specs.Languages.{Repeated}
+use Rattle.wgsl_parser_spec.specs.Parsing.{Parses}
+use Rattle.wgsl_parser_spec.specs.Sequences.{Run}
 use Rattle.wgsl_grammar.specs.Declarations.{IsImport}
 use Rattle.wgsl_parse.specs.Follow.{ends_imports}
 use Rattle.wgsl_parse.proofs.import.imports.Given as goal
@@ -13,7 +13,7 @@ use Rattle.wgsl_parse.proofs.import.imports.Given as goal
 abbrev pub invariant-loop-first : goal.invariant-loop-first
 invariant-loop-first l = record {
   within : length l.cursor ≤ length l.fn.cursor;
-  goes_on : (r : Result (List ImportStatement) Stop) (rest : List SpannedToken) → Parses (Run IsImport l.imports) ends_imports l.cursor r rest
+  goes_on : (r : Result (List ImportStatement) ParseFailure) (rest : List SpannedToken) → Parses (Run IsImport l.imports) ends_imports l.cursor r rest
       → Parses (Repeated IsImport) ends_imports l.fn.cursor r rest;
 }
 

@@ -1,5 +1,5 @@
 use Rattle.std.proofs.Common.{◌∙◌, Some, refl, ap, arith, length}
-use Rattle.wgsl_phrases.proofs.Steps.{outcomes, passes, exhausts, parses_chained, stops_chained, parses_link, stops_link, parses_chain_end}
+use Rattle.wgsl_parser_spec.proofs.Steps.{outcomes, passes, exhausts, parses_chained, stops_chained, parses_link, stops_link, parses_chain_end}
 use Rattle.wgsl_parse.proofs.Imports.{separators, parses_lone}
 use Rattle.wgsl_parse.proofs.import.item_path.Goals as goal
 

@@ -1,5 +1,5 @@
 use Rattle.std.proofs.Common.{◌≡◌, ◌-◌, Ok, inl, inr, length, refl, sym, ap, ◌∙◌, arith}
-use Rattle.wgsl_phrases.proofs.Whole.{only_tree, fault_at, cut_short, no_sentence}
+use Rattle.wgsl_parser_spec.proofs.Whole.{only_tree, fault_at, cut_short, no_sentence}
 use Rattle.wgsl_parse.proofs.unit.parse_tokens.Goals as goal
 
 pub returns-in-Ok-clause-only : goal.returns-in-Ok-clause-only

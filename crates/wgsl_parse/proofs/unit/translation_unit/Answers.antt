@@ -1,4 +1,4 @@
-use Rattle.wgsl_phrases.proofs.Steps.{outcomes, passes}
+use Rattle.wgsl_parser_spec.proofs.Steps.{outcomes, passes}
 use Rattle.wgsl_parse.proofs.Units.{parses_unit, follows_imports, inhabited_declared}
 use Rattle.wgsl_parse.proofs.unit.translation_unit.Goals as goal
 

@@ -1,6 +1,6 @@
 use Rattle.std.proofs.Common.{◌≡◌, ◌∙◌, ap}
 use Rattle.wgsl_meaning.specs.declared.fault.NumberFault.TheVariants.{DivByZero}
-use Rattle.wgsl_meaning.specs.Values.{brought, divides}
+use Rattle.wgsl_meaning.specs.Values.{wrap_or_fault, divides}
 use Rattle.wgsl_value.proofs.Exact.{chosen, divides_held, held_quotient}
 use Rattle.wgsl_value.proofs.operator.division.Goals as goal
 
@@ -8,4 +8,4 @@ pub returns-then-divides : goal.returns-then-divides
 returns-then-divides c =
     chosen (divides c.args.ty c.args.a c.args.b) _ _ _
     (divides_held c.args.ty c.args.a c.args.b c.divides.result c.requires.a_in c.requires.b_in c.divides.ensures c.if-divides.true)
-    (c.brought.ensures ∙ ap (brought c.args.stage DivByZero c.args.ty) (held_quotient c.args.a c.args.b c.requires.a_in c.requires.b_in))
+    (c.wrap_or_fault.ensures ∙ ap (wrap_or_fault c.args.stage DivByZero c.args.ty) (held_quotient c.args.a c.args.b c.requires.a_in c.requires.b_in))

@@ -1,7 +1,7 @@
 use Rattle.std.proofs.Common.{◌∙◌, ℕ, Bool}
 use Rattle.std.specs.Prelude.{is_some, string_bytes}
 use Rattle.wgsl_syntax.specs.Tree.{Decl}
-use Rattle.wesl_sources.specs.Linked.{renamed_declaration}
+use Rattle.wesl_link_spec.specs.Linked.{renamed_declaration}
 use Rattle.wesl_scopes.specs.Outcomes.{loaded, home_of}
 use Rattle.wesl_reach.specs.Closing.{held_at}
 use Rattle.wesl_link.specs.Assembling.{naming}
@@ -12,7 +12,7 @@ use Rattle.wesl_link.proofs.rounds.Resolutions.add_declarations.Goals as goal
 pub loop-place-preserved : goal.loop-place-preserved
 loop-place-preserved c =
     let new : Decl → Decl = renamed_declaration (naming (loaded c.args.self.now.modules) (held_at c.args.self.now.held) (home_of c.args.«module».now)) in
-    let held : ℕ → Bool = λ k. is_some (held_at c.args.self.now.held (string_bytes c.args.«module».now.text) k) in
+    let held : ℕ → Bool = λ k. is_some (held_at c.args.self.now.held (string_bytes c.args.«module».now.printed_path) k) in
     held_step new held (linked_trees c.args.self.now.modules c.args.self.now.held c.loop-place.found.items) (linked_trees c.args.self.now.modules c.args.self.now.held c.add_held.new.found.items) c.args.«module».now.unit.global_declarations c.loop-place.place c.node-item.result
     (rw (← c.as_slice-node-items.ensures) c.loop-place-test.true) (rw (← c.as_slice-node-items.ensures) c.node-item.is) c.in_ok-add_held.ensures
     ∙ c.loop-place.invariant
@@ -20,6 +20,6 @@ loop-place-preserved c =
 pub returns : goal.returns
 returns c =
     let new : Decl → Decl = renamed_declaration (naming (loaded c.args.self.now.modules) (held_at c.args.self.now.held) (home_of c.args.«module».now)) in
-    let held : ℕ → Bool = λ k. is_some (held_at c.args.self.now.held (string_bytes c.args.«module».now.text) k) in
+    let held : ℕ → Bool = λ k. is_some (held_at c.args.self.now.held (string_bytes c.args.«module».now.printed_path) k) in
     held_end new held (linked_trees c.args.self.now.modules c.args.self.now.held c.loop-place.found.items) c.args.«module».now.unit.global_declarations c.loop-place.place (rw (← c.as_slice-node-items.ensures) c.loop-place-test.false)
     ∙ c.loop-place.invariant

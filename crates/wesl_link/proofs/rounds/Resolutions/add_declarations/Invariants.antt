@@ -1,6 +1,6 @@
 use Rattle.std.proofs.Common.{◌≡◌, ◌++◌, drop, map}
 use Rattle.std.specs.Prelude.{is_some, string_bytes}
-use Rattle.wesl_sources.specs.Linked.{renamed_declaration}
+use Rattle.wesl_link_spec.specs.Linked.{renamed_declaration}
 use Rattle.wesl_scopes.specs.Outcomes.{loaded, home_of}
 use Rattle.wesl_reach.specs.Closing.{held_at}
 use Rattle.wesl_link.specs.Assembling.{naming, held_among}
@@ -11,7 +11,7 @@ abbrev pub invariant-loop-place : goal.invariant-loop-place
 invariant-loop-place l =
     linked_trees l.self.modules l.self.held l.found.items
     ++ map (renamed_declaration (naming (loaded l.self.modules) (held_at l.self.held) (home_of l.«module»)))
-    (held_among (λ k. is_some (held_at l.self.held (string_bytes l.«module».text) k)) l.place (declaration_trees (drop l.place l.«module».unit.global_declarations)))
+    (held_among (λ k. is_some (held_at l.self.held (string_bytes l.«module».printed_path) k)) l.place (declaration_trees (drop l.place l.«module».unit.global_declarations)))
     ≡ linked_trees l.self.modules l.self.held l.initial.found.items
     ++ map (renamed_declaration (naming (loaded l.self.modules) (held_at l.self.held) (home_of l.«module»)))
-    (held_among (λ k. is_some (held_at l.self.held (string_bytes l.«module».text) k)) 0 (declaration_trees l.«module».unit.global_declarations))
+    (held_among (λ k. is_some (held_at l.self.held (string_bytes l.«module».printed_path) k)) 0 (declaration_trees l.«module».unit.global_declarations))

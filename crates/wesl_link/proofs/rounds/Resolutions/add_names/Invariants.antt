@@ -8,5 +8,5 @@ use Rattle.wesl_link.proofs.rounds.Resolutions.add_names.Given as goal
 
 abbrev pub invariant-loop-place : goal.invariant-loop-place
 invariant-loop-place l =
-    texts l.found.items ++ names_among (held_at l.self.held (string_bytes l.«module».text)) l.place (declaration_trees (drop l.place l.«module».unit.global_declarations))
-    ≡ texts l.initial.found.items ++ names_among (held_at l.self.held (string_bytes l.«module».text)) 0 (declaration_trees l.«module».unit.global_declarations)
+    texts l.found.items ++ names_among (held_at l.self.held (string_bytes l.«module».printed_path)) l.place (declaration_trees (drop l.place l.«module».unit.global_declarations))
+    ≡ texts l.initial.found.items ++ names_among (held_at l.self.held (string_bytes l.«module».printed_path)) 0 (declaration_trees l.«module».unit.global_declarations)

@@ -8,7 +8,7 @@ use Rattle.wesl_link.proofs.rounds.Resolutions.clash_in.Given as goal
 
 abbrev pub invariant-loop-place : goal.invariant-loop-place
 invariant-loop-place l =
-    clash_among (sharing_at l.sharing) (printed_in l.self.held l.self.modules l.«module») (held_at l.self.held (string_bytes l.«module».text)) l.place
+    clash_among (sharing_at l.sharing) (printed_in l.self.held l.self.modules l.«module») (held_at l.self.held (string_bytes l.«module».printed_path)) l.place
     (declaration_trees (drop l.place l.«module».unit.global_declarations))
-    ≡ clash_among (sharing_at l.sharing) (printed_in l.self.held l.self.modules l.«module») (held_at l.self.held (string_bytes l.«module».text)) 0
+    ≡ clash_among (sharing_at l.sharing) (printed_in l.self.held l.self.modules l.«module») (held_at l.self.held (string_bytes l.«module».printed_path)) 0
     (declaration_trees l.«module».unit.global_declarations)

@@ -1,6 +1,6 @@
 use Rattle.std.proofs.Common.{◌≡◌, ◌∙◌, ◌++◌, [], sym, ap, subst}
 use Rattle.std.specs.Prelude.{string_bytes}
-use Rattle.wesl_sources.specs.Linked.{IsLinked}
+use Rattle.wesl_link_spec.specs.Linked.{IsLinked}
 use Rattle.wesl_scopes.specs.Outcomes.{loaded}
 use Rattle.wesl_reach.specs.Closing.{held_at}
 use Rattle.wesl_reach.specs.Resolved.{modules_of}

@@ -10,7 +10,7 @@ use Rattle.wesl_link.proofs.rounds.Resolutions.record_held_in.Given as goal
 -- what is left to record gives what all gives
 abbrev pub invariant-loop-place : goal.invariant-loop-place
 invariant-loop-place l = record {
-  recorded : Leads (records_among (held_at l.self.held (string_bytes l.«module».text)) l.«module».path l.place (declaration_trees (drop l.place l.«module».unit.global_declarations))) (decl_at l.map)
+  recorded : Leads (records_among (held_at l.self.held (string_bytes l.«module».printed_path)) l.«module».path l.place (declaration_trees (drop l.place l.«module».unit.global_declarations))) (decl_at l.map)
       (records_in l.self.held l.«module») (decl_at l.initial.map);
   sources : l.map.sources ≡ l.initial.map.sources;
   default_source : l.map.default_source ≡ l.initial.map.default_source;

@@ -5,7 +5,7 @@ use Rattle.std.specs.Ordering.{nat_cmp}
 use Rattle.std.specs.Cmp.Lexicographic.{slice_cmp}
 use Rattle.std.specs.BTreeMap.{is_at}
 use Rattle.wgsl_syntax.specs.View.{parameter_tree}
-use Rattle.wesl_sources.specs.Occurrences.{is_among, parameter_names}
+use Rattle.wesl_link_spec.specs.Occurrences.{is_among, parameter_names}
 use Rattle.wesl_rename.proofs.SetLemmas.{insert_has, among_more}
 use Rattle.wesl_rename.proofs.scope.Scope.body.Goals as goal
 

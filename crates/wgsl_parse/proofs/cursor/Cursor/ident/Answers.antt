@@ -1,4 +1,4 @@
-use Rattle.wgsl_phrases.proofs.Steps.{outcomes, passes}
+use Rattle.wgsl_parser_spec.proofs.Steps.{outcomes, passes}
 use Rattle.wgsl_parse.proofs.Marks.{parses_ident}
 use Rattle.wgsl_parse.proofs.cursor.Cursor.ident.Goals as goal
 

@@ -1,5 +1,5 @@
 use Rattle.std.proofs.Common.{◌≡◌, sym, ◌∙◌, ap}
-use Rattle.wgsl_phrases.proofs.Steps.{exhausts, some_injective}
+use Rattle.wgsl_parser_spec.proofs.Steps.{exhausts, some_injective}
 use Rattle.wgsl_token.specs.declared.token.SpannedToken.{SpannedToken}
 use Rattle.wgsl_parse.specs.Marks.{name_of}
 use Rattle.wgsl_parse.proofs.Marks.{parses_word, no_word_at}

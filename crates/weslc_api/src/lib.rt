@@ -1,0 +1,19 @@
+//! The calls of `weslc`.
+#![tactic(auto)]
+
+mod calls;
+mod error;
+mod options;
+mod recorded;
+mod resolver;
+
+pub use calls::{compile, link};
+pub use error::{CompileError, ErrorContext, ImportKind, ResolveKind};
+pub use options::Options;
+pub use recorded::Recorded;
+pub use resolver::VirtualResolver;
+pub use wesl_link::{
+    BasicSourceMap, EscapeMangler, ImportError, ResolveError, Resolver, SourceMap,
+};
+pub use weslc_unit::{Fault, NameFault, NumberFault, ValidateError};
+pub use wgsl_parse::{Error, ErrorKind};
