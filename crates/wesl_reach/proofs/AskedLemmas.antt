@@ -19,7 +19,7 @@ use Rattle.wesl_scopes.specs.declared.module.Module.{Module}
 use Rattle.wesl_scopes.specs.declared.denote.Symbol.{Symbol as Place}
 use Rattle.wesl_scopes.specs.Meanings.{Known, declared, imported, bare, known}
 use Rattle.wesl_scopes.specs.Outcomes.{symbol_at, unloaded, Loaded, item_in, item_at, meant_as, home_of, loaded}
-use Rattle.wesl_scopes.proofs.ScopeLemmas.{to_contains, same_name, self_name}
+use Rattle.wgsl_items.proofs.Members.{to_contains, same_bytes, bytes_same}
 use Rattle.wesl_reach.specs.declared.linking.Linking.{Linking}
 use Rattle.wesl_reach.specs.declared.linking.AskedModule.{AskedModule}
 use Rattle.wesl_reach.specs.Reach.{ReachedAt, onto, KeepsAll}
@@ -34,7 +34,7 @@ use Rattle.wesl_reach.proofs.RoundLemmas.{Grows, item_grown, reached_grown, foll
 -- ---- what is asked for, as the table keeps it
 
 is_same : (x y : Name) → x ≡ y → is_eq (slice_cmp nat_cmp x y) ≡ true
-is_same x y e = is_eq-slice_cmp x y ∙ subst (λ z. bytes_eq x z ≡ true) e (self_name x)
+is_same x y e = is_eq-slice_cmp x y ∙ subst (λ z. bytes_eq x z ≡ true) e (bytes_same x)
 
 pub name_there : (a : AskedModule) (k : String Global) → Contains a.names.keys k → name_asked (Some a) (string_bytes k) ≡ true
 name_there a k c = list_any-from_Any (is_at (λ j. slice_cmp nat_cmp (string_bytes k) (string_bytes j))) a.names.keys (c.0, k, c.1, c.2, is_same (string_bytes k) (string_bytes k) refl)
@@ -42,7 +42,7 @@ name_there a k c = list_any-from_Any (is_at (λ j. slice_cmp nat_cmp (string_byt
 pub there_name : (a : AskedModule) (x : Name) → name_asked (Some a) x ≡ true → (k : String Global) × Contains a.names.keys k × (string_bytes k ≡ x)
 there_name a x e =
     let found = Any-from_list_any (is_at (λ j. slice_cmp nat_cmp x (string_bytes j))) a.names.keys e in
-    (found.1, (found.0, found.2, found.3), sym (same_name x (string_bytes found.1) (sym (is_eq-slice_cmp x (string_bytes found.1)) ∙ found.4)))
+    (found.1, (found.0, found.2, found.3), sym (same_bytes x (string_bytes found.1) (sym (is_eq-slice_cmp x (string_bytes found.1)) ∙ found.4)))
 
 -- the table's module at a path
 abbrev pub IsEntry : AskedNames → Path → AskedModule → Type 0
@@ -51,7 +51,7 @@ IsEntry asked p a = (key : String Global) × Contains asked.entries (key, a) × 
 pub entry_there : (asked : AskedNames) (p : Path) (a : AskedModule) → get_by_text asked p ≡ Some a → IsEntry asked p a
 entry_there asked p a e =
     let q = place_from_lookup (λ l. is_eq (slice_cmp nat_cmp p (string_bytes l))) asked.entries a e in
-    (q.1, to_contains asked.entries q.0 (q.1, a) q.2, sym (same_name p (string_bytes q.1) (sym (is_eq-slice_cmp p (string_bytes q.1)) ∙ q.3)))
+    (q.1, to_contains asked.entries q.0 (q.1, a) q.2, sym (same_bytes p (string_bytes q.1) (sym (is_eq-slice_cmp p (string_bytes q.1)) ∙ q.3)))
 
 asked_there : (asked : AskedNames) (u : Symbol) → asks asked u ≡ true → (a : AskedModule) × (get_by_text asked u.home ≡ Some a) × (name_asked (Some a) u.name ≡ true)
 asked_there asked u e = at (get_by_text asked u.home) refl e

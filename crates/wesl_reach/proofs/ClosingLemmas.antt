@@ -20,7 +20,7 @@ use Rattle.wesl_link_spec.specs.Occurrences.{Name}
 use Rattle.wesl_link_spec.specs.Modules.{Path}
 use Rattle.wesl_rename.specs.Scopes.{texts}
 use Rattle.wesl_reach.specs.Closing.{HeldNames, name_among, held_at, Holds, LeadsTo, IsReached, IsSound}
-use Rattle.wesl_scopes.proofs.ScopeLemmas.{same_name, get_map, to_contains}
+use Rattle.wgsl_items.proofs.Members.{same_bytes, get_map, to_contains}
 
 pub holds : (old mid new : HeldNames) (places more : BTreeMap ℕ Name) (key : String Global) (m : Path) (place : ℕ) (name : Name)
     → ((k : ℕ) → get nat_cmp places k ≡ held_at old m k)
@@ -34,7 +34,7 @@ holds old mid new places more key m place name taken others added is put = λ n 
     at : (n : Path) (k : ℕ) (b : Bool) → bytes_eq m n ≡ b
         → held_at new n k ≡ (if b then (if nat_eq place k then Some name else held_at old n k) else held_at old n k)
     at n k true e =
-        let same : m ≡ n = same_name m n e in
+        let same : m ≡ n = same_bytes m n e in
         ap (λ o. name_among o k) (found n ∙ ap (λ b. if b then Some more else get_by_text mid n) e)
         ∙ added.0 k
         ∙ ap (λ o. if is_at (nat_cmp place) k then Some name else o) (taken k ∙ ap (λ t. held_at old t k) same)
@@ -64,7 +64,7 @@ sound_more l old new xs ys s name reached sound holds e = (
     at : (m : Path) (k : ℕ) (b c : Bool) → bytes_eq (string_bytes s.«module».now.printed_path) m ≡ b → nat_eq s.place k ≡ c
         → IsSome (if b then (if c then Some name else held_at old m k) else held_at old m k) → LeadsTo l m k
     at m k true true is here some =
-        subst (λ n. LeadsTo l n k) (same_name (string_bytes s.«module».now.printed_path) m is)
+        subst (λ n. LeadsTo l n k) (same_bytes (string_bytes s.«module».now.printed_path) m is)
         (subst (λ n. LeadsTo l (string_bytes s.«module».now.printed_path) n) (eqb-true s.place k here) reached)
     at m k true false is here some = sound.0 m k some
     at m k false c is here some = sound.0 m k some

@@ -19,6 +19,7 @@ use Rattle.std.proofs.lemmas.Bool.{eqb-true, eq-eqb}
 use Rattle.std.proofs.lemmas.Option.{slice_get_within}
 use Rattle.std.proofs.lemmas.Map.Keys.{sorted_head, sorted_tail}
 use Rattle.std.proofs.lemmas.Map.Entries.{btree_map_get_place}
+use Rattle.wgsl_items.proofs.Members.{first_in, later_in, in_cases, same_bytes, bytes_same, to_contains, from_contains, get_map}
 use denote.Ref.{Bor}
 use Rattle.wgsl_path.specs.declared.path.ModulePath.{ModulePath}
 use Rattle.wgsl_path.specs.Paths.{path_text}
@@ -34,8 +35,8 @@ use Rattle.wesl_reach.specs.Reach.{Holding}
 use Rattle.wesl_reach.specs.Closing.{HeldNames, name_among, held_at}
 use Rattle.wesl_reach.specs.Following.{IsPresent, ArePresent}
 use Rattle.wesl_reach.specs.Missing.{RefusedFor, TellsWhy, held_in, held_alone, IsMissingAt, IsFirstMissing, NoneMissing, FindsMissing}
-use Rattle.wesl_scopes.proofs.ScopeLemmas.{same_name, self_name, to_contains, from_contains, get_map, map_get}
-use Rattle.wesl_reach.proofs.PresentLemmas.{PresentBelow, DoneBut, in_cases, one_done, all_done, key_found, entry_found}
+use Rattle.wesl_scopes.proofs.ScopeLemmas.{map_get}
+use Rattle.wesl_reach.proofs.PresentLemmas.{PresentBelow, DoneBut, one_done, all_done, key_found, entry_found}
 
 -- ---- why a name is refused
 
@@ -89,13 +90,13 @@ alone_is : (m n : Path) (k j : ℕ) → IsSome (held_alone m k n j) → (m ≡ n
 alone_is m n k j some = at (bytes_eq m n) (nat_eq k j) refl refl some
   where
     at : (b c : Bool) → bytes_eq m n ≡ b → nat_eq k j ≡ c → IsSome {T = Name} (if b then (if c then Some [] else None) else None) → (m ≡ n) × (k ≡ j)
-    at true true is here some = (same_name m n is, eqb-true k j here)
+    at true true is here some = (same_bytes m n is, eqb-true k j here)
     at true false is here some = absurd (cc)
     at false c is here some = absurd (cc)
 
 is_alone : (m n : Path) (k j : ℕ) → m ≡ n → k ≡ j → IsSome (held_alone m k n j)
 is_alone m n k j home place =
-    let is : bytes_eq m n ≡ true = subst (λ t. bytes_eq m t ≡ true) home (self_name m) in
+    let is : bytes_eq m n ≡ true = subst (λ t. bytes_eq m t ≡ true) home (bytes_same m) in
     let here : nat_eq k j ≡ true = eq-eqb k j place in
     subst (IsSome {T = Name}) (λ i. if sym is i then (if sym here i then Some [] else None) else None) refl
 
@@ -173,12 +174,6 @@ Ascends before (x ∷ xs) = ((y : _) → Contains xs y → before x y) × Ascend
 abbrev pub IsLeft : {K : Type 0} → Loaded → (K → Holding) → (K → K → Type 0) → List K → List K → Type 0
 IsLeft find part before left all = DoneBut (λ e. NoneMissing find (part e)) left all × ((e : _) → Contains left e → Contains all e) × Ascends before left
 
-head_in : {K : Type 0} (x : K) (xs : List K) → Contains (x ∷ xs) x
-head_in x xs = to_contains (x ∷ xs) 0 x refl
-
-tail_in : {K : Type 0} (x : K) (xs : List K) (y : K) → Contains xs y → Contains (x ∷ xs) y
-tail_in x xs y c = let p = from_contains xs y c in to_contains (x ∷ xs) (suc p.0) y p.1
-
 pub all_parts : {K : Type 0} (find : Loaded) (part : K → Holding) (before : K → K → Type 0) (all : List K) → Ascends before all → IsLeft find part before all all
 all_parts find part before all up = ((λ x c. inr c), (λ e c. c), up)
 
@@ -186,7 +181,7 @@ pub one_part : {K : Type 0} (find : Loaded) (part : K → Holding) (before : K �
     → IsLeft find part before left all → NoneMissing find (part y) → IsLeft find part before rest all
 one_part find part before left rest all y is so none =
     let up = subst (Ascends before) is so.2 in
-    (one_done (λ e. NoneMissing find (part e)) left rest all y is none so.0, (λ e c. so.1 e (subst (λ l. Contains l e) (sym is) (tail_in y rest e c))), up.1)
+    (one_done (λ e. NoneMissing find (part e)) left rest all y is none so.0, (λ e c. so.1 e (subst (λ l. Contains l e) (sym is) (later_in e y rest c))), up.1)
 
 -- the parts are of the whole, and stand apart in it
 pub record AreParts {K : Type 0} (part : K → Holding) (whole : Holding) (before : K → K → Type 0) (all : List K) : Type 0 where
@@ -234,7 +229,7 @@ module _ {K : Type 0} (find : Loaded) (part : K → Holding) (whole : Holding) (
       declaration = now.declaration;
       occurrence = now.occurrence;
       refused = held_by find (part y) whole now.home now.declaration now.occurrence r
-          (parts.inside y now.home now.declaration (so.1 y (subst (λ l. Contains l y) (sym is) (head_in y rest))) now.refused.is_held) now.refused;
+          (parts.inside y now.home now.declaration (so.1 y (subst (λ l. Contains l y) (sym is) (first_in y rest))) now.refused.is_held) now.refused;
       first = λ m k o s at less. let f = parts.from m k at.is_held in no_earlier m k o s at less f.0 f.2 (so.0 f.0 f.1);
     }
 
@@ -267,12 +262,12 @@ in_module : (m n : Path) (places : BTreeMap ℕ Name) (j : ℕ) → IsSome (held
 in_module m n places j some = at (bytes_eq m n) refl some
   where
     at : (b : Bool) → bytes_eq m n ≡ b → IsSome (if b then get nat_cmp places j else None) → (m ≡ n) × IsSome (get nat_cmp places j)
-    at true is some = (same_name m n is, some)
+    at true is some = (same_bytes m n is, some)
     at false is some = absurd (cc)
 
 module_in : (m n : Path) (places : BTreeMap ℕ Name) (j : ℕ) → m ≡ n → IsSome (get nat_cmp places j) → IsSome (held_in m places n j)
 module_in m n places j home some =
-    let is : bytes_eq m n ≡ true = subst (λ t. bytes_eq m t ≡ true) home (self_name m) in
+    let is : bytes_eq m n ≡ true = subst (λ t. bytes_eq m t ≡ true) home (bytes_same m) in
     subst IsSome (λ i. if sym is i then get nat_cmp places j else None) some
 
 pub place_parts : (m : Path) (places : BTreeMap ℕ Name) → AreParts (held_alone m) (held_in m places) IsLower (keys places)

@@ -40,7 +40,8 @@ use Rattle.wesl_reach.specs.Answers.{AreLoadedTables, Refuses}
 use Rattle.wesl_reach.specs.Loading.{AreTabled, paths_of, AreSought, IsOldOrAsked, RefusesLoading, IsLoadedOne, AreAllLoaded, IsRoundEnd}
 use Rattle.wesl_reach.proofs.RefusedLemmas as refused
 use Rattle.wesl_reach.proofs.RefusedLemmas.{closed_refuses_none, stopped_refused}
-use Rattle.wesl_reach.proofs.LoadLemmas.{AskedEntry, texts_of, in_left, one_in, path_and_unit, found_listed, listed_found, old_or_new, one_tabled, one_then}
+use Rattle.std.proofs.lemmas.List.Elements.{Contains-append_left}
+use Rattle.wesl_reach.proofs.LoadLemmas.{AskedEntry, texts_of, one_in, path_and_unit, found_listed, listed_found, old_or_new, one_tabled, one_then}
 
 -- ---- the modules of a table, by their paths
 
@@ -257,7 +258,7 @@ module _ (sources : Sources) (max : ℕ) (root : Path) (keep : List Name) (r : R
         modules = e.modules ++ l.more;
         tabled = subst (λ ms. AreTabled ms (e.modules ++ l.more)) (sym same) l.tabled;
         unit = e.unit;
-        rooted = record { path = e.rooted.path; stands = in_left e.modules l.more (e.rooted.path, e.unit) e.rooted.stands; printed = e.rooted.printed };
+        rooted = record { path = e.rooted.path; stands = Contains-append_left e.modules l.more (e.rooted.path, e.unit) e.rooted.stands; printed = e.rooted.printed };
         closed = subst (λ ms. IsClosed ms root keep after.held more) (sym same) closed;
         named = subst (λ ms. AreNamedInTable ms root) (sym same) (named_more r.modules asked new root l.on l.only e.closed.by_import e.named);
         many = omega (arith, length-append e.modules l.more, all_of_them sources max (length e.modules) (paths_of asked) l.more l.loads, one_at_least asked.entries some, e.many);

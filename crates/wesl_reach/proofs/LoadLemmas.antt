@@ -16,6 +16,7 @@ use Rattle.std.specs.declared.alloc.Global.{Global}
 use Rattle.std.proofs.lemmas.List.{length-append, append-nil}
 use Rattle.std.proofs.lemmas.Map.Entries.{place_from_lookup, btree_map_get_place}
 use Rattle.std.proofs.lemmas.Map.Text.{btree_map_updates_text, is_eq-slice_cmp}
+use Rattle.std.proofs.lemmas.List.Elements.{Contains-append_left, Contains-append_right, Contains-append_cases}
 use Rattle.wgsl_path.specs.declared.path.ModulePath.{ModulePath}
 use Rattle.wgsl_path.specs.Paths.{path_text}
 use Rattle.wgsl_syntax.specs.Tree.{UnitTree}
@@ -31,13 +32,14 @@ use Rattle.wesl_scopes.specs.declared.error.ImportError.TheVariants as import
 use Rattle.wesl_scopes.specs.declared.module.Module.{Module}
 use Rattle.wesl_scopes.specs.Meanings.{GivesError}
 use Rattle.wesl_scopes.specs.Tells.{Opens}
-use Rattle.wesl_scopes.proofs.ScopeLemmas.{to_contains, from_contains, get_map, map_get, append_left, append_right, append_cases, same_name, self_name}
+use Rattle.wesl_scopes.proofs.ScopeLemmas.{map_get, append_left, append_right, append_cases}
 use Rattle.wesl_reach.specs.declared.linking.AskedModule.{AskedModule}
 use Rattle.wesl_reach.specs.Missing.{refusal_of}
 use Rattle.wesl_reach.specs.Resolved.{LoadedModules, modules_of}
 use Rattle.wesl_reach.specs.Stages.{AskedNames}
 use Rattle.wesl_reach.specs.Loading.{AreTabled, paths_of, AreSought, IsOldOrAsked, RefusesLoading, IsLoadedOne, AreAllLoaded}
-use Rattle.wesl_reach.proofs.PresentLemmas.{DoneBut, in_cases, all_done}
+use Rattle.wgsl_items.proofs.Members.{in_cases, to_contains, from_contains, get_map, same_bytes, bytes_same}
+use Rattle.wesl_reach.proofs.PresentLemmas.{DoneBut, all_done}
 
 -- ---- one module
 
@@ -90,15 +92,6 @@ module _ (sources : Sources) (max n : ℕ) (path : ModulePath) (p : Path) (is : 
 
 -- ---- tables and lists
 
-pub in_left : {X : Type 0} (xs ys : List X) (x : X) → Contains xs x → Contains (xs ++ ys) x
-in_left xs ys x c = let p = from_contains xs x c in to_contains (xs ++ ys) p.0 x (append_left xs ys p.0 x p.1)
-
-pub in_right : {X : Type 0} (xs ys : List X) (x : X) → Contains ys x → Contains (xs ++ ys) x
-in_right xs ys x c = let p = from_contains ys x c in let q = append_right xs ys p.0 x p.1 in to_contains (xs ++ ys) q.0 x q.1
-
-pub in_either : {X : Type 0} (xs ys : List X) (x : X) → Contains (xs ++ ys) x → Contains xs x ⊎ Contains ys x
-in_either xs ys x c = let p = from_contains (xs ++ ys) x c in ⊎_elim (λ l. inl (to_contains xs l.0 x l.1)) (λ r. inr (to_contains ys r.0 x r.1)) (append_cases xs ys p.0 x p.1)
-
 in_one : {X : Type 0} (y x : X) → Contains (y ∷ []) x → y ≡ x
 in_one y x c = let p = from_contains (y ∷ []) x c in at p.0 p.1
   where
@@ -119,7 +112,7 @@ path_and_unit m = (m.path, unit_tree m.unit)
 pub entry_of : {X : Type 0} (ms : BTreeMap (String Global) X) (p : Path) (m : X) → get_by_text ms p ≡ Some m → (i : ℕ) × (key : String Global) × (slice_get ms.entries i ≡ Some (key, m)) × (string_bytes key ≡ p)
 entry_of ms p m e =
     let f = place_from_lookup (λ l. is_eq (slice_cmp nat_cmp p (string_bytes l))) ms.entries m e in
-    (f.0, f.1, f.2, sym (same_name p (string_bytes f.1) (sym (is_eq-slice_cmp p (string_bytes f.1)) ∙ f.3)))
+    (f.0, f.1, f.2, sym (same_bytes p (string_bytes f.1) (sym (is_eq-slice_cmp p (string_bytes f.1)) ∙ f.3)))
 
 pub found_listed : (ms : LoadedModules) (p : Path) (m : Module) → get_by_text ms p ≡ Some m → Contains (modules_of ms) (path_and_unit m)
 found_listed ms p m e = let f = entry_of ms p m e in to_contains (modules_of ms) f.0 (path_and_unit m) (get_map (λ (e : Entry). path_and_unit e.1) ms.entries f.0 (f.1, m) f.2)
@@ -134,13 +127,13 @@ listed_found ms ordered x c =
 module _ (old new : LoadedModules) (p : Path) (one : Module) (none : get_by_text old p ≡ None)
     (stands : (q : Path) → get_by_text new q ≡ (if bytes_eq p q then Some one else get_by_text old q)) where
   pub added : get_by_text new p ≡ Some one
-  added = stands p ∙ ap (λ b. if b then Some one else get_by_text old p) (self_name p)
+  added = stands p ∙ ap (λ b. if b then Some one else get_by_text old p) (bytes_same p)
 
   pub stayed : (q : Path) (m : Module) → get_by_text old q ≡ Some m → get_by_text new q ≡ Some m
   stayed q m e = at (bytes_eq p q) refl
     where
       at : (b : Bool) → bytes_eq p q ≡ b → get_by_text new q ≡ Some m
-      at true is = let both : None ≡ Some m = sym none ∙ ap (get_by_text old) (same_name p q is) ∙ e in absurd (cc)
+      at true is = let both : None ≡ Some m = sym none ∙ ap (get_by_text old) (same_bytes p q is) ∙ e in absurd (cc)
       at false is = stands q ∙ ap (λ b. if b then Some one else get_by_text old q) is ∙ e
 
   pub still_none : (q : Path) → bytes_eq p q ≡ false → get_by_text old q ≡ None → get_by_text new q ≡ None
@@ -150,7 +143,7 @@ module _ (old new : LoadedModules) (p : Path) (one : Module) (none : get_by_text
   old_or_new q m e = at (bytes_eq p q) refl
     where
       at : (b : Bool) → bytes_eq p q ≡ b → (get_by_text old q ≡ Some m) ⊎ ((p ≡ q) × (one ≡ m))
-      at true is = let both : Some one ≡ Some m = sym (stands q ∙ ap (λ b. if b then Some one else get_by_text old q) is) ∙ e in let same : one ≡ m = cc in inr (same_name p q is, same)
+      at true is = let both : Some one ≡ Some m = sym (stands q ∙ ap (λ b. if b then Some one else get_by_text old q) is) ∙ e in let same : one ≡ m = cc in inr (same_bytes p q is, same)
       at false is = inl (sym (stands q ∙ ap (λ b. if b then Some one else get_by_text old q) is) ∙ e)
 
 pub one_tabled : (sources : Sources) (max : ℕ) (old new : LoadedModules) (modules : Modules) {path : ModulePath} (p : Path) → AreTabled old modules → get_by_text old p ≡ None
@@ -162,12 +155,12 @@ one_tabled sources max old new modules p t none l = record {
     λ c. ⊎_elim
         (λ left. let f = listed_found old t.ordered x ((t.same x).0 left) in subst (Contains (modules_of new)) f.3 (found_listed new f.0 f.1 (stayed old new p l.one none l.stands f.0 f.1 f.2)))
         (λ right. subst (Contains (modules_of new)) (in_one (path_and_unit l.one) x right) (found_listed new p l.one (added old new p l.one none l.stands)))
-        (in_either modules (path_and_unit l.one ∷ []) x c),
+        (Contains-append_cases modules (path_and_unit l.one ∷ []) x c),
     λ c.
         let f = listed_found new l.ordered x c in
         ⊎_elim
-        (λ before. in_left modules (path_and_unit l.one ∷ []) x ((t.same x).1 (subst (Contains (modules_of old)) f.3 (found_listed old f.0 f.1 before))))
-        (λ now. in_right modules (path_and_unit l.one ∷ []) x (subst (Contains (path_and_unit l.one ∷ [])) (ap path_and_unit now.1 ∙ f.3) (one_in (path_and_unit l.one))))
+        (λ before. Contains-append_left modules (path_and_unit l.one ∷ []) x ((t.same x).1 (subst (Contains (modules_of old)) f.3 (found_listed old f.0 f.1 before))))
+        (λ now. Contains-append_right modules (path_and_unit l.one ∷ []) x (subst (Contains (path_and_unit l.one ∷ [])) (ap path_and_unit now.1 ∙ f.3) (one_in (path_and_unit l.one))))
         (old_or_new old new p l.one none l.stands f.0 f.1 f.2),
   );
   many = length-append modules (path_and_unit l.one ∷ []) ∙ ap (λ n. n + 1) t.many ∙ sym (l.many none);

@@ -12,14 +12,15 @@ use Rattle.std.proofs.lemmas.Map.Text.{btree_map_updates_text}
 use Rattle.wgsl_path.specs.Paths.{path_text}
 use Rattle.wgsl_syntax.specs.Tree.{Decl, UnitTree}
 use Rattle.wgsl_syntax.specs.View.{unit_tree}
+use Rattle.wgsl_syntax.specs.Names.{declared_name}
 use Rattle.wesl_resolve.specs.Mangling.{mangled}
-use Rattle.wesl_link_spec.specs.Occurrences.{Name, declared_name}
+use Rattle.wesl_link_spec.specs.Occurrences.{Name}
 use Rattle.wesl_link_spec.specs.Modules.{Path, Symbol}
 use Rattle.wesl_scopes.specs.declared.module.Module.{Module}
 use Rattle.wesl_scopes.specs.declared.denote.Symbol.{Symbol as Place}
 use Rattle.wesl_scopes.specs.Meanings.{Known, declared, imported, bare, known}
 use Rattle.wesl_scopes.specs.Outcomes.{symbol_at, Loaded, item_in, item_at, meant_as, outcome, home_of, loaded, IsInTable}
-use Rattle.wesl_scopes.proofs.ScopeLemmas.{same_name, self_name}
+use Rattle.wgsl_items.proofs.Members.{same_bytes, bytes_same}
 use Rattle.wesl_scopes.proofs.TellLemmas.{declares}
 use Rattle.wesl_reach.specs.declared.linking.Linking.{Linking}
 use Rattle.wesl_reach.specs.declared.linking.AskedModule.{AskedModule}
@@ -44,7 +45,7 @@ named_more l old new s name placed before holds is m k y e = at m k y (bytes_eq 
         → (if b then (if c then Some name else held_at old m k) else held_at old m k) ≡ Some y → IsNamedAt l.modules.now l.root.now m k y
     at m k y true true same place e =
         let name_is : name ≡ y = cc in
-        subst (λ n. IsNamedAt l.modules.now l.root.now n k y) (same_name (string_bytes s.«module».now.printed_path) m same)
+        subst (λ n. IsNamedAt l.modules.now l.root.now n k y) (same_bytes (string_bytes s.«module».now.printed_path) m same)
         (subst (λ n. IsNamedAt l.modules.now l.root.now (string_bytes s.«module».now.printed_path) n y) (eqb-true s.place k place)
         (subst (λ z. IsNamedAt l.modules.now l.root.now (string_bytes s.«module».now.printed_path) s.place z) name_is here))
     at m k y true false same place e = before m k y e
@@ -133,7 +134,7 @@ order_asked l held old new u now more by_name by_import before = record {
     at : (s : Symbol) (b c : Bool) → bytes_eq u.home s.home ≡ b → bytes_eq u.name s.name ≡ c → (if b then (if c then true else asks old s) else asks old s) ≡ true
         → IsAskedAt (loaded l.modules.now) l.root.now l.keep.now s
     at s true true home name e =
-        let same : u ≡ s = (λ k. record { home = same_name u.home s.home home k; name = same_name u.name s.name name k }) in
+        let same : u ≡ s = (λ k. record { home = same_bytes u.home s.home home k; name = same_bytes u.name s.name name k }) in
         subst (IsAskedAt (loaded l.modules.now) l.root.now l.keep.now) same now
     at s true false home name e = before.asked_at s e
     at s false c home name e = before.asked_at s e
@@ -154,7 +155,7 @@ asked_by_name old mid new took more key t x others added path is put before p a 
     at true same e =
         let it : more ≡ a = cc in
         subst (λ (b : AskedModule). (path_text b.path ≡ p) × ((y : Name) × (name_asked (Some b) y ≡ true))) it
-        (path ∙ same_name t p same, (x, added x ∙ ap (λ b. if b then true else name_asked (Some took) x) (self_name x)))
+        (path ∙ same_bytes t p same, (x, added x ∙ ap (λ b. if b then true else name_asked (Some took) x) (bytes_same x)))
     at false same e = before p a e
 
 pub asked_by_import : (ms : LoadedModules) (old mid new : AskedNames) (more : AskedModule) (key : String Global) (t : Name)

@@ -12,6 +12,8 @@ use Rattle.std.specs.declared.alloc.Global.{Global}
 use Rattle.std.proofs.lemmas.Bool.{eqb-true}
 use Rattle.std.proofs.lemmas.Map.Entries.{place_from_lookup}
 use Rattle.std.proofs.lemmas.Map.Text.{is_eq-slice_cmp}
+use Rattle.wgsl_items.proofs.Bools.{none_if}
+use Rattle.wgsl_items.proofs.Members.{in_cases, to_contains, from_contains, get_map, same_bytes}
 use denote.Ref.{Bor}
 use Rattle.wgsl_syntax.specs.Tree.{UnitTree}
 use Rattle.wesl_link_spec.specs.Occurrences.{Name}
@@ -20,7 +22,6 @@ use Rattle.wesl_rename.specs.Scopes.{texts}
 use Rattle.wesl_scopes.specs.Outcomes.{Outcome, symbol_at, unloaded, missing, private, free, Loaded, outcome}
 use Rattle.wesl_reach.specs.Closing.{HeldNames, name_among, held_at}
 use Rattle.wesl_reach.specs.Following.{Stage, Handled, AllFollowed, IsPresent, ArePresent}
-use Rattle.wesl_scopes.proofs.ScopeLemmas.{to_contains, from_contains, get_map, same_name}
 
 abbrev pub PresentBelow : Loaded → Path × UnitTree → List (Bor (List ℕ)) → ℕ → Type 0
 PresentBelow find h names n = (i : ℕ) (x : Name) → i < n → slice_get (texts names) i ≡ Some x → IsPresent (outcome find h x)
@@ -40,13 +41,6 @@ one_present find h names n x is below now i y less there = ⊎_elim
 -- what is true of each element that is no longer left
 abbrev pub DoneBut : {A : Type 0} → (A → Type 0) → List A → List A → Type 0
 DoneBut P left all = (x : _) → Contains all x → P x ⊎ Contains left x
-
-pub in_cases : {A : Type 0} (y : A) (ys : List A) (x : A) → Contains (y ∷ ys) x → (y ≡ x) ⊎ Contains ys x
-in_cases y ys x c = let p = from_contains (y ∷ ys) x c in at p.0 p.1
-  where
-    at : (i : ℕ) → slice_get (y ∷ ys) i ≡ Some x → (y ≡ x) ⊎ Contains ys x
-    at zero e = inl (cc)
-    at (suc i) e = inr (to_contains ys i x e)
 
 pub one_done : {A : Type 0} (P : A → Type 0) (left rest all : List A) (y : A) → left ≡ y ∷ rest → P y → DoneBut P left all → DoneBut P rest all
 one_done P left rest all y e now before x c = ⊎_elim (λ p. inl p) (λ l. ⊎_elim (λ same. inl (subst P same now)) (λ r. inr r) (in_cases y rest x (subst (λ l. Contains l x) e l))) (before x c)
@@ -76,7 +70,7 @@ entry_found held m k s = at (get_by_text held m) refl s
     at None e s = absurd (cc)
     at (Some places) e s =
         let p = place_from_lookup (λ l. is_eq (slice_cmp nat_cmp m (string_bytes l))) held.entries places e in
-        (p.1, places, to_contains held.entries p.0 (p.1, places) p.2, sym (same_name m (string_bytes p.1) (sym (is_eq-slice_cmp m (string_bytes p.1)) ∙ p.3)), s)
+        (p.1, places, to_contains held.entries p.0 (p.1, places) p.2, sym (same_bytes m (string_bytes p.1) (sym (is_eq-slice_cmp m (string_bytes p.1)) ∙ p.3)), s)
 
 -- with nothing missing
 abbrev pub surely : Stage → Stage
@@ -101,7 +95,3 @@ followed_sure find s e all m k held h d x is there c = sure_handled s (outcome f
 
 pub followed_present : (find : Loaded) (s : Stage) → ((m : Path) (k : ℕ) → IsSome (s.held m k) → ArePresent find m k) → AllFollowed find s → AllFollowed find (surely s)
 followed_present find s present all m k held h d x is there c = present_handled s (outcome find h x) (present m k held h d x is there c) (all m k held h d x is there c)
-
-pub not_some : {A : Type 0} (o : Option A) → ((x : A) → o ≡ Some x → ⊥) → o ≡ None
-not_some None other = refl
-not_some (Some x) other = absurd (other x refl)

@@ -4,14 +4,16 @@ use Rattle.std.specs.Prelude.{slice_get}
 use Rattle.std.specs.Option.{IsSome}
 use Rattle.std.specs.List.{Contains}
 use Rattle.wgsl_syntax.specs.Tree.{Decl, UnitTree}
-use Rattle.wesl_link_spec.specs.Occurrences.{Name, declared_name}
+use Rattle.wgsl_syntax.specs.Names.{declared_name}
+use Rattle.wesl_link_spec.specs.Occurrences.{Name}
 use Rattle.wesl_link_spec.specs.Modules.{Path, Symbol, Modules, IsModule, Declares, Imports, local_name, IsImport, IsImported, Denotes, IsDeclaration, Reached}
 use Rattle.wesl_link_spec.specs.Modules as spec
 use Rattle.wesl_scopes.specs.Meanings.{Known, declared, imported, bare, known, import_known}
 use Rattle.wesl_scopes.specs.Outcomes.{symbol_at, Loaded, item_in, item_at, meant_as, outcome}
 use Rattle.wesl_scopes.specs.Tells.{IsFinder, StandsAt, Tells}
 use Rattle.wesl_reach.specs.Reach.{ReachedAt, kept, onto, Holding, Settled, IsSettled, KeepsAll, IsRooted}
-use Rattle.wesl_scopes.proofs.ScopeLemmas.{to_contains, from_contains, import_means, value_means}
+use Rattle.wgsl_items.proofs.Members.{to_contains, from_contains}
+use Rattle.wesl_scopes.proofs.ScopeLemmas.{import_means, value_means}
 use Rattle.wesl_scopes.proofs.TellLemmas.{declared_known, declares, tells}
 
 the_unit : (o : Option (Path × UnitTree)) (p : Path) (u : UnitTree) (h : Path × UnitTree) → o ≡ Some (p, u) → o ≡ Some h → h ≡ (p, u)

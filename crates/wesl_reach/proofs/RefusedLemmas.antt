@@ -19,8 +19,9 @@ use Rattle.std.proofs.lemmas.Map.Entries.{place_from_lookup, btree_map_get_place
 use Rattle.wgsl_path.specs.declared.path.ModulePath.{ModulePath}
 use Rattle.wgsl_syntax.specs.Tree.{Imp, UnitTree}
 use Rattle.wgsl_syntax.specs.View.{unit_tree}
+use Rattle.wgsl_syntax.specs.Names.{declared_name}
 use Rattle.wesl_resolve.specs.Mangling.{mangled}
-use Rattle.wesl_link_spec.specs.Occurrences.{Name, declared_name, occurrences}
+use Rattle.wesl_link_spec.specs.Occurrences.{Name, occurrences}
 use Rattle.wesl_link_spec.specs.Modules.{Path, Symbol, Modules, IsModule, Declares, Imports, local_name, IsImport, IsImported, IsMissing, lacking, bare as is_bare, IsPrivate, IsUnloaded, IsDeclaration, Reached, IsAsked}
 use Rattle.wesl_link_spec.specs.Modules as spec
 use Rattle.wesl_link_spec.specs.Names.{IsPrinted, stays, is_mangled}
@@ -37,7 +38,8 @@ use Rattle.wesl_reach.specs.Closing.{HeldNames, held_at}
 use Rattle.wesl_reach.specs.Stages.{AskedNames, name_asked, asks, stage}
 use Rattle.wesl_reach.specs.Closed.{HoldsAllReached, IsFirstUndeclared, IsClosed, IsNamedAt, AreNamed, IsAskedAt, IsStopped}
 use Rattle.wesl_reach.specs.Resolved.{HoldsReached, LoadedModules, modules_of, IsKeyed, NamesHeld, IsResolved}
-use Rattle.wesl_scopes.proofs.ScopeLemmas.{to_contains, from_contains, map_get, get_map, import_means, same_name, self_name}
+use Rattle.wgsl_items.proofs.Members.{to_contains, from_contains, get_map, same_bytes, bytes_same}
+use Rattle.wesl_scopes.proofs.ScopeLemmas.{map_get, import_means}
 use Rattle.wesl_scopes.proofs.TellLemmas.{IsFresh, declared_known, has_declared, has_imported, tells}
 use Rattle.wesl_reach.proofs.ReachLemmas.{found_unit, sought_at, import_found, denoted, same_place, stands_there, reached_there}
 
@@ -267,10 +269,10 @@ names_held ms root held keyed finder named m place s y at is = printed (bytes_eq
 
     printed : (b : Bool) → bytes_eq m root ≡ b → y ≡ (if b then declared_name n.declaration else mangled n.home.path (declared_name n.declaration)) → IsPrinted (modules_of ms) root s y
     printed true same e =
-        subst (λ t. IsPrinted (modules_of ms) root t y) (sym (same_symbol s root y (at.home ∙ same_name m root same) (sym declaration.name ∙ sym e))) stays
+        subst (λ t. IsPrinted (modules_of ms) root t y) (sym (same_symbol s root y (at.home ∙ same_bytes m root same) (sym declaration.name ∙ sym e))) stays
     printed false other e =
         subst (IsPrinted (modules_of ms) root s) (ap (mangled n.home.path) (sym declaration.name) ∙ sym e)
-        (is_mangled (λ is_root. let no : bytes_eq m root ≡ true = subst (λ t. bytes_eq m t ≡ true) (sym at.home ∙ is_root) (self_name m) in let both : false ≡ true = sym other ∙ no in absurd (cc))
+        (is_mangled (λ is_root. let no : bytes_eq m root ≡ true = subst (λ t. bytes_eq m t ≡ true) (sym at.home ∙ is_root) (bytes_same m) in let both : false ≡ true = sym other ∙ no in absurd (cc))
         (entry_module ms m n.home n.found) (sym n.home.printed ∙ keyed m n.home n.found ∙ sym at.home))
 
 pub is_resolved : (ms : LoadedModules) (root : Path) (keep : List Name) (held : HeldNames) (asked : AskedNames) → IsKeyed ms → IsFinder (modules_of ms) (loaded ms) → IsRooted (modules_of ms) root keep
@@ -306,7 +308,7 @@ path_asked asked t e = at (get_by_text asked t.home) refl e
     at None is f = absurd (cc)
     at (Some a) is f =
         let p = place_from_lookup (λ l. is_eq (slice_cmp nat_cmp t.home (string_bytes l))) asked.entries a is in
-        let same : t.home ≡ string_bytes p.1 = same_name t.home (string_bytes p.1) (sym (is_eq-slice_cmp t.home (string_bytes p.1)) ∙ p.3) in
+        let same : t.home ≡ string_bytes p.1 = same_bytes t.home (string_bytes p.1) (sym (is_eq-slice_cmp t.home (string_bytes p.1)) ∙ p.3) in
         subst (Contains (asked_paths asked)) (sym same) (to_contains (asked_paths asked) p.0 (string_bytes p.1) (get_map (λ e. string_bytes e.0) asked.entries p.0 (p.1, a) p.2))
 
 module _ (modules : Modules) (ms : LoadedModules) (finder : IsFinder modules (loaded ms)) (root : Path) (keep : List Name) (held : HeldNames) (asked : AskedNames) (closed : IsClosed ms root keep held asked) where

@@ -10,7 +10,7 @@ use Rattle.wesl_link_spec.specs.Modules.{Path}
 use Rattle.wesl_link_spec.specs.Rounds.{missing_decl}
 use Rattle.wesl_scopes.specs.declared.error.ImportError.{ImportError}
 use Rattle.wesl_scopes.specs.Outcomes.{symbol_at, Loaded, item_at, loaded}
-use Rattle.wesl_scopes.proofs.ScopeLemmas.{from_contains}
+use Rattle.wgsl_items.proofs.Members.{from_contains}
 use Rattle.wesl_reach.specs.declared.linking.Linking.{Linking}
 use Rattle.wesl_reach.specs.Stages.{AskedNames, name_asked}
 use Rattle.wesl_reach.specs.Closing.{HeldNames}

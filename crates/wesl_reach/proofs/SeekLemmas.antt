@@ -3,6 +3,7 @@ use Rattle.std.proofs.Common.{◌≡◌, refl, sym, ap, ◌∙◌, subst, zero, 
 use Rattle.std.specs.Option.{option_map}
 use Rattle.std.specs.List.{Contains}
 use Rattle.std.proofs.lemmas.List.{append-nil}
+use Rattle.wgsl_items.proofs.Members.{later_in, to_contains, from_contains}
 use Rattle.wesl_link_spec.specs.Occurrences.{Name}
 use Rattle.wesl_link_spec.specs.Modules.{Path, Symbol}
 use Rattle.wesl_scopes.specs.declared.denote.Symbol.{Symbol as Place}
@@ -10,7 +11,6 @@ use Rattle.wesl_scopes.specs.declared.denote.Item.{Item}
 use Rattle.wesl_scopes.specs.declared.denote.Item.TheVariants as item
 use Rattle.wesl_scopes.specs.Meanings.{Known, declared, imported, bare, known}
 use Rattle.wesl_scopes.specs.Outcomes.{unloaded, item_in, item_at, item_outcome, home_of, loaded}
-use Rattle.wesl_scopes.proofs.ScopeLemmas.{to_contains, from_contains}
 use Rattle.wesl_reach.specs.declared.linking.Linking.{Linking}
 use Rattle.wesl_reach.specs.Closing.{HeldNames}
 use Rattle.wesl_reach.specs.Following.{Stage, Handled, Moves}
@@ -60,11 +60,8 @@ done_more P Q left all more done x c = ⊎_elim (λ p. inl (more x p)) (λ l. in
 abbrev pub AreAmong : {A : Type 0} → List A → List A → Type 0
 AreAmong {A} left all = (x : A) → Contains left x → Contains all x
 
-contains_behind : {A : Type 0} (y : A) (xs : List A) (x : A) → Contains xs x → Contains (y ∷ xs) x
-contains_behind y xs x c = let p = from_contains xs x c in to_contains (y ∷ xs) (suc p.0) x p.1
-
 pub first_among : {A : Type 0} (left rest all : List A) (y : A) → left ≡ y ∷ rest → AreAmong left all → Contains all y
 first_among left rest all y e among = among y (subst (λ l. Contains l y) (sym e) (to_contains (y ∷ rest) zero y refl))
 
 pub rest_among : {A : Type 0} (left rest all : List A) (y : A) → left ≡ y ∷ rest → AreAmong left all → AreAmong rest all
-rest_among left rest all y e among x c = among x (subst (λ l. Contains l x) (sym e) (contains_behind y rest x c))
+rest_among left rest all y e among x c = among x (subst (λ l. Contains l x) (sym e) (later_in x y rest c))

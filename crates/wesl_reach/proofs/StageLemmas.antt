@@ -24,7 +24,8 @@ use Rattle.wesl_reach.specs.Closing.{HeldNames, held_at, Holds}
 use Rattle.wesl_reach.specs.Reach.{KeepsOne, KeepsAll}
 use Rattle.wesl_reach.specs.Following.{Stage, Handled, IsFollowed, Moves, FollowedTo}
 use Rattle.wesl_reach.specs.Stages.{place_of, stage, AskedNames, name_asked, asks}
-use Rattle.wesl_scopes.proofs.ScopeLemmas.{same_name, self_name, from_contains, get_map, map_get, at_place}
+use Rattle.wgsl_items.proofs.Members.{same_bytes, bytes_same, from_contains, get_map, at_place}
+use Rattle.wesl_scopes.proofs.ScopeLemmas.{map_get}
 use Rattle.wesl_reach.proofs.ClosingLemmas.{at_default}
 use Rattle.wesl_reach.proofs.FollowLemmas.{handled_moves}
 
@@ -38,7 +39,7 @@ last_place (x ∷ xs) s = last_place xs s
 pub now_held : (old new : HeldNames) (m : Path) (k : ℕ) (name : Name) → Holds old m k name new → IsSome (held_at new m k)
 now_held old new m k name holds =
     let is : held_at new m k ≡ Some name =
-    holds m k ∙ ap (λ b. if b then (if nat_eq k k then Some name else held_at old m k) else held_at old m k) (self_name m)
+    holds m k ∙ ap (λ b. if b then (if nat_eq k k then Some name else held_at old m k) else held_at old m k) (bytes_same m)
     ∙ ap (λ b. if b then Some name else held_at old m k) (self_place k) in
     subst IsSome (sym is) refl
 
@@ -61,7 +62,7 @@ moves_more old new asked missing xs ys s name holds e = record {
     from : (m : Path) (k : ℕ) (b c : Bool) → bytes_eq (place_of s).0 m ≡ b → nat_eq s.place k ≡ c → IsSome (if b then (if c then Some name else held_at old m k) else held_at old m k)
         → IsSome (held_at old m k) ⊎ ((i : ℕ) × (length (map place_of xs) ≤ i) × (slice_get (map place_of ys) i ≡ Some (m, k)))
     from m k true true is here h =
-        let home : (place_of s).0 ≡ m = same_name (place_of s).0 m is in
+        let home : (place_of s).0 ≡ m = same_bytes (place_of s).0 m is in
         let there : s.place ≡ k = eqb-true s.place k here in
         inr (length (map place_of xs), omega arith, ap (λ l. slice_get (map place_of l) (length (map place_of xs))) e ∙ last_place xs s ∙ (λ j. Some (home j, there j)))
     from m k true false is here h = inl h
@@ -129,7 +130,7 @@ asked_more old mid new took more key t x has others added is put s = at (bytes_e
     at true e =
         ap (λ o. name_asked o s.name) (found s.home ∙ ap (λ b. if b then Some more else get_by_text mid s.home) e)
         ∙ added s.name
-        ∙ ap (λ u. if bytes_eq x s.name then true else u) (has s.name ∙ ap (λ h. asks old (record { home = h; name = s.name })) (same_name t s.home e))
+        ∙ ap (λ u. if bytes_eq x s.name then true else u) (has s.name ∙ ap (λ h. asks old (record { home = h; name = s.name })) (same_bytes t s.home e))
     at false e =
         ap (λ o. name_asked o s.name)
         (found s.home ∙ ap (λ b. if b then Some more else get_by_text mid s.home) e ∙ others s.home ∙ ap (λ b. if b then None else get_by_text old s.home) e)
@@ -138,7 +139,7 @@ abbrev Asks : (Symbol → Bool) → (Symbol → Bool) → Symbol → Type 0
 Asks old new t = (s : Symbol) → new s ≡ (if bytes_eq t.home s.home then (if bytes_eq t.name s.name then true else old s) else old s)
 
 pub now_asked : (old new : Symbol → Bool) (t : Symbol) → Asks old new t → new t ≡ true
-now_asked old new t a = a t ∙ ap (λ b. if b then (if bytes_eq t.name t.name then true else old t) else old t) (self_name t.home) ∙ ap (λ b. if b then true else old t) (self_name t.name)
+now_asked old new t a = a t ∙ ap (λ b. if b then (if bytes_eq t.name t.name then true else old t) else old t) (bytes_same t.home) ∙ ap (λ b. if b then true else old t) (bytes_same t.name)
 
 pub moves_asked : (held : HeldNames) (old new : Symbol → Bool) (missing : Bool) (reached : List Place) (t : Symbol) → Asks old new t → Moves (stage held old missing reached) (stage held new missing reached)
 moves_asked held old new missing reached t a = record {

@@ -8,8 +8,9 @@ use Rattle.wgsl_path.specs.declared.path.ModulePath.{ModulePath}
 use Rattle.wgsl_path.specs.Paths.{path_text}
 use Rattle.wgsl_syntax.specs.Tree.{Decl, UnitTree}
 use Rattle.wgsl_syntax.specs.View.{unit_tree}
+use Rattle.wgsl_syntax.specs.Names.{declared_name}
 use Rattle.wesl_resolve.specs.Mangling.{mangled}
-use Rattle.wesl_link_spec.specs.Occurrences.{Name, occurrences, declared_name}
+use Rattle.wesl_link_spec.specs.Occurrences.{Name, occurrences}
 use Rattle.wesl_link_spec.specs.Modules.{Path, Symbol}
 use Rattle.wesl_link_spec.specs.Named.{HasImportOf}
 use Rattle.wesl_link_spec.specs.Rounds.{LoadError, missing_decl}

@@ -19,6 +19,7 @@ ghost use Rattle.wesl_reach.specs.Closed.{HoldsNothing, IsClosed, IsLoadedOn, Re
 ghost use Rattle.wesl_reach.specs.Underway.{IsPlaced, NamesAll, IsConsistent, IsUnderway, IsFinished, LeadsOn, IsSought, EachName, LacksKept};
 ghost use Rattle.wesl_resolve.specs.Mangling.{mangled};
 ghost use Rattle.wgsl_syntax.specs.Tree.{Decl};
+ghost use Rattle.wgsl_syntax.specs.Names.{declared_name};
 ghost use Rattle.wesl_reach.specs.Closing.{IsReached, AllReached, IsSound, Holds, held_at};
 
 use crate::linking::{Asked, AskedModule, HeldNames, Linking};
@@ -27,9 +28,7 @@ use std::alloc::{AllocError, Global};
 use std::collections::{BTreeMap, BTreeSet};
 use wesl_rename::occurrences;
 use wesl_resolve::EscapeMangler;
-use wesl_scopes::{
-    Denoted, ImportError, Item, Module, Symbol, Target, declared_name, denotation, item_of,
-};
+use wesl_scopes::{Denoted, ImportError, Item, Module, Symbol, Target, denotation, item_of};
 use wgsl_items::{CloneIn, Text};
 use wgsl_path::ModulePath;
 use wgsl_syntax::GlobalDeclaration;
@@ -382,12 +381,12 @@ fn take_places(alloc: Global, held: &mut HeldNames, text: &str) -> BTreeMap<usiz
 
 /// The name of a symbol in the linked unit: the root's names stay.
 fn printed_name(alloc: Global, root: &str, symbol: Symbol<'_>) -> Result<Text, AllocError>
-    ensures { IfOk result (λ name. (d : Decl) → slice_get (unit_tree symbol.entry.«module».now.unit).declarations symbol.entry.place ≡ Some d → name ≡ (if bytes_eq (string_bytes symbol.entry.«module».now.printed_path) root.now then spec.declared_name d else mangled symbol.entry.«module».now.path (spec.declared_name d))) }
+    ensures { IfOk result (λ name. (d : Decl) → slice_get (unit_tree symbol.entry.«module».now.unit).declarations symbol.entry.place ≡ Some d → name ≡ (if bytes_eq (string_bytes symbol.entry.«module».now.printed_path) root.now then declared_name d else mangled symbol.entry.«module».now.path (declared_name d))) }
 {
     let Some(declaration) = symbol.declaration() else {
         return Ok(Text::new(alloc));
     };
-    let name = declared_name(declaration);
+    let name = declaration.declared_name();
     if symbol.module.printed_path.as_str() == root {
         return Text::from_str(alloc, name);
     }

@@ -1,7 +1,7 @@
 use Rattle.std.proofs.Common.{sym, inl, []}
 use Rattle.wesl_scopes.specs.Outcomes.{loaded}
 use Rattle.wesl_reach.specs.Stages.{asks, stage}
-use Rattle.wesl_scopes.proofs.ScopeLemmas.{at_place}
+use Rattle.wgsl_items.proofs.Members.{at_place}
 use Rattle.wesl_reach.proofs.FollowLemmas.{two_moves}
 use Rattle.wesl_reach.proofs.StageLemmas.{kept_more, kept_all, from_nothing}
 use Rattle.wesl_reach.specs.Closed.{RefusesRoot}
