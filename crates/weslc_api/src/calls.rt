@@ -1,6 +1,6 @@
 //! The calls.
 
-ghost use Rattle.std.specs.Prelude.{◌≡◌, ◌<◌, [], ◌∷◌, map, IfOk, IfErr, OnOk, string_bytes};
+ghost use Rattle.std.specs.Prelude.{◌≡◌, ◌<◌, List, [], ◌∷◌, map, IfOk, IfErr, OnOk, string_bytes};
 ghost use Rattle.wgsl_path.specs.Paths.{path_text};
 ghost use Rattle.wgsl_syntax.specs.View.{unit_tree};
 ghost use Rattle.wgsl_syntax.specs.Print.{unit_text};

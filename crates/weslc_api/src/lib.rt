@@ -4,13 +4,13 @@
 mod calls;
 mod error;
 mod options;
-mod recorded;
+mod recording;
 mod resolver;
 
 pub use calls::{compile, link};
 pub use error::{CompileError, ErrorContext, ImportKind, ResolveKind};
 pub use options::Options;
-pub use recorded::Recorded;
+pub use recording::RecordingResolver;
 pub use resolver::VirtualResolver;
 pub use wesl_link::{
     BasicSourceMap, EscapeMangler, ImportError, ResolveError, Resolver, SourceMap,
