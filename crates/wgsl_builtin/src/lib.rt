@@ -132,16 +132,3 @@ pub fn is_builtin_name(name: &str) -> bool
 {
     is_known(name, builtin_names())
 }
-
-#[cfg(test)]
-mod tests {
-    use super::*;
-
-    #[test]
-    fn names_of_wgsl(rt: HostRuntime) {
-        assert!(rt; is_builtin_name("mat2x3f"));
-        assert!(rt; is_builtin_name("read_write"));
-        assert!(rt; !is_builtin_name("abs"));
-        assert!(rt; !is_builtin_name("handle"));
-    }
-}
