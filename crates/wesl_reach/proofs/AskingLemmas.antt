@@ -26,7 +26,8 @@ use Rattle.wesl_reach.specs.Resolved.{LoadedModules}
 use Rattle.wesl_reach.specs.Stages.{AskedNames}
 use Rattle.wesl_reach.specs.Loading.{AreTabled, AreSought, paths_of, IsLoadedOne, AreAllLoaded, IsRoundEnd}
 use Rattle.wesl_reach.specs.Asking.{AsksForOne, AreAskedAmong, AreAllAsked, IsAskedEnd, AreAskedBehind, AreThoseLoaded}
-use Rattle.wesl_reach.proofs.LoadLemmas.{AskedEntry, texts_of, in_either, path_and_unit, listed_found, IsLoadedTo, none_loaded, one_loaded, all_are_loaded, same_all_loaded}
+use Rattle.std.proofs.lemmas.List.Elements.{Contains-append_cases}
+use Rattle.wesl_reach.proofs.LoadLemmas.{AskedEntry, texts_of, path_and_unit, listed_found, IsLoadedTo, none_loaded, one_loaded, all_are_loaded, same_all_loaded}
 use Rattle.wesl_reach.proofs.GoesLemmas.{none, next, not_empty, all_ended, one_round, there, kept_there, root_ended}
 
 -- ---- lists of what was asked for
@@ -133,7 +134,7 @@ module _ (sources : Sources) (max : ℕ) (old : LoadedModules) (modules : Module
         let room : length (modules ++ t.to.more) < max = omega (arith, t.to.tabled.many, less) in
         subst (AsksAmong sources max (length modules) (paths_of asked)) (one_member p q here)
         (t.asks p (subst (λ es. AsksAmong sources max (length (modules ++ t.to.more)) (texts_of es) p) (sym is) (asks_first room))))
-        (in_either (printed_paths t.to.more) (p ∷ []) q c);
+        (Contains-append_cases (printed_paths t.to.more) (p ∷ []) q c);
     once = λ d. subst AreDistinct (append_assoc (printed_paths modules) (printed_paths t.to.more) (p ∷ [])) (another (t.among.once d) away);
   }
 
@@ -189,7 +190,7 @@ module _ (sources : Sources) (max : ℕ) (root : Path) (keep : List Name) (befor
     asked_now these a p c = ⊎_elim
         (λ earlier. e.each p earlier)
         (λ now. e.onward p (in_this_round (none sources max root keep r asked n e.end) (next sources max root keep r asked n e.end ordered) (a.each p now)))
-        (in_either e.behind these p c)
+        (Contains-append_cases e.behind these p c)
 
     -- these of the round were asked for, and then something is refused
     pub round_refused : (these : List Path) → AreAskedAmong sources max between after e.end.modules (paths_of asked) these → AreAskedBehind sources root keep max before after
