@@ -179,8 +179,7 @@ def answer(call, *arguments):
 
 
 def main():
-    counts, lines = collections.Counter(), ["# Written by tools/scalar_cases.py."]
-    lines.append("operands\t" + " ".join(map(text, VALUES)))
+    counts, lines = collections.Counter(), [" ".join(map(text, VALUES)), "# Written by tools/scalar_cases.py."]
 
     def row(name, *results):
         lines.append(name + "\t" + " ".join(results))

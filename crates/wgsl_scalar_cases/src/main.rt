@@ -1,6 +1,6 @@
 //! Compares the operators on scalars with the results in `data/scalars.txt`, which `tools/scalar_cases.py` computes in another
 //! way. A line is a call, its stage, operator and left operand, where it has them, and the result for each of the operands that
-//! the line `operands` lists: a value, or the letter of an error. A line comes for each that differs, and at last their count.
+//! the first line lists: a value, or the letter of an error. A line comes for each that differs, and at last their count.
 #![tactic(auto)]
 
 use std::alloc::{AllocError, Global};
@@ -31,12 +31,9 @@ fn compare_all(alloc: Global, cases: &str) -> Result<Report, AllocError> {
         count: 0,
         text: String::new(alloc),
     };
-    let mut operands = "";
-    for line in cases.lines() {
-        let (call, results) = line.rsplit_once('\t').unwrap_or((line, ""));
-        if call == "operands" {
-            operands = results;
-        } else if !line.starts_with('#') {
+    let (operands, rows) = cases.split_once('\n').unwrap_or((cases, ""));
+    for line in rows.lines() {
+        if let Some((call, results)) = line.rsplit_once('\t') {
             compare_row(alloc, &mut report, call, operands, results)?;
         }
     }
