@@ -7,7 +7,7 @@ use wesl_validate::{unclear_name, validate_wesl};
 use weslc_unit::{UnitRefusal, compile_unit, print_declaration, print_unit};
 use wgsl_builtin::builtin_names;
 use wgsl_eval::{EvalError, Fault, Scope, eval_ty, eval_value};
-use wgsl_items::{Items, Text};
+use wgsl_items::{Items, OrOutOfMemory, Text};
 use wgsl_lower::lower;
 use wgsl_parse::parse_str;
 use wgsl_syntax::{
@@ -66,7 +66,8 @@ fn validated(alloc: Global, unit: &TranslationUnit) -> Result<String, AllocError
     let answer = validate_wesl(alloc, unit, builtin_names());
     match &answer {
         Ok(()) => String::from_str(alloc, "fine"),
-        Err(refusal) => refusal.to_string(alloc),
+        Err(OrOutOfMemory::Error(fault)) => fault.to_string(alloc),
+        Err(OrOutOfMemory::OutOfMemory) => String::from_str(alloc, "out of memory"),
     }
 }
 
