@@ -1,11 +1,15 @@
 -- What linking answers.
 use Rattle.std.specs.Prelude.{◌≡◌, ℕ, List, Result, Ok, Err, string_bytes}
+use Rattle.wgsl_path.specs.declared.path.ModulePath.{ModulePath}
+use Rattle.wgsl_path.specs.Paths.{path_text}
+use Rattle.wgsl_syntax.specs.declared.unit.TranslationUnit.{TranslationUnit}
 use Rattle.wesl_link_spec.specs.Occurrences.{Name}
 use Rattle.wesl_link_spec.specs.Modules.{Path}
 use Rattle.wesl_link_spec.specs.Rounds.{Sources}
 use Rattle.wesl_scopes.specs.declared.error.ImportError.{ImportError}
 use Rattle.wesl_reach.specs.Missing.{refusal_of}
 use Rattle.wesl_reach.specs.Answers.{AreLoadedTables, Refuses}
+use Rattle.wesl_reach.specs.LoadingClauses.{WhereFound, names_kept}
 use Rattle.wesl_link.specs.declared.rounds.Resolutions.{Resolutions}
 
 module _ (sources : Sources) (root : Path) (keep : List Name) (max : ℕ) where
@@ -13,3 +17,7 @@ module _ (sources : Sources) (root : Path) (keep : List Name) (max : ℕ) where
   abbrev pub Resolves : Result Resolutions ImportError → Type 0
   Resolves (Ok r) = (string_bytes r.root ≡ root) × AreLoadedTables sources root keep max r.modules r.held
   Resolves (Err e) = Refuses sources root keep max (refusal_of e)
+
+-- from a root unit, linking comes to this
+abbrev pub ResolvesFrom : Sources → ModulePath → List Name → TranslationUnit → ℕ → Result Resolutions ImportError → Type 0
+ResolvesFrom sources path keep unit max result = WhereFound sources path unit (Resolves sources (path_text path) (names_kept keep unit) max result)

@@ -3,3 +3,4 @@ pub mod Printed
 pub mod Clashing
 pub mod Answers
 pub mod Recording
+pub mod ResolutionClauses

@@ -1,19 +1,15 @@
 //! The linked unit.
 
-ghost use Rattle.std.specs.Prelude.{◌≡◌, ℕ, List, [], ◌∷◌, ◌++◌, map, IfOk, OnOk, if◌then◌else◌, is_some, string_bytes};
+ghost use Rattle.std.specs.Prelude.{◌≡◌, map, IfOk, OnOk, string_bytes};
 ghost use Rattle.std.specs.BTreeMap.{IsOrdered};
-ghost use Rattle.std.specs.Str.{bytes_eq};
 ghost use Rattle.std.specs.String.{string_cmp};
 ghost use Rattle.wgsl_syntax.specs.View.{unit_tree, declaration_tree};
-ghost use Rattle.wesl_link_spec.specs.Occurrences.{Name};
 ghost use Rattle.wesl_link_spec.specs.Linked.{renamed_declaration, IsLinked};
-ghost use Rattle.wesl_scopes.specs.Outcomes.{loaded, home_of};
-ghost use Rattle.wesl_reach.specs.Closing.{held_at};
-ghost use Rattle.wesl_link.specs.Assembling.{naming, linked_at, linked_module};
-ghost use Rattle.wesl_reach.specs.Resolved.{modules_of, IsResolved};
+ghost use Rattle.wesl_scopes.specs.Outcomes.{loaded};
+ghost use Rattle.wesl_link.specs.ResolutionClauses.{WhereResolved, Adds, linked_root, linked_in, linked_beside, linked_symbol, recorded_symbol};
 ghost use Rattle.wesl_link.specs.Assembling.{declaration_trees, linked_tree, linked_trees, linked_of, others_linked, assembled};
 ghost use Rattle.wesl_resolve.specs.SourceMaps.{decl_at};
-ghost use Rattle.wesl_link.specs.Recording.{record_of, records_in, records_of, AreRecorded, AreTold};
+ghost use Rattle.wesl_link.specs.Recording.{records_in, records_of, AreRecorded, AreTold};
 
 use crate::naming::{ModuleNaming, held_name};
 use crate::rounds::Resolutions;
@@ -37,7 +33,7 @@ impl Resolutions {
     /// One unit without imports: the declarations of the held symbols, in their order, under their names in the linked unit.
     pub fn assemble(&self, alloc: Global) -> Result<TranslationUnit, AllocError>
         ensures whole { IfOk result (λ unit. unit_tree unit ≡ assembled self.now.modules self.now.held (string_bytes self.now.root)) }
-        ensures linked { IfOk result (λ unit. (keep : List Name) → IsResolved self.now.modules (string_bytes self.now.root) keep self.now.held → IsLinked (modules_of self.now.modules) (string_bytes self.now.root) keep (unit_tree unit)) }
+        ensures linked { IfOk result (λ unit. WhereResolved self.now (λ ms root keep. IsLinked ms root keep (unit_tree unit))) }
     {
         let held = self.held_declarations(alloc)?;
         let declarations = self.linked_declarations(alloc, held.as_slice())?;
@@ -54,7 +50,7 @@ impl Resolutions {
         alloc: Global,
     ) -> Result<Vec<HeldDeclaration<'a>>, AllocError>
         ensures whole { IfOk result (λ held. linked_of self.now.modules self.now.held held.items ≡ assembled self.now.modules self.now.held (string_bytes self.now.root)) }
-        ensures linked { IfOk result (λ held. (keep : List Name) → IsResolved self.now.modules (string_bytes self.now.root) keep self.now.held → IsLinked (modules_of self.now.modules) (string_bytes self.now.root) keep (linked_of self.now.modules self.now.held held.items)) }
+        ensures linked { IfOk result (λ held. WhereResolved self.now (λ ms root keep. IsLinked ms root keep (linked_of self.now.modules self.now.held held.items))) }
     {
         let mut found = Vec::new(alloc);
         self.add_root(&mut found)?;
@@ -93,7 +89,7 @@ impl Resolutions {
     }
 
     fn add_root<'a>(&'a self, found: &mut Vec<HeldDeclaration<'a>>) -> Result<(), AllocError>
-        ensures { OnOk result (linked_trees self.now.modules self.now.held found.new.items ≡ linked_trees self.now.modules self.now.held found.old.items ++ linked_at (loaded self.now.modules) (held_at self.now.held) (loaded self.now.modules (string_bytes self.now.root))) }
+        ensures { OnOk result (Adds self.now found.old.items found.new.items (linked_root self.now)) }
     {
         match self.modules.get(self.root.as_str()) {
             None => Ok(()),
@@ -102,7 +98,7 @@ impl Resolutions {
     }
 
     fn add_others<'a>(&'a self, found: &mut Vec<HeldDeclaration<'a>>) -> Result<(), AllocError>
-        ensures trees { OnOk result (linked_trees self.now.modules self.now.held found.new.items ≡ linked_trees self.now.modules self.now.held found.old.items ++ others_linked self.now.modules self.now.held (string_bytes self.now.root) self.now.modules.entries) }
+        ensures trees { OnOk result (Adds self.now found.old.items found.new.items (others_linked self.now.modules self.now.held (string_bytes self.now.root) self.now.modules.entries)) }
         ensures ordered { IsOrdered string_cmp self.now.modules }
     {
         for (text, module) in &self.modules {
@@ -117,7 +113,7 @@ impl Resolutions {
         module: &'a Module,
         found: &mut Vec<HeldDeclaration<'a>>,
     ) -> Result<(), AllocError>
-        ensures { OnOk result (linked_trees self.now.modules self.now.held found.new.items ≡ linked_trees self.now.modules self.now.held found.old.items ++ (if bytes_eq text.now (string_bytes self.now.root) then [] else linked_module (loaded self.now.modules) (held_at self.now.held) (home_of «module».now))) }
+        ensures { OnOk result (Adds self.now found.old.items found.new.items (linked_beside self.now text.now «module».now)) }
     {
         if text == self.root.as_str() {
             return Ok(());
@@ -130,7 +126,7 @@ impl Resolutions {
         module: &'a Module,
         found: &mut Vec<HeldDeclaration<'a>>,
     ) -> Result<(), AllocError>
-        ensures { OnOk result (linked_trees self.now.modules self.now.held found.new.items ≡ linked_trees self.now.modules self.now.held found.old.items ++ linked_module (loaded self.now.modules) (held_at self.now.held) (home_of «module».now)) }
+        ensures { OnOk result (Adds self.now found.old.items found.new.items (linked_in self.now «module».now)) }
     {
         for (place, node) in module
             .unit
@@ -151,7 +147,7 @@ impl Resolutions {
         node: &'a GlobalDeclarationNode,
         found: &mut Vec<HeldDeclaration<'a>>,
     ) -> Result<(), AllocError>
-        ensures { OnOk result (linked_trees self.now.modules self.now.held found.new.items ≡ linked_trees self.now.modules self.now.held found.old.items ++ (if is_some (held_at self.now.held (string_bytes symbol.entry.«module».now.printed_path) symbol.entry.place) then renamed_declaration (naming (loaded self.now.modules) (held_at self.now.held) (home_of symbol.entry.«module».now)) (declaration_tree node.now.node) ∷ [] else [])) }
+        ensures { OnOk result (Adds self.now found.old.items found.new.items (linked_symbol self.now symbol.entry node.now)) }
     {
         if !is_held(&self.held, symbol) {
             return Ok(());
@@ -176,7 +172,7 @@ impl Resolutions {
 
     /// Records each held symbol under its name in the linked unit.
     pub fn add_decls(&self, map: &mut BasicSourceMap) -> Result<(), AllocError>
-        ensures told { OnOk result ((keep : List Name) → IsResolved self.now.modules (string_bytes self.now.root) keep self.now.held → AreTold (modules_of self.now.modules) (string_bytes self.now.root) keep (decl_at map.old) (decl_at map.new)) }
+        ensures told { OnOk result (WhereResolved self.now (λ ms root keep. AreTold ms root keep (decl_at map.old) (decl_at map.new))) }
         ensures sources { map.new.sources ≡ map.old.sources }
         ensures default_source { map.new.default_source ≡ map.old.default_source }
     {
@@ -220,7 +216,7 @@ impl Resolutions {
         node: &GlobalDeclarationNode,
         map: &mut BasicSourceMap,
     ) -> Result<(), AllocError>
-        ensures recorded { OnOk result (AreRecorded (record_of symbol.entry.«module».now.path (declaration_tree node.now.node) (held_at self.now.held (string_bytes symbol.entry.«module».now.printed_path) symbol.entry.place)) (decl_at map.old) (decl_at map.new)) }
+        ensures recorded { OnOk result (AreRecorded (recorded_symbol self.now symbol.entry node.now) (decl_at map.old) (decl_at map.new)) }
         ensures sources { map.new.sources ≡ map.old.sources }
         ensures default_source { map.new.default_source ≡ map.old.default_source }
     {

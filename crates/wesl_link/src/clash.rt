@@ -1,19 +1,15 @@
 //! Names of the linked unit that are read otherwise than meant.
 
-ghost use Rattle.std.specs.Prelude.{◌≡◌, ◌↔◌, List, [], Some, None, IfOk, OnOk, if◌then◌else◌, ◌++◌, string_bytes};
+ghost use Rattle.std.specs.Prelude.{◌≡◌, Some, None, IfOk, OnOk, if◌then◌else◌, ◌++◌, string_bytes};
 ghost use Rattle.std.specs.BTreeMap.{IsOrdered};
-ghost use Rattle.std.specs.Str.{bytes_eq};
 ghost use Rattle.std.specs.String.{string_cmp};
 ghost use Rattle.wgsl_syntax.specs.View.{declaration_tree};
-ghost use Rattle.wesl_link_spec.specs.Occurrences.{Name, locals};
-ghost use Rattle.wesl_link_spec.specs.Clashing.{IsFirstClash};
-ghost use Rattle.wesl_link_spec.specs.Loaded.{IsClashFree};
+ghost use Rattle.wesl_link_spec.specs.Occurrences.{locals};
 ghost use Rattle.wesl_link.specs.Clashing as spec;
 ghost use Rattle.wesl_link.specs.Clashing.{sharing_at, sharing_in};
 ghost use Rattle.wesl_reach.specs.Closing.{held_at};
 ghost use Rattle.wesl_scopes.specs.Outcomes.{loaded, home_of};
-ghost use Rattle.wesl_link.specs.Printed.{printed_in};
-ghost use Rattle.wesl_reach.specs.Resolved.{modules_of, IsResolved};
+ghost use Rattle.wesl_link.specs.ResolutionClauses.{FindsClash, FindsFirstClash, printed_names, clash_beside, clash_of_symbol};
 ghost use Rattle.wesl_rename.specs.Scopes.{texts};
 
 use crate::naming::{held_name, printed};
@@ -33,8 +29,8 @@ impl Resolutions {
     /// meant.
     pub fn names_clash(&self, alloc: Global) -> Result<Option<Text>, AllocError>
         ensures whole { IfOk result (λ clash. clash ≡ spec.unit_clash self.now.modules self.now.held (string_bytes self.now.root)) }
-        ensures free { IfOk result (λ clash. (keep : List Name) → IsResolved self.now.modules (string_bytes self.now.root) keep self.now.held → (clash ≡ None) ↔ IsClashFree (modules_of self.now.modules) (string_bytes self.now.root) keep) }
-        ensures first { IfOk result (λ clash. (keep : List Name) (name : Name) → IsResolved self.now.modules (string_bytes self.now.root) keep self.now.held → clash ≡ Some name → IsFirstClash (modules_of self.now.modules) (string_bytes self.now.root) keep name) }
+        ensures free { IfOk result (FindsClash self.now) }
+        ensures first { IfOk result (FindsFirstClash self.now) }
     {
         let clash = self.unit_clash(alloc)?;
         Ok(clash)
@@ -122,7 +118,7 @@ impl Resolutions {
         text: &str,
         module: &Module,
     ) -> Result<Option<Text>, AllocError>
-        ensures { IfOk result (λ clash. clash ≡ (if bytes_eq text.now (string_bytes self.now.root) then None else spec.module_clash (sharing_at sharing.now) (loaded self.now.modules) (held_at self.now.held) (home_of «module».now))) }
+        ensures { IfOk result (λ clash. clash ≡ clash_beside (sharing_at sharing.now) self.now text.now «module».now) }
     {
         if text == self.root.as_str() {
             return Ok(None);
@@ -162,7 +158,7 @@ impl Resolutions {
         symbol: Symbol<'_>,
         declaration: &GlobalDeclaration,
     ) -> Result<Option<Text>, AllocError>
-        ensures { IfOk result (λ clash. clash ≡ spec.held_clash (sharing_at sharing.now) (printed_in self.now.held self.now.modules symbol.entry.«module».now) (held_at self.now.held (string_bytes symbol.entry.«module».now.printed_path) symbol.entry.place) (declaration_tree declaration.now)) }
+        ensures { IfOk result (λ clash. clash ≡ clash_of_symbol (sharing_at sharing.now) self.now symbol.entry declaration.now) }
     {
         match held_name(&self.held, symbol) {
             None => Ok(None),
@@ -179,7 +175,7 @@ impl Resolutions {
         declaration: &GlobalDeclaration,
         name: &str,
     ) -> Result<Option<Text>, AllocError>
-        ensures { IfOk result (λ clash. clash ≡ spec.declaration_clash (sharing_at sharing.now) (printed_in self.now.held self.now.modules «module».now) name.now (declaration_tree declaration.now)) }
+        ensures { IfOk result (λ clash. clash ≡ spec.declaration_clash (sharing_at sharing.now) (printed_names self.now «module».now) name.now (declaration_tree declaration.now)) }
     {
         let outside = Scope::module(alloc);
         let before = names_before(alloc, declaration)?;
@@ -208,7 +204,7 @@ impl Resolutions {
         scope: &Scope<'_>,
         names: &[&str],
     ) -> Result<Option<Text>, AllocError>
-        ensures { IfOk result (λ clash. clash ≡ spec.names_clash (sharing_at sharing.now) (printed_in self.now.held self.now.modules «module».now) scope.now (texts names.now)) }
+        ensures { IfOk result (λ clash. clash ≡ spec.names_clash (sharing_at sharing.now) (printed_names self.now «module».now) scope.now (texts names.now)) }
     {
         for name in names {
             let clash = self.clash_of_name(alloc, sharing, module, scope, name)?;
@@ -228,7 +224,7 @@ impl Resolutions {
         scope: &Scope<'_>,
         occurring: &str,
     ) -> Result<Option<Text>, AllocError>
-        ensures { IfOk result (λ clash. clash ≡ spec.name_clash (sharing_at sharing.now) scope.now (printed_in self.now.held self.now.modules «module».now occurring.now) occurring.now) }
+        ensures { IfOk result (λ clash. clash ≡ spec.name_clash (sharing_at sharing.now) scope.now (printed_names self.now «module».now occurring.now) occurring.now) }
     {
         match printed(self, module, occurring) {
             Some(name) => {

@@ -1,12 +1,9 @@
 //! The modules that are linked, and what is reached in them.
 
-ghost use Rattle.std.specs.Prelude.{◌≡◌, OnOk};
-ghost use Rattle.wgsl_path.specs.Paths.{path_text};
-ghost use Rattle.wgsl_syntax.specs.View.{unit_tree};
-ghost use Rattle.wesl_resolve.specs.Found.{unit_of, SameAnswers, SameTexts};
-ghost use Rattle.wesl_link_spec.specs.Kept.{kept_names};
-ghost use Rattle.wesl_reach.specs.Asking.{AreAskedBehind, AreThoseLoaded};
-ghost use Rattle.wesl_link.specs.Answers.{Resolves};
+ghost use Rattle.std.specs.Prelude.{◌≡◌};
+ghost use Rattle.wesl_resolve.specs.Found.{SameAnswers, SameTexts};
+ghost use Rattle.wesl_reach.specs.LoadingClauses.{AsksBehind, AsksThoseLoaded};
+ghost use Rattle.wesl_link.specs.Answers.{ResolvesFrom};
 
 use std::alloc::Global;
 use wesl_reach::{HeldNames, Reached, load_reached};
@@ -34,9 +31,9 @@ pub fn resolve_lazy<R: Resolver>(
     resolver: &mut R,
     max_modules: u32,
 ) -> Result<Resolutions, ImportError>
-    ensures resolves { R.answers resolver.old (path_text path.now) (unit_of (unit_tree unit)) → Resolves (R.answers resolver.old) (path_text path.now) (kept_names keep.now (unit_tree unit)) max_modules result }
-    ensures asked { R.answers resolver.old (path_text path.now) (unit_of (unit_tree unit)) → AreAskedBehind (R.answers resolver.old) (path_text path.now) (kept_names keep.now (unit_tree unit)) max_modules (R.asked resolver.old) (R.asked resolver.new) }
-    ensures all_asked { R.answers resolver.old (path_text path.now) (unit_of (unit_tree unit)) → OnOk result (AreThoseLoaded (R.answers resolver.old) (path_text path.now) (kept_names keep.now (unit_tree unit)) max_modules (R.asked resolver.old) (R.asked resolver.new)) }
+    ensures resolves { ResolvesFrom (R.answers resolver.old) path.now keep.now unit max_modules result }
+    ensures asked { AsksBehind (R.answers resolver.old) path.now keep.now unit max_modules (R.asked resolver.old) (R.asked resolver.new) }
+    ensures all_asked { AsksThoseLoaded (R.answers resolver.old) path.now keep.now unit max_modules (R.asked resolver.old) (R.asked resolver.new) result }
     ensures same_answers { SameAnswers (R.answers resolver.old) (R.answers resolver.new) }
     ensures same_texts { SameTexts (R.texts resolver.old) (R.texts resolver.new) }
     ensures same_names { R.display_names resolver.new ≡ R.display_names resolver.old }

@@ -9,3 +9,5 @@ pub mod Answers
 pub mod Loading
 pub mod Asking
 pub mod Underway
+pub mod ClosingClauses
+pub mod LoadingClauses

@@ -9,18 +9,16 @@ ghost use Rattle.std.specs.BTreeMap.{get, get_by_text};
 ghost use Rattle.wgsl_syntax.specs.View.{unit_tree, declaration_tree};
 ghost use Rattle.wesl_link_spec.specs.Occurrences as spec;
 ghost use Rattle.wesl_link_spec.specs.Modules.{Path, Symbol as Sought};
-ghost use Rattle.wesl_scopes.specs.Outcomes.{loaded, home_of, outcome, item_at, IsInTable};
-ghost use Rattle.wesl_reach.specs.Following.{Moves, Handled, IsFollowed, FollowedTo, AllFollowed};
+ghost use Rattle.wesl_scopes.specs.Outcomes.{loaded, home_of, outcome, IsInTable};
+ghost use Rattle.wesl_reach.specs.Following.{Moves, Handled, FollowedTo, AllFollowed};
 ghost use Rattle.wesl_reach.specs.Reach.{KeepsAll, KeepsOne};
 ghost use Rattle.wesl_reach.specs.Stages.{asks, name_asked, stage};
 ghost use Rattle.wgsl_path.specs.Paths.{path_text};
 ghost use Rattle.wesl_reach.specs.Resolved.{LoadedModules, IsKeyed};
-ghost use Rattle.wesl_reach.specs.Closed.{HoldsNothing, IsClosed, IsLoadedOn, RefusesClosing, RefusesRoot, AreAskedByName, AreAskedByImport, IsNamedInTable};
-ghost use Rattle.wesl_reach.specs.Underway.{IsPlaced, NamesAll, IsConsistent, IsUnderway, IsFinished, LeadsOn, IsSought, EachName, LacksKept};
-ghost use Rattle.wesl_resolve.specs.Mangling.{mangled};
-ghost use Rattle.wgsl_syntax.specs.Tree.{Decl};
-ghost use Rattle.wgsl_syntax.specs.Names.{declared_name};
+ghost use Rattle.wesl_reach.specs.Closed.{HoldsNothing, AreAskedByName, AreAskedByImport, IsNamedInTable};
+ghost use Rattle.wesl_reach.specs.Underway.{IsPlaced, NamesAll, LeadsOn, IsSought, EachName, LacksKept};
 ghost use Rattle.wesl_reach.specs.Closing.{IsReached, AllReached, IsSound, Holds, held_at};
+ghost use Rattle.wesl_reach.specs.ClosingClauses.{found_stage, IsInOrder, IsFoundUnderway, IsFoundFinished, ClosesOn, RefusesOn, RefusesRootOn, AfterLoading, AllFollowedOn, IsFollowedAt, NamesPlace, asks_too};
 
 use crate::linking::{Asked, AskedModule, HeldNames, Linking};
 use crate::missing::first_missing;
@@ -64,10 +62,10 @@ pub fn close_root(
 ) -> Result<Asked, ImportError>
     requires { AllReached linking.now held.old }
     ensures sound { OnOk result (AllReached linking.now held.new) }
-    ensures followed { ((m : Path) (place : ℕ) → held_at held.old m place ≡ None) → IfOk result (λ asked. AllFollowed (loaded linking.now.modules.now) (stage held.new (asks asked) false [])) }
+    ensures followed { ((m : Path) (place : ℕ) → held_at held.old m place ≡ None) → IfOk result (AllFollowedOn linking.now held.new) }
     ensures kept { OnOk result (KeepsAll (loaded linking.now.modules.now) linking.now.root.now linking.now.keep.now (held_at held.new)) }
-    ensures closed { IsKeyed linking.now.modules.now → HoldsNothing held.old → IfOk result (λ asked. IsClosed linking.now.modules.now linking.now.root.now linking.now.keep.now held.new asked) }
-    ensures refused { IsKeyed linking.now.modules.now → path_text path.now ≡ linking.now.root.now → HoldsNothing held.old → IfErr result (RefusesRoot linking.now.modules.now linking.now.root.now linking.now.keep.now held.new) }
+    ensures closed { IsKeyed linking.now.modules.now → HoldsNothing held.old → IfOk result (ClosesOn linking.now held.new) }
+    ensures refused { IsKeyed linking.now.modules.now → path_text path.now ≡ linking.now.root.now → HoldsNothing held.old → IfErr result (RefusesRootOn linking.now held.new) }
 {
     let mut found = found_nothing(alloc);
     for name in linking.keep {
@@ -107,8 +105,8 @@ pub fn close_asked(
     asked: &Asked,
     held: &mut HeldNames,
 ) -> Result<Asked, ImportError>
-    ensures closed { (old : LoadedModules) → IsKeyed linking.now.modules.now → IsClosed old linking.now.root.now linking.now.keep.now held.old asked.now → IsLoadedOn old asked.now linking.now.modules.now → IfOk result (λ more. IsClosed linking.now.modules.now linking.now.root.now linking.now.keep.now held.new more) }
-    ensures refused { (old : LoadedModules) → IsKeyed linking.now.modules.now → IsClosed old linking.now.root.now linking.now.keep.now held.old asked.now → IsLoadedOn old asked.now linking.now.modules.now → IfErr result (RefusesClosing linking.now.modules.now linking.now.root.now linking.now.keep.now held.new) }
+    ensures closed { (old : LoadedModules) → AfterLoading old linking.now held.old asked.now (IfOk result (ClosesOn linking.now held.new)) }
+    ensures refused { (old : LoadedModules) → AfterLoading old linking.now held.old asked.now (IfErr result (RefusesOn linking.now held.new)) }
 {
     let mut found = found_nothing(alloc);
     for (text, module) in asked {
@@ -134,9 +132,9 @@ fn seek_all<'a>(
     found: &mut Found<'a>,
 ) -> Result<(), AllocError>
     ensures sound { EachName (LeadsOn linking.now text.now) names.now → IsSound linking.now held.old found.old.reached.items → OnOk result (IsSound linking.now held.new found.new.reached.items) }
-    ensures in_order { IsKeyed linking.now.modules.now → IsConsistent linking.now held.old found.old.asked → OnOk result (IsConsistent linking.now held.new found.new.asked) }
-    ensures moves { OnOk result (Moves (stage held.old (asks found.old.asked) found.old.is_missing found.old.reached.items) (stage held.new (asks found.new.asked) found.new.is_missing found.new.reached.items)) }
-    ensures handled { OnOk result (EachName (IsSought linking.now (stage held.new (asks found.new.asked) found.new.is_missing found.new.reached.items) text.now) names.now) }
+    ensures in_order { IsKeyed linking.now.modules.now → IsInOrder linking.now held.old found.old → OnOk result (IsInOrder linking.now held.new found.new) }
+    ensures moves { OnOk result (Moves (found_stage held.old found.old) (found_stage held.new found.new)) }
+    ensures handled { OnOk result (EachName (IsSought linking.now (found_stage held.new found.new) text.now) names.now) }
 {
     for name in names {
         seek(alloc, linking, text, name.as_str(), held, found)?;
@@ -154,9 +152,9 @@ fn seek<'a>(
     found: &mut Found<'a>,
 ) -> Result<(), AllocError>
     ensures sound { LeadsOn linking.now text.now name.now → IsSound linking.now held.old found.old.reached.items → OnOk result (IsSound linking.now held.new found.new.reached.items) }
-    ensures in_order { IsKeyed linking.now.modules.now → IsConsistent linking.now held.old found.old.asked → OnOk result (IsConsistent linking.now held.new found.new.asked) }
-    ensures moves { OnOk result (Moves (stage held.old (asks found.old.asked) found.old.is_missing found.old.reached.items) (stage held.new (asks found.new.asked) found.new.is_missing found.new.reached.items)) }
-    ensures handled { OnOk result (IsSought linking.now (stage held.new (asks found.new.asked) found.new.is_missing found.new.reached.items) text.now name.now) }
+    ensures in_order { IsKeyed linking.now.modules.now → IsInOrder linking.now held.old found.old → OnOk result (IsInOrder linking.now held.new found.new) }
+    ensures moves { OnOk result (Moves (found_stage held.old found.old) (found_stage held.new found.new)) }
+    ensures handled { OnOk result (IsSought linking.now (found_stage held.new found.new) text.now name.now) }
 {
     match item_of(linking.modules, text, name) {
         Item::Declared(symbol) => reach(alloc, linking, symbol, held, &mut found.reached),
@@ -175,10 +173,10 @@ fn close<'a>(
     mut found: Found<'a>,
 ) -> Result<Asked, ImportError>
     ensures sound { IsSound linking.now held.old found.entry.reached.items → OnOk result (AllReached linking.now held.new) }
-    ensures followed { FollowedTo (loaded linking.now.modules.now) (stage held.old (asks found.entry.asked) found.entry.is_missing found.entry.reached.items) 0 → IfOk result (λ asked. AllFollowed (loaded linking.now.modules.now) (stage held.new (asks asked) false [])) }
+    ensures followed { FollowedTo (loaded linking.now.modules.now) (found_stage held.old found.entry) 0 → IfOk result (AllFollowedOn linking.now held.new) }
     ensures stays { OnOk result ((m : Path) (place : ℕ) → IsSome (held_at held.old m place) → IsSome (held_at held.new m place)) }
-    ensures closed { IsUnderway linking.now held.old found.entry.asked found.entry.is_missing found.entry.reached.items → IfOk result (λ asked. IsClosed linking.now.modules.now linking.now.root.now linking.now.keep.now held.new asked) }
-    ensures refused { IsUnderway linking.now held.old found.entry.asked found.entry.is_missing found.entry.reached.items → IfErr result (RefusesClosing linking.now.modules.now linking.now.root.now linking.now.keep.now held.new) }
+    ensures closed { IsFoundUnderway linking.now held.old found.entry → IfOk result (ClosesOn linking.now held.new) }
+    ensures refused { IsFoundUnderway linking.now held.old found.entry → IfErr result (RefusesOn linking.now held.new) }
 {
     follow_all(alloc, linking, held, &mut found)?;
     outcome_of(alloc, linking, held, found)
@@ -192,9 +190,9 @@ fn follow_all<'a>(
     found: &mut Found<'a>,
 ) -> Result<(), AllocError>
     ensures sound { IsSound linking.now held.old found.old.reached.items → OnOk result (IsSound linking.now held.new found.new.reached.items) }
-    ensures in_order { IsKeyed linking.now.modules.now → IsSound linking.now held.old found.old.reached.items → IsConsistent linking.now held.old found.old.asked → OnOk result (IsConsistent linking.now held.new found.new.asked) }
-    ensures moves { OnOk result (Moves (stage held.old (asks found.old.asked) found.old.is_missing found.old.reached.items) (stage held.new (asks found.new.asked) found.new.is_missing found.new.reached.items)) }
-    ensures followed { FollowedTo (loaded linking.now.modules.now) (stage held.old (asks found.old.asked) found.old.is_missing found.old.reached.items) 0 → OnOk result (AllFollowed (loaded linking.now.modules.now) (stage held.new (asks found.new.asked) found.new.is_missing found.new.reached.items)) }
+    ensures in_order { IsKeyed linking.now.modules.now → IsSound linking.now held.old found.old.reached.items → IsInOrder linking.now held.old found.old → OnOk result (IsInOrder linking.now held.new found.new) }
+    ensures moves { OnOk result (Moves (found_stage held.old found.old) (found_stage held.new found.new)) }
+    ensures followed { FollowedTo (loaded linking.now.modules.now) (found_stage held.old found.old) 0 → OnOk result (AllFollowed (loaded linking.now.modules.now) (found_stage held.new found.new)) }
 {
     for at in 0..usize::MAX {
         let Some(symbol) = found.reached.get(at) else {
@@ -214,9 +212,9 @@ fn outcome_of(
     held: &HeldNames,
     found: Found<'_>,
 ) -> Result<Asked, ImportError>
-    ensures closed { IsFinished linking.now held.now found.entry.asked found.entry.is_missing found.entry.reached.items → IfOk result (λ asked. IsClosed linking.now.modules.now linking.now.root.now linking.now.keep.now held.now asked) }
-    ensures refused { IsFinished linking.now held.now found.entry.asked found.entry.is_missing found.entry.reached.items → IfErr result (RefusesClosing linking.now.modules.now linking.now.root.now linking.now.keep.now held.now) }
-    ensures followed { AllFollowed (loaded linking.now.modules.now) (stage held.now (asks found.entry.asked) found.entry.is_missing found.entry.reached.items) → IfOk result (λ asked. AllFollowed (loaded linking.now.modules.now) (stage held.now (asks asked) false [])) }
+    ensures closed { IsFoundFinished linking.now held.now found.entry → IfOk result (ClosesOn linking.now held.now) }
+    ensures refused { IsFoundFinished linking.now held.now found.entry → IfErr result (RefusesOn linking.now held.now) }
+    ensures followed { AllFollowed (loaded linking.now.modules.now) (found_stage held.now found.entry) → IfOk result (AllFollowedOn linking.now held.now) }
 {
     if !found.is_missing {
         return Ok(found.asked);
@@ -234,10 +232,10 @@ fn follow<'a>(
     held: &mut HeldNames,
     found: &mut Found<'a>,
 ) -> Result<(), AllocError>
-    ensures in_order { IsKeyed linking.now.modules.now → IsReached linking.now symbol.entry → IsConsistent linking.now held.old found.old.asked → OnOk result (IsConsistent linking.now held.new found.new.asked) }
+    ensures in_order { IsKeyed linking.now.modules.now → IsReached linking.now symbol.entry → IsInOrder linking.now held.old found.old → OnOk result (IsInOrder linking.now held.new found.new) }
     ensures sound { IsReached linking.now symbol.entry → IsSound linking.now held.old found.old.reached.items → OnOk result (IsSound linking.now held.new found.new.reached.items) }
-    ensures moves { OnOk result (Moves (stage held.old (asks found.old.asked) found.old.is_missing found.old.reached.items) (stage held.new (asks found.new.asked) found.new.is_missing found.new.reached.items)) }
-    ensures followed { OnOk result (IsFollowed (loaded linking.now.modules.now) (stage held.new (asks found.new.asked) found.new.is_missing found.new.reached.items) (string_bytes symbol.entry.«module».now.printed_path) symbol.entry.place) }
+    ensures moves { OnOk result (Moves (found_stage held.old found.old) (found_stage held.new found.new)) }
+    ensures followed { OnOk result (IsFollowedAt linking.now (found_stage held.new found.new) symbol.entry) }
 {
     let Some(home) = linking.modules.get(symbol.module.printed_path.as_str()) else {
         return Ok(());
@@ -260,10 +258,10 @@ fn follow_each<'a>(
     requires home { loaded linking.now.modules.now (string_bytes symbol.«module».now.printed_path) ≡ Some (home_of home.now) }
     requires declaration { slice_get (unit_tree home.now.unit).declarations symbol.place ≡ Some (declaration_tree declaration.now) }
     requires in_table { IsInTable linking.now.modules.now home.now }
-    ensures in_order { IsKeyed linking.now.modules.now → IsReached linking.now symbol.entry → IsConsistent linking.now held.old found.old.asked → OnOk result (IsConsistent linking.now held.new found.new.asked) }
+    ensures in_order { IsKeyed linking.now.modules.now → IsReached linking.now symbol.entry → IsInOrder linking.now held.old found.old → OnOk result (IsInOrder linking.now held.new found.new) }
     ensures sound { IsReached linking.now symbol.entry → IsSound linking.now held.old found.old.reached.items → OnOk result (IsSound linking.now held.new found.new.reached.items) }
-    ensures moves { OnOk result (Moves (stage held.old (asks found.old.asked) found.old.is_missing found.old.reached.items) (stage held.new (asks found.new.asked) found.new.is_missing found.new.reached.items)) }
-    ensures followed { OnOk result (IsFollowed (loaded linking.now.modules.now) (stage held.new (asks found.new.asked) found.new.is_missing found.new.reached.items) (string_bytes symbol.entry.«module».now.printed_path) symbol.entry.place) }
+    ensures moves { OnOk result (Moves (found_stage held.old found.old) (found_stage held.new found.new)) }
+    ensures followed { OnOk result (IsFollowedAt linking.now (found_stage held.new found.new) symbol.entry) }
 {
     let names = occurrences(alloc, declaration)?;
     for name in names.as_slice() {
@@ -286,10 +284,10 @@ fn follow_name<'a>(
     requires declaration { slice_get (unit_tree home.now.unit).declarations from.place ≡ Some (declaration_tree declaration.now) }
     requires occurs { Contains (spec.occurrences (declaration_tree declaration.now)) name.now }
     requires in_table { IsInTable linking.now.modules.now home.now }
-    ensures in_order { IsKeyed linking.now.modules.now → IsReached linking.now from.entry → IsConsistent linking.now held.old found.old.asked → OnOk result (IsConsistent linking.now held.new found.new.asked) }
+    ensures in_order { IsKeyed linking.now.modules.now → IsReached linking.now from.entry → IsInOrder linking.now held.old found.old → OnOk result (IsInOrder linking.now held.new found.new) }
     ensures sound { IsReached linking.now from.entry → IsSound linking.now held.old found.old.reached.items → OnOk result (IsSound linking.now held.new found.new.reached.items) }
-    ensures moves { OnOk result (Moves (stage held.old (asks found.old.asked) found.old.is_missing found.old.reached.items) (stage held.new (asks found.new.asked) found.new.is_missing found.new.reached.items)) }
-    ensures handled { OnOk result (Handled (stage held.new (asks found.new.asked) found.new.is_missing found.new.reached.items) (outcome (loaded linking.now.modules.now) (home_of home.now) name.now)) }
+    ensures moves { OnOk result (Moves (found_stage held.old found.old) (found_stage held.new found.new)) }
+    ensures handled { OnOk result (Handled (found_stage held.new found.new) (outcome (loaded linking.now.modules.now) (home_of home.now) name.now)) }
 {
     match denotation(linking.modules, home, name) {
         Denoted::Declared(symbol) => reach(alloc, linking, symbol, held, &mut found.reached),
@@ -381,7 +379,7 @@ fn take_places(alloc: Global, held: &mut HeldNames, text: &str) -> BTreeMap<usiz
 
 /// The name of a symbol in the linked unit: the root's names stay.
 fn printed_name(alloc: Global, root: &str, symbol: Symbol<'_>) -> Result<Text, AllocError>
-    ensures { IfOk result (λ name. (d : Decl) → slice_get (unit_tree symbol.entry.«module».now.unit).declarations symbol.entry.place ≡ Some d → name ≡ (if bytes_eq (string_bytes symbol.entry.«module».now.printed_path) root.now then declared_name d else mangled symbol.entry.«module».now.path (declared_name d))) }
+    ensures { IfOk result (NamesPlace root.now symbol.entry) }
 {
     let Some(declaration) = symbol.declaration() else {
         return Ok(Text::new(alloc));
@@ -396,7 +394,7 @@ fn printed_name(alloc: Global, root: &str, symbol: Symbol<'_>) -> Result<Text, A
 fn ask(alloc: Global, asked: &mut Asked, target: &Target) -> Result<(), AllocError>
     ensures by_name { AreAskedByName asked.old → OnOk result (AreAskedByName asked.new) }
     ensures by_import { (ms : LoadedModules) → IsNamedInTable ms target.now.path → AreAskedByImport ms asked.old → OnOk result (AreAskedByImport ms asked.new) }
-    ensures asks { OnOk result ((s : Sought) → asks asked.new s ≡ (if bytes_eq (string_bytes target.now.printed_path) s.home then (if bytes_eq target.now.item s.name then true else asks asked.old s) else asks asked.old s)) }
+    ensures asks { OnOk result ((s : Sought) → asks asked.new s ≡ asks_too (string_bytes target.now.printed_path) target.now.item asked.old s) }
 {
     let mut module = take_asked(alloc, asked, target)?;
     module

@@ -1,16 +1,15 @@
 //! Loads what the kept names reach, a round of modules after another.
 
-ghost use Rattle.std.specs.Prelude.{◌≡◌, [], ◌∷◌, length, IfOk, OnOk, string_bytes};
+ghost use Rattle.std.specs.Prelude.{◌≡◌, [], ◌∷◌, length, IfOk, OnOk};
 ghost use Rattle.std.specs.String.{string_cmp};
 ghost use Rattle.std.specs.BTreeMap.{IsOrdered};
 ghost use Rattle.wgsl_path.specs.Paths.{path_text};
 ghost use Rattle.wgsl_syntax.specs.View.{unit_tree};
-ghost use Rattle.wesl_resolve.specs.Found.{unit_of, SameAnswers, SameTexts, HasAsked};
+ghost use Rattle.wesl_resolve.specs.Found.{SameAnswers, SameTexts, HasAsked};
 ghost use Rattle.wesl_link_spec.specs.Kept.{kept_names};
-ghost use Rattle.wesl_link_spec.specs.Modules.{Modules as ListedModules};
-ghost use Rattle.wesl_reach.specs.Answers.{Loading};
-ghost use Rattle.wesl_reach.specs.Loading.{AreTabled, AreSought, LoadsOne, LoadsAll, IsRoundEnd};
-ghost use Rattle.wesl_reach.specs.Asking.{AsksForOne, AsksForAll, IsAskedEnd, AreAskedBehind, AreThoseLoaded};
+ghost use Rattle.wesl_reach.specs.Loading.{LoadsOne};
+ghost use Rattle.wesl_reach.specs.Asking.{AsksForOne};
+ghost use Rattle.wesl_reach.specs.LoadingClauses.{LoadsFrom, AsksBehind, AsksThoseLoaded, RoundsLoad, RoundsAsk, RoundsAskThose, LoadsAsked, AsksAsked};
 
 use crate::closing::{close_asked, close_root};
 use crate::linking::{Asked, HeldNames, Linking};
@@ -43,9 +42,9 @@ pub fn load_reached<R: Resolver>(
     resolver: &mut R,
     max_modules: u32,
 ) -> Result<Reached, ImportError>
-    ensures loading { R.answers resolver.old (path_text path.now) (unit_of (unit_tree unit)) → Loading (R.answers resolver.old) (path_text path.now) (kept_names keep.now (unit_tree unit)) max_modules result }
-    ensures asked { R.answers resolver.old (path_text path.now) (unit_of (unit_tree unit)) → AreAskedBehind (R.answers resolver.old) (path_text path.now) (kept_names keep.now (unit_tree unit)) max_modules (R.asked resolver.old) (R.asked resolver.new) }
-    ensures all_asked { R.answers resolver.old (path_text path.now) (unit_of (unit_tree unit)) → OnOk result (AreThoseLoaded (R.answers resolver.old) (path_text path.now) (kept_names keep.now (unit_tree unit)) max_modules (R.asked resolver.old) (R.asked resolver.new)) }
+    ensures loading { LoadsFrom (R.answers resolver.old) path.now keep.now unit max_modules result }
+    ensures asked { AsksBehind (R.answers resolver.old) path.now keep.now unit max_modules (R.asked resolver.old) (R.asked resolver.new) }
+    ensures all_asked { AsksThoseLoaded (R.answers resolver.old) path.now keep.now unit max_modules (R.asked resolver.old) (R.asked resolver.new) result }
     ensures same_answers { SameAnswers (R.answers resolver.old) (R.answers resolver.new) }
     ensures same_texts { SameTexts (R.texts resolver.old) (R.texts resolver.new) }
     ensures same_names { R.display_names resolver.new ≡ R.display_names resolver.old }
@@ -89,9 +88,9 @@ fn load_rounds<R: Resolver>(
     mut asked: Asked,
     max_modules: u32,
 ) -> Result<Reached, ImportError>
-    ensures loading { IsRoundEnd (R.answers resolver.old) max_modules (string_bytes reached.root) keep.now reached asked 1 → Loading (R.answers resolver.old) (string_bytes reached.root) keep.now max_modules result }
-    ensures asked { IsAskedEnd (R.answers resolver.old) (string_bytes reached.root) keep.now max_modules (R.asked resolver.old) (R.asked resolver.old) reached asked 1 → AreAskedBehind (R.answers resolver.old) (string_bytes reached.root) keep.now max_modules (R.asked resolver.old) (R.asked resolver.new) }
-    ensures all_asked { IsAskedEnd (R.answers resolver.old) (string_bytes reached.root) keep.now max_modules (R.asked resolver.old) (R.asked resolver.old) reached asked 1 → OnOk result (AreThoseLoaded (R.answers resolver.old) (string_bytes reached.root) keep.now max_modules (R.asked resolver.old) (R.asked resolver.new)) }
+    ensures loading { RoundsLoad (R.answers resolver.old) reached keep.now asked max_modules result }
+    ensures asked { RoundsAsk (R.answers resolver.old) reached keep.now asked max_modules (R.asked resolver.old) (R.asked resolver.new) }
+    ensures all_asked { RoundsAskThose (R.answers resolver.old) reached keep.now asked max_modules (R.asked resolver.old) (R.asked resolver.new) result }
     ensures same_answers { SameAnswers (R.answers resolver.old) (R.answers resolver.new) }
     ensures same_texts { SameTexts (R.texts resolver.old) (R.texts resolver.new) }
     ensures same_names { R.display_names resolver.new ≡ R.display_names resolver.old }
@@ -140,8 +139,8 @@ fn load_all<R: Resolver>(
     max_modules: u32,
 ) -> Result<(), ImportError>
     ensures ordered { IsOrdered string_cmp asked.now }
-    ensures loads { (listed : ListedModules) → AreTabled modules.old listed → AreSought modules.old asked.now → LoadsAll (R.answers resolver.old) max_modules modules.old listed asked.now modules.new result }
-    ensures asks { (listed : ListedModules) → AreTabled modules.old listed → AreSought modules.old asked.now → AsksForAll (R.answers resolver.old) max_modules (R.asked resolver.old) (R.asked resolver.new) modules.old listed asked.now modules.new result }
+    ensures loads { LoadsAsked (R.answers resolver.old) max_modules modules.old asked.now modules.new result }
+    ensures asks { AsksAsked (R.answers resolver.old) max_modules (R.asked resolver.old) (R.asked resolver.new) modules.old asked.now modules.new result }
     ensures same_answers { SameAnswers (R.answers resolver.old) (R.answers resolver.new) }
     ensures same_texts { SameTexts (R.texts resolver.old) (R.texts resolver.new) }
     ensures same_names { R.display_names resolver.new ≡ R.display_names resolver.old }
