@@ -6,7 +6,8 @@ use Rattle.std.specs.List.{Contains, flat_map}
 use Rattle.wgsl_syntax.specs.Tree.{Exp, literal, parenthesized, unary, binary, call, named, Exps, nil, cons, Typ, simple, templated, Attr, fragment, location, Stm, returning, Block, Param, Decl, variable, function}
 use Rattle.wesl_link_spec.specs.Occurrences.{Name, is_among, unless_local, in_expression, in_expressions, in_type, in_some, in_attribute, in_attributes, in_statement, in_block, in_parameter, parameter_names, occurrences, declared_name}
 use Rattle.wesl_link_spec.specs.Linked.{new_name, renamed, all_renamed, renamed_type, renamed_attribute, renamed_attributes, renamed_statement, renamed_block, renamed_parameter, renamed_declaration}
-use Rattle.wesl_scopes.proofs.ScopeLemmas.{to_contains, from_contains, append_left, append_right}
+use Rattle.wesl_scopes.proofs.ScopeLemmas.{append_left, append_right}
+use Rattle.wgsl_items.proofs.Members.{to_contains, from_contains}
 
 module _ (f g : Name → Name) where
   abbrev pub Agree : List Name → Type 0

@@ -21,13 +21,14 @@ use Rattle.wesl_reach.specs.Closing.{HeldNames, held_at}
 use Rattle.wesl_link.specs.Assembling.{printed_of, without}
 use Rattle.wesl_reach.specs.Resolved.{LoadedModules, modules_of, IsResolved}
 use Rattle.wesl_link.specs.Clashing.{or_else, first_some, Sharing, sharing_in, held_names, is_shared, name_clash, own_clash, names_clash, declaration_clash, held_clash, clash_among, module_clash, clash_at, others_clash, unit_clash}
-use Rattle.wesl_scopes.proofs.ScopeLemmas.{to_contains, from_contains, map_get, get_map, append_left, append_right, append_cases, value_means}
+use Rattle.wesl_scopes.proofs.ScopeLemmas.{map_get, append_left, append_right, append_cases, value_means}
 use Rattle.wesl_reach.proofs.ReachLemmas.{found_unit, same_place, there_reached, reached_held, stands_there}
 use Rattle.wesl_link.proofs.LinkLemmas.{one_symbol}
 use Rattle.wesl_link.proofs.OrderLemmas.{ordered as in_order}
 use Rattle.wesl_link.proofs.ResolvedLemmas.{finder, sorted_texts, printed_keys, found_home, all_there}
 use Rattle.wesl_link.proofs.SharedLemmas.{Entry}
 use Rattle.wesl_link.proofs.MeansLemmas.{Decides, name_decides, shared_is, shared_told, shared_value, printed_one, symbolic, some_of}
+use Rattle.wgsl_items.proofs.Members.{in_cases, in_none as none_in, in_map as mapped_in, to_contains, from_contains, get_map}
 
 -- ---- the first of a list
 
@@ -36,16 +37,6 @@ first_in y ys = to_contains (y ∷ ys) 0 y refl
 
 later_in : {X : Type 0} (y : X) (ys : List X) (x : X) → Contains ys x → Contains (y ∷ ys) x
 later_in y ys x c = let p = from_contains ys x c in to_contains (y ∷ ys) (suc p.0) x p.1
-
-in_cases : {X : Type 0} (y : X) (ys : List X) (x : X) → Contains (y ∷ ys) x → (y ≡ x) ⊎ Contains ys x
-in_cases y ys x c = let p = from_contains (y ∷ ys) x c in at p.0 p.1
-  where
-    at : (i : ℕ) → slice_get (y ∷ ys) i ≡ Some x → (y ≡ x) ⊎ Contains ys x
-    at zero e = inl (cc)
-    at (suc i) e = inr (to_contains ys i x e)
-
-none_in : {X : Type 0} (x : X) → Contains [] x → ⊥
-none_in x c = let p = from_contains [] x c in let e : None ≡ Some x = p.1 in absurd (cc)
 
 left_in : {X : Type 0} (xs ys : List X) (x : X) → Contains xs x → Contains (xs ++ ys) x
 left_in xs ys x c = let p = from_contains xs x c in to_contains (xs ++ ys) p.0 x (append_left xs ys p.0 x p.1)
@@ -57,9 +48,6 @@ either_in : {X : Type 0} (xs ys : List X) (x : X) → Contains (xs ++ ys) x → 
 either_in xs ys x c =
     let p = from_contains (xs ++ ys) x c in
     ⊎_elim (λ l. inl (to_contains xs l.0 x l.1)) (λ l. inr (to_contains ys l.0 x l.1)) (append_cases xs ys p.0 x p.1)
-
-mapped_in : {X Y : Type 0} (f : X → Y) (xs : List X) (x : X) → Contains xs x → Contains (map f xs) (f x)
-mapped_in f xs x c = let p = from_contains xs x c in to_contains (map f xs) p.0 (f x) (get_map f xs p.0 x p.1)
 
 both_none : (o p : Option Name) → or_else o p ≡ None → (o ≡ None) × (p ≡ None)
 both_none None p e = (refl, e)

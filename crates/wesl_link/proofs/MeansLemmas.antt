@@ -28,13 +28,14 @@ use Rattle.wesl_reach.specs.Closing.{HeldNames, held_at}
 use Rattle.wesl_link.specs.Assembling.{printed_of}
 use Rattle.wesl_reach.specs.Resolved.{LoadedModules, modules_of, IsResolved}
 use Rattle.wesl_link.specs.Clashing.{is_twice, sharing_in, held_names, is_shared, name_clash}
-use Rattle.wesl_scopes.proofs.ScopeLemmas.{from_contains, map_get, get_map, self_name}
+use Rattle.wesl_scopes.proofs.ScopeLemmas.{map_get, self_name}
 use Rattle.wesl_scopes.proofs.TellLemmas.{tells}
 use Rattle.wesl_reach.proofs.ReachLemmas.{denoted, same_place, reached_there, there_reached, reached_held}
 use Rattle.wesl_link.proofs.LinkLemmas.{one_symbol, free_outcome}
 use Rattle.wesl_link.proofs.ResolvedLemmas.{finder, found_entry, key_is, sorted_texts}
 use Rattle.wesl_link.proofs.ClashLemmas.{known_if, twice_among}
 use Rattle.wesl_link.proofs.SharedLemmas.{Entry, NamedAt, among_of, twice_of, placed, placed_twice}
+use Rattle.wgsl_items.proofs.Members.{from_contains, get_map}
 
 -- ---- printed names
 

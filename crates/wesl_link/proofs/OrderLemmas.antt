@@ -20,24 +20,15 @@ use Rattle.wesl_scopes.specs.Tells.{IsFinder}
 use Rattle.wesl_reach.specs.Reach.{Holding, IsSettled, KeepsAll, IsRooted}
 use Rattle.wesl_link.specs.Assembling.{linked_module, linked_at, without, linked_unit}
 use Rattle.wesl_reach.specs.Resolved.{NamesHeld, HoldsReached}
-use Rattle.wesl_scopes.proofs.ScopeLemmas.{to_contains, from_contains, get_map, same_name, self_name}
+use Rattle.wesl_scopes.proofs.ScopeLemmas.{same_name, self_name}
 use Rattle.wesl_link.proofs.LinkLemmas.{module_linked}
+use Rattle.wgsl_items.proofs.Members.{in_cases, in_none as none_in, to_contains, from_contains, get_map}
 
 first_in : {X : Type 0} (y : X) (ys : List X) → Contains (y ∷ ys) y
 first_in y ys = to_contains (y ∷ ys) 0 y refl
 
 later_in : {X : Type 0} (y : X) (ys : List X) (x : X) → Contains ys x → Contains (y ∷ ys) x
 later_in y ys x c = let p = from_contains ys x c in to_contains (y ∷ ys) (suc p.0) x p.1
-
-in_cases : {X : Type 0} (y : X) (ys : List X) (x : X) → Contains (y ∷ ys) x → (y ≡ x) ⊎ Contains ys x
-in_cases y ys x c = let p = from_contains (y ∷ ys) x c in at p.0 p.1
-  where
-    at : (i : ℕ) → slice_get (y ∷ ys) i ≡ Some x → (y ≡ x) ⊎ Contains ys x
-    at zero e = inl (cc)
-    at (suc i) e = inr (to_contains ys i x e)
-
-none_in : {X : Type 0} (x : X) → Contains [] x → ⊥
-none_in x c = let p = from_contains [] x c in let e : None ≡ Some x = p.1 in absurd (cc)
 
 abbrev cmp_paths : Path → Path → Ordering
 cmp_paths = slice_cmp nat_cmp

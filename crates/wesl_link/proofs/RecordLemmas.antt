@@ -22,29 +22,14 @@ use Rattle.wesl_reach.specs.Closing.{HeldNames, held_at}
 use Rattle.wesl_reach.specs.Resolved.{LoadedModules, modules_of, IsResolved}
 use Rattle.wesl_link.specs.Assembling.{declaration_trees}
 use Rattle.wesl_link.specs.Recording.{Source, Telling, source_symbol, record_of, records_among, records_in, records_of, AreRecorded, IsHeldAs, IsSourceOf, AreTold}
-use Rattle.wesl_scopes.proofs.ScopeLemmas.{to_contains, get_map, same_name, self_name}
+use Rattle.wesl_scopes.proofs.ScopeLemmas.{same_name, self_name}
 use Rattle.wesl_link.proofs.LinkLemmas.{one_symbol}
 use Rattle.wesl_link.proofs.ResolvedLemmas.{finder}
 use Rattle.wesl_link.proofs.SharedLemmas.{Entry}
 use Rattle.wesl_link.proofs.MeansLemmas.{standing, symbolic}
+use Rattle.wgsl_items.proofs.Members.{in_cases, in_none, first_in, to_contains, get_map}
 
 -- ---- members
-
-first_in : {X : Type 0} (x : X) (xs : List X) → Contains (x ∷ xs) x
-first_in x xs = (zero, omega arith, refl)
-
-later_in : {X : Type 0} (x y : X) (xs : List X) → Contains xs x → Contains (y ∷ xs) x
-later_in x y xs h = let lt = h.1 in (suc h.0, omega arith, h.2)
-
-in_cases : {X : Type 0} (y : X) (ys : List X) (x : X) → Contains (y ∷ ys) x → (y ≡ x) ⊎ Contains ys x
-in_cases y ys x h = at h.0 h.1 h.2
-  where
-    at : (k : ℕ) → k < length (y ∷ ys) → slice_index_or (y ∷ ys) k x ≡ x → (y ≡ x) ⊎ Contains ys x
-    at zero lt e = inl e
-    at (suc k) lt e = inr (k, omega arith, e)
-
-in_none : {X : Type 0} (x : X) → Contains [] x → ⊥
-in_none x h = let lt = h.1 in absurd (omega arith)
 
 -- ---- recording
 

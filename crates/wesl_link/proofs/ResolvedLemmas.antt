@@ -28,9 +28,10 @@ use Rattle.wesl_reach.specs.Closing.{HeldNames, held_at}
 use Rattle.wesl_link.specs.Assembling.{linked_module, linked_at, without, linked_unit}
 use Rattle.wesl_reach.specs.Resolved.{LoadedModules, modules_of, IsKeyed, IsResolved}
 use Rattle.wesl_link.specs.Assembling.{others_linked, assembled}
-use Rattle.wesl_scopes.proofs.ScopeLemmas.{from_contains, map_get}
+use Rattle.wesl_scopes.proofs.ScopeLemmas.{map_get}
 use Rattle.wesl_reach.proofs.GoesLemmas.{tabled_finder}
 use Rattle.wesl_link.proofs.OrderLemmas.{unit_linked}
+use Rattle.wgsl_items.proofs.Members.{from_contains}
 
 abbrev Entry : Type 0
 Entry = String Global × Module

@@ -13,26 +13,7 @@ use Rattle.wesl_scopes.specs.Outcomes.{home_of}
 use Rattle.wesl_reach.specs.Closing.{HeldNames, held_at}
 use Rattle.wesl_link.specs.Clashing.{names_of, names_among, names_in, held_names, is_twice}
 use Rattle.wesl_scopes.proofs.ScopeLemmas.{same_name, self_name}
-
-or_cases : (a b : Bool) → (a || b) ≡ true → (a ≡ true) ⊎ (b ≡ true)
-or_cases true b e = inl refl
-or_cases false b e = inr e
-
-and_both : (a b : Bool) → (a && b) ≡ true → (a ≡ true) × (b ≡ true)
-and_both true b e = (refl, e)
-and_both false b e = absurd (cc)
-
-or_right : (a b : Bool) → b ≡ true → (a || b) ≡ true
-or_right true b e = refl
-or_right false b e = e
-
-or_left : (a b : Bool) → a ≡ true → (a || b) ≡ true
-or_left true b e = refl
-or_left false b e = absurd (cc)
-
-and_true : (a b : Bool) → a ≡ true → b ≡ true → (a && b) ≡ true
-and_true true b e f = f
-and_true false b e f = absurd (cc)
+use Rattle.wgsl_items.proofs.Bools.{and_both, or_cases, or_right, or_left, and_true}
 
 spread : (y a b t u : Bool) → ((y && (a || b)) || ((a && b) || (t || u))) ≡ (((y || a) && b) || (((y && a) || t) || u))
 spread false a b t u = refl

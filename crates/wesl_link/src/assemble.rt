@@ -17,7 +17,7 @@ use std::alloc::{AllocError, Global};
 use wesl_reach::is_held;
 use wesl_rename::renamed_declaration;
 use wesl_resolve::BasicSourceMap;
-use wesl_scopes::{Module, Symbol, declared_name};
+use wesl_scopes::{Module, Symbol};
 use wgsl_items::Items;
 use wgsl_path::{ModulePath, Spanned};
 use wgsl_syntax::{GlobalDeclaration, GlobalDeclarationNode, TranslationUnit};
@@ -222,7 +222,7 @@ impl Resolutions {
     {
         match held_name(&self.held, symbol) {
             None => Ok(()),
-            Some(name) => map.add_decl(name, &symbol.module.path, declared_name(node.node())),
+            Some(name) => map.add_decl(name, &symbol.module.path, node.node().declared_name()),
         }
     }
 }

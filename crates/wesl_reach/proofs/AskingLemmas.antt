@@ -19,7 +19,7 @@ use Rattle.wesl_link_spec.specs.Modules.{Path, Modules}
 use Rattle.wesl_link_spec.specs.Rounds.{Sources, AreDistinct, no_names, another}
 use Rattle.wesl_link_spec.specs.Asks.{printed_paths, Asks, AsksAmong, asks_first, asks_next, in_this_round, in_a_later_round, onward}
 use Rattle.wesl_scopes.specs.declared.module.Module.{Module}
-use Rattle.wesl_scopes.proofs.ScopeLemmas.{to_contains, from_contains, map_get}
+use Rattle.wesl_scopes.proofs.ScopeLemmas.{map_get}
 use Rattle.wesl_reach.specs.declared.rounds.Reached.{Reached}
 use Rattle.wesl_reach.specs.Closed.{IsClosed}
 use Rattle.wesl_reach.specs.Resolved.{LoadedModules}
@@ -29,6 +29,7 @@ use Rattle.wesl_reach.specs.Asking.{AsksForOne, AreAskedAmong, AreAllAsked, IsAs
 use Rattle.std.proofs.lemmas.List.Elements.{Contains-append_cases}
 use Rattle.wesl_reach.proofs.LoadLemmas.{AskedEntry, texts_of, path_and_unit, listed_found, IsLoadedTo, none_loaded, one_loaded, all_are_loaded, same_all_loaded}
 use Rattle.wesl_reach.proofs.GoesLemmas.{none, next, not_empty, all_ended, one_round, there, kept_there, root_ended}
+use Rattle.wgsl_items.proofs.Members.{to_contains, from_contains}
 
 -- ---- lists of what was asked for
 

@@ -1,2 +1,3 @@
 pub mod Scopes
 pub mod Renaming
+pub mod Parts

@@ -7,6 +7,7 @@ ghost use Rattle.wgsl_syntax.specs.View.{tree, type_tree, node_tree, attribute_t
 ghost use Rattle.wgsl_syntax.specs.Tree.{exps};
 ghost use Rattle.wesl_link_spec.specs.Occurrences as spec;
 ghost use Rattle.wesl_rename.specs.Scopes.{texts};
+ghost use Rattle.wesl_rename.specs.Parts.{Adds, in_value, in_signature, in_call};
 
 use crate::scope::Scope;
 use std::alloc::{AllocError, Global};
@@ -89,7 +90,7 @@ fn add_value<'a>(
     scope: &Scope<'a>,
     declaration: &'a Declaration,
 ) -> Result<(), AllocError>
-    ensures { OnOk result (texts found.new.items ≡ texts found.old.items ++ (spec.in_some (spec.in_type scope.now) (option_map type_tree declaration.now.ty) ++ spec.in_some (spec.in_expression scope.now) (option_map node_tree declaration.now.initializer))) }
+    ensures { OnOk result (Adds found.old.items found.new.items (in_value scope.now declaration.now)) }
 {
     if let Some(ty) = &declaration.ty {
         add_type(found, scope, ty)?;
@@ -106,7 +107,7 @@ fn add_signature<'a>(
     function: &'a Function,
 ) -> Result<(), AllocError>
     requires { scope.now ≡ [] }
-    ensures { OnOk result (texts found.new.items ≡ texts found.old.items ++ (flat_map spec.in_parameter (map parameter_tree function.now.parameters) ++ spec.in_attributes [] (attributes_tree function.now.return_attributes) ++ spec.in_some (spec.in_type []) (option_map type_tree function.now.return_type))) }
+    ensures { OnOk result (Adds found.old.items found.new.items (in_signature function.now)) }
 {
     for parameter in function.parameters.as_slice() {
         add_parameter(found, scope, parameter)?;
@@ -216,7 +217,7 @@ fn add_call<'a>(
     scope: &Scope<'a>,
     call: &'a FunctionCall,
 ) -> Result<(), AllocError>
-    ensures { OnOk result (texts found.new.items ≡ texts found.old.items ++ (spec.in_type scope.now (type_tree call.now.ty) ++ spec.in_expressions scope.now (exps (map node_tree call.now.arguments)))) }
+    ensures { OnOk result (Adds found.old.items found.new.items (in_call scope.now call.now)) }
 {
     add_type(found, scope, &call.ty)?;
     add_expressions(found, scope, call.arguments.as_slice())

@@ -18,24 +18,9 @@ use Rattle.wesl_link_spec.specs.Occurrences.{Name, is_among, declared_name}
 use Rattle.wesl_link_spec.specs.Modules.{local_name}
 use Rattle.wesl_link_spec.specs.Rounds.{scope_names, AreDistinct, no_names, another, IsFirstAgain}
 use Rattle.wesl_scopes.specs.Meanings.{Known, declared, meant, known, names, first_again, import_known, import_entry, declared_entries, entries}
+use Rattle.wgsl_items.proofs.Members.{at_place, from_contains, get_map}
 
 -- ---- elements by their places
-
-pub to_contains : {X : Type 0} (xs : List X) (i : ℕ) (x : X) → slice_get xs i ≡ Some x → Contains xs x
-to_contains xs i x is = (i, slice_get_within xs i x is, get_or_from_slice_get xs i x x is)
-
-pub at_place : {X : Type 0} (xs : List X) (i : ℕ) (x : X) → i < length xs → get_or xs i x ≡ x → slice_get xs i ≡ Some x
-at_place [] i x h is = absurd (omega arith)
-at_place (y ∷ xs) zero x h is = ap (λ t. Some t) is
-at_place (y ∷ xs) (suc i) x h is = let less : i < length xs = omega arith in at_place xs i x less is
-
-pub from_contains : {X : Type 0} (xs : List X) (x : X) → Contains xs x → (i : ℕ) × (slice_get xs i ≡ Some x)
-from_contains xs x c = (c.0, at_place xs c.0 x c.1 c.2)
-
-pub get_map : {X Y : Type 0} (f : X → Y) (xs : List X) (i : ℕ) (x : X) → slice_get xs i ≡ Some x → slice_get (map f xs) i ≡ Some (f x)
-get_map f [] i x is = absurd (cc)
-get_map f (y ∷ xs) zero x is = let e : y ≡ x = cc in ap (λ t. Some (f t)) e
-get_map f (y ∷ xs) (suc i) x is = get_map f xs i x is
 
 pub map_get : {X Y : Type 0} (f : X → Y) (xs : List X) (i : ℕ) (y : Y) → slice_get (map f xs) i ≡ Some y → (x : X) × (slice_get xs i ≡ Some x) × (f x ≡ y)
 map_get f [] i y is = absurd (cc)

@@ -16,7 +16,8 @@ use Rattle.wesl_scopes.specs.declared.error.ImportError.TheVariants.{OutOfMemory
 use Rattle.wesl_scopes.specs.Meanings.{Known, declared, imported, bare, known, names, first_again, import_known, import_entry, entries, Tabulates}
 use Rattle.wesl_scopes.specs.Outcomes.{Loaded, item_in, item_at, meant_as, outcome}
 use Rattle.wesl_scopes.specs.Tells.{Opens, IsFinder, Tells}
-use Rattle.wesl_scopes.proofs.ScopeLemmas.{to_contains, from_contains, get_map, map_get, first_again_named, meant_at, entry_cases, import_means, value_means}
+use Rattle.wesl_scopes.proofs.ScopeLemmas.{map_get, first_again_named, meant_at, entry_cases, import_means, value_means}
+use Rattle.wgsl_items.proofs.Members.{to_contains, from_contains, get_map}
 
 pub refused : (path : ModulePath) (unit : TranslationUnit) (e : ImportError) → Tabulates path (unit_tree unit) (Err e) → Opens path unit (Err e)
 refused path unit OutOfMemory t = tt

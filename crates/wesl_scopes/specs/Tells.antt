@@ -1,5 +1,8 @@
 -- What the code finds, in the words of the definitions.
-use Rattle.std.specs.Prelude.{◌≡◌, ℕ, [], Some, None, Result, Ok, Err, slice_get}
+use Rattle.std.specs.Prelude.{◌≡◌, ℕ, [], Some, None, Result, Ok, Err, slice_get, string_bytes}
+use Rattle.std.specs.BTreeMap.{BTreeMap}
+use Rattle.std.specs.declared.string.String.{String}
+use Rattle.std.specs.declared.alloc.Global.{Global}
 use Rattle.wgsl_path.specs.declared.path.ModulePath.{ModulePath}
 use Rattle.wgsl_syntax.specs.Tree.{Decl, UnitTree}
 use Rattle.wgsl_syntax.specs.declared.unit.TranslationUnit.{TranslationUnit}
@@ -11,7 +14,7 @@ use Rattle.wesl_scopes.specs.declared.error.ImportError.{ImportError}
 use Rattle.wesl_scopes.specs.declared.error.ImportError.TheVariants.{OutOfMemory, DuplicateSymbol}
 use Rattle.wesl_scopes.specs.declared.module.Module.{Module}
 use Rattle.wesl_scopes.specs.Meanings.{Done, entries, names, first_again}
-use Rattle.wesl_scopes.specs.Outcomes.{Outcome, symbol_at, unloaded, missing, private, free, Loaded}
+use Rattle.wesl_scopes.specs.Outcomes.{Outcome, symbol_at, unloaded, missing, private, free, Loaded, loaded, home_of}
 
 -- A module is made of its unit, or is refused for the first name that its scope has twice.
 abbrev pub Opens : ModulePath → TranslationUnit → Result Module ImportError → Type 0
@@ -42,3 +45,8 @@ Tells modules m x (unloaded s) = IsUnloaded modules m x s
 Tells modules m x (missing s) = IsMissing modules m x s
 Tells modules m x (private s) = IsPrivate modules m x s
 Tells modules m x free = IsFree modules m x
+
+-- what a name of a module denotes, among the modules of a table, where the module is one of them
+abbrev pub TellsDenoted : BTreeMap (String Global) Module → Module → Name → Outcome → Type 0
+TellsDenoted table m x outcome =
+    (ms : Modules) → IsFinder ms (loaded table) → loaded table (string_bytes m.printed_path) ≡ Some (home_of m) → Tells ms (string_bytes m.printed_path) x outcome

@@ -6,7 +6,7 @@ ghost use Rattle.wgsl_syntax.specs.View.{unit_tree};
 ghost use Rattle.wesl_link_spec.specs.Modules as spec;
 ghost use Rattle.wesl_link_spec.specs.Named.{HasImportOf};
 ghost use Rattle.wesl_scopes.specs.Outcomes.{item_at, item_outcome, outcome, outcome_of, home_of, loaded, IsInTable, DenotesInTable, StandsUnder, IsNamedIn};
-ghost use Rattle.wesl_scopes.specs.Tells.{IsFinder, Tells};
+ghost use Rattle.wesl_scopes.specs.Tells.{TellsDenoted};
 
 use crate::module::{Module, Modules};
 use crate::target::{Meaning, Target};
@@ -51,7 +51,7 @@ pub enum Denoted<'a> {
 /// What a name of a module denotes: its own declaration, else what its import names.
 pub fn denotation<'a>(modules: &'a Modules, module: &'a Module, name: &str) -> Denoted<'a>
     ensures found { outcome_of result ≡ outcome (loaded modules.now) (home_of module.now) name.now }
-    ensures means { (ms : spec.Modules) → IsFinder ms (loaded modules.now) → loaded modules.now (string_bytes module.now.printed_path) ≡ Some (home_of module.now) → Tells ms (string_bytes module.now.printed_path) name.now (outcome_of result) }
+    ensures means { TellsDenoted modules.now module.now name.now (outcome_of result) }
     ensures in_table { IsInTable modules.now module.now → DenotesInTable modules.now result }
     ensures named { IsNamedIn (unit_tree module.now.unit) result }
 {

@@ -10,5 +10,4 @@ mod target;
 pub use denote::{Denoted, Item, Symbol, denotation, item_of};
 pub use error::ImportError;
 pub use module::{Module, Modules, entry_points};
-pub use table::declared_name;
 pub use target::{Meaning, Target};

@@ -28,7 +28,7 @@ pub fn meanings_of(
         add_meaning(alloc, path, &mut meanings, local_name(import), meaning)?;
     }
     for (place, declaration) in unit.global_declarations.as_slice().iter().enumerate() {
-        let name = declared_name(declaration.node());
+        let name = declaration.node().declared_name();
         add_meaning(alloc, path, &mut meanings, name, Meaning::Declared(place))?;
     }
     Ok(meanings)
@@ -76,15 +76,5 @@ fn import_meaning(alloc: Global, import: &ImportStatement) -> Result<Meaning, Al
             )?)),
             None => Ok(Meaning::Bare(item.ident.name.clone_in(alloc)?)),
         },
-    }
-}
-
-/// The name that a declaration declares.
-pub fn declared_name(declaration: &GlobalDeclaration) -> &str
-    ensures { result.now ≡ occurrences.declared_name (declaration_tree declaration.now) }
-{
-    match declaration {
-        GlobalDeclaration::Declaration(declaration) => declaration.ident.as_str(),
-        GlobalDeclaration::Function(function) => function.ident.as_str(),
     }
 }

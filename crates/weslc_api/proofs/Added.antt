@@ -15,6 +15,7 @@ use Rattle.wgsl_path.specs.Paths.{path_text}
 use Rattle.weslc_api.specs.Keyed.{AreKeyed}
 use Rattle.weslc_api.specs.Stored.{path_and_text, Added, one_added, text_among}
 use Rattle.weslc_api.specs.declared.resolver.VirtualModule.{VirtualModule}
+use Rattle.wgsl_items.proofs.Members.{same_bytes as same_text}
 
 abbrev pub Entry : Type 0
 Entry = String Global × VirtualModule
@@ -22,9 +23,6 @@ Entry = String Global × VirtualModule
 -- the list that the entries of the map are
 abbrev pub listed : List Entry → Added
 listed es = map path_and_text (map (λ e. e.1) es)
-
-same_text : (x y : List ℕ) → bytes_eq x y ≡ true → x ≡ y
-same_text x y is = (bytes_eq-Decides x y).0 is
 
 turned : (x y : List ℕ) → bytes_eq x y ≡ bytes_eq y x
 turned x y = by (bytes_eq x y) refl

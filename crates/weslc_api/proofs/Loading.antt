@@ -23,7 +23,7 @@ use Rattle.wesl_link_spec.specs.Loaded.{IsClashFree}
 use Rattle.wesl_link_spec.specs.Clashing.{IsFirstClash}
 use Rattle.wesl_link_spec.specs.Same.{SameModules}
 use Rattle.wesl_scopes.specs.declared.module.Module.{Module as Loaded}
-use Rattle.wesl_scopes.proofs.ScopeLemmas.{to_contains, from_contains, get_map, map_get}
+use Rattle.wesl_scopes.proofs.ScopeLemmas.{map_get}
 use Rattle.wesl_scopes.specs.declared.error.ImportError.{ImportError}
 use Rattle.wesl_scopes.specs.declared.error.ImportError.TheVariants as import
 use Rattle.wesl_meaning.proofs.Loading.{loaded_modules, found_modules}
@@ -39,6 +39,7 @@ use Rattle.weslc_api.specs.Answers.{AreLoadedFrom, IsRefusedLoading, of_the_root
 use Rattle.wesl_resolve.specs.SourceMaps.{decl_at}
 use Rattle.wesl_link.specs.Recording.{AreTold}
 use Rattle.weslc_api.proofs.Recorded.{held_told}
+use Rattle.wgsl_items.proofs.Members.{to_contains, from_contains, get_map}
 
 abbrev Entry : Type 0
 Entry = String Global × Loaded

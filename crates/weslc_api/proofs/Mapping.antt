@@ -11,7 +11,7 @@ use Rattle.wesl_resolve.specs.declared.source_map.BasicSourceMap.{BasicSourceMap
 use Rattle.wesl_resolve.specs.Found.{Answer, unit_of, not_found, SameAnswers, SameTexts, TellsText}
 use Rattle.wesl_resolve.specs.declared.error.ResolveError.{ResolveError}
 use Rattle.wesl_resolve.specs.declared.error.ResolveError.TheVariants as resolve
-use Rattle.wesl_scopes.proofs.ScopeLemmas.{to_contains, from_contains, get_map, map_get, same_name}
+use Rattle.wesl_scopes.proofs.ScopeLemmas.{map_get, same_name}
 use Rattle.wesl_link_spec.specs.Rounds.{Sources}
 use Rattle.wgsl_syntax.specs.Tree.{UnitTree}
 use Rattle.weslc_api.specs.declared.error.CompileError.TheVariants.{OutOfMemory}
@@ -19,6 +19,7 @@ use Rattle.weslc_api.specs.Told.{of_resolving}
 use Rattle.wesl_resolve.specs.SourceMaps.{source_at, display_name_at, IsSet}
 use Rattle.wesl_resolve.specs.declared.source_map.Source.{Source}
 use Rattle.weslc_api.specs.Mapped.{Texts, Names, HasText, HaveTexts, HasOnly, AddsOnly, IsPathOf, HasNames, HasDefault, IsFound, AreAllFound}
+use Rattle.wgsl_items.proofs.Members.{to_contains, from_contains, get_map}
 
 pub same_before : (a b c : Sources) → SameAnswers a b → SameAnswers b c → SameAnswers a c
 same_before a b c one two p x = (λ h. (two p x).0 ((one p x).0 h), λ h. (one p x).1 ((two p x).1 h))

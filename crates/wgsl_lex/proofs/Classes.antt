@@ -6,8 +6,9 @@ use Rattle.std.specs.Char.{is_ascii_digit}
 use Rattle.unicode_ident.specs.Ident.{is_xid_start, is_xid_continue}
 use Rattle.unicode_ident.proofs.Computing.{unicode_ident}
 use Rattle.wgsl_lex.specs.Tokens.{is_line_break, is_blank}
-use Rattle.wgsl_lex.proofs.Bools.{both, either, not_both, fails, is_number, differs, implies, all_below, below_passes}
+use Rattle.wgsl_lex.proofs.Bools.{not_both, is_number, differs, implies, all_below, below_passes}
 use Rattle.wgsl_lex.proofs.Tables.{begins_word}
+use Rattle.wgsl_items.proofs.Bools.{and_both as both, or_cases as either, false_if as fails}
 
 abbrev line_breaks : List ℕ
 line_breaks = 10 ∷ 11 ∷ 12 ∷ 13 ∷ 133 ∷ 8232 ∷ 8233 ∷ []

@@ -11,12 +11,13 @@ use Rattle.wgsl_lex.specs.declared.piece.Piece.{Piece}
 use Rattle.wgsl_lex.specs.Tokens.{digit_value, is_blank, is_trivia, is_word, is_line_comment_tail, is_block_comment_tail, fixed_of, token_form, form, Form, trivia, token, NoLonger, IsLongest, abstract_token, signed_token, unsigned_token}
 use Rattle.wgsl_lex.specs.Runs.{IsRun, IsLongestRun, IsLongestMagnitude, IsValue, is_no_line_break, begins_with_pair, value_behind}
 use Rattle.wgsl_lex.specs.Pieces.{IsCommentAnswer, no_comment, comment, opens_word, StandsFirst, trivia_first, token_first, nothing_first, BeginsNothingElse, HasMagnitude, opens_comment, begins_with_continue, spelled_by_two, spelled_by_three, is_mark, goes_on}
-use Rattle.wgsl_lex.proofs.Bools.{and_false, both, covered, covered_word, neither, not_both, fails, is_number}
+use Rattle.wgsl_lex.proofs.Bools.{and_false, covered, covered_word, neither, not_both, is_number}
 use Rattle.wgsl_lex.proofs.Tables.{begins_word}
 use Rattle.wgsl_lex.proofs.Forms.{suffix_token, fixed_form, no_form}
 use Rattle.wgsl_lex.proofs.Longest.{longest_run, word_longest, blank_longest, line_comment_longest, block_comment_longest}
 use Rattle.wgsl_lex.proofs.Numbers.{decimal_longest, hexadecimal_longest, zero_longest, plain_longest, suffixed_longest}
 use Rattle.wgsl_lex.proofs.Symbols.{four_is_none}
+use Rattle.wgsl_items.proofs.Bools.{and_both as both, false_if as fails}
 
 -- The first and so many behind it
 pub one_more : (c : ℕ) (behind : List ℕ) (n m : ℕ) (what : Form) → suc n ≡ m → IsLongest (c ∷ take n behind) (drop n behind) what → IsLongest (take m (c ∷ behind)) (drop m (c ∷ behind)) what

@@ -9,9 +9,10 @@ use Rattle.wgsl_token.specs.declared.token.Token.{Token}
 use Rattle.wgsl_token.specs.declared.token.Token.TheVariants.{Fixed}
 use Rattle.wgsl_token.specs.declared.token.Fixed.{Fixed as FixedToken}
 use Rattle.wgsl_lex.specs.Tokens.{is_trivia, is_word, word_token, fixed_of, magnitude, abstract_token, signed_token, unsigned_token, suffixed_number, number_token, token_form, form, trivia, token}
-use Rattle.wgsl_lex.proofs.Bools.{not_both, fails, is_number}
+use Rattle.wgsl_lex.proofs.Bools.{not_both, is_number}
 use Rattle.wgsl_lex.proofs.Tables.{begins_word, no_fixed, begins_fixed, spellings_begin}
 use Rattle.wgsl_lex.proofs.Classes.{digit_begins_no_word, digit_no_slash, digit_no_blank}
+use Rattle.wgsl_items.proofs.Bools.{false_if as fails}
 
 pub trivia_form : (cs : List ℕ) → is_trivia cs ≡ true → form cs ≡ Some trivia
 unfolding form

@@ -12,12 +12,13 @@ use Rattle.wgsl_token.specs.declared.token.Fixed.{Fixed as FixedToken}
 use Rattle.wgsl_lex.specs.Tokens.{is_blank, is_word, fixed_of, token_form, digits_value, abstract_token, size, spanned, Lexes, behind_trivia, a_token}
 use Rattle.wgsl_lex.specs.Runs.{IsLongestRun, IsLongestMagnitude}
 use Rattle.wgsl_lex.specs.Pieces.{BeginsNothingElse, spelled_by_two, spelled_by_three, goes_on}
-use Rattle.wgsl_lex.proofs.Bools.{and_false, both}
+use Rattle.wgsl_lex.proofs.Bools.{and_false}
 use Rattle.wgsl_lex.proofs.Forms.{suffix_token}
 use Rattle.wgsl_lex.proofs.Longest.{word_longest, blank_longest}
 use Rattle.wgsl_lex.proofs.Numbers.{decimal_longest, zero_longest, plain_longest, suffixed_longest}
 use Rattle.wgsl_lex.proofs.First.{word_begins, one_first, two_first, three_first}
 use Rattle.wgsl_lex.proofs.Once.{steps_token}
+use Rattle.wgsl_items.proofs.Bools.{and_both as both}
 
 -- The first character, if any, fails the test.
 abbrev pub stops : (ℕ → Bool) → List ℕ → Bool

@@ -21,8 +21,9 @@ use Rattle.wgsl_lex.specs.declared.word.TheConstants.{WORDS}
 use Rattle.wgsl_lex.specs.Tokens.{all_fixed, fixed_of, reserved_words, is_reserved, is_word, begins_with_two_underscores, word_token, token_form}
 use Rattle.wgsl_lex.specs.Rows.{ascends, IsFound, found, missing}
 use Rattle.wgsl_lex.specs.Pieces.{IsListed, listed, unlisted, is_meaning, is_listable}
-use Rattle.wgsl_lex.proofs.Bools.{both, either, not_both, fails}
+use Rattle.wgsl_lex.proofs.Bools.{not_both}
 use Rattle.wgsl_lex.proofs.Tables.{fixed_passes, no_fixed, fixed_of-spelling}
+use Rattle.wgsl_items.proofs.Bools.{and_both as both, or_cases as either, false_if as fails}
 
 -- A binary search of a table in order
 

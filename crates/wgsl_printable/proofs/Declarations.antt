@@ -25,10 +25,10 @@ use Rattle.wgsl_grammar.specs.Declarations.{ident, IsType, type, IsAttributes, I
 use Rattle.wgsl_grammar.specs.Declarations as grammar
 use Rattle.wgsl_lex.specs.Identifiers.{is_identifier}
 use Rattle.wgsl_round_trip.specs.Written.{IsWritten}
-use Rattle.wgsl_round_trip.proofs.Prints.{both}
 use Rattle.wgsl_printable.specs.Plain.{is_plain_type, is_plain_expression, is_plain_attribute, are_none, is_plain_annotation, is_plain_parameter, is_plain_result, is_plain_return, is_plain_statement, are_plain_statements, is_plain_body, is_plain_variable, is_plain_function, is_plain}
 use Rattle.wgsl_printable.proofs.Tokens.{Spelt, spelt_joined, here, paren_left, paren_right, brace_left, brace_right, comma, semicolon, colon, arrow, equal, attr, const_keyword, fn_keyword, return_keyword, identifier, fragment_word, location_word}
 use Rattle.wgsl_printable.proofs.Expressions.{Derived, expression_derived}
+use Rattle.wgsl_items.proofs.Bools.{and_both as both}
 
 -- spelled tokens derive what is seen so
 record From {A B : Type 0} (P : List SpannedToken → A → Type 0) (view : A → B) (b : B) : Type 0 where

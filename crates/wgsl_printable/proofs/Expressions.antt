@@ -24,11 +24,11 @@ use Rattle.wgsl_grammar.specs.Terminals.{fixed, word, literal_of, additive, mult
 use Rattle.wgsl_grammar.specs.Expressions.{IsPrimary, IsArguments, IsExpressions, IsUnary, IsProduct, IsSum, negated, joined}
 use Rattle.wgsl_grammar.specs.Expressions as grammar
 use Rattle.wgsl_round_trip.specs.Written.{IsSpelled}
-use Rattle.wgsl_round_trip.proofs.Prints.{both}
 use Rattle.wgsl_printable.specs.declared.expression.Rank.{Rank}
 use Rattle.wgsl_printable.specs.declared.expression.Rank.TheVariants.{Primary, Unary, Product, Sum, Nowhere}
 use Rattle.wgsl_printable.specs.Plain.{is_unary, is_product, is_sum, ranked, is_written, unary_rank, binary_rank, is_plain_type, rank, are_sums, is_plain_expression}
 use Rattle.wgsl_printable.proofs.Tokens.{Spelt, spelt_joined, here, paren_left, paren_right, comma, minus, plus_sign, star, slash, percent, identifier, abstract_number, signed_number, unsigned_number}
+use Rattle.wgsl_items.proofs.Bools.{and_both as both}
 
 -- spelled tokens derive an expression with this tree
 pub record Derived (P : List SpannedToken → Spanned Expression → Type 0) (x : Exp) : Type 0 where

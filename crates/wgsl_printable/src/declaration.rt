@@ -77,7 +77,7 @@ fn is_plain_optional_type(alloc: Global, ty: &Option<TypeExpression>) -> Result<
 }
 
 fn is_plain_value(alloc: Global, x: &Declaration) -> Result<bool, AllocError>
-    ensures { IfOk result (λ b. b ≡ spec.is_plain_variable (attributes_tree x.now.attributes) x.now.ident.name (option_map type_tree x.now.ty) (option_map node_tree x.now.initializer)) }
+    ensures { IfOk result (λ b. b ≡ spec.is_plain (declaration_tree (GlobalDeclaration.Declaration x.now))) }
 {
     let Some(initializer) = &x.initializer else {
         return Ok(false);
@@ -155,7 +155,7 @@ fn is_plain_statement(alloc: Global, node: &StatementNode) -> Result<bool, Alloc
 }
 
 fn is_plain_function(alloc: Global, x: &Function) -> Result<bool, AllocError>
-    ensures { IfOk result (λ b. b ≡ spec.is_plain_function (attributes_tree x.now.attributes) x.now.ident.name (map parameter_tree x.now.parameters) (attributes_tree x.now.return_attributes) (option_map type_tree x.now.return_type) (block_tree x.now.body)) }
+    ensures { IfOk result (λ b. b ≡ spec.is_plain (declaration_tree (GlobalDeclaration.Function x.now))) }
 {
     let attributes = are_plain_attributes(alloc, x.attributes.as_slice())?;
     let named = is_identifier(alloc, x.ident.as_str())?;

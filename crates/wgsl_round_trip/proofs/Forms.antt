@@ -12,6 +12,7 @@ use Rattle.wgsl_token.specs.declared.token.Token.TheVariants as t
 use Rattle.wgsl_token.specs.declared.token.Fixed.{Fixed}
 use Rattle.wgsl_lex.specs.Tokens.{is_trivia, is_word, fixed_of, form, trivia, token, is_reserved, word_token, begins_with_two_underscores, magnitude, zero_led_value, abstract_token, signed_token, unsigned_token, number_token, digits_value}
 use Rattle.wgsl_lex.proofs.Forms.{trivia_form, fixed_form, word_form, number_form, nothing, last, ends, suffix_token, suffix_of_none, number_token-append}
+use Rattle.wgsl_items.proofs.Bools.{or_right, or_left}
 
 -- which rule makes some characters a token
 pub data Made (cs : List ℕ) (k : Token) : Type 0 where
@@ -97,13 +98,6 @@ is_magnitude_char c = is_ascii_hexdigit c || ((c == 120) || (c == 88))
 
 abbrev pub is_number_char : ℕ → Bool
 is_number_char c = is_magnitude_char c || ((c == 105) || (c == 117))
-
-or_left : (a b : Bool) → a ≡ true → (a || b) ≡ true
-or_left a b h = ap (λ c. c || b) h
-
-or_right : (a b : Bool) → b ≡ true → (a || b) ≡ true
-or_right true b h = refl
-or_right false b h = h
 
 pub all_weaker : (p q : ℕ → Bool) → ((c : ℕ) → p c ≡ true → q c ≡ true) → (cs : List ℕ) → list_all p cs ≡ true → list_all q cs ≡ true
 all_weaker p q weaker [] h = refl

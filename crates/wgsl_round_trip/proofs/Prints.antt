@@ -11,6 +11,7 @@ use Rattle.wgsl_token.specs.declared.token.Token.{Token}
 use Rattle.wgsl_token.specs.declared.token.SpannedToken.{SpannedToken}
 use Rattle.wgsl_lex.specs.Tokens.{Lexes, a_token, behind_trivia, size, spanned, form, trivia, token, NoLonger}
 use Rattle.wgsl_lex.proofs.Sizes.{size-append}
+use Rattle.wgsl_items.proofs.Bools.{and_both as both}
 
 -- some tokens are a phrase, and the characters lex to them and the rest's tokens
 pub record Read (at : ℕ) (cs : List ℕ) (Phrase : List SpannedToken → Type 0) (tokens : List SpannedToken) : Type 0 where
@@ -107,10 +108,6 @@ prints_trivia is_form longest = record {
 pub record Spells (cs bytes : List ℕ) : Type 0 where
   pub scalars : all_scalars cs ≡ true
   pub encodes : encode_utf8_all cs ≡ bytes
-
-pub both : (a b : Bool) → (a && b) ≡ true → (a ≡ true) × (b ≡ true)
-both true b h = (refl, h)
-both false b h = absurd cc
 
 pub scalars_then : (cs ds : List ℕ) → all_scalars cs ≡ true → all_scalars ds ≡ true → all_scalars (cs ++ ds) ≡ true
 scalars_then [] ds p q = q
