@@ -2,3 +2,4 @@ pub mod Emptiness
 pub mod Lawful
 pub mod Making
 pub mod Together
+pub mod Converted

@@ -1,9 +1,10 @@
 -- Laws of conversions, common types, concrete and loaded types.
-use Rattle.std.specs.Prelude.{◌≡◌, ℕ, ◌+◌, List, [], ◌∷◌, IsPermutation}
+use Rattle.std.specs.Prelude.{◌≡◌, ◌⊎◌, ℕ, ◌+◌, List, [], ◌∷◌, Option, Some, None, IsPermutation}
 use Rattle.wgsl_shader_type.specs.declared.tree.ShaderType.{ShaderType}
 use Rattle.wgsl_shader_type.specs.Conversion.{Converts, IsRank, IsCommonType}
 use Rattle.wgsl_shader_type.specs.Rank.{common_of}
 use Rattle.wgsl_shader_type.specs.Class.{concrete_type, loaded_type}
+use Rattle.wgsl_types.specs.Convert.{both_converted}
 
 -- Conversion is a partial order.
 abbrev pub IsReflexive : Type 0
@@ -41,3 +42,15 @@ ConcreteTwiceIsOnce = (t : ShaderType) → concrete_type (concrete_type t) ≡ c
 
 abbrev pub LoadedTwiceIsOnce : Type 0
 LoadedTwiceIsOnce = (t : ShaderType) → loaded_type (loaded_type t) ≡ loaded_type t
+
+-- ---- things that convert: values, or types themselves
+
+-- `convert` gives two things at the common type of their types.
+abbrev pub BothAtCommonType : {A : Type 0} → (A → ShaderType) → (A → ShaderType → Option A) → Type 0
+BothAtCommonType {A} type_of converted = (a b x y : A) → both_converted converted converted a b (common_of (type_of a) (type_of b)) ≡ Some (x, y)
+    → (t : ShaderType) × IsCommonType (type_of a ∷ type_of b ∷ []) t × (type_of x ≡ t) × (type_of y ≡ t)
+
+-- Where it gives nothing, the types have no common type, or it can't hold one of the two.
+abbrev pub BothUnlessUnfit : {A : Type 0} → (A → ShaderType) → (A → ShaderType → Option A) → (A → ShaderType → Type 0) → Type 0
+BothUnlessUnfit {A} type_of converted unfit = (a b : A) (t : ShaderType) → both_converted converted converted a b (common_of (type_of a) (type_of b)) ≡ None
+    → IsCommonType (type_of a ∷ type_of b ∷ []) t → unfit a t ⊎ unfit b t

@@ -3,3 +3,4 @@ pub mod Convert
 pub mod Laws
 pub mod Names
 pub mod Template
+pub mod ConvertLaws

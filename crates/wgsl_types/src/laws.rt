@@ -1,6 +1,8 @@
 //! Laws of types, each the contract of a function that does nothing.
 
-ghost use Rattle.wgsl_types.specs.Laws.{IsReflexive, IsTransitive, IsAntisymmetric, RanksAdd, CommonTypeIsOne, CommonTypeIsSymmetric, CommonOfIsSymmetric, CommonTypeIgnoresOrder, ConcreteTwiceIsOnce, LoadedTwiceIsOnce};
+ghost use Rattle.wgsl_types.specs.Laws.{IsReflexive, IsTransitive, IsAntisymmetric, RanksAdd, CommonTypeIsOne, CommonTypeIsSymmetric, CommonOfIsSymmetric, CommonTypeIgnoresOrder, ConcreteTwiceIsOnce, LoadedTwiceIsOnce, BothAtCommonType, BothUnlessUnfit};
+
+use crate::typed::Convert;
 
 /// Conversion is a partial order.
 pub fn conversion_is_a_partial_order()
@@ -38,4 +40,11 @@ pub fn concretize_twice_is_once()
 /// `loaded` twice is once.
 pub fn loaded_twice_is_once()
     ensures { LoadedTwiceIsOnce }
+{}
+
+/// `convert` gives two things at the common type of their types; it gives nothing only where they have none, or where that type
+/// can't hold one of the two values.
+pub fn convert_gives_the_common_type<T: Convert>()
+    ensures common { BothAtCommonType T.type_of T.converted }
+    ensures unless { BothUnlessUnfit T.type_of T.converted T.unfit }
 {}

@@ -26,8 +26,11 @@ pub trait Ty {
 
 /// What converts to other types implicitly.
 pub trait Convert: Ty + Sized + Drop {
-    ghost use Rattle.std.specs.Prelude.{Option};
+    ghost use Rattle.std.specs.Prelude.{◌≡◌, ◌⊎◌, Option, Some, None};
     ghost use Rattle.wgsl_shader_type.specs.declared.tree.ShaderType.{ShaderType};
+    ghost use Rattle.wgsl_shader_type.specs.Class.{concrete_type};
+    ghost use Rattle.wgsl_shader_type.specs.Conversion.{Converts};
+    ghost use Rattle.wgsl_types.specs.ConvertLaws.{IsIndirect};
 
     /// It at another type, or nothing where it doesn't convert.
     ghost converted: { Self → ShaderType → Option Self };
@@ -38,6 +41,9 @@ pub trait Convert: Ty + Sized + Drop {
     /// It at a concrete type.
     ghost concretized: { Self → Self };
 
+    /// It is a value that another type can't hold, though its type converts to that. No type is.
+    ghost unfit: { Self → ShaderType → Type 0 };
+
     fn convert_to(&self, alloc: Global, ty: &Type) -> Result<Option<Self>, AllocError>
         ensures { IfOk result (λ found. found ≡ converted self.now ty.now) };
 
@@ -46,6 +52,25 @@ pub trait Convert: Ty + Sized + Drop {
 
     fn concretize(&self, alloc: Global) -> Result<Self, AllocError>
         ensures { IfOk result (λ made. made ≡ concretized self.now) };
+
+    /// What it is converted to has the type that was asked for.
+    ghost has_type: { (s r : Self) (t : ShaderType) → converted s t ≡ Some r → Self.type_of r ≡ t };
+
+    /// It is converted only where its type converts,
+    ghost where_type_does: { (s r : Self) (t : ShaderType) → converted s t ≡ Some r → Converts (Self.type_of s) t };
+
+    /// and there always, unless that type can't hold it.
+    ghost unless_unfit: { (s : Self) (t : ShaderType) → converted s t ≡ None → Converts (Self.type_of s) t → unfit s t };
+
+    /// Likewise for its inner type, but behind pointers and references.
+    ghost has_inner_type: { (s r : Self) (t : ShaderType) → inner_converted s t ≡ Some r → Self.inner_type_of r ≡ t };
+
+    ghost where_inner_type_does: { (s r : Self) (t : ShaderType) → inner_converted s t ≡ Some r → Converts (Self.inner_type_of s) t };
+
+    ghost inner_unless_unfit: { (s : Self) (t : ShaderType) → inner_converted s t ≡ None → Converts (Self.inner_type_of s) t → unfit s t ⊎ IsIndirect (Self.type_of s) };
+
+    /// At a concrete type it has the concrete type of its own.
+    ghost is_concrete: { (s : Self) → Self.type_of (concretized s) ≡ concrete_type (Self.type_of s) };
 }
 
 impl Ty for Type {
@@ -108,13 +133,31 @@ fn converted_type(alloc: Global, from: &Type, to: &Type) -> Result<Option<Type>,
 }
 
 impl Convert for Type {
+    ghost use Rattle.std.proofs.Common.{refl};
     ghost use Rattle.wgsl_shader_type.specs.Class.{concrete_type};
+    ghost use Rattle.wgsl_types.specs.ConvertLaws.{type_has, type_where, type_unless, inner_has, inner_where, inner_unless};
 
     ghost converted = { spec.converted_type };
 
     ghost inner_converted = { spec.inner_converted_type };
 
     ghost concretized = { concrete_type };
+
+    ghost unfit = { λ _ _. ⊥ };
+
+    ghost has_type = { type_has };
+
+    ghost where_type_does = { type_where };
+
+    ghost unless_unfit = { type_unless };
+
+    ghost has_inner_type = { inner_has };
+
+    ghost where_inner_type_does = { inner_where };
+
+    ghost inner_unless_unfit = { inner_unless };
+
+    ghost is_concrete = { λ _. refl };
 
     fn convert_to(&self, alloc: Global, ty: &Type) -> Result<Option<Type>, AllocError> {
         converted_type(alloc, self, ty)
