@@ -1,8 +1,7 @@
 //! The table of a module's names.
 
 ghost use Rattle.std.specs.Prelude.{◌≡◌, Some, IfOk};
-ghost use Rattle.wgsl_syntax.specs.View.{unit_tree, import_tree, declaration_tree};
-ghost use Rattle.wesl_link_spec.specs.Occurrences as occurrences;
+ghost use Rattle.wgsl_syntax.specs.View.{unit_tree, import_tree};
 ghost use Rattle.wesl_link_spec.specs.Modules as spec;
 ghost use Rattle.wesl_scopes.specs.Meanings.{Adds, Tabulates, known_of, import_known};
 
@@ -12,7 +11,7 @@ use std::alloc::{AllocError, Global};
 use std::collections::HashMap;
 use wgsl_items::{CloneIn, Text};
 use wgsl_path::ModulePath;
-use wgsl_syntax::{GlobalDeclaration, ImportContent, ImportStatement, TranslationUnit};
+use wgsl_syntax::{ImportContent, ImportStatement, TranslationUnit};
 
 /// What each name of a module means. It is refused where a name is declared or imported twice.
 pub fn meanings_of(
