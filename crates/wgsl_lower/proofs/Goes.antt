@@ -5,7 +5,7 @@ use Rattle.wgsl_syntax.specs.Tree.{Exp, Exps, exps, literal, parenthesized, unar
 use Rattle.wgsl_shader_type.specs.declared.literal.LiteralInstance.{LiteralInstance}
 use Rattle.wgsl_scalar.specs.declared.scalar.ScalarType.{ScalarType}
 use Rattle.wgsl_meaning.specs.declared.fault.Fault.{Fault}
-use Rattle.wgsl_meaning.specs.declared.fault.Fault.TheVariants.{Operation, Name as Named}
+use Rattle.wgsl_meaning.specs.declared.fault.Fault.TheVariants.{Operation, NegativeAttr, Name as Named}
 use Rattle.wgsl_meaning.specs.declared.fault.NameFault.{NameFault}
 use Rattle.wgsl_meaning.specs.Values.{Checked, and_then, literal_value}
 use Rattle.wgsl_meaning.specs.Outcome.{Outcome, Done, Failed, Deep}
@@ -23,6 +23,7 @@ then_ok (Err g) f d e = absurd (cc)
 abbrev pub HasNone : Outcome LiteralInstance → Type 0
 HasNone (Done v n) = ⊥
 HasNone (Failed (Operation f)) = ⊥
+HasNone (Failed (NegativeAttr z)) = ⊥
 HasNone (Failed (Named f x)) = lacks_value f ≡ true
 HasNone Deep = Unit {0}
 
@@ -33,6 +34,7 @@ data Case (o : Outcome LiteralInstance) (other : Checked Exp) (d : Exp) : Type 0
 case_of : (o : Outcome LiteralInstance) (other : Checked Exp) (d : Exp) → unless_const o other ≡ Ok d → Case o other d
 case_of (Done v n) other d e = has v n refl (cc)
 case_of (Failed (Operation f)) other d e = absurd (cc)
+case_of (Failed (NegativeAttr z)) other d e = absurd (cc)
 case_of (Failed (Named f x)) other d e = at (lacks_value f) refl e
   where
     at : (b : Bool) → lacks_value f ≡ b → (if b then other else Err (Named f x)) ≡ Ok d → Case (Failed (Named f x)) other d

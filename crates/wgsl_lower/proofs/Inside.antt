@@ -7,10 +7,7 @@ use Rattle.wgsl_enumerations.specs.declared.words.ShaderStage.TheVariants.{Const
 use Rattle.wgsl_shader_type.specs.declared.literal.LiteralInstance.{LiteralInstance}
 use Rattle.wgsl_shader_type.specs.declared.literal.LiteralInstance.TheVariants as V
 use Rattle.wgsl_scalar.specs.declared.scalar.ScalarType.{ScalarType}
-use Rattle.wgsl_scalar.specs.declared.scalar.ScalarType.TheVariants.{Bool as Truth, Integer}
-use Rattle.wgsl_scalar.specs.declared.scalar.IntegerType.TheVariants.{AbstractInt, I32, U32}
-use Rattle.wgsl_shader_type.specs.declared.error.Error.{Error}
-use Rattle.wgsl_scalar.specs.Scalars.{type_of, fits, value_at}
+use Rattle.wgsl_scalar.specs.Scalars.{type_of}
 use Rattle.wgsl_meaning.specs.Values.{Checked, and_then}
 use Rattle.wgsl_meaning.specs.Outcome.{Outcome, Done, Failed, Deep, after, bind, at_once, computed}
 use Rattle.wgsl_meaning.specs.Names.{Name, Symbol, find, find_decl, plain_name, built_in_type}
@@ -22,7 +19,7 @@ use Rattle.wgsl_meaning.specs.ConstStage.{Consts, Scope, stage, hidden, const_kn
 use Rattle.wgsl_meaning.specs.Written.{HasConstructor, written}
 use Rattle.wgsl_meaning.proofs.Simulates.{StagesMeet, simulates, follows_itself}
 use Rattle.wgsl_meaning.proofs.Compares.{kept_better, kept_agree, agree_refl, agree_from_carries}
-use Rattle.wgsl_meaning.proofs.Stages.{strict_stages_meet}
+use Rattle.wgsl_meaning.proofs.Stages.{const_stage_meets}
 use Rattle.wgsl_meaning.proofs.Typing.{find_types, has_type}
 use Rattle.wgsl_meaning.proofs.CallTypes.{built_in_fits}
 use Rattle.wgsl_meaning.proofs.WrittenValue.{value-written}
@@ -68,7 +65,7 @@ module _ (ds low : List Decl) (cs : Consts) (is_known : Known ds cs) (gone : (x 
 
   agree_stages : StagesMeet Agree Const st
   agree_stages =
-      let carries = strict_stages_meet Const st (λ t. refl) in
+      let carries = const_stage_meets st in
       record { by_unary = λ o x. agree_from_carries LiteralInstance _ _ (carries.by_unary o x); by_binary = λ o x y. agree_from_carries LiteralInstance _ _ (carries.by_binary o x y) }
 
   name_at : (x : Name) (o : Option ScalarType) → find x (types_of env) ≡ o → Agree LiteralInstance (hidden x o (const_known x (find x cs) (find_decl x ds))) (local_or (find x env) (from.value_of x))

@@ -14,8 +14,9 @@ use Rattle.wgsl_scalar.specs.declared.scalar.ScalarType.TheVariants.{Bool as Tru
 use Rattle.wgsl_scalar.specs.declared.scalar.IntegerType.TheVariants.{AbstractInt, I32, U32}
 use Rattle.wgsl_meaning.specs.declared.fault.Fault.TheVariants.{Name as Named}
 use Rattle.wgsl_shader_type.specs.declared.error.Error.{Error}
+use Rattle.wgsl_shader_type.specs.declared.error.Error.TheVariants.{ConvOverflow}
 use Rattle.wgsl_meaning.specs.declared.fault.NameFault.TheVariants.{Todo}
-use Rattle.wgsl_scalar.specs.Scalars.{type_of, fits, value_at}
+use Rattle.wgsl_scalar.specs.Scalars.{integer_type, type_of, fits, value_at}
 use Rattle.wgsl_scalar.specs.Conversions.{constructed}
 use Rattle.wgsl_meaning.specs.Values.{Checked, and_then}
 use Rattle.wgsl_meaning.specs.Outcome.{Outcome, Done, Failed, Deep, after, bind, at_once, computed}
@@ -50,7 +51,7 @@ then_then Deep f g = refl
 
 -- ---- the type of a result
 
-some_of : (b c : Bool) (x y : Name) (u : ScalarType) (e : Checked ScalarType) → bytes_eq x (codes "i32") ≡ b → bytes_eq x (codes "u32") ≡ c → (if b then Ok I32 else if c then Ok U32 else Err (Named Todo x)) ≡ Ok u → (x ≡ codes "i32") ⊎ (x ≡ codes "u32")
+some_of : (b c : Bool) (x y : Name) (u : ScalarType) (e : Checked ScalarType) → bytes_eq x (codes "i32") ≡ b → bytes_eq x (codes "u32") ≡ c → (if b then Ok (Integer I32) else if c then Ok (Integer U32) else Err (Named Todo x)) ≡ Ok u → (x ≡ codes "i32") ⊎ (x ≡ codes "u32")
 some_of true c x y u e i j h = inl (same_text x (codes "i32") (sym i))
 some_of false true x y u e i j h = inr (same_text x (codes "u32") (sym j))
 some_of false false x y u e i j h = absurd (cc)
@@ -64,24 +65,32 @@ not_declared x None u h = (refl, h)
 
 -- ---- an abstract number, converted on return or by a constructor
 
-abstract_is : (v : LiteralInstance) → type_of v ≡ AbstractInt → (z : ℤ) × (v ≡ V.AbstractInt z)
+abstract_is : (v : LiteralInstance) → type_of v ≡ Integer AbstractInt → (z : ℤ) × (v ≡ V.AbstractInt z)
 abstract_is (V.AbstractInt z) e = (z, refl)
 abstract_is (V.I32 z) e = absurd (cc)
 abstract_is (V.U32 n) e = absurd (cc)
+abstract_is (V.Bool b) e = absurd (cc)
 
 abbrev wrap : LiteralInstance → Outcome (Option LiteralInstance)
 wrap v = Done (Some v) 0
 
-either_returned : (b : Bool) (f : Name) (w : ScalarType) (v : LiteralInstance) (e : Error) → Better (Option LiteralInstance) (Done (Some v) 0) (handed_back f (Some w) (Some v)) →
+either_returned : (b : Bool) (f : Name) (w : ScalarType) (v : LiteralInstance) (e : Error) → (b ≡ true → Better (Option LiteralInstance) (Done (Some v) 0) (handed_back f (Some w) (Some v))) →
     Better (Option LiteralInstance) (bind (computed (if b then Ok v else Err e)) (λ x. Done (Some x) 0)) (bind (bind (after 0 (computed (if b then Ok v else Err e))) wrap) (handed_back f (Some w)))
-either_returned true f w v e h = better_after (Option LiteralInstance) (Done (Some v) 0) (handed_back f (Some w) (Some v)) 0 0 (omega arith) h
+either_returned true f w v e h = better_after (Option LiteralInstance) (Done (Some v) 0) (handed_back f (Some w) (Some v)) 0 0 (omega arith) (h refl)
 either_returned false f w v e h = tt
+
+-- an AbstractInt in the range is returned as it is
+abstract_returned : (f : Name) (z : ℤ) → fits AbstractInt z ≡ true → Better (Option LiteralInstance) (Done (Some (V.AbstractInt z)) 0) (handed_back f (Some (Integer AbstractInt)) (Some (V.AbstractInt z)))
+abstract_returned f z e =
+    subst (λ b. Better (Option LiteralInstance) (Done (Some (V.AbstractInt z)) 0) (bind (computed (if b then Ok (V.AbstractInt z) else Err (ConvOverflow (V.AbstractInt z) (integer_type AbstractInt)))) (λ x. Done (Some x) 0)))
+    (sym e) (0, refl, omega arith)
 
 returned_so : (f : Name) (w : ScalarType) (z : ℤ) →
     Better (Option LiteralInstance) (handed_back f (Some w) (Some (V.AbstractInt z))) (bind (bind (after 0 (computed (constructed w (V.AbstractInt z)))) wrap) (handed_back f (Some w)))
-returned_so f AbstractInt z = (0, refl, omega arith)
-returned_so f I32 z = either_returned (fits I32 z) f I32 (V.I32 z) _ (0, refl, omega arith)
-returned_so f U32 z = either_returned (fits U32 z) f U32 (value_at U32 z) _ (0, refl, omega arith)
+returned_so f Truth z = tt
+returned_so f (Integer AbstractInt) z = either_returned (fits AbstractInt z) f (Integer AbstractInt) (V.AbstractInt z) _ (λ e. abstract_returned f z e)
+returned_so f (Integer I32) z = either_returned (fits I32 z) f (Integer I32) (V.I32 z) _ (λ e. (0, refl, omega arith))
+returned_so f (Integer U32) z = either_returned (fits U32 z) f (Integer U32) (value_at U32 z) _ (λ e. (0, refl, omega arith))
 
 no_type : (f : Name) (o : Outcome LiteralInstance) (q : Outcome (Option LiteralInstance)) → Better (Option LiteralInstance) (bind (bind o wrap) (handed_back f None)) q
 no_type f (Done v n) q = tt
@@ -121,7 +130,7 @@ module _ (ds low : List Decl) (cs : Consts) (is_known : Known ds cs) (gone : (x 
   abbrev one_argument : Outcome LiteralInstance → Typ → Outcome LiteralInstance
   one_argument o t = bind (bind o (λ x. bind (Done [] 0) (λ xs. Done (x ∷ xs) 0))) (λ vs. result_here from env (plain_name t) vs)
 
-  converts_so : (t : Typ) (w : ScalarType) (f : Name) (o : Outcome LiteralInstance) → type_here s t ≡ Ok w → ((v : LiteralInstance) (n : ℕ) → o ≡ Done v n → type_of v ≡ AbstractInt) →
+  converts_so : (t : Typ) (w : ScalarType) (f : Name) (o : Outcome LiteralInstance) → type_here s t ≡ Ok w → ((v : LiteralInstance) (n : ℕ) → o ≡ Done v n → type_of v ≡ Integer AbstractInt) →
       Better (Option LiteralInstance) (bind (bind o wrap) (handed_back f (Some w))) (bind (bind (one_argument o t) wrap) (handed_back f (Some w)))
   converts_so t w f o is abstract =
       let R : List LiteralInstance → Outcome LiteralInstance = λ vs. result_here from env (plain_name t) vs in
@@ -155,19 +164,20 @@ module _ (ds low : List Decl) (cs : Consts) (is_known : Known ds cs) (gone : (x 
   plainly f u e d is = kept_better.going_on (Option LiteralInstance) (Option LiteralInstance) _ _ _ _ (kept_better.going_on LiteralInstance (Option LiteralInstance) (value from env e) (value to env d) _ _ (in_both e d is) (λ v. kept_better.refl_of (Option LiteralInstance) (wrap v)))
       (λ v. kept_better.refl_of (Option LiteralInstance) (handed_back f u v))
 
-  abstract_value : (e : Exp) (n : ℕ) → typed (stage s) (types_of env) e ≡ Done AbstractInt n → (v : LiteralInstance) (m : ℕ) → value from env e ≡ Done v m → type_of v ≡ AbstractInt
+  abstract_value : (e : Exp) (n : ℕ) → typed (stage s) (types_of env) e ≡ Done (Integer AbstractInt) n → (v : LiteralInstance) (m : ℕ) → value from env e ≡ Done v m → type_of v ≡ Integer AbstractInt
   abstract_value e n is v m gives =
       let h = typed_inside ds low cs is_known gone k Exec env clear_i32 clear e in
-      subst (λ o. Both HasType (Done AbstractInt n) o) gives (subst (λ o. Both HasType o (value from env e)) is h)
+      subst (λ o. Both HasType (Done (Integer AbstractInt) n) o) gives (subst (λ o. Both HasType o (value from env e)) is h)
 
   by_type : (t : Typ) (w : ScalarType) (f : Name) (e e1 d : Exp) (o : Outcome ScalarType) → typed (stage s) (types_of env) e ≡ o → type_here s t ≡ Ok w → constructor_call t e o ≡ Ok e1 → lowered s e1 ≡ Ok d →
       Better (Option LiteralInstance) (given e f (Some w) from) (given d f (Some w) to)
-  by_type t w f e e1 d (Done AbstractInt n) is type_is so low =
+  by_type t w f e e1 d (Done (Integer AbstractInt) n) is type_is so low =
       let to_e1 : call t (cons e nil) ≡ e1 = cc in
       better_trans (Option LiteralInstance) _ _ _ (converts_so t w f (value from env e) type_is (abstract_value e n is))
       (plainly f (Some w) (call t (cons e nil)) d (ap (lowered s) to_e1 ∙ low))
-  by_type t w f e e1 d (Done I32 n) is type_is so low = let to_e1 : e ≡ e1 = cc in plainly f (Some w) e d (ap (lowered s) to_e1 ∙ low)
-  by_type t w f e e1 d (Done U32 n) is type_is so low = let to_e1 : e ≡ e1 = cc in plainly f (Some w) e d (ap (lowered s) to_e1 ∙ low)
+  by_type t w f e e1 d (Done (Integer I32) n) is type_is so low = let to_e1 : e ≡ e1 = cc in plainly f (Some w) e d (ap (lowered s) to_e1 ∙ low)
+  by_type t w f e e1 d (Done (Integer U32) n) is type_is so low = let to_e1 : e ≡ e1 = cc in plainly f (Some w) e d (ap (lowered s) to_e1 ∙ low)
+  by_type t w f e e1 d (Done Truth n) is type_is so low = let to_e1 : e ≡ e1 = cc in plainly f (Some w) e d (ap (lowered s) to_e1 ∙ low)
   by_type t w f e e1 d (Failed g) is type_is so low = absurd (cc)
   by_type t w f e e1 d Deep is type_is so low = let to_e1 : e ≡ e1 = cc in plainly f (Some w) e d (ap (lowered s) to_e1 ∙ low)
 

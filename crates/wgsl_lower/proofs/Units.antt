@@ -11,10 +11,11 @@ use Rattle.wgsl_enumerations.specs.declared.words.ShaderStage.TheVariants.{Const
 use Rattle.wgsl_shader_type.specs.declared.literal.LiteralInstance.{LiteralInstance}
 use Rattle.wgsl_scalar.specs.declared.scalar.ScalarType.{ScalarType}
 use Rattle.wgsl_scalar.specs.declared.scalar.ScalarType.TheVariants.{Bool as Truth, Integer}
+use Rattle.wgsl_scalar.specs.declared.scalar.IntegerType.{IntegerType}
 use Rattle.wgsl_scalar.specs.declared.scalar.IntegerType.TheVariants.{AbstractInt, I32, U32}
 use Rattle.wgsl_meaning.specs.declared.fault.Fault.{Fault}
 use Rattle.wgsl_scalar.specs.Scalars.{type_of}
-use Rattle.wgsl_meaning.specs.Values.{Checked, and_then, is_same_type}
+use Rattle.wgsl_meaning.specs.Values.{Checked, and_then, is_same_integer, is_same_type}
 use Rattle.wgsl_meaning.specs.Outcome.{Outcome, Done, Failed, Deep, after, bind, at_once}
 use Rattle.wgsl_meaning.specs.Names.{Name, Symbol, find, find_decl, plain_name, built_in_type}
 use Rattle.wgsl_meaning.specs.Meaning.{Env, Types, World, value, handed_back, returned_by, return_type_of, type_written, body_of}
@@ -214,16 +215,16 @@ parts_of A B (Done x n) f y m e = let r = after_done n (f x) y m e in record { f
 parts_of A B (Failed g) f y m e = absurd (cc)
 parts_of A B Deep f y m e = absurd (cc)
 
+same_integer : (a b : IntegerType) → is_same_integer a b ≡ true → a ≡ b
+same_integer AbstractInt AbstractInt e = refl
+same_integer I32 I32 e = refl
+same_integer U32 U32 e = refl
+same_integer a b e = absurd (cc)
+
 pub same_type : (a b : ScalarType) → is_same_type a b ≡ true → a ≡ b
-same_type AbstractInt AbstractInt e = refl
-same_type AbstractInt I32 e = absurd (cc)
-same_type AbstractInt U32 e = absurd (cc)
-same_type I32 AbstractInt e = absurd (cc)
-same_type I32 I32 e = refl
-same_type I32 U32 e = absurd (cc)
-same_type U32 AbstractInt e = absurd (cc)
-same_type U32 I32 e = absurd (cc)
-same_type U32 U32 e = refl
+same_type Truth Truth e = refl
+same_type (Integer a) (Integer b) e = ap Integer (same_integer a b e)
+same_type a b e = absurd (cc)
 
 input_either : (b : Bool) (w v : LiteralInstance) (t : ScalarType) (f : Fault) (m : ℕ) → is_same_type (type_of w) t ≡ b → (if b then Done w 0 else Failed f) ≡ Done v m → type_of v ≡ t
 input_either true w v t f m is e = let same : w ≡ v = cc in ap type_of (sym same) ∙ same_type (type_of w) t is

@@ -8,7 +8,7 @@ use Rattle.wgsl_scalar.specs.declared.scalar.ScalarType.{ScalarType}
 use Rattle.wgsl_scalar.specs.declared.scalar.ScalarType.TheVariants.{Bool as Truth, Integer}
 use Rattle.wgsl_scalar.specs.declared.scalar.IntegerType.TheVariants.{AbstractInt, I32, U32}
 use Rattle.wgsl_meaning.specs.declared.fault.Fault.{Fault}
-use Rattle.wgsl_meaning.specs.declared.fault.Fault.TheVariants.{Operation, Name as Named}
+use Rattle.wgsl_meaning.specs.declared.fault.Fault.TheVariants.{Operation, NegativeAttr, Name as Named}
 use Rattle.wgsl_meaning.specs.declared.fault.NameFault.{NameFault}
 use Rattle.wgsl_meaning.specs.declared.fault.NameFault.TheVariants.{NotAccessible, NotConst}
 use Rattle.wgsl_meaning.specs.Values.{Checked, and_then}
@@ -32,6 +32,7 @@ lacks_value f = false
 
 abbrev pub unless_fault : Fault → Checked Exp → Checked Exp
 unless_fault (Operation f) parts = Err (Operation f)
+unless_fault (NegativeAttr z) parts = Err (NegativeAttr z)
 unless_fault (Named f x) parts = if lacks_value f then parts else Err (Named f x)
 
 -- the written value; where there is none, the parts
@@ -71,9 +72,10 @@ parts s (named x) = Ok (named x)
 
 -- an abstract number that is returned gets the constructor of the function's type
 abbrev pub constructor_call : Typ → Exp → Outcome ScalarType → Checked Exp
-constructor_call t e (Done AbstractInt n) = Ok (call t (cons e nil))
-constructor_call t e (Done I32 n) = Ok e
-constructor_call t e (Done U32 n) = Ok e
+constructor_call t e (Done (Integer AbstractInt) n) = Ok (call t (cons e nil))
+constructor_call t e (Done (Integer I32) n) = Ok e
+constructor_call t e (Done (Integer U32) n) = Ok e
+constructor_call t e (Done Truth n) = Ok e
 constructor_call t e (Failed f) = Err f
 constructor_call t e Deep = Ok e
 
@@ -172,6 +174,7 @@ lowered_unit u =
 abbrev pub lacks : OrOutOfMemory Fault → Bool
 lacks OutOfMemory = false
 lacks (Error (Operation f)) = false
+lacks (Error (NegativeAttr z)) = false
 lacks (Error (Named f x)) = lacks_value f
 
 -- these first
