@@ -30,7 +30,7 @@ lacks_value NotAccessible = true
 lacks_value NotConst = true
 lacks_value f = false
 
-abbrev pub unless_fault : Fault → Checked Exp → Checked Exp
+abbrev pub unless_fault : {A : Type 0} → Fault → Checked A → Checked A
 unless_fault (Operation f) parts = Err (Operation f)
 unless_fault (NegativeAttr z) parts = Err (NegativeAttr z)
 unless_fault (Named f x) parts = if lacks_value f then parts else Err (Named f x)
@@ -176,6 +176,16 @@ lacks OutOfMemory = false
 lacks (Error (Operation f)) = false
 lacks (Error (NegativeAttr z)) = false
 lacks (Error (Named f x)) = lacks_value f
+
+-- the value of an expression, if it has one
+abbrev pub const_value : Outcome LiteralInstance → Checked (Option LiteralInstance)
+const_value (Done v n) = Ok (Some v)
+const_value (Failed f) = unless_fault f (Ok None)
+const_value Deep = Ok None
+
+abbrev pub written_or : Checked Exp → Option LiteralInstance → Checked Exp
+written_or parts (Some v) = Ok (written v)
+written_or parts None = parts
 
 -- these first
 abbrev pub prepended : {A : Type 0} → List A → Checked (List A) → Checked (List A)

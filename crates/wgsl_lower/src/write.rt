@@ -103,13 +103,13 @@ fn written_signed(alloc: Global, z: i32, span: Span) -> Result<Expression, Alloc
     }
 }
 
-// `(0 == z)`
+// `(0 == number)`
 #[tactic(auto, using(wgsl_syntax::proofs::Trees::tree_of_binary))]
-fn equals_zero(alloc: Global, z: i64, span: Span) -> Result<Expression, AllocError>
-    ensures { IfOk result (λ e. tree e ≡ equals_zero z) }
+fn equals_zero(alloc: Global, number: Expression, span: Span) -> Result<Expression, AllocError>
+    ensures { IfOk result (λ e. tree e ≡ equals_zero (tree number)) }
 {
     let left = Spanned::new(alloc, abstract_literal(0), span)?;
-    let right = Spanned::new(alloc, abstract_literal(z), span)?;
+    let right = Spanned::new(alloc, number, span)?;
     let comparison = Expression::Binary(BinaryExpression {
         operator: BinaryOperator::Equality,
         left,
@@ -127,7 +127,7 @@ pub fn to_expr(alloc: Global, value: LiteralInstance, span: Span) -> Result<Expr
         LiteralInstance::AbstractInt(z) => written_abstract(alloc, z, span),
         LiteralInstance::I32(z) => written_signed(alloc, z, span),
         LiteralInstance::U32(n) => Ok(Expression::Literal(LiteralExpression::U32(n))),
-        LiteralInstance::Bool(true) => equals_zero(alloc, 0, span),
-        LiteralInstance::Bool(false) => equals_zero(alloc, 1, span),
+        LiteralInstance::Bool(true) => equals_zero(alloc, abstract_literal(0), span),
+        LiteralInstance::Bool(false) => equals_zero(alloc, abstract_literal(1), span),
     }
 }

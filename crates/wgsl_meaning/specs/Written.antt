@@ -1,5 +1,5 @@
 -- How a value is written (this project's own).
-use Rattle.std.specs.Prelude.{◌≡◌, ℕ, suc, ℤ, pos, negsuc, true, false, nat_lt, nat_eq, List, [], ◌∷◌, None, Ok, if◌then◌else◌, codes}
+use Rattle.std.specs.Prelude.{◌≡◌, ℕ, suc, pos, negsuc, true, false, nat_lt, nat_eq, List, [], ◌∷◌, None, Ok, if◌then◌else◌, codes}
 use Rattle.wgsl_operators.specs.declared.UnaryOperator.TheVariants.{Negation}
 use Rattle.wgsl_operators.specs.declared.BinaryOperator.TheVariants.{Subtraction, Equality}
 use Rattle.wgsl_syntax.specs.declared.expression.LiteralExpression.TheVariants.{AbstractInt, I32, U32}
@@ -21,9 +21,9 @@ least_abstract = parenthesized (binary Subtraction (unary Negation (literal (Abs
 abbrev pub least_signed : Exp
 least_signed = call (simple None (codes "i32")) (cons (unary Negation (literal (AbstractInt (pos 2147483648)))) nil)
 
--- `(0 == z)`
-abbrev pub equals_zero : ℤ → Exp
-equals_zero z = parenthesized (binary Equality (literal (AbstractInt (pos 0))) (literal (AbstractInt z)))
+-- `(0 == e)`
+abbrev pub equals_zero : Exp → Exp
+equals_zero e = parenthesized (binary Equality (literal (AbstractInt (pos 0))) e)
 
 -- the expression that is written for a value: a literal, or in parentheses where the number is negative. The last case of each
 -- type of numbers doesn't come: no number of the type is as low. Trees have no literals of truth values yet
@@ -39,8 +39,8 @@ written (V.I32 (negsuc n)) =
     else if nat_lt n 2147483647 then negative (literal (I32 (pos (suc n))))
     else literal (I32 (negsuc n))
 written (V.U32 n) = literal (U32 n)
-written (V.Bool true) = equals_zero (pos 0)
-written (V.Bool false) = equals_zero (pos 1)
+written (V.Bool true) = equals_zero (literal (AbstractInt (pos 0)))
+written (V.Bool false) = equals_zero (literal (AbstractInt (pos 1)))
 
 -- `i32` is the constructor there: neither a parameter nor a declaration has the name
 pub record HasConstructor (w : World) (env : Env) : Type 0 where
