@@ -6,11 +6,11 @@ use Rattle.wgsl_syntax.specs.Tree.{Exp, Exps, literal, parenthesized, unary, bin
 use Rattle.wgsl_shader_type.specs.declared.literal.LiteralInstance.{LiteralInstance}
 use Rattle.wgsl_scalar.specs.declared.scalar.ScalarType.{ScalarType}
 use Rattle.wgsl_meaning.specs.declared.fault.Fault.TheVariants.{Name as Named}
-use Rattle.wgsl_shader_type.specs.declared.error.Error.TheVariants.{Conversion, ParamType}
 use Rattle.wgsl_meaning.specs.declared.fault.NameFault.TheVariants.{NotCallable, ParamCount, NotEntrypoint, ReturnType}
 use Rattle.wgsl_scalar.specs.Scalars.{type_of}
 use Rattle.wgsl_scalar.specs.Conversions.{converted}
 use Rattle.wgsl_scalar.specs.OperatorTypes.{converts, unary_type, binary_type}
+use Rattle.wgsl_meaning.specs.Values.{argument_value}
 use Rattle.wgsl_meaning.specs.Outcome.{Outcome, Done, Failed, after, bind, at_once, computed}
 use Rattle.wgsl_meaning.specs.Names.{Name, find, plain_name}
 use Rattle.wgsl_meaning.specs.Meaning.{Env, World, local_or, called_or, value_here, result_here, value, type_here, result_type_here, typed, all_typed, type_written, initial, initialized, const_in, bound, returned_by, handed_back, return_type_of, body_of, needed, call_in, call_type}
@@ -158,7 +158,7 @@ module _ (new : Name → Name) (Q : Name → Type 0) where
 
     initial_alike : (t : Option Typ) (e : Exp) → Fit [] (in_some (in_type []) t ++ in_expression [] e) → Alike LiteralInstance (initial w t e) (initial u (option_map (renamed_type new []) t) (renamed new [] e))
     initial_alike (Some t) e f = on ScalarType LiteralInstance (type_written w t) (type_written u (renamed_type new [] t)) _ _ (written_alike t (left [] _ _ f)) (λ s.
-        on LiteralInstance LiteralInstance (value w [] e) (value u [] (renamed new [] e)) _ _ (value_alike [] [] refl e (right [] (in_type [] t) _ f)) (λ v. alike_refl LiteralInstance (computed (converted (Conversion (type_of v) s) s v))))
+        on LiteralInstance LiteralInstance (value w [] e) (value u [] (renamed new [] e)) _ _ (value_alike [] [] refl e (right [] (in_type [] t) _ f)) (λ v. alike_refl LiteralInstance (computed (converted s v))))
     initial_alike None e f = on ScalarType LiteralInstance (typed w [] e) (typed u [] (renamed new [] e)) _ _ (typed_alike e f) (λ s. value_alike [] [] refl e f)
 
     initialized_alike : (x y : Name) (t : Option Typ) (e : Option Exp) → Fit [] (in_some (in_type []) t ++ in_some (in_expression []) e) → Alike LiteralInstance (initialized w x t e) (initialized u y (option_map (renamed_type new []) t) (option_map (renamed new []) e))
@@ -181,7 +181,7 @@ module _ (new : Name → Name) (Q : Name → Type 0) where
     bound_alike (p ∷ ps) (v ∷ vs) f =
         let own : Fit [] (in_parameter p) = left [] (in_parameter p) (flat_map in_parameter ps) f in
         on ScalarType Env (type_written w p.type) (type_written u (renamed_type new [] p.type)) _ _ (written_alike p.type (right [] (in_attributes [] p.attributes) (in_type [] p.type) own)) (λ t.
-        on LiteralInstance Env _ _ _ _ (alike_refl LiteralInstance (computed (converted (ParamType (type_of v) t) t v))) (λ x.
+        on LiteralInstance Env _ _ _ _ (alike_refl LiteralInstance (computed (argument_value t v))) (λ x.
         on Env Env (bound w ps vs) (bound u (map (renamed_parameter new) ps) vs) _ _ (bound_alike ps vs (right [] (in_parameter p) (flat_map in_parameter ps) f)) (λ env. refl)))
 
     returned_alike : (env : Env) (hiding : List Name) → locals_of env ≡ hiding → (body : List Stm) → Fit hiding (flat_map (in_statement hiding) body) → Alike (Option LiteralInstance) (returned_by w env body) (returned_by u env (map (renamed_statement new hiding) body))
@@ -220,14 +220,14 @@ module _ (new : Name → Name) (Q : Name → Type 0) where
     bound_names [] vs e = refl
     bound_names (p ∷ ps) [] e = absurd (cc)
     bound_names (p ∷ ps) (v ∷ vs) e =
-        yields_on _ (type_written w p.type) _ (λ t. yields_on _ (computed (converted (ParamType (type_of v) t) t v)) _ (λ x.
+        yields_on _ (type_written w p.type) _ (λ t. yields_on _ (computed (argument_value t v)) _ (λ x.
         yields_then (λ env. locals_of env ≡ parameter_names ps) _ (bound w ps vs) _ (bound_names ps vs (cc)) (λ env h. ap (λ l. p.name ∷ l) h)))
 
     counted_alike : (x y : Name) (n m k : ℕ) (o p : Outcome LiteralInstance) → m ≡ k → ((n == m) ≡ true → Alike LiteralInstance o p)
-        → Alike LiteralInstance (if n == m then after 1 o else Failed (Named (ParamCount n m) x)) (if n == k then after 1 p else Failed (Named (ParamCount n k) y))
-    counted_alike x y n m k o p e h = subst (λ j. Alike LiteralInstance (if n == m then after 1 o else Failed (Named (ParamCount n m) x)) (if n == j then after 1 p else Failed (Named (ParamCount n j) y))) e (at (n == m) h)
+        → Alike LiteralInstance (if n == m then after 1 o else Failed (Named (ParamCount m n) x)) (if n == k then after 1 p else Failed (Named (ParamCount k n) y))
+    counted_alike x y n m k o p e h = subst (λ j. Alike LiteralInstance (if n == m then after 1 o else Failed (Named (ParamCount m n) x)) (if n == j then after 1 p else Failed (Named (ParamCount j n) y))) e (at (n == m) h)
       where
-        at : (b : Bool) → (b ≡ true → Alike LiteralInstance o p) → Alike LiteralInstance (if b then after 1 o else Failed (Named (ParamCount n m) x)) (if b then after 1 p else Failed (Named (ParamCount n m) y))
+        at : (b : Bool) → (b ≡ true → Alike LiteralInstance o p) → Alike LiteralInstance (if b then after 1 o else Failed (Named (ParamCount m n) x)) (if b then after 1 p else Failed (Named (ParamCount m n) y))
         at true g = one_step Alike kept_alike LiteralInstance o p (g refl)
         at false g = (_, refl)
 

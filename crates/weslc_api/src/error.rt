@@ -125,7 +125,7 @@ fn name_of(alloc: Global, fault: &Fault) -> Result<Option<Text>, AllocError>
     ensures { IfOk result (λ name. name ≡ fault_name fault.now) }
 {
     match fault {
-        Fault::Number(_) => Ok(None),
+        Fault::Operation(_) | Fault::NegativeAttr(_) => Ok(None),
         Fault::Name(_, name) => Ok(Some(name.clone_in(alloc)?)),
     }
 }
