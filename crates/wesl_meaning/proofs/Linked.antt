@@ -6,7 +6,7 @@ use Rattle.wgsl_items.proofs.Bools.{none_if, false_if}
 use Rattle.wgsl_path.specs.Paths.{path_text}
 use Rattle.wgsl_syntax.specs.Tree.{Decl, UnitTree}
 use Rattle.wgsl_syntax.specs.Names.{declared_name}
-use Rattle.wgsl_meaning.specs.declared.value.Value.{Value}
+use Rattle.wgsl_shader_type.specs.declared.literal.LiteralInstance.{LiteralInstance}
 use Rattle.wgsl_meaning.specs.Outcome.{Outcome, Done, Failed, Deep}
 use Rattle.wgsl_meaning.specs.Names.{Name, Symbol, find_decl}
 use Rattle.wgsl_meaning.specs.Programs.{Program, Inputs, run, here, program_of}
@@ -141,7 +141,7 @@ module _ (modules : Modules) (root : Path) (keep : List Name) (unit : UnitTree) 
       corresponds p.held (map source_symbol p.held) unit.declarations refl
       (paired well.linked.order (map source_symbol p.held) unit.declarations (subst (λ z. AreHeld modules root keep z (map source_symbol p.held)) same program.held.are_held) well.linked.declares)
 
-  pub run_alike : (s : Symbol) → IsKept root keep s → (bound : ℕ) (inputs : Inputs) → Alike (Option Value) (run p bound s inputs) (run (program_of unit) bound (here s.called) inputs)
+  pub run_alike : (s : Symbol) → IsKept root keep s → (bound : ℕ) (inputs : Inputs) → Alike (Option LiteralInstance) (run p bound s inputs) (run (program_of unit) bound (here s.called) inputs)
   run_alike s k bound inputs = runs_alike p unit.declarations IsHeld stands all_correspond bound s s.called inputs (record {
     reached = subst (Reached modules root keep) same (kept k.kept);
     printed = subst (λ z. IsPrinted modules root z s.called) same stays;
@@ -155,12 +155,12 @@ linked_units_run_alike modules root keep unit p well program s k bound inputs = 
 
 -- ---- runs that end well
 
-forth : (o q : Outcome (Option Value)) (a : Option Value) (n : ℕ) → Alike (Option Value) o q → o ≡ Done a n → q ≡ Done a n
+forth : (o q : Outcome (Option LiteralInstance)) (a : Option LiteralInstance) (n : ℕ) → Alike (Option LiteralInstance) o q → o ≡ Done a n → q ≡ Done a n
 forth (Done x m) q a n h e = h ∙ e
 forth (Failed f) q a n h e = absurd (cc)
 forth Deep q a n h e = absurd (cc)
 
-back : (o q : Outcome (Option Value)) (a : Option Value) (n : ℕ) → Alike (Option Value) o q → q ≡ Done a n → o ≡ Done a n
+back : (o q : Outcome (Option LiteralInstance)) (a : Option LiteralInstance) (n : ℕ) → Alike (Option LiteralInstance) o q → q ≡ Done a n → o ≡ Done a n
 back (Done x m) q a n h e = sym h ∙ e
 back (Failed f) q a n h e = absurd (cc (h.1, e))
 back Deep q a n h e = absurd (cc (h, e))

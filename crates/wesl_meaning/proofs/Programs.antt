@@ -3,10 +3,10 @@ use Rattle.std.proofs.Common.{◌≡◌, ℕ, zero, suc, List, [], ◌∷◌, ma
 use Rattle.wgsl_path.specs.declared.path.ModulePath.{ModulePath}
 use Rattle.wgsl_syntax.specs.Tree.{Decl}
 use Rattle.wgsl_syntax.specs.Names.{declared_name}
-use Rattle.wgsl_meaning.specs.declared.value.ShaderStage.{ShaderStage}
-use Rattle.wgsl_meaning.specs.declared.value.ShaderStage.TheVariants.{Const, Override, Exec}
-use Rattle.wgsl_meaning.specs.declared.value.Value.{Value}
-use Rattle.wgsl_meaning.specs.declared.value.NumericType.{NumericType}
+use Rattle.wgsl_enumerations.specs.declared.words.ShaderStage.{ShaderStage}
+use Rattle.wgsl_enumerations.specs.declared.words.ShaderStage.TheVariants.{Const, Override, Exec}
+use Rattle.wgsl_shader_type.specs.declared.literal.LiteralInstance.{LiteralInstance}
+use Rattle.wgsl_scalar.specs.declared.scalar.ScalarType.{ScalarType}
 use Rattle.wgsl_meaning.specs.declared.fault.Fault.TheVariants.{Name as Named}
 use Rattle.wgsl_meaning.specs.declared.fault.NameFault.TheVariants.{UnknownDecl, NotType}
 use Rattle.wgsl_meaning.specs.Outcome.{Failed, at_once}
@@ -37,72 +37,72 @@ module _ (p : Program) (ds : List Decl) (IsHeld : Symbol → Name → Type 0) wh
   module _ (stands : (s : Symbol) (y : Name) → IsHeld s y → Stands s y) where
     -- what is inside is alike
     pub record InsidesAlike (i j : Inside) : Type 0 where
-      pub consts : (s : Symbol) (y : Name) → IsHeld s y → Alike Value (i.const_value s) (j.const_value (here y))
-      pub calls : (s : Symbol) (y : Name) (vs : List Value) → IsHeld s y → Alike Value (i.call_value s vs) (j.call_value (here y) vs)
-      pub types : (s : Symbol) (y : Name) → IsHeld s y → Alike NumericType (i.call_type_of s) (j.call_type_of (here y))
+      pub consts : (s : Symbol) (y : Name) → IsHeld s y → Alike LiteralInstance (i.const_value s) (j.const_value (here y))
+      pub calls : (s : Symbol) (y : Name) (vs : List LiteralInstance) → IsHeld s y → Alike LiteralInstance (i.call_value s vs) (j.call_value (here y) vs)
+      pub types : (s : Symbol) (y : Name) → IsHeld s y → Alike ScalarType (i.call_type_of s) (j.call_type_of (here y))
 
     found_here : (s : Symbol) (y : Name) → IsHeld s y → here_if y (find_decl y ds) ≡ Some (here y)
     found_here s y h = ap (here_if y) (stands s y h).found
 
     module _ (m : ModulePath) (new : Name → Name) (i j : Inside) (inner : InsidesAlike i j) where
-      consts_alike : (x : Name) → Means m new x → Alike Value (const_at x (p.denotes m x) i.const_value) (const_at (new x) (here_if (new x) (find_decl (new x) ds)) j.const_value)
+      consts_alike : (x : Name) → Means m new x → Alike LiteralInstance (const_at x (p.denotes m x) i.const_value) (const_at (new x) (here_if (new x) (find_decl (new x) ds)) j.const_value)
       consts_alike x (of_symbol s den held) =
-          subst (λ o. Alike Value (const_at x o i.const_value) (const_at (new x) (here_if (new x) (find_decl (new x) ds)) j.const_value)) (sym den)
-          (subst (λ o. Alike Value (i.const_value s) (const_at (new x) o j.const_value)) (sym (found_here s (new x) held)) (inner.consts s (new x) held))
+          subst (λ o. Alike LiteralInstance (const_at x o i.const_value) (const_at (new x) (here_if (new x) (find_decl (new x) ds)) j.const_value)) (sym den)
+          (subst (λ o. Alike LiteralInstance (i.const_value s) (const_at (new x) o j.const_value)) (sym (found_here s (new x) held)) (inner.consts s (new x) held))
       consts_alike x (of_none den none same) =
-          subst (λ o. Alike Value (const_at x o i.const_value) (const_at (new x) (here_if (new x) (find_decl (new x) ds)) j.const_value)) (sym den)
-          (subst (λ o. Alike Value (Failed (Named UnknownDecl x)) (const_at (new x) (here_if (new x) o) j.const_value)) (sym (ap (λ z. find_decl z ds) same ∙ none)) (Named UnknownDecl (new x), refl))
+          subst (λ o. Alike LiteralInstance (const_at x o i.const_value) (const_at (new x) (here_if (new x) (find_decl (new x) ds)) j.const_value)) (sym den)
+          (subst (λ o. Alike LiteralInstance (Failed (Named UnknownDecl x)) (const_at (new x) (here_if (new x) o) j.const_value)) (sym (ap (λ z. find_decl z ds) same ∙ none)) (Named UnknownDecl (new x), refl))
 
-      calls_of : (t : ShaderStage) (x : Name) (s : Symbol) (vs : List Value) → IsHeld s (new x) → Alike Value (called_at t x (Some s) i.call_value vs) (called_at t (new x) (Some (here (new x))) j.call_value vs)
+      calls_of : (t : ShaderStage) (x : Name) (s : Symbol) (vs : List LiteralInstance) → IsHeld s (new x) → Alike LiteralInstance (called_at t x (Some s) i.call_value vs) (called_at t (new x) (Some (here (new x))) j.call_value vs)
       calls_of Exec x s vs held = inner.calls s (new x) vs held
       calls_of Const x s vs held = (_, refl)
       calls_of Override x s vs held = (_, refl)
 
-      calls_none : (t : ShaderStage) (x y : Name) (vs : List Value) → y ≡ x → Alike Value (called_at t x None i.call_value vs) (called_at t y None j.call_value vs)
-      calls_none t x y vs same = subst (λ z. Alike Value (called_at t x None i.call_value vs) (called_at t z None j.call_value vs)) (sym same) (at t)
+      calls_none : (t : ShaderStage) (x y : Name) (vs : List LiteralInstance) → y ≡ x → Alike LiteralInstance (called_at t x None i.call_value vs) (called_at t y None j.call_value vs)
+      calls_none t x y vs same = subst (λ z. Alike LiteralInstance (called_at t x None i.call_value vs) (called_at t z None j.call_value vs)) (sym same) (at t)
         where
-          at : (t : ShaderStage) → Alike Value (called_at t x None i.call_value vs) (called_at t x None j.call_value vs)
-          at Exec = alike_refl Value _
-          at Const = alike_refl Value _
-          at Override = alike_refl Value _
+          at : (t : ShaderStage) → Alike LiteralInstance (called_at t x None i.call_value vs) (called_at t x None j.call_value vs)
+          at Exec = alike_refl LiteralInstance _
+          at Const = alike_refl LiteralInstance _
+          at Override = alike_refl LiteralInstance _
 
-      calls_alike : (t : ShaderStage) (x : Name) (vs : List Value) → Means m new x → Alike Value (called_at t x (p.denotes m x) i.call_value vs) (called_at t (new x) (here_if (new x) (find_decl (new x) ds)) j.call_value vs)
+      calls_alike : (t : ShaderStage) (x : Name) (vs : List LiteralInstance) → Means m new x → Alike LiteralInstance (called_at t x (p.denotes m x) i.call_value vs) (called_at t (new x) (here_if (new x) (find_decl (new x) ds)) j.call_value vs)
       calls_alike t x vs (of_symbol s den held) =
-          subst (λ o. Alike Value (called_at t x o i.call_value vs) (called_at t (new x) (here_if (new x) (find_decl (new x) ds)) j.call_value vs)) (sym den)
-          (subst (λ o. Alike Value (called_at t x (Some s) i.call_value vs) (called_at t (new x) o j.call_value vs)) (sym (found_here s (new x) held)) (calls_of t x s vs held))
+          subst (λ o. Alike LiteralInstance (called_at t x o i.call_value vs) (called_at t (new x) (here_if (new x) (find_decl (new x) ds)) j.call_value vs)) (sym den)
+          (subst (λ o. Alike LiteralInstance (called_at t x (Some s) i.call_value vs) (called_at t (new x) o j.call_value vs)) (sym (found_here s (new x) held)) (calls_of t x s vs held))
       calls_alike t x vs (of_none den none same) =
-          subst (λ o. Alike Value (called_at t x o i.call_value vs) (called_at t (new x) (here_if (new x) (find_decl (new x) ds)) j.call_value vs)) (sym den)
-          (subst (λ o. Alike Value (called_at t x None i.call_value vs) (called_at t (new x) (here_if (new x) o) j.call_value vs)) (sym (ap (λ z. find_decl z ds) same ∙ none)) (calls_none t x (new x) vs same))
+          subst (λ o. Alike LiteralInstance (called_at t x o i.call_value vs) (called_at t (new x) (here_if (new x) (find_decl (new x) ds)) j.call_value vs)) (sym den)
+          (subst (λ o. Alike LiteralInstance (called_at t x None i.call_value vs) (called_at t (new x) (here_if (new x) o) j.call_value vs)) (sym (ap (λ z. find_decl z ds) same ∙ none)) (calls_none t x (new x) vs same))
 
-      call_types_of : (t : ShaderStage) (x : Name) (s : Symbol) (ts : List NumericType) → IsHeld s (new x) → Alike NumericType (call_type_at t x (Some s) i.call_type_of ts) (call_type_at t (new x) (Some (here (new x))) j.call_type_of ts)
+      call_types_of : (t : ShaderStage) (x : Name) (s : Symbol) (ts : List ScalarType) → IsHeld s (new x) → Alike ScalarType (call_type_at t x (Some s) i.call_type_of ts) (call_type_at t (new x) (Some (here (new x))) j.call_type_of ts)
       call_types_of Exec x s ts held = inner.types s (new x) held
       call_types_of Const x s ts held = (_, refl)
       call_types_of Override x s ts held = (_, refl)
 
-      call_types_none : (t : ShaderStage) (x y : Name) (ts : List NumericType) → y ≡ x → Alike NumericType (call_type_at t x None i.call_type_of ts) (call_type_at t y None j.call_type_of ts)
-      call_types_none t x y ts same = subst (λ z. Alike NumericType (call_type_at t x None i.call_type_of ts) (call_type_at t z None j.call_type_of ts)) (sym same) (at t)
+      call_types_none : (t : ShaderStage) (x y : Name) (ts : List ScalarType) → y ≡ x → Alike ScalarType (call_type_at t x None i.call_type_of ts) (call_type_at t y None j.call_type_of ts)
+      call_types_none t x y ts same = subst (λ z. Alike ScalarType (call_type_at t x None i.call_type_of ts) (call_type_at t z None j.call_type_of ts)) (sym same) (at t)
         where
-          at : (t : ShaderStage) → Alike NumericType (call_type_at t x None i.call_type_of ts) (call_type_at t x None j.call_type_of ts)
-          at Exec = alike_refl NumericType _
-          at Const = alike_refl NumericType _
-          at Override = alike_refl NumericType _
+          at : (t : ShaderStage) → Alike ScalarType (call_type_at t x None i.call_type_of ts) (call_type_at t x None j.call_type_of ts)
+          at Exec = alike_refl ScalarType _
+          at Const = alike_refl ScalarType _
+          at Override = alike_refl ScalarType _
 
-      call_types_alike : (t : ShaderStage) (x : Name) (ts : List NumericType) → Means m new x → Alike NumericType (call_type_at t x (p.denotes m x) i.call_type_of ts) (call_type_at t (new x) (here_if (new x) (find_decl (new x) ds)) j.call_type_of ts)
+      call_types_alike : (t : ShaderStage) (x : Name) (ts : List ScalarType) → Means m new x → Alike ScalarType (call_type_at t x (p.denotes m x) i.call_type_of ts) (call_type_at t (new x) (here_if (new x) (find_decl (new x) ds)) j.call_type_of ts)
       call_types_alike t x ts (of_symbol s den held) =
-          subst (λ o. Alike NumericType (call_type_at t x o i.call_type_of ts) (call_type_at t (new x) (here_if (new x) (find_decl (new x) ds)) j.call_type_of ts)) (sym den)
-          (subst (λ o. Alike NumericType (call_type_at t x (Some s) i.call_type_of ts) (call_type_at t (new x) o j.call_type_of ts)) (sym (found_here s (new x) held)) (call_types_of t x s ts held))
+          subst (λ o. Alike ScalarType (call_type_at t x o i.call_type_of ts) (call_type_at t (new x) (here_if (new x) (find_decl (new x) ds)) j.call_type_of ts)) (sym den)
+          (subst (λ o. Alike ScalarType (call_type_at t x (Some s) i.call_type_of ts) (call_type_at t (new x) o j.call_type_of ts)) (sym (found_here s (new x) held)) (call_types_of t x s ts held))
       call_types_alike t x ts (of_none den none same) =
-          subst (λ o. Alike NumericType (call_type_at t x o i.call_type_of ts) (call_type_at t (new x) (here_if (new x) (find_decl (new x) ds)) j.call_type_of ts)) (sym den)
-          (subst (λ o. Alike NumericType (call_type_at t x None i.call_type_of ts) (call_type_at t (new x) (here_if (new x) o) j.call_type_of ts)) (sym (ap (λ z. find_decl z ds) same ∙ none)) (call_types_none t x (new x) ts same))
+          subst (λ o. Alike ScalarType (call_type_at t x o i.call_type_of ts) (call_type_at t (new x) (here_if (new x) (find_decl (new x) ds)) j.call_type_of ts)) (sym den)
+          (subst (λ o. Alike ScalarType (call_type_at t x None i.call_type_of ts) (call_type_at t (new x) (here_if (new x) o) j.call_type_of ts)) (sym (ap (λ z. find_decl z ds) same ∙ none)) (call_types_none t x (new x) ts same))
 
-      types_alike : (x : Name) → Means m new x → Alike NumericType (at_once (type_at x (p.denotes m x))) (at_once (type_at (new x) (here_if (new x) (find_decl (new x) ds))))
+      types_alike : (x : Name) → Means m new x → Alike ScalarType (at_once (type_at x (p.denotes m x))) (at_once (type_at (new x) (here_if (new x) (find_decl (new x) ds))))
       types_alike x (of_symbol s den held) =
-          subst (λ o. Alike NumericType (at_once (type_at x o)) (at_once (type_at (new x) (here_if (new x) (find_decl (new x) ds))))) (sym den)
-          (subst (λ o. Alike NumericType (Failed (Named NotType x)) (at_once (type_at (new x) o))) (sym (found_here s (new x) held)) (Named NotType (new x), refl))
+          subst (λ o. Alike ScalarType (at_once (type_at x o)) (at_once (type_at (new x) (here_if (new x) (find_decl (new x) ds))))) (sym den)
+          (subst (λ o. Alike ScalarType (Failed (Named NotType x)) (at_once (type_at (new x) o))) (sym (found_here s (new x) held)) (Named NotType (new x), refl))
       types_alike x (of_none den none same) =
-          subst (λ o. Alike NumericType (at_once (type_at x o)) (at_once (type_at (new x) (here_if (new x) (find_decl (new x) ds))))) (sym den)
-          (subst (λ o. Alike NumericType (at_once (built_in_type x)) (at_once (type_at (new x) (here_if (new x) o)))) (sym (ap (λ z. find_decl z ds) same ∙ none))
-          (subst (λ z. Alike NumericType (at_once (built_in_type x)) (at_once (built_in_type z))) (sym same) (alike_refl NumericType _)))
+          subst (λ o. Alike ScalarType (at_once (type_at x o)) (at_once (type_at (new x) (here_if (new x) (find_decl (new x) ds))))) (sym den)
+          (subst (λ o. Alike ScalarType (at_once (built_in_type x)) (at_once (type_at (new x) (here_if (new x) o)))) (sym (ap (λ z. find_decl z ds) same ∙ none))
+          (subst (λ z. Alike ScalarType (at_once (built_in_type x)) (at_once (built_in_type z))) (sym same) (alike_refl ScalarType _)))
 
       pub opened_meet : (t : ShaderStage) → Meets new (Means m new) (opened p t m i) (opened (plain ds) t root j)
       opened_meet t = record {
@@ -115,22 +115,22 @@ module _ (p : Program) (ds : List Decl) (IsHeld : Symbol → Name → Type 0) wh
 
     -- a held symbol's declaration in a world, and the renamed one in another
     module _ (s : Symbol) (y : Name) (held : IsHeld s y) where
-      const_of : (w u : World) → ((new : Name → Name) → Meets new (Means s.home new) w u) → Alike Value (const_in w s.called (p.item s)) (const_in u y (find_decl y ds))
+      const_of : (w u : World) → ((new : Name → Name) → Meets new (Means s.home new) w u) → Alike LiteralInstance (const_in w s.called (p.item s)) (const_in u y (find_decl y ds))
       const_of w u meets = let st = stands s y held in
-          subst (λ o. Alike Value (const_in w s.called o) (const_in u y (find_decl y ds))) (sym st.item)
-          (subst (λ o. Alike Value (const_in w s.called (Some st.declaration)) (const_in u y o)) (sym st.found)
+          subst (λ o. Alike LiteralInstance (const_in w s.called o) (const_in u y (find_decl y ds))) (sym st.item)
+          (subst (λ o. Alike LiteralInstance (const_in w s.called (Some st.declaration)) (const_in u y o)) (sym st.found)
           (const_alike st.new (Means s.home st.new) w u (meets st.new) s.called y st.declaration st.fits))
 
-      call_of : (w u : World) (vs : List Value) → ((new : Name → Name) → Meets new (Means s.home new) w u) → Alike Value (call_in w s.called (p.item s) vs) (call_in u y (find_decl y ds) vs)
+      call_of : (w u : World) (vs : List LiteralInstance) → ((new : Name → Name) → Meets new (Means s.home new) w u) → Alike LiteralInstance (call_in w s.called (p.item s) vs) (call_in u y (find_decl y ds) vs)
       call_of w u vs meets = let st = stands s y held in
-          subst (λ o. Alike Value (call_in w s.called o vs) (call_in u y (find_decl y ds) vs)) (sym st.item)
-          (subst (λ o. Alike Value (call_in w s.called (Some st.declaration) vs) (call_in u y o vs)) (sym st.found)
+          subst (λ o. Alike LiteralInstance (call_in w s.called o vs) (call_in u y (find_decl y ds) vs)) (sym st.item)
+          (subst (λ o. Alike LiteralInstance (call_in w s.called (Some st.declaration) vs) (call_in u y o vs)) (sym st.found)
           (call_alike st.new (Means s.home st.new) w u (meets st.new) s.called y st.declaration vs st.fits))
 
-      call_type_of : (w u : World) → ((new : Name → Name) → Meets new (Means s.home new) w u) → Alike NumericType (call_type w s.called (p.item s)) (call_type u y (find_decl y ds))
+      call_type_of : (w u : World) → ((new : Name → Name) → Meets new (Means s.home new) w u) → Alike ScalarType (call_type w s.called (p.item s)) (call_type u y (find_decl y ds))
       call_type_of w u meets = let st = stands s y held in
-          subst (λ o. Alike NumericType (call_type w s.called o) (call_type u y (find_decl y ds))) (sym st.item)
-          (subst (λ o. Alike NumericType (call_type w s.called (Some st.declaration)) (call_type u y o)) (sym st.found)
+          subst (λ o. Alike ScalarType (call_type w s.called o) (call_type u y (find_decl y ds))) (sym st.item)
+          (subst (λ o. Alike ScalarType (call_type w s.called (Some st.declaration)) (call_type u y o)) (sym st.found)
           (call_type_alike st.new (Means s.home st.new) w u (meets st.new) s.called y st.declaration st.fits))
 
       started_of : (w u : World) → ((new : Name → Name) → Meets new (Means s.home new) w u) → Alike (Unit {0}) (started_by w s.called (p.item s)) (started_by u y (find_decl y ds))
@@ -140,10 +140,10 @@ module _ (p : Program) (ds : List Decl) (IsHeld : Symbol → Name → Type 0) wh
           (started_alike st.new (Means s.home st.new) w u (meets st.new) s.called y st.declaration st.fits))
 
       entered_of : (w u early early' : World) (inputs : Inputs) → ((new : Name → Name) → Meets new (Means s.home new) w u) → ((new : Name → Name) → Meets new (Means s.home new) early early')
-          → Alike (Option Value) (entered early w s.called (p.item s) inputs) (entered early' u y (find_decl y ds) inputs)
+          → Alike (Option LiteralInstance) (entered early w s.called (p.item s) inputs) (entered early' u y (find_decl y ds) inputs)
       entered_of w u early early' inputs meets early_meets = let st = stands s y held in
-          subst (λ o. Alike (Option Value) (entered early w s.called o inputs) (entered early' u y (find_decl y ds) inputs)) (sym st.item)
-          (subst (λ o. Alike (Option Value) (entered early w s.called (Some st.declaration) inputs) (entered early' u y o inputs)) (sym st.found)
+          subst (λ o. Alike (Option LiteralInstance) (entered early w s.called o inputs) (entered early' u y (find_decl y ds) inputs)) (sym st.item)
+          (subst (λ o. Alike (Option LiteralInstance) (entered early w s.called (Some st.declaration) inputs) (entered early' u y o inputs)) (sym st.found)
           (entered_alike st.new (Means s.home st.new) w u (meets st.new) early early' (early_meets st.new) s.called y st.declaration inputs st.fits))
 
     pub insides_alike : (k : ℕ) (t : ShaderStage) → InsidesAlike (inside p k t) (inside (plain ds) k t)
@@ -173,7 +173,7 @@ module _ (p : Program) (ds : List Decl) (IsHeld : Symbol → Name → Type 0) wh
         kept_alike.going_on (Unit {0}) (Unit {0}) (started_by (world p k Const s.home) s.called (p.item s)) (started_by (world (plain ds) k Const root) (declared_name e) (find_decl (declared_name e) ds)) _ _
         (started_of s (declared_name e) held (world p k Const s.home) (world (plain ds) k Const root) (worlds_meet k Const s.home)) (λ v. started_alike_in_turn k ss es rest)
 
-    pub runs_alike : Corresponds p.held ds → (k : ℕ) (s : Symbol) (y : Name) (inputs : Inputs) → IsHeld s y → Alike (Option Value) (run p k s inputs) (run (plain ds) k (here y) inputs)
+    pub runs_alike : Corresponds p.held ds → (k : ℕ) (s : Symbol) (y : Name) (inputs : Inputs) → IsHeld s y → Alike (Option LiteralInstance) (run p k s inputs) (run (plain ds) k (here y) inputs)
     runs_alike all k s y inputs held =
-        kept_alike.going_on (Unit {0}) (Option Value) (started p k p.held) (started (plain ds) k (map (λ d. here (declared_name d)) ds)) _ _ (started_alike_in_turn k p.held ds all) (λ v.
+        kept_alike.going_on (Unit {0}) (Option LiteralInstance) (started p k p.held) (started (plain ds) k (map (λ d. here (declared_name d)) ds)) _ _ (started_alike_in_turn k p.held ds all) (λ v.
         entered_of s y held (world p k Exec s.home) (world (plain ds) k Exec root) (world p k Const s.home) (world (plain ds) k Const root) inputs (worlds_meet k Exec s.home) (worlds_meet k Const s.home))

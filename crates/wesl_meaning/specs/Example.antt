@@ -5,7 +5,7 @@ use Rattle.wgsl_path.specs.declared.path.PathOrigin.TheVariants.{Absolute}
 use Rattle.wgsl_syntax.specs.declared.expression.LiteralExpression.TheVariants as L
 use Rattle.wgsl_syntax.specs.declared.declaration.DeclarationKind.TheVariants.{Const}
 use Rattle.wgsl_syntax.specs.Tree.{literal, named, simple, fragment, returning, Decl, variable, function, Imp, UnitTree}
-use Rattle.wgsl_meaning.specs.declared.value.Value.TheVariants as V
+use Rattle.wgsl_shader_type.specs.declared.literal.LiteralInstance.TheVariants as V
 use Rattle.wgsl_meaning.specs.Names.{Name, Symbol}
 use Rattle.wgsl_meaning.specs.Programs.{Program, Inputs, EndsWell}
 use Rattle.wesl_link_spec.specs.Modules.{Modules}

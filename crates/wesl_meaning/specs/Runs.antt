@@ -9,7 +9,7 @@ use Rattle.wesl_link_spec.specs.Modules.{Path, Modules, IsModule}
 use Rattle.wesl_link_spec.specs.Rounds.{Sources, IsLoadingResult}
 use Rattle.wesl_link_spec.specs.Linked.{IsLinked}
 use Rattle.wesl_link_spec.specs.Loaded.{AreLoaded, IsClashFree}
-use Rattle.wgsl_meaning.specs.declared.value.Value.{Value}
+use Rattle.wgsl_shader_type.specs.declared.literal.LiteralInstance.{LiteralInstance}
 use Rattle.wgsl_meaning.specs.Names.{Symbol}
 use Rattle.wgsl_meaning.specs.Programs.{Program, Inputs, run, here, program_of, EndsWell}
 use Rattle.wesl_meaning.specs.Alike.{Alike}
@@ -31,7 +31,7 @@ pub record IsKept (root : Path) (keep : List Name) (s : Symbol) : Type 0 where
 abbrev pub LinkedUnitsRunAlike : Type 0
 LinkedUnitsRunAlike = (modules : Modules) (root : Path) (keep : List Name) (unit : UnitTree) (p : Program) → AreLinkedWell modules root keep unit
     → IsProgramOf modules root keep p → (s : Symbol) → IsKept root keep s → (bound : ℕ) (inputs : Inputs)
-    → Alike (Option Value) (run p bound s inputs) (run (program_of unit) bound (here s.called) inputs)
+    → Alike (Option LiteralInstance) (run p bound s inputs) (run (program_of unit) bound (here s.called) inputs)
 
 -- Modules that are linked have such a program.
 abbrev pub LinkedModulesHaveAProgram : Type 0
@@ -42,7 +42,7 @@ LinkedModulesHaveAProgram = (modules : Modules) (root : Path) (keep : List Name)
 -- same answer.
 abbrev pub LinkedUnitsEndWell : Type 0
 LinkedUnitsEndWell = (modules : Modules) (root : Path) (keep : List Name) (unit : UnitTree) (p : Program) → AreLinkedWell modules root keep unit
-    → IsProgramOf modules root keep p → (s : Symbol) → IsKept root keep s → (inputs : Inputs) (n : ℕ) (answer : Option Value)
+    → IsProgramOf modules root keep p → (s : Symbol) → IsKept root keep s → (inputs : Inputs) (n : ℕ) (answer : Option LiteralInstance)
     → EndsWell p s inputs n answer ↔ EndsWell (program_of unit) (here s.called) inputs n answer
 
 -- each module's unit is what is found at its path

@@ -15,5 +15,5 @@ pub use resolver::VirtualResolver;
 pub use wesl_link::{
     BasicSourceMap, EscapeMangler, ImportError, ResolveError, Resolver, SourceMap,
 };
-pub use weslc_unit::{Fault, NameFault, NumberFault, ValidateError};
+pub use weslc_unit::{Fault, NameFault, ValidateError};
 pub use wgsl_parse::{Error, ErrorKind};

@@ -1,6 +1,7 @@
 //! The words by which a line tells the kind of an inner fault.
 
-use weslc_api::{ErrorKind, Fault, NameFault, NumberFault, ValidateError};
+use weslc_api::{ErrorKind, Fault, NameFault, ValidateError};
+use wgsl_shader_type::Error;
 
 pub(crate) fn syntax_kind(kind: ErrorKind) -> &'static str {
     match kind {
@@ -24,24 +25,47 @@ pub(crate) fn validate_kind(kind: ValidateError) -> &'static str {
 
 pub(crate) fn eval_kind(fault: &Fault) -> &'static str {
     match fault {
-        Fault::Number(fault) => number_kind(*fault),
+        Fault::Operation(error) => operation_kind(error),
+        Fault::NegativeAttr(_) => "NegativeAttr",
         Fault::Name(fault, _) => name_kind(*fault),
     }
 }
 
-fn number_kind(fault: NumberFault) -> &'static str {
-    match fault {
-        NumberFault::AddOverflow => "AddOverflow",
-        NumberFault::SubOverflow => "SubOverflow",
-        NumberFault::MulOverflow => "MulOverflow",
-        NumberFault::DivByZero => "DivByZero",
-        NumberFault::RemZeroDiv => "RemZeroDiv",
-        NumberFault::ConvOverflow(_, _) => "ConvOverflow",
-        NumberFault::Unary(_, _) => "Unary",
-        NumberFault::Binary(_, _, _) => "Binary",
-        NumberFault::Conversion(_, _) => "Conversion",
-        NumberFault::ParamType(_, _) => "ParamType",
-        NumberFault::NegativeAttr(_) => "NegativeAttr",
+fn operation_kind(error: &Error) -> &'static str {
+    match error {
+        Error::Todo(_) => "Todo",
+        Error::NotScalar(_) => "NotScalar",
+        Error::NotConstructible(_) => "NotConstructible",
+        Error::UnknownType(_) => "UnknownType",
+        Error::UnexpectedTemplate(_) => "UnexpectedTemplate",
+        Error::MissingTemplate(_) => "MissingTemplate",
+        Error::WriteRefType(_, _) => "WriteRefType",
+        Error::NotWrite => "NotWrite",
+        Error::NotRead => "NotRead",
+        Error::NotReadWrite => "NotReadWrite",
+        Error::PtrHandle => "PtrHandle",
+        Error::PtrVecComp => "PtrVecComp",
+        Error::Conversion(_, _) => "Conversion",
+        Error::ConvOverflow(_, _) => "ConvOverflow",
+        Error::Component(_, _) => "Component",
+        Error::NotIndexable(_) => "NotIndexable",
+        Error::OutOfBounds(_, _, _) => "OutOfBounds",
+        Error::Unary(_, _) => "Unary",
+        Error::Binary(_, _, _) => "Binary",
+        Error::CompwiseBinary(_, _) => "CompwiseBinary",
+        Error::AddOverflow => "AddOverflow",
+        Error::SubOverflow => "SubOverflow",
+        Error::MulOverflow => "MulOverflow",
+        Error::DivByZero => "DivByZero",
+        Error::RemZeroDiv => "RemZeroDiv",
+        Error::ShlOverflow(_, _) => "ShlOverflow",
+        Error::ShrOverflow(_, _) => "ShrOverflow",
+        Error::Signature(_) => "Signature",
+        Error::Builtin(_) => "Builtin",
+        Error::TemplateArgs(_) => "TemplateArgs",
+        Error::ParamCount(_, _, _) => "ParamCount",
+        Error::ParamType(_, _) => "ParamType",
+        Error::OutOfMemory => "OutOfMemory",
     }
 }
 

@@ -2,7 +2,7 @@
 use Rattle.std.proofs.Common.{◌≡◌, ℕ, ◌≤◌, List, Option, Ok, sym, subst, arith}
 use Rattle.wgsl_syntax.specs.Tree.{UnitTree}
 use Rattle.wgsl_syntax.specs.Print.{unit_text}
-use Rattle.wgsl_meaning.specs.declared.value.Value.{Value}
+use Rattle.wgsl_shader_type.specs.declared.literal.LiteralInstance.{LiteralInstance}
 use Rattle.wgsl_meaning.specs.Outcome.{Outcome, Done}
 use Rattle.wgsl_meaning.specs.Programs.{Inputs, run, here, program_of, EndsWell}
 use Rattle.wgsl_meaning.specs.Names.{Name}
@@ -16,11 +16,11 @@ use Rattle.wesl_meaning.specs.Runs.{AreLinkedWell}
 use Rattle.wesl_meaning.proofs.Linked.{linked_units_end_well}
 use Rattle.weslc_laws.specs.Compiled.{RunsAsItsSources, RunsExactlyAsItsSources, SourcesRunInTheLoweredUnit, CompiledTextRunsAsItsSources, PrintedTextRunsAsItsSources, LinkedTextRunsAsItsSources}
 
-better_ends : (o p : Outcome (Option Value)) (a : Option Value) (n : ℕ) → Better (Option Value) o p → o ≡ Done a n → (m : ℕ) × (p ≡ Done a m) × (m ≤ n)
-better_ends o p a n b e = subst (λ q. Better (Option Value) q p) e b
+better_ends : (o p : Outcome (Option LiteralInstance)) (a : Option LiteralInstance) (n : ℕ) → Better (Option LiteralInstance) o p → o ≡ Done a n → (m : ℕ) × (p ≡ Done a m) × (m ≤ n)
+better_ends o p a n b e = subst (λ q. Better (Option LiteralInstance) q p) e b
 
 -- what lowering keeps
-lowered_ends_well : (u low : UnitTree) → Keeps u.declarations low.declarations → (f : Name) (inputs : Inputs) (n : ℕ) (answer : Option Value) → EndsWell (program_of u) (here f) inputs n answer → EndsWell (program_of low) (here f) inputs n answer
+lowered_ends_well : (u low : UnitTree) → Keeps u.declarations low.declarations → (f : Name) (inputs : Inputs) (n : ℕ) (answer : Option LiteralInstance) → EndsWell (program_of u) (here f) inputs n answer → EndsWell (program_of low) (here f) inputs n answer
 lowered_ends_well u low keeps f inputs n answer e =
     let b = better_ends (run (program_of u) e.bound (here f) inputs) (run (program_of low) e.bound (here f) inputs) answer e.steps (keeps f e.bound inputs) e.ends in
     let within : e.steps ≤ n = e.within in

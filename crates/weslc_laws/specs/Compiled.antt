@@ -10,7 +10,7 @@ use Rattle.wgsl_grammar.specs.Declarations.{IsUnit}
 use Rattle.wgsl_round_trip.specs.Printing.{StandsFor}
 use Rattle.wesl_link_spec.specs.Occurrences.{Name}
 use Rattle.wesl_link_spec.specs.Modules.{Path, Modules}
-use Rattle.wgsl_meaning.specs.declared.value.Value.{Value}
+use Rattle.wgsl_shader_type.specs.declared.literal.LiteralInstance.{LiteralInstance}
 use Rattle.wgsl_meaning.specs.Names.{Symbol}
 use Rattle.wgsl_meaning.specs.Programs.{Program, Inputs, here, program_of, EndsWell}
 use Rattle.wesl_meaning.specs.SourcePrograms.{IsProgramOf}
@@ -22,7 +22,7 @@ use Rattle.wgsl_lower.specs.Keeps.{AreClear}
 -- same answer: whatever its inputs, and for each number of steps.
 abbrev pub RunsAsItsSources : Modules → Path → List Name → UnitTree → Type 0
 RunsAsItsSources modules root keep unit = (p : Program) → IsProgramOf modules root keep p → (s : Symbol) → IsKept root keep s
-    → (inputs : Inputs) (n : ℕ) (answer : Option Value) → EndsWell p s inputs n answer → EndsWell (program_of unit) (here s.called) inputs n answer
+    → (inputs : Inputs) (n : ℕ) (answer : Option LiteralInstance) → EndsWell p s inputs n answer → EndsWell (program_of unit) (here s.called) inputs n answer
 
 -- modules that are linked into a unit with clear names, which is lowered into another
 pub record AreCompiled (modules : Modules) (root : Path) (keep : List Name) (lowered : UnitTree) : Type 0 where
@@ -54,7 +54,7 @@ PrintedTextRunsAsItsSources = (modules : Modules) (root : Path) (keep : List Nam
 -- steps.
 abbrev pub RunsExactlyAsItsSources : Modules → Path → List Name → UnitTree → Type 0
 RunsExactlyAsItsSources modules root keep unit = (p : Program) → IsProgramOf modules root keep p → (s : Symbol) → IsKept root keep s
-    → (inputs : Inputs) (n : ℕ) (answer : Option Value) → EndsWell p s inputs n answer ↔ EndsWell (program_of unit) (here s.called) inputs n answer
+    → (inputs : Inputs) (n : ℕ) (answer : Option LiteralInstance) → EndsWell p s inputs n answer ↔ EndsWell (program_of unit) (here s.called) inputs n answer
 
 -- So it is with a text of the linked unit.
 abbrev pub LinkedTextRunsAsItsSources : Type 0

@@ -10,4 +10,4 @@ pub use compiled::compile_unit;
 pub use error::{PrintError, UnitRefusal};
 pub use printed::{print_declaration, print_unit};
 pub use wesl_validate::{ValidateError, ValidateFault};
-pub use wgsl_eval::{DeclarationFault, Fault, NameFault, NumberFault};
+pub use wgsl_eval::{DeclarationFault, Fault, NameFault};

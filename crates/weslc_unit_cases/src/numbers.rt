@@ -2,38 +2,36 @@
 
 use crate::cut;
 use std::alloc::{AllocError, Global};
+use wgsl_enumerations::ShaderStage;
 use wgsl_operators::{BinaryOperator, UnaryOperator};
-use wgsl_value::{
-    NumberFault, NumericType, ShaderStage, Value, call_binary_op, call_unary_op, construct,
-    convert_to,
+use wgsl_scalar::{
+    IntegerType, ScalarType, binary_scalar_op, construct_scalar, convert_scalar, unary_scalar_op,
 };
+use wgsl_shader_type::{Error, LiteralInstance};
 
 /// A number with its suffix.
-fn value_of(text: &str) -> Option<Value> {
+fn value_of(text: &str) -> Option<LiteralInstance> {
     if let Some(number) = text.strip_suffix('u') {
-        Some(Value::U32(number.parse::<u32>().ok()?))
+        Some(LiteralInstance::U32(number.parse::<u32>().ok()?))
     } else if let Some(number) = text.strip_suffix('i') {
-        Some(Value::I32(number.parse::<i32>().ok()?))
+        Some(LiteralInstance::I32(number.parse::<i32>().ok()?))
     } else {
-        Some(Value::AbstractInt(text.parse::<i64>().ok()?))
+        Some(LiteralInstance::AbstractInt(text.parse::<i64>().ok()?))
     }
 }
 
-fn binary(stage: ShaderStage, sign: &str, left: Value, right: Value) -> Result<Value, NumberFault> {
+fn binary(stage: ShaderStage, sign: &str, left: LiteralInstance, right: LiteralInstance) -> Result<LiteralInstance, Error> {
     match sign.parse::<BinaryOperator>() {
-        Ok(operator) => call_binary_op(stage, operator, left, right),
-        Err(_) => Err(NumberFault::AddOverflow),
+        Ok(operator) => binary_scalar_op(operator, left, right, stage),
+        Err(_) => Err(Error::AddOverflow),
     }
 }
 
-fn unary(call: &str, value: Value) -> Result<Value, NumberFault> {
+fn unary(call: &str, value: LiteralInstance) -> Result<LiteralInstance, Error> {
     match call {
-        "minus" => call_unary_op(ShaderStage::Const, UnaryOperator::Negation, value),
-        "construct u32" => construct(NumericType::U32, value),
-        _ => {
-            let fault = NumberFault::Conversion(NumericType::AbstractInt, NumericType::U32);
-            convert_to(fault, NumericType::U32, value)
-        }
+        "minus" => unary_scalar_op(UnaryOperator::Negation, value, ShaderStage::Const),
+        "construct u32" => construct_scalar(ScalarType::Integer(IntegerType::U32), value),
+        _ => convert_scalar(ScalarType::Integer(IntegerType::U32), value),
     }
 }
 

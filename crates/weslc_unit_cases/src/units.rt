@@ -10,15 +10,17 @@ use wgsl_eval::{EvalError, Fault, Scope, eval_ty, eval_value};
 use wgsl_items::{Items, OrOutOfMemory, Text};
 use wgsl_lower::lower;
 use wgsl_parse::parse_str;
+use wgsl_scalar::{IntegerType, ScalarType};
+use wgsl_shader_type::LiteralInstance;
 use wgsl_syntax::{
     CompoundStatement, Expression, Function, GlobalDeclaration, Ident, Span, Spanned,
     TranslationUnit,
 };
-use wgsl_value::{NumericType, Value};
 
 fn fault_text(alloc: Global, fault: &Fault) -> Result<String, AllocError> {
     match fault {
-        Fault::Number(fault) => format!(in alloc; "{fault:?}"),
+        Fault::Operation(error) => format!(in alloc; "{error:?}"),
+        Fault::NegativeAttr(_) => format!(in alloc; "{fault:?}"),
         Fault::Name(fault, name) => format!(in alloc; "{fault:?} {}", name.as_str()),
     }
 }
@@ -114,7 +116,7 @@ fn evaluated(
     };
     let value = eval_value(alloc, scope, expression);
     let ty = eval_ty(alloc, scope, expression);
-    let is_typed = ty == Ok(NumericType::U32);
+    let is_typed = ty == Ok(ScalarType::Integer(IntegerType::U32));
     match &value {
         Ok(value) => format!(in alloc; "{value:?} u32 {is_typed}"),
         Err(EvalError::Error(fault)) => {
@@ -131,8 +133,8 @@ fn evaluated_with(
     unit: &TranslationUnit,
     is_const: bool,
 ) -> Result<String, AllocError> {
-    let consts = [(Text::from_str(alloc, "k")?, Value::AbstractInt(40))];
-    let parameters = [(Text::from_str(alloc, "k")?, NumericType::U32)];
+    let consts = [(Text::from_str(alloc, "k")?, LiteralInstance::AbstractInt(40))];
+    let parameters = [(Text::from_str(alloc, "k")?, ScalarType::Integer(IntegerType::U32))];
     let scope = Scope {
         declarations: &[],
         consts: if is_const { &consts } else { &[] },

@@ -6,10 +6,10 @@ use Rattle.wgsl_syntax.specs.declared.expression.Expression.{Expression}
 use Rattle.wgsl_syntax.specs.Tree.{Exps, exps, cons, call, Typ}
 use Rattle.wgsl_syntax.specs.View.{node_tree}
 use Rattle.wgsl_meaning.specs.Outcome.{Outcome, Done, Failed, Deep, after, bind}
-use Rattle.wgsl_meaning.specs.declared.value.Value.{Value}
+use Rattle.wgsl_shader_type.specs.declared.literal.LiteralInstance.{LiteralInstance}
 use Rattle.wgsl_meaning.specs.Names.{Name, find, plain_name}
 use Rattle.wgsl_meaning.specs.Meaning.{World, Types, value, values, result_here, called_or, typed, all_typed, result_type_here}
-use Rattle.wgsl_meaning.specs.declared.value.NumericType.{NumericType}
+use Rattle.wgsl_scalar.specs.declared.scalar.ScalarType.{ScalarType}
 use Rattle.wgsl_items.specs.declared.error.OrOutOfMemory.{OrOutOfMemory}
 use Rattle.wgsl_items.specs.declared.error.OrOutOfMemory.TheVariants.{Error, OutOfMemory}
 use Rattle.wgsl_meaning.specs.declared.fault.Fault.{Fault}
@@ -30,12 +30,12 @@ ends_after o (Err OutOfMemory) h = tt
 ends_after o (Err (Error f)) h = ap (after 0) h
 
 -- a call whose arguments have values
-pub called : (w : World) (t : Typ) (es : Exps) (vs : List Value) (f : Name) (r : Result Value (OrOutOfMemory Fault)) → values w [] es ≡ Done vs 0 → plain_name t ≡ Ok f → Ends (w.result_of f vs) r → Ends (value w [] (call t es)) r
+pub called : (w : World) (t : Typ) (es : Exps) (vs : List LiteralInstance) (f : Name) (r : Result LiteralInstance (OrOutOfMemory Fault)) → values w [] es ≡ Done vs 0 → plain_name t ≡ Ok f → Ends (w.result_of f vs) r → Ends (value w [] (call t es)) r
 called w t es vs f r e n h =
     subst (λ z. Ends (bind z (λ xs. result_here w [] (plain_name t) xs)) r) (sym e)
     (subst (λ z. Ends (bind (Done vs 0) (λ xs. result_here w [] z xs)) r) (sym n) (ends_after (w.result_of f vs) r h))
 
-pub called_typed : (w : World) (env : Types) (t : Typ) (es : Exps) (ts : List NumericType) (f : Name) (r : Result NumericType (OrOutOfMemory Fault)) → all_typed w env es ≡ Done ts 0 → plain_name t ≡ Ok f →
+pub called_typed : (w : World) (env : Types) (t : Typ) (es : Exps) (ts : List ScalarType) (f : Name) (r : Result ScalarType (OrOutOfMemory Fault)) → all_typed w env es ≡ Done ts 0 → plain_name t ≡ Ok f →
     Ends (called_or f (find f env) (w.result_type f ts)) r → Ends (typed w env (call t es)) r
 called_typed w env t es ts f r e n h =
     subst (λ z. Ends (bind z (λ xs. result_type_here w env (plain_name t) xs)) r) (sym e)

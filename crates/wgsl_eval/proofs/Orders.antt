@@ -3,7 +3,7 @@ use Rattle.std.proofs.Common.{◌≡◌, ℕ, zero, suc, ◌+◌, ◌-◌, ◌<�
 use Rattle.std.specs.Prelude.{if◌then◌else◌}
 use Rattle.std.specs.List.{fold}
 use Rattle.wgsl_syntax.specs.Tree.{Decl}
-use Rattle.wgsl_meaning.specs.declared.value.Value.{Value}
+use Rattle.wgsl_shader_type.specs.declared.literal.LiteralInstance.{LiteralInstance}
 use Rattle.wgsl_meaning.specs.Outcome.{Outcome, Done, Failed, Deep}
 use Rattle.wgsl_meaning.specs.Names.{Name, find_decl}
 use Rattle.wgsl_meaning.specs.ConstStage.{Consts}
@@ -31,7 +31,7 @@ met_now ds k o x some e =
     let deeper : k ≡ suc (k - 1) = omega arith in
     ap (λ n. reached ds n o x) deeper ∙ ap (λ b. if b then o else finishing x (fold (reached ds (k - 1)) (meeting x o) (initializer_names (find_decl x ds)))) e
 
-pub refusal : {A : Type 0} (view : A → Consts) (cs : Consts) (x : Name) (o : Outcome Value) (e : OrOutOfMemory Fault) (u : OrOutOfMemory DeclarationFault) → Ends o (Err e) → IsRefusal x e u → Answers view (added cs x o) (Err u)
+pub refusal : {A : Type 0} (view : A → Consts) (cs : Consts) (x : Name) (o : Outcome LiteralInstance) (e : OrOutOfMemory Fault) (u : OrOutOfMemory DeclarationFault) → Ends o (Err e) → IsRefusal x e u → Answers view (added cs x o) (Err u)
 refusal view cs x o e OutOfMemory h i = tt
 refusal view cs x o OutOfMemory (Error r) h i = absurd i
 refusal view cs x o (Error f) (Error r) h i = ap (added cs x) h ∙ ap Err (sym i)

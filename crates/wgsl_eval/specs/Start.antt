@@ -6,7 +6,7 @@ use Rattle.std.specs.Str.{bytes_eq}
 use Rattle.wgsl_syntax.specs.Tree.{Exp, Exps, literal, parenthesized, unary, binary, call, named, nil, cons, Typ, simple, templated, Attr, Block, Param, Decl, variable, function}
 use Rattle.wgsl_syntax.specs.declared.declaration.DeclarationKind.{DeclarationKind}
 use Rattle.wgsl_syntax.specs.Names.{declared_name}
-use Rattle.wgsl_meaning.specs.declared.value.Value.{Value}
+use Rattle.wgsl_shader_type.specs.declared.literal.LiteralInstance.{LiteralInstance}
 use Rattle.wgsl_meaning.specs.declared.fault.Fault.{Fault}
 use Rattle.wgsl_meaning.specs.declared.fault.Fault.TheVariants.{Name as Named}
 use Rattle.wgsl_meaning.specs.declared.fault.NameFault.TheVariants.{CyclicDecl}
@@ -76,7 +76,7 @@ order_of ds = (fold (reached ds (length ds + 1)) none_met (const_names ds)).done
 abbrev pub refused : Name → Fault → DeclarationFault
 refused x f = record { declaration = x; fault = f }
 
-abbrev pub added : Consts → Name → Outcome Value → Result Consts DeclarationFault
+abbrev pub added : Consts → Name → Outcome LiteralInstance → Result Consts DeclarationFault
 added cs x (Done v n) = Ok (cs ++ (x, v) ∷ [])
 added cs x (Failed f) = Err (refused x f)
 added cs x Deep = Err (refused x (Named CyclicDecl x))

@@ -1,11 +1,13 @@
 //! Why an evaluation gives no value.
 
-ghost use Rattle.wgsl_eval.specs.Ends.{IsFault};
+ghost use Rattle.wgsl_meaning.specs.Outcome as spec;
+ghost use Rattle.wgsl_eval.specs.Ends.{Ends, IsFault};
 ghost use Rattle.wgsl_eval.specs.Refusals.{IsRefusal};
 
 use std::alloc::Global;
 use wgsl_items::{CloneIn, OrOutOfMemory, Text};
-use wgsl_meaning::{Fault, NameFault};
+use wgsl_meaning::{Fault, NameFault, operation_fault};
+use wgsl_shader_type::Error;
 
 /// Why an evaluation gives no value: the fault of the expression, or that memory was refused.
 pub type EvalError = OrOutOfMemory<Fault>;
@@ -17,6 +19,16 @@ pub(crate) fn named(alloc: Global, fault: NameFault, name: &Text) -> EvalError
     match name.clone_in(alloc) {
         Ok(name) => OrOutOfMemory::Error(Fault::Name(fault, name)),
         Err(_) => OrOutOfMemory::OutOfMemory,
+    }
+}
+
+/// What an operation gives, with its error as the fault.
+pub(crate) fn computed<T>(operation: Result<T, Error>) -> Result<T, EvalError>
+    ensures { Ends (spec.computed operation) result }
+{
+    match operation {
+        Ok(value) => Ok(value),
+        Err(error) => Err(operation_fault(error)),
     }
 }
 

@@ -10,17 +10,24 @@ ghost use Rattle.wgsl_meaning.specs.ConstStage.{stage, callee_of};
 ghost use Rattle.wgsl_eval.specs.Ends.{Ends, Gives};
 ghost use Rattle.wgsl_eval.specs.Scopes.{scope_of};
 
-use crate::error::{EvalError, named};
+use crate::error::{EvalError, computed, named};
 use crate::find::{built_in_type, declaration, found, plain_name};
+use crate::literal::literal_value;
 use crate::scope::Scope;
 use std::alloc::Global;
+use wgsl_enumerations::ShaderStage;
 use wgsl_items::{Items, Text};
-use wgsl_meaning::{NameFault, NumericType, ShaderStage, Value};
+use wgsl_meaning::NameFault;
+use wgsl_scalar::{ScalarType, binary_scalar_op, construct_scalar, unary_scalar_op};
+use wgsl_shader_type::LiteralInstance;
 use wgsl_syntax::{Expression, ExpressionNode, FunctionCall, GlobalDeclaration, TypeExpression};
-use wgsl_value::{call_binary_op, call_unary_op, construct, literal_value};
 
 /// The value of a name: of a const that has one by now.
-pub(crate) fn name_value(alloc: Global, scope: &Scope<'_>, name: &Text) -> Result<Value, EvalError>
+pub(crate) fn name_value(
+    alloc: Global,
+    scope: &Scope<'_>,
+    name: &Text,
+) -> Result<LiteralInstance, EvalError>
     ensures { Ends ((stage (scope_of scope.now)).value_of name.now) result }
 {
     if found(name, scope.parameters).is_some() {
@@ -40,7 +47,7 @@ pub(crate) fn name_value(alloc: Global, scope: &Scope<'_>, name: &Text) -> Resul
 }
 
 /// The type that a name constructs. Calls of functions aren't evaluated yet.
-pub fn callee(alloc: Global, scope: &Scope<'_>, name: &Text) -> Result<NumericType, EvalError>
+pub fn callee(alloc: Global, scope: &Scope<'_>, name: &Text) -> Result<ScalarType, EvalError>
     ensures { Gives (λ t. t) (callee_of (scope_of scope.now) name.now) result }
 {
     if found(name, scope.parameters).is_some() {
@@ -56,14 +63,14 @@ fn call(
     alloc: Global,
     scope: &Scope<'_>,
     name: &Text,
-    arguments: &[Value],
-) -> Result<Value, EvalError>
+    arguments: &[LiteralInstance],
+) -> Result<LiteralInstance, EvalError>
     ensures { Ends ((stage (scope_of scope.now)).result_of name.now arguments.now) result }
 {
     let ty = callee(alloc, scope, name)?;
     match arguments {
-        [] => Ok(construct(ty, Value::AbstractInt(0))?),
-        [value] => Ok(construct(ty, *value)?),
+        [] => Ok(computed(construct_scalar(ty, LiteralInstance::AbstractInt(0)))?),
+        [value] => Ok(computed(construct_scalar(ty, *value))?),
         _ => Err(named(alloc, NameFault::Signature, name)),
     }
 }
@@ -75,7 +82,7 @@ pub fn eval_value(
     alloc: Global,
     scope: &Scope<'_>,
     expression: &Expression,
-) -> Result<Value, EvalError>
+) -> Result<LiteralInstance, EvalError>
     ensures { Ends (spec.value (stage (scope_of scope.now)) [] (tree expression.now)) result }
 {
     match expression {
@@ -83,12 +90,12 @@ pub fn eval_value(
         Expression::Parenthesized(x) => eval_value(alloc, scope, x.expression.node()),
         Expression::Unary(x) => {
             let value = eval_value(alloc, scope, x.operand.node())?;
-            Ok(call_unary_op(ShaderStage::Const, x.operator, value)?)
+            Ok(computed(unary_scalar_op(x.operator, value, ShaderStage::Const))?)
         }
         Expression::Binary(x) => {
             let left = eval_value(alloc, scope, x.left.node())?;
             let right = eval_value(alloc, scope, x.right.node())?;
-            Ok(call_binary_op(ShaderStage::Const, x.operator, left, right)?)
+            Ok(computed(binary_scalar_op(x.operator, left, right, ShaderStage::Const))?)
         }
         Expression::FunctionCall(x) => call_value(alloc, scope, x.get()),
         Expression::TypeOrIdentifier(x) => {
@@ -99,7 +106,11 @@ pub fn eval_value(
 }
 
 #[cycle(evaluating)]
-fn call_value(alloc: Global, scope: &Scope<'_>, x: &FunctionCall) -> Result<Value, EvalError>
+fn call_value(
+    alloc: Global,
+    scope: &Scope<'_>,
+    x: &FunctionCall,
+) -> Result<LiteralInstance, EvalError>
     ensures { Ends (spec.value (stage (scope_of scope.now)) [] (call_layer tree x.now)) result }
 {
     let arguments = values(alloc, scope, x.arguments.as_slice())?;
@@ -112,7 +123,7 @@ fn values(
     alloc: Global,
     scope: &Scope<'_>,
     nodes: &[ExpressionNode],
-) -> Result<Items<Value>, EvalError>
+) -> Result<Items<LiteralInstance>, EvalError>
     ensures { Ends (spec.values (stage (scope_of scope.now)) [] (exps (map node_tree nodes.now))) result }
 {
     let mut done = Items::new(alloc);

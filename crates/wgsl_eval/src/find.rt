@@ -10,7 +10,8 @@ ghost use Rattle.wgsl_eval.specs.Scopes.{decls, seen};
 use crate::error::{EvalError, named};
 use std::alloc::Global;
 use wgsl_items::Text;
-use wgsl_meaning::{NameFault, NumericType};
+use wgsl_meaning::NameFault;
+use wgsl_scalar::{IntegerType, ScalarType};
 use wgsl_syntax::{GlobalDeclaration, GlobalDeclarationNode, TypeExpression};
 
 /// What stands first under a name.
@@ -46,12 +47,12 @@ pub(crate) fn declaration<'a>(
 }
 
 /// The type of a built-in name.
-pub(crate) fn built_in_type(alloc: Global, name: &Text) -> Result<NumericType, EvalError>
+pub(crate) fn built_in_type(alloc: Global, name: &Text) -> Result<ScalarType, EvalError>
     ensures { Gives (λ t. t) (spec.built_in_type name.now) result }
 {
     match name.as_str() {
-        "i32" => Ok(NumericType::I32),
-        "u32" => Ok(NumericType::U32),
+        "i32" => Ok(ScalarType::Integer(IntegerType::I32)),
+        "u32" => Ok(ScalarType::Integer(IntegerType::U32)),
         _ => Err(named(alloc, NameFault::Todo, name)),
     }
 }

@@ -4,6 +4,7 @@
 mod error;
 mod evaluate;
 mod find;
+mod literal;
 mod scope;
 mod start;
 mod typing;
@@ -11,8 +12,8 @@ mod typing;
 pub use error::{DeclarationFault, EvalError, UnitError, refused};
 pub use evaluate::{callee, eval_value};
 pub use find::plain_name;
+pub use literal::literal_value;
 pub use scope::Scope;
 pub use start::start_values;
 pub use typing::{const_value, eval_ty, ty_eval_ty};
 pub use wgsl_meaning::{Fault, NameFault};
-pub use wgsl_value::{NumberFault, NumericType, ShaderStage, Value};

@@ -1,7 +1,8 @@
 //! What is in scope at the const stage.
 
 use wgsl_items::Text;
-use wgsl_meaning::{NumericType, Value};
+use wgsl_scalar::ScalarType;
+use wgsl_shader_type::LiteralInstance;
 use wgsl_syntax::GlobalDeclarationNode;
 
 /// What is in scope at the const stage: the declarations of the module, the values that its consts have by now, and the
@@ -9,6 +10,6 @@ use wgsl_syntax::GlobalDeclarationNode;
 #[derive(Drop)]
 pub struct Scope<'a> {
     pub declarations: &'a [GlobalDeclarationNode],
-    pub consts: &'a [(Text, Value)],
-    pub parameters: &'a [(Text, NumericType)],
+    pub consts: &'a [(Text, LiteralInstance)],
+    pub parameters: &'a [(Text, ScalarType)],
 }

@@ -14,7 +14,7 @@ use crate::find::declaration;
 use crate::typing::const_value;
 use std::alloc::{AllocError, Global};
 use wgsl_items::{CloneIn, Items, Text};
-use wgsl_meaning::Value;
+use wgsl_shader_type::LiteralInstance;
 use wgsl_syntax::{
     Expression, ExpressionNode, GlobalDeclaration, GlobalDeclarationNode, TypeExpression,
 };
@@ -145,7 +145,7 @@ fn order_of(
 fn push_value(
     alloc: Global,
     declarations: &[GlobalDeclarationNode],
-    consts: &mut Items<(Text, Value)>,
+    consts: &mut Items<(Text, LiteralInstance)>,
     name: &Text,
 ) -> Result<(), UnitError>
     ensures { Answers (λ u. consts.new) (spec.valued (decls declarations.now) consts.old name.now (find_decl name.now (decls declarations.now))) result }
@@ -163,7 +163,7 @@ fn push_value(
 pub fn start_values(
     alloc: Global,
     declarations: &[GlobalDeclarationNode],
-) -> Result<Items<(Text, Value)>, UnitError>
+) -> Result<Items<(Text, LiteralInstance)>, UnitError>
     ensures { Answers (λ consts. consts) (spec.consts_of (decls declarations.now)) result }
 {
     let order = order_of(alloc, declarations)?;

@@ -11,19 +11,21 @@ ghost use Rattle.wgsl_meaning.specs.Names.{find};
 ghost use Rattle.wgsl_eval.specs.Ends.{Ends};
 ghost use Rattle.wgsl_eval.specs.Scopes.{scope_of, decls};
 
-use crate::error::{EvalError, named};
+use crate::error::{EvalError, computed, named};
 use crate::evaluate::{callee, eval_value, name_value};
 use crate::find::{built_in_type, declaration, found, plain_name};
+use crate::literal::literal_value;
 use crate::scope::Scope;
 use std::alloc::Global;
 use wgsl_items::{Items, Text};
-use wgsl_meaning::{NameFault, NumberFault, NumericType, Value};
+use wgsl_meaning::NameFault;
+use wgsl_scalar::{ScalarType, convert_scalar, scalar_binary_type, scalar_unary_type, type_of};
+use wgsl_shader_type::LiteralInstance;
 use wgsl_syntax::{
     Declaration, Expression, ExpressionNode, FunctionCall, GlobalDeclarationNode, TypeExpression,
 };
-use wgsl_value::{convert_to, literal_value, type_binary_op, type_of, type_unary_op};
 
-fn name_type(alloc: Global, scope: &Scope<'_>, name: &Text) -> Result<NumericType, EvalError>
+fn name_type(alloc: Global, scope: &Scope<'_>, name: &Text) -> Result<ScalarType, EvalError>
     ensures { Ends (spec.local_or (find name.now scope.now.parameters.now) (spec.type_in_world ((stage (scope_of scope.now)).value_of name.now))) result }
 {
     match found(name, scope.parameters) {
@@ -36,8 +38,8 @@ fn call_type(
     alloc: Global,
     scope: &Scope<'_>,
     name: &Text,
-    arguments: &[NumericType],
-) -> Result<NumericType, EvalError>
+    arguments: &[ScalarType],
+) -> Result<ScalarType, EvalError>
     ensures { Ends (spec.called_or name.now (find name.now scope.now.parameters.now) ((stage (scope_of scope.now)).result_type name.now arguments.now)) result }
 {
     let ty = callee(alloc, scope, name)?;
@@ -54,7 +56,7 @@ pub fn eval_ty(
     alloc: Global,
     scope: &Scope<'_>,
     expression: &Expression,
-) -> Result<NumericType, EvalError>
+) -> Result<ScalarType, EvalError>
     ensures { Ends (spec.typed (stage (scope_of scope.now)) scope.now.parameters.now (tree expression.now)) result }
 {
     match expression {
@@ -62,12 +64,12 @@ pub fn eval_ty(
         Expression::Parenthesized(x) => eval_ty(alloc, scope, x.expression.node()),
         Expression::Unary(x) => {
             let ty = eval_ty(alloc, scope, x.operand.node())?;
-            Ok(type_unary_op(x.operator, ty)?)
+            Ok(computed(scalar_unary_type(x.operator, ty))?)
         }
         Expression::Binary(x) => {
             let left = eval_ty(alloc, scope, x.left.node())?;
             let right = eval_ty(alloc, scope, x.right.node())?;
-            Ok(type_binary_op(x.operator, left, right)?)
+            Ok(computed(scalar_binary_type(x.operator, left, right))?)
         }
         Expression::FunctionCall(x) => typed_call(alloc, scope, x.get()),
         Expression::TypeOrIdentifier(x) => {
@@ -78,7 +80,7 @@ pub fn eval_ty(
 }
 
 #[cycle(typing)]
-fn typed_call(alloc: Global, scope: &Scope<'_>, x: &FunctionCall) -> Result<NumericType, EvalError>
+fn typed_call(alloc: Global, scope: &Scope<'_>, x: &FunctionCall) -> Result<ScalarType, EvalError>
     ensures { Ends (spec.typed (stage (scope_of scope.now)) scope.now.parameters.now (call_layer tree x.now)) result }
 {
     let arguments = types(alloc, scope, x.arguments.as_slice())?;
@@ -91,7 +93,7 @@ fn types(
     alloc: Global,
     scope: &Scope<'_>,
     nodes: &[ExpressionNode],
-) -> Result<Items<NumericType>, EvalError>
+) -> Result<Items<ScalarType>, EvalError>
     ensures { Ends (spec.all_typed (stage (scope_of scope.now)) scope.now.parameters.now (exps (map node_tree nodes.now))) result }
 {
     let mut done = Items::new(alloc);
@@ -106,7 +108,7 @@ pub fn ty_eval_ty(
     alloc: Global,
     scope: &Scope<'_>,
     ty: &TypeExpression,
-) -> Result<NumericType, EvalError>
+) -> Result<ScalarType, EvalError>
     ensures { Ends (spec.type_written (stage (scope_of scope.now)) (type_tree ty.now)) result }
 {
     let name = plain_name(alloc, ty)?;
@@ -122,19 +124,19 @@ fn initial_of_type(
     scope: &Scope<'_>,
     ty: &TypeExpression,
     expression: &Expression,
-) -> Result<Value, EvalError>
+) -> Result<LiteralInstance, EvalError>
     ensures { Ends (spec.initial (stage (scope_of scope.now)) (Some (type_tree ty.now)) (tree expression.now)) result }
 {
     let ty = ty_eval_ty(alloc, scope, ty)?;
     let value = eval_value(alloc, scope, expression)?;
-    Ok(convert_to(NumberFault::Conversion(type_of(value), ty), ty, value)?)
+    Ok(computed(convert_scalar(ty, value))?)
 }
 
 fn initial_untyped(
     alloc: Global,
     scope: &Scope<'_>,
     expression: &Expression,
-) -> Result<Value, EvalError>
+) -> Result<LiteralInstance, EvalError>
     requires { scope.now.parameters.now ≡ [] }
     ensures { Ends (spec.initial (stage (scope_of scope.now)) None (tree expression.now)) result }
 {
@@ -146,9 +148,9 @@ fn initial_untyped(
 pub fn const_value(
     alloc: Global,
     declarations: &[GlobalDeclarationNode],
-    consts: &[(Text, Value)],
+    consts: &[(Text, LiteralInstance)],
     declared: &Declaration,
-) -> Result<Value, EvalError>
+) -> Result<LiteralInstance, EvalError>
     ensures { Ends (spec.const_in (stage (module_scope (decls declarations.now) consts.now)) declared.now.ident.name (Some (declaration_tree (TheDeclaration declared.now)))) result }
 {
     let scope = Scope {

@@ -2,10 +2,10 @@
 use Rattle.std.proofs.Common.{◌≡◌, ℕ, List, [], ◌∷◌, Option, Some, None, Bool, true, false, Result, Ok, Err, refl, sym, ap, ◌∙◌, subst}
 use Rattle.std.specs.Prelude.{if◌then◌else◌}
 use Rattle.wgsl_syntax.specs.Tree.{Exp, Exps, exps, literal, parenthesized, unary, binary, call, named, nil, cons, Typ}
-use Rattle.wgsl_meaning.specs.declared.value.Value.{Value}
-use Rattle.wgsl_meaning.specs.declared.value.NumericType.{NumericType}
+use Rattle.wgsl_shader_type.specs.declared.literal.LiteralInstance.{LiteralInstance}
+use Rattle.wgsl_scalar.specs.declared.scalar.ScalarType.{ScalarType}
 use Rattle.wgsl_meaning.specs.declared.fault.Fault.{Fault}
-use Rattle.wgsl_meaning.specs.declared.fault.Fault.TheVariants.{Number, Name as Named}
+use Rattle.wgsl_meaning.specs.declared.fault.Fault.TheVariants.{Operation, NegativeAttr, Name as Named}
 use Rattle.wgsl_meaning.specs.declared.fault.NameFault.{NameFault}
 use Rattle.wgsl_meaning.specs.Values.{Checked, and_then, literal_value}
 use Rattle.wgsl_meaning.specs.Outcome.{Outcome, Done, Failed, Deep}
@@ -20,19 +20,21 @@ pub then_ok : {A B : Type 0} (o : Checked A) (f : A → Checked B) (d : B) → a
 then_ok (Ok x) f d e = (x, refl, e)
 then_ok (Err g) f d e = absurd (cc)
 
-abbrev pub HasNone : Outcome Value → Type 0
+abbrev pub HasNone : Outcome LiteralInstance → Type 0
 HasNone (Done v n) = ⊥
-HasNone (Failed (Number f)) = ⊥
+HasNone (Failed (Operation f)) = ⊥
+HasNone (Failed (NegativeAttr z)) = ⊥
 HasNone (Failed (Named f x)) = lacks_value f ≡ true
 HasNone Deep = Unit {0}
 
-data Case (o : Outcome Value) (other : Checked Exp) (d : Exp) : Type 0 where
-  has : (v : Value) (n : ℕ) → o ≡ Done v n → written v ≡ d → Case o other d
+data Case (o : Outcome LiteralInstance) (other : Checked Exp) (d : Exp) : Type 0 where
+  has : (v : LiteralInstance) (n : ℕ) → o ≡ Done v n → written v ≡ d → Case o other d
   has_none : HasNone o → other ≡ Ok d → Case o other d
 
-case_of : (o : Outcome Value) (other : Checked Exp) (d : Exp) → unless_const o other ≡ Ok d → Case o other d
+case_of : (o : Outcome LiteralInstance) (other : Checked Exp) (d : Exp) → unless_const o other ≡ Ok d → Case o other d
 case_of (Done v n) other d e = has v n refl (cc)
-case_of (Failed (Number f)) other d e = absurd (cc)
+case_of (Failed (Operation f)) other d e = absurd (cc)
+case_of (Failed (NegativeAttr z)) other d e = absurd (cc)
 case_of (Failed (Named f x)) other d e = at (lacks_value f) refl e
   where
     at : (b : Bool) → lacks_value f ≡ b → (if b then other else Err (Named f x)) ≡ Ok d → Case (Failed (Named f x)) other d
@@ -47,11 +49,11 @@ module _ (s : Scope) where
 
   pub record KeptCallee (f g : Typ) : Type 0 where
     pub same_callee : f ≡ g
-    pub type : NumericType
+    pub type : ScalarType
     pub is : callee_here s f ≡ Ok type
 
   pub record HasValue (e d : Exp) : Type 0 where
-    pub its : Value
+    pub its : LiteralInstance
     pub steps : ℕ
     pub gives : value (stage s) [] e ≡ Done its steps
     pub so_written : written its ≡ d

@@ -5,7 +5,7 @@ use Rattle.std.specs.Str.{bytes_eq}
 use Rattle.std.specs.Cmp.Lexicographic.{same_text}
 use Rattle.wgsl_syntax.specs.Tree.{Decl, variable, function}
 use Rattle.wgsl_syntax.specs.Names.{declared_name}
-use Rattle.wgsl_meaning.specs.declared.value.Value.{Value}
+use Rattle.wgsl_shader_type.specs.declared.literal.LiteralInstance.{LiteralInstance}
 use Rattle.wgsl_meaning.specs.declared.fault.Fault.TheVariants.{Name as Named}
 use Rattle.wgsl_meaning.specs.declared.fault.NameFault.TheVariants.{CyclicDecl}
 use Rattle.wgsl_meaning.specs.Values.{Checked}
@@ -41,7 +41,7 @@ either_refused : {A B : Type 0} (o : Result A DeclarationFault) (f : A → Resul
 either_refused (Ok x) f r h = inr (x, h)
 either_refused (Err q) f r h = let same : q ≡ r = cc in inl (ap Err same)
 
-added_here : (cs : Consts) (x : Name) (o : Outcome Value) (r : DeclarationFault) → added cs x o ≡ Err r → r.declaration ≡ x
+added_here : (cs : Consts) (x : Name) (o : Outcome LiteralInstance) (r : DeclarationFault) → added cs x o ≡ Err r → r.declaration ≡ x
 added_here cs x (Done v n) r h = absurd (cc)
 added_here cs x (Failed f) r h = let same : refused x f ≡ r = cc in sym (ap (λ (q : DeclarationFault). q.declaration) same)
 added_here cs x Deep r h = let same : refused x (Named CyclicDecl x) ≡ r = cc in sym (ap (λ (q : DeclarationFault). q.declaration) same)

@@ -1,10 +1,10 @@
 -- Lowering, as code does it: first the value, then the parts.
-use Rattle.std.proofs.Common.{◌≡◌, refl, sym, ap, ◌∙◌, List, [], ◌∷◌, ◌++◌, map, Option, None, Result, Ok, pos}
-use Rattle.std.specs.Prelude.{codes}
+use Rattle.std.proofs.Common.{◌≡◌, refl, sym, ap, ◌∙◌, List, [], ◌∷◌, ◌++◌, map, Option, Some, None, Bool, true, false, Result, Ok, Err, pos}
+use Rattle.std.specs.Prelude.{codes, if◌then◌else◌}
 use Rattle.wgsl_path.specs.declared.span.Spanned.{Spanned}
 use Rattle.wgsl_path.specs.declared.ident.Ident.{Ident}
 use Rattle.wgsl_operators.specs.declared.UnaryOperator.TheVariants.{Negation}
-use Rattle.wgsl_operators.specs.declared.BinaryOperator.TheVariants.{Subtraction}
+use Rattle.wgsl_operators.specs.declared.BinaryOperator.TheVariants.{Subtraction, Equality}
 use Rattle.wgsl_syntax.specs.declared.expression.LiteralExpression.TheVariants.{AbstractInt}
 use Rattle.wgsl_syntax.specs.declared.expression.ParenthesizedExpressionOf.{ParenthesizedExpressionOf}
 use Rattle.wgsl_syntax.specs.declared.expression.UnaryExpressionOf.{UnaryExpressionOf}
@@ -16,19 +16,37 @@ use Rattle.wgsl_syntax.specs.View.{tree, node_tree, type_tree}
 use Rattle.wgsl_syntax.specs.declared.expression.FunctionCallOf.{FunctionCallOf}
 use Rattle.wgsl_syntax.specs.declared.expression.TypeExpressionOf.{TypeExpressionOf}
 use Rattle.wgsl_syntax.proofs.Trees.{tree_of_parenthesized, tree_of_unary, tree_of_binary, tree_of_call}
-use Rattle.wgsl_meaning.specs.Values.{and_then}
-use Rattle.wgsl_meaning.specs.Written.{least_signed, least_abstract}
+use Rattle.wgsl_shader_type.specs.declared.literal.LiteralInstance.{LiteralInstance}
+use Rattle.wgsl_meaning.specs.declared.fault.Fault.{Fault}
+use Rattle.wgsl_meaning.specs.declared.fault.Fault.TheVariants.{Operation, NegativeAttr, Name as Named}
+use Rattle.wgsl_meaning.specs.Values.{Checked, and_then}
+use Rattle.wgsl_meaning.specs.Outcome.{Outcome, Done, Failed, Deep}
+use Rattle.wgsl_meaning.specs.Written.{least_signed, least_abstract, equals_zero}
 use Rattle.wgsl_meaning.specs.Meaning.{value}
 use Rattle.wgsl_meaning.specs.ConstStage.{Scope, stage}
-use Rattle.wgsl_lower.specs.Lowered.{lowered, parts, unless_const}
+use Rattle.wgsl_lower.specs.Lowered.{lacks_value, unless_fault, unless_const, lowered, parts, const_value, written_or}
 
-pub lowered_is : (s : Scope) (e : Exp) → lowered s e ≡ unless_const (value (stage s) [] e) (parts s e)
-lowered_is s (literal l) = refl
-lowered_is s (parenthesized e) = refl
-lowered_is s (unary o e) = refl
-lowered_is s (binary o a b) = refl
-lowered_is s (call f es) = refl
-lowered_is s (named x) = refl
+unless_fault_is : (f : Fault) (p : Checked Exp) → unless_fault f p ≡ and_then (unless_fault f (Ok None)) (written_or p)
+unless_fault_is (Operation e) p = refl
+unless_fault_is (NegativeAttr z) p = refl
+unless_fault_is (Named f x) p = by (lacks_value f)
+  where
+    by : (b : Bool) → (if b then p else Err (Named f x)) ≡ and_then (if b then Ok None else Err (Named f x)) (written_or p)
+    by true = refl
+    by false = refl
+
+unless_const_is : (o : Outcome LiteralInstance) (p : Checked Exp) → unless_const o p ≡ and_then (const_value o) (written_or p)
+unless_const_is (Done v n) p = refl
+unless_const_is (Failed f) p = unless_fault_is f p
+unless_const_is Deep p = refl
+
+pub lowered_is : (s : Scope) (e : Exp) → lowered s e ≡ and_then (const_value (value (stage s) [] e)) (written_or (parts s e))
+lowered_is s (literal l) = unless_const_is (value (stage s) [] (literal l)) (parts s (literal l))
+lowered_is s (parenthesized e) = unless_const_is (value (stage s) [] (parenthesized e)) (parts s (parenthesized e))
+lowered_is s (unary o e) = unless_const_is (value (stage s) [] (unary o e)) (parts s (unary o e))
+lowered_is s (binary o a b) = unless_const_is (value (stage s) [] (binary o a b)) (parts s (binary o a b))
+lowered_is s (call f es) = unless_const_is (value (stage s) [] (call f es)) (parts s (call f es))
+lowered_is s (named x) = unless_const_is (value (stage s) [] (named x)) (parts s (named x))
 
 -- ---- trees of code
 
@@ -44,6 +62,9 @@ pub difference_is : (a b : Spanned Expression) (x y l : Expression) → a.node �
     parenthesized (tree (Binary (record { operator = Subtraction; left = a; right = b }))) ≡ least_abstract
 difference_is a b x y l left_is right_is minus_is literal_is one_is =
     ap parenthesized (tree_of_binary _ ∙ (λ i. binary Subtraction ((ap tree left_is ∙ minus_is ∙ ap (unary Negation) literal_is) i) ((ap tree right_is ∙ one_is) i)))
+
+pub comparison_is : (a b : Spanned Expression) (x y : Expression) → a.node ≡ x → b.node ≡ y → tree x ≡ literal (AbstractInt (pos 0)) → parenthesized (tree (Binary (record { operator = Equality; left = a; right = b }))) ≡ equals_zero (tree y)
+comparison_is a b x y left_is right_is zero_is = ap parenthesized (tree_of_binary _ ∙ (λ i. binary Equality ((ap tree left_is ∙ zero_is) i) (tree (right_is i))))
 
 pub parts_parenthesized : (s : Scope) (x : ParenthesizedExpressionOf Expression) (d : Spanned Expression) → lowered s (node_tree x.expression) ≡ Ok (node_tree d) →
     parts s (tree (Parenthesized x)) ≡ Ok (tree (Parenthesized (record { expression = d })))

@@ -3,13 +3,14 @@ use Rattle.std.proofs.Common.{◌≡◌, ℕ, ◌+◌, ◌≤◌, List, [], ◌�
 use Rattle.std.specs.Prelude.{codes, if◌then◌else◌}
 use Rattle.wgsl_syntax.specs.Tree.{Exp, Typ, Attr, fragment, location, Stm, Block, Param, Decl, variable, function, UnitTree as Module}
 use Rattle.wgsl_syntax.specs.Names.{declared_name}
-use Rattle.wgsl_meaning.specs.declared.value.ShaderStage.{ShaderStage}
-use Rattle.wgsl_meaning.specs.declared.value.ShaderStage.TheVariants.{Const, Exec}
-use Rattle.wgsl_meaning.specs.declared.value.Value.{Value}
-use Rattle.wgsl_meaning.specs.declared.value.NumericType.{NumericType}
+use Rattle.wgsl_enumerations.specs.declared.words.ShaderStage.{ShaderStage}
+use Rattle.wgsl_enumerations.specs.declared.words.ShaderStage.TheVariants.{Const, Exec}
+use Rattle.wgsl_shader_type.specs.declared.literal.LiteralInstance.{LiteralInstance}
+use Rattle.wgsl_scalar.specs.declared.scalar.ScalarType.{ScalarType}
 use Rattle.wgsl_meaning.specs.declared.fault.Fault.TheVariants.{Name as Named}
 use Rattle.wgsl_meaning.specs.declared.fault.NameFault.TheVariants.{NotEntrypoint}
-use Rattle.wgsl_meaning.specs.Values.{Checked, and_then, type_of}
+use Rattle.wgsl_scalar.specs.Scalars.{type_of}
+use Rattle.wgsl_meaning.specs.Values.{Checked, and_then}
 use Rattle.wgsl_meaning.specs.Outcome.{Outcome, Done, Failed, Deep, after, bind, at_once}
 use Rattle.wgsl_meaning.specs.Names.{Name, Symbol, find, find_decl, plain_name, built_in_type}
 use Rattle.wgsl_meaning.specs.Meaning.{Env, Types, World, value, handed_back, returned_by, return_type_of, type_written, body_of, const_in}
@@ -65,10 +66,10 @@ module _ (ds low : List Decl) (cs : Consts) (settled : Settled ds cs) (is_low : 
 
   -- ---- types mean the same
 
-  written_from : (k : ℕ) (t : Typ) (u : NumericType) → type_here ms t ≡ Ok u → type_written (from k Exec) t ≡ Done u 0
+  written_from : (k : ℕ) (t : Typ) (u : ScalarType) → type_here ms t ≡ Ok u → type_written (from k Exec) t ≡ Done u 0
   written_from k t u h = ap at_once h
 
-  written_to : (k : ℕ) (t : Typ) (u : NumericType) → type_here ms t ≡ Ok u → type_written (to k Exec) t ≡ Done u 0
+  written_to : (k : ℕ) (t : Typ) (u : ScalarType) → type_here ms t ≡ Ok u → type_written (to k Exec) t ≡ Done u 0
   written_to k t u h =
       let x = then_ok (plain_name t) (stage ms).type_named u h in
       let b = not_declared x.0 (find_decl x.0 ds) u x.2 in
@@ -76,10 +77,10 @@ module _ (ds low : List Decl) (cs : Consts) (settled : Settled ds cs) (is_low : 
       ∙ ap (λ o. at_once (type_at x.0 (here_if x.0 o))) (gone x.0 b.0)
       ∙ ap at_once b.1
 
-  type_better : (k : ℕ) (t : Typ) (u : NumericType) → type_here ms t ≡ Ok u → Better NumericType (type_written (from k Exec) t) (type_written (to k Exec) t)
+  type_better : (k : ℕ) (t : Typ) (u : ScalarType) → type_here ms t ≡ Ok u → Better ScalarType (type_written (from k Exec) t) (type_written (to k Exec) t)
   type_better k t u h =
-      subst (λ o. Better NumericType o (type_written (to k Exec) t)) (sym (written_from k t u h))
-      (subst (Better NumericType (Done u 0)) (sym (written_to k t u h)) (0, refl, omega arith))
+      subst (λ o. Better ScalarType o (type_written (to k Exec) t)) (sym (written_from k t u h))
+      (subst (Better ScalarType (Done u 0)) (sym (written_to k t u h)) (0, refl, omega arith))
 
   -- ---- locations
 
@@ -100,7 +101,7 @@ module _ (ds low : List Decl) (cs : Consts) (settled : Settled ds cs) (is_low : 
       let same : b.0 ∷ more.0 ≡ bs = cc in
       subst (λ z. Better ℕ (location_of (from k Const) x (location e ∷ rest)) (location_of (to k Const) x z)) same
       (subst (λ z. Better ℕ (location_of (from k Const) x (location e ∷ rest)) (location_of (to k Const) x (z ∷ more.0))) is
-      (kept_better.going_on Value ℕ (value (from k Const) [] e) (value (to k Const) [] d.0) _ _
+      (kept_better.going_on LiteralInstance ℕ (value (from k Const) [] e) (value (to k Const) [] d.0) _ _
       (inside_better ds low cs is_known gone k Const [] refl (clear_declaration ds clear) e d.0 d.1)
       (λ v. kept_better.refl_of ℕ (at_once (attribute_number v)))))
 
@@ -118,8 +119,8 @@ module _ (ds low : List Decl) (cs : Consts) (settled : Settled ds cs) (is_low : 
       subst (λ z. Better Env (inputs_bound (from k Const) (from k Exec) inputs (p ∷ ps)) (inputs_bound (to k Const) (to k Exec) inputs z)) same
       (subst (λ z. Better Env (inputs_bound (from k Const) (from k Exec) inputs (p ∷ ps)) (inputs_bound (to k Const) (to k Exec) inputs (z ∷ more.0))) is
       (kept_better.going_on ℕ Env _ _ _ _ (location_better k p.name p.attributes a.0 a.1) (λ n.
-      kept_better.going_on NumericType Env _ _ _ _ (type_better k p.type t.0 t.1) (λ u.
-      kept_better.going_on Value Env _ _ _ _ (kept_better.refl_of Value (input_at p.name n u (inputs n))) (λ v.
+      kept_better.going_on ScalarType Env _ _ _ _ (type_better k p.type t.0 t.1) (λ u.
+      kept_better.going_on LiteralInstance Env _ _ _ _ (kept_better.refl_of LiteralInstance (input_at p.name n u (inputs n))) (λ v.
       kept_better.going_on Env Env _ _ _ _ (inputs_better k inputs ps more.0 more.1) (λ env. kept_better.refl_of Env (Done ((p.name, v) ∷ env) 0)))))))
 
   env_types : (k : ℕ) (inputs : Inputs) (ps : List Param) (ts : Types) (env : Env) (n : ℕ) → parameter_types ms ps ≡ Ok ts → inputs_bound (from k Const) (from k Exec) inputs ps ≡ Done env n → types_of env ≡ ts
@@ -129,8 +130,8 @@ module _ (ds low : List Decl) (cs : Consts) (settled : Settled ds cs) (is_low : 
       let more = then_ok (parameter_types ms ps) (λ more. Ok ((p.name, t.0) ∷ more)) ts t.2 in
       let listed : (p.name, t.0) ∷ more.0 ≡ ts = cc in
       let l = parts_of ℕ Env (location_of (from k Const) p.name p.attributes) _ env n e in
-      let u = parts_of NumericType Env (type_written (from k Exec) p.type) _ env l.more l.then_is in
-      let v = parts_of Value Env (input_at p.name l.first u.first (inputs l.first)) _ env u.more u.then_is in
+      let u = parts_of ScalarType Env (type_written (from k Exec) p.type) _ env l.more l.then_is in
+      let v = parts_of LiteralInstance Env (input_at p.name l.first u.first (inputs l.first)) _ env u.more u.then_is in
       let rest = parts_of Env Env (inputs_bound (from k Const) (from k Exec) inputs ps) _ env v.more v.then_is in
       let bound : (p.name, v.first) ∷ rest.first ≡ env = cc in
       let type_is : Done u.first u.steps ≡ Done t.0 0 = sym u.first_is ∙ written_from k p.type t.0 t.1 in
@@ -141,11 +142,11 @@ module _ (ds low : List Decl) (cs : Consts) (settled : Settled ds cs) (is_low : 
   -- ---- bodies
 
   module _ (k : ℕ) (env : Env) (clear_i32 : find (codes "i32") (types_of env) ≡ None) (clear_u32 : find (codes "u32") (types_of env) ≡ None) where
-    abbrev Typed : Option Typ → Option NumericType → Type 0
+    abbrev Typed : Option Typ → Option ScalarType → Type 0
     Typed t u = IsTyped ds low cs is_known gone k env clear_i32 clear_u32 (clear_declaration ds clear) t u
 
     record Result' (t : Option Typ) : Type 0 where
-      pub type : Option NumericType
+      pub type : Option ScalarType
       pub is_typed : Typed t type
       pub before : return_type_of (from k Exec) t ≡ Done type 0
       pub later : return_type_of (to k Exec) t ≡ Done type 0
@@ -162,31 +163,31 @@ module _ (ds low : List Decl) (cs : Consts) (settled : Settled ds cs) (is_low : 
         }
 
     body_better : (f : Name) (t : Option Typ) (body body' : List Stm) → checked_type ms t ≡ Ok tt →
-        lowered_statements (record { declarations = ds; consts = cs; parameters = types_of env }) t body ≡ Ok body' → Better (Option Value) (body_of (from k Exec) f t body env) (body_of (to k Exec) f t body' env)
+        lowered_statements (record { declarations = ds; consts = cs; parameters = types_of env }) t body ≡ Ok body' → Better (Option LiteralInstance) (body_of (from k Exec) f t body env) (body_of (to k Exec) f t body' env)
     body_better f t body body' type_is is =
         let r = result_typed t type_is in
-        let rest : Better (Option Value) (bind (returned_by (from k Exec) env body) (handed_back f r.type)) (bind (returned_by (to k Exec) env body') (handed_back f r.type)) =
+        let rest : Better (Option LiteralInstance) (bind (returned_by (from k Exec) env body) (handed_back f r.type)) (bind (returned_by (to k Exec) env body') (handed_back f r.type)) =
         statements_better ds low cs is_known gone k env clear_i32 clear_u32 (clear_declaration ds clear) f t r.type body body' r.is_typed is in
-        subst (λ o. Better (Option Value) (bind o (λ u. bind (returned_by (from k Exec) env body) (λ v. handed_back f u v))) (body_of (to k Exec) f t body' env)) (sym r.before)
-        (subst (λ o. Better (Option Value) (after 0 (bind (returned_by (from k Exec) env body) (handed_back f r.type))) (bind o (λ u. bind (returned_by (to k Exec) env body') (λ v. handed_back f u v)))) (sym r.later)
-        (better_after (Option Value) _ _ 0 0 (omega arith) rest))
+        subst (λ o. Better (Option LiteralInstance) (bind o (λ u. bind (returned_by (from k Exec) env body) (λ v. handed_back f u v))) (body_of (to k Exec) f t body' env)) (sym r.before)
+        (subst (λ o. Better (Option LiteralInstance) (after 0 (bind (returned_by (from k Exec) env body) (handed_back f r.type))) (bind o (λ u. bind (returned_by (to k Exec) env body') (λ v. handed_back f u v)))) (sym r.later)
+        (better_after (Option LiteralInstance) _ _ 0 0 (omega arith) rest))
 
   -- ---- entry points
 
-  staged : (b c : Bool) (f : Name) (o p : Outcome (Option Value)) → b ≡ c → Better (Option Value) o p →
-      Better (Option Value) (if b then o else Failed (Named NotEntrypoint f)) (if c then p else Failed (Named NotEntrypoint f))
-  staged b c f o p e h = subst (λ z. Better (Option Value) (if b then o else Failed (Named NotEntrypoint f)) (if z then p else Failed (Named NotEntrypoint f))) e (by b)
+  staged : (b c : Bool) (f : Name) (o p : Outcome (Option LiteralInstance)) → b ≡ c → Better (Option LiteralInstance) o p →
+      Better (Option LiteralInstance) (if b then o else Failed (Named NotEntrypoint f)) (if c then p else Failed (Named NotEntrypoint f))
+  staged b c f o p e h = subst (λ z. Better (Option LiteralInstance) (if b then o else Failed (Named NotEntrypoint f)) (if z then p else Failed (Named NotEntrypoint f))) e (by b)
     where
-      by : (b : Bool) → Better (Option Value) (if b then o else Failed (Named NotEntrypoint f)) (if b then p else Failed (Named NotEntrypoint f))
+      by : (b : Bool) → Better (Option LiteralInstance) (if b then o else Failed (Named NotEntrypoint f)) (if b then p else Failed (Named NotEntrypoint f))
       by true = h
       by false = tt
 
   function_better : (k : ℕ) (x : Name) (inputs : Inputs) (as' : List Attr) (f : Name) (ps : List Param) (rs : List Attr) (t : Option Typ) (b : Block) (d : Decl) → ClearParameters ps → IsLowered ms as' f ps rs t b d →
-      Better (Option Value) (entered (from k Const) (from k Exec) x (Some (function as' f ps rs t b)) inputs) (entered (to k Const) (to k Exec) x (Some d) inputs)
+      Better (Option LiteralInstance) (entered (from k Const) (from k Exec) x (Some (function as' f ps rs t b)) inputs) (entered (to k Const) (to k Exec) x (Some d) inputs)
   function_better k x inputs as' f ps rs t b d c l =
-      subst (λ z. Better (Option Value) (entered (from k Const) (from k Exec) x (Some (function as' f ps rs t b)) inputs) (entered (to k Const) (to k Exec) x (Some z) inputs)) l.is
+      subst (λ z. Better (Option LiteralInstance) (entered (from k Const) (from k Exec) x (Some (function as' f ps rs t b)) inputs) (entered (to k Const) (to k Exec) x (Some z) inputs)) l.is
       (staged (has_stage as') (has_stage l.attributes) x _ _ (has_stage_same ms as' l.attributes l.attributes_are)
-      (better_from Env (Option Value) _ _ _ _ (inputs_better k inputs ps l.parameters l.parameters_are) (λ env n e.
+      (better_from Env (Option LiteralInstance) _ _ _ _ (inputs_better k inputs ps l.parameters l.parameters_are) (λ env n e.
       let types : types_of env ≡ l.types = env_types k inputs ps l.types env n l.types_are e in
       body_better k env
       (ap (find (codes "i32")) types ∙ clear_types (codes "i32") ms ps l.types (λ p c e. c.0 e) c l.types_are)
@@ -194,12 +195,12 @@ module _ (ds low : List Decl) (cs : Consts) (settled : Settled ds cs) (is_low : 
       x t b.statements l.block.statements l.type_is
       (ap (λ z. lowered_statements (record { declarations = ds; consts = cs; parameters = z }) t b.statements) types ∙ l.statements_are))))
 
-  entered_better : (k : ℕ) (x : Name) (inputs : Inputs) (d : Option Decl) → find_decl x ds ≡ d → Better (Option Value) (entered (from k Const) (from k Exec) x d inputs) (entered (to k Const) (to k Exec) x (find_decl x low) inputs)
+  entered_better : (k : ℕ) (x : Name) (inputs : Inputs) (d : Option Decl) → find_decl x ds ≡ d → Better (Option LiteralInstance) (entered (from k Const) (from k Exec) x d inputs) (entered (to k Const) (to k Exec) x (find_decl x low) inputs)
   entered_better k x inputs None e = tt
   entered_better k x inputs (Some (variable attributes kind y type i)) e = tt
   entered_better k x inputs (Some (function as' f ps rs t b)) e =
       let l = found_too ms ds low is_low x as' f ps rs t b e in
-      subst (λ z. Better (Option Value) (entered (from k Const) (from k Exec) x (Some (function as' f ps rs t b)) inputs) (entered (to k Const) (to k Exec) x z inputs)) (sym l.1)
+      subst (λ z. Better (Option LiteralInstance) (entered (from k Const) (from k Exec) x (Some (function as' f ps rs t b)) inputs) (entered (to k Const) (to k Exec) x z inputs)) (sym l.1)
       (function_better k x inputs as' f ps rs t b l.0 (clear_found ds x as' f ps rs t b clear e) l.2)
 
   -- ---- runs
@@ -217,14 +218,14 @@ module _ (ds low : List Decl) (cs : Consts) (settled : Settled ds cs) (is_low : 
 
   pub keeps : Keeps ds low
   keeps f k inputs =
-      kept_better.going_on (Unit {0}) (Option Value) (started (plain ds) k (map (λ d. here (declared_name d)) ds)) (started (plain low) k (map (λ d. here (declared_name d)) low)) _ _
+      kept_better.going_on (Unit {0}) (Option LiteralInstance) (started (plain ds) k (map (λ d. here (declared_name d)) ds)) (started (plain low) k (map (λ d. here (declared_name d)) low)) _ _
       (subst (Better (Unit {0}) (started (plain ds) k (map (λ d. here (declared_name d)) ds))) (sym (nothing_starts k low)) (any_start _))
       (λ u. entered_better k f inputs (find_decl f ds) refl)
 
 -- ---- the consts of the start are settled
 
 module _ (ds : List Decl) where
-  settled_added : (cs more : Consts) (x : Name) (o : Outcome Value) → Settled ds cs → const_in (stage (module_scope ds cs)) x (find_decl x ds) ≡ o → added cs x o ≡ Ok more → Settled ds more
+  settled_added : (cs more : Consts) (x : Name) (o : Outcome LiteralInstance) → Settled ds cs → const_in (stage (module_scope ds cs)) x (find_decl x ds) ≡ o → added cs x o ≡ Ok more → Settled ds more
   settled_added cs more x (Done v n) h e is = let same : cs ++ (x, v) ∷ [] ≡ more = cc in subst (Settled ds) same (another cs x v n h e)
   settled_added cs more x (Failed f) h e is = absurd (cc)
   settled_added cs more x Deep h e is = absurd (cc)

@@ -6,13 +6,16 @@ use Rattle.std.specs.Cmp.Lexicographic.{same_text}
 use Rattle.wgsl_syntax.specs.Tree.{Exp, Typ, Attr, fragment, location, Stm, Block, Param, Decl, variable, function, UnitTree as Module}
 use Rattle.wgsl_syntax.specs.declared.declaration.DeclarationKind.{DeclarationKind}
 use Rattle.wgsl_syntax.specs.Names.{declared_name}
-use Rattle.wgsl_meaning.specs.declared.value.ShaderStage.{ShaderStage}
-use Rattle.wgsl_meaning.specs.declared.value.ShaderStage.TheVariants.{Const, Exec}
-use Rattle.wgsl_meaning.specs.declared.value.Value.{Value}
-use Rattle.wgsl_meaning.specs.declared.value.NumericType.{NumericType}
-use Rattle.wgsl_meaning.specs.declared.value.NumericType.TheVariants.{AbstractInt, I32, U32}
+use Rattle.wgsl_enumerations.specs.declared.words.ShaderStage.{ShaderStage}
+use Rattle.wgsl_enumerations.specs.declared.words.ShaderStage.TheVariants.{Const, Exec}
+use Rattle.wgsl_shader_type.specs.declared.literal.LiteralInstance.{LiteralInstance}
+use Rattle.wgsl_scalar.specs.declared.scalar.ScalarType.{ScalarType}
+use Rattle.wgsl_scalar.specs.declared.scalar.ScalarType.TheVariants.{Bool as Truth, Integer}
+use Rattle.wgsl_scalar.specs.declared.scalar.IntegerType.{IntegerType}
+use Rattle.wgsl_scalar.specs.declared.scalar.IntegerType.TheVariants.{AbstractInt, I32, U32}
 use Rattle.wgsl_meaning.specs.declared.fault.Fault.{Fault}
-use Rattle.wgsl_meaning.specs.Values.{Checked, and_then, type_of, is_same_type}
+use Rattle.wgsl_scalar.specs.Scalars.{type_of}
+use Rattle.wgsl_meaning.specs.Values.{Checked, and_then, is_same_integer, is_same_type}
 use Rattle.wgsl_meaning.specs.Outcome.{Outcome, Done, Failed, Deep, after, bind, at_once}
 use Rattle.wgsl_meaning.specs.Names.{Name, Symbol, find, find_decl, plain_name, built_in_type}
 use Rattle.wgsl_meaning.specs.Meaning.{Env, Types, World, value, handed_back, returned_by, return_type_of, type_written, body_of}
@@ -189,7 +192,7 @@ clear_types y s (p ∷ ps) ts never c h =
     let same : (p.name, t.0) ∷ more.0 ≡ ts = cc in
     ap (find y) (sym same) ∙ at (bytes_eq y p.name) refl t.0 more.0 (clear_types y s ps more.0 never c.1 more.1)
   where
-    at : (b : Bool) → bytes_eq y p.name ≡ b → (t : NumericType) (more : Types) → find y more ≡ None → (if b then Some t else find y more) ≡ None
+    at : (b : Bool) → bytes_eq y p.name ≡ b → (t : ScalarType) (more : Types) → find y more ≡ None → (if b then Some t else find y more) ≡ None
     at true e t more go = absurd (never p c.0 (sym (same_text y p.name (sym e))))
     at false e t more go = go
 
@@ -212,21 +215,21 @@ parts_of A B (Done x n) f y m e = let r = after_done n (f x) y m e in record { f
 parts_of A B (Failed g) f y m e = absurd (cc)
 parts_of A B Deep f y m e = absurd (cc)
 
-pub same_type : (a b : NumericType) → is_same_type a b ≡ true → a ≡ b
-same_type AbstractInt AbstractInt e = refl
-same_type AbstractInt I32 e = absurd (cc)
-same_type AbstractInt U32 e = absurd (cc)
-same_type I32 AbstractInt e = absurd (cc)
-same_type I32 I32 e = refl
-same_type I32 U32 e = absurd (cc)
-same_type U32 AbstractInt e = absurd (cc)
-same_type U32 I32 e = absurd (cc)
-same_type U32 U32 e = refl
+same_integer : (a b : IntegerType) → is_same_integer a b ≡ true → a ≡ b
+same_integer AbstractInt AbstractInt e = refl
+same_integer I32 I32 e = refl
+same_integer U32 U32 e = refl
+same_integer a b e = absurd (cc)
 
-input_either : (b : Bool) (w v : Value) (t : NumericType) (f : Fault) (m : ℕ) → is_same_type (type_of w) t ≡ b → (if b then Done w 0 else Failed f) ≡ Done v m → type_of v ≡ t
+pub same_type : (a b : ScalarType) → is_same_type a b ≡ true → a ≡ b
+same_type Truth Truth e = refl
+same_type (Integer a) (Integer b) e = ap Integer (same_integer a b e)
+same_type a b e = absurd (cc)
+
+input_either : (b : Bool) (w v : LiteralInstance) (t : ScalarType) (f : Fault) (m : ℕ) → is_same_type (type_of w) t ≡ b → (if b then Done w 0 else Failed f) ≡ Done v m → type_of v ≡ t
 input_either true w v t f m is e = let same : w ≡ v = cc in ap type_of (sym same) ∙ same_type (type_of w) t is
 input_either false w v t f m is e = absurd (cc)
 
-pub input_type : (x : Name) (n : ℕ) (t : NumericType) (o : Option Value) (v : Value) (m : ℕ) → input_at x n t o ≡ Done v m → type_of v ≡ t
+pub input_type : (x : Name) (n : ℕ) (t : ScalarType) (o : Option LiteralInstance) (v : LiteralInstance) (m : ℕ) → input_at x n t o ≡ Done v m → type_of v ≡ t
 input_type x n t None v m e = absurd (cc)
 input_type x n t (Some w) v m e = input_either (is_same_type (type_of w) t) w v t _ m refl e

@@ -4,7 +4,7 @@ use Rattle.wgsl_syntax.specs.Tree.{Attr, Block, Param, Decl, variable, function,
 use Rattle.wgsl_meaning.specs.Names.{Name, find_decl}
 use Rattle.wgsl_meaning.specs.Programs.{Inputs, plain, here, run}
 use Rattle.wgsl_meaning.specs.Compare.{Better}
-use Rattle.wgsl_meaning.specs.declared.value.Value.{Value}
+use Rattle.wgsl_shader_type.specs.declared.literal.LiteralInstance.{LiteralInstance}
 
 abbrev pub is_clear : Name → Type 0
 is_clear x = (x ≡ codes "i32" → ⊥) × (x ≡ codes "u32" → ⊥)
@@ -24,4 +24,4 @@ AreClear (d ∷ ds) = IsClear d × AreClear ds
 
 -- every run of a function that ends well, ends well after with the same answer in no more steps
 abbrev pub Keeps : List Decl → List Decl → Type 0
-Keeps ds low = (f : Name) (k : ℕ) (inputs : Inputs) → Better (Option Value) (run (plain ds) k (here f) inputs) (run (plain low) k (here f) inputs)
+Keeps ds low = (f : Name) (k : ℕ) (inputs : Inputs) → Better (Option LiteralInstance) (run (plain ds) k (here f) inputs) (run (plain low) k (here f) inputs)

@@ -3,11 +3,12 @@
 use Rattle.std.specs.Prelude.{◌≡◌, ℕ, List, [], ◌∷◌, ◌++◌, Option, Some, None, Bool, true, false, Result, Ok, Err, if◌then◌else◌}
 use Rattle.wgsl_syntax.specs.Tree.{Exp, Exps, literal, parenthesized, unary, binary, call, named, nil, cons, exps, Typ, Attr, fragment, location, Stm, returning, Block, Param, Decl, variable, function, UnitTree as Module}
 use Rattle.wgsl_syntax.specs.declared.declaration.DeclarationKind.{DeclarationKind}
-use Rattle.wgsl_meaning.specs.declared.value.Value.{Value}
-use Rattle.wgsl_meaning.specs.declared.value.NumericType.{NumericType}
-use Rattle.wgsl_meaning.specs.declared.value.NumericType.TheVariants.{AbstractInt, I32, U32}
+use Rattle.wgsl_shader_type.specs.declared.literal.LiteralInstance.{LiteralInstance}
+use Rattle.wgsl_scalar.specs.declared.scalar.ScalarType.{ScalarType}
+use Rattle.wgsl_scalar.specs.declared.scalar.ScalarType.TheVariants.{Bool as Truth, Integer}
+use Rattle.wgsl_scalar.specs.declared.scalar.IntegerType.TheVariants.{AbstractInt, I32, U32}
 use Rattle.wgsl_meaning.specs.declared.fault.Fault.{Fault}
-use Rattle.wgsl_meaning.specs.declared.fault.Fault.TheVariants.{Number, Name as Named}
+use Rattle.wgsl_meaning.specs.declared.fault.Fault.TheVariants.{Operation, NegativeAttr, Name as Named}
 use Rattle.wgsl_meaning.specs.declared.fault.NameFault.{NameFault}
 use Rattle.wgsl_meaning.specs.declared.fault.NameFault.TheVariants.{NotAccessible, NotConst}
 use Rattle.wgsl_meaning.specs.Values.{Checked, and_then}
@@ -29,17 +30,18 @@ lacks_value NotAccessible = true
 lacks_value NotConst = true
 lacks_value f = false
 
-abbrev pub unless_fault : Fault → Checked Exp → Checked Exp
-unless_fault (Number f) parts = Err (Number f)
+abbrev pub unless_fault : {A : Type 0} → Fault → Checked A → Checked A
+unless_fault (Operation f) parts = Err (Operation f)
+unless_fault (NegativeAttr z) parts = Err (NegativeAttr z)
 unless_fault (Named f x) parts = if lacks_value f then parts else Err (Named f x)
 
 -- the written value; where there is none, the parts
-abbrev pub unless_const : Outcome Value → Checked Exp → Checked Exp
+abbrev pub unless_const : Outcome LiteralInstance → Checked Exp → Checked Exp
 unless_const (Done v n) parts = Ok (written v)
 unless_const (Failed f) parts = unless_fault f parts
 unless_const Deep parts = parts
 
-abbrev pub callee_here : Scope → Typ → Checked NumericType
+abbrev pub callee_here : Scope → Typ → Checked ScalarType
 callee_here s f = and_then (plain_name f) (callee_of s)
 
 -- outermost constant expressions are written as their values. A call that isn't constant is a constructor's; of functions it isn't
@@ -69,10 +71,11 @@ parts s (named x) = Ok (named x)
 -- ---- what a function returns
 
 -- an abstract number that is returned gets the constructor of the function's type
-abbrev pub constructor_call : Typ → Exp → Outcome NumericType → Checked Exp
-constructor_call t e (Done AbstractInt n) = Ok (call t (cons e nil))
-constructor_call t e (Done I32 n) = Ok e
-constructor_call t e (Done U32 n) = Ok e
+abbrev pub constructor_call : Typ → Exp → Outcome ScalarType → Checked Exp
+constructor_call t e (Done (Integer AbstractInt) n) = Ok (call t (cons e nil))
+constructor_call t e (Done (Integer I32) n) = Ok e
+constructor_call t e (Done (Integer U32) n) = Ok e
+constructor_call t e (Done Truth n) = Ok e
 constructor_call t e (Failed f) = Err f
 constructor_call t e Deep = Ok e
 
@@ -94,7 +97,7 @@ lowered_attributes s [] = Ok []
 lowered_attributes s (a ∷ rest) = and_then (lowered_attribute s a) (λ b. and_then (lowered_attributes s rest) (λ more. Ok (b ∷ more)))
 
 -- a type that is evaluated
-abbrev pub type_here : Scope → Typ → Checked NumericType
+abbrev pub type_here : Scope → Typ → Checked ScalarType
 type_here s t = and_then (plain_name t) (stage s).type_named
 
 abbrev pub lowered_parameter : Scope → Param → Checked Param
@@ -170,8 +173,19 @@ lowered_unit u =
 
 abbrev pub lacks : OrOutOfMemory Fault → Bool
 lacks OutOfMemory = false
-lacks (Error (Number f)) = false
+lacks (Error (Operation f)) = false
+lacks (Error (NegativeAttr z)) = false
 lacks (Error (Named f x)) = lacks_value f
+
+-- the value of an expression, if it has one
+abbrev pub const_value : Outcome LiteralInstance → Checked (Option LiteralInstance)
+const_value (Done v n) = Ok (Some v)
+const_value (Failed f) = unless_fault f (Ok None)
+const_value Deep = Ok None
+
+abbrev pub written_or : Checked Exp → Option LiteralInstance → Checked Exp
+written_or parts (Some v) = Ok (written v)
+written_or parts None = parts
 
 -- these first
 abbrev pub prepended : {A : Type 0} → List A → Checked (List A) → Checked (List A)

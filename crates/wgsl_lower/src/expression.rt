@@ -1,8 +1,10 @@
 //! Lowered expressions.
 
-ghost use Rattle.std.specs.Prelude.{◌≡◌, map, IsTrue, ◌↔◌};
+ghost use Rattle.std.specs.Prelude.{◌≡◌, [], map, IsTrue, ◌↔◌};
 ghost use Rattle.wgsl_syntax.specs.Tree.{exps};
 ghost use Rattle.wgsl_syntax.specs.View.{tree, node_tree, call_layer};
+ghost use Rattle.wgsl_meaning.specs.Meaning.{value};
+ghost use Rattle.wgsl_meaning.specs.ConstStage.{stage};
 ghost use Rattle.wgsl_eval.specs.Ends.{Gives};
 ghost use Rattle.wgsl_eval.specs.Scopes.{scope_of};
 ghost use Rattle.wgsl_lower.specs.Lowered as spec;
@@ -11,6 +13,7 @@ use crate::write::to_expr;
 use std::alloc::Global;
 use wgsl_eval::{EvalError, Fault, NameFault, Scope, callee, eval_value, plain_name};
 use wgsl_items::{Boxed, CloneIn, Items, OrOutOfMemory};
+use wgsl_shader_type::LiteralInstance;
 use wgsl_syntax::{
     BinaryExpression, Expression, ExpressionNode, FunctionCall, ParenthesizedExpression, Spanned,
     UnaryExpression,
@@ -26,6 +29,26 @@ fn lacks_value(error: &EvalError) -> bool
     )
 }
 
+// The value of an expression at the const stage, if it has one.
+fn const_value(
+    alloc: Global,
+    scope: &Scope<'_>,
+    expression: &Expression,
+) -> Result<Option<LiteralInstance>, EvalError>
+    ensures { Gives (λ v. v) (spec.const_value (value (stage (scope_of scope.now)) [] (tree expression.now))) result }
+{
+    match eval_value(alloc, scope, expression) {
+        Ok(value) => Ok(Some(value)),
+        Err(error) => {
+            if lacks_value(&error) {
+                Ok(None)
+            } else {
+                Err(error)
+            }
+        }
+    }
+}
+
 /// The expression with outermost constant expressions written as their values.
 #[cycle(lowering)]
 #[tactic(auto, using(crate::proofs::Parts::lowered_is))]
@@ -36,20 +59,11 @@ pub fn lowered(
 ) -> Result<ExpressionNode, EvalError>
     ensures { Gives node_tree (spec.lowered (scope_of scope.now) (node_tree node.now)) result }
 {
-    match eval_value(alloc, scope, node.node()) {
-        Ok(value) => {
-            let written = to_expr(alloc, value, node.span())?;
-            Ok(Spanned::new(alloc, written, node.span())?)
-        }
-        Err(error) => {
-            if lacks_value(&error) {
-                let parts = parts(alloc, scope, node.node())?;
-                Ok(Spanned::new(alloc, parts, node.span())?)
-            } else {
-                Err(error)
-            }
-        }
-    }
+    let expression = match const_value(alloc, scope, node.node())? {
+        Some(value) => to_expr(alloc, value, node.span())?,
+        None => parts(alloc, scope, node.node())?,
+    };
+    Ok(Spanned::new(alloc, expression, node.span())?)
 }
 
 #[cycle(lowering)]

@@ -13,8 +13,9 @@ ghost use Rattle.wgsl_lower.specs.Nodes.{lowered_with};
 
 use crate::expression::lowered;
 use std::alloc::Global;
-use wgsl_eval::{EvalError, NumericType, Scope, eval_ty, ty_eval_ty};
+use wgsl_eval::{EvalError, Scope, eval_ty, ty_eval_ty};
 use wgsl_items::{Boxed, CloneIn, Items, Text};
+use wgsl_scalar::{IntegerType, ScalarType};
 use wgsl_syntax::{
     Attribute, AttributeNode, Attributes, CompoundStatement, Expression, ExpressionNode,
     FormalParameter, Function, FunctionCall, ReturnStatement, Spanned, Statement, StatementNode,
@@ -51,8 +52,8 @@ fn converted(
         return Ok(node.clone_in(alloc)?);
     };
     match eval_ty(alloc, scope, node.node())? {
-        NumericType::AbstractInt => constructor_call(alloc, ty, node),
-        NumericType::I32 | NumericType::U32 => Ok(node.clone_in(alloc)?),
+        ScalarType::Integer(IntegerType::AbstractInt) => constructor_call(alloc, ty, node),
+        _ => Ok(node.clone_in(alloc)?),
     }
 }
 
@@ -132,7 +133,7 @@ fn parameter_types(
     alloc: Global,
     scope: &Scope<'_>,
     parameters: &[FormalParameter],
-) -> Result<Items<(Text, NumericType)>, EvalError>
+) -> Result<Items<(Text, ScalarType)>, EvalError>
     ensures { Gives (λ types. types) (spec.parameter_types (scope_of scope.now) (map parameter_tree parameters.now)) result }
 {
     let mut done = Items::new(alloc);
@@ -217,7 +218,7 @@ fn lowered_rest(
     scope: &Scope<'_>,
     attributes: Attributes,
     parameters: Items<FormalParameter>,
-    types: &[(Text, NumericType)],
+    types: &[(Text, ScalarType)],
     function: &Function,
 ) -> Result<Function, EvalError>
     ensures { Gives (λ f. declaration_tree (TheFunction f)) (lowered_with (scope_of scope.now) attributes parameters types.now function.now) result }

@@ -3,12 +3,12 @@
 ghost use Rattle.std.specs.Prelude.{◌≡◌, IfOk, ◌<ℤ◌, ◌≤ℤ◌, pos, neg_ℤ};
 ghost use Rattle.wgsl_syntax.specs.Tree as T;
 ghost use Rattle.wgsl_syntax.specs.View.{tree};
-ghost use Rattle.wgsl_meaning.specs.Written.{written, negative, least_abstract, least_signed};
-ghost use Rattle.wgsl_meaning.specs.declared.value.Value.TheVariants as V;
+ghost use Rattle.wgsl_meaning.specs.Written.{written, negative, least_abstract, least_signed, equals_zero};
+ghost use Rattle.wgsl_shader_type.specs.declared.literal.LiteralInstance.TheVariants as V;
 
 use std::alloc::{AllocError, Global};
-use wgsl_eval::Value;
 use wgsl_items::{Boxed, Items, Text};
+use wgsl_shader_type::LiteralInstance;
 use wgsl_syntax::{
     BinaryExpression, BinaryOperator, Expression, FunctionCall, Ident, LiteralExpression,
     ParenthesizedExpression, Span, Spanned, TypeExpression, UnaryExpression, UnaryOperator,
@@ -103,13 +103,31 @@ fn written_signed(alloc: Global, z: i32, span: Span) -> Result<Expression, Alloc
     }
 }
 
-/// The expression that is written for a value: a literal, or in parentheses where the number is negative. Each node gets the place.
-pub fn to_expr(alloc: Global, value: Value, span: Span) -> Result<Expression, AllocError>
+// `(0 == number)`
+#[tactic(auto, using(wgsl_syntax::proofs::Trees::tree_of_binary))]
+fn equals_zero(alloc: Global, number: Expression, span: Span) -> Result<Expression, AllocError>
+    ensures { IfOk result (λ e. tree e ≡ equals_zero (tree number)) }
+{
+    let left = Spanned::new(alloc, abstract_literal(0), span)?;
+    let right = Spanned::new(alloc, number, span)?;
+    let comparison = Expression::Binary(BinaryExpression {
+        operator: BinaryOperator::Equality,
+        left,
+        right,
+    });
+    parenthesized(alloc, comparison, span)
+}
+
+/// The expression that is written for a value: a literal, or in parentheses where the number is negative. Trees have no literals
+/// of truth values yet: those are a comparison of literals. Each node gets the place.
+pub fn to_expr(alloc: Global, value: LiteralInstance, span: Span) -> Result<Expression, AllocError>
     ensures { IfOk result (λ e. tree e ≡ written value) }
 {
     match value {
-        Value::AbstractInt(z) => written_abstract(alloc, z, span),
-        Value::I32(z) => written_signed(alloc, z, span),
-        Value::U32(n) => Ok(Expression::Literal(LiteralExpression::U32(n))),
+        LiteralInstance::AbstractInt(z) => written_abstract(alloc, z, span),
+        LiteralInstance::I32(z) => written_signed(alloc, z, span),
+        LiteralInstance::U32(n) => Ok(Expression::Literal(LiteralExpression::U32(n))),
+        LiteralInstance::Bool(true) => equals_zero(alloc, abstract_literal(0), span),
+        LiteralInstance::Bool(false) => equals_zero(alloc, abstract_literal(1), span),
     }
 }

@@ -3,9 +3,10 @@ use Rattle.std.proofs.Common.{List, [], ◌∷◌}
 use Rattle.wgsl_operators.specs.declared.UnaryOperator.{UnaryOperator}
 use Rattle.wgsl_operators.specs.declared.BinaryOperator.{BinaryOperator}
 use Rattle.wgsl_syntax.specs.Tree.{Exp, Exps, literal, parenthesized, unary, binary, call, named, nil, cons, Typ}
-use Rattle.wgsl_meaning.specs.declared.value.Value.{Value}
-use Rattle.wgsl_meaning.specs.declared.value.ShaderStage.{ShaderStage}
-use Rattle.wgsl_meaning.specs.Values.{literal_value, unary_value, binary_value}
+use Rattle.wgsl_shader_type.specs.declared.literal.LiteralInstance.{LiteralInstance}
+use Rattle.wgsl_enumerations.specs.declared.words.ShaderStage.{ShaderStage}
+use Rattle.wgsl_scalar.specs.Operators.{unary_value, binary_value}
+use Rattle.wgsl_meaning.specs.Values.{literal_value}
 use Rattle.wgsl_meaning.specs.Outcome.{Outcome, Done, Failed, Deep, bind, computed}
 use Rattle.wgsl_meaning.specs.Names.{plain_name}
 use Rattle.wgsl_meaning.specs.Meaning.{Env, World, value_here, result_here, value, values}
@@ -18,37 +19,37 @@ pub record Kept (R : (A : Type 0) → Outcome A → Outcome A → Type 0) : Type
 
 -- the operators of two stages are related
 pub record StagesMeet (R : (A : Type 0) → Outcome A → Outcome A → Type 0) (s t : ShaderStage) : Type 0 where
-  pub by_unary : (o : UnaryOperator) (x : Value) → R Value (computed (unary_value s o x)) (computed (unary_value t o x))
-  pub by_binary : (o : BinaryOperator) (x y : Value) → R Value (computed (binary_value s o x y)) (computed (binary_value t o x y))
+  pub by_unary : (o : UnaryOperator) (x : LiteralInstance) → R LiteralInstance (computed (unary_value s o x)) (computed (unary_value t o x))
+  pub by_binary : (o : BinaryOperator) (x y : LiteralInstance) → R LiteralInstance (computed (binary_value s o x y)) (computed (binary_value t o x y))
 
 pub same_stage : (R : (A : Type 0) → Outcome A → Outcome A → Type 0) → Kept R → (s : ShaderStage) → StagesMeet R s s
-same_stage R kept s = record { by_unary = λ o x. kept.refl_of Value _; by_binary = λ o x y. kept.refl_of Value _ }
+same_stage R kept s = record { by_unary = λ o x. kept.refl_of LiteralInstance _; by_binary = λ o x y. kept.refl_of LiteralInstance _ }
 
 module _ (R : (A : Type 0) → Outcome A → Outcome A → Type 0) (kept : Kept R)
     (N C : Typ → Typ → Type 0) (K : Exp → Exp → Type 0) (w u : World) (env env' : Env)
     (stages : StagesMeet R w.stage u.stage)
-    (by_name : (x y : Typ) → N x y → R Value (value_here w env (plain_name x)) (value_here u env' (plain_name y)))
-    (by_call : (f g : Typ) (vs : List Value) → C f g → R Value (result_here w env (plain_name f) vs) (result_here u env' (plain_name g) vs))
-    (by_replaced : (e d : Exp) → K e d → R Value (value w env e) (value u env' d)) where
+    (by_name : (x y : Typ) → N x y → R LiteralInstance (value_here w env (plain_name x)) (value_here u env' (plain_name y)))
+    (by_call : (f g : Typ) (vs : List LiteralInstance) → C f g → R LiteralInstance (result_here w env (plain_name f) vs) (result_here u env' (plain_name g) vs))
+    (by_replaced : (e d : Exp) → K e d → R LiteralInstance (value w env e) (value u env' d)) where
   mutual
-    pub simulates : (e d : Exp) → Follows N C K e d → R Value (value w env e) (value u env' d)
-    simulates e d (keeps_literal {l = l}) = kept.refl_of Value (Done (literal_value l) 0)
+    pub simulates : (e d : Exp) → Follows N C K e d → R LiteralInstance (value w env e) (value u env' d)
+    simulates e d (keeps_literal {l = l}) = kept.refl_of LiteralInstance (Done (literal_value l) 0)
     simulates e d (keeps_parentheses {a = a} {b = b} f) = simulates a b f
     simulates e d (keeps_unary {o = o} {a = a} {b = b} f) =
-        kept.going_on Value Value (value w env a) (value u env' b) _ _ (simulates a b f) (λ x. stages.by_unary o x)
+        kept.going_on LiteralInstance LiteralInstance (value w env a) (value u env' b) _ _ (simulates a b f) (λ x. stages.by_unary o x)
     simulates e d (keeps_binary {o = o} {a = a} {b = b} {c = c} {d = d'} f g) =
-        kept.going_on Value Value (value w env a) (value u env' b) _ _ (simulates a b f) (λ x.
-        kept.going_on Value Value (value w env c) (value u env' d') _ _ (simulates c d' g) (λ y. stages.by_binary o x y))
+        kept.going_on LiteralInstance LiteralInstance (value w env a) (value u env' b) _ _ (simulates a b f) (λ x.
+        kept.going_on LiteralInstance LiteralInstance (value w env c) (value u env' d') _ _ (simulates c d' g) (λ y. stages.by_binary o x y))
     simulates e d (keeps_call {f = f} {g = g} {es = es} {ds = ds} c fs) =
-        kept.going_on (List Value) Value (values w env es) (values u env' ds) _ _ (simulate_all es ds fs) (λ vs. by_call f g vs c)
+        kept.going_on (List LiteralInstance) LiteralInstance (values w env es) (values u env' ds) _ _ (simulate_all es ds fs) (λ vs. by_call f g vs c)
     simulates e d (keeps_name {x = x} {y = y} n) = by_name x y n
     simulates e d (replaces k) = by_replaced e d k
 
-    pub simulate_all : (es ds : Exps) → FollowAll N C K es ds → R (List Value) (values w env es) (values u env' ds)
-    simulate_all es ds no_more = kept.refl_of (List Value) (Done [] 0)
+    pub simulate_all : (es ds : Exps) → FollowAll N C K es ds → R (List LiteralInstance) (values w env es) (values u env' ds)
+    simulate_all es ds no_more = kept.refl_of (List LiteralInstance) (Done [] 0)
     simulate_all es ds (one_more {e = e} {d = d} {es = es'} {ds = ds'} f fs) =
-        kept.going_on Value (List Value) (value w env e) (value u env' d) _ _ (simulates e d f) (λ x.
-        kept.going_on (List Value) (List Value) (values w env es') (values u env' ds') _ _ (simulate_all es' ds' fs) (λ xs. kept.refl_of (List Value) (Done (x ∷ xs) 0)))
+        kept.going_on LiteralInstance (List LiteralInstance) (value w env e) (value u env' d) _ _ (simulates e d f) (λ x.
+        kept.going_on (List LiteralInstance) (List LiteralInstance) (values w env es') (values u env' ds') _ _ (simulate_all es' ds' fs) (λ xs. kept.refl_of (List LiteralInstance) (Done (x ∷ xs) 0)))
 
 -- a tree follows itself
 module _ (N C : Typ → Typ → Type 0) (K : Exp → Exp → Type 0) (n : (x : Typ) → N x x) (c : (f : Typ) → C f f) where

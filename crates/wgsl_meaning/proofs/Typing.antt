@@ -1,21 +1,19 @@
 -- Where typing gives a type and evaluation a value, that value has that type.
 use Rattle.std.proofs.Common.{◌≡◌, ℕ, List, [], ◌∷◌, map, Option, Some, None, Bool, true, false, Result, Ok, Err, refl, sym, ap, ◌∙◌, subst}
-use Rattle.std.specs.Prelude.{ℤ, pos, if◌then◌else◌, neg_ℤ, ◌+ℤ◌, ◌-ℤ◌, ◌*ℤ◌, int_div, int_rem}
+use Rattle.std.specs.Prelude.{if◌then◌else◌}
 use Rattle.std.specs.Str.{bytes_eq}
 use Rattle.wgsl_operators.specs.declared.UnaryOperator.{UnaryOperator}
-use Rattle.wgsl_operators.specs.declared.UnaryOperator.TheVariants.{LogicalNegation, Negation, BitwiseComplement, AddressOf, Indirection}
 use Rattle.wgsl_operators.specs.declared.BinaryOperator.{BinaryOperator}
-use Rattle.wgsl_operators.specs.declared.BinaryOperator.TheVariants.{Addition, Subtraction, Multiplication, Division, Remainder, ShortCircuitOr, ShortCircuitAnd, Equality, Inequality, LessThan, LessThanEqual, GreaterThan, GreaterThanEqual, BitwiseOr, BitwiseAnd, BitwiseXor, ShiftLeft, ShiftRight}
 use Rattle.wgsl_syntax.specs.Tree.{Exp, Exps, literal, parenthesized, unary, binary, call, named, nil, cons, Typ}
-use Rattle.wgsl_meaning.specs.declared.value.ShaderStage.{ShaderStage}
-use Rattle.wgsl_meaning.specs.declared.value.ShaderStage.TheVariants.{Const, Override, Exec}
-use Rattle.wgsl_meaning.specs.declared.value.Value.{Value}
-use Rattle.wgsl_meaning.specs.declared.value.Value.TheVariants as V
-use Rattle.wgsl_meaning.specs.declared.value.NumericType.{NumericType}
-use Rattle.wgsl_meaning.specs.declared.value.NumericType.TheVariants.{AbstractInt, I32, U32}
-use Rattle.wgsl_meaning.specs.declared.fault.NumberFault.{NumberFault}
-use Rattle.wgsl_meaning.specs.declared.fault.NumberFault.TheVariants.{AddOverflow, SubOverflow, MulOverflow, DivByZero, RemZeroDiv, Unary, Binary}
-use Rattle.wgsl_meaning.specs.Values.{Checked, Numbers, then_number, type_of, number, literal_value, fits, value_at, wrapped, is_lenient, lenient_or_fault, wrap_or_fault, converted, negated, unary_value, common_type, divides, arithmetic, binary_value, is_arithmetic, unary_type, binary_type}
+use Rattle.wgsl_enumerations.specs.declared.words.ShaderStage.{ShaderStage}
+use Rattle.wgsl_shader_type.specs.declared.literal.LiteralInstance.{LiteralInstance}
+use Rattle.wgsl_scalar.specs.declared.scalar.ScalarType.{ScalarType}
+use Rattle.wgsl_shader_type.specs.declared.error.Error.{Error}
+use Rattle.wgsl_scalar.specs.Scalars.{type_of}
+use Rattle.wgsl_scalar.specs.Operators.{unary_value, binary_value}
+use Rattle.wgsl_scalar.specs.OperatorTypes.{unary_type, binary_type}
+use Rattle.wgsl_scalar.proofs.OperatorTypes.{unary_has, binary_has}
+use Rattle.wgsl_meaning.specs.Values.{Checked, literal_value}
 use Rattle.wgsl_meaning.specs.Outcome.{Outcome, Done, Failed, Deep, after, bind, at_once, computed}
 use Rattle.wgsl_meaning.specs.Names.{Name, find, plain_name}
 use Rattle.wgsl_meaning.specs.Meaning.{Env, Types, World, local_or, called_or, value_here, result_here, value, values, type_in_world, type_here, result_type_here, typed, all_typed}
@@ -47,75 +45,22 @@ both_on P Q Deep q f g h go = tt
 
 -- ---- operators
 
-abbrev Fits : Numbers NumericType → Numbers Value → Type 0
+abbrev Fits : Result ScalarType Error → Result LiteralInstance Error → Type 0
 Fits t v = Both HasType (computed t) (computed v)
 
-right_err : (o : Numbers NumericType) (e : NumberFault) → Fits o (Err e)
-right_err o e = right_fails HasType (computed o) (computed (Err e)) (λ y m h. cc)
+fits_if : (t : Result ScalarType Error) (r : Result LiteralInstance Error) → ((v : LiteralInstance) → r ≡ Ok v → t ≡ Ok (type_of v)) → Fits t r
+fits_if t (Ok v) h = subst (λ z. Fits z (Ok v)) (sym (h v refl)) refl
+fits_if t (Err e) h = right_fails HasType (computed t) (computed (Err e)) (λ y m h. cc)
 
-after_conversion : (o : Numbers NumericType) (r : Numbers Value) (g : Value → Numbers Value) → ((a : Value) → Fits o (g a)) → Fits o (then_number r g)
-after_conversion o (Ok a) g h = h a
-after_conversion o (Err e) g h = right_err o e
+unary_fits : (s : ShaderStage) (o : UnaryOperator) (v : LiteralInstance) → Fits (unary_type o (type_of v)) (unary_value s o v)
+unary_fits s o v = fits_if (unary_type o (type_of v)) (unary_value s o v) (λ w h. unary_has s o v w h)
 
-type_of-value_at : (t : NumericType) (z : ℤ) → type_of (value_at t z) ≡ t
-type_of-value_at AbstractInt z = refl
-type_of-value_at I32 z = refl
-type_of-value_at U32 z = refl
-
-type_of-wrapped : (t : NumericType) (z : ℤ) → type_of (wrapped t z) ≡ t
-type_of-wrapped AbstractInt z = refl
-type_of-wrapped I32 z = refl
-type_of-wrapped U32 z = refl
-
-either_fits : (b c : Bool) (t : NumericType) (v x : Numbers Value) (f : NumberFault) → Fits (Ok t) v → Fits (Ok t) x → Fits (Ok t) (if b then v else (if c then x else Err f))
-either_fits true c t v x f h i = h
-either_fits false true t v x f h i = i
-either_fits false false t v x f h i = tt
-
-wrap_or_fault_fits : (s : ShaderStage) (f : NumberFault) (t : NumericType) (z : ℤ) → Fits (Ok t) (wrap_or_fault s f t z)
-wrap_or_fault_fits s f t z = either_fits (fits t z) (is_lenient s t) t _ _ f (type_of-value_at t z) (type_of-wrapped t z)
-
-unary_fits : (s : ShaderStage) (o : UnaryOperator) (v : Value) → Fits (unary_type o (type_of v)) (unary_value s o v)
-unary_fits s Negation (V.AbstractInt z) = wrap_or_fault_fits s SubOverflow AbstractInt (neg_ℤ z)
-unary_fits s Negation (V.I32 z) = wrap_or_fault_fits Exec SubOverflow I32 (neg_ℤ z)
-unary_fits s Negation (V.U32 n) = tt
-unary_fits s LogicalNegation v = tt
-unary_fits s BitwiseComplement v = tt
-unary_fits s AddressOf v = tt
-unary_fits s Indirection v = tt
-
-arithmetic_fits : (s : ShaderStage) (o : BinaryOperator) (t : NumericType) (a b : ℤ) → Fits (if is_arithmetic o then Ok t else Err (Binary o t t)) (arithmetic s o t a b)
-arithmetic_fits s Addition t a b = wrap_or_fault_fits s AddOverflow t (a +ℤ b)
-arithmetic_fits s Subtraction t a b = wrap_or_fault_fits s SubOverflow t (a -ℤ b)
-arithmetic_fits s Multiplication t a b = wrap_or_fault_fits s MulOverflow t (a *ℤ b)
-arithmetic_fits s Division t a b = either_fits (divides t a b) (is_lenient s t) t _ _ DivByZero (wrap_or_fault_fits s DivByZero t (int_div a b)) (wrap_or_fault_fits s DivByZero t a)
-arithmetic_fits s Remainder t a b = either_fits (divides t a b) (is_lenient s t) t _ _ RemZeroDiv (wrap_or_fault_fits s RemZeroDiv t (int_rem a b)) (wrap_or_fault_fits s RemZeroDiv t (pos 0))
-arithmetic_fits s ShortCircuitOr t a b = tt
-arithmetic_fits s ShortCircuitAnd t a b = tt
-arithmetic_fits s Equality t a b = tt
-arithmetic_fits s Inequality t a b = tt
-arithmetic_fits s LessThan t a b = tt
-arithmetic_fits s LessThanEqual t a b = tt
-arithmetic_fits s GreaterThan t a b = tt
-arithmetic_fits s GreaterThanEqual t a b = tt
-arithmetic_fits s BitwiseOr t a b = tt
-arithmetic_fits s BitwiseAnd t a b = tt
-arithmetic_fits s BitwiseXor t a b = tt
-arithmetic_fits s ShiftLeft t a b = tt
-arithmetic_fits s ShiftRight t a b = tt
-
-then_fits : (o : Numbers NumericType) (f : NumericType → Numbers NumericType) (g : NumericType → Numbers Value) → ((t : NumericType) → Fits (f t) (g t)) → Fits (then_number o f) (then_number o g)
-then_fits (Ok t) f g h = h t
-then_fits (Err e) f g h = tt
-
-binary_fits : (s : ShaderStage) (o : BinaryOperator) (x y : Value) → Fits (binary_type o (type_of x) (type_of y)) (binary_value s o x y)
-binary_fits s o x y = then_fits (common_type o (type_of x) (type_of y)) _ _ (λ t.
-    after_conversion _ (converted (Binary o (type_of x) (type_of y)) t x) _ (λ a.
-    after_conversion _ (converted (Binary o (type_of x) (type_of y)) t y) _ (λ b. arithmetic_fits s o t (number a) (number b))))
+binary_fits : (s : ShaderStage) (o : BinaryOperator) (x y : LiteralInstance) → Fits (binary_type o (type_of x) (type_of y)) (binary_value s o x y)
+binary_fits s o x y = fits_if (binary_type o (type_of x) (type_of y)) (binary_value s o x y) (λ w h. binary_has s o x y w h)
 
 -- ---- expressions
 
-pub find_types : (x : Name) (env : Env) (P : Option NumericType → Option Value → Type 0) → P None None → ((v : Value) → P (Some (type_of v)) (Some v)) → P (find x (types_of env)) (find x env)
+pub find_types : (x : Name) (env : Env) (P : Option ScalarType → Option LiteralInstance → Type 0) → P None None → ((v : LiteralInstance) → P (Some (type_of v)) (Some v)) → P (find x (types_of env)) (find x env)
 find_types x [] P none some = none
 find_types x (b ∷ env) P none some = at (bytes_eq x b.0) (find_types x env P none some)
   where
@@ -124,7 +69,7 @@ find_types x (b ∷ env) P none some = at (bytes_eq x b.0) (find_types x env P n
     at false h = h
 
 module _ (w u : World) (agree : TypesAgree w u) (env : Env) where
-  named_in_world : (x : Name) (o : Outcome Value) (q : Outcome Value) → Both (λ a b. type_of b ≡ type_of a) o q → Both HasType (type_in_world o) q
+  named_in_world : (x : Name) (o : Outcome LiteralInstance) (q : Outcome LiteralInstance) → Both (λ a b. type_of b ≡ type_of a) o q → Both HasType (type_in_world o) q
   named_in_world x (Done a n) (Done b m) h = h
   named_in_world x (Done a n) (Failed f) h = tt
   named_in_world x (Done a n) Deep h = tt
@@ -136,7 +81,7 @@ module _ (w u : World) (agree : TypesAgree w u) (env : Env) where
       (named_in_world x (w.value_of x) (u.value_of x) (agree.of_names x)) (λ v. refl)
   name_fits (Err f) = tt
 
-  callee_fits : (o : Checked Name) (ts : List NumericType) (vs : List Value) → HaveTypes ts vs → Both HasType (result_type_here w (types_of env) o ts) (result_here u env o vs)
+  callee_fits : (o : Checked Name) (ts : List ScalarType) (vs : List LiteralInstance) → HaveTypes ts vs → Both HasType (result_type_here w (types_of env) o ts) (result_here u env o vs)
   callee_fits (Ok f) ts vs h = find_types f env (λ t v. Both HasType (called_or f t (w.result_type f ts)) (called_or f v (u.result_of f vs)))
       (subst (λ z. Both HasType (w.result_type f z) (u.result_of f vs)) h (agree.of_results f vs)) (λ v. tt)
   callee_fits (Err e) ts vs h = tt

@@ -4,10 +4,12 @@ use Rattle.std.specs.Prelude.{ℤ, pos, negsuc, nat_lt, nat_eq, if◌then◌else
 use Rattle.std.proofs.lemmas.Bool.Decides.{nat_tests}
 use Rattle.wgsl_syntax.specs.declared.expression.LiteralExpression.TheVariants as L
 use Rattle.wgsl_syntax.specs.Tree.{Exp, Exps, literal}
-use Rattle.wgsl_meaning.specs.declared.value.ShaderStage.{ShaderStage}
-use Rattle.wgsl_meaning.specs.declared.value.Value.{Value}
-use Rattle.wgsl_meaning.specs.declared.value.Value.TheVariants as V
-use Rattle.wgsl_meaning.specs.Values.{Numbers}
+use Rattle.wgsl_enumerations.specs.declared.words.ShaderStage.{ShaderStage}
+use Rattle.wgsl_shader_type.specs.declared.literal.LiteralInstance.{LiteralInstance}
+use Rattle.wgsl_shader_type.specs.declared.literal.LiteralInstance.TheVariants as V
+use Rattle.wgsl_shader_type.specs.declared.error.Error.{Error}
+use Rattle.wgsl_shader_type.specs.declared.error.Error.TheVariants.{SubOverflow}
+use Rattle.wgsl_scalar.specs.Operators.{or_error}
 use Rattle.wgsl_meaning.specs.Outcome.{Outcome, Done, Failed, Deep, after, computed, bind}
 use Rattle.wgsl_meaning.specs.Meaning.{Env, World, value, result_here}
 use Rattle.wgsl_meaning.specs.Written.{HasConstructor, written, negative, least_abstract, least_signed}
@@ -18,11 +20,11 @@ within n m k h le = grind (arith, nat_tests)
 equal : (n m : ℕ) → nat_eq n m ≡ true → n ≡ m
 equal n m h = grind (arith, nat_tests)
 
-exact : (b : Bool) (v : Value) (y : Numbers Value) → b ≡ true → after 0 (computed (if b then Ok v else y)) ≡ Done v 0
-exact b v y e = ap (λ c. after 0 (computed (if c then Ok v else y))) e
+exact : (b : Bool) (v : LiteralInstance) (y : Option LiteralInstance) (f : Error) → b ≡ true → after 0 (computed (or_error (if b then Some v else y) f)) ≡ Done v 0
+exact b v y f e = ap (λ c. after 0 (computed (or_error (if c then Some v else y) f))) e
 
 module _ (w : World) (env : Env) (has : HasConstructor w env) where
-  abbrev Says : Exp → Value → Type 0
+  abbrev Says : Exp → LiteralInstance → Type 0
   Says e v = value w env e ≡ Done v 0
 
   least_abstract_is : Says least_abstract (V.AbstractInt (negsuc 9223372036854775807))
@@ -32,10 +34,10 @@ module _ (w : World) (env : Env) (has : HasConstructor w env) where
   least_signed_is = ap (λ o. bind (Done (V.AbstractInt (negsuc 2147483647) ∷ []) 0) (λ vs. o)) has.least
 
   negative_abstract : (n : ℕ) → nat_lt n 9223372036854775807 ≡ true → Says (negative (literal (L.AbstractInt (pos (suc n))))) (V.AbstractInt (negsuc n))
-  negative_abstract n h = exact _ (V.AbstractInt (negsuc n)) _ (within n 9223372036854775807 (2 ^ 63) h (omega arith))
+  negative_abstract n h = exact _ (V.AbstractInt (negsuc n)) _ SubOverflow (within n 9223372036854775807 (2 ^ 63) h (omega arith))
 
   negative_signed : (n : ℕ) → nat_lt n 2147483647 ≡ true → Says (negative (literal (L.I32 (pos (suc n))))) (V.I32 (negsuc n))
-  negative_signed n h = exact _ (V.I32 (negsuc n)) _ (within n 2147483647 (2 ^ 31) h (omega arith))
+  negative_signed n h = exact _ (V.I32 (negsuc n)) _ SubOverflow (within n 2147483647 (2 ^ 31) h (omega arith))
 
   abstract_at : (n : ℕ) (b c : Bool) → nat_eq n 9223372036854775807 ≡ b → nat_lt n 9223372036854775807 ≡ c →
       Says (if b then least_abstract else if c then negative (literal (L.AbstractInt (pos (suc n)))) else literal (L.AbstractInt (negsuc n))) (V.AbstractInt (negsuc n))
@@ -49,9 +51,11 @@ module _ (w : World) (env : Env) (has : HasConstructor w env) where
   signed_at n false true e f = negative_signed n f
   signed_at n false false e f = refl
 
-  pub value-written : (v : Value) → value w env (written v) ≡ Done v 0
+  pub value-written : (v : LiteralInstance) → value w env (written v) ≡ Done v 0
   value-written (V.AbstractInt (pos n)) = refl
   value-written (V.AbstractInt (negsuc n)) = abstract_at n (nat_eq n 9223372036854775807) (nat_lt n 9223372036854775807) refl refl
   value-written (V.I32 (pos n)) = refl
   value-written (V.I32 (negsuc n)) = signed_at n (nat_eq n 2147483647) (nat_lt n 2147483647) refl refl
   value-written (V.U32 n) = refl
+  value-written (V.Bool true) = refl
+  value-written (V.Bool false) = refl

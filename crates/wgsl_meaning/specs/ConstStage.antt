@@ -3,9 +3,9 @@ use Rattle.std.specs.Prelude.{◌≡◌, ℕ, List, [], ◌∷◌, ◌++◌, Opt
 use Rattle.wgsl_meaning.specs.Values.{Checked}
 use Rattle.wgsl_syntax.specs.Tree.{Exp, Typ, Attr, Block, Param, Decl, variable, function}
 use Rattle.wgsl_syntax.specs.declared.declaration.DeclarationKind.{DeclarationKind}
-use Rattle.wgsl_meaning.specs.declared.value.ShaderStage.TheVariants.{Const}
-use Rattle.wgsl_meaning.specs.declared.value.Value.{Value}
-use Rattle.wgsl_meaning.specs.declared.value.NumericType.{NumericType}
+use Rattle.wgsl_enumerations.specs.declared.words.ShaderStage.TheVariants.{Const}
+use Rattle.wgsl_shader_type.specs.declared.literal.LiteralInstance.{LiteralInstance}
+use Rattle.wgsl_scalar.specs.declared.scalar.ScalarType.{ScalarType}
 use Rattle.wgsl_meaning.specs.declared.fault.Fault.TheVariants.{Name as Named}
 use Rattle.wgsl_meaning.specs.declared.fault.NameFault.TheVariants.{CyclicDecl, UnknownDecl, NotAccessible, NotCallable, Todo}
 use Rattle.wgsl_meaning.specs.Outcome.{Outcome, Done, Failed, Deep}
@@ -15,7 +15,7 @@ use Rattle.wgsl_meaning.specs.Programs.{called_at, call_type_at, type_at, here_i
 
 -- consts with their values
 abbrev pub Consts : Type 0
-Consts = List (Name × Value)
+Consts = List (Name × LiteralInstance)
 
 pub record Scope : Type 0 where
   pub declarations : List Decl
@@ -28,7 +28,7 @@ hidden x (Some t) o = Failed (Named NotAccessible x)
 hidden x None o = o
 
 -- a const without a value yet is asked for while its own value is sought
-abbrev pub const_known : Name → Option Value → Option Decl → Outcome Value
+abbrev pub const_known : Name → Option LiteralInstance → Option Decl → Outcome LiteralInstance
 const_known x (Some v) d = Done v 0
 const_known x None (Some (variable attributes kind y type e)) = Failed (Named CyclicDecl x)
 const_known x None (Some (function attributes f parameters return_attributes type body)) = Failed (Named UnknownDecl x)
@@ -50,15 +50,15 @@ module_scope ds cs = record { declarations = ds; consts = cs; parameters = [] }
 -- each const has its value by those before it in the list
 pub data Settled (ds : List Decl) : Consts → Type 0 where
   nothing : Settled ds []
-  another : (cs : Consts) (x : Name) (v : Value) (n : ℕ) → Settled ds cs → const_in (stage (module_scope ds cs)) x (find_decl x ds) ≡ Done v n →
+  another : (cs : Consts) (x : Name) (v : LiteralInstance) (n : ℕ) → Settled ds cs → const_in (stage (module_scope ds cs)) x (find_decl x ds) ≡ Done v n →
       Settled ds (cs ++ (x, v) ∷ [])
 
 -- the type that a name constructs: no parameter and no declaration has the name, and of the built-in types it is one that is
 -- evaluated
-abbrev pub callee_at : Name → Option NumericType → Option Decl → Checked NumericType
+abbrev pub callee_at : Name → Option ScalarType → Option Decl → Checked ScalarType
 callee_at f (Some t) d = Err (Named NotCallable f)
 callee_at f None (Some d) = Err (Named Todo f)
 callee_at f None None = built_in_type f
 
-abbrev pub callee_of : Scope → Name → Checked NumericType
+abbrev pub callee_of : Scope → Name → Checked ScalarType
 callee_of s f = callee_at f (find f s.parameters) (find_decl f s.declarations)

@@ -2,16 +2,18 @@
 use Rattle.std.specs.Prelude.{ℕ, pos, List, [], ◌∷◌, Option, Some, None, Bool, true, false, Result, Ok, Err, if◌then◌else◌, length, ◌==◌}
 use Rattle.wgsl_syntax.specs.Tree.{Exp, Exps, literal, parenthesized, unary, binary, call, named, nil, cons, Typ, Attr, fragment, location, Stm, returning, Block, Param, Decl, variable, function}
 use Rattle.wgsl_syntax.specs.declared.declaration.DeclarationKind.{DeclarationKind}
-use Rattle.wgsl_meaning.specs.declared.value.ShaderStage.{ShaderStage}
-use Rattle.wgsl_meaning.specs.declared.value.Value.{Value}
-use Rattle.wgsl_meaning.specs.declared.value.Value.TheVariants as V
-use Rattle.wgsl_meaning.specs.declared.value.NumericType.{NumericType}
-use Rattle.wgsl_meaning.specs.declared.value.NumericType.TheVariants.{AbstractInt, I32, U32}
+use Rattle.wgsl_enumerations.specs.declared.words.ShaderStage.{ShaderStage}
+use Rattle.wgsl_shader_type.specs.declared.literal.LiteralInstance.{LiteralInstance}
+use Rattle.wgsl_shader_type.specs.declared.literal.LiteralInstance.TheVariants as V
+use Rattle.wgsl_scalar.specs.declared.scalar.ScalarType.{ScalarType}
 use Rattle.wgsl_meaning.specs.declared.fault.Fault.{Fault}
-use Rattle.wgsl_meaning.specs.declared.fault.Fault.TheVariants.{Number, Name as Named}
-use Rattle.wgsl_meaning.specs.declared.fault.NumberFault.TheVariants.{Conversion, ParamType}
+use Rattle.wgsl_meaning.specs.declared.fault.Fault.TheVariants.{Operation, Name as Named}
 use Rattle.wgsl_meaning.specs.declared.fault.NameFault.TheVariants.{UnknownDecl, NotCallable, UninitConst, Signature, ParamCount, Void, NoReturn, UnexpectedReturn, ReturnType}
-use Rattle.wgsl_meaning.specs.Values.{Checked, and_then, Numbers, type_of, literal_value, converts, converted, constructed, unary_value, binary_value, unary_type, binary_type}
+use Rattle.wgsl_scalar.specs.Scalars.{type_of}
+use Rattle.wgsl_scalar.specs.Conversions.{converted, constructed}
+use Rattle.wgsl_scalar.specs.Operators.{unary_value, binary_value}
+use Rattle.wgsl_scalar.specs.OperatorTypes.{converts, unary_type, binary_type}
+use Rattle.wgsl_meaning.specs.Values.{Checked, and_then, literal_value, argument_value}
 use Rattle.wgsl_meaning.specs.Outcome.{Outcome, Done, Failed, Deep, after, bind, at_once, computed}
 use Rattle.wgsl_meaning.specs.Names.{Name, find, plain_name}
 
@@ -19,22 +21,22 @@ use Rattle.wgsl_meaning.specs.Names.{Name, find, plain_name}
 
 -- the parameters, with their values or with their types
 abbrev pub Env : Type 0
-Env = List (Name × Value)
+Env = List (Name × LiteralInstance)
 
 abbrev pub Types : Type 0
-Types = List (Name × NumericType)
+Types = List (Name × ScalarType)
 
 -- what the names of the module mean at a stage
 pub record World : Type 0 where
   pub stage : ShaderStage
   -- the value of a const
-  pub value_of : Name → Outcome Value
+  pub value_of : Name → Outcome LiteralInstance
   -- a call of a function or a constructor
-  pub result_of : Name → List Value → Outcome Value
+  pub result_of : Name → List LiteralInstance → Outcome LiteralInstance
   -- its type, from the arguments' types
-  pub result_type : Name → List NumericType → Outcome NumericType
+  pub result_type : Name → List ScalarType → Outcome ScalarType
   -- a type's name
-  pub type_named : Name → Checked NumericType
+  pub type_named : Name → Checked ScalarType
 
 -- a parameter's, or what the world says
 abbrev pub local_or : {A : Type 0} → Option A → Outcome A → Outcome A
@@ -46,17 +48,17 @@ abbrev pub called_or : {A B : Type 0} → Name → Option A → Outcome B → Ou
 called_or f (Some v) other = Failed (Named NotCallable f)
 called_or f None other = other
 
-abbrev pub value_here : World → Env → Checked Name → Outcome Value
+abbrev pub value_here : World → Env → Checked Name → Outcome LiteralInstance
 value_here w env (Ok x) = local_or (find x env) (w.value_of x)
 value_here w env (Err f) = Failed f
 
-abbrev pub result_here : World → Env → Checked Name → List Value → Outcome Value
+abbrev pub result_here : World → Env → Checked Name → List LiteralInstance → Outcome LiteralInstance
 result_here w env (Ok f) vs = called_or f (find f env) (w.result_of f vs)
 result_here w env (Err e) vs = Failed e
 
 -- the value of an expression: left before right, arguments in order, the callee last (WGSL, "Program Order Within an Invocation")
 abbrev mutual
-  pub value : World → Env → Exp → Outcome Value
+  pub value : World → Env → Exp → Outcome LiteralInstance
   value w env (literal l) = Done (literal_value l) 0
   value w env (parenthesized e) = value w env e
   value w env (unary o e) = bind (value w env e) (λ x. computed (unary_value w.stage o x))
@@ -64,26 +66,26 @@ abbrev mutual
   value w env (call f es) = bind (values w env es) (λ vs. result_here w env (plain_name f) vs)
   value w env (named x) = value_here w env (plain_name x)
 
-  pub values : World → Env → Exps → Outcome (List Value)
+  pub values : World → Env → Exps → Outcome (List LiteralInstance)
   values w env nil = Done [] 0
   values w env (cons e es) = bind (value w env e) (λ x. bind (values w env es) (λ xs. Done (x ∷ xs) 0))
 
 -- ---- their types
 
 -- an untyped const has the type of its value
-abbrev pub type_in_world : Outcome Value → Outcome NumericType
+abbrev pub type_in_world : Outcome LiteralInstance → Outcome ScalarType
 type_in_world o = bind o (λ v. Done (type_of v) 0)
 
-abbrev pub type_here : World → Types → Checked Name → Outcome NumericType
+abbrev pub type_here : World → Types → Checked Name → Outcome ScalarType
 type_here w env (Ok x) = local_or (find x env) (type_in_world (w.value_of x))
 type_here w env (Err f) = Failed f
 
-abbrev pub result_type_here : World → Types → Checked Name → List NumericType → Outcome NumericType
+abbrev pub result_type_here : World → Types → Checked Name → List ScalarType → Outcome ScalarType
 result_type_here w env (Ok f) ts = called_or f (find f env) (w.result_type f ts)
 result_type_here w env (Err e) ts = Failed e
 
 abbrev mutual
-  pub typed : World → Types → Exp → Outcome NumericType
+  pub typed : World → Types → Exp → Outcome ScalarType
   typed w env (literal l) = Done (type_of (literal_value l)) 0
   typed w env (parenthesized e) = typed w env e
   typed w env (unary o e) = bind (typed w env e) (λ t. computed (unary_type o t))
@@ -91,89 +93,89 @@ abbrev mutual
   typed w env (call f es) = bind (all_typed w env es) (λ ts. result_type_here w env (plain_name f) ts)
   typed w env (named x) = type_here w env (plain_name x)
 
-  pub all_typed : World → Types → Exps → Outcome (List NumericType)
+  pub all_typed : World → Types → Exps → Outcome (List ScalarType)
   all_typed w env nil = Done [] 0
   all_typed w env (cons e es) = bind (typed w env e) (λ t. bind (all_typed w env es) (λ ts. Done (t ∷ ts) 0))
 
 -- ---- constructors, consts and functions
 
--- the constructor of a type: of one argument, or of none for zero (WGSL, "Zero Value Built-in Functions")
-abbrev pub construct : Name → NumericType → List Value → Outcome Value
+-- the constructor of a type: of one argument, or of none for zero (WGSL, "Zero LiteralInstance Built-in Functions")
+abbrev pub construct : Name → ScalarType → List LiteralInstance → Outcome LiteralInstance
 construct f t [] = computed (constructed t (V.AbstractInt (pos 0)))
 construct f t (v ∷ []) = computed (constructed t v)
 construct f t (v ∷ w ∷ vs) = Failed (Named Signature f)
 
-abbrev pub construct_type : Name → NumericType → List NumericType → Outcome NumericType
+abbrev pub construct_type : Name → ScalarType → List ScalarType → Outcome ScalarType
 construct_type f t [] = Done t 0
 construct_type f t (s ∷ []) = Done t 0
 construct_type f t (s ∷ u ∷ ts) = Failed (Named Signature f)
 
 -- a written type
-abbrev pub type_written : World → Typ → Outcome NumericType
+abbrev pub type_written : World → Typ → Outcome ScalarType
 type_written w t = at_once (and_then (plain_name t) w.type_named)
 
 -- the value of an initializer, under a written type or its own
-abbrev pub initial : World → Option Typ → Exp → Outcome Value
-initial w (Some t) e = bind (type_written w t) (λ u. bind (value w [] e) (λ v. computed (converted (Conversion (type_of v) u) u v)))
+abbrev pub initial : World → Option Typ → Exp → Outcome LiteralInstance
+initial w (Some t) e = bind (type_written w t) (λ u. bind (value w [] e) (λ v. computed (converted u v)))
 initial w None e = bind (typed w [] e) (λ u. value w [] e)
 
-abbrev pub initialized : World → Name → Option Typ → Option Exp → Outcome Value
+abbrev pub initialized : World → Name → Option Typ → Option Exp → Outcome LiteralInstance
 initialized w x type (Some e) = initial w type e
 initialized w x type None = Failed (Named UninitConst x)
 
 -- a const's value (WGSL, "const Declarations")
-abbrev pub const_in : World → Name → Option Decl → Outcome Value
+abbrev pub const_in : World → Name → Option Decl → Outcome LiteralInstance
 const_in w x (Some (variable attributes kind y type e)) = initialized w y type e
 const_in w x (Some (function attributes f parameters return_attributes return_type body)) = Failed (Named UnknownDecl x)
 const_in w x None = Failed (Named UnknownDecl x)
 
 -- the parameters take the values, each converted to the parameter's type
-abbrev pub bound : World → List Param → List Value → Outcome Env
+abbrev pub bound : World → List Param → List LiteralInstance → Outcome Env
 bound w [] vs = Done [] 0
 bound w (p ∷ ps) [] = Done [] 0
 bound w (p ∷ ps) (v ∷ vs) =
-    bind (type_written w p.type) (λ t. bind (computed (converted (ParamType (type_of v) t) t v)) (λ x.
+    bind (type_written w p.type) (λ t. bind (computed (argument_value t v)) (λ x.
     bind (bound w ps vs) (λ env. Done ((p.name, x) ∷ env) 0)))
 
 -- what a body of at most one return hands back
-abbrev pub returned_by : World → Env → List Stm → Outcome (Option Value)
+abbrev pub returned_by : World → Env → List Stm → Outcome (Option LiteralInstance)
 returned_by w env [] = Done None 0
 returned_by w env (returning attributes None ∷ rest) = Done None 0
 returned_by w env (returning attributes (Some e) ∷ rest) = bind (value w env e) (λ v. Done (Some v) 0)
 
-abbrev pub converted_return : Name → NumericType → Value → Outcome (Option Value)
+abbrev pub converted_return : Name → ScalarType → LiteralInstance → Outcome (Option LiteralInstance)
 converted_return f t v =
-    if converts (type_of v) t then bind (computed (converted (Conversion (type_of v) t) t v)) (λ x. Done (Some x) 0)
+    if converts (type_of v) t then bind (computed (converted t v)) (λ x. Done (Some x) 0)
     else Failed (Named (ReturnType (type_of v) t) f)
 
 -- it is converted to the function's type
-abbrev pub handed_back : Name → Option NumericType → Option Value → Outcome (Option Value)
+abbrev pub handed_back : Name → Option ScalarType → Option LiteralInstance → Outcome (Option LiteralInstance)
 handed_back f None None = Done None 0
 handed_back f None (Some v) = Failed (Named (UnexpectedReturn (type_of v)) f)
 handed_back f (Some t) None = Failed (Named (NoReturn t) f)
 handed_back f (Some t) (Some v) = converted_return f t v
 
-abbrev pub return_type_of : World → Option Typ → Outcome (Option NumericType)
+abbrev pub return_type_of : World → Option Typ → Outcome (Option ScalarType)
 return_type_of w None = Done None 0
 return_type_of w (Some t) = bind (type_written w t) (λ u. Done (Some u) 0)
 
-abbrev pub body_of : World → Name → Option Typ → List Stm → Env → Outcome (Option Value)
+abbrev pub body_of : World → Name → Option Typ → List Stm → Env → Outcome (Option LiteralInstance)
 body_of w f type body env = bind (return_type_of w type) (λ t. bind (returned_by w env body) (λ v. handed_back f t v))
 
 -- a value where one is needed
-abbrev pub needed : Name → Option Value → Outcome Value
+abbrev pub needed : Name → Option LiteralInstance → Outcome LiteralInstance
 needed f (Some v) = Done v 0
 needed f None = Failed (Named Void f)
 
 -- a call, which is a step (WGSL, "Function Calls")
-abbrev pub call_in : World → Name → Option Decl → List Value → Outcome Value
+abbrev pub call_in : World → Name → Option Decl → List LiteralInstance → Outcome LiteralInstance
 call_in w f (Some (function attributes g parameters return_attributes type body)) vs =
     if length vs == length parameters then after 1 (bind (bound w parameters vs) (λ env. bind (body_of w f type body.statements env) (needed f)))
-    else Failed (Named (ParamCount (length vs) (length parameters)) f)
+    else Failed (Named (ParamCount (length parameters) (length vs)) f)
 call_in w f (Some (variable attributes kind x type e)) vs = Failed (Named NotCallable f)
 call_in w f None vs = Failed (Named NotCallable f)
 
-abbrev pub call_type : World → Name → Option Decl → Outcome NumericType
+abbrev pub call_type : World → Name → Option Decl → Outcome ScalarType
 call_type w f (Some (function attributes g parameters return_attributes (Some t) body)) = type_written w t
 call_type w f (Some (function attributes g parameters return_attributes None body)) = Failed (Named Void f)
 call_type w f (Some (variable attributes kind x type e)) = Failed (Named NotCallable f)

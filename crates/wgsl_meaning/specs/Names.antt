@@ -6,8 +6,9 @@ use Rattle.wgsl_path.specs.declared.path.PathOrigin.TheVariants.{Absolute}
 use Rattle.wgsl_syntax.specs.Tree.{Exp, Typ, simple, templated, Attr, Stm, Block, Param, Decl}
 use Rattle.wgsl_syntax.specs.Names.{declared_name}
 use Rattle.wgsl_syntax.specs.declared.declaration.DeclarationKind.{DeclarationKind}
-use Rattle.wgsl_meaning.specs.declared.value.NumericType.{NumericType}
-use Rattle.wgsl_meaning.specs.declared.value.NumericType.TheVariants.{I32, U32}
+use Rattle.wgsl_scalar.specs.declared.scalar.ScalarType.{ScalarType}
+use Rattle.wgsl_scalar.specs.declared.scalar.ScalarType.TheVariants.{Integer}
+use Rattle.wgsl_scalar.specs.declared.scalar.IntegerType.TheVariants.{I32, U32}
 use Rattle.wgsl_meaning.specs.declared.fault.Fault.TheVariants.{Name as Named}
 use Rattle.wgsl_meaning.specs.declared.fault.NameFault.TheVariants.{Todo, NotType, UnexpectedTemplate, UnknownDecl}
 use Rattle.wgsl_meaning.specs.Values.{Checked}
@@ -31,8 +32,8 @@ find_decl x [] = None
 find_decl x (d ∷ ds) = if bytes_eq x (declared_name d) then Some d else find_decl x ds
 
 -- the types that texts name (WGSL, "Predeclared Types"). Of the others none is evaluated yet
-abbrev pub built_in_type : Name → Checked NumericType
-built_in_type x = if bytes_eq x (codes "i32") then Ok I32 else if bytes_eq x (codes "u32") then Ok U32 else Err (Named Todo x)
+abbrev pub built_in_type : Name → Checked ScalarType
+built_in_type x = if bytes_eq x (codes "i32") then Ok (Integer I32) else if bytes_eq x (codes "u32") then Ok (Integer U32) else Err (Named Todo x)
 
 -- a plain name, without path and template arguments
 abbrev pub plain_name : Typ → Checked Name

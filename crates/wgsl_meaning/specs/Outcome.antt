@@ -1,9 +1,9 @@
 -- How an evaluation ends, and with how many steps.
 use Rattle.std.specs.Prelude.{ℕ, ◌+◌, Option, Some, None, Result, Ok, Err}
 use Rattle.wgsl_meaning.specs.declared.fault.Fault.{Fault}
-use Rattle.wgsl_meaning.specs.declared.fault.Fault.TheVariants.{Number}
-use Rattle.wgsl_meaning.specs.declared.fault.NumberFault.{NumberFault}
-use Rattle.wgsl_meaning.specs.Values.{Checked, Numbers}
+use Rattle.wgsl_meaning.specs.declared.fault.Fault.TheVariants.{Operation}
+use Rattle.wgsl_shader_type.specs.declared.error.Error.{Error}
+use Rattle.wgsl_meaning.specs.Values.{Checked}
 
 -- a value and the steps that it took, a fault, or more consts and calls inside one another than the bound allows
 pub data Outcome (A : Type 0) : Type 0 where
@@ -28,6 +28,6 @@ abbrev pub at_once : {A : Type 0} → Checked A → Outcome A
 at_once (Ok x) = Done x 0
 at_once (Err f) = Failed f
 
-abbrev pub computed : {A : Type 0} → Numbers A → Outcome A
+abbrev pub computed : {A : Type 0} → Result A Error → Outcome A
 computed (Ok x) = Done x 0
-computed (Err f) = Failed (Number f)
+computed (Err f) = Failed (Operation f)

@@ -5,17 +5,18 @@ use Rattle.wgsl_path.specs.declared.path.PathOrigin.TheVariants.{Absolute}
 use Rattle.wgsl_syntax.specs.Tree.{Exp, Typ, Attr, fragment, location, Stm, Block, Param, Decl, variable, function, UnitTree as Module}
 use Rattle.wgsl_syntax.specs.declared.declaration.DeclarationKind.{DeclarationKind}
 use Rattle.wgsl_syntax.specs.Names.{declared_name}
-use Rattle.wgsl_meaning.specs.declared.value.ShaderStage.{ShaderStage}
-use Rattle.wgsl_meaning.specs.declared.value.ShaderStage.TheVariants.{Const, Override, Exec}
-use Rattle.wgsl_meaning.specs.declared.value.Value.{Value}
-use Rattle.wgsl_meaning.specs.declared.value.NumericType.{NumericType}
-use Rattle.wgsl_meaning.specs.declared.value.NumericType.TheVariants.{U32}
-use Rattle.wgsl_meaning.specs.declared.value.Value.TheVariants as V
+use Rattle.wgsl_enumerations.specs.declared.words.ShaderStage.{ShaderStage}
+use Rattle.wgsl_enumerations.specs.declared.words.ShaderStage.TheVariants.{Const, Override, Exec}
+use Rattle.wgsl_shader_type.specs.declared.literal.LiteralInstance.{LiteralInstance}
+use Rattle.wgsl_scalar.specs.declared.scalar.ScalarType.{ScalarType}
+use Rattle.wgsl_shader_type.specs.declared.literal.LiteralInstance.TheVariants as V
 use Rattle.wgsl_meaning.specs.declared.fault.Fault.{Fault}
-use Rattle.wgsl_meaning.specs.declared.fault.Fault.TheVariants.{Number, Name as Named}
-use Rattle.wgsl_meaning.specs.declared.fault.NumberFault.TheVariants.{NegativeAttr, ConvOverflow, ParamType}
+use Rattle.wgsl_meaning.specs.declared.fault.Fault.TheVariants.{Operation, NegativeAttr, Name as Named}
+use Rattle.wgsl_shader_type.specs.declared.tree.ShaderType.TheVariants as type
+use Rattle.wgsl_shader_type.specs.declared.error.Error.TheVariants.{Conversion, ConvOverflow, ParamType}
 use Rattle.wgsl_meaning.specs.declared.fault.NameFault.TheVariants.{UnknownDecl, NotType, Todo, NotEntrypoint, InvalidEntrypointParam, MissingUserInput}
-use Rattle.wgsl_meaning.specs.Values.{Checked, type_of, number, is_same_type}
+use Rattle.wgsl_scalar.specs.Scalars.{scalar_type, type_of, number}
+use Rattle.wgsl_meaning.specs.Values.{Checked, is_same_type}
 use Rattle.wgsl_meaning.specs.Outcome.{Outcome, Done, Failed, Deep, bind, at_once, computed}
 use Rattle.wgsl_meaning.specs.Names.{Name, Symbol, find_decl, built_in_type}
 use Rattle.wgsl_meaning.specs.Meaning.{World, Env, value, const_in, call_in, call_type, construct, construct_type, type_written, return_type_of, body_of}
@@ -28,33 +29,33 @@ pub record Program : Type 0 where
 
 -- ---- worlds
 
-abbrev pub const_at : Name → Option Symbol → (Symbol → Outcome Value) → Outcome Value
+abbrev pub const_at : Name → Option Symbol → (Symbol → Outcome LiteralInstance) → Outcome LiteralInstance
 const_at x (Some s) inner = inner s
 const_at x None inner = Failed (Named UnknownDecl x)
 
 -- a function, else a built-in constructor. A call of a function is evaluated when the shader runs; of constant expressions it
 -- isn't yet
-abbrev pub called_at : ShaderStage → Name → Option Symbol → (Symbol → List Value → Outcome Value) → List Value → Outcome Value
+abbrev pub called_at : ShaderStage → Name → Option Symbol → (Symbol → List LiteralInstance → Outcome LiteralInstance) → List LiteralInstance → Outcome LiteralInstance
 called_at Exec f (Some s) inner vs = inner s vs
 called_at Const f (Some s) inner vs = Failed (Named Todo f)
 called_at Override f (Some s) inner vs = Failed (Named Todo f)
 called_at stage f None inner vs = bind (at_once (built_in_type f)) (λ t. construct f t vs)
 
-abbrev pub call_type_at : ShaderStage → Name → Option Symbol → (Symbol → Outcome NumericType) → List NumericType → Outcome NumericType
+abbrev pub call_type_at : ShaderStage → Name → Option Symbol → (Symbol → Outcome ScalarType) → List ScalarType → Outcome ScalarType
 call_type_at Exec f (Some s) inner ts = inner s
 call_type_at Const f (Some s) inner ts = Failed (Named Todo f)
 call_type_at Override f (Some s) inner ts = Failed (Named Todo f)
 call_type_at stage f None inner ts = bind (at_once (built_in_type f)) (λ t. construct_type f t ts)
 
-abbrev pub type_at : Name → Option Symbol → Checked NumericType
+abbrev pub type_at : Name → Option Symbol → Checked ScalarType
 type_at x (Some s) = Err (Named NotType x)
 type_at x None = built_in_type x
 
 -- what consts, calls and their types mean inside
 pub record Inside : Type 0 where
-  pub const_value : Symbol → Outcome Value
-  pub call_value : Symbol → List Value → Outcome Value
-  pub call_type_of : Symbol → Outcome NumericType
+  pub const_value : Symbol → Outcome LiteralInstance
+  pub call_value : Symbol → List LiteralInstance → Outcome LiteralInstance
+  pub call_type_of : Symbol → Outcome ScalarType
 
 abbrev pub opened : Program → ShaderStage → ModulePath → Inside → World
 opened p s m i = record {
@@ -81,15 +82,16 @@ world p k s m = opened p s m (inside p k s)
 
 -- the values handed in, by location
 abbrev pub Inputs : Type 0
-Inputs = ℕ → Option Value
+Inputs = ℕ → Option LiteralInstance
 
 -- the number of an attribute
-abbrev pub attribute_number : Value → Checked ℕ
+abbrev pub attribute_number : LiteralInstance → Checked ℕ
+attribute_number (V.Bool b) = Err (Operation (Conversion type.Bool type.U32))
 attribute_number v = natural (number v)
   where
     natural : ℤ → Checked ℕ
-    natural (pos n) = if nat_lt n (2 ^ 32) then Ok n else Err (Number (ConvOverflow v U32))
-    natural (negsuc n) = Err (Number (NegativeAttr (negsuc n)))
+    natural (pos n) = if nat_lt n (2 ^ 32) then Ok n else Err (Operation (ConvOverflow v type.U32))
+    natural (negsuc n) = Err (NegativeAttr (negsuc n))
 
 -- the location of a parameter, by its first attribute of that kind; consts stands for the world of attributes
 abbrev pub location_of : World → Name → List Attr → Outcome ℕ
@@ -97,9 +99,9 @@ location_of consts x [] = Failed (Named InvalidEntrypointParam x)
 location_of consts x (fragment ∷ rest) = location_of consts x rest
 location_of consts x (location e ∷ rest) = bind (value consts [] e) (λ v. at_once (attribute_number v))
 
-abbrev pub input_at : Name → ℕ → NumericType → Option Value → Outcome Value
+abbrev pub input_at : Name → ℕ → ScalarType → Option LiteralInstance → Outcome LiteralInstance
 input_at x n t None = Failed (Named (MissingUserInput n) x)
-input_at x n t (Some v) = if is_same_type (type_of v) t then Done v 0 else Failed (Number (ParamType (type_of v) t))
+input_at x n t (Some v) = if is_same_type (type_of v) t then Done v 0 else Failed (Operation (ParamType (scalar_type t) (scalar_type (type_of v))))
 
 -- the parameters take what is handed in, of their own types
 abbrev pub inputs_bound : World → World → Inputs → List Param → Outcome Env
@@ -114,7 +116,7 @@ has_stage [] = false
 has_stage (fragment ∷ rest) = true
 has_stage (location e ∷ rest) = has_stage rest
 
-abbrev pub entered : World → World → Name → Option Decl → Inputs → Outcome (Option Value)
+abbrev pub entered : World → World → Name → Option Decl → Inputs → Outcome (Option LiteralInstance)
 entered consts w f (Some (function attributes g parameters return_attributes type body)) inputs =
     if has_stage attributes then bind (inputs_bound consts w inputs parameters) (λ env. body_of w f type body.statements env) else Failed (Named NotEntrypoint f)
 entered consts w f (Some (variable attributes kind x type e)) inputs = Failed (Named NotEntrypoint f)
@@ -133,11 +135,11 @@ started p k [] = Done tt 0
 started p k (s ∷ rest) = bind (started_by (world p k Const s.home) s.called (p.item s)) (λ u. started p k rest)
 
 -- a run of an entry point: the start, then the function. The answer is what it hands back, if anything
-abbrev pub run : Program → ℕ → Symbol → Inputs → Outcome (Option Value)
+abbrev pub run : Program → ℕ → Symbol → Inputs → Outcome (Option LiteralInstance)
 run p k s inputs = bind (started p k p.held) (λ u. entered (world p k Const s.home) (world p k Exec s.home) s.called (p.item s) inputs)
 
 -- it ends well with this answer, within n steps: with some bound, and then with each larger one
-pub record EndsWell (p : Program) (s : Symbol) (inputs : Inputs) (n : ℕ) (answer : Option Value) : Type 0 where
+pub record EndsWell (p : Program) (s : Symbol) (inputs : Inputs) (n : ℕ) (answer : Option LiteralInstance) : Type 0 where
   pub bound : ℕ
   pub steps : ℕ
   pub ends : run p bound s inputs ≡ Done answer steps

@@ -1,8 +1,8 @@
 -- Types and values compared.
 use Rattle.std.specs.Prelude.{◌≡◌, ℕ, List, [], ◌∷◌, map, Option, Some, None}
-use Rattle.wgsl_meaning.specs.declared.value.Value.{Value}
-use Rattle.wgsl_meaning.specs.declared.value.NumericType.{NumericType}
-use Rattle.wgsl_meaning.specs.Values.{type_of}
+use Rattle.wgsl_shader_type.specs.declared.literal.LiteralInstance.{LiteralInstance}
+use Rattle.wgsl_scalar.specs.declared.scalar.ScalarType.{ScalarType}
+use Rattle.wgsl_scalar.specs.Scalars.{type_of}
 use Rattle.wgsl_meaning.specs.Outcome.{Outcome, Done, Failed, Deep}
 use Rattle.wgsl_meaning.specs.Names.{Name}
 use Rattle.wgsl_meaning.specs.Meaning.{Env, Types, World}
@@ -16,10 +16,10 @@ Both P (Failed f) o = Unit {0}
 Both P Deep o = Unit {0}
 
 -- the value has the type
-abbrev pub HasType : NumericType → Value → Type 0
+abbrev pub HasType : ScalarType → LiteralInstance → Type 0
 HasType t v = type_of v ≡ t
 
-abbrev pub HaveTypes : List NumericType → List Value → Type 0
+abbrev pub HaveTypes : List ScalarType → List LiteralInstance → Type 0
 HaveTypes ts vs = map type_of vs ≡ ts
 
 -- the types of parameters
@@ -30,4 +30,4 @@ types_of (b ∷ env) = (b.0, type_of b.1) ∷ types_of env
 -- the types of one world are those of the values of another
 pub record TypesAgree (w u : World) : Type 0 where
   pub of_names : (x : Name) → Both (λ a b. type_of b ≡ type_of a) (w.value_of x) (u.value_of x)
-  pub of_results : (f : Name) (vs : List Value) → Both HasType (w.result_type f (map type_of vs)) (u.result_of f vs)
+  pub of_results : (f : Name) (vs : List LiteralInstance) → Both HasType (w.result_type f (map type_of vs)) (u.result_of f vs)

@@ -1,13 +1,13 @@
 -- How a value is written (this project's own).
-use Rattle.std.specs.Prelude.{◌≡◌, ℕ, suc, pos, negsuc, nat_lt, nat_eq, List, [], ◌∷◌, None, Ok, if◌then◌else◌, codes}
+use Rattle.std.specs.Prelude.{◌≡◌, ℕ, suc, pos, negsuc, true, false, nat_lt, nat_eq, List, [], ◌∷◌, None, Ok, if◌then◌else◌, codes}
 use Rattle.wgsl_operators.specs.declared.UnaryOperator.TheVariants.{Negation}
-use Rattle.wgsl_operators.specs.declared.BinaryOperator.TheVariants.{Subtraction}
+use Rattle.wgsl_operators.specs.declared.BinaryOperator.TheVariants.{Subtraction, Equality}
 use Rattle.wgsl_syntax.specs.declared.expression.LiteralExpression.TheVariants.{AbstractInt, I32, U32}
 use Rattle.wgsl_syntax.specs.Tree.{Exp, Exps, literal, parenthesized, unary, binary, call, nil, cons, simple}
-use Rattle.wgsl_meaning.specs.declared.value.Value.{Value}
+use Rattle.wgsl_shader_type.specs.declared.literal.LiteralInstance.{LiteralInstance}
 use Rattle.wgsl_meaning.specs.Outcome.{Outcome, Done}
 use Rattle.wgsl_meaning.specs.Meaning.{World, Env, result_here}
-use Rattle.wgsl_meaning.specs.declared.value.Value.TheVariants as V
+use Rattle.wgsl_shader_type.specs.declared.literal.LiteralInstance.TheVariants as V
 
 -- `(-n)`
 abbrev pub negative : Exp → Exp
@@ -21,9 +21,13 @@ least_abstract = parenthesized (binary Subtraction (unary Negation (literal (Abs
 abbrev pub least_signed : Exp
 least_signed = call (simple None (codes "i32")) (cons (unary Negation (literal (AbstractInt (pos 2147483648)))) nil)
 
+-- `(0 == e)`
+abbrev pub equals_zero : Exp → Exp
+equals_zero e = parenthesized (binary Equality (literal (AbstractInt (pos 0))) e)
+
 -- the expression that is written for a value: a literal, or in parentheses where the number is negative. The last case of each
--- type doesn't come: no number of the type is as low
-abbrev pub written : Value → Exp
+-- type of numbers doesn't come: no number of the type is as low. Trees have no literals of truth values yet
+abbrev pub written : LiteralInstance → Exp
 written (V.AbstractInt (pos n)) = literal (AbstractInt (pos n))
 written (V.AbstractInt (negsuc n)) =
     if nat_eq n 9223372036854775807 then least_abstract
@@ -35,6 +39,8 @@ written (V.I32 (negsuc n)) =
     else if nat_lt n 2147483647 then negative (literal (I32 (pos (suc n))))
     else literal (I32 (negsuc n))
 written (V.U32 n) = literal (U32 n)
+written (V.Bool true) = equals_zero (literal (AbstractInt (pos 0)))
+written (V.Bool false) = equals_zero (literal (AbstractInt (pos 1)))
 
 -- `i32` is the constructor there: neither a parameter nor a declaration has the name
 pub record HasConstructor (w : World) (env : Env) : Type 0 where

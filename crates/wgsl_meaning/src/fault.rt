@@ -1,49 +1,30 @@
 //! Why an evaluation goes wrong.
 
-use crate::value::{NumericType, Value};
+ghost use Rattle.std.specs.Prelude.{◌≡◌};
+ghost use Rattle.wgsl_meaning.specs.Values as spec;
+
 use wgsl_items::{OrOutOfMemory, Text};
-use wgsl_operators::{BinaryOperator, UnaryOperator};
+use wgsl_scalar::ScalarType;
+use wgsl_shader_type::Error;
 
 /// The fault of an evaluation. It says nothing of memory.
 #[derive(Debug, Drop, PartialEq)]
 pub enum Fault {
-    /// Of an operation on numbers.
-    Number(NumberFault),
+    /// Of an operation on values: an operator, a conversion or a constructor.
+    Operation(Error),
+    /// A number of an attribute is below 0.
+    NegativeAttr(i64),
     /// Of what a name stands for.
     Name(NameFault, Text),
 }
 
-/// The fault of an operation on numbers.
-#[derive(Clone, Copy, Debug, PartialEq, Eq)]
-pub enum NumberFault {
-    AddOverflow,
-    SubOverflow,
-    MulOverflow,
-    DivByZero,
-    RemZeroDiv,
-    /// The number isn't in the range of the type that it is converted to.
-    ConvOverflow(Value, NumericType),
-    /// There is no such operator on this type.
-    Unary(UnaryOperator, NumericType),
-    /// There is no such operator between these types.
-    Binary(BinaryOperator, NumericType, NumericType),
-    /// An initializer has the first type, which doesn't convert to the written one.
-    Conversion(NumericType, NumericType),
-    /// An argument has the first type, which doesn't convert to the parameter's.
-    ParamType(NumericType, NumericType),
-    /// A number of an attribute is below 0.
-    NegativeAttr(i64),
-}
-
-impl From<NumberFault> for OrOutOfMemory<Fault> {
-    ghost use Rattle.std.specs.Prelude.{◌≡◌};
-    ghost use Rattle.wgsl_items.specs.declared.error.OrOutOfMemory.TheVariants.{Error};
-    ghost use Rattle.wgsl_meaning.specs.declared.fault.Fault.TheVariants.{Number};
-
-    ghost from_gives = { λ f e. e ≡ Error (Number f) };
-
-    fn from(fault: NumberFault) -> OrOutOfMemory<Fault> {
-        OrOutOfMemory::Error(Fault::Number(fault))
+/// An operation's error as the fault of an evaluation, or that memory was refused.
+pub fn operation_fault(error: Error) -> OrOutOfMemory<Fault>
+    ensures { result ≡ spec.operation_fault error }
+{
+    match error {
+        Error::OutOfMemory => OrOutOfMemory::OutOfMemory,
+        error => OrOutOfMemory::Error(Fault::Operation(error)),
     }
 }
 
@@ -70,16 +51,16 @@ pub enum NameFault {
     UnexpectedTemplate,
     /// A constructor that takes no such arguments.
     Signature,
-    /// The function has the second number of parameters, and is given the first.
+    /// The function has the first number of parameters, and is given the second.
     ParamCount(usize, usize),
     /// A function without a value, called for one.
     Void,
     /// A function of this type returns nothing.
-    NoReturn(NumericType),
+    NoReturn(ScalarType),
     /// A function without a type returns this.
-    UnexpectedReturn(NumericType),
+    UnexpectedReturn(ScalarType),
     /// The function returns the first type, which doesn't convert to its own.
-    ReturnType(NumericType, NumericType),
+    ReturnType(ScalarType, ScalarType),
     /// The function has no stage.
     NotEntrypoint,
     /// A parameter of an entry point without a location.

@@ -3,9 +3,9 @@
 ghost use Rattle.std.specs.Prelude.{◌≡◌, ℕ, ◌+◌, Option};
 ghost use Rattle.wgsl_path.specs.declared.path.ModulePath.{ModulePath};
 ghost use Rattle.wgsl_syntax.specs.Tree.{Exp};
-ghost use Rattle.wgsl_meaning.specs.declared.value.Value.{Value};
-ghost use Rattle.wgsl_meaning.specs.declared.value.ShaderStage.{ShaderStage};
-ghost use Rattle.wgsl_meaning.specs.declared.value.ShaderStage.TheVariants.{Const};
+ghost use Rattle.wgsl_shader_type.specs.declared.literal.LiteralInstance.{LiteralInstance};
+ghost use Rattle.wgsl_enumerations.specs.declared.words.ShaderStage.{ShaderStage};
+ghost use Rattle.wgsl_enumerations.specs.declared.words.ShaderStage.TheVariants.{Const};
 ghost use Rattle.wgsl_meaning.specs.Outcome.{Done};
 ghost use Rattle.wgsl_meaning.specs.Names.{Symbol};
 ghost use Rattle.wgsl_meaning.specs.Meaning.{Env, World, value, typed};
@@ -16,12 +16,12 @@ ghost use Rattle.wgsl_meaning.specs.Written.{HasConstructor, written};
 
 /// A larger bound changes nothing of a run that is over.
 pub fn larger_bounds_agree()
-    ensures { (p : Program) (j k : ℕ) (s : Symbol) (inputs : Inputs) → Extends (Option Value) (run p k s inputs) (run p (j + k) s inputs) }
+    ensures { (p : Program) (j k : ℕ) (s : Symbol) (inputs : Inputs) → Extends (Option LiteralInstance) (run p k s inputs) (run p (j + k) s inputs) }
 {}
 
 /// Where the const stage gives a value, each stage gives the same one in the same steps.
 pub fn const_values_hold()
-    ensures { (p : Program) (k : ℕ) (m : ModulePath) (t : ShaderStage) (env : Env) (e : Exp) (v : Value) (n : ℕ) → value (world p k Const m) env e ≡ Done v n → value (world p k t m) env e ≡ Done v n }
+    ensures { (p : Program) (k : ℕ) (m : ModulePath) (t : ShaderStage) (env : Env) (e : Exp) (v : LiteralInstance) (n : ℕ) → value (world p k Const m) env e ≡ Done v n → value (world p k t m) env e ≡ Done v n }
 {}
 
 /// Where typing gives a type and evaluation a value, the value has the type.
@@ -31,5 +31,5 @@ pub fn types_agree_with_values()
 
 /// What is written for a value has that value, without a step, wherever `i32` is the constructor.
 pub fn written_values_hold()
-    ensures { (w : World) (env : Env) (v : Value) → HasConstructor w env → value w env (written v) ≡ Done v 0 }
+    ensures { (w : World) (env : Env) (v : LiteralInstance) → HasConstructor w env → value w env (written v) ≡ Done v 0 }
 {}

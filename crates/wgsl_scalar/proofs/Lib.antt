@@ -1,3 +1,4 @@
 pub mod Widened
 pub mod Types
 pub mod Stages
+pub mod OperatorTypes

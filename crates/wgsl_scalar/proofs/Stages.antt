@@ -18,7 +18,7 @@ use Rattle.wgsl_scalar.specs.Conversions.{Checked, then_value, to_integer, conve
 use Rattle.wgsl_scalar.specs.Operators.{is_lenient, at_exec, exact, or_error, divides, of_numbers, is_bitwise, of_alike, shifted_or, shifted_value, common, is_amount, takes, no_candidate, at_common, at_left, binary_value}
 
 -- this value, too
-abbrev Holds : Checked → Checked → Type 0
+abbrev pub Holds : Checked → Checked → Type 0
 Holds (Ok v) r = r ≡ Ok v
 Holds (Err e) r = ⊤
 
@@ -26,11 +26,11 @@ abbrev SomeHolds : Option LiteralInstance → Option LiteralInstance → Type 0
 SomeHolds (Some v) r = r ≡ Some v
 SomeHolds None r = ⊤
 
-same_holds : (r : Checked) → Holds r r
+pub same_holds : (r : Checked) → Holds r r
 same_holds (Ok v) = refl
 same_holds (Err e) = tt
 
-or_error_holds : (v w : Option LiteralInstance) (e : Error) → SomeHolds v w → Holds (or_error v e) (or_error w e)
+pub or_error_holds : (v w : Option LiteralInstance) (e : Error) → SomeHolds v w → Holds (or_error v e) (or_error w e)
 or_error_holds (Some v) w e h = ap (λ o. or_error o e) h
 or_error_holds None w e h = tt
 
@@ -39,7 +39,7 @@ exact_holds_by : (b : Bool) (s : ShaderStage) (t : IntegerType) (v w : LiteralIn
 exact_holds_by true s t v w = refl
 exact_holds_by false s t v w = tt
 
-exact_holds : (s : ShaderStage) (t : IntegerType) (z : ℤ) → SomeHolds (exact Const t z) (exact s t z)
+pub exact_holds : (s : ShaderStage) (t : IntegerType) (z : ℤ) → SomeHolds (exact Const t z) (exact s t z)
 exact_holds s t z = exact_holds_by (fits t z) s t _ _
 
 divided_holds : (b : Bool) (s : ShaderStage) (t : IntegerType) (q r : ℤ)

@@ -25,31 +25,12 @@ use Rattle.wgsl_scalar.specs.declared.scalar.IntegerType.TheVariants.{AbstractIn
 use Rattle.wgsl_scalar.specs.Scalars.{scalar_type, integer_type, type_of, fits, value_at, wrapped}
 use Rattle.wgsl_scalar.specs.Conversions.{Checked, then_value, to_integer, converted}
 use Rattle.wgsl_scalar.specs.Operators.{is_lenient, at_exec, exact, or_error, divides, of_numbers, is_bitwise, of_truths, of_alike, shift_amount, shifted_or, shifted_value, common, is_amount, takes_truths, takes_integers, takes, no_candidate, at_common, at_left, binary_value}
+use Rattle.wgsl_scalar.specs.OperatorTypes.{given_by, given, type_at, shift_type, type_between}
 use Rattle.wgsl_scalar.specs.Laws.{shader_type_of}
-
--- ---- the type of a result, over scalar types
-
-abbrev given_by : Bool → ScalarType → ScalarType
-given_by true t = Truth
-given_by false t = t
-
-abbrev given : BinaryOperator → ScalarType → ScalarType
-given o t = given_by (is_comparison o) t
-
-abbrev at_type : BinaryOperator → Option ScalarType → Option ScalarType
-at_type o None = None
-at_type o (Some t) = if takes o t then Some (given o t) else None
-
-abbrev at_shift : ScalarType → ScalarType → Option ScalarType
-at_shift (Integer t) u = if is_amount u then Some (Integer t) else None
-at_shift Truth u = None
-
-abbrev typed : BinaryOperator → ScalarType → ScalarType → Option ScalarType
-typed o t u = if is_shift o then at_shift t u else at_type o (common t u)
 
 -- ---- it is the operators' type
 
-takes_truth : (o : BinaryOperator) → takes_type o type.Bool ≡ takes_truths o
+pub takes_truth : (o : BinaryOperator) → takes_type o type.Bool ≡ takes_truths o
 unfolding tree.out-ShaderType denote.Hole.Carrier.out
 takes_truth ShortCircuitOr = refl
 takes_truth o = refl
@@ -77,7 +58,7 @@ chosen : (b : Bool) (p q : Option ShaderType) (r s : Option ScalarType) → p �
 chosen true p q r s h k = h
 chosen false p q r s h k = k
 
-taken : (o : BinaryOperator) (t : ScalarType) → if_taken o (scalar_type t) ≡ option_map scalar_type (at_type o (Some t))
+taken : (o : BinaryOperator) (t : ScalarType) → if_taken o (scalar_type t) ≡ option_map scalar_type (type_at o (Some t))
 taken o t =
     ap (λ b. if b then Some (gives o (scalar_type t)) else None) (takes_same o t)
     ∙ chosen (takes o t) _ _ _ _ (ap Some (given_same (is_comparison o) t)) refl
@@ -116,14 +97,14 @@ amount_same (Integer AbstractInt) = ap is_some (rank_out (scalar_type (Integer A
 amount_same (Integer I32) = ap is_some (rank_out (scalar_type (Integer I32)) type.U32)
 amount_same (Integer U32) = ap is_some (rank_out (scalar_type (Integer U32)) type.U32)
 
-shift_same : (t u : ScalarType) → (if is_integer (scalar_type t) && converts (scalar_type u) type.U32 then Some (scalar_type t) else None) ≡ option_map scalar_type (at_shift t u)
+shift_same : (t u : ScalarType) → (if is_integer (scalar_type t) && converts (scalar_type u) type.U32 then Some (scalar_type t) else None) ≡ option_map scalar_type (shift_type t u)
 unfolding tree.out-ShaderType denote.Hole.Carrier.out
 shift_same Truth u = refl
 shift_same (Integer AbstractInt) u = ap (λ b. if b then Some (scalar_type (Integer AbstractInt)) else None) (amount_same u) ∙ chosen (is_amount u) _ _ _ _ refl refl
 shift_same (Integer I32) u = ap (λ b. if b then Some (scalar_type (Integer I32)) else None) (amount_same u) ∙ chosen (is_amount u) _ _ _ _ refl refl
 shift_same (Integer U32) u = ap (λ b. if b then Some (scalar_type (Integer U32)) else None) (amount_same u) ∙ chosen (is_amount u) _ _ _ _ refl refl
 
-by_common : (o : BinaryOperator) (c : Option ScalarType) → option_and_then (if_taken o) (option_map scalar_type c) ≡ option_map scalar_type (at_type o c)
+by_common : (o : BinaryOperator) (c : Option ScalarType) → option_and_then (if_taken o) (option_map scalar_type c) ≡ option_map scalar_type (type_at o c)
 by_common o None = refl
 by_common o (Some t) = taken o t
 
@@ -146,13 +127,13 @@ of_component o (Integer U32) (Integer AbstractInt) = refl
 of_component o (Integer U32) (Integer I32) = refl
 of_component o (Integer U32) (Integer U32) = refl
 
-result_is : (o : BinaryOperator) (t u : ScalarType) → binary_result o (scalar_type t) (scalar_type u) ≡ option_map scalar_type (typed o t u)
+pub result_is : (o : BinaryOperator) (t u : ScalarType) → binary_result o (scalar_type t) (scalar_type u) ≡ option_map scalar_type (type_between o t u)
 result_is o t u =
-    of_component o t u ∙ chosen (is_shift o) _ _ (at_shift t u) (at_type o (common t u)) (shift_same t u) (ap (option_and_then (if_taken o)) (common_same t u) ∙ by_common o (common t u))
+    of_component o t u ∙ chosen (is_shift o) _ _ (shift_type t u) (type_at o (common t u)) (shift_same t u) (ap (option_and_then (if_taken o)) (common_same t u) ∙ by_common o (common t u))
 
 -- ---- values have it
 
-abbrev HasType : ScalarType → Checked → Type 0
+abbrev pub HasType : ScalarType → Checked → Type 0
 HasType t (Ok v) = type_of v ≡ t
 HasType t (Err e) = ⊤
 
@@ -160,7 +141,7 @@ abbrev SomeHas : IntegerType → Option LiteralInstance → Type 0
 SomeHas t (Some v) = type_of v ≡ Integer t
 SomeHas t None = ⊤
 
-value_has : (t : IntegerType) (z : ℤ) → type_of (value_at t z) ≡ Integer t
+pub value_has : (t : IntegerType) (z : ℤ) → type_of (value_at t z) ≡ Integer t
 value_has AbstractInt z = refl
 value_has I32 z = refl
 value_has U32 z = refl
@@ -181,7 +162,7 @@ or_error_has : (t : IntegerType) (v : Option LiteralInstance) (e : Error) → So
 or_error_has t (Some v) e h = h
 or_error_has t None e h = tt
 
-exactly_has : (s : ShaderStage) (t : IntegerType) (z : ℤ) (e : Error) → HasType (Integer t) (or_error (exact s t z) e)
+pub exactly_has : (s : ShaderStage) (t : IntegerType) (z : ℤ) (e : Error) → HasType (Integer t) (or_error (exact s t z) e)
 exactly_has s t z e = or_error_has t (exact s t z) e (exact_has s t z)
 
 by_divisor : (s : ShaderStage) (b : Bool) (t : IntegerType) (q r : ℤ) (e : Error) → HasType (Integer t) (or_error (if b then exact s t q else at_exec s t (exact s t r)) e)
@@ -224,7 +205,7 @@ alike_have s o (literal.I32 a) (literal.I32 b) = bits_have o I32 _ _ refl (numbe
 alike_have s o (literal.U32 a) (literal.U32 b) = bits_have o U32 _ _ refl (numbers_have s o U32 (pos a) (pos b))
 alike_have s o a b = tt
 
-abstract_has : (b : Bool) (t : IntegerType) (v : LiteralInstance) (e : Error) → type_of v ≡ Integer t → HasType (Integer t) (if b then Ok v else Err e)
+pub abstract_has : (b : Bool) (t : IntegerType) (v : LiteralInstance) (e : Error) → type_of v ≡ Integer t → HasType (Integer t) (if b then Ok v else Err e)
 abstract_has true t v e h = h
 abstract_has false t v e h = tt
 
@@ -234,7 +215,7 @@ integer_has I32 (literal.I32 z) = refl
 integer_has U32 (literal.U32 n) = refl
 integer_has t v = tt
 
-converted_has : (t : ScalarType) (v : LiteralInstance) → HasType t (converted t v)
+pub converted_has : (t : ScalarType) (v : LiteralInstance) → HasType t (converted t v)
 converted_has Truth (literal.Bool b) = refl
 converted_has (Integer t) v = integer_has t v
 converted_has t v = tt
@@ -244,7 +225,7 @@ then_has t u (Ok a) f h k = k a h
 then_has t u (Err e) f h k = tt
 
 -- what the operators answer at this type, or with this error where there is none
-abbrev Meets : Checked → Option ScalarType → Checked → Type 0
+abbrev pub Meets : Checked → Option ScalarType → Checked → Type 0
 Meets e None r = r ≡ e
 Meets e (Some t) r = HasType t r
 
@@ -252,7 +233,7 @@ meets_if : (b : Bool) (e r : Checked) (t : ScalarType) → HasType t r → Meets
 meets_if true e r t h = h
 meets_if false e r t h = refl
 
-meets_type : (s : ShaderStage) (o : BinaryOperator) (x y : LiteralInstance) (c : Option ScalarType) → Meets (no_candidate o x y) (at_type o c) (at_common s o x y c)
+meets_type : (s : ShaderStage) (o : BinaryOperator) (x y : LiteralInstance) (c : Option ScalarType) → Meets (no_candidate o x y) (type_at o c) (at_common s o x y c)
 meets_type s o x y None = refl
 meets_type s o x y (Some t) =
     meets_if (takes o t) (no_candidate o x y) _ (given o t)
@@ -267,7 +248,7 @@ shifted_has : (s : ShaderStage) (o : BinaryOperator) (t : IntegerType) (v a : Li
 shifted_has s o t v (literal.U32 n) = amount_has s o t v n (shift_amount s t n)
 shifted_has s o t v a = tt
 
-meets_shift : (s : ShaderStage) (o : BinaryOperator) (x y : LiteralInstance) (t : ScalarType) → Meets (no_candidate o x y) (at_shift t (type_of y)) (at_left s o x y t)
+meets_shift : (s : ShaderStage) (o : BinaryOperator) (x y : LiteralInstance) (t : ScalarType) → Meets (no_candidate o x y) (shift_type t (type_of y)) (at_left s o x y t)
 meets_shift s o x y (Integer t) =
     meets_if (is_amount (type_of y)) (no_candidate o x y) _ (Integer t) (then_has (Integer U32) (Integer t) (to_integer U32 y) _ (integer_has U32 y) (λ a h. shifted_has s o t x a))
 meets_shift s o x y Truth = refl
@@ -276,22 +257,22 @@ meets_chosen : (b : Bool) (e : Checked) (c d : Option ScalarType) (p q : Checked
 meets_chosen true e c d p q h k = h
 meets_chosen false e c d p q h k = k
 
-meets : (s : ShaderStage) (o : BinaryOperator) (x y : LiteralInstance) → Meets (no_candidate o x y) (typed o (type_of x) (type_of y)) (binary_value s o x y)
+pub meets : (s : ShaderStage) (o : BinaryOperator) (x y : LiteralInstance) → Meets (no_candidate o x y) (type_between o (type_of x) (type_of y)) (binary_value s o x y)
 meets s o x y = meets_chosen (is_shift o) (no_candidate o x y) _ _ _ _ (meets_shift s o x y (type_of x)) (meets_type s o x y (common (type_of x) (type_of y)))
 
 -- ---- the laws
 
-abbrev IsError : Checked → Type 0
+abbrev pub IsError : Checked → Type 0
 IsError (Ok v) = ⊥
 IsError (Err e) = ⊤
 
-has_its_type : (o : BinaryOperator) (x y v : LiteralInstance) (c : Option ScalarType) → Meets (no_candidate o x y) c (Ok v) → c ≡ Some (type_of v)
+pub has_its_type : (o : BinaryOperator) (x y v : LiteralInstance) (c : Option ScalarType) → Meets (no_candidate o x y) c (Ok v) → c ≡ Some (type_of v)
 has_its_type o x y v None h = absurd (subst IsError (sym h) tt)
 has_its_type o x y v (Some t) h = ap Some (sym h)
 
 pub value_has_type : (s : ShaderStage) (o : BinaryOperator) (x y v : LiteralInstance) → binary_value s o x y ≡ Ok v → IsBinaryResult o (shader_type_of x) (shader_type_of y) (shader_type_of v)
 value_has_type s o x y v h =
-    let c = typed o (type_of x) (type_of y) in
+    let c = type_between o (type_of x) (type_of y) in
     let e : c ≡ Some (type_of v) = has_its_type o x y v c (subst (Meets (no_candidate o x y) c) h (meets s o x y)) in
     result_found o (shader_type_of x) (shader_type_of y) (shader_type_of v) (sym (result_is o (type_of x) (type_of y) ∙ ap (option_map scalar_type) e))
 
@@ -303,4 +284,4 @@ no_type o x y (Some t) r none is h =
     absurd (none found.first found.second (scalar_type t) found.sum found.candidate)
 
 pub others_refused : (s : ShaderStage) (o : BinaryOperator) (x y : LiteralInstance) → HasNoBinaryCandidate o (shader_type_of x) (shader_type_of y) → binary_value s o x y ≡ no_candidate o x y
-others_refused s o x y none = no_type o x y (typed o (type_of x) (type_of y)) (binary_value s o x y) none (result_is o (type_of x) (type_of y)) (meets s o x y)
+others_refused s o x y none = no_type o x y (type_between o (type_of x) (type_of y)) (binary_value s o x y) none (result_is o (type_of x) (type_of y)) (meets s o x y)

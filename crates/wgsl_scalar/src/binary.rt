@@ -169,7 +169,7 @@ fn of_alike(
 }
 
 /// The type of two operands to which the other converts.
-fn common(left: ScalarType, right: ScalarType) -> Option<ScalarType>
+pub(crate) fn common(left: ScalarType, right: ScalarType) -> Option<ScalarType>
     ensures { result ≡ spec.common left right }
 {
     match (left, right) {
@@ -212,7 +212,7 @@ fn takes_integers(operator: BinaryOperator) -> bool
     )
 }
 
-fn takes(operator: BinaryOperator, ty: ScalarType) -> bool
+pub(crate) fn takes(operator: BinaryOperator, ty: ScalarType) -> bool
     ensures { result ≡ spec.takes operator ty }
 {
     match ty {
@@ -221,7 +221,7 @@ fn takes(operator: BinaryOperator, ty: ScalarType) -> bool
     }
 }
 
-fn is_amount(ty: ScalarType) -> bool
+pub(crate) fn is_amount(ty: ScalarType) -> bool
     ensures { result ≡ spec.is_amount ty }
 {
     matches!(
@@ -230,7 +230,7 @@ fn is_amount(ty: ScalarType) -> bool
     )
 }
 
-fn is_shift(operator: BinaryOperator) -> bool
+pub(crate) fn is_shift(operator: BinaryOperator) -> bool
     ensures { result ≡ shifts operator }
 {
     matches!(
