@@ -21,9 +21,6 @@ second_of : (a b : Bool) → (a && b) ≡ true → b ≡ true
 second_of true b h = h
 second_of false b h = absurd (true≢false (sym h))
 
-both : (a b : Bool) → a ≡ true → b ≡ true → (a && b) ≡ true
-both a b p q = λ i. p i && q i
-
 abbrev numeric_layer : ShaderType-F ShaderType → Bool
 numeric_layer x = integer_layer x || float_layer x
 
