@@ -20,7 +20,12 @@ fn value_of(text: &str) -> Option<LiteralInstance> {
     }
 }
 
-fn binary(stage: ShaderStage, sign: &str, left: LiteralInstance, right: LiteralInstance) -> Result<LiteralInstance, Error> {
+fn binary(
+    stage: ShaderStage,
+    sign: &str,
+    left: LiteralInstance,
+    right: LiteralInstance,
+) -> Result<LiteralInstance, Error> {
     match sign.parse::<BinaryOperator>() {
         Ok(operator) => binary_scalar_op(operator, left, right, stage),
         Err(_) => Err(Error::AddOverflow),

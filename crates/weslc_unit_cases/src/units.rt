@@ -133,8 +133,14 @@ fn evaluated_with(
     unit: &TranslationUnit,
     is_const: bool,
 ) -> Result<String, AllocError> {
-    let consts = [(Text::from_str(alloc, "k")?, LiteralInstance::AbstractInt(40))];
-    let parameters = [(Text::from_str(alloc, "k")?, ScalarType::Integer(IntegerType::U32))];
+    let consts = [(
+        Text::from_str(alloc, "k")?,
+        LiteralInstance::AbstractInt(40),
+    )];
+    let parameters = [(
+        Text::from_str(alloc, "k")?,
+        ScalarType::Integer(IntegerType::U32),
+    )];
     let scope = Scope {
         declarations: &[],
         consts: if is_const { &consts } else { &[] },
