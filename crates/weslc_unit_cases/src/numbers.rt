@@ -40,19 +40,27 @@ fn unary(call: &str, value: LiteralInstance) -> Result<LiteralInstance, Error> {
     }
 }
 
+fn result_of(
+    call: &str,
+    left: LiteralInstance,
+    right: Option<LiteralInstance>,
+) -> Result<LiteralInstance, Error> {
+    match (right, call.split_once(' ')) {
+        (Some(right), Some(("const", sign))) => binary(ShaderStage::Const, sign, left, right),
+        (Some(right), Some(("exec", sign))) => binary(ShaderStage::Exec, sign, left, right),
+        _ => unary(call, left),
+    }
+}
+
+fn shown(alloc: Global, given: &Result<LiteralInstance, Error>) -> Result<String, AllocError> {
+    format!(in alloc; "{given:?}")
+}
+
 pub fn answer(alloc: Global, with: &str) -> Result<String, AllocError> {
     let (call, operands) = cut(with);
     let (left, right) = cut(operands);
-    match (value_of(left), value_of(right), call.split_once(' ')) {
-        (Some(left), Some(right), Some(("const", sign))) => format!(in alloc;
-            "{:?}",
-            binary(ShaderStage::Const, sign, left, right)
-        ),
-        (Some(left), Some(right), Some(("exec", sign))) => format!(in alloc;
-            "{:?}",
-            binary(ShaderStage::Exec, sign, left, right)
-        ),
-        (Some(value), _, _) => format!(in alloc; "{:?}", unary(call, value)),
-        _ => String::from_str(alloc, "no number"),
+    match value_of(left) {
+        Some(value) => shown(alloc, &result_of(call, value, value_of(right))),
+        None => String::from_str(alloc, "no number"),
     }
 }
