@@ -1,0 +1,12 @@
+//! Values of all types, and the memory that references are places in.
+#![tactic(auto)]
+
+mod alike;
+mod copy;
+pub mod tree;
+mod typed;
+
+pub use tree::{
+    ArrayInstance, ArrayInstanceOf, Instance, PtrInstance, RefInstance, Step, StructInstance,
+    StructInstanceOf, VecInstance,
+};
