@@ -1,3 +1,6 @@
 pub mod Alike
+pub mod Answer
+pub mod Converted
 pub mod Equality
 pub mod Typed
+pub mod Zero

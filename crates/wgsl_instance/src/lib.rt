@@ -2,9 +2,11 @@
 #![tactic(auto)]
 
 mod alike;
+mod convert;
 mod copy;
 pub mod tree;
 mod typed;
+mod zero;
 
 pub use tree::{
     ArrayInstance, ArrayInstanceOf, Instance, PtrInstance, RefInstance, Step, StructInstance,
