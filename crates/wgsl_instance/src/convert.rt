@@ -148,7 +148,7 @@ fn convert_parts(alloc: Global, value: &Instance, ty: &Type) -> Result<Instance,
             None => mismatch(alloc, value, ty),
         },
         Instance::Array(x) => match element_of(ty) {
-            Some(element) => convert_array(alloc, element, x),
+            Some(element) => convert_array(alloc, x, element),
             None => mismatch(alloc, value, ty),
         },
         Instance::Struct(_) => mismatch(alloc, value, ty),
@@ -159,10 +159,10 @@ fn convert_parts(alloc: Global, value: &Instance, ty: &Type) -> Result<Instance,
 }
 
 #[cycle(convert)]
-fn convert_array(alloc: Global, element: &Type, value: &ArrayInstance) -> Result<Instance, Error>
+fn convert_array(alloc: Global, value: &ArrayInstance, element: &Type) -> Result<Instance, Error>
     ensures { Answers (spec.converted_array spec.converted element.now value.now) result }
 {
-    let components = convert_elements(alloc, element, value.components.as_slice())?;
+    let components = convert_elements(alloc, value.components.as_slice(), element)?;
     Ok(Instance::Array(ArrayInstance {
         element: element.clone(alloc)?,
         components,
@@ -171,7 +171,11 @@ fn convert_array(alloc: Global, element: &Type, value: &ArrayInstance) -> Result
 }
 
 #[cycle(convert)]
-fn convert_elements(alloc: Global, ty: &Type, elements: &[Instance]) -> Result<Items<Instance>, Error>
+fn convert_elements(
+    alloc: Global,
+    elements: &[Instance],
+    ty: &Type,
+) -> Result<Items<Instance>, Error>
     ensures { Answers (collected (λ x. spec.converted x ty.now) elements.now) result }
 {
     let mut converted = Items::new(alloc);
