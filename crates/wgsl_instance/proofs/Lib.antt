@@ -1,3 +1,4 @@
 pub mod Collecting
 pub mod Conversions
+pub mod Puts
 pub mod Zeros

@@ -2,5 +2,6 @@ pub mod Alike
 pub mod Answer
 pub mod Converted
 pub mod Equality
+pub mod Places
 pub mod Typed
 pub mod Zero

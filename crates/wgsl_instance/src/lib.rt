@@ -4,10 +4,13 @@
 mod alike;
 mod convert;
 mod copy;
+pub mod memory;
+mod place;
 pub mod tree;
 mod typed;
 mod zero;
 
+pub use memory::Memory;
 pub use tree::{
     ArrayInstance, ArrayInstanceOf, Instance, PtrInstance, RefInstance, Step, StructInstance,
     StructInstanceOf, VecInstance,
