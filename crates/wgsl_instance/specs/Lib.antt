@@ -4,4 +4,5 @@ pub mod Converted
 pub mod Equality
 pub mod Places
 pub mod Typed
+pub mod Views
 pub mod Zero

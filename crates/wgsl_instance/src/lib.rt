@@ -8,6 +8,7 @@ pub mod memory;
 mod place;
 pub mod tree;
 mod typed;
+mod view;
 mod zero;
 
 pub use memory::Memory;

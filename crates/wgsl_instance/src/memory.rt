@@ -21,9 +21,13 @@ pub struct Memory {
 
 impl Model for Memory {
     ghost use Rattle.std.specs.Prelude.{List};
-    ghost use Rattle.wgsl_instance.specs.declared.tree.Instance.{Instance as Value};
+    ghost use Rattle.std.specs.Coded.{codes};
+    ghost use Rattle.wgsl_instance.specs.declared.tree.Instance.{Instance};
+    ghost use Rattle.wgsl_instance.specs.contracts.tree.Instance as instance;
 
-    ghost Value = { List Value };
+    ghost Value = { List Instance };
+
+    ghost coded = { Prim.hlevel (codes, instance.the_row.coded) };
 
     ghost view = { λ memory. memory.cells };
 }
@@ -102,6 +106,13 @@ impl Memory {
         self.cells.len()
     }
 
+    /// The values of the cells.
+    pub fn as_slice(&self) -> &[Instance]
+        ensures { result.now ≡ self.now }
+    {
+        self.cells.as_slice()
+    }
+
     /// A new cell with this value, and its number. Refused for want of memory alone, and then nothing is changed.
     pub fn allocate(&mut self, value: Instance) -> Result<usize, AllocError>
         ensures ok { OnOk result (self.new ≡ self.old ++ value ∷ []) }
@@ -117,7 +128,7 @@ impl Memory {
     pub fn truncate(&mut self, len: usize)
         ensures { self.new ≡ take len self.old }
     {
-        for _ in len..self.cells.len() {
+        while self.cells.len() > len {
             self.cells.pop();
         }
     }

@@ -1,0 +1,216 @@
+-- Members, components and elements, of references and of values (WGSL, "Composite Value Decomposition Expressions").
+use Rattle.std.specs.Prelude.{ℕ, ◌==◌, ◌&&◌, ◌||◌, ℤ, pos, negsuc, Bool, true, false, List, [], ◌∷◌, ◌++◌, length, Option, Some, None, Result, Ok, Err, nat_lt, nat_le, position, option_and_then, slice_get, if◌then◌else◌}
+use Rattle.std.specs.List.{list_all}
+use Rattle.std.specs.Str.{bytes_eq}
+use Rattle.wgsl_enumerations.specs.declared.address.AddressSpace.{AddressSpace}
+use Rattle.wgsl_enumerations.specs.declared.address.AddressSpace.TheVariants.{Handle}
+use Rattle.wgsl_operators.specs.declared.UnaryOperator.TheVariants.{AddressOf, Indirection}
+use Rattle.wgsl_shader_type.specs.declared.error.Error.{Error}
+use Rattle.wgsl_shader_type.specs.declared.error.Error.TheVariants as error
+use Rattle.wgsl_shader_type.specs.declared.literal.LiteralInstance.{LiteralInstance}
+use Rattle.wgsl_shader_type.specs.declared.tree.StructTypeOf.{StructTypeOf}
+use Rattle.wgsl_shader_type.specs.declared.tree.StructMemberTypeOf.{StructMemberTypeOf}
+use Rattle.wgsl_shader_type.specs.declared.tree.ShaderType.{ShaderType, out-ShaderType}
+use Rattle.wgsl_shader_type.specs.declared.tree.ShaderType.TheVariants as type
+use Rattle.wgsl_shader_type.specs.declared.tree.ShaderType.TheOpen.{ShaderType-F}
+use Rattle.wgsl_scalar.specs.declared.scalar.ScalarType.{ScalarType}
+use Rattle.wgsl_instance.specs.declared.tree.StructInstanceOf.{StructInstanceOf}
+use Rattle.wgsl_instance.specs.declared.tree.ArrayInstanceOf.{ArrayInstanceOf}
+use Rattle.wgsl_instance.specs.declared.tree.VecInstance.{VecInstance}
+use Rattle.wgsl_instance.specs.declared.tree.RefInstance.{RefInstance}
+use Rattle.wgsl_instance.specs.declared.tree.PtrInstance.{PtrInstance}
+use Rattle.wgsl_instance.specs.declared.tree.Step.{Step}
+use Rattle.wgsl_instance.specs.declared.tree.Step.TheVariants.{Member, Element, Component}
+use Rattle.wgsl_instance.specs.declared.tree.Instance.{Instance, out-Instance}
+use Rattle.wgsl_instance.specs.declared.tree.Instance.TheVariants as v
+use Rattle.wgsl_instance.specs.declared.tree.Instance.TheOpen.{Instance-F}
+use Rattle.wgsl_instance.specs.Answer.{then_with, collected}
+use Rattle.wgsl_instance.specs.Typed.{type_of, vector_type, array_type}
+use Rattle.wgsl_instance.specs.Zero.{Made}
+use Rattle.wgsl_instance.specs.Places.{or_error, place, no_place}
+
+-- ---- names of components
+
+abbrev pub is_xyzw : ℕ → Bool
+is_xyzw c = (c == 120) || (c == 121) || (c == 122) || (c == 119)
+
+abbrev pub is_rgba : ℕ → Bool
+is_rgba c = (c == 114) || (c == 103) || (c == 98) || (c == 97)
+
+-- `x` and `r` are the first component, `y` and `g` the second, `z` and `b` the third, `w` and `a` the fourth
+abbrev pub letter_index : ℕ → ℕ
+letter_index c =
+    if (c == 120) || (c == 114) then 0 else (if (c == 121) || (c == 103) then 1 else (if (c == 122) || (c == 98) then 2 else 3))
+
+-- 1 to 4 letters, all of `xyzw` or all of `rgba`
+abbrev pub is_swizzle : List ℕ → Bool
+is_swizzle name = nat_le 1 (length name) && nat_le (length name) 4 && (list_all is_xyzw name || list_all is_rgba name)
+
+-- ---- positions
+
+-- an index in a list of so many
+abbrev pub in_range : ℤ → ℕ → Option ℕ
+in_range (pos i) n = if nat_lt i n then Some i else None
+in_range (negsuc i) n = None
+
+-- the first member of this name
+abbrev pub member_position : List ℕ → List (StructMemberTypeOf ShaderType) → Option ℕ
+member_position name ms = position (λ m. bytes_eq m.name name) ms
+
+-- ---- references
+
+abbrev pub Viewed : Type 0
+Viewed = Result RefInstance Error
+
+-- a reference to a part of what a reference refers to
+abbrev pub stepped : RefInstance → Step → ShaderType → RefInstance
+stepped r step t = record { cell = r.cell; path = r.path ++ step ∷ []; ty = t; space = r.space; access = r.access }
+
+abbrev pub no_component : ShaderType → List ℕ → Error
+no_component t name = error.Component t name
+
+abbrev pub member_at : RefInstance → List ℕ → ℕ → Option (StructMemberTypeOf ShaderType) → Viewed
+member_at r name i (Some m) = Ok (stepped r (Member i) m.ty)
+member_at r name i None = Err (no_component r.ty name)
+
+abbrev pub member_found : RefInstance → List ℕ → List (StructMemberTypeOf ShaderType) → Option ℕ → Viewed
+member_found r name ms (Some i) = member_at r name i (slice_get ms i)
+member_found r name ms None = Err (no_component r.ty name)
+
+-- a part at this index, of so many
+abbrev pub part_view : RefInstance → (ℕ → Step) → ShaderType → ℕ → ℤ → Option ℕ → Viewed
+part_view r step t n index (Some i) = Ok (stepped r (step i) t)
+part_view r step t n index None = Err (error.OutOfBounds index r.ty n)
+
+abbrev pub element_view : RefInstance → (ℕ → Step) → ShaderType → ℕ → ℤ → Viewed
+element_view r step t n index = part_view r step t n index (in_range index n)
+
+abbrev pub is_letter : ℕ → Bool
+is_letter c = is_xyzw c || is_rgba c
+
+-- the letter that a name is, if it is one that names a component
+abbrev pub one_letter : List ℕ → Option ℕ
+one_letter (c ∷ []) = if is_letter c then Some c else None
+one_letter name = None
+
+abbrev pub letter_view_at : RefInstance → ShaderType → ℕ → List ℕ → Option ℕ → Viewed
+letter_view_at r t n name (Some c) = element_view r Component t n (pos (letter_index c))
+letter_view_at r t n name None = Err (no_component r.ty name)
+
+abbrev pub letter_view : RefInstance → ShaderType → ℕ → List ℕ → Viewed
+letter_view r t n name = letter_view_at r t n name (one_letter name)
+
+abbrev pub member_view_at : RefInstance → List ℕ → ShaderType-F ShaderType → Viewed
+member_view_at r name (ShaderType-F.Struct s) = member_found r name s.members (member_position name s.members)
+member_view_at r name (ShaderType-F.Vec n t) = letter_view r t n name
+member_view_at r name x = Err (no_component r.ty name)
+
+-- A reference to a member of a struct, or to a component of a vector. More than one letter gives no reference.
+abbrev pub member_view : RefInstance → List ℕ → Viewed
+member_view r name = member_view_at r name (out-ShaderType r.ty)
+
+abbrev pub count_layer : {A : Type 0} → Instance-F A → Option ℕ
+count_layer (Instance-F.Array a) = Some (length a.components)
+count_layer x = None
+
+-- how many elements the array that a value is has
+abbrev pub count_in : Instance → Option ℕ
+count_in x = count_layer (out-Instance x)
+
+abbrev pub counted_view : List Instance → RefInstance → ShaderType → ℤ → Option ℕ → Viewed
+counted_view memory r t index (Some n) = element_view r Element t n index
+counted_view memory r t index None = Err (no_place memory r)
+
+abbrev pub array_view : List Instance → RefInstance → ShaderType → Option ℕ → ℤ → Viewed
+array_view memory r t (Some n) index = element_view r Element t n index
+array_view memory r t None index = counted_view memory r t index (option_and_then count_in (place memory r))
+
+abbrev pub index_view_at : List Instance → RefInstance → ℤ → ShaderType-F ShaderType → Viewed
+index_view_at memory r index (ShaderType-F.Array t n) = array_view memory r t n index
+index_view_at memory r index (ShaderType-F.Vec n t) = element_view r Component t n index
+index_view_at memory r index x = Err (error.NotIndexable r.ty)
+
+-- A reference to an element of an array, or to a component of a vector. An array without a count has as many elements as the value in memory.
+abbrev pub index_view : List Instance → RefInstance → ℤ → Viewed
+index_view memory r index = index_view_at memory r index (out-ShaderType r.ty)
+
+-- ---- values
+
+abbrev pub component_or : VecInstance → ℕ → Option LiteralInstance → Result LiteralInstance Error
+component_or w i (Some x) = Ok x
+component_or w i None = Err (error.OutOfBounds (pos i) (vector_type w) (length w.components))
+
+-- the component that a letter names
+abbrev pub lettered : VecInstance → ℕ → Result LiteralInstance Error
+lettered w c = component_or w (letter_index c) (slice_get w.components (letter_index c))
+
+-- one scalar, or a vector of several
+abbrev pub of_components : ScalarType → List LiteralInstance → Instance
+of_components t (x ∷ []) = v.Literal x
+of_components t xs = v.Vec (record { ty = t; components = xs })
+
+abbrev pub swizzled : VecInstance → List ℕ → Made
+swizzled w name =
+    if is_swizzle name then then_with (collected (lettered w) name) (λ xs. Ok (of_components w.ty xs)) else Err (no_component (vector_type w) name)
+
+abbrev pub member_of : StructInstanceOf Instance → List ℕ → Made
+member_of s name = or_error (option_and_then (slice_get s.members) (member_position name s.ty.members)) (no_component (type.Struct s.ty) name)
+
+abbrev pub member_layer : Instance → List ℕ → Instance-F Instance → Made
+member_layer x name (Instance-F.Struct s) = member_of s name
+member_layer x name (Instance-F.Vec w) = swizzled w name
+member_layer x name y = Err (no_component (type_of x) name)
+
+-- A member of a struct, or the components of a vector that letters name.
+abbrev pub member : Instance → List ℕ → Made
+member x name = member_layer x name (out-Instance x)
+
+abbrev pub element : ArrayInstanceOf Instance → ℤ → Made
+element a index = or_error (option_and_then (slice_get a.components) (in_range index (length a.components))) (error.OutOfBounds index (array_type a) (length a.components))
+
+abbrev pub component : VecInstance → ℤ → Result LiteralInstance Error
+component w index = or_error (option_and_then (slice_get w.components) (in_range index (length w.components))) (error.OutOfBounds index (vector_type w) (length w.components))
+
+abbrev pub index_layer : Instance → ℤ → Instance-F Instance → Made
+index_layer x index (Instance-F.Array a) = element a index
+index_layer x index (Instance-F.Vec w) = then_with (component w index) (λ c. Ok (v.Literal c))
+index_layer x index y = Err (error.NotIndexable (type_of x))
+
+-- An element of an array, or a component of a vector.
+abbrev pub indexed : Instance → ℤ → Made
+indexed x index = index_layer x index (out-Instance x)
+
+-- ---- pointers (WGSL, "Address-Of Expression", "Indirection Expression")
+
+abbrev pub is_component : Step → Bool
+is_component (Component i) = true
+is_component step = false
+
+abbrev pub ends_in_component : List Step → Bool
+ends_in_component [] = false
+ends_in_component (step ∷ []) = is_component step
+ends_in_component (step ∷ path) = ends_in_component path
+
+abbrev pub is_handle : AddressSpace → Bool
+is_handle Handle = true
+is_handle space = false
+
+-- There is no pointer into the handle space, nor to a component of a vector.
+abbrev pub pointer_to : RefInstance → Made
+pointer_to r = if is_handle r.space then Err error.PtrHandle else (if ends_in_component r.path then Err error.PtrVecComp else Ok (v.Ptr (record { reference = r })))
+
+abbrev pub address_layer : Instance → Instance-F Instance → Made
+address_layer x (Instance-F.Ref r) = pointer_to r
+address_layer x y = Err (error.Unary AddressOf (type_of x))
+
+-- what `&` gives
+abbrev pub address_of : Instance → Made
+address_of x = address_layer x (out-Instance x)
+
+abbrev pub indirection_layer : Instance → Instance-F Instance → Made
+indirection_layer x (Instance-F.Ptr p) = Ok (v.Ref p.reference)
+indirection_layer x y = Err (error.Unary Indirection (type_of x))
+
+-- what `*` gives
+abbrev pub indirection : Instance → Made
+indirection x = indirection_layer x (out-Instance x)

@@ -1,0 +1,321 @@
+//! References to parts of what a reference refers to (WGSL, "Composite Value Decomposition Expressions").
+
+ghost use Rattle.std.specs.Prelude.{◌≡◌, ◌||◌, Err, IfOk, pos, option_and_then, slice_get};
+ghost use Rattle.wgsl_instance.specs.declared.tree.Step.TheVariants.{Component, Element};
+ghost use Rattle.wgsl_instance.specs.Answer.{Answers};
+ghost use Rattle.wgsl_instance.specs.Places as places;
+ghost use Rattle.wgsl_instance.specs.Views as spec;
+
+use crate::copy::copy_path;
+use crate::memory::{Memory, no_place};
+use crate::tree::{Instance, RefInstance, Step};
+use std::alloc::{AllocError, Global};
+use wgsl_items::{Items, Text};
+use wgsl_shader_type::{Error, StructMemberType, Type};
+
+pub(crate) fn is_xyzw(letter: u8) -> bool
+    ensures { result ≡ spec.is_xyzw letter }
+{
+    letter == 120 || letter == 121 || letter == 122 || letter == 119
+}
+
+pub(crate) fn is_rgba(letter: u8) -> bool
+    ensures { result ≡ spec.is_rgba letter }
+{
+    letter == 114 || letter == 103 || letter == 98 || letter == 97
+}
+
+/// The position of the component that a letter names.
+pub(crate) fn letter_index(letter: u8) -> usize
+    ensures { result ≡ spec.letter_index letter }
+{
+    if letter == 120 || letter == 114 {
+        0
+    } else if letter == 121 || letter == 103 {
+        1
+    } else if letter == 122 || letter == 98 {
+        2
+    } else {
+        3
+    }
+}
+
+/// An index in a list of so many.
+pub(crate) fn in_range(index: i64, count: usize) -> Option<usize>
+    ensures { result ≡ spec.in_range index count }
+{
+    let position = usize::try_from(index).ok()?;
+    if position < count {
+        Some(position)
+    } else {
+        None
+    }
+}
+
+/// The position of the first member of this name.
+pub(crate) fn member_position(members: &[StructMemberType], name: &str) -> Option<usize>
+    ensures { result ≡ spec.member_position name.now members.now }
+{
+    members
+        .iter()
+        .position(|member| member.name.as_str() == name)
+}
+
+/// The refusal of a name that is no component or member of the type.
+pub(crate) fn no_component<T: Drop>(alloc: Global, ty: &Type, name: &str) -> Result<T, Error>
+    ensures { Answers (Err (spec.no_component ty.now name.now)) result }
+{
+    let ty = ty.clone(alloc)?;
+    let name = Text::from_str(alloc, name)?;
+    Err(Error::Component(ty, name))
+}
+
+/// A reference to a part of what a reference refers to.
+fn stepped(
+    alloc: Global,
+    whole: &RefInstance,
+    step: Step,
+    ty: &Type,
+) -> Result<RefInstance, AllocError>
+    ensures { IfOk result (λ made. made ≡ spec.stepped whole.now step ty.now) }
+{
+    let mut path = copy_path(alloc, whole.path.as_slice())?;
+    path.push(step)?;
+    Ok(RefInstance {
+        cell: whole.cell,
+        path,
+        ty: ty.clone(alloc)?,
+        space: whole.space,
+        access: whole.access,
+    })
+}
+
+/// The refusal of an index that isn't below the number of parts.
+fn out_of_bounds(
+    alloc: Global,
+    index: i64,
+    whole: &RefInstance,
+    count: usize,
+) -> Result<RefInstance, Error>
+    ensures { Answers (Err (Error.OutOfBounds index whole.now.ty count)) result }
+{
+    let ty = whole.ty.clone(alloc)?;
+    Err(Error::OutOfBounds(index, ty, count))
+}
+
+fn element_view(
+    alloc: Global,
+    whole: &RefInstance,
+    element: &Type,
+    count: usize,
+    index: i64,
+) -> Result<RefInstance, Error>
+    ensures { Answers (spec.element_view whole.now Element element.now count index) result }
+{
+    match in_range(index, count) {
+        Some(i) => Ok(stepped(alloc, whole, Step::Element(i), element)?),
+        None => out_of_bounds(alloc, index, whole, count),
+    }
+}
+
+fn component_view(
+    alloc: Global,
+    whole: &RefInstance,
+    component: &Type,
+    count: u8,
+    index: i64,
+) -> Result<RefInstance, Error>
+    ensures { Answers (spec.element_view whole.now Component component.now count index) result }
+{
+    match in_range(index, usize::from(count)) {
+        Some(i) => Ok(stepped(alloc, whole, Step::Component(i), component)?),
+        None => out_of_bounds(alloc, index, whole, usize::from(count)),
+    }
+}
+
+/// The letter that a name is.
+fn one_letter(name: &str) -> Option<u8>
+    ensures { result ≡ spec.one_letter name.now }
+{
+    match name.as_bytes().split_first() {
+        Some((letter, rest)) => {
+            if rest.is_empty() && (is_xyzw(*letter) || is_rgba(*letter)) {
+                Some(*letter)
+            } else {
+                None
+            }
+        }
+        None => None,
+    }
+}
+
+fn letter_view(
+    alloc: Global,
+    whole: &RefInstance,
+    component: &Type,
+    count: u8,
+    name: &str,
+) -> Result<RefInstance, Error>
+    ensures { Answers (spec.letter_view whole.now component.now count name.now) result }
+{
+    match one_letter(name) {
+        Some(letter) => component_view(alloc, whole, component, count, letter_index(letter) as i64),
+        None => no_component(alloc, &whole.ty, name),
+    }
+}
+
+fn struct_view(
+    alloc: Global,
+    whole: &RefInstance,
+    members: &[StructMemberType],
+    name: &str,
+) -> Result<RefInstance, Error>
+    ensures { Answers (spec.member_found whole.now name.now members.now (spec.member_position name.now members.now)) result }
+{
+    match member_position(members, name) {
+        Some(i) => match members.get(i) {
+            Some(member) => Ok(stepped(alloc, whole, Step::Member(i), &member.ty)?),
+            None => no_component(alloc, &whole.ty, name),
+        },
+        None => no_component(alloc, &whole.ty, name),
+    }
+}
+
+impl RefInstance {
+    /// A reference to a member of the struct, or to the component of the vector that one letter names. Where there is none,
+    /// and for more letters, it is `Component`; a component past the end is `OutOfBounds`.
+    pub fn view_member(&self, alloc: Global, name: &str) -> Result<RefInstance, Error>
+        ensures { Answers (spec.member_view self.now name.now) result }
+    {
+        match &self.ty {
+            Type::Struct(x) => struct_view(alloc, self, x.get().members.as_slice(), name),
+            Type::Vec(count, component) => letter_view(alloc, self, component.get(), *count, name),
+            _ => no_component(alloc, &self.ty, name),
+        }
+    }
+}
+
+/// How many elements the array at the end of a path has.
+#[cycle(count)]
+fn count_at(whole: &Instance, path: &[Step]) -> Option<usize>
+    ensures { result ≡ option_and_then spec.count_in (places.at_path path.now whole.now) }
+{
+    match path.split_first() {
+        None => count_in(whole),
+        Some((step, rest)) => count_in_part(whole, *step, rest),
+    }
+}
+
+fn count_in(value: &Instance) -> Option<usize>
+    ensures { result ≡ spec.count_in value.now }
+{
+    match value {
+        Instance::Array(x) => Some(x.components.len()),
+        _ => None,
+    }
+}
+
+#[cycle(count)]
+fn count_in_part(whole: &Instance, step: Step, rest: &[Step]) -> Option<usize>
+    ensures { result ≡ option_and_then spec.count_in (option_and_then (places.at_path rest.now) (places.part step whole.now)) }
+{
+    match (step, whole) {
+        (Step::Member(i), Instance::Struct(x)) => count_at_position(x.members.as_slice(), i, rest),
+        (Step::Element(i), Instance::Array(x)) => count_at_position(
+            x.components.as_slice(),
+            i,
+            rest,
+        ),
+        (Step::Component(i), Instance::Vec(x)) => match x.components.get(i) {
+            Some(component) => count_at(&Instance::Literal(*component), rest),
+            None => None,
+        },
+        _ => None,
+    }
+}
+
+#[cycle(count)]
+fn count_at_position(parts: &[Instance], at: usize, path: &[Step]) -> Option<usize>
+    ensures { result ≡ option_and_then spec.count_in (option_and_then (places.at_path path.now) (slice_get parts.now at)) }
+{
+    match parts.get(at) {
+        Some(part) => count_at(part, path),
+        None => None,
+    }
+}
+
+fn array_view(
+    alloc: Global,
+    cells: &[Instance],
+    whole: &RefInstance,
+    element: &Type,
+    count: Option<usize>,
+    index: i64,
+) -> Result<RefInstance, Error>
+    ensures { Answers (spec.array_view cells.now whole.now element.now count index) result }
+{
+    match count {
+        Some(count) => element_view(alloc, whole, element, count, index),
+        None => match count_at_position(cells, whole.cell, whole.path.as_slice()) {
+            Some(count) => element_view(alloc, whole, element, count, index),
+            None => no_place(alloc, cells, whole),
+        },
+    }
+}
+
+/// The refusal of a type that has no elements.
+fn not_indexable(alloc: Global, ty: &Type) -> Result<RefInstance, Error>
+    ensures { Answers (Err (Error.NotIndexable ty.now)) result }
+{
+    let ty = ty.clone(alloc)?;
+    Err(Error::NotIndexable(ty))
+}
+
+fn index_view(
+    alloc: Global,
+    cells: &[Instance],
+    whole: &RefInstance,
+    index: i64,
+) -> Result<RefInstance, Error>
+    ensures { Answers (spec.index_view cells.now whole.now index) result }
+{
+    match &whole.ty {
+        Type::Array(element, count) => array_view(
+            alloc,
+            cells,
+            whole,
+            element.get(),
+            *count,
+            index,
+        ),
+        Type::Vec(count, component) => component_view(alloc, whole, component.get(), *count, index),
+        _ => not_indexable(alloc, &whole.ty),
+    }
+}
+
+impl Memory {
+    /// A reference to a member or a component, as `RefInstance::view_member` gives it.
+    pub fn view_member(
+        &self,
+        alloc: Global,
+        reference: &RefInstance,
+        name: &str,
+    ) -> Result<RefInstance, Error>
+        ensures { Answers (spec.member_view reference.now name.now) result }
+    {
+        reference.view_member(alloc, name)
+    }
+
+    /// A reference to an element of the array, or to a component of the vector. What has no elements is `NotIndexable`; an
+    /// index below 0 or past the end is `OutOfBounds`. An array without a count has as many elements as there are in memory.
+    pub fn view_index(
+        &self,
+        alloc: Global,
+        reference: &RefInstance,
+        index: i64,
+    ) -> Result<RefInstance, Error>
+        ensures { Answers (spec.index_view self.now reference.now index) result }
+    {
+        index_view(alloc, self.as_slice(), reference, index)
+    }
+}
