@@ -2,6 +2,7 @@ pub mod Alike
 pub mod Answer
 pub mod Converted
 pub mod Equality
+pub mod Laws
 pub mod Places
 pub mod Typed
 pub mod Views

@@ -144,10 +144,17 @@ component_or w i None = Err (error.OutOfBounds (pos i) (vector_type w) (length w
 abbrev pub lettered : VecInstance → ℕ → Result LiteralInstance Error
 lettered w c = component_or w (letter_index c) (slice_get w.components (letter_index c))
 
--- one scalar, or a vector of several
+abbrev pub only : {A : Type 0} → List A → Option A
+only (x ∷ []) = Some x
+only xs = None
+
+abbrev pub vector_or : ScalarType → List LiteralInstance → Option LiteralInstance → Instance
+vector_or t xs (Some x) = v.Literal x
+vector_or t xs None = v.Vec (record { ty = t; components = xs })
+
+-- the scalar where it is one, else a vector
 abbrev pub of_components : ScalarType → List LiteralInstance → Instance
-of_components t (x ∷ []) = v.Literal x
-of_components t xs = v.Vec (record { ty = t; components = xs })
+of_components t xs = vector_or t xs (only xs)
 
 abbrev pub swizzled : VecInstance → List ℕ → Made
 swizzled w name =
@@ -186,10 +193,13 @@ abbrev pub is_component : Step → Bool
 is_component (Component i) = true
 is_component step = false
 
+-- whether the last step is one to a component; without a step, as it was before
+abbrev pub ends_after : Bool → List Step → Bool
+ends_after before [] = before
+ends_after before (step ∷ path) = ends_after (is_component step) path
+
 abbrev pub ends_in_component : List Step → Bool
-ends_in_component [] = false
-ends_in_component (step ∷ []) = is_component step
-ends_in_component (step ∷ path) = ends_in_component path
+ends_in_component path = ends_after false path
 
 abbrev pub is_handle : AddressSpace → Bool
 is_handle Handle = true

@@ -5,6 +5,7 @@ mod alike;
 mod convert;
 mod copy;
 pub mod memory;
+mod part;
 mod place;
 pub mod tree;
 mod typed;

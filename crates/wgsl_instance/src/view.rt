@@ -11,7 +11,7 @@ use crate::memory::{Memory, no_place};
 use crate::tree::{Instance, RefInstance, Step};
 use std::alloc::{AllocError, Global};
 use wgsl_items::{Items, Text};
-use wgsl_shader_type::{Error, StructMemberType, Type};
+use wgsl_shader_type::{Error, StructMemberType, StructType, Type};
 
 pub(crate) fn is_xyzw(letter: u8) -> bool
     ensures { result ≡ spec.is_xyzw letter }
@@ -167,13 +167,13 @@ fn letter_view(
 fn struct_view(
     alloc: Global,
     whole: &RefInstance,
-    members: &[StructMemberType],
+    ty: &StructType,
     name: &str,
 ) -> Result<RefInstance, Error>
-    ensures { Answers (spec.member_found whole.now name.now members.now (spec.member_position name.now members.now)) result }
+    ensures { Answers (spec.member_found whole.now name.now ty.now.members (spec.member_position name.now ty.now.members)) result }
 {
-    match member_position(members, name) {
-        Some(i) => match members.get(i) {
+    match member_position(ty.members.as_slice(), name) {
+        Some(i) => match ty.members.get(i) {
             Some(member) => Ok(stepped(alloc, whole, Step::Member(i), &member.ty)?),
             None => no_component(alloc, &whole.ty, name),
         },
@@ -188,7 +188,7 @@ impl RefInstance {
         ensures { Answers (spec.member_view self.now name.now) result }
     {
         match &self.ty {
-            Type::Struct(x) => struct_view(alloc, self, x.get().members.as_slice(), name),
+            Type::Struct(x) => struct_view(alloc, self, x.get(), name),
             Type::Vec(count, component) => letter_view(alloc, self, component.get(), *count, name),
             _ => no_component(alloc, &self.ty, name),
         }
