@@ -1,4 +1,6 @@
 pub mod Collecting
 pub mod Conversions
 pub mod Puts
+pub mod Viewing
+pub mod Writes
 pub mod Zeros

@@ -70,6 +70,9 @@ step_self (s.Member a) = (unsigned_Decides a a).1 refl
 step_self (s.Element a) = (unsigned_Decides a a).1 refl
 step_self (s.Component a) = (unsigned_Decides a a).1 refl
 
+pub steps_decide : (x y : Step) → Decides (step.eq-value.it x y) (x ≡ y)
+steps_decide = by_self step_true step_self
+
 literal_true : (x y : LiteralInstance) → literal.eq-value.it x y ≡ true → x ≡ y
 literal_true (l.Bool a) (l.Bool b) h = ap l.Bool ((truths_decide a b).0 h)
 literal_true (l.AbstractInt a) (l.AbstractInt b) h = ap l.AbstractInt ((Decides-int_eq a b).0 h)
