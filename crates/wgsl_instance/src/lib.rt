@@ -4,6 +4,7 @@
 mod alike;
 mod convert;
 mod copy;
+pub mod laws;
 pub mod memory;
 mod part;
 mod place;

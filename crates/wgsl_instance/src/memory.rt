@@ -1,6 +1,6 @@
 //! Memory: a list of values, and what references of it read and write (WGSL, "Memory Access").
 
-ghost use Rattle.std.specs.Prelude.{◌≡◌, ◌⊎◌, ◌++◌, ◌∷◌, [], ◌≤◌, Ok, Err, length, take, unwrap_or, OnOk, OnErr, IfOk, IfErr};
+ghost use Rattle.std.specs.Prelude.{◌≡◌, ◌⊎◌, ◌++◌, ◌∷◌, [], ◌-◌, Ok, Err, length, take, unwrap_or, OnOk, OnErr, IfOk, IfErr};
 ghost use Rattle.std.specs.Option.{is_some};
 ghost use Rattle.wgsl_instance.specs.Answer.{Answers};
 ghost use Rattle.wgsl_instance.specs.Places as spec;
@@ -89,6 +89,21 @@ fn read_cells(alloc: Global, cells: &[Instance], reference: &RefInstance) -> Res
     }
 }
 
+/// Drops the last cell, if there is one.
+fn drop_last(cells: &mut Items<Instance>)
+    ensures { cells.new ≡ take (length cells.old - 1) cells.old }
+{
+    cells.pop();
+}
+
+fn truncate_cells(cells: &mut Items<Instance>, len: usize)
+    ensures { cells.new ≡ take len cells.old }
+{
+    while cells.len() > len {
+        drop_last(cells);
+    }
+}
+
 impl Memory {
     /// No cells. It needs no memory.
     pub fn new(alloc: Global) -> Memory
@@ -128,9 +143,7 @@ impl Memory {
     pub fn truncate(&mut self, len: usize)
         ensures { self.new ≡ take len self.old }
     {
-        while self.cells.len() > len {
-            self.cells.pop();
-        }
+        truncate_cells(&mut self.cells, len);
     }
 
     /// The value at the place of a reference. Without read access it is `NotRead`. A place that isn't there, which never
