@@ -1,35 +1,26 @@
 -- Values collected one after the other.
 use Rattle.std.proofs.Common.{◌≡◌, refl, sym, ap, ◌∙◌, List, [], ◌∷◌, ◌++◌, Result, Ok, Err, append_assoc, append-nil}
 use Rattle.wgsl_shader_type.specs.declared.error.Error.{Error}
-use Rattle.wgsl_instance.specs.Answer.{then_with, collected}
-
--- these values before the others
-abbrev pub prefixed : {B : Type 0} → List B → Result (List B) Error → Result (List B) Error
-prefixed done (Ok ys) = Ok (done ++ ys)
-prefixed done (Err e) = Err e
+use Rattle.wgsl_instance.specs.Answer.{then_with, collected, prefixed, IsCollecting}
 
 module _ {A B : Type 0} (f : A → Result B Error) where
-  -- what is collected, where these values are done and this is left
-  abbrev pub IsCollecting : List A → List B → List A → Type 0
-  IsCollecting xs done left = collected f xs ≡ prefixed done (collected f left)
-
   from_none : (r : Result (List B) Error) → r ≡ prefixed [] r
   from_none (Ok ys) = refl
   from_none (Err e) = refl
 
-  pub collecting_begins : (xs : List A) → IsCollecting xs [] xs
+  pub collecting_begins : (xs : List A) → IsCollecting f xs [] xs
   collecting_begins xs = from_none (collected f xs)
 
   further : (done : List B) (y : B) (r : Result (List B) Error) → prefixed done (then_with r (λ ys. Ok (y ∷ ys))) ≡ prefixed (done ++ y ∷ []) r
   further done y (Ok ys) = ap Ok (sym (append_assoc done (y ∷ []) ys))
   further done y (Err e) = refl
 
-  pub collecting_goes_on : (xs : List A) (done : List B) (x : A) (left : List A) (y : B) → f x ≡ Ok y → IsCollecting xs done (x ∷ left) → IsCollecting xs (done ++ y ∷ []) left
+  pub collecting_goes_on : (xs : List A) (done : List B) (x : A) (left : List A) (y : B) → f x ≡ Ok y → IsCollecting f xs done (x ∷ left) → IsCollecting f xs (done ++ y ∷ []) left
   collecting_goes_on xs done x left y e h =
       h ∙ ap (λ r. prefixed done (then_with r (λ y. then_with (collected f left) (λ ys. Ok (y ∷ ys))))) e ∙ further done y (collected f left)
 
-  pub collecting_fails : (xs : List A) (done : List B) (x : A) (left : List A) (e : Error) → f x ≡ Err e → IsCollecting xs done (x ∷ left) → collected f xs ≡ Err e
+  pub collecting_fails : (xs : List A) (done : List B) (x : A) (left : List A) (e : Error) → f x ≡ Err e → IsCollecting f xs done (x ∷ left) → collected f xs ≡ Err e
   collecting_fails xs done x left e fault h = h ∙ ap (λ r. prefixed done (then_with r (λ y. then_with (collected f left) (λ ys. Ok (y ∷ ys))))) fault
 
-  pub collecting_ends : (xs : List A) (done : List B) → IsCollecting xs done [] → collected f xs ≡ Ok done
+  pub collecting_ends : (xs : List A) (done : List B) → IsCollecting f xs done [] → collected f xs ≡ Ok done
   collecting_ends xs done h = h ∙ ap Ok (append-nil done)

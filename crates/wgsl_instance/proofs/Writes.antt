@@ -266,8 +266,8 @@ put_apart (step ∷ path) (step' ∷ path') new whole made h apart apart' =
     let p = put_of (put_at_path path new) step whole made h in
     step_apart (put_at_path path new) step step' path' whole made p
     (λ e. put_apart path path' new p.old p.new p.changes
-      (deeper step path path' (subst (λ s. IsBeginning (step ∷ path) (s ∷ path') → ⊥) e apart))
-      (deeper step path' path (subst (λ s. IsBeginning (s ∷ path') (step ∷ path) → ⊥) e apart')))
+    (deeper step path path' (subst (λ s. IsBeginning (step ∷ path) (s ∷ path') → ⊥) e apart))
+    (deeper step path' path (subst (λ s. IsBeginning (s ∷ path') (step ∷ path) → ⊥) e apart')))
     (steps_equal step' step)
 
 -- ---- memory

@@ -1,5 +1,5 @@
 -- What a call answers: the value or the error that a definition gives, but for want of memory.
-use Rattle.std.specs.Prelude.{◌≡◌, ◌⊎◌, List, [], ◌∷◌, Result, Ok, Err, MatchResult}
+use Rattle.std.specs.Prelude.{◌≡◌, ◌⊎◌, List, [], ◌∷◌, ◌++◌, Result, Ok, Err, MatchResult}
 use Rattle.wgsl_shader_type.specs.declared.error.Error.{Error}
 use Rattle.wgsl_shader_type.specs.declared.error.Error.TheVariants.{OutOfMemory}
 
@@ -15,3 +15,12 @@ then_with (Err e) f = Err e
 abbrev pub collected : {A B : Type 0} → (A → Result B Error) → List A → Result (List B) Error
 collected f [] = Ok []
 collected f (x ∷ xs) = then_with (f x) (λ y. then_with (collected f xs) (λ ys. Ok (y ∷ ys)))
+
+-- these values before the others
+abbrev pub prefixed : {B : Type 0} → List B → Result (List B) Error → Result (List B) Error
+prefixed done (Ok ys) = Ok (done ++ ys)
+prefixed done (Err e) = Err e
+
+-- what is collected, where these values are done and this is left
+abbrev pub IsCollecting : {A B : Type 0} → (A → Result B Error) → List A → List B → List A → Type 0
+IsCollecting f xs done left = collected f xs ≡ prefixed done (collected f left)

@@ -1,6 +1,6 @@
 use Rattle.std.proofs.Common.{◌≡◌, ◌+◌, ◌*◌, drop}
 use Rattle.wgsl_instance.specs.Converted as spec
-use Rattle.wgsl_instance.proofs.Collecting.{IsCollecting}
+use Rattle.wgsl_instance.specs.Answer.{IsCollecting}
 use Rattle.wgsl_instance.proofs.+convert.Given as goal
 
 abbrev pub decreases-tree::Instance::convert_to : goal.decreases-tree::Instance::convert_to

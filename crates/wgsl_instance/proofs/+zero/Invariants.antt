@@ -1,5 +1,5 @@
 use Rattle.std.proofs.Common.{◌≡◌, ◌+◌, ◌*◌, drop}
-use Rattle.wgsl_instance.proofs.Collecting.{IsCollecting}
+use Rattle.wgsl_instance.specs.Answer.{IsCollecting}
 use Rattle.wgsl_instance.specs.Zero.{zero_member}
 use Rattle.wgsl_instance.proofs.+zero.Given as goal
 

@@ -1,6 +1,6 @@
 use Rattle.std.proofs.Common.{drop}
 use Rattle.wgsl_scalar.specs.Conversions as scalars
-use Rattle.wgsl_instance.proofs.Collecting.{IsCollecting}
+use Rattle.wgsl_instance.specs.Answer.{IsCollecting}
 use Rattle.wgsl_instance.proofs.convert.convert_components.Given as goal
 
 abbrev pub invariant-loop-component : goal.invariant-loop-component

@@ -1,6 +1,6 @@
 use Rattle.std.proofs.Common.{drop}
 use Rattle.wgsl_instance.specs.Views as spec
-use Rattle.wgsl_instance.proofs.Collecting.{IsCollecting}
+use Rattle.wgsl_instance.specs.Answer.{IsCollecting}
 use Rattle.wgsl_instance.proofs.part.all_lettered.Given as goal
 
 abbrev pub invariant-loop-letter : goal.invariant-loop-letter
