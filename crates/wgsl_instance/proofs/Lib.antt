@@ -1,6 +1,7 @@
 pub mod Collecting
 pub mod Conversions
 pub mod Puts
+pub mod Typings
 pub mod Viewing
 pub mod Writes
 pub mod Zeros

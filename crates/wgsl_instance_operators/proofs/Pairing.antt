@@ -36,3 +36,10 @@ pub pairing_fails : (s : ShaderStage) (o : BinaryOperator) (xs ys done : List Li
     → on_scalars.binary_value s o x y ≡ Err e → IsPairing s o xs ys done (x ∷ left) (y ∷ right) → of_pairs s o xs ys ≡ Err e
 pairing_fails s o xs ys done x y left right e fault h =
     h ∙ ap (λ r. prefixed done (then_with r (λ z. then_with (of_pairs s o left right) (λ zs. Ok (z ∷ zs))))) fault
+
+no_right : (s : ShaderStage) (o : BinaryOperator) (left : List LiteralInstance) → of_pairs s o left [] ≡ Ok []
+no_right s o [] = refl
+no_right s o (x ∷ left) = refl
+
+pub pairing_runs_out : (s : ShaderStage) (o : BinaryOperator) (xs ys done left right : List LiteralInstance) → right ≡ [] → IsPairing s o xs ys done left right → of_pairs s o xs ys ≡ Ok done
+pairing_runs_out s o xs ys done left right e h = h ∙ ap (λ r. prefixed done (of_pairs s o left r)) e ∙ ap (prefixed done) (no_right s o left) ∙ ap Ok (append-nil done)

@@ -90,10 +90,10 @@ AnswersBinaryValue s o x y answer = MatchResult answer
     (λ value. HasBinaryResult o x y × (combined s o x y ≡ Ok value))
     (λ error. (error ≡ OutOfMemory) ⊎ IsBinaryFault s o x y error)
 
-abbrev pub ChecksBinary : BinaryOperator → Instance → Instance → Result (Unit {0}) Error → Type 0
-ChecksBinary o x y answer = MatchResult answer
-    (λ _. HasBinaryResult o x y)
-    (λ error. (error ≡ OutOfMemory) ⊎ ((error ≡ Binary o (type_of x) (type_of y)) × HasNoBinaryResult o x y))
+abbrev pub ChecksTypes : BinaryOperator → ShaderType → ShaderType → Result (Unit {0}) Error → Type 0
+ChecksTypes o left right answer = MatchResult answer
+    (λ _. (t : ShaderType) × IsBinaryResult o left right t)
+    (λ error. (error ≡ OutOfMemory) ⊎ ((error ≡ Binary o left right) × HasNoBinaryCandidate o left right))
 
 -- ---- unary operators
 

@@ -3,6 +3,7 @@
 ghost use Rattle.std.specs.Prelude.{◌≡◌};
 ghost use Rattle.wgsl_instance.specs.declared.tree.Instance.{out-Instance};
 ghost use Rattle.wgsl_instance.specs.Answer.{Answers, collected};
+ghost use Rattle.wgsl_instance.specs.Typed.{type_of};
 ghost use Rattle.wgsl_instance_operators.specs.Operators as spec;
 
 use std::alloc::Global;
@@ -10,15 +11,15 @@ use wgsl_enumerations::ShaderStage;
 use wgsl_instance::{Instance, VecInstance};
 use wgsl_items::Items;
 use wgsl_operators::BinaryOperator;
-use wgsl_scalar::{ScalarType, binary_scalar_op, type_of};
-use wgsl_shader_type::{Error, LiteralInstance, type_binary_op};
+use wgsl_scalar::{ScalarType, binary_scalar_op};
+use wgsl_shader_type::{Error, LiteralInstance, Type, type_binary_op};
 
 /// The type of the first scalar of a list that has one.
 fn first_type(components: &[LiteralInstance]) -> ScalarType
     ensures { result ≡ spec.first_type components.now }
 {
     match components.first() {
-        Some(first) => type_of(*first),
+        Some(first) => wgsl_scalar::type_of(*first),
         None => ScalarType::Bool,
     }
 }
@@ -171,19 +172,31 @@ fn combined(
     }
 }
 
-/// Whether the operands' types have a result; else they are `Binary`.
+/// Whether two types have a result; else they are `Binary`.
 fn check_types(
+    alloc: Global,
+    operator: BinaryOperator,
+    left: &Type,
+    right: &Type,
+) -> Result<(), Error>
+    ensures { spec.ChecksTypes operator left.now right.now result }
+{
+    type_binary_op(alloc, operator, left, right)?;
+    Ok(())
+}
+
+/// Whether the operands' types have a result.
+fn check_operands(
     alloc: Global,
     operator: BinaryOperator,
     left: &Instance,
     right: &Instance,
 ) -> Result<(), Error>
-    ensures { spec.ChecksBinary operator left.now right.now result }
+    ensures { spec.ChecksTypes operator (type_of left.now) (type_of right.now) result }
 {
     let left = left.ty(alloc)?;
     let right = right.ty(alloc)?;
-    type_binary_op(alloc, operator, &left, &right)?;
-    Ok(())
+    check_types(alloc, operator, &left, &right)
 }
 
 /// The value of an operator between two values, on scalars, componentwise on vectors of one length, and for `+ - * / %` on a
@@ -198,6 +211,6 @@ pub fn call_binary_op(
 ) -> Result<Instance, Error>
     ensures { spec.AnswersBinaryValue stage operator left.now right.now result }
 {
-    check_types(alloc, operator, left, right)?;
+    check_operands(alloc, operator, left, right)?;
     combined(alloc, operator, left, right, stage)
 }
