@@ -1,5 +1,6 @@
 -- Pairs of components, one after the other.
-use Rattle.std.proofs.Common.{◌≡◌, refl, sym, ap, ◌∙◌, List, [], ◌∷◌, ◌++◌, Result, Ok, Err, append_assoc, append-nil}
+use Rattle.std.proofs.Common.{◌≡◌, refl, sym, ap, ◌∙◌, List, [], ◌∷◌, ◌++◌, Result, Ok, Err, append_assoc, append-nil, length}
+use Rattle.std.proofs.lemmas.List.{nil_from_length}
 use Rattle.wgsl_operators.specs.declared.BinaryOperator.{BinaryOperator}
 use Rattle.wgsl_enumerations.specs.declared.words.ShaderStage.{ShaderStage}
 use Rattle.wgsl_shader_type.specs.declared.error.Error.{Error}
@@ -41,5 +42,6 @@ no_right : (s : ShaderStage) (o : BinaryOperator) (left : List LiteralInstance) 
 no_right s o [] = refl
 no_right s o (x ∷ left) = refl
 
-pub pairing_runs_out : (s : ShaderStage) (o : BinaryOperator) (xs ys done left right : List LiteralInstance) → right ≡ [] → IsPairing s o xs ys done left right → of_pairs s o xs ys ≡ Ok done
-pairing_runs_out s o xs ys done left right e h = h ∙ ap (λ r. prefixed done (of_pairs s o left r)) e ∙ ap (prefixed done) (no_right s o left) ∙ ap Ok (append-nil done)
+pub pairing_runs_out : (s : ShaderStage) (o : BinaryOperator) (xs ys done left right : List LiteralInstance) → length right ≡ 0 → IsPairing s o xs ys done left right → of_pairs s o xs ys ≡ Ok done
+pairing_runs_out s o xs ys done left right e h =
+    h ∙ ap (λ r. prefixed done (of_pairs s o left r)) (nil_from_length right e) ∙ ap (prefixed done) (no_right s o left) ∙ ap Ok (append-nil done)
