@@ -26,8 +26,8 @@ fn report(alloc: Global) -> Result<String, AllocError> {
 }
 
 /// Writes what a call gave.
-fn show(text: &mut String, call: &str, result: Result<Instance, Error>) -> Result<(), AllocError> {
-    match result {
+fn show(text: &mut String, call: &str, answer: Result<Instance, Error>) -> Result<(), AllocError> {
+    match answer {
         Ok(value) => {
             write!(text, "{call}: ")?;
             show_value(text, &value)?;
