@@ -1,5 +1,6 @@
 pub mod Collecting
 pub mod Conversions
+pub mod ConvertedTypes
 pub mod Puts
 pub mod Typings
 pub mod Viewing

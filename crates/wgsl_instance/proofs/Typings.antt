@@ -31,34 +31,34 @@ use Rattle.wgsl_instance.specs.Laws.{ZeroHasType}
 
 -- ---- plain facts
 
-abbrev IsOkOf : {A : Type 0} → Result A Error → A → Type 0
+abbrev pub IsOkOf : {A : Type 0} → Result A Error → A → Type 0
 IsOkOf r x = r ≡ Ok x
 
-same_ok : {A : Type 0} (x y : A) → IsOkOf (Ok x) y → x ≡ y
+pub same_ok : {A : Type 0} (x y : A) → IsOkOf (Ok x) y → x ≡ y
 same_ok x y h = cc
 
-not_ok : {A G : Type 0} (e : Error) (y : A) → IsOkOf (Err e) y → G
+pub not_ok : {A G : Type 0} (e : Error) (y : A) → IsOkOf (Err e) y → G
 not_ok e y h = absurd (true≢false (sym (ap is_ok h)))
 
-nothing : {A G : Type 0} (x : A) → None ≡ Some x → G
+pub nothing : {A G : Type 0} (x : A) → None ≡ Some x → G
 nothing x h = absurd (true≢false (sym (ap is_some h)))
 
-inside : {A : Type 0} (x y : A) → Some x ≡ Some y → x ≡ y
+pub inside : {A : Type 0} (x y : A) → Some x ≡ Some y → x ≡ y
 inside x y h = cc
 
 -- what a step that gives a value was
-record Then {A B : Type 0} (r : Result A Error) (f : A → Result B Error) (y : B) : Type 0 where
-  value : A
-  was : r ≡ Ok value
-  gives : f value ≡ Ok y
+pub record Then {A B : Type 0} (r : Result A Error) (f : A → Result B Error) (y : B) : Type 0 where
+  pub value : A
+  pub was : r ≡ Ok value
+  pub gives : f value ≡ Ok y
 
-then_of : {A B : Type 0} (r : Result A Error) (f : A → Result B Error) (y : B) → then_with r f ≡ Ok y → Then r f y
+pub then_of : {A B : Type 0} (r : Result A Error) (f : A → Result B Error) (y : B) → then_with r f ≡ Ok y → Then r f y
 then_of (Ok x) f y h = record { value = x; was = refl; gives = h }
 then_of (Err e) f y h = not_ok e y h
 
 -- ---- types of values by variant
 
-literal_typed : (x : LiteralInstance) → type_of (v.Literal x) ≡ literal_type x
+pub literal_typed : (x : LiteralInstance) → type_of (v.Literal x) ≡ literal_type x
 literal_typed x = ap type_layer (v.outs-Literal x)
 
 -- ---- zero values

@@ -1,6 +1,6 @@
 //! Laws of values and of memory. Each function states its law and does nothing.
 
-ghost use Rattle.wgsl_instance.specs.Laws.{WrittenIsThere, OthersStay, LoadedTwiceIsOnce, ZeroHasType};
+ghost use Rattle.wgsl_instance.specs.Laws.{WrittenIsThere, OthersStay, LoadedTwiceIsOnce, ZeroHasType, ConvertedHasType};
 
 /// What is written to a place is what then stands there.
 pub fn written_is_there()
@@ -20,4 +20,9 @@ pub fn loaded_twice_is_once()
 /// The zero value of a type has the type.
 pub fn zero_has_type()
     ensures { ZeroHasType }
+{}
+
+/// A converted value has the type that it is converted to.
+pub fn converted_has_type()
+    ensures { ConvertedHasType }
 {}
