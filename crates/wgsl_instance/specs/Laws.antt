@@ -1,9 +1,13 @@
 -- Laws of values and of memory.
 use Rattle.std.specs.Prelude.{◌≡◌, ◌≢◌, ◌⊎◌, ◌++◌, ℕ, List, Option, Some, Ok}
+use Rattle.wgsl_shader_type.specs.declared.tree.ShaderType.{ShaderType}
 use Rattle.wgsl_instance.specs.declared.tree.RefInstance.{RefInstance}
 use Rattle.wgsl_instance.specs.declared.tree.Step.{Step}
 use Rattle.wgsl_instance.specs.declared.tree.Instance.{Instance}
 use Rattle.wgsl_instance.specs.declared.tree.Instance.TheVariants as v
+use Rattle.wgsl_instance.specs.Typed.{HasType, IsWellFormed}
+use Rattle.wgsl_instance.specs.Zero.{zero_value}
+use Rattle.wgsl_instance.specs.Converted.{converted}
 use Rattle.wgsl_instance.specs.Places.{place, written, loaded}
 
 -- What is written to a place is what then stands there.
@@ -32,3 +36,11 @@ HoldsNoReference memory = (r : RefInstance) (x : Instance) → place memory r �
 -- To load twice is to load once.
 abbrev pub LoadedTwiceIsOnce : Type 0
 LoadedTwiceIsOnce = (memory : List Instance) (x y : Instance) → HoldsNoReference memory → loaded memory x ≡ Ok y → loaded memory y ≡ Ok y
+
+-- The zero value of a type has the type.
+abbrev pub ZeroHasType : Type 0
+ZeroHasType = (t : ShaderType) (x : Instance) → zero_value t ≡ Ok x → HasType x t
+
+-- A converted value has the type that it is converted to.
+abbrev pub ConvertedHasType : Type 0
+ConvertedHasType = (x y : Instance) (t : ShaderType) → IsWellFormed x → converted x t ≡ Ok y → HasType y t

@@ -1,6 +1,6 @@
 //! Laws of values and of memory. Each function states its law and does nothing.
 
-ghost use Rattle.wgsl_instance.specs.Laws.{WrittenIsThere, OthersStay, LoadedTwiceIsOnce};
+ghost use Rattle.wgsl_instance.specs.Laws.{WrittenIsThere, OthersStay, LoadedTwiceIsOnce, ZeroHasType, ConvertedHasType};
 
 /// What is written to a place is what then stands there.
 pub fn written_is_there()
@@ -15,4 +15,14 @@ pub fn others_stay()
 /// To load twice is to load once, where no place of memory holds a reference.
 pub fn loaded_twice_is_once()
     ensures { LoadedTwiceIsOnce }
+{}
+
+/// The zero value of a type has the type.
+pub fn zero_has_type()
+    ensures { ZeroHasType }
+{}
+
+/// A converted value has the type that it is converted to.
+pub fn converted_has_type()
+    ensures { ConvertedHasType }
 {}
