@@ -1,6 +1,7 @@
 //! Laws of types, each the contract of a function that does nothing.
 
 ghost use Rattle.wgsl_types.specs.Laws.{IsReflexive, IsTransitive, IsAntisymmetric, RanksAdd, CommonTypeIsOne, CommonTypeIsSymmetric, CommonOfIsSymmetric, CommonTypeIgnoresOrder, ConcreteTwiceIsOnce, LoadedTwiceIsOnce};
+ghost use Rattle.wgsl_types.specs.Names.{SupportedNamesAreValueTypes};
 
 /// Conversion is a partial order.
 pub fn conversion_is_a_partial_order()
@@ -38,4 +39,9 @@ pub fn concretize_twice_is_once()
 /// `loaded` twice is once.
 pub fn loaded_twice_is_once()
     ensures { LoadedTwiceIsOnce }
+{}
+
+/// The names of types that have values here are those that the table of built-in names has for such.
+pub fn supported_names_are_value_types()
+    ensures { SupportedNamesAreValueTypes }
 {}
