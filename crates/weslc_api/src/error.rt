@@ -1,6 +1,6 @@
 //! What a call is refused for.
 
-ghost use Rattle.std.specs.Prelude.{◌≡◌, IfOk};
+ghost use Rattle.std.specs.Prelude.{◌≡◌, IfOk, IfSome, MatchOption};
 ghost use Rattle.std.specs.Option.{option_copied};
 ghost use Rattle.wesl_resolve.specs.SourceMaps.{decl_at};
 ghost use Rattle.weslc_api.specs.Told.{context_of, about_module, about_item, about_name, about_declaration, Tells, TellsOfFault, TellsOfEvaluation, fault_name};
@@ -120,6 +120,21 @@ impl ErrorContext {
     }
 }
 
+impl ErrorContext {
+    /// The declaration and the name that a fault is about. None where memory was refused.
+    fn of_evaluation(
+        alloc: Global,
+        map: &BasicSourceMap,
+        declaration: &Text,
+        fault: &Fault,
+    ) -> Option<ErrorContext>
+        ensures { IfSome result (λ context. context ≡ about_declaration (decl_at map.now declaration.now) (fault_name fault.now)) }
+    {
+        let name = name_of(alloc, fault).ok()?;
+        ErrorContext::of_declaration(alloc, map, declaration.as_str(), name).ok()
+    }
+}
+
 /// The name that a fault is about, where it is about a name.
 fn name_of(alloc: Global, fault: &Fault) -> Result<Option<Text>, AllocError>
     ensures { IfOk result (λ name. name ≡ fault_name fault.now) }
@@ -184,12 +199,17 @@ impl CompileError {
         ensures { TellsOfEvaluation (decl_at map.now) refusal result }
     {
         let DeclarationFault { declaration, fault } = refusal;
-        let Ok(name) = name_of(alloc, &fault) else {
-            return CompileError::OutOfMemory;
-        };
-        match ErrorContext::of_declaration(alloc, map, declaration.as_str(), name) {
-            Ok(context) => CompileError::Eval(context, fault),
-            Err(_) => CompileError::OutOfMemory,
+        let context = ErrorContext::of_evaluation(alloc, map, &declaration, &fault);
+        CompileError::of_context(context, fault)
+    }
+
+    // A fault where its context is there; else memory was refused.
+    fn of_context(context: Option<ErrorContext>, fault: Fault) -> CompileError
+        ensures { MatchOption context (result ≡ CompileError.OutOfMemory) (λ c. result ≡ CompileError.Eval c fault) }
+    {
+        match context {
+            Some(context) => CompileError::Eval(context, fault),
+            None => CompileError::OutOfMemory,
         }
     }
 
