@@ -4,7 +4,7 @@
 ghost use Rattle.std.specs.Prelude.{◌≡◌, IsTrue, ◌↔◌};
 ghost use Rattle.std.specs.List.{Contains};
 ghost use Rattle.wgsl_builtin.specs.Names.{is_in, texts};
-ghost use Rattle.wgsl_builtin.specs.Builtin.{builtin_names};
+ghost use Rattle.wgsl_builtin.specs.Builtin.{builtin_names, other_types};
 
 /// Whether a name is in a table.
 pub fn is_known(name: &str, table: &[&str]) -> bool
@@ -17,6 +17,12 @@ pub fn is_known(name: &str, table: &[&str]) -> bool
     }
     false
 }
+
+/// How many types and type generators have values that are computed. They come first in the table.
+const VALUE_TYPE_COUNT: usize = 14;
+
+/// How many other types and type generators there are. They come next.
+const OTHER_TYPE_COUNT: usize = 55;
 
 /// How many names WGSL declares.
 pub const BUILTIN_COUNT: usize = 94;
@@ -123,7 +129,14 @@ pub static BUILTIN_NAMES: [&str; BUILTIN_COUNT] = [
 pub fn builtin_names() -> &'static [&'static str]
     ensures { texts result.now ≡ builtin_names }
 {
-    &BUILTIN_NAMES
+    &BUILTIN_NAMES[..]
+}
+
+/// The types and type generators whose values aren't computed: floats, matrices, atomics, samplers and textures.
+pub fn other_types() -> &'static [&'static str]
+    ensures { texts result.now ≡ other_types }
+{
+    &BUILTIN_NAMES[VALUE_TYPE_COUNT..VALUE_TYPE_COUNT + OTHER_TYPE_COUNT]
 }
 
 /// Whether WGSL declares a name.

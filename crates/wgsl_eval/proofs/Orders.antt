@@ -1,10 +1,10 @@
 -- One name further in the order, and refusals.
-use Rattle.std.proofs.Common.{◌≡◌, ℕ, zero, suc, ◌+◌, ◌-◌, ◌<◌, List, [], ◌∷◌, ◌++◌, Bool, true, false, Option, Some, None, Result, Ok, Err, refl, sym, ap, ◌∙◌, subst, arith}
+use Rattle.std.proofs.Common.{◌≡◌, ℕ, zero, suc, ◌-◌, ◌<◌, List, [], ◌∷◌, ◌++◌, true, false, Err, refl, sym, ap, ◌∙◌, arith}
 use Rattle.std.specs.Prelude.{if◌then◌else◌}
 use Rattle.std.specs.List.{fold}
 use Rattle.wgsl_syntax.specs.Tree.{Decl}
 use Rattle.wgsl_shader_type.specs.declared.literal.LiteralInstance.{LiteralInstance}
-use Rattle.wgsl_meaning.specs.Outcome.{Outcome, Done, Failed, Deep}
+use Rattle.wgsl_meaning.specs.Outcome.{Outcome}
 use Rattle.wgsl_meaning.specs.Names.{Name, find_decl}
 use Rattle.wgsl_meaning.specs.ConstStage.{Consts}
 use Rattle.wgsl_items.specs.declared.error.OrOutOfMemory.{OrOutOfMemory}

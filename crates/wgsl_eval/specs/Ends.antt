@@ -1,5 +1,5 @@
 -- What a call of the evaluator gives.
-use Rattle.std.specs.Prelude.{◌≡◌, ℕ, List, ◌++◌, Result, Ok, Err, Option, Some, None}
+use Rattle.std.specs.Prelude.{◌≡◌, List, ◌++◌, Result, Ok, Err}
 use Rattle.wgsl_items.specs.declared.error.OrOutOfMemory.{OrOutOfMemory}
 use Rattle.wgsl_items.specs.Memory.{UnlessOutOfMemory}
 use Rattle.wgsl_meaning.specs.declared.fault.Fault.{Fault}

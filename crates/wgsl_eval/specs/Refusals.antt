@@ -1,5 +1,5 @@
 -- What a call on a whole unit gives.
-use Rattle.std.specs.Prelude.{◌≡◌, ⊤, ℕ, List, Result, Ok, Err}
+use Rattle.std.specs.Prelude.{◌≡◌, ⊤, Result, Ok, Err}
 use Rattle.wgsl_items.specs.declared.error.OrOutOfMemory.{OrOutOfMemory}
 use Rattle.wgsl_items.specs.declared.error.OrOutOfMemory.TheVariants.{Error, OutOfMemory}
 use Rattle.wgsl_items.specs.Memory.{UnlessOutOfMemory}

@@ -1,5 +1,5 @@
 -- The consts of a settled list have their values in every world of the unit.
-use Rattle.std.proofs.Common.{◌≡◌, ℕ, zero, suc, ◌+◌, ◌≤◌, List, [], ◌∷◌, ◌++◌, Option, Some, None, Bool, true, false, Result, Ok, Err, refl, sym, ap, ◌∙◌, subst, arith, add_comm, zero-add, suc-add}
+use Rattle.std.proofs.Common.{◌≡◌, ℕ, zero, suc, ◌+◌, List, [], ◌∷◌, ◌++◌, Option, Some, None, Bool, true, false, refl, sym, ap, ◌∙◌, subst, add_comm}
 use Rattle.std.specs.Prelude.{if◌then◌else◌}
 use Rattle.std.specs.Str.{bytes_eq}
 use Rattle.std.specs.Cmp.Lexicographic.{same_text}
@@ -8,14 +8,14 @@ use Rattle.wgsl_enumerations.specs.declared.words.ShaderStage.{ShaderStage}
 use Rattle.wgsl_enumerations.specs.declared.words.ShaderStage.TheVariants.{Const, Override, Exec}
 use Rattle.wgsl_shader_type.specs.declared.literal.LiteralInstance.{LiteralInstance}
 use Rattle.wgsl_scalar.specs.declared.scalar.ScalarType.{ScalarType}
-use Rattle.wgsl_meaning.specs.Outcome.{Outcome, Done, Failed, Deep, after, bind, at_once}
+use Rattle.wgsl_meaning.specs.Outcome.{Outcome, Done, Failed, Deep, bind, at_once}
 use Rattle.wgsl_meaning.specs.Names.{Name, Symbol, find, find_decl, built_in_type}
-use Rattle.wgsl_meaning.specs.Meaning.{World, called_or, construct, construct_type, const_in}
-use Rattle.wgsl_meaning.specs.Programs.{Program, const_at, called_at, call_type_at, inside, opened, world, root, here, here_if, plain}
+use Rattle.wgsl_meaning.specs.Meaning.{World, construct, const_in}
+use Rattle.wgsl_meaning.specs.Programs.{const_at, called_at, call_type_at, inside, world, root, here_if, plain}
 use Rattle.wgsl_meaning.specs.Compare.{Extends, Agree, Likewise}
-use Rattle.wgsl_meaning.specs.ConstStage.{Consts, Scope, stage, module_scope, const_known, hidden, Settled, nothing, another}
+use Rattle.wgsl_meaning.specs.ConstStage.{Consts, stage, module_scope, const_known, Settled, nothing, another}
 use Rattle.wgsl_meaning.proofs.Simulates.{same_stage}
-use Rattle.wgsl_meaning.proofs.Compares.{kept_likewise, likewise_refl, extends_refl}
+use Rattle.wgsl_meaning.proofs.Compares.{kept_likewise, likewise_refl}
 use Rattle.wgsl_meaning.proofs.Meets.{Meet, const_meets}
 use Rattle.wgsl_meaning.proofs.Longer.{inside_longer, consts_longer}
 

@@ -1,20 +1,17 @@
 -- A lowered expression follows the expression.
-use Rattle.std.proofs.Common.{◌≡◌, ℕ, List, [], ◌∷◌, Option, Some, None, Bool, true, false, Result, Ok, Err, refl, sym, ap, ◌∙◌, subst}
+use Rattle.std.proofs.Common.{◌≡◌, ℕ, List, [], ◌∷◌, Bool, true, false, Ok, Err, refl, subst}
 use Rattle.std.specs.Prelude.{if◌then◌else◌}
 use Rattle.wgsl_syntax.specs.Tree.{Exp, Exps, exps, literal, parenthesized, unary, binary, call, named, nil, cons, Typ}
 use Rattle.wgsl_shader_type.specs.declared.literal.LiteralInstance.{LiteralInstance}
 use Rattle.wgsl_scalar.specs.declared.scalar.ScalarType.{ScalarType}
-use Rattle.wgsl_meaning.specs.declared.fault.Fault.{Fault}
 use Rattle.wgsl_meaning.specs.declared.fault.Fault.TheVariants.{Operation, NegativeAttr, Name as Named}
-use Rattle.wgsl_meaning.specs.declared.fault.NameFault.{NameFault}
-use Rattle.wgsl_meaning.specs.Values.{Checked, and_then, literal_value}
+use Rattle.wgsl_meaning.specs.Values.{Checked, and_then}
 use Rattle.wgsl_meaning.specs.Outcome.{Outcome, Done, Failed, Deep}
-use Rattle.wgsl_meaning.specs.Names.{Name}
 use Rattle.wgsl_meaning.specs.Meaning.{value}
 use Rattle.wgsl_meaning.specs.ConstStage.{Scope, stage}
 use Rattle.wgsl_meaning.specs.Written.{written}
-use Rattle.wgsl_meaning.specs.Follows.{Follows, FollowAll, keeps_literal, keeps_parentheses, keeps_unary, keeps_binary, keeps_call, keeps_name, replaces, no_more, one_more}
-use Rattle.wgsl_lower.specs.Lowered.{lacks_value, unless_fault, unless_const, callee_here, lowered, all_lowered}
+use Rattle.wgsl_meaning.specs.Follows.{Follows, FollowAll, keeps_parentheses, keeps_unary, keeps_binary, keeps_call, keeps_name, replaces, no_more, one_more}
+use Rattle.wgsl_lower.specs.Lowered.{lacks_value, unless_const, callee_here, lowered, all_lowered}
 
 pub then_ok : {A B : Type 0} (o : Checked A) (f : A → Checked B) (d : B) → and_then o f ≡ Ok d → (x : A) × (o ≡ Ok x) × (f x ≡ Ok d)
 then_ok (Ok x) f d e = (x, refl, e)

@@ -1,31 +1,31 @@
 -- Inside a function: a lowered expression means what the expression means, whatever the parameters' values.
-use Rattle.std.proofs.Common.{◌≡◌, ℕ, ◌+◌, ◌≤◌, List, [], ◌∷◌, map, Option, Some, None, Bool, true, false, Result, Ok, Err, refl, sym, ap, ◌∙◌, subst, arith}
-use Rattle.std.specs.Prelude.{codes, negsuc, pos, ℤ, if◌then◌else◌}
-use Rattle.wgsl_syntax.specs.Tree.{Exp, Exps, call, named, nil, cons, Typ, simple, templated, Decl, variable, function}
+use Rattle.std.proofs.Common.{◌≡◌, ℕ, List, [], ◌∷◌, map, Option, Some, None, Ok, Err, refl, sym, ap, ◌∙◌, subst, arith}
+use Rattle.std.specs.Prelude.{codes, negsuc}
+use Rattle.wgsl_syntax.specs.Tree.{Exp, named, Typ, simple, templated, Decl, variable, function}
 use Rattle.wgsl_enumerations.specs.declared.words.ShaderStage.{ShaderStage}
-use Rattle.wgsl_enumerations.specs.declared.words.ShaderStage.TheVariants.{Const, Override, Exec}
+use Rattle.wgsl_enumerations.specs.declared.words.ShaderStage.TheVariants.{Const}
 use Rattle.wgsl_shader_type.specs.declared.literal.LiteralInstance.{LiteralInstance}
 use Rattle.wgsl_shader_type.specs.declared.literal.LiteralInstance.TheVariants as V
 use Rattle.wgsl_scalar.specs.declared.scalar.ScalarType.{ScalarType}
 use Rattle.wgsl_scalar.specs.Scalars.{type_of}
-use Rattle.wgsl_meaning.specs.Values.{Checked, and_then}
-use Rattle.wgsl_meaning.specs.Outcome.{Outcome, Done, Failed, Deep, after, bind, at_once, computed}
-use Rattle.wgsl_meaning.specs.Names.{Name, Symbol, find, find_decl, plain_name, built_in_type}
-use Rattle.wgsl_meaning.specs.Meaning.{Env, Types, World, local_or, called_or, value_here, result_here, value, typed, construct, construct_type, type_in_world}
-use Rattle.wgsl_meaning.specs.Programs.{called_at, call_type_at, inside, world, root, here_if, plain}
+use Rattle.wgsl_meaning.specs.Values.{Checked}
+use Rattle.wgsl_meaning.specs.Outcome.{Outcome, Done, Failed, Deep, bind, at_once}
+use Rattle.wgsl_meaning.specs.Names.{Name, find, find_decl, plain_name, built_in_type}
+use Rattle.wgsl_meaning.specs.Meaning.{Env, World, local_or, called_or, value_here, result_here, value, typed, construct, construct_type}
+use Rattle.wgsl_meaning.specs.Programs.{called_at, call_type_at, world, root, here_if, plain}
 use Rattle.wgsl_meaning.specs.Compare.{Better, Agree}
 use Rattle.wgsl_meaning.specs.Typing.{Both, HasType, types_of, TypesAgree}
 use Rattle.wgsl_meaning.specs.ConstStage.{Consts, Scope, stage, hidden, const_known, callee_at, callee_of}
-use Rattle.wgsl_meaning.specs.Written.{HasConstructor, written}
+use Rattle.wgsl_meaning.specs.Written.{HasConstructor}
 use Rattle.wgsl_meaning.proofs.Simulates.{StagesMeet, simulates, follows_itself}
 use Rattle.wgsl_meaning.proofs.Compares.{kept_better, kept_agree, agree_refl, agree_from_carries}
 use Rattle.wgsl_meaning.proofs.Stages.{const_stage_meets}
 use Rattle.wgsl_meaning.proofs.Typing.{find_types, has_type}
 use Rattle.wgsl_meaning.proofs.CallTypes.{built_in_fits}
 use Rattle.wgsl_meaning.proofs.WrittenValue.{value-written}
-use Rattle.wgsl_lower.specs.Lowered.{callee_here, lowered, lacks_value}
+use Rattle.wgsl_lower.specs.Lowered.{callee_here, lowered}
 use Rattle.wgsl_lower.proofs.Goes.{then_ok, HasNone, KeptName, KeptCallee, HasValue, goes}
-use Rattle.wgsl_lower.proofs.Consts.{Known, const_agrees, result_at, called_none}
+use Rattle.wgsl_lower.proofs.Consts.{Known, const_agrees, result_at}
 
 -- ---- parameters and environments
 

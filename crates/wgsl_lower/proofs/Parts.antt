@@ -1,5 +1,5 @@
 -- Lowering, as code does it: first the value, then the parts.
-use Rattle.std.proofs.Common.{◌≡◌, refl, sym, ap, ◌∙◌, List, [], ◌∷◌, ◌++◌, map, Option, Some, None, Bool, true, false, Result, Ok, Err, pos}
+use Rattle.std.proofs.Common.{◌≡◌, refl, sym, ap, ◌∙◌, List, [], ◌∷◌, ◌++◌, map, None, Bool, true, false, Ok, Err, pos}
 use Rattle.std.specs.Prelude.{codes, if◌then◌else◌}
 use Rattle.wgsl_path.specs.declared.span.Spanned.{Spanned}
 use Rattle.wgsl_path.specs.declared.ident.Ident.{Ident}

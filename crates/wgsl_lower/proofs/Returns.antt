@@ -1,11 +1,10 @@
 -- What a lowered function returns.
-use Rattle.std.proofs.Common.{◌≡◌, ℕ, ◌+◌, ◌≤◌, List, [], ◌∷◌, Option, Some, None, Bool, true, false, Result, Ok, Err, refl, sym, ap, ◌∙◌, subst, arith, add_assoc}
-use Rattle.std.specs.Prelude.{codes, pos, negsuc, ℤ, if◌then◌else◌, ◌⊎◌}
+use Rattle.std.proofs.Common.{◌≡◌, ℕ, ◌+◌, List, [], ◌∷◌, Option, Some, None, Bool, true, false, Ok, Err, refl, sym, ap, ◌∙◌, subst, arith, add_assoc}
+use Rattle.std.specs.Prelude.{codes, ℤ, if◌then◌else◌, ◌⊎◌}
 use Rattle.std.proofs.Common.{inl, inr}
 use Rattle.std.specs.Str.{bytes_eq}
 use Rattle.std.specs.Cmp.Lexicographic.{same_text}
-use Rattle.wgsl_syntax.specs.Tree.{Exp, Exps, call, nil, cons, Typ, Stm, returning, Decl}
-use Rattle.wgsl_enumerations.specs.declared.words.ShaderStage.{ShaderStage}
+use Rattle.wgsl_syntax.specs.Tree.{Exp, call, nil, cons, Typ, Stm, returning, Decl}
 use Rattle.wgsl_enumerations.specs.declared.words.ShaderStage.TheVariants.{Exec}
 use Rattle.wgsl_shader_type.specs.declared.literal.LiteralInstance.{LiteralInstance}
 use Rattle.wgsl_shader_type.specs.declared.literal.LiteralInstance.TheVariants as V
@@ -21,7 +20,7 @@ use Rattle.wgsl_scalar.specs.Conversions.{constructed}
 use Rattle.wgsl_meaning.specs.Values.{Checked, and_then}
 use Rattle.wgsl_meaning.specs.Outcome.{Outcome, Done, Failed, Deep, after, bind, at_once, computed}
 use Rattle.wgsl_meaning.specs.Names.{Name, find, find_decl, plain_name, built_in_type}
-use Rattle.wgsl_meaning.specs.Meaning.{Env, Types, World, called_or, result_here, value, values, typed, construct, handed_back, returned_by, return_type_of, type_written}
+use Rattle.wgsl_meaning.specs.Meaning.{Env, World, called_or, result_here, value, typed, construct, handed_back, returned_by}
 use Rattle.wgsl_meaning.specs.Programs.{world, root, here_if, plain, type_at}
 use Rattle.wgsl_meaning.specs.Compare.{Better}
 use Rattle.wgsl_meaning.specs.Typing.{Both, HasType, types_of}

@@ -1,7 +1,7 @@
 -- A run of the lowered unit is as good as the run of the unit.
-use Rattle.std.proofs.Common.{◌≡◌, ℕ, ◌+◌, ◌≤◌, List, [], ◌∷◌, ◌++◌, map, Option, Some, None, Bool, true, false, Result, Ok, Err, IfOk, refl, sym, ap, ◌∙◌, subst, arith}
+use Rattle.std.proofs.Common.{◌≡◌, ℕ, List, [], ◌∷◌, ◌++◌, map, Option, Some, None, Bool, true, false, Result, Ok, Err, IfOk, refl, sym, ap, ◌∙◌, subst, arith}
 use Rattle.std.specs.Prelude.{codes, if◌then◌else◌}
-use Rattle.wgsl_syntax.specs.Tree.{Exp, Typ, Attr, fragment, location, Stm, Block, Param, Decl, variable, function, UnitTree as Module}
+use Rattle.wgsl_syntax.specs.Tree.{Typ, Attr, fragment, location, Stm, Block, Param, Decl, variable, function, UnitTree as Module}
 use Rattle.wgsl_syntax.specs.Names.{declared_name}
 use Rattle.wgsl_enumerations.specs.declared.words.ShaderStage.{ShaderStage}
 use Rattle.wgsl_enumerations.specs.declared.words.ShaderStage.TheVariants.{Const, Exec}
@@ -10,27 +10,27 @@ use Rattle.wgsl_scalar.specs.declared.scalar.ScalarType.{ScalarType}
 use Rattle.wgsl_meaning.specs.declared.fault.Fault.TheVariants.{Name as Named}
 use Rattle.wgsl_meaning.specs.declared.fault.NameFault.TheVariants.{NotEntrypoint}
 use Rattle.wgsl_scalar.specs.Scalars.{type_of}
-use Rattle.wgsl_meaning.specs.Values.{Checked, and_then}
+use Rattle.wgsl_meaning.specs.Values.{and_then}
 use Rattle.wgsl_meaning.specs.Outcome.{Outcome, Done, Failed, Deep, after, bind, at_once}
-use Rattle.wgsl_meaning.specs.Names.{Name, Symbol, find, find_decl, plain_name, built_in_type}
+use Rattle.wgsl_meaning.specs.Names.{Name, find, find_decl, plain_name}
 use Rattle.wgsl_meaning.specs.Meaning.{Env, Types, World, value, handed_back, returned_by, return_type_of, type_written, body_of, const_in}
-use Rattle.wgsl_meaning.specs.Programs.{Inputs, world, root, here, here_if, plain, type_at, attribute_number, location_of, input_at, inputs_bound, has_stage, entered, started_by, started, run}
+use Rattle.wgsl_meaning.specs.Programs.{Inputs, world, root, here, here_if, plain, type_at, attribute_number, location_of, input_at, inputs_bound, has_stage, entered, started}
 use Rattle.wgsl_meaning.specs.Compare.{Better}
 use Rattle.wgsl_meaning.specs.Typing.{types_of}
 use Rattle.wgsl_meaning.specs.ConstStage.{Consts, Scope, stage, module_scope, Settled, nothing, another}
 use Rattle.wgsl_meaning.proofs.Compares.{kept_better, better_from, better_after}
-use Rattle.wgsl_lower.specs.Lowered.{lowered, type_here, lowered_attribute, lowered_attributes, lowered_parameter, lowered_parameters, parameter_types, checked_type, lowered_statements, with_parameters, lowered_declarations}
+use Rattle.wgsl_lower.specs.Lowered.{lowered, type_here, lowered_attribute, lowered_attributes, lowered_parameter, lowered_parameters, parameter_types, checked_type, lowered_statements, lowered_declarations}
 use Rattle.wgsl_items.specs.declared.error.OrOutOfMemory.{OrOutOfMemory}
 use Rattle.wgsl_eval.specs.declared.error.DeclarationFault.{DeclarationFault}
 use Rattle.wgsl_eval.specs.Refusals.{Answers}
 use Rattle.wgsl_eval.specs.Start.{then_more, added, valued, all_valued, order_of, consts_of}
 use Rattle.wgsl_lower.specs.Lowered.{lowered_unit}
-use Rattle.wgsl_lower.specs.Keeps.{is_clear, ClearParameters, AreClear, Keeps}
+use Rattle.wgsl_lower.specs.Keeps.{ClearParameters, AreClear, Keeps}
 use Rattle.wgsl_lower.proofs.Goes.{then_ok}
 use Rattle.wgsl_lower.proofs.Consts.{Known, known}
 use Rattle.wgsl_lower.proofs.Inside.{inside_better}
 use Rattle.wgsl_lower.proofs.Returns.{not_declared, IsTyped, statements_better}
-use Rattle.wgsl_lower.proofs.Units.{then_more_ok, IsLowered, gone_too, found_too, starts, clear_declaration, clear_found, clear_types, Parts, parts_of, input_type}
+use Rattle.wgsl_lower.proofs.Units.{then_more_ok, IsLowered, gone_too, found_too, starts, clear_declaration, clear_found, clear_types, parts_of, input_type}
 
 has_stage_same : (s : Scope) (as' bs : List Attr) → lowered_attributes s as' ≡ Ok bs → has_stage as' ≡ has_stage bs
 has_stage_same s [] bs h = let same : [] ≡ bs = cc in ap has_stage same

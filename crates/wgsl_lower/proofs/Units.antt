@@ -1,13 +1,11 @@
 -- Whole units: a run of the lowered unit is as good as the run of the unit.
-use Rattle.std.proofs.Common.{◌≡◌, ℕ, ◌+◌, ◌≤◌, List, [], ◌∷◌, ◌++◌, map, Option, Some, None, Bool, true, false, Result, Ok, Err, IfOk, refl, sym, ap, ◌∙◌, subst, arith}
+use Rattle.std.proofs.Common.{◌≡◌, ℕ, List, [], ◌∷◌, Option, Some, None, Bool, true, false, Result, Ok, Err, refl, sym, ap, ◌∙◌, subst}
 use Rattle.std.specs.Prelude.{codes, if◌then◌else◌}
 use Rattle.std.specs.Str.{bytes_eq}
 use Rattle.std.specs.Cmp.Lexicographic.{same_text}
-use Rattle.wgsl_syntax.specs.Tree.{Exp, Typ, Attr, fragment, location, Stm, Block, Param, Decl, variable, function, UnitTree as Module}
+use Rattle.wgsl_syntax.specs.Tree.{Exp, Typ, Attr, Block, Param, Decl, variable, function}
 use Rattle.wgsl_syntax.specs.declared.declaration.DeclarationKind.{DeclarationKind}
 use Rattle.wgsl_syntax.specs.Names.{declared_name}
-use Rattle.wgsl_enumerations.specs.declared.words.ShaderStage.{ShaderStage}
-use Rattle.wgsl_enumerations.specs.declared.words.ShaderStage.TheVariants.{Const, Exec}
 use Rattle.wgsl_shader_type.specs.declared.literal.LiteralInstance.{LiteralInstance}
 use Rattle.wgsl_scalar.specs.declared.scalar.ScalarType.{ScalarType}
 use Rattle.wgsl_scalar.specs.declared.scalar.ScalarType.TheVariants.{Bool as Truth, Integer}
@@ -16,22 +14,16 @@ use Rattle.wgsl_scalar.specs.declared.scalar.IntegerType.TheVariants.{AbstractIn
 use Rattle.wgsl_meaning.specs.declared.fault.Fault.{Fault}
 use Rattle.wgsl_scalar.specs.Scalars.{type_of}
 use Rattle.wgsl_meaning.specs.Values.{Checked, and_then, is_same_integer, is_same_type}
-use Rattle.wgsl_meaning.specs.Outcome.{Outcome, Done, Failed, Deep, after, bind, at_once}
-use Rattle.wgsl_meaning.specs.Names.{Name, Symbol, find, find_decl, plain_name, built_in_type}
-use Rattle.wgsl_meaning.specs.Meaning.{Env, Types, World, value, handed_back, returned_by, return_type_of, type_written, body_of}
-use Rattle.wgsl_meaning.specs.Programs.{Inputs, world, root, here, here_if, plain, type_at, attribute_number, location_of, input_at, inputs_bound, has_stage, entered, started_by, started, run}
-use Rattle.wgsl_meaning.specs.Compare.{Better}
-use Rattle.wgsl_meaning.specs.Typing.{types_of}
-use Rattle.wgsl_meaning.specs.ConstStage.{Consts, Scope, stage, module_scope, Settled}
-use Rattle.wgsl_meaning.proofs.Compares.{kept_better, better_from, better_after}
+use Rattle.wgsl_meaning.specs.Outcome.{Outcome, Done, Failed, Deep, after, bind}
+use Rattle.wgsl_meaning.specs.Names.{Name, find, find_decl}
+use Rattle.wgsl_meaning.specs.Meaning.{Types, World}
+use Rattle.wgsl_meaning.specs.Programs.{input_at, started_by}
+use Rattle.wgsl_meaning.specs.ConstStage.{Scope}
 use Rattle.wgsl_eval.specs.declared.error.DeclarationFault.{DeclarationFault}
-use Rattle.wgsl_eval.specs.Start.{refused, then_more}
-use Rattle.wgsl_lower.specs.Lowered.{lowered, type_here, lowered_attribute, lowered_attributes, lowered_parameter, lowered_parameters, parameter_types, checked_type, lowered_statements, with_parameters, lowered_body, lowered_rest, lowered_function, refusing, lowered_declarations}
-use Rattle.wgsl_lower.specs.Keeps.{is_clear, ClearParameters, IsClear, AreClear, Keeps}
+use Rattle.wgsl_eval.specs.Start.{then_more}
+use Rattle.wgsl_lower.specs.Lowered.{type_here, lowered_attributes, lowered_parameters, parameter_types, checked_type, lowered_statements, with_parameters, lowered_body, lowered_rest, lowered_function, refusing, lowered_declarations}
+use Rattle.wgsl_lower.specs.Keeps.{is_clear, ClearParameters, AreClear}
 use Rattle.wgsl_lower.proofs.Goes.{then_ok}
-use Rattle.wgsl_lower.proofs.Consts.{Known, known}
-use Rattle.wgsl_lower.proofs.Inside.{inside_better}
-use Rattle.wgsl_lower.proofs.Returns.{not_declared, IsTyped, statements_better}
 
 -- ---- lists of declarations
 

@@ -1,7 +1,7 @@
 -- What lowering keeps.
-use Rattle.std.specs.Prelude.{◌≡◌, ℕ, List, [], ◌∷◌, Option, Some, None, Result, Ok, Err, codes}
-use Rattle.wgsl_syntax.specs.Tree.{Attr, Block, Param, Decl, variable, function, UnitTree as Module}
-use Rattle.wgsl_meaning.specs.Names.{Name, find_decl}
+use Rattle.std.specs.Prelude.{◌≡◌, ℕ, List, [], ◌∷◌, Option, codes}
+use Rattle.wgsl_syntax.specs.Tree.{Param, Decl, variable, function}
+use Rattle.wgsl_meaning.specs.Names.{Name}
 use Rattle.wgsl_meaning.specs.Programs.{Inputs, plain, here, run}
 use Rattle.wgsl_meaning.specs.Compare.{Better}
 use Rattle.wgsl_shader_type.specs.declared.literal.LiteralInstance.{LiteralInstance}

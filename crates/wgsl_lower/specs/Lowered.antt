@@ -1,8 +1,7 @@
 -- The lowered unit (this project's own): constant expressions are written as their values, consts go, and what a function returns
 -- is converted where WGSL would convert it.
-use Rattle.std.specs.Prelude.{◌≡◌, ℕ, List, [], ◌∷◌, ◌++◌, Option, Some, None, Bool, true, false, Result, Ok, Err, if◌then◌else◌}
+use Rattle.std.specs.Prelude.{List, [], ◌∷◌, ◌++◌, Option, Some, None, Bool, true, false, Result, Ok, Err, if◌then◌else◌}
 use Rattle.wgsl_syntax.specs.Tree.{Exp, Exps, literal, parenthesized, unary, binary, call, named, nil, cons, exps, Typ, Attr, fragment, location, Stm, returning, Block, Param, Decl, variable, function, UnitTree as Module}
-use Rattle.wgsl_syntax.specs.declared.declaration.DeclarationKind.{DeclarationKind}
 use Rattle.wgsl_shader_type.specs.declared.literal.LiteralInstance.{LiteralInstance}
 use Rattle.wgsl_scalar.specs.declared.scalar.ScalarType.{ScalarType}
 use Rattle.wgsl_scalar.specs.declared.scalar.ScalarType.TheVariants.{Bool as Truth, Integer}
@@ -15,7 +14,7 @@ use Rattle.wgsl_meaning.specs.Values.{Checked, and_then}
 use Rattle.wgsl_meaning.specs.Outcome.{Outcome, Done, Failed, Deep}
 use Rattle.wgsl_meaning.specs.Names.{Name, plain_name}
 use Rattle.wgsl_meaning.specs.Meaning.{Types, value, typed}
-use Rattle.wgsl_meaning.specs.ConstStage.{Consts, Scope, stage, module_scope, callee_of}
+use Rattle.wgsl_meaning.specs.ConstStage.{Scope, stage, module_scope, callee_of}
 use Rattle.wgsl_meaning.specs.Written.{written}
 use Rattle.wgsl_eval.specs.declared.error.DeclarationFault.{DeclarationFault}
 use Rattle.wgsl_items.specs.declared.error.OrOutOfMemory.{OrOutOfMemory}

@@ -1,9 +1,8 @@
 -- Calls and names have the types that typing gives them.
-use Rattle.std.proofs.Common.{◌≡◌, ℕ, zero, suc, ◌+◌, List, [], ◌∷◌, map, length, Option, Some, None, Bool, true, false, Result, Ok, Err, refl, sym, ap, ◌∙◌, subst}
+use Rattle.std.proofs.Common.{◌≡◌, ℕ, zero, suc, ◌+◌, List, [], ◌∷◌, map, length, Option, Some, None, Bool, true, false, Result, Ok, Err, refl, sym, subst}
 use Rattle.std.specs.Prelude.{pos, if◌then◌else◌, ◌==◌}
 use Rattle.wgsl_path.specs.declared.path.ModulePath.{ModulePath}
-use Rattle.wgsl_syntax.specs.Tree.{Exp, Typ, Attr, Stm, Block, Param, Decl, variable, function}
-use Rattle.wgsl_syntax.specs.declared.declaration.DeclarationKind.{DeclarationKind}
+use Rattle.wgsl_syntax.specs.Tree.{Typ, Stm, Decl, variable, function}
 use Rattle.wgsl_enumerations.specs.declared.words.ShaderStage.{ShaderStage}
 use Rattle.wgsl_enumerations.specs.declared.words.ShaderStage.TheVariants.{Const, Override, Exec}
 use Rattle.wgsl_shader_type.specs.declared.literal.LiteralInstance.{LiteralInstance}
@@ -18,7 +17,7 @@ use Rattle.wgsl_scalar.proofs.OperatorTypes.{converted_to, constructed_to}
 use Rattle.wgsl_meaning.specs.Values.{Checked}
 use Rattle.wgsl_meaning.specs.Outcome.{Outcome, Done, Failed, Deep, after, bind, at_once, computed}
 use Rattle.wgsl_meaning.specs.Names.{Name, Symbol}
-use Rattle.wgsl_meaning.specs.Meaning.{World, Env, construct, construct_type, type_written, bound, returned_by, handed_back, return_type_of, body_of, needed, call_in, call_type}
+use Rattle.wgsl_meaning.specs.Meaning.{World, Env, construct, construct_type, type_written, bound, returned_by, handed_back, body_of, needed, call_in, call_type}
 use Rattle.wgsl_meaning.specs.Programs.{Program, called_at, call_type_at, inside, world}
 use Rattle.wgsl_meaning.specs.Typing.{Both, HasType, TypesAgree}
 

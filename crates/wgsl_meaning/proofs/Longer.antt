@@ -1,19 +1,17 @@
 -- A larger bound changes nothing of what is over.
-use Rattle.std.proofs.Common.{◌≡◌, ℕ, zero, suc, ◌+◌, ◌≤◌, List, [], ◌∷◌, Option, Some, None, refl, sym, ap, ◌∙◌, subst, arith, zero-add, suc-add}
+use Rattle.std.proofs.Common.{ℕ, zero, suc, ◌+◌, List, [], ◌∷◌, Option, Some, None, refl, zero-add, suc-add}
 use Rattle.wgsl_path.specs.declared.path.ModulePath.{ModulePath}
-use Rattle.wgsl_syntax.specs.Tree.{Decl}
 use Rattle.wgsl_enumerations.specs.declared.words.ShaderStage.{ShaderStage}
 use Rattle.wgsl_enumerations.specs.declared.words.ShaderStage.TheVariants.{Const, Override, Exec}
 use Rattle.wgsl_shader_type.specs.declared.literal.LiteralInstance.{LiteralInstance}
 use Rattle.wgsl_scalar.specs.declared.scalar.ScalarType.{ScalarType}
 use Rattle.wgsl_meaning.specs.declared.fault.Fault.TheVariants.{Name as Named}
 use Rattle.wgsl_meaning.specs.declared.fault.NameFault.TheVariants.{Todo, UnknownDecl}
-use Rattle.wgsl_meaning.specs.Outcome.{Outcome, Done, Failed, Deep, bind, at_once}
-use Rattle.wgsl_meaning.specs.Names.{Name, Symbol, built_in_type}
-use Rattle.wgsl_meaning.specs.Meaning.{World, construct, construct_type}
-use Rattle.wgsl_meaning.specs.Programs.{Program, const_at, called_at, call_type_at, Inside, opened, inside, world, Inputs, entered, started, run, EndsWell}
+use Rattle.wgsl_meaning.specs.Outcome.{Outcome, Failed}
+use Rattle.wgsl_meaning.specs.Names.{Name, Symbol}
+use Rattle.wgsl_meaning.specs.Programs.{Program, const_at, called_at, call_type_at, Inside, opened, inside, world, Inputs, started, run}
 use Rattle.wgsl_meaning.specs.Compare.{Extends}
-use Rattle.wgsl_meaning.proofs.Simulates.{Kept, StagesMeet, same_stage}
+use Rattle.wgsl_meaning.proofs.Simulates.{Kept, same_stage}
 use Rattle.wgsl_meaning.proofs.Compares.{kept_extends, extends_refl, extends_trans}
 use Rattle.wgsl_meaning.proofs.Meets.{Meet, const_meets, call_meets, call_type_meets, started_meets, entered_meets}
 

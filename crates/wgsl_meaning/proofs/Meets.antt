@@ -1,18 +1,18 @@
 -- Two worlds whose names meet give outcomes that meet: for expressions, their types, consts, calls and entry points.
-use Rattle.std.proofs.Common.{◌≡◌, ℕ, ◌+◌, List, [], ◌∷◌, Option, Some, None, Bool, true, false, length, Result, Ok, Err, refl, sym, ap, ◌∙◌, subst}
+use Rattle.std.proofs.Common.{◌≡◌, ℕ, List, [], ◌∷◌, Option, Some, None, Bool, true, false, length, Ok, Err, refl, ap, subst}
 use Rattle.std.specs.Prelude.{if◌then◌else◌, ◌==◌}
-use Rattle.wgsl_syntax.specs.Tree.{Exp, Exps, literal, parenthesized, unary, binary, call, named, nil, cons, Typ, Attr, fragment, location, Stm, returning, Block, Param, Decl, variable, function}
+use Rattle.wgsl_syntax.specs.Tree.{Exp, Exps, literal, parenthesized, unary, binary, call, named, nil, cons, Typ, Attr, fragment, location, Stm, returning, Param, Decl, variable, function}
 use Rattle.wgsl_shader_type.specs.declared.literal.LiteralInstance.{LiteralInstance}
 use Rattle.wgsl_scalar.specs.declared.scalar.ScalarType.{ScalarType}
-use Rattle.wgsl_meaning.specs.declared.fault.Fault.TheVariants.{Operation, Name as Named}
-use Rattle.wgsl_meaning.specs.declared.fault.NameFault.TheVariants.{NotCallable, UninitConst, UnknownDecl, ParamCount, Void, NotEntrypoint, InvalidEntrypointParam, NoReturn, UnexpectedReturn}
+use Rattle.wgsl_meaning.specs.declared.fault.Fault.TheVariants.{Name as Named}
+use Rattle.wgsl_meaning.specs.declared.fault.NameFault.TheVariants.{NotCallable, UninitConst, UnknownDecl, ParamCount, Void, NotEntrypoint, InvalidEntrypointParam}
 use Rattle.wgsl_scalar.specs.Scalars.{type_of}
 use Rattle.wgsl_scalar.specs.Conversions.{converted}
 use Rattle.wgsl_scalar.specs.OperatorTypes.{unary_type, binary_type}
 use Rattle.wgsl_meaning.specs.Values.{Checked, and_then, literal_value, argument_value}
-use Rattle.wgsl_meaning.specs.Outcome.{Outcome, Done, Failed, Deep, after, bind, at_once, computed}
+use Rattle.wgsl_meaning.specs.Outcome.{Outcome, Done, Failed, after, at_once, computed}
 use Rattle.wgsl_meaning.specs.Names.{Name, find, plain_name}
-use Rattle.wgsl_meaning.specs.Meaning.{Env, Types, World, local_or, called_or, value_here, result_here, value, values, type_in_world, type_here, result_type_here, typed, all_typed, type_written, initial, initialized, const_in, bound, returned_by, handed_back, return_type_of, body_of, needed, call_in, call_type}
+use Rattle.wgsl_meaning.specs.Meaning.{Env, Types, World, local_or, called_or, value_here, result_here, value, type_here, result_type_here, typed, all_typed, type_written, initial, initialized, const_in, bound, returned_by, handed_back, return_type_of, body_of, needed, call_in, call_type}
 use Rattle.wgsl_meaning.specs.Programs.{Inputs, attribute_number, location_of, input_at, inputs_bound, has_stage, entered, started_by}
 use Rattle.wgsl_meaning.proofs.Simulates.{Kept, StagesMeet, simulates, follows_itself}
 

@@ -7,7 +7,7 @@ use Rattle.wgsl_shader_type.specs.declared.literal.LiteralInstance.{LiteralInsta
 use Rattle.wgsl_enumerations.specs.declared.words.ShaderStage.{ShaderStage}
 use Rattle.wgsl_scalar.specs.Operators.{unary_value, binary_value}
 use Rattle.wgsl_meaning.specs.Values.{literal_value}
-use Rattle.wgsl_meaning.specs.Outcome.{Outcome, Done, Failed, Deep, bind, computed}
+use Rattle.wgsl_meaning.specs.Outcome.{Outcome, Done, bind, computed}
 use Rattle.wgsl_meaning.specs.Names.{plain_name}
 use Rattle.wgsl_meaning.specs.Meaning.{Env, World, value_here, result_here, value, values}
 use Rattle.wgsl_meaning.specs.Follows.{Follows, FollowAll, keeps_literal, keeps_parentheses, keeps_unary, keeps_binary, keeps_call, keeps_name, replaces, no_more, one_more}

@@ -1,5 +1,5 @@
 -- Where an early stage gives a value, a later stage gives the same one in the same steps.
-use Rattle.std.proofs.Common.{◌≡◌, ℕ, zero, suc, List, [], ◌∷◌, Option, Some, None, Bool, true, false, Result, Ok, Err, refl, sym, ap, ◌∙◌, subst}
+use Rattle.std.proofs.Common.{◌≡◌, ℕ, zero, suc, List, Option, Some, None, Result, Ok, Err, refl, ap, subst}
 use Rattle.wgsl_path.specs.declared.path.ModulePath.{ModulePath}
 use Rattle.wgsl_syntax.specs.Tree.{Exp}
 use Rattle.wgsl_enumerations.specs.declared.words.ShaderStage.{ShaderStage}
@@ -10,9 +10,9 @@ use Rattle.wgsl_shader_type.specs.declared.error.Error.{Error}
 use Rattle.wgsl_scalar.specs.Operators.{unary_value, binary_value}
 use Rattle.wgsl_scalar.proofs.Stages.{const_value_holds as binary_holds}
 use Rattle.wgsl_scalar.proofs.OperatorTypes.{const_value_holds as unary_holds}
-use Rattle.wgsl_meaning.specs.Outcome.{Outcome, Done, Failed, Deep, bind, at_once, computed}
+use Rattle.wgsl_meaning.specs.Outcome.{Done, computed}
 use Rattle.wgsl_meaning.specs.Names.{Name, Symbol}
-use Rattle.wgsl_meaning.specs.Meaning.{Env, World, value}
+use Rattle.wgsl_meaning.specs.Meaning.{Env, value}
 use Rattle.wgsl_meaning.specs.Programs.{Program, const_at, called_at, call_type_at, inside, world}
 use Rattle.wgsl_meaning.specs.Compare.{Carries}
 use Rattle.wgsl_meaning.proofs.Simulates.{StagesMeet}

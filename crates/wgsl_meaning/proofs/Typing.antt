@@ -4,7 +4,7 @@ use Rattle.std.specs.Prelude.{if◌then◌else◌}
 use Rattle.std.specs.Str.{bytes_eq}
 use Rattle.wgsl_operators.specs.declared.UnaryOperator.{UnaryOperator}
 use Rattle.wgsl_operators.specs.declared.BinaryOperator.{BinaryOperator}
-use Rattle.wgsl_syntax.specs.Tree.{Exp, Exps, literal, parenthesized, unary, binary, call, named, nil, cons, Typ}
+use Rattle.wgsl_syntax.specs.Tree.{Exp, Exps, literal, parenthesized, unary, binary, call, named, nil, cons}
 use Rattle.wgsl_enumerations.specs.declared.words.ShaderStage.{ShaderStage}
 use Rattle.wgsl_shader_type.specs.declared.literal.LiteralInstance.{LiteralInstance}
 use Rattle.wgsl_scalar.specs.declared.scalar.ScalarType.{ScalarType}
@@ -13,10 +13,10 @@ use Rattle.wgsl_scalar.specs.Scalars.{type_of}
 use Rattle.wgsl_scalar.specs.Operators.{unary_value, binary_value}
 use Rattle.wgsl_scalar.specs.OperatorTypes.{unary_type, binary_type}
 use Rattle.wgsl_scalar.proofs.OperatorTypes.{unary_has, binary_has}
-use Rattle.wgsl_meaning.specs.Values.{Checked, literal_value}
-use Rattle.wgsl_meaning.specs.Outcome.{Outcome, Done, Failed, Deep, after, bind, at_once, computed}
+use Rattle.wgsl_meaning.specs.Values.{Checked}
+use Rattle.wgsl_meaning.specs.Outcome.{Outcome, Done, Failed, Deep, after, bind, computed}
 use Rattle.wgsl_meaning.specs.Names.{Name, find, plain_name}
-use Rattle.wgsl_meaning.specs.Meaning.{Env, Types, World, local_or, called_or, value_here, result_here, value, values, type_in_world, type_here, result_type_here, typed, all_typed}
+use Rattle.wgsl_meaning.specs.Meaning.{Env, World, local_or, called_or, value_here, result_here, value, values, type_in_world, type_here, result_type_here, typed, all_typed}
 use Rattle.wgsl_meaning.specs.Typing.{Both, HasType, HaveTypes, types_of, TypesAgree}
 
 -- ---- two that go on

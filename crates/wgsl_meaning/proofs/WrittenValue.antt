@@ -1,17 +1,16 @@
 -- What is written for a value has that value.
-use Rattle.std.proofs.Common.{◌≡◌, ℕ, zero, suc, ◌+◌, ◌<◌, ◌≤◌, ◌^◌, List, [], ◌∷◌, Option, Some, None, Bool, true, false, Result, Ok, Err, refl, sym, ap, ◌∙◌, subst, arith}
-use Rattle.std.specs.Prelude.{ℤ, pos, negsuc, nat_lt, nat_eq, if◌then◌else◌, codes}
+use Rattle.std.proofs.Common.{◌≡◌, ℕ, suc, ◌≤◌, ◌^◌, [], ◌∷◌, Option, Some, Bool, true, false, refl, sym, ap, ◌∙◌, arith}
+use Rattle.std.specs.Prelude.{pos, negsuc, nat_lt, nat_eq, if◌then◌else◌}
 use Rattle.std.proofs.lemmas.Bool.Decides.{nat_tests}
 use Rattle.wgsl_syntax.specs.declared.expression.LiteralExpression.TheVariants as L
-use Rattle.wgsl_syntax.specs.Tree.{Exp, Exps, literal}
-use Rattle.wgsl_enumerations.specs.declared.words.ShaderStage.{ShaderStage}
+use Rattle.wgsl_syntax.specs.Tree.{Exp, literal}
 use Rattle.wgsl_shader_type.specs.declared.literal.LiteralInstance.{LiteralInstance}
 use Rattle.wgsl_shader_type.specs.declared.literal.LiteralInstance.TheVariants as V
 use Rattle.wgsl_shader_type.specs.declared.error.Error.{Error}
 use Rattle.wgsl_shader_type.specs.declared.error.Error.TheVariants.{SubOverflow}
 use Rattle.wgsl_scalar.specs.Operators.{or_error}
-use Rattle.wgsl_meaning.specs.Outcome.{Outcome, Done, Failed, Deep, after, computed, bind}
-use Rattle.wgsl_meaning.specs.Meaning.{Env, World, value, result_here}
+use Rattle.wgsl_meaning.specs.Outcome.{Done, after, computed, bind}
+use Rattle.wgsl_meaning.specs.Meaning.{Env, World, value}
 use Rattle.wgsl_meaning.specs.Written.{HasConstructor, written, negative, least_abstract, least_signed}
 
 within : (n m k : ℕ) → nat_lt n m ≡ true → m ≤ k → nat_lt n k ≡ true

@@ -1,15 +1,14 @@
 -- The const stage of a plain unit, where some consts have their values and the parameters of a function are in scope.
-use Rattle.std.specs.Prelude.{◌≡◌, ℕ, List, [], ◌∷◌, ◌++◌, Option, Some, None, Ok, Err}
+use Rattle.std.specs.Prelude.{◌≡◌, ℕ, List, [], ◌∷◌, ◌++◌, Option, Some, None, Err}
 use Rattle.wgsl_meaning.specs.Values.{Checked}
-use Rattle.wgsl_syntax.specs.Tree.{Exp, Typ, Attr, Block, Param, Decl, variable, function}
-use Rattle.wgsl_syntax.specs.declared.declaration.DeclarationKind.{DeclarationKind}
+use Rattle.wgsl_syntax.specs.Tree.{Decl, variable, function}
 use Rattle.wgsl_enumerations.specs.declared.words.ShaderStage.TheVariants.{Const}
 use Rattle.wgsl_shader_type.specs.declared.literal.LiteralInstance.{LiteralInstance}
 use Rattle.wgsl_scalar.specs.declared.scalar.ScalarType.{ScalarType}
 use Rattle.wgsl_meaning.specs.declared.fault.Fault.TheVariants.{Name as Named}
 use Rattle.wgsl_meaning.specs.declared.fault.NameFault.TheVariants.{CyclicDecl, UnknownDecl, NotAccessible, NotCallable, Todo}
 use Rattle.wgsl_meaning.specs.Outcome.{Outcome, Done, Failed, Deep}
-use Rattle.wgsl_meaning.specs.Names.{Name, Symbol, find, find_decl, built_in_type}
+use Rattle.wgsl_meaning.specs.Names.{Name, find, find_decl, built_in_type}
 use Rattle.wgsl_meaning.specs.Meaning.{World, Types, called_or, const_in}
 use Rattle.wgsl_meaning.specs.Programs.{called_at, call_type_at, type_at, here_if}
 

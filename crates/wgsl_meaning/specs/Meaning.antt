@@ -1,20 +1,18 @@
 -- What expressions, consts and functions mean, whatever the names of modules denote.
-use Rattle.std.specs.Prelude.{ℕ, pos, List, [], ◌∷◌, Option, Some, None, Bool, true, false, Result, Ok, Err, if◌then◌else◌, length, ◌==◌}
-use Rattle.wgsl_syntax.specs.Tree.{Exp, Exps, literal, parenthesized, unary, binary, call, named, nil, cons, Typ, Attr, fragment, location, Stm, returning, Block, Param, Decl, variable, function}
-use Rattle.wgsl_syntax.specs.declared.declaration.DeclarationKind.{DeclarationKind}
+use Rattle.std.specs.Prelude.{pos, List, [], ◌∷◌, Option, Some, None, Ok, Err, if◌then◌else◌, length, ◌==◌}
+use Rattle.wgsl_syntax.specs.Tree.{Exp, Exps, literal, parenthesized, unary, binary, call, named, nil, cons, Typ, Stm, returning, Param, Decl, variable, function}
 use Rattle.wgsl_enumerations.specs.declared.words.ShaderStage.{ShaderStage}
 use Rattle.wgsl_shader_type.specs.declared.literal.LiteralInstance.{LiteralInstance}
 use Rattle.wgsl_shader_type.specs.declared.literal.LiteralInstance.TheVariants as V
 use Rattle.wgsl_scalar.specs.declared.scalar.ScalarType.{ScalarType}
-use Rattle.wgsl_meaning.specs.declared.fault.Fault.{Fault}
-use Rattle.wgsl_meaning.specs.declared.fault.Fault.TheVariants.{Operation, Name as Named}
+use Rattle.wgsl_meaning.specs.declared.fault.Fault.TheVariants.{Name as Named}
 use Rattle.wgsl_meaning.specs.declared.fault.NameFault.TheVariants.{UnknownDecl, NotCallable, UninitConst, Signature, ParamCount, Void, NoReturn, UnexpectedReturn, ReturnType}
 use Rattle.wgsl_scalar.specs.Scalars.{type_of}
 use Rattle.wgsl_scalar.specs.Conversions.{converted, constructed}
 use Rattle.wgsl_scalar.specs.Operators.{unary_value, binary_value}
 use Rattle.wgsl_scalar.specs.OperatorTypes.{converts, unary_type, binary_type}
 use Rattle.wgsl_meaning.specs.Values.{Checked, and_then, literal_value, argument_value}
-use Rattle.wgsl_meaning.specs.Outcome.{Outcome, Done, Failed, Deep, after, bind, at_once, computed}
+use Rattle.wgsl_meaning.specs.Outcome.{Outcome, Done, Failed, after, bind, at_once, computed}
 use Rattle.wgsl_meaning.specs.Names.{Name, find, plain_name}
 
 -- ---- expressions

@@ -1,16 +1,14 @@
 -- Names: of types, of built-in constructors, of parameters (WGSL, "Declaration and Scope").
-use Rattle.std.specs.Prelude.{ℕ, List, [], ◌∷◌, Option, Some, None, Bool, true, false, Result, Ok, Err, codes, if◌then◌else◌}
+use Rattle.std.specs.Prelude.{ℕ, List, [], ◌∷◌, Option, Some, None, Ok, Err, codes, if◌then◌else◌}
 use Rattle.std.specs.Str.{bytes_eq}
 use Rattle.wgsl_path.specs.declared.path.ModulePath.{ModulePath}
-use Rattle.wgsl_path.specs.declared.path.PathOrigin.TheVariants.{Absolute}
-use Rattle.wgsl_syntax.specs.Tree.{Exp, Typ, simple, templated, Attr, Stm, Block, Param, Decl}
+use Rattle.wgsl_syntax.specs.Tree.{Typ, simple, templated, Decl}
 use Rattle.wgsl_syntax.specs.Names.{declared_name}
-use Rattle.wgsl_syntax.specs.declared.declaration.DeclarationKind.{DeclarationKind}
 use Rattle.wgsl_scalar.specs.declared.scalar.ScalarType.{ScalarType}
 use Rattle.wgsl_scalar.specs.declared.scalar.ScalarType.TheVariants.{Integer}
 use Rattle.wgsl_scalar.specs.declared.scalar.IntegerType.TheVariants.{I32, U32}
 use Rattle.wgsl_meaning.specs.declared.fault.Fault.TheVariants.{Name as Named}
-use Rattle.wgsl_meaning.specs.declared.fault.NameFault.TheVariants.{Todo, NotType, UnexpectedTemplate, UnknownDecl}
+use Rattle.wgsl_meaning.specs.declared.fault.NameFault.TheVariants.{Todo, UnexpectedTemplate, UnknownDecl}
 use Rattle.wgsl_meaning.specs.Values.{Checked}
 
 abbrev pub Name : Type 0

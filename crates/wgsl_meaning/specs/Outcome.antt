@@ -1,5 +1,5 @@
 -- How an evaluation ends, and with how many steps.
-use Rattle.std.specs.Prelude.{ℕ, ◌+◌, Option, Some, None, Result, Ok, Err}
+use Rattle.std.specs.Prelude.{ℕ, ◌+◌, Result, Ok, Err}
 use Rattle.wgsl_meaning.specs.declared.fault.Fault.{Fault}
 use Rattle.wgsl_meaning.specs.declared.fault.Fault.TheVariants.{Operation}
 use Rattle.wgsl_shader_type.specs.declared.error.Error.{Error}

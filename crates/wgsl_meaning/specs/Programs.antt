@@ -1,25 +1,23 @@
 -- Programs and their runs.
-use Rattle.std.specs.Prelude.{◌≡◌, ℕ, zero, suc, ◌≤◌, List, [], ◌∷◌, map, Option, Some, None, Bool, true, false, Result, Ok, Err, if◌then◌else◌, pos, negsuc, nat_lt, ◌^◌, ℤ}
+use Rattle.std.specs.Prelude.{◌≡◌, ℕ, zero, suc, ◌≤◌, List, [], ◌∷◌, map, Option, Some, None, Bool, true, false, Ok, Err, if◌then◌else◌, pos, negsuc, nat_lt, ◌^◌, ℤ}
 use Rattle.wgsl_path.specs.declared.path.ModulePath.{ModulePath}
 use Rattle.wgsl_path.specs.declared.path.PathOrigin.TheVariants.{Absolute}
-use Rattle.wgsl_syntax.specs.Tree.{Exp, Typ, Attr, fragment, location, Stm, Block, Param, Decl, variable, function, UnitTree as Module}
-use Rattle.wgsl_syntax.specs.declared.declaration.DeclarationKind.{DeclarationKind}
+use Rattle.wgsl_syntax.specs.Tree.{Attr, fragment, location, Param, Decl, variable, function, UnitTree as Module}
 use Rattle.wgsl_syntax.specs.Names.{declared_name}
 use Rattle.wgsl_enumerations.specs.declared.words.ShaderStage.{ShaderStage}
 use Rattle.wgsl_enumerations.specs.declared.words.ShaderStage.TheVariants.{Const, Override, Exec}
 use Rattle.wgsl_shader_type.specs.declared.literal.LiteralInstance.{LiteralInstance}
 use Rattle.wgsl_scalar.specs.declared.scalar.ScalarType.{ScalarType}
 use Rattle.wgsl_shader_type.specs.declared.literal.LiteralInstance.TheVariants as V
-use Rattle.wgsl_meaning.specs.declared.fault.Fault.{Fault}
 use Rattle.wgsl_meaning.specs.declared.fault.Fault.TheVariants.{Operation, NegativeAttr, Name as Named}
 use Rattle.wgsl_shader_type.specs.declared.tree.ShaderType.TheVariants as type
 use Rattle.wgsl_shader_type.specs.declared.error.Error.TheVariants.{Conversion, ConvOverflow, ParamType}
 use Rattle.wgsl_meaning.specs.declared.fault.NameFault.TheVariants.{UnknownDecl, NotType, Todo, NotEntrypoint, InvalidEntrypointParam, MissingUserInput}
 use Rattle.wgsl_scalar.specs.Scalars.{scalar_type, type_of, number}
 use Rattle.wgsl_meaning.specs.Values.{Checked, is_same_type}
-use Rattle.wgsl_meaning.specs.Outcome.{Outcome, Done, Failed, Deep, bind, at_once, computed}
+use Rattle.wgsl_meaning.specs.Outcome.{Outcome, Done, Failed, Deep, bind, at_once}
 use Rattle.wgsl_meaning.specs.Names.{Name, Symbol, find_decl, built_in_type}
-use Rattle.wgsl_meaning.specs.Meaning.{World, Env, value, const_in, call_in, call_type, construct, construct_type, type_written, return_type_of, body_of}
+use Rattle.wgsl_meaning.specs.Meaning.{World, Env, value, const_in, call_in, call_type, construct, construct_type, type_written, body_of}
 
 -- what is held, what each symbol declares, and what a name means in a module
 pub record Program : Type 0 where

@@ -1,5 +1,5 @@
 -- Types and values compared.
-use Rattle.std.specs.Prelude.{◌≡◌, ℕ, List, [], ◌∷◌, map, Option, Some, None}
+use Rattle.std.specs.Prelude.{◌≡◌, List, [], ◌∷◌, map}
 use Rattle.wgsl_shader_type.specs.declared.literal.LiteralInstance.{LiteralInstance}
 use Rattle.wgsl_scalar.specs.declared.scalar.ScalarType.{ScalarType}
 use Rattle.wgsl_scalar.specs.Scalars.{type_of}

@@ -1,5 +1,5 @@
 -- What evaluation has beside the scalars' own conversions and operators: faults, literals, and the conversions of a place.
-use Rattle.std.specs.Prelude.{ℕ, ℤ, Bool, true, false, Result, Ok, Err, if◌then◌else◌}
+use Rattle.std.specs.Prelude.{Bool, true, false, Result, Ok, Err, if◌then◌else◌}
 use Rattle.wgsl_items.specs.declared.error.OrOutOfMemory.{OrOutOfMemory}
 use Rattle.wgsl_items.specs.declared.error.OrOutOfMemory.TheVariants as memory
 use Rattle.wgsl_syntax.specs.declared.expression.LiteralExpression.{LiteralExpression}

@@ -1,11 +1,11 @@
 -- How a value is written (this project's own).
-use Rattle.std.specs.Prelude.{◌≡◌, ℕ, suc, pos, negsuc, true, false, nat_lt, nat_eq, List, [], ◌∷◌, None, Ok, if◌then◌else◌, codes}
+use Rattle.std.specs.Prelude.{◌≡◌, suc, pos, negsuc, true, false, nat_lt, nat_eq, [], ◌∷◌, None, Ok, if◌then◌else◌, codes}
 use Rattle.wgsl_operators.specs.declared.UnaryOperator.TheVariants.{Negation}
 use Rattle.wgsl_operators.specs.declared.BinaryOperator.TheVariants.{Subtraction, Equality}
 use Rattle.wgsl_syntax.specs.declared.expression.LiteralExpression.TheVariants.{AbstractInt, I32, U32}
-use Rattle.wgsl_syntax.specs.Tree.{Exp, Exps, literal, parenthesized, unary, binary, call, nil, cons, simple}
+use Rattle.wgsl_syntax.specs.Tree.{Exp, literal, parenthesized, unary, binary, call, nil, cons, simple}
 use Rattle.wgsl_shader_type.specs.declared.literal.LiteralInstance.{LiteralInstance}
-use Rattle.wgsl_meaning.specs.Outcome.{Outcome, Done}
+use Rattle.wgsl_meaning.specs.Outcome.{Done}
 use Rattle.wgsl_meaning.specs.Meaning.{World, Env, result_here}
 use Rattle.wgsl_shader_type.specs.declared.literal.LiteralInstance.TheVariants as V
 

@@ -1,4 +1,4 @@
-//! What programs mean: faults, evaluation, runs; and laws of it. Beside the types of faults it has no code.
+//! What programs mean: faults, evaluation, runs; and laws of it. Beside faults it has no code.
 #![tactic(auto)]
 
 mod fault;

@@ -1,6 +1,6 @@
 -- The types of operators on scalars are those of all types, and values have them.
-use Rattle.std.proofs.Common.{◌≡◌, ℕ, Bool, true, false, true≢false, refl, sym, ap, ◌∙◌, subst, ℤ, pos, inl, inr}
-use Rattle.std.specs.Prelude.{⊤, neg_ℤ, ◌↔◌, IsTrue, MatchResult, MatchOption, is_some, Option, Some, None, Result, Ok, Err, if◌then◌else◌}
+use Rattle.std.proofs.Common.{◌≡◌, ℕ, true≢false, refl, sym, ap, subst}
+use Rattle.std.specs.Prelude.{neg_ℤ, ◌↔◌, IsTrue, MatchResult, MatchOption, is_some, Option, Some, None, Ok, Err}
 use Rattle.std.specs.Option.{option_map}
 use Rattle.wgsl_operators.specs.declared.UnaryOperator.{UnaryOperator}
 use Rattle.wgsl_operators.specs.declared.UnaryOperator.TheVariants.{LogicalNegation, Negation, BitwiseComplement, AddressOf, Indirection}
@@ -14,7 +14,7 @@ use Rattle.wgsl_shader_type.specs.declared.error.Error.TheVariants.{SubOverflow,
 use Rattle.wgsl_shader_type.specs.declared.literal.LiteralInstance.{LiteralInstance}
 use Rattle.wgsl_shader_type.specs.declared.literal.LiteralInstance.TheVariants as literal
 use Rattle.wgsl_shader_type.specs.Conversion.{Converts}
-use Rattle.wgsl_shader_type.specs.Operator.{IsBinaryResult, HasNoBinaryCandidate, IsUnaryResult, HasNoUnaryCandidate, unary_takes as takes_type}
+use Rattle.wgsl_shader_type.specs.Operator.{IsBinaryResult, HasNoBinaryCandidate, IsUnaryResult, HasNoUnaryCandidate}
 use Rattle.wgsl_shader_type.specs.ResultOf.{binary_result, unary_result}
 use Rattle.wgsl_shader_type.specs.Rank.{rank_of, converts as converts_type}
 use Rattle.wgsl_shader_type.proofs.Ranks.{rank_out, rank_is_least}
@@ -22,13 +22,12 @@ use Rattle.wgsl_shader_type.proofs.Candidates.{result_found, none_found}
 use Rattle.wgsl_shader_type.proofs.UnaryCandidates as unary
 use Rattle.wgsl_scalar.specs.declared.scalar.ScalarType.{ScalarType}
 use Rattle.wgsl_scalar.specs.declared.scalar.ScalarType.TheVariants.{Bool as Truth, Integer}
-use Rattle.wgsl_scalar.specs.declared.scalar.IntegerType.{IntegerType}
 use Rattle.wgsl_scalar.specs.declared.scalar.IntegerType.TheVariants.{AbstractInt, I32, U32}
 use Rattle.wgsl_scalar.specs.Scalars.{scalar_type, type_of, fits}
 use Rattle.wgsl_scalar.specs.Conversions.{Checked, converted, constructed}
-use Rattle.wgsl_scalar.specs.Operators.{negated, unary_value, binary_value, no_candidate}
-use Rattle.wgsl_scalar.specs.OperatorTypes.{converts, CheckedType, type_or_error, unary_takes, type_in_front, unary_type, type_between, binary_type}
-use Rattle.wgsl_scalar.proofs.Types.{result_is, HasType, Meets, IsError, has_its_type, meets, exactly_has, converted_has, value_has, abstract_has}
+use Rattle.wgsl_scalar.specs.Operators.{negated, unary_value, binary_value}
+use Rattle.wgsl_scalar.specs.OperatorTypes.{converts, type_or_error, type_in_front, unary_type, type_between, binary_type}
+use Rattle.wgsl_scalar.proofs.Types.{result_is, HasType, Meets, IsError, meets, exactly_has, converted_has, value_has, abstract_has}
 use Rattle.wgsl_scalar.proofs.Stages.{Holds, same_holds, or_error_holds, exact_holds}
 
 -- ---- conversions

@@ -13,7 +13,6 @@ use Rattle.wgsl_shader_type.specs.Conversion.{Converts}
 use Rattle.wgsl_shader_type.specs.Operator.{is_shift, is_comparison, IsBinaryResult, HasNoBinaryCandidate, IsUnaryResult, HasNoUnaryCandidate}
 use Rattle.wgsl_scalar.specs.declared.scalar.ScalarType.{ScalarType}
 use Rattle.wgsl_scalar.specs.declared.scalar.ScalarType.TheVariants.{Bool as Truth, Integer}
-use Rattle.wgsl_scalar.specs.declared.scalar.IntegerType.{IntegerType}
 use Rattle.wgsl_scalar.specs.declared.scalar.IntegerType.TheVariants.{AbstractInt, I32, U32}
 use Rattle.wgsl_scalar.specs.Scalars.{scalar_type, type_of}
 use Rattle.wgsl_scalar.specs.Conversions.{converted, constructed}

@@ -1,7 +1,9 @@
 -- The built-in names of types, and what each stands for (WGSL, "Predeclared Types and Type-Generators Summary", "Predeclared Type Aliases").
-use Rattle.std.specs.Prelude.{◌≡◌, ℕ, List, [], ◌∷◌, Option, Some, None, Result, MatchResult, Bool, true, false, ◌||◌, ◌⊎◌, codes, if◌then◌else◌}
+use Rattle.std.specs.Prelude.{◌≡◌, ℕ, List, [], ◌∷◌, map, Option, Some, None, Result, MatchResult, Bool, true, false, ◌⊎◌, codes, if◌then◌else◌}
 use Rattle.std.specs.Option.{option_map}
 use Rattle.std.specs.Str.{bytes_eq}
+use Rattle.wgsl_builtin.specs.Names.{Name, is_in}
+use Rattle.wgsl_builtin.specs.Builtin.{value_types, other_types}
 use Rattle.wgsl_shader_type.specs.declared.tree.ShaderType.{ShaderType}
 use Rattle.wgsl_shader_type.specs.declared.tree.ShaderType.TheVariants as type
 use Rattle.wgsl_shader_type.specs.declared.error.Error.{Error}
@@ -11,32 +13,18 @@ use Rattle.wgsl_types.specs.declared.names.BuiltinName.{BuiltinName}
 use Rattle.wgsl_types.specs.declared.names.BuiltinName.TheVariants as name
 use Rattle.wgsl_types.specs.Template.{vector_reading, array_reading, pointer_reading, IsTemplateArgs, IsMissingTemplate, IsArrayTemplateFault}
 
--- The types with values here.
-abbrev pub supported_names : List (List ℕ × BuiltinName)
+-- What each type with values here stands for; that these are the types of the table of built-in names, `laws` says.
+abbrev pub supported_names : List (Name × BuiltinName)
 supported_names =
     (codes "bool", name.Scalar type.Bool) ∷ (codes "i32", name.Scalar type.I32) ∷ (codes "u32", name.Scalar type.U32)
     ∷ (codes "vec2", name.Vector 2 None) ∷ (codes "vec3", name.Vector 3 None) ∷ (codes "vec4", name.Vector 4 None)
-    ∷ (codes "vec2i", name.Vector 2 (Some type.I32)) ∷ (codes "vec3i", name.Vector 3 (Some type.I32)) ∷ (codes "vec4i", name.Vector 4 (Some type.I32))
-    ∷ (codes "vec2u", name.Vector 2 (Some type.U32)) ∷ (codes "vec3u", name.Vector 3 (Some type.U32)) ∷ (codes "vec4u", name.Vector 4 (Some type.U32))
+    ∷ (codes "vec2i", name.Vector 2 (Some type.I32)) ∷ (codes "vec2u", name.Vector 2 (Some type.U32))
+    ∷ (codes "vec3i", name.Vector 3 (Some type.I32)) ∷ (codes "vec3u", name.Vector 3 (Some type.U32))
+    ∷ (codes "vec4i", name.Vector 4 (Some type.I32)) ∷ (codes "vec4u", name.Vector 4 (Some type.U32))
     ∷ (codes "array", name.Array) ∷ (codes "ptr", name.Pointer) ∷ []
 
--- The types that this project leaves out: floats, matrices, atomics, samplers and textures.
-abbrev pub left_out_names : List (List ℕ)
-left_out_names =
-    codes "f32" ∷ codes "f16" ∷ codes "vec2f" ∷ codes "vec3f" ∷ codes "vec4f" ∷ codes "vec2h" ∷ codes "vec3h" ∷ codes "vec4h"
-    ∷ codes "mat2x2" ∷ codes "mat2x3" ∷ codes "mat2x4" ∷ codes "mat3x2" ∷ codes "mat3x3" ∷ codes "mat3x4" ∷ codes "mat4x2" ∷ codes "mat4x3" ∷ codes "mat4x4"
-    ∷ codes "mat2x2f" ∷ codes "mat2x3f" ∷ codes "mat2x4f" ∷ codes "mat3x2f" ∷ codes "mat3x3f" ∷ codes "mat3x4f" ∷ codes "mat4x2f" ∷ codes "mat4x3f" ∷ codes "mat4x4f"
-    ∷ codes "mat2x2h" ∷ codes "mat2x3h" ∷ codes "mat2x4h" ∷ codes "mat3x2h" ∷ codes "mat3x3h" ∷ codes "mat3x4h" ∷ codes "mat4x2h" ∷ codes "mat4x3h" ∷ codes "mat4x4h"
-    ∷ codes "atomic" ∷ codes "sampler" ∷ codes "sampler_comparison"
-    ∷ codes "texture_1d" ∷ codes "texture_2d" ∷ codes "texture_2d_array" ∷ codes "texture_3d" ∷ codes "texture_cube" ∷ codes "texture_cube_array"
-    ∷ codes "texture_multisampled_2d" ∷ codes "texture_depth_multisampled_2d" ∷ codes "texture_external"
-    ∷ codes "texture_storage_1d" ∷ codes "texture_storage_2d" ∷ codes "texture_storage_2d_array" ∷ codes "texture_storage_3d"
-    ∷ codes "texture_depth_2d" ∷ codes "texture_depth_2d_array" ∷ codes "texture_depth_cube" ∷ codes "texture_depth_cube_array" ∷ []
-
--- whether a text is in a list
-abbrev pub is_among : List (List ℕ) → List ℕ → Bool
-is_among [] text = false
-is_among (entry ∷ entries) text = bytes_eq text entry || is_among entries text
+abbrev pub SupportedNamesAreValueTypes : Type 0
+SupportedNamesAreValueTypes = map (λ entry. entry.0) supported_names ≡ value_types
 
 -- what a table gives a text, or else `other`
 abbrev pub listed : {A : Type 0} → A → List (List ℕ × A) → List ℕ → A
@@ -44,7 +32,7 @@ listed other [] text = other
 listed other (entry ∷ entries) text = if bytes_eq text entry.0 then entry.1 else listed other entries text
 
 abbrev pub builtin_name : List ℕ → BuiltinName
-builtin_name text = listed (if is_among left_out_names text then name.LeftOut else name.Unknown) supported_names text
+builtin_name text = listed (if is_in text other_types then name.LeftOut else name.Unknown) supported_names text
 
 -- The names with constructors: scalars, vectors and arrays.
 abbrev pub has_constructor : BuiltinName → Bool

@@ -1,6 +1,7 @@
 //! Laws of types, each the contract of a function that does nothing.
 
 ghost use Rattle.wgsl_types.specs.Laws.{IsReflexive, IsTransitive, IsAntisymmetric, RanksAdd, CommonTypeIsOne, CommonTypeIsSymmetric, CommonOfIsSymmetric, CommonTypeIgnoresOrder, ConcreteTwiceIsOnce, LoadedTwiceIsOnce, BothAtCommonType, BothUnlessUnfit};
+ghost use Rattle.wgsl_types.specs.Names.{SupportedNamesAreValueTypes};
 
 use crate::typed::Convert;
 
@@ -47,4 +48,9 @@ pub fn loaded_twice_is_once()
 pub fn convert_gives_the_common_type<T: Convert>()
     ensures common { BothAtCommonType T.type_of T.converted }
     ensures unless { BothUnlessUnfit T.type_of T.converted T.unfit }
+{}
+
+/// The names of types that have values here are those that the table of built-in names has for such.
+pub fn supported_names_are_value_types()
+    ensures { SupportedNamesAreValueTypes }
 {}

@@ -1,13 +1,12 @@
 //! The built-in names of types.
 
 ghost use Rattle.std.specs.Prelude.{◌≡◌, Some, None};
-ghost use Rattle.std.specs.List.{list_any};
 ghost use Rattle.std.specs.Option.{option_copied};
-ghost use Rattle.std.specs.Str.{bytes_eq};
 ghost use Rattle.wgsl_types.specs.Names as spec;
 
 use crate::template::{ArrayTemplate, PtrTemplate, VecTemplate};
 use std::alloc::Global;
+use wgsl_builtin::{is_known, other_types};
 use wgsl_items::{Boxed, Text};
 use wgsl_shader_type::{Error, TpltParam, Type};
 
@@ -26,77 +25,6 @@ pub enum BuiltinName {
     LeftOut,
     /// A name that is not built in.
     Unknown,
-}
-
-/// The built-in names that are not supported here.
-static LEFT_OUT: [&str; 55] = [
-    "f32",
-    "f16",
-    "vec2f",
-    "vec3f",
-    "vec4f",
-    "vec2h",
-    "vec3h",
-    "vec4h",
-    "mat2x2",
-    "mat2x3",
-    "mat2x4",
-    "mat3x2",
-    "mat3x3",
-    "mat3x4",
-    "mat4x2",
-    "mat4x3",
-    "mat4x4",
-    "mat2x2f",
-    "mat2x3f",
-    "mat2x4f",
-    "mat3x2f",
-    "mat3x3f",
-    "mat3x4f",
-    "mat4x2f",
-    "mat4x3f",
-    "mat4x4f",
-    "mat2x2h",
-    "mat2x3h",
-    "mat2x4h",
-    "mat3x2h",
-    "mat3x3h",
-    "mat3x4h",
-    "mat4x2h",
-    "mat4x3h",
-    "mat4x4h",
-    "atomic",
-    "sampler",
-    "sampler_comparison",
-    "texture_1d",
-    "texture_2d",
-    "texture_2d_array",
-    "texture_3d",
-    "texture_cube",
-    "texture_cube_array",
-    "texture_multisampled_2d",
-    "texture_depth_multisampled_2d",
-    "texture_external",
-    "texture_storage_1d",
-    "texture_storage_2d",
-    "texture_storage_2d_array",
-    "texture_storage_3d",
-    "texture_depth_2d",
-    "texture_depth_2d_array",
-    "texture_depth_cube",
-    "texture_depth_cube_array",
-];
-
-fn is_among(entries: &[&str], text: &str) -> bool
-    ensures { result ≡ list_any (λ entry. bytes_eq text.now entry.now) entries.now }
-{
-    entries.iter().any(|entry| text == *entry)
-}
-
-fn is_left_out(text: &str) -> bool
-    ensures { result ≡ spec.is_among spec.left_out_names text.now }
-{
-    is_among(&LEFT_OUT, text)
 }
 
 /// What a name stands for, if it is a built-in one.
@@ -119,7 +47,7 @@ pub fn builtin_name(text: &str) -> BuiltinName
         "array" => BuiltinName::Array,
         "ptr" => BuiltinName::Pointer,
         _ => {
-            if is_left_out(text) {
+            if is_known(text, other_types()) {
                 BuiltinName::LeftOut
             } else {
                 BuiltinName::Unknown

@@ -1,4 +1,4 @@
-use Rattle.std.proofs.Common.{◌≡◌, ◌-◌, ◌<◌, ap, sym, ◌∙◌, arith, false, true, drop, []}
+use Rattle.std.proofs.Common.{◌≡◌, ◌<◌, ap, sym, ◌∙◌, arith, false, drop, []}
 use Rattle.std.proofs.lemmas.List.{drop_all}
 use Rattle.wgsl_eval.specs.Start as spec
 use Rattle.wgsl_eval.specs.Scopes.{decls}

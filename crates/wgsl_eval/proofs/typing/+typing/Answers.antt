@@ -1,4 +1,4 @@
-use Rattle.std.proofs.Common.{◌≡◌, ap, sym, ◌∙◌, subst, map, []}
+use Rattle.std.proofs.Common.{ap, sym, ◌∙◌, subst, map}
 use Rattle.wgsl_syntax.specs.Tree.{exps}
 use Rattle.wgsl_syntax.specs.View.{tree, node_tree, type_tree, call_layer}
 use Rattle.wgsl_syntax.proofs.Trees.{tree_of_call}

@@ -1,4 +1,4 @@
-use Rattle.std.proofs.Common.{◌≡◌, ◌+◌, ◌*◌, [], map, drop}
+use Rattle.std.proofs.Common.{◌≡◌, ◌+◌, ◌*◌, map, drop}
 use Rattle.wgsl_syntax.specs.Tree.{exps}
 use Rattle.wgsl_syntax.specs.View.{node_tree}
 use Rattle.wgsl_meaning.specs.Meaning as spec

@@ -1,4 +1,4 @@
-use Rattle.std.proofs.Common.{◌≡◌, ◌∙◌, ap}
+use Rattle.std.proofs.Common.{ap}
 use Rattle.wgsl_lower.proofs.Parts.{comparison_is}
 use Rattle.wgsl_lower.proofs.write.equals_zero.Goals as goal
 

@@ -1,4 +1,4 @@
-use Rattle.std.proofs.Common.{◌≡◌, ◌∙◌, ap}
+use Rattle.std.proofs.Common.{ap}
 use Rattle.wgsl_lower.proofs.Parts.{difference_is}
 use Rattle.wgsl_lower.proofs.write.least_abstract.Goals as goal
 

@@ -1,4 +1,4 @@
-use Rattle.std.proofs.Common.{◌≡◌, ◌∙◌, ap, ◌++◌, ◌∷◌, []}
+use Rattle.std.proofs.Common.{◌∙◌, ap, ◌++◌, ◌∷◌, []}
 use Rattle.wgsl_syntax.specs.View.{tree}
 use Rattle.wgsl_syntax.specs.declared.expression.Expression.TheVariants.{FunctionCall}
 use Rattle.wgsl_lower.proofs.Parts.{least_signed_is}
