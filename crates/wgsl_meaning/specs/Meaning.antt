@@ -97,7 +97,7 @@ abbrev mutual
 
 -- ---- constructors, consts and functions
 
--- the constructor of a type: of one argument, or of none for zero (WGSL, "Zero LiteralInstance Built-in Functions")
+-- the constructor of a type: of one argument, or of none for zero (WGSL, "Zero Value Built-in Functions")
 abbrev pub construct : Name → ScalarType → List LiteralInstance → Outcome LiteralInstance
 construct f t [] = computed (constructed t (V.AbstractInt (pos 0)))
 construct f t (v ∷ []) = computed (constructed t v)
