@@ -1,5 +1,5 @@
 -- What was asked for while loading goes on.
-use Rattle.std.proofs.Common.{◌≡◌, ◌≢◌, refl, sym, ap, ◌∙◌, subst, ℕ, zero, suc, ◌+◌, ◌<◌, ◌⊎◌, inl, inr, ⊎_elim, List, [], ◌∷◌, ◌++◌, map, length, Option, Some, None, Result, Ok, Err, arith, append_assoc}
+use Rattle.std.proofs.Common.{◌≡◌, ◌≢◌, sym, ap, ◌∙◌, subst, ℕ, zero, suc, ◌+◌, ◌<◌, ◌⊎◌, inl, inr, ⊎_elim, List, [], ◌∷◌, ◌++◌, length, Some, None, Result, Ok, arith, append_assoc}
 use Rattle.std.specs.Prelude.{string_bytes, slice_get}
 use Rattle.std.specs.Option.{option_map}
 use Rattle.std.specs.List.{Contains}
@@ -10,21 +10,18 @@ use Rattle.wgsl_path.specs.declared.path.ModulePath.{ModulePath}
 use Rattle.wgsl_path.specs.Paths.{path_text}
 use Rattle.wgsl_syntax.specs.Tree.{UnitTree}
 use Rattle.wgsl_syntax.specs.declared.unit.TranslationUnit.{TranslationUnit}
-use Rattle.wgsl_syntax.specs.View.{unit_tree}
 use Rattle.wesl_resolve.specs.Found.{unit_of, Asked, HasAsked, AsksFor, SameAnswers}
 use Rattle.wesl_resolve.specs.declared.error.ResolveError.{ResolveError}
-use Rattle.wesl_resolve.specs.declared.error.ResolveError.TheVariants.{OutOfMemory}
 use Rattle.wesl_link_spec.specs.Occurrences.{Name}
 use Rattle.wesl_link_spec.specs.Modules.{Path, Modules}
 use Rattle.wesl_link_spec.specs.Rounds.{Sources, AreDistinct, no_names, another}
 use Rattle.wesl_link_spec.specs.Asks.{printed_paths, Asks, AsksAmong, asks_first, asks_next, in_this_round, in_a_later_round, onward}
-use Rattle.wesl_scopes.specs.declared.module.Module.{Module}
 use Rattle.wesl_scopes.proofs.ScopeLemmas.{map_get}
 use Rattle.wesl_reach.specs.declared.rounds.Reached.{Reached}
 use Rattle.wesl_reach.specs.Closed.{IsClosed}
 use Rattle.wesl_reach.specs.Resolved.{LoadedModules}
 use Rattle.wesl_reach.specs.Stages.{AskedNames}
-use Rattle.wesl_reach.specs.Loading.{AreTabled, AreSought, paths_of, IsLoadedOne, AreAllLoaded, IsRoundEnd}
+use Rattle.wesl_reach.specs.Loading.{AreTabled, AreSought, paths_of, IsLoadedOne}
 use Rattle.wesl_reach.specs.Asking.{AsksForOne, AreAskedAmong, AreAllAsked, IsAskedEnd, AreAskedBehind, AreThoseLoaded}
 use Rattle.std.proofs.lemmas.List.Elements.{Contains-append_cases}
 use Rattle.wesl_reach.proofs.LoadLemmas.{AskedEntry, texts_of, path_and_unit, listed_found, IsLoadedTo, none_loaded, one_loaded, all_are_loaded, same_all_loaded}

@@ -1,6 +1,6 @@
 -- What a closing comes to.
 use Rattle.std.proofs.Common.{◌≡◌, sym, ◌∙◌, subst, ℕ, inr, Bool, false, List, [], Option, Some}
-use Rattle.std.specs.Prelude.{IfErr, Result, Ok, Err}
+use Rattle.std.specs.Prelude.{IfErr, OnOk, Result, Ok, Err}
 use Rattle.std.specs.Result.{IsErrAnd}
 use Rattle.std.specs.Option.{IsSome}
 use Rattle.wesl_link_spec.specs.Occurrences.{Name}
@@ -74,3 +74,7 @@ module _ (l : Linking) where
 pub err_passed : {T E : Type 0} (P : E → Type 0) (e : E) (r : Result T E) → IsErrAnd r (λ f. f ≡ e) → P e → IfErr r P
 err_passed P e (Ok x) is p = tt
 err_passed P e (Err f) is p = subst P (sym is) p
+
+pub on_any : {A E P : Type 0} (r : Result A E) → P → OnOk r P
+on_any (Ok x) p = p
+on_any (Err e) p = tt

@@ -32,12 +32,12 @@ use Rattle.wesl_scopes.specs.declared.error.ImportError.TheVariants as import
 use Rattle.wesl_scopes.specs.declared.module.Module.{Module}
 use Rattle.wesl_scopes.specs.Meanings.{GivesError}
 use Rattle.wesl_scopes.specs.Tells.{Opens}
-use Rattle.wesl_scopes.proofs.ScopeLemmas.{map_get, append_left, append_right, append_cases}
+use Rattle.wesl_scopes.proofs.ScopeLemmas.{map_get}
 use Rattle.wesl_reach.specs.declared.linking.AskedModule.{AskedModule}
 use Rattle.wesl_reach.specs.Missing.{refusal_of}
 use Rattle.wesl_reach.specs.Resolved.{LoadedModules, modules_of}
 use Rattle.wesl_reach.specs.Stages.{AskedNames}
-use Rattle.wesl_reach.specs.Loading.{AreTabled, paths_of, AreSought, IsOldOrAsked, RefusesLoading, IsLoadedOne, AreAllLoaded}
+use Rattle.wesl_reach.specs.Loading.{AreTabled, paths_of, AreSought, IsOldOrAsked, IsInsertedAt, IsRoot, RefusesLoading, IsLoadedOne, AreAllLoaded}
 use Rattle.wgsl_items.proofs.Members.{in_cases, to_contains, from_contains, get_map, same_bytes, bytes_same}
 use Rattle.wesl_reach.proofs.PresentLemmas.{DoneBut, all_done}
 
@@ -72,23 +72,54 @@ module _ (sources : Sources) (max n : ℕ) (path : ModulePath) (p : Path) (is : 
   module_refused unit (import.MissingDecl q x) less s o ps = absurd o
   module_refused unit (import.Private q x) less s o ps = absurd o
 
-  pub module_loaded : (old new : LoadedModules) (key : String Global) (unit : TranslationUnit) (one : Module) (o : Option Module) → length old.entries < max
+  pub module_loaded : (old new : LoadedModules) (unit : TranslationUnit) (one : Module) → n ≡ length old.entries → n < max
       → sources (path_text path) (unit_of (unit_tree unit)) → (one.path ≡ path) × (one.unit ≡ unit) × AreDistinct (scope_names (unit_tree unit))
-      → string_bytes key ≡ p → Updates string_cmp old new key (Some one) → o ≡ get string_cmp old key
-      → btree_map_len new ≡ btree_map_len old + (if is_some o then 0 else 1) → IsOrdered string_cmp new → IsLoadedOne sources max old path p new
-  module_loaded old new key unit one o less s m k u was many ordered = record {
+      → IsInsertedAt old p one new → IsLoadedOne sources max old path p new
+  module_loaded old new unit one same less s m inserted = record {
     one = one;
+    within = subst (λ k. k < max) same less;
+    found = subst (λ t. sources t (unit_of (unit_tree one.unit))) is (subst (λ t. sources (path_text path) (unit_of (unit_tree t))) (sym m.1) s);
+    distinct = subst (λ t. AreDistinct (scope_names (unit_tree t))) (sym m.1) m.2;
+    named = m.0;
+    printed = ap path_text m.0 ∙ is;
+    stands = inserted.stands;
+    many = inserted.many;
+    ordered = inserted.ordered;
+  }
+
+  pub is_root : (unit : TranslationUnit) (one : Module) → 0 < max → sources (path_text path) (unit_of (unit_tree unit))
+      → (one.path ≡ path) × (one.unit ≡ unit) × AreDistinct (scope_names (unit_tree unit)) → IsRoot sources max path p one
+  is_root unit one less s m = record {
     within = less;
     found = subst (λ t. sources t (unit_of (unit_tree one.unit))) is (subst (λ t. sources (path_text path) (unit_of (unit_tree t))) (sym m.1) s);
     distinct = subst (λ t. AreDistinct (scope_names (unit_tree t))) (sym m.1) m.2;
     named = m.0;
     printed = ap path_text m.0 ∙ is;
-    stands = λ q. btree_map_updates_text (string_bytes key) old new (Some one) u q ∙ ap (λ t. if bytes_eq t q then Some one else get_by_text old q) k;
-    many = λ none.
-        let nothing : o ≡ None = was ∙ ap (get_by_text old) k ∙ none in
-        many ∙ ap (λ t. length old.entries + (if is_some t then 0 else 1)) nothing;
-    ordered = ordered;
   }
+
+pub root_loaded : (sources : Sources) (max : ℕ) (path : ModulePath) (p : Path) (one : Module) (old new : LoadedModules) → old.entries ≡ [] → IsRoot sources max path p one
+    → IsInsertedAt old p one new → IsLoadedOne sources max old path p new
+root_loaded sources max path p one old new empty root inserted = record {
+  one = one;
+  within = subst (λ n. n < max) (sym (ap length empty)) root.within;
+  found = root.found;
+  distinct = root.distinct;
+  named = root.named;
+  printed = root.printed;
+  stands = inserted.stands;
+  many = inserted.many;
+  ordered = inserted.ordered;
+}
+
+pub inserted_at : (old new : LoadedModules) (p : Path) (key : String Global) (one : Module) (o : Option Module) → string_bytes key ≡ p → Updates string_cmp old new key (Some one)
+    → o ≡ get string_cmp old key → btree_map_len new ≡ btree_map_len old + (if is_some o then 0 else 1) → IsOrdered string_cmp new → IsInsertedAt old p one new
+inserted_at old new p key one o k u was many ordered = record {
+  stands = λ q. btree_map_updates_text (string_bytes key) old new (Some one) u q ∙ ap (λ t. if bytes_eq t q then Some one else get_by_text old q) k;
+  many = λ none.
+      let nothing : o ≡ None = was ∙ ap (get_by_text old) k ∙ none in
+      many ∙ ap (λ t. length old.entries + (if is_some t then 0 else 1)) nothing;
+  ordered = ordered;
+}
 
 -- ---- tables and lists
 

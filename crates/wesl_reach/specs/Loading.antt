@@ -41,7 +41,21 @@ AreSought ms asked = (p : Path) (a : AskedModule) → get_by_text asked p ≡ So
 abbrev pub IsOldOrAsked : LoadedModules → AskedNames → Path → Module → Type 0
 IsOldOrAsked old asked p m = (get_by_text old p ≡ Some m) ⊎ ((a : AskedModule) × (get_by_text asked p ≡ Some a) × (m.path ≡ a.path))
 
+-- a module is in the table under a path, and the others are as they were
+pub record IsInsertedAt (old : LoadedModules) (p : Path) (one : Module) (new : LoadedModules) : Type 0 where
+  pub stands : (q : Path) → get_by_text new q ≡ (if bytes_eq p q then Some one else get_by_text old q)
+  pub many : get_by_text old p ≡ None → length new.entries ≡ length old.entries + 1
+  pub ordered : IsOrdered string_cmp new
+
 module _ (sources : Sources) (max : ℕ) where
+  -- a module is what is found at the root's path, which prints so, and one module may be loaded
+  pub record IsRoot (path : ModulePath) (p : Path) (one : Module) : Type 0 where
+    pub within : 0 < max
+    pub found : sources p (unit_of (unit_tree one.unit))
+    pub distinct : AreDistinct (scope_names (unit_tree one.unit))
+    pub named : one.path ≡ path
+    pub printed : path_text one.path ≡ p
+
   -- the refusal of the first of these paths that is refused, where one is told
   abbrev pub RefusesLoading : ℕ → List Path → Option LoadError → Type 0
   RefusesLoading n ps None = ⊤

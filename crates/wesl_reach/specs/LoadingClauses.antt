@@ -1,5 +1,7 @@
 -- What the functions that load modules say, in terms of what they are given.
 use Rattle.std.specs.Prelude.{ℕ, List, Result, OnOk, string_bytes}
+use Rattle.std.specs.declared.string.String.{String}
+use Rattle.std.specs.declared.alloc.Global.{Global}
 use Rattle.wgsl_path.specs.declared.path.ModulePath.{ModulePath}
 use Rattle.wgsl_path.specs.Paths.{path_text}
 use Rattle.wgsl_syntax.specs.declared.unit.TranslationUnit.{TranslationUnit}
@@ -11,11 +13,12 @@ use Rattle.wesl_link_spec.specs.Kept.{kept_names}
 use Rattle.wesl_link_spec.specs.Rounds.{Sources}
 use Rattle.wesl_scopes.specs.Meanings.{Done}
 use Rattle.wesl_scopes.specs.declared.error.ImportError.{ImportError}
+use Rattle.wesl_scopes.specs.declared.module.Module.{Module}
 use Rattle.wesl_reach.specs.declared.rounds.Reached.{Reached}
 use Rattle.wesl_reach.specs.Resolved.{LoadedModules}
 use Rattle.wesl_reach.specs.Stages.{AskedNames}
 use Rattle.wesl_reach.specs.Answers.{Loading}
-use Rattle.wesl_reach.specs.Loading.{AreTabled, AreSought, LoadsAll, IsRoundEnd}
+use Rattle.wesl_reach.specs.Loading.{IsRoot, AreTabled, AreSought, LoadsAll, IsRoundEnd}
 use Rattle.wesl_reach.specs.Asking.{AsksForAll, IsAskedEnd, AreAskedBehind, AreThoseLoaded}
 
 -- this holds where the unit is what is found at the path
@@ -38,6 +41,17 @@ AsksBehind sources path keep unit max before after = WhereFound sources path uni
 abbrev pub AsksThoseLoaded : {A E : Type 0} → Sources → ModulePath → List Name → TranslationUnit → ℕ → Asked → Asked → Result A E → Type 0
 AsksThoseLoaded sources path keep unit max before after result =
     WhereFound sources path unit (OnOk result (AreThoseLoaded sources (path_text path) (names_kept keep unit) max before after))
+
+-- likewise from the root's module on
+abbrev pub RootLoads : Sources → ModulePath → String Global → Module → List Name → ℕ → Result Reached ImportError → Type 0
+RootLoads sources path root one keep max result = IsRoot sources max path (string_bytes root) one → Loading sources (string_bytes root) keep max result
+
+abbrev pub RootAsks : Sources → ModulePath → String Global → Module → List Name → ℕ → Asked → Asked → Type 0
+RootAsks sources path root one keep max before after = IsRoot sources max path (string_bytes root) one → AreAskedBehind sources (string_bytes root) keep max before after
+
+abbrev pub RootAsksThose : Sources → ModulePath → String Global → Module → List Name → ℕ → Asked → Asked → Result Reached ImportError → Type 0
+RootAsksThose sources path root one keep max before after result =
+    IsRoot sources max path (string_bytes root) one → OnOk result (AreThoseLoaded sources (string_bytes root) keep max before after)
 
 -- likewise from the end of the root's round on
 abbrev pub RoundsLoad : Sources → Reached → List Name → AskedNames → ℕ → Result Reached ImportError → Type 0

@@ -7,9 +7,9 @@ ghost use Rattle.wgsl_path.specs.Paths.{path_text};
 ghost use Rattle.wgsl_syntax.specs.View.{unit_tree};
 ghost use Rattle.wesl_resolve.specs.Found.{SameAnswers, SameTexts, HasAsked};
 ghost use Rattle.wesl_link_spec.specs.Kept.{kept_names};
-ghost use Rattle.wesl_reach.specs.Loading.{LoadsOne};
+ghost use Rattle.wesl_reach.specs.Loading.{LoadsOne, IsInsertedAt};
 ghost use Rattle.wesl_reach.specs.Asking.{AsksForOne};
-ghost use Rattle.wesl_reach.specs.LoadingClauses.{LoadsFrom, AsksBehind, AsksThoseLoaded, RoundsLoad, RoundsAsk, RoundsAskThose, LoadsAsked, AsksAsked};
+ghost use Rattle.wesl_reach.specs.LoadingClauses.{LoadsFrom, AsksBehind, AsksThoseLoaded, RootLoads, RootAsks, RootAsksThose, RoundsLoad, RoundsAsk, RoundsAskThose, LoadsAsked, AsksAsked};
 
 use crate::closing::{close_asked, close_root};
 use crate::linking::{Asked, HeldNames, Linking};
@@ -55,13 +55,41 @@ pub fn load_reached<R: Resolver>(
     let root = path.to_string(alloc)?;
     let names = names_to_keep(alloc, keep, &unit)?;
     let module = Module::new(alloc, path, unit)?;
+    load_from_root(
+        alloc,
+        resolver,
+        names.as_slice(),
+        path,
+        root,
+        module,
+        max_modules,
+    )
+}
+
+/// The root's round, and those behind it. The root's path prints as `root`.
+fn load_from_root<R: Resolver>(
+    alloc: Global,
+    resolver: &mut R,
+    keep: &[Text],
+    path: &ModulePath,
+    root: String,
+    module: Module,
+    max_modules: u32,
+) -> Result<Reached, ImportError>
+    ensures loading { RootLoads (R.answers resolver.old) path.now root «module» keep.now max_modules result }
+    ensures asked { RootAsks (R.answers resolver.old) path.now root «module» keep.now max_modules (R.asked resolver.old) (R.asked resolver.new) }
+    ensures all_asked { RootAsksThose (R.answers resolver.old) path.now root «module» keep.now max_modules (R.asked resolver.old) (R.asked resolver.new) result }
+    ensures same_answers { SameAnswers (R.answers resolver.old) (R.answers resolver.new) }
+    ensures same_texts { SameTexts (R.texts resolver.old) (R.texts resolver.new) }
+    ensures same_names { R.display_names resolver.new ≡ R.display_names resolver.old }
+{
     let mut modules = Modules::new(alloc);
-    modules.insert(root.clone()?, module)?;
+    insert_module(alloc, &mut modules, root.as_str(), module)?;
     let mut held = HeldNames::new(alloc);
     let start = Linking {
         modules: &modules,
         root: root.as_str(),
-        keep: names.as_slice(),
+        keep,
     };
     let asked = close_root(alloc, &start, path, &mut held)?;
     let reached = Reached {
@@ -69,14 +97,7 @@ pub fn load_reached<R: Resolver>(
         root,
         held,
     };
-    load_rounds(
-        alloc,
-        resolver,
-        names.as_slice(),
-        reached,
-        asked,
-        max_modules,
-    )
+    load_rounds(alloc, resolver, keep, reached, asked, max_modules)
 }
 
 /// The rounds behind the root's.
@@ -179,6 +200,18 @@ fn load_one<R: Resolver>(
     }
     let unit = resolver.resolve_module(alloc, path)?;
     let module = Module::new(alloc, path, unit)?;
+    insert_module(alloc, modules, text, module)?;
+    Ok(())
+}
+
+fn insert_module(
+    alloc: Global,
+    modules: &mut Modules,
+    text: &str,
+    module: Module,
+) -> Result<(), AllocError>
+    ensures { OnOk result (IsInsertedAt modules.old text.now «module» modules.new) }
+{
     modules.insert(String::from_str(alloc, text)?, module)?;
     Ok(())
 }

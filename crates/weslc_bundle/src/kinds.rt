@@ -25,7 +25,7 @@ pub(crate) fn validate_kind(kind: ValidateError) -> &'static str {
 
 pub(crate) fn eval_kind(fault: &Fault) -> &'static str {
     match fault {
-        Fault::Operation(error) => operation_kind(error),
+        Fault::Operation(error) => operation_kind(error.get()),
         Fault::NegativeAttr(_) => "NegativeAttr",
         Fault::Name(fault, _) => name_kind(*fault),
     }

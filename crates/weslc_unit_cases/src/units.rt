@@ -19,7 +19,7 @@ use wgsl_syntax::{
 
 fn fault_text(alloc: Global, fault: &Fault) -> Result<String, AllocError> {
     match fault {
-        Fault::Operation(error) => format!(in alloc; "{error:?}"),
+        Fault::Operation(error) => format!(in alloc; "{:?}", error.get()),
         Fault::NegativeAttr(_) => format!(in alloc; "{fault:?}"),
         Fault::Name(fault, name) => format!(in alloc; "{fault:?} {}", name.as_str()),
     }

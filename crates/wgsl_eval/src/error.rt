@@ -23,12 +23,12 @@ pub(crate) fn named(alloc: Global, fault: NameFault, name: &Text) -> EvalError
 }
 
 /// What an operation gives, with its error as the fault.
-pub(crate) fn computed<T>(operation: Result<T, Error>) -> Result<T, EvalError>
+pub(crate) fn computed<T>(alloc: Global, operation: Result<T, Error>) -> Result<T, EvalError>
     ensures { Ends (spec.computed operation) result }
 {
     match operation {
         Ok(value) => Ok(value),
-        Err(error) => Err(operation_fault(error)),
+        Err(error) => Err(operation_fault(alloc, error)),
     }
 }
 

@@ -69,8 +69,8 @@ fn call(
 {
     let ty = callee(alloc, scope, name)?;
     match arguments {
-        [] => Ok(computed(construct_scalar(ty, LiteralInstance::AbstractInt(0)))?),
-        [value] => Ok(computed(construct_scalar(ty, *value))?),
+        [] => computed(alloc, construct_scalar(ty, LiteralInstance::AbstractInt(0))),
+        [value] => computed(alloc, construct_scalar(ty, *value)),
         _ => Err(named(alloc, NameFault::Signature, name)),
     }
 }
@@ -90,12 +90,18 @@ pub fn eval_value(
         Expression::Parenthesized(x) => eval_value(alloc, scope, x.expression.node()),
         Expression::Unary(x) => {
             let value = eval_value(alloc, scope, x.operand.node())?;
-            Ok(computed(unary_scalar_op(x.operator, value, ShaderStage::Const))?)
+            computed(
+                alloc,
+                unary_scalar_op(x.operator, value, ShaderStage::Const),
+            )
         }
         Expression::Binary(x) => {
             let left = eval_value(alloc, scope, x.left.node())?;
             let right = eval_value(alloc, scope, x.right.node())?;
-            Ok(computed(binary_scalar_op(x.operator, left, right, ShaderStage::Const))?)
+            computed(
+                alloc,
+                binary_scalar_op(x.operator, left, right, ShaderStage::Const),
+            )
         }
         Expression::FunctionCall(x) => call_value(alloc, scope, x.get()),
         Expression::TypeOrIdentifier(x) => {

@@ -64,12 +64,12 @@ pub fn eval_ty(
         Expression::Parenthesized(x) => eval_ty(alloc, scope, x.expression.node()),
         Expression::Unary(x) => {
             let ty = eval_ty(alloc, scope, x.operand.node())?;
-            Ok(computed(scalar_unary_type(x.operator, ty))?)
+            computed(alloc, scalar_unary_type(x.operator, ty))
         }
         Expression::Binary(x) => {
             let left = eval_ty(alloc, scope, x.left.node())?;
             let right = eval_ty(alloc, scope, x.right.node())?;
-            Ok(computed(scalar_binary_type(x.operator, left, right))?)
+            computed(alloc, scalar_binary_type(x.operator, left, right))
         }
         Expression::FunctionCall(x) => typed_call(alloc, scope, x.get()),
         Expression::TypeOrIdentifier(x) => {
@@ -129,7 +129,7 @@ fn initial_of_type(
 {
     let ty = ty_eval_ty(alloc, scope, ty)?;
     let value = eval_value(alloc, scope, expression)?;
-    Ok(computed(convert_scalar(ty, value))?)
+    computed(alloc, convert_scalar(ty, value))
 }
 
 fn initial_untyped(

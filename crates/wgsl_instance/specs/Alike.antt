@@ -20,6 +20,9 @@ abbrev pub same_reference : RefInstance → RefInstance → Bool
 same_reference x y =
     (x.cell == y.cell) && pointwise step.eq-value.it x.path y.path && types.same x.ty y.ty && space.eq-value.it x.space y.space && access.eq-value.it x.access y.access
 
+abbrev pub same_pointer : PtrInstance → PtrInstance → Bool
+same_pointer x y = same_reference x.reference y.reference
+
 abbrev pub same_vector : VecInstance → VecInstance → Bool
 same_vector x y = scalar.eq-value.it x.ty y.ty && pointwise literal.eq-value.it x.components y.components
 
@@ -34,7 +37,7 @@ same_layer E (Instance-F.Literal x) (Instance-F.Literal y) = literal.eq-value.it
 same_layer E (Instance-F.Struct x) (Instance-F.Struct y) = same_struct E x y
 same_layer E (Instance-F.Array x) (Instance-F.Array y) = same_array E x y
 same_layer E (Instance-F.Vec x) (Instance-F.Vec y) = same_vector x y
-same_layer E (Instance-F.Ptr x) (Instance-F.Ptr y) = same_reference x.reference y.reference
+same_layer E (Instance-F.Ptr x) (Instance-F.Ptr y) = same_pointer x y
 same_layer E (Instance-F.Ref x) (Instance-F.Ref y) = same_reference x y
 same_layer E (Instance-F.Deferred x) (Instance-F.Deferred y) = types.same x y
 same_layer E _ _ = false

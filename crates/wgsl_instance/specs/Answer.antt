@@ -1,10 +1,15 @@
 -- What a call answers: the value or the error that a definition gives, but for want of memory.
-use Rattle.std.specs.Prelude.{◌≡◌, ◌⊎◌, List, [], ◌∷◌, ◌++◌, Result, Ok, Err, MatchResult}
+use Rattle.std.specs.Prelude.{◌≡◌, ◌⊎◌, List, [], ◌∷◌, ◌++◌, Option, Some, None, Result, Ok, Err, MatchResult}
 use Rattle.wgsl_shader_type.specs.declared.error.Error.{Error}
 use Rattle.wgsl_shader_type.specs.declared.error.Error.TheVariants.{OutOfMemory}
 
 abbrev pub Answers : {A : Type 0} → Result A Error → Result A Error → Type 0
 Answers wanted answer = MatchResult answer (λ value. wanted ≡ Ok value) (λ error. (error ≡ OutOfMemory) ⊎ (wanted ≡ Err error))
+
+-- the value that is there, else this error
+abbrev pub or_error : {A : Type 0} → Option A → Error → Result A Error
+or_error (Some x) e = Ok x
+or_error None e = Err e
 
 -- what follows a value; an error stays
 abbrev pub then_with : {A B : Type 0} → Result A Error → (A → Result B Error) → Result B Error

@@ -37,7 +37,7 @@ use Rattle.wgsl_instance.specs.declared.tree.PtrInstance.{PtrInstance}
 use Rattle.wgsl_instance.specs.declared.tree.Instance.{Instance, roll-Instance, out-Instance, out-roll-Instance, roll-out-Instance, map-Instance, fold_out-Instance, ind-Instance}
 use Rattle.wgsl_instance.specs.declared.tree.Instance.TheVariants as v
 use Rattle.wgsl_instance.specs.declared.tree.Instance.TheOpen.{Instance-F}
-use Rattle.wgsl_instance.specs.Alike.{same, same_layer, same_struct, same_array, same_vector, same_reference}
+use Rattle.wgsl_instance.specs.Alike.{same, same_layer, same_struct, same_array, same_vector, same_reference, same_pointer}
 
 -- ---- tests of what a value holds
 
@@ -307,3 +307,29 @@ reference_equiv = by_truth (by_self reference_true reference_self)
 
 pub vector_equiv : IsEquivalence same_vector
 vector_equiv = by_truth (by_self vector_true vector_self)
+
+struct_inside : (x y : StructInstanceOf Instance) → Instance-F.Struct x ≡ Instance-F.Struct y → x ≡ y
+struct_inside x y h = cc
+
+struct_true : (x y : StructInstanceOf Instance) → same_struct same x y ≡ true → x ≡ y
+struct_true x y h =
+    struct_inside x y (sym (v.outs-Struct x) ∙ ap out-Instance (equal_if_same (v.Struct x) (v.Struct y) (same_of_struct x y ∙ h)) ∙ v.outs-Struct y)
+
+pub struct_equiv : IsEquivalence (same_struct same)
+struct_equiv = by_truth (by_self struct_true (λ x. sym (same_of_struct x x) ∙ same_self (v.Struct x)))
+
+array_inside : (x y : ArrayInstanceOf Instance) → Instance-F.Array x ≡ Instance-F.Array y → x ≡ y
+array_inside x y h = cc
+
+array_true : (x y : ArrayInstanceOf Instance) → same_array same x y ≡ true → x ≡ y
+array_true x y h =
+    array_inside x y (sym (v.outs-Array x) ∙ ap out-Instance (equal_if_same (v.Array x) (v.Array y) (same_of_array x y ∙ h)) ∙ v.outs-Array y)
+
+pub array_equiv : IsEquivalence (same_array same)
+array_equiv = by_truth (by_self array_true (λ x. sym (same_of_array x x) ∙ same_self (v.Array x)))
+
+pointer_true : (x y : PtrInstance) → same_pointer x y ≡ true → x ≡ y
+pointer_true x y h = λ k. record { reference = reference_true x.reference y.reference h k }
+
+pub pointer_equiv : IsEquivalence same_pointer
+pointer_equiv = by_truth (by_self pointer_true (λ x. reference_self x.reference))

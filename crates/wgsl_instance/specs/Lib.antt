@@ -3,7 +3,6 @@ pub mod Answer
 pub mod Converted
 pub mod Equality
 pub mod Laws
-pub mod Places
+pub mod Parts
 pub mod Typed
-pub mod Views
 pub mod Zero

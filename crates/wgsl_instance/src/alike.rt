@@ -4,7 +4,7 @@ ghost use Rattle.std.specs.Prelude.{◌≡◌};
 ghost use Rattle.std.specs.Cmp.Lexicographic.{pointwise};
 ghost use Rattle.wgsl_instance.specs.Alike as spec;
 
-use crate::tree::{ArrayInstance, Instance, RefInstance, StructInstance, VecInstance};
+use crate::tree::{ArrayInstance, Instance, PtrInstance, RefInstance, StructInstance, VecInstance};
 
 fn are_references_alike(a: &RefInstance, b: &RefInstance) -> bool
     ensures { result ≡ spec.same_reference a.now b.now }
@@ -133,5 +133,44 @@ impl PartialEq for VecInstance {
 
     fn eq(&self, other: &VecInstance) -> bool {
         are_vectors_alike(self, other)
+    }
+}
+
+impl PartialEq for StructInstance {
+    ghost use Rattle.std.specs.Cmp as Cmp;
+    ghost use Rattle.wgsl_instance.specs.Equality.{struct_equiv};
+
+    ghost eq = { spec.same_struct spec.same };
+
+    ghost laws = { Cmp.partial_equiv_from_equiv struct_equiv };
+
+    fn eq(&self, other: &StructInstance) -> bool {
+        are_structs_alike(self, other)
+    }
+}
+
+impl PartialEq for ArrayInstance {
+    ghost use Rattle.std.specs.Cmp as Cmp;
+    ghost use Rattle.wgsl_instance.specs.Equality.{array_equiv};
+
+    ghost eq = { spec.same_array spec.same };
+
+    ghost laws = { Cmp.partial_equiv_from_equiv array_equiv };
+
+    fn eq(&self, other: &ArrayInstance) -> bool {
+        are_arrays_alike(self, other)
+    }
+}
+
+impl PartialEq for PtrInstance {
+    ghost use Rattle.std.specs.Cmp as Cmp;
+    ghost use Rattle.wgsl_instance.specs.Equality.{pointer_equiv};
+
+    ghost eq = { spec.same_pointer };
+
+    ghost laws = { Cmp.partial_equiv_from_equiv pointer_equiv };
+
+    fn eq(&self, other: &PtrInstance) -> bool {
+        are_references_alike(&self.reference, &other.reference)
     }
 }

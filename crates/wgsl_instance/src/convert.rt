@@ -15,7 +15,7 @@ use wgsl_scalar::{IntegerType, ScalarType, convert_scalar};
 use wgsl_shader_type::{Error, LiteralInstance, Type};
 
 /// The scalar type that has values here, if the type is one.
-pub(crate) fn scalar_of(ty: &Type) -> Option<ScalarType>
+pub fn scalar_of(ty: &Type) -> Option<ScalarType>
     ensures { result ≡ spec.scalar_of ty.now }
 {
     match ty {
@@ -48,7 +48,7 @@ fn element_of(ty: &Type) -> Option<&Type>
 }
 
 /// The refusal of a type whose scalars have no values here.
-fn unsupported<T: Drop>(alloc: Global, ty: &Type) -> Result<T, Error>
+pub fn unsupported<T: Drop>(alloc: Global, ty: &Type) -> Result<T, Error>
     ensures { Answers (Err (zero_fault ty.now)) result }
 {
     match ty {

@@ -79,17 +79,6 @@ pub(crate) fn copy_literals(
     Ok(copies)
 }
 
-/// A copy of a path.
-pub(crate) fn copy_path(alloc: Global, path: &[Step]) -> Result<Items<Step>, AllocError>
-    ensures { IfOk result (λ copy. copy ≡ path.now) }
-{
-    let mut copies = Items::new(alloc);
-    for step in path {
-        copies.push(*step)?;
-    }
-    Ok(copies)
-}
-
 impl VecInstance {
     /// A copy in fresh memory.
     pub fn clone(&self, alloc: Global) -> Result<VecInstance, AllocError>
@@ -109,7 +98,7 @@ impl RefInstance {
     {
         Ok(RefInstance {
             cell: self.cell,
-            path: copy_path(alloc, self.path.as_slice())?,
+            path: self.path.clone_in(alloc)?,
             ty: self.ty.clone(alloc)?,
             space: self.space,
             access: self.access,
@@ -149,5 +138,11 @@ impl CloneIn for RefInstance {
 impl CloneIn for PtrInstance {
     fn clone_in(&self, alloc: Global) -> Result<PtrInstance, AllocError> {
         self.clone(alloc)
+    }
+}
+
+impl CloneIn for Step {
+    fn clone_in(&self, _alloc: Global) -> Result<Step, AllocError> {
+        Ok(*self)
     }
 }

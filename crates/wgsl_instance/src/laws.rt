@@ -1,21 +1,6 @@
-//! Laws of values and of memory. Each function states its law and does nothing.
+//! Laws of values. Each function states its law and does nothing.
 
-ghost use Rattle.wgsl_instance.specs.Laws.{WrittenIsThere, OthersStay, LoadedTwiceIsOnce, ZeroHasType, ConvertedHasType};
-
-/// What is written to a place is what then stands there.
-pub fn written_is_there()
-    ensures { WrittenIsThere }
-{}
-
-/// A write changes no place of which neither path is a beginning of the other.
-pub fn others_stay()
-    ensures { OthersStay }
-{}
-
-/// To load twice is to load once, where no place of memory holds a reference.
-pub fn loaded_twice_is_once()
-    ensures { LoadedTwiceIsOnce }
-{}
+ghost use Rattle.wgsl_instance.specs.Laws.{ZeroHasType, ConvertedHasType};
 
 /// The zero value of a type has the type.
 pub fn zero_has_type()

@@ -6,12 +6,12 @@ ghost use Rattle.std.specs.List.{list_all};
 ghost use Rattle.std.specs.Option.{option_copied};
 ghost use Rattle.wgsl_instance.specs.Answer.{Answers, collected};
 ghost use Rattle.wgsl_instance.specs.Typed as typed;
-ghost use Rattle.wgsl_instance.specs.Views as spec;
+ghost use Rattle.wgsl_instance.specs.Parts as spec;
 
+use crate::selector::{in_range, is_rgba, is_xyzw, letter_index, member_position, no_component};
 use crate::tree::{
     ArrayInstance, Instance, PtrInstance, RefInstance, Step, StructInstance, VecInstance,
 };
-use crate::view::{in_range, is_rgba, is_xyzw, letter_index, member_position, no_component};
 use std::alloc::Global;
 use wgsl_enumerations::AddressSpace;
 use wgsl_items::{Boxed, Items};

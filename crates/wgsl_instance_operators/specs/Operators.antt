@@ -19,7 +19,7 @@ use Rattle.wgsl_instance.specs.declared.tree.Instance.{Instance, out-Instance}
 use Rattle.wgsl_instance.specs.declared.tree.Instance.TheVariants as v
 use Rattle.wgsl_instance.specs.declared.tree.Instance.TheOpen.{Instance-F}
 use Rattle.wgsl_instance.specs.Answer.{Answers, then_with, collected}
-use Rattle.wgsl_instance.specs.Views.{address_of, indirection}
+use Rattle.wgsl_instance.specs.Parts.{address_of, indirection}
 use Rattle.wgsl_instance.specs.Typed.{type_of}
 use Rattle.wgsl_instance.specs.Zero.{Made}
 

@@ -1,5 +1,5 @@
 -- What evaluation has beside the scalars' own conversions and operators: faults, literals, and the conversions of a place.
-use Rattle.std.specs.Prelude.{Bool, true, false, Result, Ok, Err, if◌then◌else◌}
+use Rattle.std.specs.Prelude.{◌≡◌, ◌⊎◌, Bool, true, false, Result, Ok, Err, if◌then◌else◌}
 use Rattle.wgsl_items.specs.declared.error.OrOutOfMemory.{OrOutOfMemory}
 use Rattle.wgsl_items.specs.declared.error.OrOutOfMemory.TheVariants as memory
 use Rattle.wgsl_syntax.specs.declared.expression.LiteralExpression.{LiteralExpression}
@@ -30,6 +30,10 @@ and_then (Err e) f = Err e
 abbrev pub operation_fault : Error → OrOutOfMemory Fault
 operation_fault OutOfMemory = memory.OutOfMemory
 operation_fault e = memory.Error (Operation e)
+
+-- that fault, unless memory was refused
+abbrev pub IsOperationFault : Error → OrOutOfMemory Fault → Type 0
+IsOperationFault e answer = (answer ≡ memory.OutOfMemory) ⊎ (answer ≡ operation_fault e)
 
 -- what a literal stands for: its suffix says its type (WGSL, "Numeric Literals")
 abbrev pub literal_value : LiteralExpression → LiteralInstance

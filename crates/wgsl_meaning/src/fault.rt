@@ -1,9 +1,9 @@
 //! Why an evaluation goes wrong.
 
-ghost use Rattle.std.specs.Prelude.{◌≡◌};
 ghost use Rattle.wgsl_meaning.specs.Values as spec;
 
-use wgsl_items::{OrOutOfMemory, Text};
+use std::alloc::Global;
+use wgsl_items::{Boxed, OrOutOfMemory, Text};
 use wgsl_scalar::ScalarType;
 use wgsl_shader_type::Error;
 
@@ -11,20 +11,23 @@ use wgsl_shader_type::Error;
 #[derive(Debug, Drop, PartialEq)]
 pub enum Fault {
     /// Of an operation on values: an operator, a conversion or a constructor.
-    Operation(Error),
+    Operation(Boxed<Error>),
     /// A number of an attribute is below 0.
     NegativeAttr(i64),
     /// Of what a name stands for.
     Name(NameFault, Text),
 }
 
-/// An operation's error as the fault of an evaluation, or that memory was refused.
-pub fn operation_fault(error: Error) -> OrOutOfMemory<Fault>
-    ensures { result ≡ spec.operation_fault error }
+/// An operation's error as the fault of an evaluation, or that memory was refused: to the operation, or here.
+pub fn operation_fault(alloc: Global, error: Error) -> OrOutOfMemory<Fault>
+    ensures { spec.IsOperationFault error result }
 {
-    match error {
-        Error::OutOfMemory => OrOutOfMemory::OutOfMemory,
-        error => OrOutOfMemory::Error(Fault::Operation(error)),
+    if matches!(error, Error::OutOfMemory) {
+        return OrOutOfMemory::OutOfMemory;
+    }
+    match Boxed::new(alloc, error) {
+        Ok(error) => OrOutOfMemory::Error(Fault::Operation(error)),
+        Err(_) => OrOutOfMemory::OutOfMemory,
     }
 }
 

@@ -1,5 +1,5 @@
 -- What each phrase of a declaration comes to, by its first token.
-use Rattle.std.proofs.Common.{◌≡◌, ◌≢◌, ◌∙◌, sym, ap, refl, List, [], ◌∷◌, ◌++◌, append-nil, Option, Some, None, Bool, false, ◌&&◌, length, IsTrue, Result, Ok}
+use Rattle.std.proofs.Common.{◌≡◌, ◌≢◌, ◌∙◌, sym, ap, subst, refl, List, [], ◌∷◌, ◌++◌, append-nil, append_assoc, Option, Some, None, Bool, false, ◌&&◌, length, IsTrue, Result, Ok}
 use Rattle.wgsl_path.specs.declared.span.Span.{Span}
 use Rattle.wgsl_path.specs.declared.span.Spanned.{Spanned}
 use Rattle.wgsl_token.specs.declared.token.Token.{Token}
@@ -17,18 +17,21 @@ use Rattle.wgsl_parser_spec.specs.Parsing.{first, Parses}
 use Rattle.wgsl_parser_spec.specs.Parsing.{at_end as at_the_end}
 use Rattle.wgsl_parser_spec.specs.Languages.{◌⌢◌, OptionallyListed, no_list, no_more, again}
 use Rattle.wgsl_parser_spec.specs.Sequences.{taken, Done, done, Then, next, Either, left, right}
-use Rattle.wgsl_parser_spec.proofs.Steps.{Inhabited, IsBarred, at_end, some_injective, parses_as, parses_done}
+use Rattle.wgsl_parser_spec.proofs.Steps.{Inhabited, Follows, IsBarred, at_end, some_injective, parses_as, parses_done}
 use Rattle.wgsl_grammar.specs.Terminals.{fixed, word, IsComma, type_named}
 use Rattle.wgsl_grammar.specs.Expressions.{IsSum}
 use Rattle.wgsl_grammar.specs.Attributes.{fragment, location}
-use Rattle.wgsl_grammar.specs.Declarations.{IsIdent, ident, IsType, type, IsAttributes, IsParameter, parameter, parameter_of, IsAnnotation, unannotated, annotated, IsResult, no_result, result_of, IsValue, no_value, value, IsBody, empty_body, returns, return_of, IsDeclaration, constant, function}
+use Rattle.wgsl_grammar.specs.Declarations.{IsIdent, ident, IsType, type, IsAttributes, IsParameter, parameter, parameter_of, IsAnnotation, unannotated, annotated, IsResult, no_result, result_of, IsValue, no_value, value, IsBody, empty_body, returns, return_of, constant_of, function_of, IsDeclaration, constant, function}
 use Rattle.wgsl_parse.specs.Marks.{Mark}
-use Rattle.wgsl_parse.specs.Follow.{is_semicolon, no_call, no_factor, no_term, ends_sum, ends_statement}
-use Rattle.wgsl_parse.specs.Rests.{ParameterRest, IsFunctionResult, ReturnRest, ConstantRest, FunctionRest}
+use Rattle.wgsl_parse.specs.Follow.{is_semicolon, no_call, no_factor, no_term, ends_sum, ends_statement, ends_attributes, ends_annotation, ends_result}
+use Rattle.wgsl_parse.specs.Rests.{ParameterRest, IsTypedName, IsFunctionResult, ReturnRest, ConstantRest, FunctionRest, IsFunctionHead, IsFunctionBlock, IsConstantHead, IsConstantValue}
 use Rattle.wgsl_parse.proofs.Marks.{origin, parses_mark}
 use Rattle.wgsl_parse.proofs.Expressions.{sum_barred, inhabited_sum}
 use Rattle.wgsl_parse.proofs.Attributes.{inhabited_attributes}
 use Rattle.wgsl_parse.specs.declared.declaration.FunctionResult.{FunctionResult}
+use Rattle.wgsl_parse.specs.declared.declaration.TypedName.{TypedName}
+use Rattle.wgsl_parse.specs.declared.declaration.FunctionBlock.{FunctionBlock}
+use Rattle.wgsl_parse.specs.declared.declaration.ConstantValue.{ConstantValue}
 
 -- what stands behind the parameters of a function
 abbrev pub returned : List (Spanned Attribute) → Option (TypeExpressionOf Expression) → FunctionResult
@@ -85,6 +88,29 @@ parameter_out u x (parameter {w = b} c {attributes = attributes} {name = name} {
 pub parses_parameter : {F : Option SpannedToken → Bool} {tokens s1 : List SpannedToken} {r : Result FormalParameter ParseFailure} → Parses ParameterRest F tokens r s1
     → Parses IsParameter F tokens r s1
 parses_parameter p = parses_as parameter_is (λ u v x h may f. parameter_out u x h) p
+
+abbrev pub ParameterParts : List SpannedToken → FormalParameter → Type 0
+ParameterParts = Then IsAttributes (λ attributes. Then IsTypedName (λ n. Done (parameter_of attributes n.ident n.ty)))
+
+parameter_parts_is : (u : List SpannedToken) (x : FormalParameter) → ParameterParts u x → ParameterRest u x
+parameter_parts_is u x (next {u = t} l (next (next {u = a} g (taken {k = k} is (next {u = b} h done))) d)) =
+    at_end d (λ e y. ParameterRest (t ⌢ (a ⌢ k ∷ b ⌢ []) ⌢ e) y) (rw (append-nil (a ⌢ k ∷ b ⌢ [])) (next l (next g (taken is (next h done)))))
+
+parameter_parts_out : (u : List SpannedToken) (x : FormalParameter) → ParameterRest u x → ParameterParts u x
+parameter_parts_out u x (next {u = t} l (next {u = a} g (taken {k = k} is (next {u = b} h done)))) =
+    let n : ParameterParts (t ⌢ (a ⌢ k ∷ b ⌢ []) ⌢ []) x = next l (next (next g (taken is (next h done))) done) in
+    rw (append-nil (a ⌢ k ∷ b ⌢ [])) at n
+
+pub parses_parameter_parts : {F : Option SpannedToken → Bool} {tokens s1 : List SpannedToken} {r : Result FormalParameter ParseFailure} → Parses ParameterParts F tokens r s1
+    → Parses IsParameter F tokens r s1
+parses_parameter_parts p = parses_parameter (parses_as parameter_parts_is (λ u v x h may f. parameter_parts_out u x h) p)
+
+module _ {A : Type 0} {H : TypedName → List SpannedToken → A → Type 0} where
+  typed_name_after : (u v : List SpannedToken) (x : A) → Then IsTypedName H u x → IsTrue (ends_attributes (first (u ++ v)))
+  typed_name_after u v x (next (next ident t) g) = refl
+
+  pub follows_attributes : {F : Option SpannedToken → Bool} → Follows ends_attributes (Then IsTypedName H) F
+  follows_attributes = record { allowed = λ u v x h may. typed_name_after u v x h }
 
 parameter_begun : {p : Span} (tokens u v : List SpannedToken) (x : FormalParameter) → first tokens ≡ Some (fixed f.ParenRight p) → IsParameter u x → first (u ++ v) ≢ first tokens
 parameter_begun tokens u v x is (parameter c no_more ident h) g = let e = ap (λ (k : SpannedToken). k.token) (some_injective (g ∙ is)) in cc
@@ -237,6 +263,67 @@ inhabited_function n = record {
   stands = next inhabited_ident.stands (taken {k = fixed f.ParenLeft origin} refl (next no_list (taken {k = fixed f.ParenRight origin} refl
       (next inhabited_result.stands (taken {k = fixed f.BraceLeft origin} refl (next empty_body (taken {k = fixed f.BraceRight origin} refl done)))))));
 }
+
+-- the parts of a constant and of a function
+
+pub inhabited_constant_value : Inhabited IsConstantValue
+inhabited_constant_value = record { tokens = _; value = _; stands = taken {k = fixed f.Equal origin} refl (next inhabited_sum.stands (taken {k = fixed f.Semicolon origin} refl done)) }
+
+pub inhabited_function_block : Inhabited IsFunctionBlock
+inhabited_function_block = record { tokens = _; value = _; stands = taken {k = fixed f.BraceLeft origin} refl (next empty_body (taken {k = fixed f.BraceRight origin} refl done)) }
+
+module _ {A : Type 0} {H : ConstantValue → List SpannedToken → A → Type 0} where
+  value_after : (u v : List SpannedToken) (x : A) → Then IsConstantValue H u x → IsTrue (ends_annotation (first (u ++ v)))
+  value_after u v x (next (taken is h) g) = subst (λ k. IsTrue (ends_annotation (Some k))) (sym is) refl
+
+  pub follows_annotation : {F : Option SpannedToken → Bool} → Follows ends_annotation (Then IsConstantValue H) F
+  follows_annotation = record { allowed = λ u v x h may. value_after u v x h }
+
+module _ {A : Type 0} {H : FunctionBlock → List SpannedToken → A → Type 0} where
+  block_after : (u v : List SpannedToken) (x : A) → Then IsFunctionBlock H u x → IsTrue (ends_result (first (u ++ v)))
+  block_after u v x (next (taken is h) g) = subst (λ k. IsTrue (ends_result (Some k))) (sym is) refl
+
+  pub follows_result : {F : Option SpannedToken → Bool} → Follows ends_result (Then IsFunctionBlock H) F
+  follows_result = record { allowed = λ u v x h may. block_after u v x h }
+
+abbrev pub ConstantParts : Span → List SpannedToken → Spanned GlobalDeclaration → Type 0
+ConstantParts c = Then IsConstantHead (λ h. Then IsConstantValue (λ i. Done (constant_of c h.ident h.ty i.value i.last)))
+
+constant_parts_is : (c : Span) (u : List SpannedToken) (x : Spanned GlobalDeclaration) → ConstantParts c u x → ConstantRest c u x
+constant_parts_is c u x (next (next {u = a} ha (next {u = b} hb done)) (next (taken {k = k} equals (next {u = w} hw (taken {k = j} ends done))) d)) =
+    at_end d (λ r y. ConstantRest c ((a ⌢ b ⌢ []) ⌢ (k ∷ w ⌢ j ∷ []) ⌢ r) y)
+    (rw (append-nil (w ++ j ∷ []), append-nil b, append_assoc a b (k ∷ w ⌢ j ∷ []))
+    (next ha (next hb (taken equals (next hw (taken ends done))))))
+
+constant_parts_out : (c : Span) (u : List SpannedToken) (x : Spanned GlobalDeclaration) → ConstantRest c u x → ConstantParts c u x
+constant_parts_out c u x (next {u = a} ha (next {u = b} hb (taken {k = k} equals (next {u = w} hw (taken {k = j} ends done))))) =
+    let n : ConstantParts c ((a ⌢ b ⌢ []) ⌢ (k ∷ w ⌢ j ∷ []) ⌢ []) x = next (next ha (next hb done)) (next (taken equals (next hw (taken ends done))) done) in
+    rw (append-nil (w ++ j ∷ []), append-nil b, append_assoc a b (k ∷ w ⌢ j ∷ [])) at n
+
+pub parses_constant_parts : {F : Option SpannedToken → Bool} {tokens s1 : List SpannedToken} (c : Span) {r : Result (Spanned GlobalDeclaration) ParseFailure}
+    → Parses (ConstantParts c) F tokens r s1 → Parses (ConstantRest c) F tokens r s1
+parses_constant_parts c p = parses_as (constant_parts_is c) (λ u v x h may f. constant_parts_out c u x h) p
+
+abbrev pub FunctionParts : List (Spanned Attribute) → Span → List SpannedToken → Spanned GlobalDeclaration → Type 0
+FunctionParts attributes n = Then IsFunctionHead (λ h. Then IsFunctionBlock (λ b. Done (function_of attributes n h.ident h.parameters h.returned.attributes h.returned.ty b.statements b.last)))
+
+function_parts_is : (attributes : List (Spanned Attribute)) (n : Span) (u : List SpannedToken) (x : Spanned GlobalDeclaration) → FunctionParts attributes n u x → FunctionRest attributes n u x
+function_parts_is attributes n u x
+    (next (next {u = a} ha (next (taken {k = i} opens (next {u = b} hb (taken {k = j} closes done))) (next {u = w} hw done))) (next (taken {k = l} begins (next {u = y} hy (taken {k = m} ends done))) d)) =
+    at_end d (λ r z. FunctionRest attributes n ((a ⌢ (i ∷ b ⌢ j ∷ []) ⌢ w ⌢ []) ⌢ (l ∷ y ⌢ m ∷ []) ⌢ r) z)
+    (rw (append-nil (y ++ m ∷ []), append-nil w, append_assoc a ((i ∷ b ⌢ j ∷ []) ⌢ w) (l ∷ y ⌢ m ∷ []), append_assoc (b ++ j ∷ []) w (l ∷ y ⌢ m ∷ []), append_assoc b (j ∷ []) (w ⌢ l ∷ y ⌢ m ∷ []))
+    (next ha (taken opens (next hb (taken closes (next hw (taken begins (next hy (taken ends done)))))))))
+
+function_parts_out : (attributes : List (Spanned Attribute)) (n : Span) (u : List SpannedToken) (x : Spanned GlobalDeclaration) → FunctionRest attributes n u x → FunctionParts attributes n u x
+function_parts_out attributes n u x
+    (next {u = a} ha (taken {k = i} opens (next {u = b} hb (taken {k = j} closes (next {u = w} hw (taken {k = l} begins (next {u = y} hy (taken {k = m} ends done)))))))) =
+    let p : FunctionParts attributes n ((a ⌢ (i ∷ b ⌢ j ∷ []) ⌢ w ⌢ []) ⌢ (l ∷ y ⌢ m ∷ []) ⌢ []) x =
+    next (next ha (next (taken opens (next hb (taken closes done))) (next hw done))) (next (taken begins (next hy (taken ends done))) done) in
+    rw (append-nil (y ++ m ∷ []), append-nil w, append_assoc a ((i ∷ b ⌢ j ∷ []) ⌢ w) (l ∷ y ⌢ m ∷ []), append_assoc (b ++ j ∷ []) w (l ∷ y ⌢ m ∷ []), append_assoc b (j ∷ []) (w ⌢ l ∷ y ⌢ m ∷ [])) at p
+
+pub parses_function_parts : {F : Option SpannedToken → Bool} {tokens s1 : List SpannedToken} (attributes : List (Spanned Attribute)) (n : Span) {r : Result (Spanned GlobalDeclaration) ParseFailure}
+    → Parses (FunctionParts attributes n) F tokens r s1 → Parses (FunctionRest attributes n) F tokens r s1
+parses_function_parts attributes n p = parses_as (function_parts_is attributes n) (λ u v x h may f. function_parts_out attributes n u x h) p
 
 -- no declaration is empty
 

@@ -19,6 +19,11 @@ use Rattle.wgsl_grammar.specs.Expressions.{IsSum, IsUnary, IsArguments, negated}
 use Rattle.wgsl_grammar.specs.Attributes.{fragment_of, location_of}
 use Rattle.wgsl_grammar.specs.Declarations.{IsIdent, IsType, IsAttributes, IsParameter, parameter_of, IsAnnotation, IsResult, IsValue, IsBody, return_of, constant_of, function_of, import_of}
 use Rattle.wgsl_parse.specs.declared.declaration.FunctionResult.{FunctionResult}
+use Rattle.wgsl_parse.specs.declared.declaration.FunctionHead.{FunctionHead}
+use Rattle.wgsl_parse.specs.declared.declaration.TypedName.{TypedName}
+use Rattle.wgsl_parse.specs.declared.declaration.FunctionBlock.{FunctionBlock}
+use Rattle.wgsl_parse.specs.declared.declaration.ConstantHead.{ConstantHead}
+use Rattle.wgsl_parse.specs.declared.declaration.ConstantValue.{ConstantValue}
 use Rattle.wgsl_parse.specs.declared.cursor.Word.{Word}
 use Rattle.wgsl_parse.specs.declared.import.ItemPath.{ItemPath}
 use Rattle.wgsl_parse.specs.Marks.{IsFixed, Mark, ThisWord}
@@ -54,9 +59,33 @@ AttributeRest s = Either (ThisWord (codes "fragment") (λ w. Done (fragment_of s
 abbrev pub ParameterRest : List SpannedToken → FormalParameter → Type 0
 ParameterRest = Then IsAttributes (λ attributes. Then IsIdent (λ name. Mark f.Colon (λ c. Then IsType (λ ty. Done (parameter_of attributes name ty)))))
 
+-- id `:` type, as one value
+abbrev pub IsTypedName : List SpannedToken → TypedName → Type 0
+IsTypedName = Then IsIdent (λ name. Mark f.Colon (λ c. Then IsType (λ ty. Done (record { ident = name; ty = ty }))))
+
 -- what stands behind the parameters of a function, as one value
 abbrev pub IsFunctionResult : List SpannedToken → FunctionResult → Type 0
 IsFunctionResult u r = IsResult u r.attributes r.ty
+
+-- `(` parameters `)`
+abbrev pub IsParameterList : List SpannedToken → List FormalParameter → Type 0
+IsParameterList = Mark f.ParenLeft (λ p. Then (OptionallyListed IsParameter IsComma) (λ parameters. Mark f.ParenRight (λ q. Done parameters)))
+
+-- id `(` parameters `)` result, as one value
+abbrev pub IsFunctionHead : List SpannedToken → FunctionHead → Type 0
+IsFunctionHead = Then IsIdent (λ name. Then IsParameterList (λ parameters. Then IsFunctionResult (λ r. Done (record { ident = name; parameters = parameters; returned = r }))))
+
+-- `{` statements `}`, as one value
+abbrev pub IsFunctionBlock : List SpannedToken → FunctionBlock → Type 0
+IsFunctionBlock = Mark f.BraceLeft (λ b. Then IsBody (λ statements. Mark f.BraceRight (λ z. Done (record { statements = statements; last = z }))))
+
+-- id [`:` type], as one value
+abbrev pub IsConstantHead : List SpannedToken → ConstantHead → Type 0
+IsConstantHead = Then IsIdent (λ name. Then IsAnnotation (λ ty. Done (record { ident = name; ty = ty })))
+
+-- `=` expr `;`, as one value
+abbrev pub IsConstantValue : List SpannedToken → ConstantValue → Type 0
+IsConstantValue = Mark f.Equal (λ e. Then IsSum (λ x. Mark f.Semicolon (λ z. Done (record { value = x; last = z }))))
 
 -- behind `return`
 abbrev pub ReturnRest : Span → List SpannedToken → Spanned Statement → Type 0

@@ -7,14 +7,14 @@ ghost use Rattle.wgsl_grammar.specs.Terminals.{IsComma};
 ghost use Rattle.wgsl_grammar.specs.Declarations as grammar;
 ghost use Rattle.wgsl_grammar.specs.Declarations.{IsType, IsParameter, IsAnnotation, IsValue, IsBody, IsDeclaration};
 ghost use Rattle.wgsl_parse.specs.Follow.{closes, ends_annotation, ends_result, ends_statement, ends_body};
-ghost use Rattle.wgsl_parse.specs.Rests.{ReturnRest, ConstantRest, FunctionRest, IsFunctionResult};
+ghost use Rattle.wgsl_parse.specs.Rests.{IsTypedName, ReturnRest, ConstantRest, FunctionRest, IsFunctionResult, IsParameterList, IsFunctionHead, IsFunctionBlock, IsConstantHead, IsConstantValue};
 
 use crate::attribute::attributes;
 use crate::cursor::Cursor;
 use crate::expression::{sum, type_named};
 use wgsl_items::Items;
 use wgsl_parser_spec::ParseFailure;
-use wgsl_path::{Span, Spanned};
+use wgsl_path::{Ident, Span, Spanned};
 use wgsl_syntax::{
     Attributes, CompoundStatementOf, Declaration, DeclarationKind, ExpressionNode, FormalParameter,
     Function, GlobalDeclaration, GlobalDeclarationNode, ReturnStatement, Statement, StatementNode,
@@ -22,11 +22,47 @@ use wgsl_syntax::{
 };
 use wgsl_token::Fixed;
 
+/// A name and its type.
+#[derive(Drop)]
+pub struct TypedName {
+    pub ident: Ident,
+    pub ty: TypeExpression,
+}
+
 /// What stands behind the parameters of a function: the type of its result, and the attributes before that.
 #[derive(Drop)]
 pub struct FunctionResult {
     pub attributes: Attributes,
     pub ty: Option<TypeExpression>,
+}
+
+/// What stands before the statements of a function, behind `fn`.
+#[derive(Drop)]
+pub struct FunctionHead {
+    pub ident: Ident,
+    pub parameters: Items<FormalParameter>,
+    pub returned: FunctionResult,
+}
+
+/// The statements of a function, and where the `}` behind them stands.
+#[derive(Drop)]
+pub struct FunctionBlock {
+    pub statements: Items<StatementNode>,
+    pub last: Span,
+}
+
+/// What stands before the value of a constant, behind `const`.
+#[derive(Drop)]
+pub struct ConstantHead {
+    pub ident: Ident,
+    pub ty: Option<TypeExpression>,
+}
+
+/// The value of a constant, and where the `;` behind it stands.
+#[derive(Drop)]
+pub struct ConstantValue {
+    pub value: ExpressionNode,
+    pub last: Span,
 }
 
 /// A type: a name.
@@ -38,18 +74,27 @@ fn type_expression(cursor: &mut Cursor<'_>) -> Result<TypeExpression, ParseFailu
     Ok(type_named(ident))
 }
 
+/// A name, `:` and its type.
+fn typed_name(cursor: &mut Cursor<'_>) -> Result<TypedName, ParseFailure>
+    ensures parses { Parses IsTypedName anything cursor.old result cursor.new }
+    ensures shrinks { length cursor.new ≤ length cursor.old }
+{
+    let ident = cursor.ident()?;
+    cursor.expect(Fixed::Colon)?;
+    let ty = type_expression(cursor)?;
+    Ok(TypedName { ident, ty })
+}
+
 fn parameter(cursor: &mut Cursor<'_>) -> Result<FormalParameter, ParseFailure>
     ensures parses { Parses IsParameter anything cursor.old result cursor.new }
     ensures shrinks { length cursor.new ≤ length cursor.old }
 {
     let attributes = attributes(cursor)?;
-    let ident = cursor.ident()?;
-    cursor.expect(Fixed::Colon)?;
-    let ty = type_expression(cursor)?;
+    let name = typed_name(cursor)?;
     Ok(FormalParameter {
         attributes,
-        ident,
-        ty,
+        ident: name.ident,
+        ty: name.ty,
     })
 }
 
@@ -99,24 +144,42 @@ fn function_result(cursor: &mut Cursor<'_>) -> Result<FunctionResult, ParseFailu
     })
 }
 
+/// The name and the type of a constant.
+fn constant_head(cursor: &mut Cursor<'_>) -> Result<ConstantHead, ParseFailure>
+    ensures parses { Parses IsConstantHead ends_annotation cursor.old result cursor.new }
+    ensures shrinks { length cursor.new ≤ length cursor.old }
+{
+    let ident = cursor.ident()?;
+    let ty = annotation(cursor)?;
+    Ok(ConstantHead { ident, ty })
+}
+
+/// The value of a constant, with `=` and `;`.
+fn constant_value(cursor: &mut Cursor<'_>) -> Result<ConstantValue, ParseFailure>
+    ensures parses { Parses IsConstantValue anything cursor.old result cursor.new }
+    ensures shrinks { length cursor.new ≤ length cursor.old }
+{
+    cursor.expect(Fixed::Equal)?;
+    let value = sum(cursor)?;
+    let last = cursor.expect(Fixed::Semicolon)?;
+    Ok(ConstantValue { value, last })
+}
+
 /// Behind `const`, which stands at `first`.
 fn constant(cursor: &mut Cursor<'_>, first: Span) -> Result<GlobalDeclarationNode, ParseFailure>
     ensures parses { Parses (ConstantRest first) anything cursor.old result cursor.new }
     ensures shrinks { length cursor.new ≤ length cursor.old }
 {
-    let ident = cursor.ident()?;
-    let ty = annotation(cursor)?;
-    cursor.expect(Fixed::Equal)?;
-    let value = sum(cursor)?;
-    let last = cursor.expect(Fixed::Semicolon)?;
+    let head = constant_head(cursor)?;
+    let value = constant_value(cursor)?;
     let tree = GlobalDeclaration::Declaration(Declaration {
         attributes: Items::new(cursor.alloc()),
         kind: DeclarationKind::Const,
-        ident,
-        ty,
-        initializer: Some(value),
+        ident: head.ident,
+        ty: head.ty,
+        initializer: Some(value.value),
     });
-    Ok(Spanned::new(cursor.alloc(), tree, first.across(last))?)
+    Ok(Spanned::new(cursor.alloc(), tree, first.across(value.last))?)
 }
 
 /// The value of a `return`, up to `;`.
@@ -169,6 +232,43 @@ fn led_by(attributes: &Attributes, token: Span) -> Span
     }
 }
 
+/// The parameters of a function, with `(` and `)`.
+fn parameter_list(cursor: &mut Cursor<'_>) -> Result<Items<FormalParameter>, ParseFailure>
+    ensures parses { Parses IsParameterList anything cursor.old result cursor.new }
+    ensures shrinks { length cursor.new ≤ length cursor.old }
+{
+    cursor.expect(Fixed::ParenLeft)?;
+    let parameters = parameters(cursor)?;
+    cursor.expect(Fixed::ParenRight)?;
+    Ok(parameters)
+}
+
+/// The name, the parameters and the result of a function.
+fn function_head(cursor: &mut Cursor<'_>) -> Result<FunctionHead, ParseFailure>
+    ensures parses { Parses IsFunctionHead ends_result cursor.old result cursor.new }
+    ensures shrinks { length cursor.new ≤ length cursor.old }
+{
+    let ident = cursor.ident()?;
+    let parameters = parameter_list(cursor)?;
+    let returned = function_result(cursor)?;
+    Ok(FunctionHead {
+        ident,
+        parameters,
+        returned,
+    })
+}
+
+/// The statements of a function, with `{` and `}`.
+fn function_block(cursor: &mut Cursor<'_>) -> Result<FunctionBlock, ParseFailure>
+    ensures parses { Parses IsFunctionBlock anything cursor.old result cursor.new }
+    ensures shrinks { length cursor.new ≤ length cursor.old }
+{
+    cursor.expect(Fixed::BraceLeft)?;
+    let statements = body(cursor)?;
+    let last = cursor.expect(Fixed::BraceRight)?;
+    Ok(FunctionBlock { statements, last })
+}
+
 /// Behind `attributes` and `fn`, which stands at `keyword`.
 fn function(
     cursor: &mut Cursor<'_>,
@@ -178,25 +278,19 @@ fn function(
     ensures parses { Parses (FunctionRest attributes keyword) anything cursor.old result cursor.new }
     ensures shrinks { length cursor.new ≤ length cursor.old }
 {
-    let ident = cursor.ident()?;
-    cursor.expect(Fixed::ParenLeft)?;
-    let parameters = parameters(cursor)?;
-    cursor.expect(Fixed::ParenRight)?;
-    let returned = function_result(cursor)?;
-    cursor.expect(Fixed::BraceLeft)?;
-    let statements = body(cursor)?;
-    let last = cursor.expect(Fixed::BraceRight)?;
-    let span = led_by(&attributes, keyword).across(last);
+    let head = function_head(cursor)?;
+    let block = function_block(cursor)?;
+    let span = led_by(&attributes, keyword).across(block.last);
     let body = CompoundStatementOf {
         attributes: Items::new(cursor.alloc()),
-        statements,
+        statements: block.statements,
     };
     let tree = GlobalDeclaration::Function(Function {
         attributes,
-        ident,
-        parameters,
-        return_attributes: returned.attributes,
-        return_type: returned.ty,
+        ident: head.ident,
+        parameters: head.parameters,
+        return_attributes: head.returned.attributes,
+        return_type: head.returned.ty,
         body,
     });
     Ok(Spanned::new(cursor.alloc(), tree, span)?)

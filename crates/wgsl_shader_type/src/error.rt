@@ -1,6 +1,7 @@
 //! What the rules of types and operators refuse.
 
 ghost use Rattle.std.specs.Prelude.{◌≡◌, IfOk};
+ghost use Rattle.wgsl_shader_type.specs.declared.error.Error.TheVariants as error;
 
 use crate::literal::{CallSignature, LiteralInstance};
 use crate::tree::Type;
@@ -80,6 +81,24 @@ pub enum Error {
     OutOfMemory,
 }
 
+/// Copies of two types in fresh memory.
+fn copied_pair(alloc: Global, first: &Type, second: &Type) -> Result<(Type, Type), AllocError>
+    ensures { IfOk result (λ pair. pair ≡ (first.now, second.now)) }
+{
+    let first = first.clone(alloc)?;
+    let second = second.clone(alloc)?;
+    Ok((first, second))
+}
+
+/// The refusal of a component, its parts copied in fresh memory.
+fn copied_component(alloc: Global, ty: &Type, name: &Text) -> Result<Error, AllocError>
+    ensures { IfOk result (λ copy. copy ≡ error.Component ty.now name.now) }
+{
+    let ty = ty.clone(alloc)?;
+    let name = name.clone_in(alloc)?;
+    Ok(Error::Component(ty, name))
+}
+
 impl Error {
     /// A copy in fresh memory.
     pub fn clone(&self, alloc: Global) -> Result<Error, AllocError>
@@ -92,24 +111,21 @@ impl Error {
             Error::UnknownType(name) => Ok(Error::UnknownType(name.clone_in(alloc)?)),
             Error::UnexpectedTemplate(name) => Ok(Error::UnexpectedTemplate(name.clone_in(alloc)?)),
             Error::MissingTemplate(what) => Ok(Error::MissingTemplate(*what)),
-            Error::WriteRefType(written, stored) => Ok(Error::WriteRefType(
-                written.clone(alloc)?,
-                stored.clone(alloc)?,
-            )),
+            Error::WriteRefType(written, stored) => {
+                let (written, stored) = copied_pair(alloc, written, stored)?;
+                Ok(Error::WriteRefType(written, stored))
+            }
             Error::NotWrite => Ok(Error::NotWrite),
             Error::NotRead => Ok(Error::NotRead),
             Error::NotReadWrite => Ok(Error::NotReadWrite),
             Error::PtrHandle => Ok(Error::PtrHandle),
             Error::PtrVecComp => Ok(Error::PtrVecComp),
-            Error::Conversion(from, to) => Ok(Error::Conversion(
-                from.clone(alloc)?,
-                to.clone(alloc)?,
-            )),
+            Error::Conversion(from, to) => {
+                let (from, to) = copied_pair(alloc, from, to)?;
+                Ok(Error::Conversion(from, to))
+            }
             Error::ConvOverflow(literal, ty) => Ok(Error::ConvOverflow(*literal, ty.clone(alloc)?)),
-            Error::Component(ty, name) => Ok(Error::Component(
-                ty.clone(alloc)?,
-                name.clone_in(alloc)?,
-            )),
+            Error::Component(ty, name) => copied_component(alloc, ty, name),
             Error::NotIndexable(ty) => Ok(Error::NotIndexable(ty.clone(alloc)?)),
             Error::OutOfBounds(index, ty, count) => Ok(Error::OutOfBounds(
                 *index,
@@ -117,15 +133,14 @@ impl Error {
                 *count,
             )),
             Error::Unary(operator, ty) => Ok(Error::Unary(*operator, ty.clone(alloc)?)),
-            Error::Binary(operator, left, right) => Ok(Error::Binary(
-                *operator,
-                left.clone(alloc)?,
-                right.clone(alloc)?,
-            )),
-            Error::CompwiseBinary(left, right) => Ok(Error::CompwiseBinary(
-                left.clone(alloc)?,
-                right.clone(alloc)?,
-            )),
+            Error::Binary(operator, left, right) => {
+                let (left, right) = copied_pair(alloc, left, right)?;
+                Ok(Error::Binary(*operator, left, right))
+            }
+            Error::CompwiseBinary(left, right) => {
+                let (left, right) = copied_pair(alloc, left, right)?;
+                Ok(Error::CompwiseBinary(left, right))
+            }
             Error::AddOverflow => Ok(Error::AddOverflow),
             Error::SubOverflow => Ok(Error::SubOverflow),
             Error::MulOverflow => Ok(Error::MulOverflow),
@@ -141,10 +156,10 @@ impl Error {
                 *expected,
                 *given,
             )),
-            Error::ParamType(expected, given) => Ok(Error::ParamType(
-                expected.clone(alloc)?,
-                given.clone(alloc)?,
-            )),
+            Error::ParamType(expected, given) => {
+                let (expected, given) = copied_pair(alloc, expected, given)?;
+                Ok(Error::ParamType(expected, given))
+            }
             Error::OutOfMemory => Ok(Error::OutOfMemory),
         }
     }

@@ -9,6 +9,7 @@ ghost use Rattle.wgsl_shader_type.specs.Conversion.{Converts};
 ghost use Rattle.wgsl_shader_type.specs.declared.tree.ShaderType.TheVariants as type;
 ghost use Rattle.wgsl_types.specs.Constructor as spec;
 ghost use Rattle.wgsl_types.specs.Names.{builtin_name};
+ghost use Rattle.wgsl_types.specs.Template.{IsTemplateArgs, IsArrayTemplateFault};
 
 use crate::names::{BuiltinName, builtin_name};
 use crate::template::{ArrayTemplate, VecTemplate};
@@ -487,30 +488,44 @@ fn plain_constructor(alloc: Global, text: &str, builtin: BuiltinName) -> Result<
     }
 }
 
+/// The constructor of a vector's name with a template.
+fn vector_constructor(alloc: Global, n: u8, params: &[TpltParam]) -> Result<Constructor, Error>
+    ensures { MatchResult result
+        (λ by. spec.named_constructor (BuiltinName.Vector n None) (Some params.now) ≡ Some by)
+        (λ fault. (fault ≡ Error.OutOfMemory) ⊎ ((spec.named_constructor (BuiltinName.Vector n None) (Some params.now) ≡ None) × IsTemplateArgs (codes "vec") fault)) }
+{
+    let read = VecTemplate::parse(alloc, params)?;
+    Ok(Constructor::Vector(n, Some(read)))
+}
+
+/// The constructor of `array` with a template.
+fn array_constructor(alloc: Global, params: &[TpltParam]) -> Result<Constructor, Error>
+    ensures { MatchResult result
+        (λ by. spec.named_constructor BuiltinName.Array (Some params.now) ≡ Some by)
+        (λ fault. (fault ≡ Error.OutOfMemory) ⊎ ((spec.named_constructor BuiltinName.Array (Some params.now) ≡ None) × IsArrayTemplateFault params.now fault)) }
+{
+    let read = ArrayTemplate::parse(alloc, params)?;
+    Ok(Constructor::Array(Some(read)))
+}
+
 /// The constructor of a name with a template.
 fn templated_constructor(
     alloc: Global,
     text: &str,
-    builtin: BuiltinName,
+    builtin: &BuiltinName,
     params: &[TpltParam],
 ) -> Result<Constructor, Error>
     ensures { MatchResult result
-        (λ by. spec.named_constructor builtin (Some params.now) ≡ Some by)
-        (λ fault. (fault ≡ Error.OutOfMemory) ⊎ ((spec.named_constructor builtin (Some params.now) ≡ None) × spec.IsNameFault text.now builtin (Some params.now) fault)) }
+        (λ by. spec.named_constructor builtin.now (Some params.now) ≡ Some by)
+        (λ fault. (fault ≡ Error.OutOfMemory) ⊎ ((spec.named_constructor builtin.now (Some params.now) ≡ None) × spec.IsNameFault text.now builtin.now (Some params.now) fault)) }
 {
     match builtin {
         BuiltinName::Scalar(_) | BuiltinName::Vector(_, Some(_)) => {
             let name = Text::from_str(alloc, text)?;
             Err(Error::UnexpectedTemplate(name))
         }
-        BuiltinName::Vector(n, None) => {
-            let read = VecTemplate::parse(alloc, params)?;
-            Ok(Constructor::Vector(n, Some(read)))
-        }
-        BuiltinName::Array => {
-            let read = ArrayTemplate::parse(alloc, params)?;
-            Ok(Constructor::Array(Some(read)))
-        }
+        BuiltinName::Vector(n, None) => vector_constructor(alloc, *n, params),
+        BuiltinName::Array => array_constructor(alloc, params),
         BuiltinName::LeftOut => {
             let name = Text::from_str(alloc, text)?;
             Err(Error::Todo(name))
@@ -519,6 +534,22 @@ fn templated_constructor(
             let name = Text::from_str(alloc, text)?;
             Err(Error::UnknownType(name))
         }
+    }
+}
+
+/// The constructor of a name, with a template or without one.
+fn named_constructor(
+    alloc: Global,
+    name: &str,
+    template: Option<&[TpltParam]>,
+) -> Result<Constructor, Error>
+    ensures { MatchResult result
+        (λ by. spec.named_constructor (builtin_name name.now) (option_copied template.entry) ≡ Some by)
+        (λ fault. (fault ≡ Error.OutOfMemory) ⊎ ((spec.named_constructor (builtin_name name.now) (option_copied template.entry) ≡ None) × spec.IsNameFault name.now (builtin_name name.now) (option_copied template.entry) fault)) }
+{
+    match template {
+        None => plain_constructor(alloc, name, builtin_name(name)),
+        Some(params) => templated_constructor(alloc, name, &builtin_name(name), params),
     }
 }
 
@@ -555,9 +586,6 @@ pub fn type_ctor(
 ) -> Result<Type, Error>
     ensures { spec.AnswersCall name.now (builtin_name name.now) (option_copied template.entry) args.now result }
 {
-    let by = match template {
-        None => plain_constructor(alloc, name, builtin_name(name))?,
-        Some(params) => templated_constructor(alloc, name, builtin_name(name), params)?,
-    };
+    let by = named_constructor(alloc, name, template)?;
     constructor_answer(alloc, name, template, by, args)
 }

@@ -1,6 +1,6 @@
 //! Conversions of several things to one type.
 
-ghost use Rattle.std.specs.Prelude.{◌≡◌, map, IfOk};
+ghost use Rattle.std.specs.Prelude.{◌≡◌, Some, map, IfOk};
 ghost use Rattle.wgsl_shader_type.specs.Rank.{common_of};
 ghost use Rattle.wgsl_types.specs.Convert.{both_converted, all_converted, AllAtCommonType};
 
@@ -8,6 +8,24 @@ use crate::typed::{Convert, Ty};
 use std::alloc::{AllocError, Global};
 use wgsl_items::Items;
 use wgsl_shader_type::{Type, convert_all_ty, convert_ty};
+
+/// Two things at a type, or nothing where one doesn't convert.
+fn convert_both<T: Convert>(
+    alloc: Global,
+    first: &T,
+    second: &T,
+    ty: &Type,
+) -> Result<Option<(T, T)>, AllocError>
+    ensures { IfOk result (λ found. found ≡ both_converted T.converted T.converted first.now second.now (Some ty.now)) }
+{
+    let Some(left) = first.convert_to(alloc, ty)? else {
+        return Ok(None);
+    };
+    match second.convert_to(alloc, ty)? {
+        Some(right) => Ok(Some((left, right))),
+        None => Ok(None),
+    }
+}
 
 /// Two things at the common type of theirs, or nothing where they have none.
 pub fn convert<T: Convert>(
@@ -20,13 +38,25 @@ pub fn convert<T: Convert>(
 {
     let first_type = first.ty(alloc)?;
     let second_type = second.ty(alloc)?;
-    let Some(common) = convert_ty(&first_type, &second_type) else {
+    match convert_ty(&first_type, &second_type) {
+        Some(common) => convert_both(alloc, first, second, common),
+        None => Ok(None),
+    }
+}
+
+/// Two things with their inner types converted to a type, or nothing where one doesn't convert.
+fn convert_both_inner<T: Convert, U: Convert>(
+    alloc: Global,
+    first: &T,
+    second: &U,
+    ty: &Type,
+) -> Result<Option<(T, U)>, AllocError>
+    ensures { IfOk result (λ found. found ≡ both_converted T.inner_converted U.inner_converted first.now second.now (Some ty.now)) }
+{
+    let Some(left) = first.convert_inner_to(alloc, ty)? else {
         return Ok(None);
     };
-    let Some(left) = first.convert_to(alloc, common)? else {
-        return Ok(None);
-    };
-    match second.convert_to(alloc, common)? {
+    match second.convert_inner_to(alloc, ty)? {
         Some(right) => Ok(Some((left, right))),
         None => Ok(None),
     }
@@ -43,14 +73,8 @@ pub fn convert_inner<T: Convert, U: Convert>(
 {
     let first_type = first.inner_ty(alloc)?;
     let second_type = second.inner_ty(alloc)?;
-    let Some(common) = convert_ty(&first_type, &second_type) else {
-        return Ok(None);
-    };
-    let Some(left) = first.convert_inner_to(alloc, common)? else {
-        return Ok(None);
-    };
-    match second.convert_inner_to(alloc, common)? {
-        Some(right) => Ok(Some((left, right))),
+    match convert_ty(&first_type, &second_type) {
+        Some(common) => convert_both_inner(alloc, first, second, common),
         None => Ok(None),
     }
 }

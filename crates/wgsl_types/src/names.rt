@@ -1,6 +1,6 @@
 //! The built-in names of types.
 
-ghost use Rattle.std.specs.Prelude.{◌≡◌, Some, None};
+ghost use Rattle.std.specs.Prelude.{◌≡◌, Some, None, codes};
 ghost use Rattle.std.specs.Option.{option_copied};
 ghost use Rattle.wgsl_types.specs.Names as spec;
 
@@ -90,35 +90,50 @@ fn plain_type(alloc: Global, text: &str, builtin: BuiltinName) -> Result<Type, E
     }
 }
 
+/// The type of a vector's name with a template.
+fn vector_type(alloc: Global, n: u8, params: &[TpltParam]) -> Result<Type, Error>
+    ensures { spec.AnswersType (codes "vec") (BuiltinName.Vector n None) (Some params.now) result }
+{
+    let read = VecTemplate::parse(alloc, params)?;
+    let made = read.ty(alloc, n)?;
+    Ok(made)
+}
+
+/// The type of `array` with a template.
+fn array_type(alloc: Global, params: &[TpltParam]) -> Result<Type, Error>
+    ensures { spec.AnswersType (codes "array") BuiltinName.Array (Some params.now) result }
+{
+    let read = ArrayTemplate::parse(alloc, params)?;
+    let made = read.ty(alloc)?;
+    Ok(made)
+}
+
+/// The type of `ptr` with a template.
+fn pointer_type(alloc: Global, params: &[TpltParam]) -> Result<Type, Error>
+    ensures { spec.AnswersType (codes "ptr") BuiltinName.Pointer (Some params.now) result }
+{
+    let read = PtrTemplate::parse(alloc, params)?;
+    let made = read.ty(alloc)?;
+    Ok(made)
+}
+
 /// The type of a name with a template.
 fn templated_type(
     alloc: Global,
     text: &str,
-    builtin: BuiltinName,
+    builtin: &BuiltinName,
     params: &[TpltParam],
 ) -> Result<Type, Error>
-    ensures { spec.AnswersType text.now builtin (Some params.now) result }
+    ensures { spec.AnswersType text.now builtin.now (Some params.now) result }
 {
     match builtin {
         BuiltinName::Scalar(_) | BuiltinName::Vector(_, Some(_)) => {
             let name = Text::from_str(alloc, text)?;
             Err(Error::UnexpectedTemplate(name))
         }
-        BuiltinName::Vector(n, None) => {
-            let read = VecTemplate::parse(alloc, params)?;
-            let made = read.ty(alloc, n)?;
-            Ok(made)
-        }
-        BuiltinName::Array => {
-            let read = ArrayTemplate::parse(alloc, params)?;
-            let made = read.ty(alloc)?;
-            Ok(made)
-        }
-        BuiltinName::Pointer => {
-            let read = PtrTemplate::parse(alloc, params)?;
-            let made = read.ty(alloc)?;
-            Ok(made)
-        }
+        BuiltinName::Vector(n, None) => vector_type(alloc, *n, params),
+        BuiltinName::Array => array_type(alloc, params),
+        BuiltinName::Pointer => pointer_type(alloc, params),
         BuiltinName::LeftOut => {
             let name = Text::from_str(alloc, text)?;
             Err(Error::Todo(name))
@@ -140,6 +155,6 @@ pub fn builtin_type(
 {
     match template {
         None => plain_type(alloc, name, builtin_name(name)),
-        Some(params) => templated_type(alloc, name, builtin_name(name), params),
+        Some(params) => templated_type(alloc, name, &builtin_name(name), params),
     }
 }

@@ -73,3 +73,6 @@ returns-in_err-reach_kept-clause-refused c = λ keyed root nothing.
     c.loop-name.invariant.kept c.in_err-reach_kept.ensures.lacking in
     err_passed (RefusesRoot c.args.linking.now.modules.now c.args.linking.now.root.now c.args.linking.now.keep.now c.reach_kept.new.held)
     c.in_err-reach_kept.field-0.0 c.from_residual.result c.from_residual.ensures.1 why
+
+pub returns-clause-sound : goal.returns-clause-sound
+returns-clause-sound c = c.in_ok-asked.ensures.sound c.loop-name.invariant.sound

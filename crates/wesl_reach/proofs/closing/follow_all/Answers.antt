@@ -1,7 +1,12 @@
+use Rattle.std.proofs.Common.{◌≡◌, ◌≤◌, sym, ap, length, map, arith}
+use Rattle.std.proofs.lemmas.Bool.{ltb-false}
+use Rattle.std.proofs.lemmas.List.{length-map}
 use Rattle.wesl_scopes.specs.Outcomes.{loaded}
 use Rattle.wesl_reach.specs.Closing.{IsReached}
+use Rattle.wesl_reach.specs.ClosingClauses.{found_stage}
+use Rattle.wesl_reach.specs.Stages.{place_of}
 use Rattle.wesl_reach.proofs.ClosingLemmas.{held_there}
-use Rattle.wesl_reach.proofs.FollowLemmas.{two_moves, followed_more}
+use Rattle.wesl_reach.proofs.FollowLemmas.{no_move, two_moves, followed_more, followed_all}
 use Rattle.wesl_reach.proofs.StageLemmas.{place_there}
 use Rattle.wesl_reach.proofs.closing.follow_all.Goals as goal
 
@@ -24,3 +29,36 @@ loop-at-preserved c = record {
       (place_there c.deref.result.now c.loop-at.found.reached.items c.loop-at.at c.in-Some.symbol.now c.deref.ensures.value c.in-Some.ensures.lookup.3.0 c.in-Some.ensures.lookup.1)
       c.in_ok-follow.ensures.moves c.in_ok-follow.ensures.followed;
 }
+
+pub loop-at-init : goal.loop-at-init
+loop-at-init c = record {
+  in_order = λ keyed sound before. before;
+  sound = λ sound. sound;
+  moves = no_move _;
+  followed = λ followed. followed;
+}
+
+pub returns-in_default-clause-sound : goal.returns-in_default-clause-sound
+returns-in_default-clause-sound c = c.loop-at.invariant.sound
+
+pub returns-in_default-clause-in_order : goal.returns-in_default-clause-in_order
+returns-in_default-clause-in_order c = c.loop-at.invariant.in_order
+
+pub returns-in_default-clause-moves : goal.returns-in_default-clause-moves
+returns-in_default-clause-moves c = c.loop-at.invariant.moves
+
+pub returns-in_default-clause-followed : goal.returns-in_default-clause-followed
+returns-in_default-clause-followed c = λ followed.
+    let over : length c.deref.result.now ≤ c.loop-at.at = ltb-false c.loop-at.at (length c.deref.result.now) (sym c.in_default.ensures.lookup.0) in
+    let same : length c.deref.result.now ≡ length c.loop-at.found.reached.items = ap length c.deref.ensures.value in
+    let places : length (map place_of c.loop-at.found.reached.items) ≡ length c.loop-at.found.reached.items = length-map c.loop-at.found.reached.items place_of in
+    followed_all (loaded c.args.linking.now.modules.now) (found_stage c.loop-at.held c.loop-at.found) c.loop-at.at (omega arith) (c.loop-at.invariant.followed followed)
+
+pub returns-clause-sound : goal.returns-clause-sound
+returns-clause-sound c = c.loop-at.invariant.sound
+
+pub returns-clause-in_order : goal.returns-clause-in_order
+returns-clause-in_order c = c.loop-at.invariant.in_order
+
+pub returns-clause-moves : goal.returns-clause-moves
+returns-clause-moves c = c.loop-at.invariant.moves

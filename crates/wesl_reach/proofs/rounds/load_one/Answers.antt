@@ -1,4 +1,4 @@
-use Rattle.std.proofs.Common.{◌<◌, length, sym, subst, ap, ◌∙◌, inr, Err, arith}
+use Rattle.std.proofs.Common.{◌<◌, length, refl, sym, subst, ap, ◌∙◌, inr, Err, arith}
 use Rattle.std.proofs.lemmas.Result.{err_from_is_err_and}
 use Rattle.wgsl_path.specs.Paths.{path_text}
 use Rattle.wesl_reach.specs.Loading.{LoadsOne}
@@ -31,21 +31,15 @@ pub returns-clause-loads : goal.returns-clause-loads
 returns-clause-loads g c = λ is.
     let less : length c.args.modules.now.entries < c.args.max_modules = omega (arith, c.len.ensures.len, c.if-len-max_modules.false) in
     module_loaded (g.R.Resolver.answers c.args.resolver.now) c.args.max_modules (length c.args.modules.now.entries) c.args.path.now c.args.text.now is
-    c.args.modules.now c.insert.new.self c.in_ok-from_str.field-0 c.in_ok-unit.unit c.in_ok-module.module c.in_ok-insert.field-0
-    less c.in_ok-unit.ensures.unit c.in_ok-module.ensures c.in_ok-from_str.ensures.ok c.in_ok-insert.ensures.updates c.in_ok-insert.ensures.old c.in_ok-insert.ensures.len c.in_ok-insert.ensures.ordered
+    c.args.modules.now c.insert_module.new.modules c.in_ok-unit.unit c.in_ok-module.«module» refl less c.in_ok-unit.ensures.unit c.in_ok-module.ensures c.in_ok-insert_module.ensures
 
 pub returns-in_err-module-clause-asks : goal.returns-in_err-module-clause-asks
 returns-in_err-module-clause-asks g c =
     let less : length c.args.modules.now.entries < c.args.max_modules = omega (arith, c.len.ensures.len, c.if-len-max_modules.false) in
     inr (less, asked_it (g.R.Resolver.asked c.args.resolver.now) (path_text c.args.path.now) c.in_ok-unit.unit (g.R.Resolver.asked c.resolve_module.new.self) c.in_ok-unit.ensures.asked)
 
-pub returns-in_err-from_str-clause-asks : goal.returns-in_err-from_str-clause-asks
-returns-in_err-from_str-clause-asks g c =
-    let less : length c.args.modules.now.entries < c.args.max_modules = omega (arith, c.len.ensures.len, c.if-len-max_modules.false) in
-    inr (less, asked_it (g.R.Resolver.asked c.args.resolver.now) (path_text c.args.path.now) c.in_ok-unit.unit (g.R.Resolver.asked c.resolve_module.new.self) c.in_ok-unit.ensures.asked)
-
-pub returns-in_err-insert-clause-asks : goal.returns-in_err-insert-clause-asks
-returns-in_err-insert-clause-asks g c =
+pub returns-in_err-insert_module-clause-asks : goal.returns-in_err-insert_module-clause-asks
+returns-in_err-insert_module-clause-asks g c =
     let less : length c.args.modules.now.entries < c.args.max_modules = omega (arith, c.len.ensures.len, c.if-len-max_modules.false) in
     inr (less, asked_it (g.R.Resolver.asked c.args.resolver.now) (path_text c.args.path.now) c.in_ok-unit.unit (g.R.Resolver.asked c.resolve_module.new.self) c.in_ok-unit.ensures.asked)
 

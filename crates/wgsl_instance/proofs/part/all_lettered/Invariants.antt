@@ -1,5 +1,5 @@
 use Rattle.std.proofs.Common.{drop}
-use Rattle.wgsl_instance.specs.Views as spec
+use Rattle.wgsl_instance.specs.Parts as spec
 use Rattle.wgsl_instance.specs.Answer.{IsCollecting}
 use Rattle.wgsl_instance.proofs.part.all_lettered.Given as goal
 

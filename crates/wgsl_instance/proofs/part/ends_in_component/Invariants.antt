@@ -1,5 +1,5 @@
 use Rattle.std.proofs.Common.{◌≡◌, drop}
-use Rattle.wgsl_instance.specs.Views.{ends_in_component, ends_after}
+use Rattle.wgsl_instance.specs.Parts.{ends_in_component, ends_after}
 use Rattle.wgsl_instance.proofs.part.ends_in_component.Given as goal
 
 abbrev pub invariant-loop-step : goal.invariant-loop-step

@@ -1,25 +1,15 @@
 use Rattle.wgsl_parser_spec.proofs.Steps.{outcomes, passes}
 use Rattle.wgsl_parse.proofs.Marks.{marks}
-use Rattle.wgsl_parse.proofs.Attributes.{attributes}
-use Rattle.wgsl_parse.proofs.Declarations.{inhabited, parses_parameter}
+use Rattle.wgsl_parse.proofs.Declarations.{inhabited, follows_attributes, parses_parameter_parts}
 use Rattle.wgsl_parse.proofs.declaration.parameter.Goals as goal
 
 pub returns-in_err-attributes-clause-parses : goal.returns-in_err-attributes-clause-parses
 returns-in_err-attributes-clause-parses c = passes c.from_residual.ensures.1
-    (parses_parameter (search (outcomes, marks, attributes, inhabited, c.in_err-attributes.ensures) depth 20))
+    (parses_parameter_parts (search (outcomes, marks, inhabited, follows_attributes, c.in_err-attributes.ensures) depth 20))
 
-pub returns-in_err-ident-clause-parses : goal.returns-in_err-ident-clause-parses
-returns-in_err-ident-clause-parses c = passes c.from_residual-in_err-ident.ensures.1
-    (parses_parameter (search (outcomes, marks, attributes, inhabited, c.in_ok-attributes.ensures, c.in_err-ident.ensures) depth 20))
-
-pub returns-in_err-expect-clause-parses : goal.returns-in_err-expect-clause-parses
-returns-in_err-expect-clause-parses c = passes c.from_residual-in_err-expect.ensures.1
-    (parses_parameter (search (outcomes, marks, attributes, inhabited, c.in_ok-attributes.ensures, c.in_ok-ident.ensures, c.in_err-expect.ensures) depth 20))
-
-pub returns-in_err-ty-clause-parses : goal.returns-in_err-ty-clause-parses
-returns-in_err-ty-clause-parses c = passes c.from_residual-in_err-ty.ensures.1
-    (parses_parameter (search (outcomes, marks, attributes, inhabited, c.in_ok-attributes.ensures, c.in_ok-ident.ensures, c.in_ok-expect.ensures, c.in_err-ty.ensures) depth 20))
+pub returns-in_err-name-clause-parses : goal.returns-in_err-name-clause-parses
+returns-in_err-name-clause-parses c = passes c.from_residual-in_err-name.ensures.1
+    (parses_parameter_parts (search (outcomes, marks, inhabited, follows_attributes, c.in_ok-attributes.ensures, c.in_err-name.ensures) depth 20))
 
 pub returns-clause-parses : goal.returns-clause-parses
-returns-clause-parses c =
-    parses_parameter (search (outcomes, marks, attributes, inhabited, c.in_ok-attributes.ensures, c.in_ok-ident.ensures, c.in_ok-expect.ensures, c.in_ok-ty.ensures) depth 20)
+returns-clause-parses c = parses_parameter_parts (search (outcomes, marks, inhabited, follows_attributes, c.in_ok-attributes.ensures, c.in_ok-name.ensures) depth 20)

@@ -1,0 +1,54 @@
+//! The constructor of a struct (WGSL, "Structure Types", "Value Constructor Built-in Functions").
+
+ghost use Rattle.wgsl_instance.specs.Answer.{Answers};
+ghost use Rattle.wgsl_constructors.specs.Built as spec;
+
+use crate::call::types_of;
+use std::alloc::Global;
+use wgsl_instance::{Instance, StructInstance};
+use wgsl_items::{Boxed, Items};
+use wgsl_shader_type::{Error, StructMemberType, StructType, Type};
+use wgsl_types::typecheck_struct_ctor;
+
+/// Each argument, converted to its member's type.
+fn convert_members(
+    alloc: Global,
+    members: &[StructMemberType],
+    args: &[Instance],
+) -> Result<Items<Instance>, Error>
+    ensures { Answers (spec.converted_members members.now args.now) result }
+{
+    let mut values = Items::new(alloc);
+    let mut rest = args;
+    for member in members {
+        match rest.split_first() {
+            Some((arg, others)) => {
+                values.push(arg.convert_to(alloc, &member.ty)?)?;
+                rest = others;
+            }
+            None => return Ok(values),
+        }
+    }
+    Ok(values)
+}
+
+fn build_struct(alloc: Global, ty: &StructType, args: &[Instance]) -> Result<Instance, Error>
+    ensures { Answers (spec.built_struct ty.now args.now) result }
+{
+    let own = ty.clone(alloc)?;
+    if args.is_empty() {
+        return Instance::zero_value(alloc, &Type::Struct(Boxed::new(alloc, own)?));
+    }
+    let members = convert_members(alloc, ty.members.as_slice(), args)?;
+    Ok(Instance::Struct(StructInstance { ty: own, members }))
+}
+
+/// A struct's value: of nothing its zero value, else of a value for each member, converted to the member's type. Another number of
+/// values is `ParamCount`, the first that doesn't convert `ParamType`; a number that doesn't fit is `ConvOverflow`.
+pub fn struct_ctor(alloc: Global, ty: &StructType, args: &[Instance]) -> Result<Instance, Error>
+    ensures { spec.ConstructsStruct ty.now args.now result }
+{
+    let types = types_of(alloc, args)?;
+    typecheck_struct_ctor(alloc, ty, types.as_slice())?;
+    build_struct(alloc, ty, args)
+}

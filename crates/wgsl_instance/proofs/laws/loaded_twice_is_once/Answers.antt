@@ -1,5 +1,0 @@
-use Rattle.wgsl_instance.proofs.Writes.{loaded_twice}
-use Rattle.wgsl_instance.proofs.laws.loaded_twice_is_once.Goals as goal
-
-pub returns : goal.returns
-returns c = loaded_twice

@@ -1,0 +1,9 @@
+//! Memory, whose cells hold values, and references, which are places in it.
+#![tactic(auto)]
+
+pub mod laws;
+pub mod memory;
+mod place;
+mod view;
+
+pub use memory::Memory;

@@ -1,0 +1,9 @@
+//! Tests of values of all types: operators at each stage, views and writes, constructors.
+#![tactic(auto)]
+
+#[cfg(test)]
+mod constructors;
+#[cfg(test)]
+mod memory;
+#[cfg(test)]
+mod operators;

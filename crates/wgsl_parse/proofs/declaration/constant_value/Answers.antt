@@ -1,0 +1,19 @@
+use Rattle.wgsl_parser_spec.proofs.Steps.{outcomes, passes}
+use Rattle.wgsl_parse.proofs.Marks.{marks}
+use Rattle.wgsl_parse.proofs.Declarations.{inhabited}
+use Rattle.wgsl_parse.proofs.declaration.constant_value.Goals as goal
+
+pub returns-in_err-expect-clause-parses : goal.returns-in_err-expect-clause-parses
+returns-in_err-expect-clause-parses c = passes c.from_residual.ensures.1
+    (search (outcomes, marks, inhabited, c.in_err-expect.ensures) depth 20)
+
+pub returns-in_err-value-clause-parses : goal.returns-in_err-value-clause-parses
+returns-in_err-value-clause-parses c = passes c.from_residual-in_err-value.ensures.1
+    (search (outcomes, marks, inhabited, c.in_ok-expect.ensures, c.in_err-value.ensures) depth 20)
+
+pub returns-in_err-last-clause-parses : goal.returns-in_err-last-clause-parses
+returns-in_err-last-clause-parses c = passes c.from_residual-in_err-last.ensures.1
+    (search (outcomes, marks, inhabited, c.in_ok-expect.ensures, c.in_ok-value.ensures, c.in_err-last.ensures) depth 20)
+
+pub returns-clause-parses : goal.returns-clause-parses
+returns-clause-parses c = search (outcomes, marks, inhabited, c.in_ok-expect.ensures, c.in_ok-value.ensures, c.in_ok-last.ensures) depth 20
