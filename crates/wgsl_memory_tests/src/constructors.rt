@@ -4,65 +4,61 @@ use std::alloc::Global;
 use std::test::Fail;
 use wgsl_constructors::call_ctor;
 use wgsl_instance::Instance;
-use wgsl_items::Items;
-use wgsl_shader_type::LiteralInstance;
+use wgsl_shader_type::{Error, LiteralInstance};
 
-/// Scalars as arguments.
-fn arguments(alloc: Global, scalars: &[LiteralInstance]) -> Result<Items<Instance>, Fail> {
-    let mut list = Items::new(alloc);
-    for scalar in scalars {
-        list.push(Instance::Literal(*scalar))?;
+fn is_literal(answer: &Result<Instance, Error>, wanted: LiteralInstance) -> bool {
+    match answer {
+        Ok(Instance::Literal(value)) => *value == wanted,
+        _ => false,
     }
-    Ok(list)
 }
 
-/// Whether a constructor of scalars gives what has this text.
-fn gives(
-    alloc: Global,
-    name: &str,
-    scalars: &[LiteralInstance],
-    wanted: &str,
-) -> Result<bool, Fail> {
-    let list = arguments(alloc, scalars)?;
-    let text = match call_ctor(alloc, name, None, list.as_slice()) {
-        Ok(value) => format!(in alloc; "{value:?}")?,
-        Err(error) => error.to_string(alloc)?,
-    };
-    Ok(text.as_str() == wanted)
+/// Whether a constructor of nothing gives this scalar.
+fn zero_is(alloc: Global, name: &str, wanted: LiteralInstance) -> bool {
+    is_literal(&call_ctor(alloc, name, None, &[]), wanted)
+}
+
+/// Whether a constructor of one scalar gives this scalar.
+fn cast_is(alloc: Global, name: &str, scalar: LiteralInstance, wanted: LiteralInstance) -> bool {
+    let arguments = [Instance::Literal(scalar)];
+    is_literal(&call_ctor(alloc, name, None, &arguments), wanted)
+}
+
+/// Whether a scalar is too large for a type.
+fn overflows(alloc: Global, name: &str, scalar: LiteralInstance) -> bool {
+    let arguments = [Instance::Literal(scalar)];
+    matches!(call_ctor(alloc, name, None, &arguments), Err(Error::ConvOverflow(_, _)))
+}
+
+/// Whether a constructor of nothing is not evaluated yet.
+fn is_not_yet(alloc: Global, name: &str) -> bool {
+    matches!(call_ctor(alloc, name, None, &[]), Err(Error::Todo(_)))
+}
+
+/// Whether there is no such call with two scalars.
+fn is_no_call(alloc: Global, name: &str, first: LiteralInstance, second: LiteralInstance) -> bool {
+    let arguments = [Instance::Literal(first), Instance::Literal(second)];
+    matches!(call_ctor(alloc, name, None, &arguments), Err(Error::Signature(_)))
 }
 
 #[test]
 fn scalars_are_cast(rt: HostRuntime) -> Result<(), Fail> {
     let alloc = rt.alloc();
-    let largest = [LiteralInstance::U32(4294967295)];
-    assert!(rt; gives(alloc, "i32", &largest, "Literal(I32(-1))")?);
-    assert!(rt; gives(alloc, "bool", &largest, "Literal(Bool(true))")?);
-    assert!(rt;
-        gives(
-            alloc,
-            "u32",
-            &[LiteralInstance::Bool(true)],
-            "Literal(U32(1))"
-        )?
-    );
-    assert!(rt; gives(alloc, "u32", &[], "Literal(U32(0))")?);
+    let largest = LiteralInstance::U32(4294967295);
+    let truth = LiteralInstance::Bool(true);
+    assert!(rt; cast_is(alloc, "i32", largest, LiteralInstance::I32(-1)));
+    assert!(rt; cast_is(alloc, "bool", largest, truth));
+    assert!(rt; cast_is(alloc, "u32", truth, LiteralInstance::U32(1)));
+    assert!(rt; zero_is(alloc, "u32", LiteralInstance::U32(0)));
     Ok(())
 }
 
 #[test]
 fn what_does_not_fit_is_refused(rt: HostRuntime) -> Result<(), Fail> {
     let alloc = rt.alloc();
-    let large = [LiteralInstance::AbstractInt(5000000000)];
-    assert!(rt;
-        gives(
-            alloc,
-            "u32",
-            &large,
-            "overflow in the conversion of `5000000000` to `u32`"
-        )?
-    );
-    assert!(rt; gives(alloc, "array", &[], "not supported here: `array`")?);
-    let two = [LiteralInstance::U32(1), LiteralInstance::U32(2)];
-    assert!(rt; gives(alloc, "vec3", &two, "no such call of `vec3`")?);
+    let one = LiteralInstance::U32(1);
+    assert!(rt; overflows(alloc, "u32", LiteralInstance::AbstractInt(5000000000)));
+    assert!(rt; is_not_yet(alloc, "array"));
+    assert!(rt; is_no_call(alloc, "vec3", one, one));
     Ok(())
 }

@@ -6,75 +6,80 @@ use wgsl_enumerations::ShaderStage;
 use wgsl_instance::Instance;
 use wgsl_instance_operators::call_binary_op;
 use wgsl_operators::BinaryOperator;
-use wgsl_shader_type::LiteralInstance;
+use wgsl_shader_type::{Error, LiteralInstance};
 
-/// Whether an operator on two scalars gives what has this text.
-fn gives(
+const ADD: BinaryOperator = BinaryOperator::Addition;
+const DIVIDE: BinaryOperator = BinaryOperator::Division;
+const SHIFT: BinaryOperator = BinaryOperator::ShiftLeft;
+
+/// Two scalars.
+type Pair = (LiteralInstance, LiteralInstance);
+
+fn applied(
     alloc: Global,
     operator: BinaryOperator,
-    operands: (LiteralInstance, LiteralInstance),
+    operands: Pair,
     stage: ShaderStage,
-    wanted: &str,
-) -> Result<bool, Fail> {
+) -> Result<Instance, Error> {
     let left = Instance::Literal(operands.0);
     let right = Instance::Literal(operands.1);
-    let text = match call_binary_op(alloc, operator, &left, &right, stage) {
-        Ok(value) => format!(in alloc; "{value:?}")?,
-        Err(error) => format!(in alloc; "{error:?}")?,
-    };
-    Ok(text.as_str() == wanted)
+    call_binary_op(alloc, operator, &left, &right, stage)
+}
+
+/// Whether an operator on two scalars gives this scalar when the shader runs.
+fn runs_as(
+    alloc: Global,
+    operator: BinaryOperator,
+    operands: Pair,
+    wanted: LiteralInstance,
+) -> bool {
+    match applied(alloc, operator, operands, ShaderStage::Exec) {
+        Ok(Instance::Literal(value)) => value == wanted,
+        _ => false,
+    }
+}
+
+/// Whether an operator on two scalars has this error at a stage.
+fn fails(
+    alloc: Global,
+    operator: BinaryOperator,
+    operands: Pair,
+    stage: ShaderStage,
+    wanted: &Error,
+) -> bool {
+    match applied(alloc, operator, operands, stage) {
+        Ok(_) => false,
+        Err(error) => error == *wanted,
+    }
 }
 
 #[test]
 fn sums_fit_or_wrap(rt: HostRuntime) -> Result<(), Fail> {
     let alloc = rt.alloc();
     let operands = (LiteralInstance::I32(2147483647), LiteralInstance::I32(1));
-    let add = BinaryOperator::Addition;
-    assert!(rt; gives(alloc, add, operands, ShaderStage::Const, "AddOverflow")?);
-    assert!(rt;
-        gives(
-            alloc,
-            add,
-            operands,
-            ShaderStage::Exec,
-            "Literal(I32(-2147483648))"
-        )?
-    );
+    let least = LiteralInstance::I32(-2147483648);
+    assert!(rt; fails(alloc, ADD, operands, ShaderStage::Const, &Error::AddOverflow));
+    assert!(rt; runs_as(alloc, ADD, operands, least));
     Ok(())
 }
 
 #[test]
 fn shift_amounts(rt: HostRuntime) -> Result<(), Fail> {
     let alloc = rt.alloc();
-    let operands = (LiteralInstance::U32(1), LiteralInstance::U32(32));
-    let shift = BinaryOperator::ShiftLeft;
-    assert!(rt;
-        gives(
-            alloc,
-            shift,
-            operands,
-            ShaderStage::Const,
-            "ShlOverflow(32, U32(1))"
-        )?
-    );
-    assert!(rt; gives(alloc, shift, operands, ShaderStage::Exec, "Literal(U32(1))")?);
+    let one = LiteralInstance::U32(1);
+    let operands = (one, LiteralInstance::U32(32));
+    let overflow = Error::ShlOverflow(32, one);
+    assert!(rt; fails(alloc, SHIFT, operands, ShaderStage::Const, &overflow));
+    assert!(rt; runs_as(alloc, SHIFT, operands, one));
     Ok(())
 }
 
 #[test]
 fn division_by_zero(rt: HostRuntime) -> Result<(), Fail> {
     let alloc = rt.alloc();
-    let operands = (LiteralInstance::U32(7), LiteralInstance::U32(0));
-    let divide = BinaryOperator::Division;
-    assert!(rt; gives(alloc, divide, operands, ShaderStage::Override, "DivByZero")?);
-    assert!(rt;
-        gives(
-            alloc,
-            divide,
-            operands,
-            ShaderStage::Exec,
-            "Literal(U32(7))"
-        )?
-    );
+    let seven = LiteralInstance::U32(7);
+    let operands = (seven, LiteralInstance::U32(0));
+    assert!(rt; fails(alloc, DIVIDE, operands, ShaderStage::Override, &Error::DivByZero));
+    assert!(rt; runs_as(alloc, DIVIDE, operands, seven));
     Ok(())
 }
