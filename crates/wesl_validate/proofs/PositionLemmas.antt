@@ -25,7 +25,7 @@ map_choice : (b : Bool) (n : ℕ) → cond b (Some (1 + n)) None ≡ option_map 
 map_choice true n = refl
 map_choice false n = refl
 
-position-cons : {X : Type 0} (p : X → Bool) (x : X) (xs : List X) → position p (x ∷ xs) ≡ cond (p x) (Some 0) (option_map (λ n. 1 + n) (position p xs))
+pub position-cons : {X : Type 0} (p : X → Bool) (x : X) (xs : List X) → position p (x ∷ xs) ≡ cond (p x) (Some 0) (option_map (λ n. 1 + n) (position p xs))
 position-cons p x xs = at (p x)
   where
     at : (b : Bool) →

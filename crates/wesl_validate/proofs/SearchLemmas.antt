@@ -17,16 +17,16 @@ use Rattle.wesl_validate.specs.Searches.{Targets, Adds, PassesBy, Visits, IsDone
 
 -- ---- at places
 
-same_global : (i j : ℕ) → Global i ≡ Global j → i ≡ j
+pub same_global : (i j : ℕ) → Global i ≡ Global j → i ≡ j
 same_global i j e = cc
 
-targets_more : (ps : List Place) (p : Place) (j : ℕ) → Targets ps j → Targets (ps ++ p ∷ []) j
+pub targets_more : (ps : List Place) (p : Place) (j : ℕ) → Targets ps j → Targets (ps ++ p ∷ []) j
 targets_more ps p j t = record { place = t.place; occurs = Contains-append_left ps (p ∷ []) t.place t.occurs; denotes = t.denotes }
 
-targets_last : (ps : List Place) (p : Place) (j : ℕ) → p.meaning ≡ Global j → Targets (ps ++ p ∷ []) j
+pub targets_last : (ps : List Place) (p : Place) (j : ℕ) → p.meaning ≡ Global j → Targets (ps ++ p ∷ []) j
 targets_last ps p j e = record { place = p; occurs = Contains-push ps p; denotes = e }
 
-targets_cases : (ps : List Place) (p : Place) (j : ℕ) → Targets (ps ++ p ∷ []) j → Targets ps j ⊎ (p.meaning ≡ Global j)
+pub targets_cases : (ps : List Place) (p : Place) (j : ℕ) → Targets (ps ++ p ∷ []) j → Targets ps j ⊎ (p.meaning ≡ Global j)
 targets_cases ps p j t = at (Contains-push_cases ps p t.place t.occurs)
   where
     at : Contains ps t.place ⊎ (p ≡ t.place) → Targets ps j ⊎ (p.meaning ≡ Global j)
@@ -88,7 +88,7 @@ visits_more ps i p start bound old mid new within is v h =
 pub lead_to : (rows : List Row) (v j : ℕ) (row : Row) → slice_get rows v ≡ Some row → Targets row.places j → Leads rows v j
 lead_to rows v j row stands t = record { row = row; place = t.place; stands = stands; occurs = t.occurs; denotes = t.denotes }
 
-led_from : (rows : List Row) (v j : ℕ) (row : Row) → slice_get rows v ≡ Some row → Leads rows v j → Targets row.places j
+pub led_from : (rows : List Row) (v j : ℕ) (row : Row) → slice_get rows v ≡ Some row → Leads rows v j → Targets row.places j
 led_from rows v j row stands l = record {
   place = l.place;
   occurs = subst (λ r. Contains r.places l.place) (same_Some l.row row (sym l.stands ∙ stands)) l.occurs;

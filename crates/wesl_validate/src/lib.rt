@@ -12,4 +12,5 @@ mod validate;
 
 pub use clear::unclear_name;
 pub use error::{ValidateError, ValidateFault};
+pub use place::{Index, Meaning, Place, Row, rows};
 pub use validate::validate_wesl;

@@ -1,9 +1,9 @@
 -- Texts that are answered for the same units are the same.
-use Rattle.std.proofs.Common.{◌≡◌, ℕ, List, Result, Ok, sym, ap, ◌∙◌}
+use Rattle.std.proofs.Common.{◌≡◌, ℕ, List, Ok, sym, ap, ◌∙◌, subst}
 use Rattle.wgsl_syntax.specs.Tree.{UnitTree}
 use Rattle.wgsl_syntax.specs.Print.{unit_text}
-use Rattle.wgsl_eval.specs.declared.error.DeclarationFault.{DeclarationFault}
-use Rattle.wgsl_lower.specs.Lowered.{lowered_unit}
+use Rattle.wgsl_lower.specs.Lowered.{Lowers}
+use Rattle.wgsl_lower.proofs.Once.{lowered_once}
 use Rattle.wesl_link_spec.specs.Rounds.{Sources}
 use Rattle.wesl_meaning.specs.Determined.{IsFunctional}
 use Rattle.weslc_unit.specs.Compiled.{IsCompiled}
@@ -11,13 +11,13 @@ use Rattle.weslc_agreement.specs.Texts.{CompiledTextsAreOne, LinkedTextsAreOne}
 use Rattle.weslc_agreement.proofs.Units.{units_are_one}
 
 -- what a unit is lowered to is one
-low_once : (o : Result UnitTree DeclarationFault) (low more : UnitTree) → o ≡ Ok low → o ≡ Ok more → low ≡ more
-low_once o low more is it = let same : Ok low ≡ Ok more = sym is ∙ it in cc
+low_once : (unit low more : UnitTree) → Lowers unit (Ok low) → Lowers unit (Ok more) → low ≡ more
+low_once unit low more is it = let same : Ok low ≡ Ok more = lowered_once unit (Ok low) (Ok more) is it in cc
 
 -- and so is its compiled text
 pub compiled_once : (one two : UnitTree) → one ≡ two → (text more : List ℕ) → IsCompiled one text → IsCompiled two more → text ≡ more
 compiled_once one two same text more a b =
-    a.whole ∙ ap unit_text (low_once (lowered_unit two) a.low b.low (ap lowered_unit (sym same) ∙ a.lowered.lowered) b.lowered.lowered) ∙ sym b.whole
+    a.whole ∙ ap unit_text (low_once two a.low b.low (subst (λ u. Lowers u (Ok a.low)) same a.lowered.lowered) b.lowered.lowered) ∙ sym b.whole
 
 module _ (found other : Sources) (functional : IsFunctional other) where
   pub compiled_texts_are_one : CompiledTextsAreOne found other

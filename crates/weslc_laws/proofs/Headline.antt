@@ -7,7 +7,7 @@ use Rattle.wgsl_syntax.specs.View.{unit_tree}
 use Rattle.wgsl_lex.specs.Tokens.{IsLexed}
 use Rattle.wgsl_grammar.specs.Declarations.{IsUnit}
 use Rattle.wgsl_round_trip.specs.Printing.{StandsFor}
-use Rattle.wgsl_lower.specs.Lowered.{lowered_unit}
+use Rattle.wgsl_lower.specs.Lowered.{Lowers}
 use Rattle.wgsl_lower.specs.Keeps.{AreClear}
 use Rattle.wesl_resolve.specs.Found.{unit_of}
 use Rattle.wesl_link_spec.specs.Occurrences.{Name}
@@ -60,7 +60,7 @@ module _ (sources : Sources) (root : Path) (keep : List Name) where
       };
     }
 
-    pub runs_as_sources : (linked lowered : UnitTree) (from : IsLinkedFrom sources root keep max linked) → AreClear linked.declarations → lowered_unit linked ≡ Ok lowered
+    pub runs_as_sources : (linked lowered : UnitTree) (from : IsLinkedFrom sources root keep max linked) → AreClear linked.declarations → Lowers linked (Ok lowered)
         → RunsAsSources from.modules root from.kept linked lowered
     runs_as_sources linked lowered from clear is =
         let c : AreCompiled from.modules root from.kept lowered = record { linked = linked; linked_well = from.linked_well; clear = clear; is_lowered = is } in

@@ -15,7 +15,7 @@ use Rattle.wgsl_meaning.specs.Names.{Symbol}
 use Rattle.wgsl_meaning.specs.Programs.{Program, Inputs, here, program_of, EndsWell}
 use Rattle.wesl_meaning.specs.SourcePrograms.{IsProgramOf}
 use Rattle.wesl_meaning.specs.Runs.{AreLinkedWell, IsKept}
-use Rattle.wgsl_lower.specs.Lowered.{lowered_unit}
+use Rattle.wgsl_lower.specs.Lowered.{Lowers}
 use Rattle.wgsl_lower.specs.Keeps.{AreClear}
 
 -- Every run of a kept name that ends well in the modules within so many steps, ends well in the plain unit within as many, with the
@@ -29,7 +29,7 @@ pub record AreCompiled (modules : Modules) (root : Path) (keep : List Name) (low
   pub linked : UnitTree
   pub linked_well : AreLinkedWell modules root keep linked
   pub clear : AreClear linked.declarations
-  pub is_lowered : lowered_unit linked ≡ Ok lowered
+  pub is_lowered : Lowers linked (Ok lowered)
 
 abbrev pub SourcesRunInTheLoweredUnit : Type 0
 SourcesRunInTheLoweredUnit = (modules : Modules) (root : Path) (keep : List Name) (lowered : UnitTree) → AreCompiled modules root keep lowered

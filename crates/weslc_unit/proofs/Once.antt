@@ -1,5 +1,5 @@
 -- A unit is compiled or refused in one way: each refusal says that the steps before it went well, and each step is determined.
-use Rattle.std.proofs.Common.{◌≡◌, ◌⊎◌, inl, inr, ℕ, ◌<◌, List, [], Some, None, Ok, refl, sym, ap, ◌∙◌, subst}
+use Rattle.std.proofs.Common.{◌≡◌, ◌⊎◌, inl, inr, ℕ, ◌<◌, List, [], Some, None, Ok, Err, refl, sym, ap, ◌∙◌, subst}
 use Rattle.std.specs.Prelude.{slice_get, slice_range}
 use Rattle.std.proofs.lemmas.Bool.{cases_order}
 use Rattle.wgsl_syntax.specs.Tree.{Decl, UnitTree as Module}
@@ -11,6 +11,9 @@ use Rattle.wesl_validate.specs.declared.error.ValidateFault.{ValidateFault}
 use Rattle.wesl_validate.specs.declared.place.Row.{Row}
 use Rattle.wesl_validate.specs.First.{first}
 use Rattle.wesl_validate.specs.Rings.{IsFirstOnRing}
+use Rattle.wgsl_eval.specs.declared.error.DeclarationFault.{DeclarationFault}
+use Rattle.wgsl_lower.specs.Lowered.{Lowers}
+use Rattle.wgsl_lower.proofs.Once.{lowered_once}
 use Rattle.wesl_validate.specs.Faults.{fault, IsFaultless, IsFirstFault, duplicate, undefined, miscall, ring}
 use Rattle.weslc_unit.specs.declared.error.UnitRefusal.TheVariants.{Validate, UnclearName, Eval, Unprintable, OutOfMemory}
 use Rattle.weslc_unit.specs.Compiled.{IsLowered, IsTextOf, IsCompiled, declared_name, IsToldOf, reserved_word, the_name, IsToldOfAll, nothing, of_first, of_later}
@@ -70,7 +73,11 @@ module _ (unit : Module) (table : List Name) where
 -- ---- what a unit is lowered to
 
 same_low : (unit low other : Module) → IsLowered unit low → IsLowered unit other → low ≡ other
-same_low unit low other a b = let is : Ok low ≡ Ok other = sym a.lowered ∙ b.lowered in cc
+same_low unit low other a b = let is : Ok low ≡ Ok other = lowered_once unit (Ok low) (Ok other) a.lowered b.lowered in cc
+
+-- it is not refused then
+not_refused : (unit low : Module) (r : DeclarationFault) → IsLowered unit low → Lowers unit (Err r) → ⊥
+not_refused unit low r a h = let is : Ok low ≡ Err r = lowered_once unit (Ok low) (Err r) a.lowered h in cc
 
 reads_back : (unit : Module) (text : List ℕ) (c : IsCompiled unit text) → IsTextOf c.low (unit_text c.low)
 reads_back unit text c = subst (IsTextOf c.low) c.whole c.reads
@@ -108,12 +115,12 @@ refused_once unit (UnclearName x) (Unprintable y) a b = absurd (none _ x b.1.cle
 refused_once unit (UnclearName x) OutOfMemory a b = tt
 refused_once unit (Eval r) (Validate g) a b = absurd (faultless_or_faulty unit builtin_names g a.0 b)
 refused_once unit (Eval r) (UnclearName y) a b = absurd (none _ y a.1 b.1)
-refused_once unit (Eval r) (Eval q) a b = cc (a.2, b.2)
-refused_once unit (Eval r) (Unprintable y) a b = absurd (cc (a.2, b.1.lowered))
+refused_once unit (Eval r) (Eval q) a b = let is : Err r ≡ Err q = lowered_once unit (Err r) (Err q) a.2 b.2 in cc
+refused_once unit (Eval r) (Unprintable y) a b = absurd (not_refused unit b.0 r b.1 a.2)
 refused_once unit (Eval r) OutOfMemory a b = tt
 refused_once unit (Unprintable x) (Validate g) a b = absurd (faultless_or_faulty unit builtin_names g a.1.valid b)
 refused_once unit (Unprintable x) (UnclearName y) a b = absurd (none _ y a.1.clear b.1)
-refused_once unit (Unprintable x) (Eval q) a b = absurd (cc (a.1.lowered, b.2))
+refused_once unit (Unprintable x) (Eval q) a b = absurd (not_refused unit a.0 q a.1 b.2)
 refused_once unit (Unprintable x) (Unprintable y) a b =
     told_once a.0.declarations x y a.3 (subst (λ low. IsToldOfAll low.declarations y) (same_low unit b.0 a.0 b.1 a.1) b.3)
 refused_once unit (Unprintable x) OutOfMemory a b = tt
@@ -122,7 +129,7 @@ refused_once unit OutOfMemory q a b = tt
 pub compiled_or_refused : CompiledOrRefused
 compiled_or_refused unit text (Validate f) a b = absurd (faultless_or_faulty unit builtin_names f a.lowered.valid b)
 compiled_or_refused unit text (UnclearName x) a b = absurd (none _ x a.lowered.clear b.1)
-compiled_or_refused unit text (Eval r) a b = absurd (cc (a.lowered.lowered, b.2))
+compiled_or_refused unit text (Eval r) a b = absurd (not_refused unit a.low r a.lowered b.2)
 compiled_or_refused unit text (Unprintable x) a b =
     absurd (b.2 (subst (λ l. IsTextOf l (unit_text l)) (same_low unit a.low b.0 a.lowered b.1) (reads_back unit text a)))
 compiled_or_refused unit text OutOfMemory a b = refl

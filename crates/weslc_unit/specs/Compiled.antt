@@ -13,7 +13,7 @@ use Rattle.wgsl_builtin.specs.Builtin.{builtin_names}
 use Rattle.wesl_validate.specs.First.{first}
 use Rattle.wesl_validate.specs.Faults.{IsFaultless, IsFirstFault}
 use Rattle.wesl_validate.specs.Clearness.{unclear}
-use Rattle.wgsl_lower.specs.Lowered.{lowered_unit}
+use Rattle.wgsl_lower.specs.Lowered.{Lowers}
 use Rattle.wgsl_lower.specs.Keeps.{Keeps}
 use Rattle.weslc_unit.specs.declared.error.UnitRefusal.{UnitRefusal}
 use Rattle.weslc_unit.specs.declared.error.UnitRefusal.TheVariants.{Validate, UnclearName, Eval, Unprintable, OutOfMemory}
@@ -34,7 +34,7 @@ IsClear unit = unclear unit builtin_names ≡ []
 pub record IsLowered (unit low : UnitTree) : Type 0 where
   pub valid : IsValid unit
   pub clear : IsClear unit
-  pub lowered : lowered_unit unit ≡ Ok low
+  pub lowered : Lowers unit (Ok low)
 
 -- the text is read as this tree
 abbrev pub IsTextOf : UnitTree → List ℕ → Type 0
@@ -90,7 +90,7 @@ RefusesUnclear unit (Eval r) = ⊥
 RefusesUnclear unit (Unprintable x) = ⊥
 
 abbrev pub RefusesValues : UnitTree → UnitRefusal → Type 0
-RefusesValues unit (Eval r) = lowered_unit unit ≡ Err r
+RefusesValues unit (Eval r) = Lowers unit (Err r)
 RefusesValues unit OutOfMemory = ⊤
 RefusesValues unit (Validate f) = ⊥
 RefusesValues unit (UnclearName x) = ⊥
@@ -104,6 +104,6 @@ IsUnprintable unit print.OutOfMemory = ⊤
 abbrev pub Refuses : UnitTree → UnitRefusal → Type 0
 Refuses unit (Validate f) = IsFirstFault unit builtin_names f
 Refuses unit (UnclearName x) = IsValid unit × (first (unclear unit builtin_names) ≡ Some x)
-Refuses unit (Eval r) = IsValid unit × IsClear unit × (lowered_unit unit ≡ Err r)
+Refuses unit (Eval r) = IsValid unit × IsClear unit × Lowers unit (Err r)
 Refuses unit (Unprintable x) = (low : UnitTree) × IsLowered unit low × (IsTextOf low (unit_text low) → ⊥) × IsToldOfAll low.declarations x
 Refuses unit OutOfMemory = ⊤

@@ -1,9 +1,9 @@
 //! What is compiled of a linked unit.
 
-ghost use Rattle.std.specs.Prelude.{◌≡◌, Ok, OnOk, IfOk, IfErr, string_bytes};
+ghost use Rattle.std.specs.Prelude.{Ok, OnOk, IfOk, IfErr, string_bytes};
 ghost use Rattle.wgsl_syntax.specs.View.{unit_tree};
 ghost use Rattle.wgsl_lower.specs.Keeps.{AreClear, Keeps};
-ghost use Rattle.wgsl_lower.specs.Lowered.{lowered_unit};
+ghost use Rattle.wgsl_lower.specs.Lowered.{Lowers};
 ghost use Rattle.weslc_unit.specs.Compiled.{IsValid, IsClear, IsCompiled, RefusesInvalid, RefusesUnclear, RefusesValues, Refuses};
 
 use crate::error::{PrintError, UnitRefusal};
@@ -37,7 +37,7 @@ fn check_clear(alloc: Global, unit: &TranslationUnit) -> Result<(), UnitRefusal>
 }
 
 fn lowered(alloc: Global, unit: &TranslationUnit) -> Result<TranslationUnit, UnitRefusal>
-    ensures exactly { IfOk result (λ low. lowered_unit (unit_tree unit.now) ≡ Ok (unit_tree low)) }
+    ensures exactly { IfOk result (λ low. Lowers (unit_tree unit.now) (Ok (unit_tree low))) }
     ensures keeps { AreClear (unit_tree unit.now).declarations → IfOk result (λ low. Keeps (unit_tree unit.now).declarations (unit_tree low).declarations) }
     ensures refusal { IfErr result (RefusesValues (unit_tree unit.now)) }
 {

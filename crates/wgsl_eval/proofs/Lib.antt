@@ -1,3 +1,3 @@
 pub mod Lists
-pub mod Orders
+pub mod Refusals
 pub mod Faults

@@ -1,6 +1,6 @@
 -- A const that has no value was found under its name, and a function that isn't lowered stands in the unit.
-use Rattle.std.proofs.Common.{◌≡◌, ◌⊎◌, inl, inr, ⊎_elim, zero, suc, List, [], ◌∷◌, map, Bool, true, false, Option, Some, None, Result, Ok, Err, refl, sym, ap, subst, arith, Contains}
-use Rattle.std.specs.Prelude.{if◌then◌else◌}
+use Rattle.std.proofs.Common.{◌≡◌, ◌⊎◌, inl, inr, ⊎_elim, ℕ, zero, suc, List, [], ◌∷◌, map, Bool, true, false, Option, Some, None, Result, Ok, Err, refl, sym, ap, subst, arith, Contains}
+use Rattle.std.specs.Prelude.{if◌then◌else◌, slice_get}
 use Rattle.std.specs.Str.{bytes_eq}
 use Rattle.std.specs.Cmp.Lexicographic.{same_text}
 use Rattle.wgsl_syntax.specs.Tree.{Decl, variable, function}
@@ -14,7 +14,7 @@ use Rattle.wgsl_meaning.specs.Names.{Name, find_decl}
 use Rattle.wgsl_meaning.specs.Meaning.{const_in}
 use Rattle.wgsl_meaning.specs.ConstStage.{Consts, Scope, stage, module_scope}
 use Rattle.wgsl_eval.specs.declared.error.DeclarationFault.{DeclarationFault}
-use Rattle.wgsl_eval.specs.Start.{refused, added, valued, then_more, all_valued, order_of, consts_of}
+use Rattle.wgsl_eval.specs.Start.{refused, added, valued, valued_at, then_more, all_valued, consts_of}
 use Rattle.wgsl_lower.specs.Lowered.{lowered_function, refusing, lowered_declarations}
 use Rattle.wgsl_lower.specs.Located.{RefusalsAreInDeclarations}
 
@@ -53,11 +53,16 @@ valued_in ds cs x (Some (variable attributes kind y type e)) r is h =
 valued_in ds cs x (Some (function attributes f parameters return_attributes type body)) r is h = absurd (cc)
 valued_in ds cs x None r is h = absurd (cc)
 
-all_valued_in : (ds : List Decl) (cs : Consts) (xs : List Name) (r : DeclarationFault) → all_valued ds cs xs ≡ Err r → Contains (map declared_name ds) r.declaration
+valued_at_in : (ds : List Decl) (cs : Consts) (d : Option Decl) (r : DeclarationFault) → valued_at ds cs d ≡ Err r → Contains (map declared_name ds) r.declaration
+valued_at_in ds cs (Some (variable attributes kind x type e)) r h = valued_in ds cs x (find_decl x ds) r refl h
+valued_at_in ds cs (Some (function attributes f parameters return_attributes type body)) r h = absurd (cc)
+valued_at_in ds cs None r h = absurd (cc)
+
+all_valued_in : (ds : List Decl) (cs : Consts) (order : List ℕ) (r : DeclarationFault) → all_valued ds cs order ≡ Err r → Contains (map declared_name ds) r.declaration
 all_valued_in ds cs [] r h = absurd (cc)
-all_valued_in ds cs (x ∷ xs) r h =
-    ⊎_elim (valued_in ds cs x (find_decl x ds) r refl) (λ later. all_valued_in ds later.0 xs r later.1)
-    (either_refused (valued ds cs x (find_decl x ds)) (λ more. all_valued ds more xs) r h)
+all_valued_in ds cs (i ∷ order) r h =
+    ⊎_elim (valued_at_in ds cs (slice_get ds i) r) (λ later. all_valued_in ds later.0 order r later.1)
+    (either_refused (valued_at ds cs (slice_get ds i)) (λ more. all_valued ds more order) r h)
 
 refusing_here : {A : Type 0} (x : Name) (o : Checked A) (r : DeclarationFault) → refusing x o ≡ Err r → r.declaration ≡ x
 refusing_here x (Ok v) r h = absurd (cc)
@@ -75,8 +80,8 @@ lowered_in s (function attributes f parameters return_attributes type body ∷ d
 -- ---- the law
 
 pub refusals_are_in_declarations : RefusalsAreInDeclarations
-refusals_are_in_declarations unit r h =
-    ⊎_elim (all_valued_in unit.declarations [] (order_of unit.declarations) r)
+refusals_are_in_declarations unit r l =
+    ⊎_elim (all_valued_in unit.declarations [] l.order r)
     (λ later. ⊎_elim (lowered_in (module_scope unit.declarations later.0) unit.declarations r) (λ none. absurd (cc))
     (either_refused (lowered_declarations (module_scope unit.declarations later.0) unit.declarations) (λ low. Ok (record { imports = []; declarations = low })) r later.1))
-    (either_refused (consts_of unit.declarations) (λ cs. then_more (lowered_declarations (module_scope unit.declarations cs) unit.declarations) (λ low. Ok (record { imports = []; declarations = low }))) r h)
+    (either_refused (consts_of unit.declarations l.order) (λ cs. then_more (lowered_declarations (module_scope unit.declarations cs) unit.declarations) (λ low. Ok (record { imports = []; declarations = low }))) r l.comes)

@@ -1,6 +1,6 @@
 -- A run of the lowered unit is as good as the run of the unit.
 use Rattle.std.proofs.Common.{◌≡◌, ℕ, List, [], ◌∷◌, ◌++◌, map, Option, Some, None, Bool, true, false, Result, Ok, Err, IfOk, refl, sym, ap, ◌∙◌, subst, arith}
-use Rattle.std.specs.Prelude.{codes, if◌then◌else◌}
+use Rattle.std.specs.Prelude.{codes, if◌then◌else◌, slice_get}
 use Rattle.wgsl_syntax.specs.Tree.{Typ, Attr, fragment, location, Stm, Block, Param, Decl, variable, function, UnitTree as Module}
 use Rattle.wgsl_syntax.specs.Names.{declared_name}
 use Rattle.wgsl_enumerations.specs.declared.words.ShaderStage.{ShaderStage}
@@ -21,10 +21,12 @@ use Rattle.wgsl_meaning.specs.ConstStage.{Consts, Scope, stage, module_scope, Se
 use Rattle.wgsl_meaning.proofs.Compares.{kept_better, better_from, better_after}
 use Rattle.wgsl_lower.specs.Lowered.{lowered, type_here, lowered_attribute, lowered_attributes, lowered_parameter, lowered_parameters, parameter_types, checked_type, lowered_statements, lowered_declarations}
 use Rattle.wgsl_items.specs.declared.error.OrOutOfMemory.{OrOutOfMemory}
+use Rattle.wgsl_items.specs.declared.error.OrOutOfMemory.TheVariants.{Error, OutOfMemory}
+use Rattle.wesl_order.specs.Units.{IsStartOrderOf}
 use Rattle.wgsl_eval.specs.declared.error.DeclarationFault.{DeclarationFault}
 use Rattle.wgsl_eval.specs.Refusals.{Answers}
-use Rattle.wgsl_eval.specs.Start.{then_more, added, valued, all_valued, order_of, consts_of}
-use Rattle.wgsl_lower.specs.Lowered.{lowered_unit}
+use Rattle.wgsl_eval.specs.Start.{then_more, added, valued, valued_at, all_valued, consts_of}
+use Rattle.wgsl_lower.specs.Lowered.{lowered_after, IsLowering}
 use Rattle.wgsl_lower.specs.Keeps.{ClearParameters, AreClear, Keeps}
 use Rattle.wgsl_lower.proofs.Goes.{then_ok}
 use Rattle.wgsl_lower.proofs.Consts.{Known, known}
@@ -236,24 +238,36 @@ module _ (ds : List Decl) where
   settled_valued cs more x (Some (function attributes f ps rs t b)) h e is = let same : cs ≡ more = cc in subst (Settled ds) same h
   settled_valued cs more x None h e is = let same : cs ≡ more = cc in subst (Settled ds) same h
 
-  settled_all : (xs : List Name) (cs out : Consts) → Settled ds cs → all_valued ds cs xs ≡ Ok out → Settled ds out
-  settled_all [] cs out h is = let same : cs ≡ out = cc in subst (Settled ds) same h
-  settled_all (x ∷ xs) cs out h is =
-      let more = then_more_ok (valued ds cs x (find_decl x ds)) (λ more. all_valued ds more xs) out is in
-      settled_all xs more.0 out (settled_valued cs more.0 x (find_decl x ds) h refl more.1) more.2
+  settled_at : (cs more : Consts) (d : Option Decl) → Settled ds cs → valued_at ds cs d ≡ Ok more → Settled ds more
+  settled_at cs more (Some (variable attributes kind x type i)) h is = settled_valued cs more x (find_decl x ds) h refl is
+  settled_at cs more (Some (function attributes f ps rs t b)) h is = let same : cs ≡ more = cc in subst (Settled ds) same h
+  settled_at cs more None h is = let same : cs ≡ more = cc in subst (Settled ds) same h
 
-  pub settled : (cs : Consts) → consts_of ds ≡ Ok cs → Settled ds cs
-  settled cs is = settled_all (order_of ds) [] cs nothing is
+  settled_all : (order : List ℕ) (cs out : Consts) → Settled ds cs → all_valued ds cs order ≡ Ok out → Settled ds out
+  settled_all [] cs out h is = let same : cs ≡ out = cc in subst (Settled ds) same h
+  settled_all (i ∷ order) cs out h is =
+      let more = then_more_ok (valued_at ds cs (slice_get ds i)) (λ more. all_valued ds more order) out is in
+      settled_all order more.0 out (settled_at cs more.0 (slice_get ds i) h more.1) more.2
+
+  pub settled : (order : List ℕ) (cs : Consts) → consts_of ds order ≡ Ok cs → Settled ds cs
+  settled order cs is = settled_all order [] cs nothing is
 
 -- ---- whole units
 
-lowered_so : (u low : Module) → AreClear u.declarations → lowered_unit u ≡ Ok low → Keeps u.declarations low.declarations
-lowered_so u low clear is =
-    let cs = then_more_ok (consts_of u.declarations) (λ cs. then_more (lowered_declarations (module_scope u.declarations cs) u.declarations) (λ ds. Ok (record { imports = []; declarations = ds }))) low is in
+lowered_so : (u low : Module) → AreClear u.declarations → (order : List ℕ) → lowered_after order u ≡ Ok low → Keeps u.declarations low.declarations
+lowered_so u low clear order is =
+    let cs = then_more_ok (consts_of u.declarations order) (λ cs. then_more (lowered_declarations (module_scope u.declarations cs) u.declarations) (λ ds. Ok (record { imports = []; declarations = ds }))) low is in
     let ds = then_more_ok (lowered_declarations (module_scope u.declarations cs.0) u.declarations) (λ ds. Ok (record { imports = []; declarations = ds })) low cs.2 in
     let same : record { imports = []; declarations = ds.0 } ≡ low = cc in
-    subst (Keeps u.declarations) (ap (λ (m : Module). m.declarations) same) (keeps u.declarations ds.0 cs.0 (settled u.declarations cs.0 cs.1) ds.1 clear)
+    subst (Keeps u.declarations) (ap (λ (m : Module). m.declarations) same) (keeps u.declarations ds.0 cs.0 (settled u.declarations order cs.0 cs.1) ds.1 clear)
 
-pub keeps_if : {A : Type 0} (view : A → Module) (u : Module) (r : Result A (OrOutOfMemory DeclarationFault)) → AreClear u.declarations → Answers view (lowered_unit u) r → IfOk r (λ low. Keeps u.declarations (view low).declarations)
-keeps_if view u (Ok low) clear h = lowered_so u (view low) clear h
+pub keeps_if : {A : Type 0} (view : A → Module) (u : Module) (r : Result A (OrOutOfMemory DeclarationFault)) → AreClear u.declarations → IsLowering view u r → IfOk r (λ low. Keeps u.declarations (view low).declarations)
+keeps_if view u (Ok low) clear h = lowered_so u (view low) clear h.order h.comes
 keeps_if view u (Err e) clear h = tt
+
+-- ---- an answer in the order of the start
+
+pub is_lowering : {A : Type 0} (view : A → Module) (u : Module) (order : List ℕ) (r : Result A (OrOutOfMemory DeclarationFault)) → IsStartOrderOf u.declarations order → Answers view (lowered_after order u) r → IsLowering view u r
+is_lowering view u order (Ok low) o h = record { order = order; is_order = o; comes = h }
+is_lowering view u order (Err OutOfMemory) o h = tt
+is_lowering view u order (Err (Error r)) o h = record { order = order; is_order = o; comes = h }

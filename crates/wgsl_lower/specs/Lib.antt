@@ -2,3 +2,4 @@ pub mod Lowered
 pub mod Nodes
 pub mod Keeps
 pub mod Located
+pub mod Once

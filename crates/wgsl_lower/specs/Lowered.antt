@@ -1,6 +1,6 @@
 -- The lowered unit (this project's own): constant expressions are written as their values, consts go, and what a function returns
 -- is converted where WGSL would convert it.
-use Rattle.std.specs.Prelude.{List, [], ◌∷◌, ◌++◌, Option, Some, None, Bool, true, false, Result, Ok, Err, if◌then◌else◌}
+use Rattle.std.specs.Prelude.{◌≡◌, ℕ, List, [], ◌∷◌, ◌++◌, Option, Some, None, Bool, true, false, Result, Ok, Err, if◌then◌else◌}
 use Rattle.wgsl_syntax.specs.Tree.{Exp, Exps, literal, parenthesized, unary, binary, call, named, nil, cons, exps, Typ, Attr, fragment, location, Stm, returning, Block, Param, Decl, variable, function, UnitTree as Module}
 use Rattle.wgsl_shader_type.specs.declared.literal.LiteralInstance.{LiteralInstance}
 use Rattle.wgsl_scalar.specs.declared.scalar.ScalarType.{ScalarType}
@@ -19,6 +19,8 @@ use Rattle.wgsl_meaning.specs.Written.{written}
 use Rattle.wgsl_eval.specs.declared.error.DeclarationFault.{DeclarationFault}
 use Rattle.wgsl_items.specs.declared.error.OrOutOfMemory.{OrOutOfMemory}
 use Rattle.wgsl_items.specs.declared.error.OrOutOfMemory.TheVariants.{Error, OutOfMemory}
+use Rattle.wgsl_items.specs.Memory.{UnlessOutOfMemory}
+use Rattle.wesl_order.specs.Units.{IsStartOrderOf}
 use Rattle.wgsl_eval.specs.Start.{refused, then_more, consts_of}
 
 -- ---- expressions
@@ -162,11 +164,23 @@ lowered_declarations s (variable attributes kind x type e ∷ ds) = lowered_decl
 lowered_declarations s (function attributes f parameters return_attributes type body ∷ ds) =
     then_more (refusing f (lowered_function s attributes f parameters return_attributes type body)) (λ d. then_more (lowered_declarations s ds) (λ more. Ok (d ∷ more)))
 
--- first every const gets its value, then functions are rewritten, in text order; the refusal is the first
-abbrev pub lowered_unit : Module → Result Module DeclarationFault
-lowered_unit u =
-    then_more (consts_of u.declarations) (λ cs. then_more (lowered_declarations (module_scope u.declarations cs) u.declarations) (λ low.
+-- first the consts at these positions get their values, one after another, then functions are rewritten, in text order; the refusal
+-- is the first
+abbrev pub lowered_after : List ℕ → Module → Result Module DeclarationFault
+lowered_after order u =
+    then_more (consts_of u.declarations order) (λ cs. then_more (lowered_declarations (module_scope u.declarations cs) u.declarations) (λ low.
     Ok (record { imports = []; declarations = low })))
+
+-- What a unit is lowered to, or its refusal: every const gets its value at the start, each after those that it reaches.
+pub record Lowers (u : Module) (o : Result Module DeclarationFault) : Type 0 where
+  pub order : List ℕ
+  pub is_order : IsStartOrderOf u.declarations order
+  pub comes : lowered_after order u ≡ o
+
+-- an answer is that, unless memory was refused
+abbrev pub IsLowering : {A : Type 0} → (A → Module) → Module → Result A (OrOutOfMemory DeclarationFault) → Type 0
+IsLowering view u (Ok low) = Lowers u (Ok (view low))
+IsLowering view u (Err e) = UnlessOutOfMemory (λ r. Lowers u (Err r)) e
 
 -- ---- what code tests and keeps
 

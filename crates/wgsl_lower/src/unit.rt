@@ -10,6 +10,7 @@ ghost use Rattle.wgsl_lower.specs.Keeps.{AreClear, Keeps};
 
 use crate::function::lowered_function;
 use std::alloc::Global;
+use wesl_order::start_order;
 use wgsl_eval::{Scope, UnitError, refused, start_values};
 use wgsl_items::Items;
 use wgsl_syntax::{GlobalDeclaration, GlobalDeclarationNode, Spanned, TranslationUnit};
@@ -60,11 +61,16 @@ fn lowered_declarations(
     lowered_in_turn(alloc, scope, nodes)
 }
 
-fn lowered_unit(alloc: Global, unit: &TranslationUnit) -> Result<TranslationUnit, UnitError>
-    ensures { Answers unit_tree (spec.lowered_unit (unit_tree unit.now)) result }
+// The unit, where its consts get their values in this order.
+fn lowered_after(
+    alloc: Global,
+    unit: &TranslationUnit,
+    order: &[usize],
+) -> Result<TranslationUnit, UnitError>
+    ensures { Answers unit_tree (spec.lowered_after order.now (unit_tree unit.now)) result }
 {
     let declarations = unit.global_declarations.as_slice();
-    let consts = start_values(alloc, declarations)?;
+    let consts = start_values(alloc, declarations, order)?;
     let scope = Scope {
         declarations,
         consts: consts.as_slice(),
@@ -77,10 +83,18 @@ fn lowered_unit(alloc: Global, unit: &TranslationUnit) -> Result<TranslationUnit
     })
 }
 
+fn lowered_unit(alloc: Global, unit: &TranslationUnit) -> Result<TranslationUnit, UnitError>
+    ensures { spec.IsLowering unit_tree (unit_tree unit.now) result }
+{
+    let order = start_order(alloc, unit.global_declarations.as_slice())?;
+    lowered_after(alloc, unit, order.as_slice())
+}
+
 /// The plain unit without consts: outermost constant expressions are written as their values, and what a function returns is
-/// converted to its type. It is refused at the first fault of a const, then of a function, in text order.
+/// converted to its type. It is refused at the first fault of a const, then of a function: of the consts in the order of the start
+/// (text order, but each after those that it reaches, these by the same rule), of the functions in text order.
 pub fn lower(alloc: Global, unit: &TranslationUnit) -> Result<TranslationUnit, UnitError>
-    ensures exactly { Answers unit_tree (spec.lowered_unit (unit_tree unit.now)) result }
+    ensures exactly { spec.IsLowering unit_tree (unit_tree unit.now) result }
 
     // A run that ends well ends well after, with the same answer and in no more steps, where no name is a type's.
     ensures keeps { AreClear (unit_tree unit.now).declarations → IfOk result (λ low. Keeps (unit_tree unit.now).declarations (unit_tree low).declarations) }

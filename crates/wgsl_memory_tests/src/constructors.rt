@@ -1,44 +1,50 @@
 //! Constructors.
 
+use crate::answer::is_literal;
 use std::alloc::Global;
 use std::test::Fail;
 use wgsl_constructors::call_ctor;
 use wgsl_instance::Instance;
 use wgsl_shader_type::{Error, LiteralInstance};
 
-fn is_literal(answer: &Result<Instance, Error>, wanted: LiteralInstance) -> bool {
-    match answer {
-        Ok(Instance::Literal(value)) => *value == wanted,
-        _ => false,
-    }
-}
-
 /// Whether a constructor of nothing gives this scalar.
 fn zero_is(alloc: Global, name: &str, wanted: LiteralInstance) -> bool {
-    is_literal(&call_ctor(alloc, name, None, &[]), wanted)
+    is_literal(call_ctor(alloc, name, None, &[]).ok(), wanted)
 }
 
 /// Whether a constructor of one scalar gives this scalar.
 fn cast_is(alloc: Global, name: &str, scalar: LiteralInstance, wanted: LiteralInstance) -> bool {
     let arguments = [Instance::Literal(scalar)];
-    is_literal(&call_ctor(alloc, name, None, &arguments), wanted)
+    is_literal(call_ctor(alloc, name, None, &arguments).ok(), wanted)
+}
+
+fn is_overflow(error: &Option<Error>) -> bool {
+    matches!(error, Some(Error::ConvOverflow(_, _)))
+}
+
+fn is_todo(error: &Option<Error>) -> bool {
+    matches!(error, Some(Error::Todo(_)))
+}
+
+fn is_signature(error: &Option<Error>) -> bool {
+    matches!(error, Some(Error::Signature(_)))
 }
 
 /// Whether a scalar is too large for a type.
 fn overflows(alloc: Global, name: &str, scalar: LiteralInstance) -> bool {
     let arguments = [Instance::Literal(scalar)];
-    matches!(call_ctor(alloc, name, None, &arguments), Err(Error::ConvOverflow(_, _)))
+    is_overflow(&call_ctor(alloc, name, None, &arguments).err())
 }
 
 /// Whether a constructor of nothing is not evaluated yet.
 fn is_not_yet(alloc: Global, name: &str) -> bool {
-    matches!(call_ctor(alloc, name, None, &[]), Err(Error::Todo(_)))
+    is_todo(&call_ctor(alloc, name, None, &[]).err())
 }
 
 /// Whether there is no such call with two scalars.
 fn is_no_call(alloc: Global, name: &str, first: LiteralInstance, second: LiteralInstance) -> bool {
     let arguments = [Instance::Literal(first), Instance::Literal(second)];
-    matches!(call_ctor(alloc, name, None, &arguments), Err(Error::Signature(_)))
+    is_signature(&call_ctor(alloc, name, None, &arguments).err())
 }
 
 #[test]

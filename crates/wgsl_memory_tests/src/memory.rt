@@ -1,5 +1,6 @@
 //! Views, reads and writes, each tried on a memory of its own, whose only cell holds the vector of three zeros.
 
+use crate::answer::is_literal;
 use std::alloc::Global;
 use std::test::Fail;
 use wgsl_constructors::call_ctor;
@@ -12,6 +13,7 @@ use wgsl_shader_type::{Error, LiteralInstance, Type};
 const SEVEN: LiteralInstance = LiteralInstance::U32(7);
 
 /// What is tried.
+#[derive(Clone, Copy)]
 enum Trial {
     /// A view at this index is out of bounds of three components.
     Outside(i64),
@@ -21,16 +23,25 @@ enum Trial {
     OneWritten,
 }
 
-/// Whether a view at this index is out of bounds.
-fn is_outside(alloc: Global, memory: &Memory, whole: &RefInstance, index: i64) -> bool {
-    matches!(memory.view_index(alloc, whole, index), Err(Error::OutOfBounds(_, _, 3)))
+fn is_out_of_bounds(error: &Option<Error>) -> bool {
+    matches!(error, Some(Error::OutOfBounds(_, _, 3)))
 }
 
-/// Whether a reference reads this scalar.
-fn reads(alloc: Global, memory: &Memory, part: &RefInstance, wanted: LiteralInstance) -> bool {
-    match memory.read(alloc, part) {
-        Ok(Instance::Literal(value)) => value == wanted,
-        _ => false,
+/// Whether a view at this index is out of bounds.
+fn is_outside(alloc: Global, memory: &Memory, whole: &RefInstance, index: i64) -> bool {
+    is_out_of_bounds(&memory.view_index(alloc, whole, index).err())
+}
+
+/// Whether a view reads this scalar.
+fn reads(
+    alloc: Global,
+    memory: &Memory,
+    view: &Option<RefInstance>,
+    wanted: LiteralInstance,
+) -> bool {
+    match view {
+        Some(part) => is_literal(memory.read(alloc, part).ok(), wanted),
+        None => false,
     }
 }
 
@@ -42,23 +53,38 @@ fn component_is(
     index: i64,
     wanted: LiteralInstance,
 ) -> bool {
-    match memory.view_index(alloc, whole, index) {
-        Ok(part) => reads(alloc, memory, &part, wanted),
-        Err(_) => false,
+    reads(
+        alloc,
+        memory,
+        &memory.view_index(alloc, whole, index).ok(),
+        wanted,
+    )
+}
+
+/// Whether 7 is written through a view.
+fn writes(alloc: Global, memory: &mut Memory, view: &Option<RefInstance>) -> bool {
+    match view {
+        Some(part) => memory
+            .write(alloc, part, Instance::Literal(SEVEN))
+            .ok()
+            .is_some(),
+        None => false,
     }
 }
 
-/// Whether a write of 7 to the component at this index is done.
+/// Whether 7 is written to the component at this index.
 fn write(alloc: Global, memory: &mut Memory, whole: &RefInstance, index: i64) -> bool {
-    match memory.view_index(alloc, whole, index) {
-        Ok(part) => memory.write(alloc, &part, Instance::Literal(SEVEN)).is_ok(),
-        Err(_) => false,
-    }
+    let view = memory.view_index(alloc, whole, index).ok();
+    writes(alloc, memory, &view)
+}
+
+fn is_not_write(error: &Option<Error>) -> bool {
+    matches!(error, Some(Error::NotWrite))
 }
 
 /// Whether a write of a scalar is refused for want of access.
 fn is_refused(alloc: Global, memory: &mut Memory, whole: &RefInstance) -> bool {
-    matches!(memory.write(alloc, whole, Instance::Literal(SEVEN)), Err(Error::NotWrite))
+    is_not_write(&memory.write(alloc, whole, Instance::Literal(SEVEN)).err())
 }
 
 fn holds(alloc: Global, memory: &mut Memory, whole: &RefInstance, trial: Trial) -> bool {
@@ -76,12 +102,22 @@ fn holds(alloc: Global, memory: &mut Memory, whole: &RefInstance, trial: Trial) 
     }
 }
 
-fn holds_in_memory(alloc: Global, value: Instance, whole: &RefInstance, trial: Trial) -> bool {
-    let mut memory = Memory::new(alloc);
-    memory.allocate(value).is_ok() && holds(alloc, &mut memory, whole, trial)
+fn holds_by(alloc: Global, memory: &mut Memory, whole: &Option<RefInstance>, trial: Trial) -> bool {
+    match whole {
+        Some(whole) => holds(alloc, memory, whole, trial),
+        None => false,
+    }
 }
 
-/// The reference to the first cell.
+/// Allocates the vector of three zeros; whether it was.
+fn fill(alloc: Global, memory: &mut Memory) -> bool {
+    let zero = [Instance::Literal(LiteralInstance::U32(0))];
+    match call_ctor(alloc, "vec3", None, &zero).ok() {
+        Some(value) => memory.allocate(value).is_ok(),
+        None => false,
+    }
+}
+
 fn first_cell(alloc: Global, ty: Type, access: AccessMode) -> RefInstance {
     let path = Items::new(alloc);
     let space = AddressSpace::Function;
@@ -94,19 +130,19 @@ fn first_cell(alloc: Global, ty: Type, access: AccessMode) -> RefInstance {
     }
 }
 
-fn holds_with(alloc: Global, value: Instance, access: AccessMode, trial: Trial) -> bool {
-    match value.ty(alloc) {
-        Ok(ty) => holds_in_memory(alloc, value, &first_cell(alloc, ty, access), trial),
-        Err(_) => false,
-    }
+/// The reference to the first cell, of the type of what it holds.
+fn first(alloc: Global, memory: &Memory, access: AccessMode) -> Option<RefInstance> {
+    let ty = memory.as_slice().first()?.ty(alloc).ok()?;
+    Some(first_cell(alloc, ty, access))
 }
 
 fn is_so(alloc: Global, access: AccessMode, trial: Trial) -> bool {
-    let zero = [Instance::Literal(LiteralInstance::U32(0))];
-    match call_ctor(alloc, "vec3", None, &zero) {
-        Ok(value) => holds_with(alloc, value, access, trial),
-        Err(_) => false,
+    let mut memory = Memory::new(alloc);
+    if !fill(alloc, &mut memory) {
+        return false;
     }
+    let whole = first(alloc, &memory, access);
+    holds_by(alloc, &mut memory, &whole, trial)
 }
 
 #[test]

@@ -1,5 +1,6 @@
 //! Operators at each stage. The expected values and faults are those of the project's description.
 
+use crate::answer::is_literal;
 use std::alloc::Global;
 use std::test::Fail;
 use wgsl_enumerations::ShaderStage;
@@ -9,7 +10,9 @@ use wgsl_operators::BinaryOperator;
 use wgsl_shader_type::{Error, LiteralInstance};
 
 const ADD: BinaryOperator = BinaryOperator::Addition;
+
 const DIVIDE: BinaryOperator = BinaryOperator::Division;
+
 const SHIFT: BinaryOperator = BinaryOperator::ShiftLeft;
 
 /// Two scalars.
@@ -26,6 +29,13 @@ fn applied(
     call_binary_op(alloc, operator, &left, &right, stage)
 }
 
+fn is_error(error: &Option<Error>, wanted: &Error) -> bool {
+    match error {
+        Some(error) => *error == *wanted,
+        None => false,
+    }
+}
+
 /// Whether an operator on two scalars gives this scalar when the shader runs.
 fn runs_as(
     alloc: Global,
@@ -33,10 +43,10 @@ fn runs_as(
     operands: Pair,
     wanted: LiteralInstance,
 ) -> bool {
-    match applied(alloc, operator, operands, ShaderStage::Exec) {
-        Ok(Instance::Literal(value)) => value == wanted,
-        _ => false,
-    }
+    is_literal(
+        applied(alloc, operator, operands, ShaderStage::Exec).ok(),
+        wanted,
+    )
 }
 
 /// Whether an operator on two scalars has this error at a stage.
@@ -47,10 +57,7 @@ fn fails(
     stage: ShaderStage,
     wanted: &Error,
 ) -> bool {
-    match applied(alloc, operator, operands, stage) {
-        Ok(_) => false,
-        Err(error) => error == *wanted,
-    }
+    is_error(&applied(alloc, operator, operands, stage).err(), wanted)
 }
 
 #[test]
@@ -58,7 +65,15 @@ fn sums_fit_or_wrap(rt: HostRuntime) -> Result<(), Fail> {
     let alloc = rt.alloc();
     let operands = (LiteralInstance::I32(2147483647), LiteralInstance::I32(1));
     let least = LiteralInstance::I32(-2147483648);
-    assert!(rt; fails(alloc, ADD, operands, ShaderStage::Const, &Error::AddOverflow));
+    assert!(rt;
+        fails(
+            alloc,
+            ADD,
+            operands,
+            ShaderStage::Const,
+            &Error::AddOverflow
+        )
+    );
     assert!(rt; runs_as(alloc, ADD, operands, least));
     Ok(())
 }
@@ -79,7 +94,15 @@ fn division_by_zero(rt: HostRuntime) -> Result<(), Fail> {
     let alloc = rt.alloc();
     let seven = LiteralInstance::U32(7);
     let operands = (seven, LiteralInstance::U32(0));
-    assert!(rt; fails(alloc, DIVIDE, operands, ShaderStage::Override, &Error::DivByZero));
+    assert!(rt;
+        fails(
+            alloc,
+            DIVIDE,
+            operands,
+            ShaderStage::Override,
+            &Error::DivByZero
+        )
+    );
     assert!(rt; runs_as(alloc, DIVIDE, operands, seven));
     Ok(())
 }

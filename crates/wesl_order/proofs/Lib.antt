@@ -1,0 +1,5 @@
+pub mod Deciding
+pub mod Once
+pub mod Positions
+pub mod Searching
+pub mod Starting

@@ -1,0 +1,5 @@
+pub mod Order
+pub mod Units
+pub mod Laws
+pub mod Searches
+pub mod Progressing
