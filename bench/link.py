@@ -121,4 +121,5 @@ def main(argv):
             print(f"| {shape} | {few}, {many} | {small:.4f} | {large:.4f} | {large / small:.1f} |", flush=True)
 
 
-main(sys.argv[1:])
+if __name__ == "__main__":
+    main(sys.argv[1:])

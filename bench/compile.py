@@ -1,0 +1,84 @@
+#!/usr/bin/env python3
+"""Times `weslc compile` on generated bundles: compile.py [PROGRAM]   (default: ../crates/weslc/out/weslc)
+
+Each bundle is one module of so many declarations. Beside the time of compiling stands the time that the same program needs to
+link the same bundle, and the peak of memory. Each figure is the least of a few runs; a run of more than a minute is given up."""
+import json
+import os
+import sys
+import time
+import subprocess
+
+from link import peak_of
+
+HERE = os.path.dirname(os.path.abspath(__file__))
+RUNS = 3
+LONGEST = 60
+
+
+def before(n):
+    """Each const uses the one before; the last is kept."""
+    return "const c0 = 1;\n" + "".join(f"const c{i} = c{i - 1} - 0;\n" for i in range(1, n)), [f"c{n - 1}"]
+
+
+def after(n):
+    """Each const uses the next; the first is kept."""
+    return "".join(f"const c{i} = c{i + 1} - 0;\n" for i in range(n - 1)) + f"const c{n - 1} = 1;\n", ["c0"]
+
+
+def fan(n):
+    """All consts use one; all are kept."""
+    return "const c0 = 1;\n" + "".join(f"const c{i} = c0 + 1;\n" for i in range(1, n)), [f"c{i}" for i in range(n)]
+
+
+def functions(n):
+    """Functions that use ten consts each; all functions are kept."""
+    half = n // 2
+    consts = "".join(f"const c{i} = {i};\n" for i in range(half))
+    sums = ["".join(f" + c{(i * 10 + k) % half}" for k in range(10)) for i in range(half)]
+    return consts + "".join(f"fn use_{i}(x: u32) -> u32 {{ return x{it}; }}\n" for i, it in enumerate(sums)), [f"use_{i}" for i in range(half)]
+
+
+SHAPES = {"each const uses the one before": before, "each const uses the next": after, "all use one": fan, "functions use ten each": functions}
+
+
+def bundle(command, text, keep):
+    return json.dumps({"command": command, "root": "package", "modules": [{"path": "package", "text": text}], "keep": keep}).encode()
+
+
+def timed(program, data):
+    best = None
+    for _ in range(RUNS):
+        start = time.perf_counter()
+        try:
+            done = subprocess.run(program, input=data, capture_output=True, timeout=LONGEST)
+        except subprocess.TimeoutExpired:
+            return None
+        took = time.perf_counter() - start
+        if done.returncode != 0:
+            return done.stderr.decode(errors="replace").strip()[:60] or f"status {done.returncode}"
+        best = took if best is None else min(best, took)
+    return best
+
+
+def shown(time):
+    return f"{time:.4f}" if isinstance(time, float) else f"more than {LONGEST}" if time is None else time
+
+
+def main(argv):
+    program = [os.path.abspath(argv[0] if argv else os.path.join(HERE, "../crates/weslc/out/weslc"))]
+    print("| shape | declarations | bundle, bytes | linked, s | compiled, s | ratio | peak, times the bundle |")
+    print("|---|---|---|---|---|---|---|")
+    for name, shape in SHAPES.items():
+        for n in (10, 100, 1000, 10000):
+            text, keep = shape(n)
+            data = bundle("compile", text, keep)
+            linked, compiled = timed(program, bundle("link", text, keep)), timed(program, data)
+            both = isinstance(linked, float) and isinstance(compiled, float)
+            ratio = f"{compiled / linked:.1f}" if both else "-"
+            peak = f"{peak_of(program, data) / len(data):.1f}" if both else "-"
+            print(f"| {name} | {n} | {len(data)} | {shown(linked)} | {shown(compiled)} | {ratio} | {peak} |", flush=True)
+
+
+if __name__ == "__main__":
+    main(sys.argv[1:])

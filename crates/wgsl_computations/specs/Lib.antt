@@ -1,0 +1,4 @@
+pub mod Machine
+pub mod Lift
+pub mod Compare
+pub mod Loops
