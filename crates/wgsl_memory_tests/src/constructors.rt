@@ -1,11 +1,11 @@
 //! Constructors.
 
-use crate::answer::is_literal;
+use crate::answer::{Kind, error_kind, is_literal};
 use std::alloc::Global;
 use std::test::Fail;
 use wgsl_constructors::call_ctor;
 use wgsl_instance::Instance;
-use wgsl_shader_type::{Error, LiteralInstance};
+use wgsl_shader_type::LiteralInstance;
 
 /// Whether a constructor of nothing gives this scalar.
 fn zero_is(alloc: Global, name: &str, wanted: LiteralInstance) -> bool {
@@ -18,33 +18,21 @@ fn cast_is(alloc: Global, name: &str, scalar: LiteralInstance, wanted: LiteralIn
     is_literal(call_ctor(alloc, name, None, &arguments).ok(), wanted)
 }
 
-fn is_overflow(error: &Option<Error>) -> bool {
-    matches!(error, Some(Error::ConvOverflow(_, _)))
-}
-
-fn is_todo(error: &Option<Error>) -> bool {
-    matches!(error, Some(Error::Todo(_)))
-}
-
-fn is_signature(error: &Option<Error>) -> bool {
-    matches!(error, Some(Error::Signature(_)))
-}
-
 /// Whether a scalar is too large for a type.
 fn overflows(alloc: Global, name: &str, scalar: LiteralInstance) -> bool {
     let arguments = [Instance::Literal(scalar)];
-    is_overflow(&call_ctor(alloc, name, None, &arguments).err())
+    error_kind(call_ctor(alloc, name, None, &arguments).err()) == Kind::ConvOverflow
 }
 
 /// Whether a constructor of nothing is not evaluated yet.
 fn is_not_yet(alloc: Global, name: &str) -> bool {
-    is_todo(&call_ctor(alloc, name, None, &[]).err())
+    error_kind(call_ctor(alloc, name, None, &[]).err()) == Kind::Todo
 }
 
 /// Whether there is no such call with two scalars.
 fn is_no_call(alloc: Global, name: &str, first: LiteralInstance, second: LiteralInstance) -> bool {
     let arguments = [Instance::Literal(first), Instance::Literal(second)];
-    is_signature(&call_ctor(alloc, name, None, &arguments).err())
+    error_kind(call_ctor(alloc, name, None, &arguments).err()) == Kind::Signature
 }
 
 #[test]

@@ -1,6 +1,6 @@
 //! Views, reads and writes, each tried on a memory of its own, whose only cell holds the vector of three zeros.
 
-use crate::answer::is_literal;
+use crate::answer::{Kind, error_kind, is_literal};
 use std::alloc::Global;
 use std::test::Fail;
 use wgsl_constructors::call_ctor;
@@ -8,7 +8,7 @@ use wgsl_enumerations::{AccessMode, AddressSpace};
 use wgsl_instance::{Instance, RefInstance};
 use wgsl_items::Items;
 use wgsl_memory::Memory;
-use wgsl_shader_type::{Error, LiteralInstance, Type};
+use wgsl_shader_type::{LiteralInstance, Type};
 
 const SEVEN: LiteralInstance = LiteralInstance::U32(7);
 
@@ -23,13 +23,9 @@ enum Trial {
     OneWritten,
 }
 
-fn is_out_of_bounds(error: &Option<Error>) -> bool {
-    matches!(error, Some(Error::OutOfBounds(_, _, 3)))
-}
-
 /// Whether a view at this index is out of bounds.
 fn is_outside(alloc: Global, memory: &Memory, whole: &RefInstance, index: i64) -> bool {
-    is_out_of_bounds(&memory.view_index(alloc, whole, index).err())
+    error_kind(memory.view_index(alloc, whole, index).err()) == Kind::OutOfBounds(3)
 }
 
 /// Whether a view reads this scalar.
@@ -78,13 +74,9 @@ fn write(alloc: Global, memory: &mut Memory, whole: &RefInstance, index: i64) ->
     writes(alloc, memory, &view)
 }
 
-fn is_not_write(error: &Option<Error>) -> bool {
-    matches!(error, Some(Error::NotWrite))
-}
-
 /// Whether a write of a scalar is refused for want of access.
 fn is_refused(alloc: Global, memory: &mut Memory, whole: &RefInstance) -> bool {
-    is_not_write(&memory.write(alloc, whole, Instance::Literal(SEVEN)).err())
+    error_kind(memory.write(alloc, whole, Instance::Literal(SEVEN)).err()) == Kind::NotWrite
 }
 
 fn holds(alloc: Global, memory: &mut Memory, whole: &RefInstance, trial: Trial) -> bool {

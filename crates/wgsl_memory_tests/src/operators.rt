@@ -1,6 +1,6 @@
 //! Operators at each stage. The expected values and faults are those of the project's description.
 
-use crate::answer::is_literal;
+use crate::answer::{Kind, error_kind, is_literal};
 use std::alloc::Global;
 use std::test::Fail;
 use wgsl_enumerations::ShaderStage;
@@ -29,13 +29,6 @@ fn applied(
     call_binary_op(alloc, operator, &left, &right, stage)
 }
 
-fn is_error(error: &Option<Error>, wanted: &Error) -> bool {
-    match error {
-        Some(error) => *error == *wanted,
-        None => false,
-    }
-}
-
 /// Whether an operator on two scalars gives this scalar when the shader runs.
 fn runs_as(
     alloc: Global,
@@ -55,9 +48,9 @@ fn fails(
     operator: BinaryOperator,
     operands: Pair,
     stage: ShaderStage,
-    wanted: &Error,
+    wanted: Kind,
 ) -> bool {
-    is_error(&applied(alloc, operator, operands, stage).err(), wanted)
+    error_kind(applied(alloc, operator, operands, stage).err()) == wanted
 }
 
 #[test]
@@ -65,15 +58,7 @@ fn sums_fit_or_wrap(rt: HostRuntime) -> Result<(), Fail> {
     let alloc = rt.alloc();
     let operands = (LiteralInstance::I32(2147483647), LiteralInstance::I32(1));
     let least = LiteralInstance::I32(-2147483648);
-    assert!(rt;
-        fails(
-            alloc,
-            ADD,
-            operands,
-            ShaderStage::Const,
-            &Error::AddOverflow
-        )
-    );
+    assert!(rt; fails(alloc, ADD, operands, ShaderStage::Const, Kind::AddOverflow));
     assert!(rt; runs_as(alloc, ADD, operands, least));
     Ok(())
 }
@@ -83,8 +68,15 @@ fn shift_amounts(rt: HostRuntime) -> Result<(), Fail> {
     let alloc = rt.alloc();
     let one = LiteralInstance::U32(1);
     let operands = (one, LiteralInstance::U32(32));
-    let overflow = Error::ShlOverflow(32, one);
-    assert!(rt; fails(alloc, SHIFT, operands, ShaderStage::Const, &overflow));
+    assert!(rt;
+        fails(
+            alloc,
+            SHIFT,
+            operands,
+            ShaderStage::Const,
+            Kind::ShlOverflow(32)
+        )
+    );
     assert!(rt; runs_as(alloc, SHIFT, operands, one));
     Ok(())
 }
@@ -100,7 +92,7 @@ fn division_by_zero(rt: HostRuntime) -> Result<(), Fail> {
             DIVIDE,
             operands,
             ShaderStage::Override,
-            &Error::DivByZero
+            Kind::DivByZero
         )
     );
     assert!(rt; runs_as(alloc, DIVIDE, operands, seven));
