@@ -1,0 +1,55 @@
+-- Names and what they denote (WGSL, "Declaration and Scope").
+use Rattle.std.specs.Prelude.{ℕ, List, [], ◌∷◌, Option, Some, None, Ok, Err, Bool, ◌&&◌, codes, if◌then◌else◌}
+use Rattle.std.specs.Str.{bytes_eq}
+use Rattle.wgsl_path.specs.declared.path.ModulePath.{ModulePath}
+use Rattle.wgsl_path.specs.Paths.{path_text}
+use Rattle.wgsl_syntax.specs.Tree.{Typ, simple, templated}
+use Rattle.wgsl_shader_type.specs.declared.tree.ShaderType.{ShaderType}
+use Rattle.wgsl_shader_type.specs.declared.tree.ShaderType.TheVariants as type
+use Rattle.wgsl_instance.specs.declared.tree.Instance.{Instance}
+use Rattle.wgsl_instance.specs.Typed.{type_of}
+use Rattle.wgsl_programs.specs.Faults.{OfName, Todo, UnexpectedTemplate, UnknownDecl}
+use Rattle.wgsl_programs.specs.Computing.{Checked}
+
+abbrev pub Name : Type 0
+Name = List ℕ
+
+-- a declaration's module and name
+pub record Symbol : Type 0 where
+  pub home : ModulePath
+  pub called : Name
+
+-- modules are told apart by their printed paths
+abbrev pub is_same : Symbol → Symbol → Bool
+is_same s t = bytes_eq (path_text s.home) (path_text t.home) && bytes_eq s.called t.called
+
+-- ---- locals
+
+-- a local with its value, or one whose value isn't known, of a type
+pub data Local : Type 0 where
+  Has : Instance → Local
+  Hidden : ShaderType → Local
+
+abbrev pub Env : Type 0
+Env = List (Name × Local)
+
+abbrev pub local_type : Local → ShaderType
+local_type (Has v) = type_of v
+local_type (Hidden t) = t
+
+-- the nearest local of a name
+abbrev pub find : {A : Type 0} → Name → List (Name × A) → Option A
+find x [] = None
+find x (b ∷ bs) = if bytes_eq x b.0 then Some b.1 else find x bs
+
+-- ---- written names
+
+-- a plain name, without path and template arguments
+abbrev pub plain_name : Typ → Checked Name
+plain_name (simple None x) = Ok x
+plain_name (simple (Some path) x) = Err (OfName UnknownDecl x)
+plain_name (templated path x arguments) = Err (OfName UnexpectedTemplate x)
+
+-- the built-in types that are evaluated (WGSL, "Predeclared Types")
+abbrev pub built_in_type : Name → Checked ShaderType
+built_in_type x = if bytes_eq x (codes "i32") then Ok type.I32 else if bytes_eq x (codes "u32") then Ok type.U32 else Err (OfName Todo x)
