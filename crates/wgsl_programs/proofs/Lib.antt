@@ -1,0 +1,2 @@
+pub mod Simulates
+pub mod Bodies

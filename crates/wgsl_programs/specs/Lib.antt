@@ -6,3 +6,4 @@ pub mod Meaning
 pub mod Calls
 pub mod Programs
 pub mod Runs
+pub mod Follows
