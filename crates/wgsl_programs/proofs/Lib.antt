@@ -1,2 +1,3 @@
 pub mod Simulates
 pub mod Bodies
+pub mod Itself

@@ -74,8 +74,11 @@ named_in p known m calls results = record {
 }
 
 -- the type of what a function hands back is written where it is declared
+abbrev pub function_world : Program → Known → Symbol → World
+function_world p known f = named_in p known f.home (λ s g xs. deep) (λ g. deep)
+
 abbrev pub result_of_function : Program → Known → Symbol → M (Option ShaderType)
-result_of_function p known f = result_in (named_in p known f.home (λ s g xs. deep) (λ g. deep)) (p.printed f) (p.item f)
+result_of_function p known f = result_in (function_world p known f) (p.printed f) (p.item f)
 
 abbrev pub module_world : Program → Known → ModulePath → Calls → World
 module_world p known m calls = named_in p known m calls (result_of_function p known)
