@@ -4,7 +4,7 @@ use Rattle.wgsl_shader_type.specs.declared.error.Error.{Error}
 use Rattle.wgsl_instance.specs.declared.tree.Instance.{Instance}
 use Rattle.wgsl_memory.specs.Places as memory
 use Rattle.wgsl_computations.specs.Machine.{State, Outcome, Done, Failed, Deep, Computation, of_result, next_of, one_step, with_left, with_cells, stored, back_to}
-use Rattle.wgsl_computations.specs.Lift.{Same, Kept}
+use Rattle.wgsl_computations.specs.Lift.{Same, Kept, KeptThroughout}
 use Rattle.wgsl_computations.specs.Compare.{Begin, LikewiseAt, IsLikewise, Better, Carries, ExtendsAt, IsExtended, Extends}
 
 -- ---- what ends well ends well likewise, for each way to compare steps with these laws
@@ -84,32 +84,39 @@ module _ (Steps : ℕ → ℕ → Type 0) (equal : (a b : ℕ) → a ≡ b → S
   back_at A B S s t Deep p n b = tt
 
   -- whichever faults count as one
-  kept_likewise : (SameFault : F → F → Type 0) → Kept F SameFault (λ A B S m n. IsLikewise Steps F A B S m n)
+  kept_likewise : (SameFault : F → F → Type 0) → KeptThroughout F SameFault (λ A B S m n. IsLikewise Steps F A B S m n)
   kept_likewise SameFault = record {
-    pure_of = λ A B S x y h. record {
-      from = λ s t begin. record {
-        answer = y;
-        state = t;
-        ends = refl;
-        alike = h;
-        cells = begin.cells;
-        steps = equal (s.left + t.left) (t.left + s.left) (omega arith);
+    kept = record {
+      pure_of = λ A B S x y h. record {
+        from = λ s t begin. record {
+          answer = y;
+          state = t;
+          ends = refl;
+          alike = h;
+          cells = begin.cells;
+          steps = equal (s.left + t.left) (t.left + s.left) (omega arith);
+        };
+      };
+      fail_of = λ A B S f g h. record { from = λ s t begin. tt };
+      going_on = λ A B C D S T m n f g b h. record { from = λ s t begin. bind_at A B C D S T s t (m s) (n t) f g begin (b.from s t begin) h };
+      tick_of = λ f g h. record { from = λ s t begin. tick_at f g s.left t.left s t refl refl begin };
+      read_of = λ f g r h. record {
+        from = λ s t begin.
+            subst (λ cells. LikewiseAt Steps F Instance Instance Same s t (of_result f (memory.read_value s.cells r) s) (of_result g (memory.read_value cells r) t)) begin.cells
+            (unchanged Instance f g s t (memory.read_value s.cells r) begin);
+      };
+      loaded_of = λ f g x h. record {
+        from = λ s t begin.
+            subst (λ cells. LikewiseAt Steps F Instance Instance Same s t (of_result f (memory.loaded s.cells x) s) (of_result g (memory.loaded cells x) t)) begin.cells
+            (unchanged Instance f g s t (memory.loaded s.cells x) begin);
+      };
+      scoped_of = λ A B S m n b. record {
+        from = λ s t begin.
+            subst (λ cells. LikewiseAt Steps F A B S s t (back_to (length s.cells) (m s)) (back_to (length cells) (n t))) begin.cells
+            (back_at A B S s t (m s) (n t) (length s.cells) (b.from s t begin));
       };
     };
-    fail_of = λ A B S f g h. record { from = λ s t begin. tt };
     deep_of = λ A B S. record { from = λ s t begin. tt };
-    going_on = λ A B C D S T m n f g b h. record { from = λ s t begin. bind_at A B C D S T s t (m s) (n t) f g begin (b.from s t begin) h };
-    tick_of = λ f g h. record { from = λ s t begin. tick_at f g s.left t.left s t refl refl begin };
-    read_of = λ f g r h. record {
-      from = λ s t begin.
-          subst (λ cells. LikewiseAt Steps F Instance Instance Same s t (of_result f (memory.read_value s.cells r) s) (of_result g (memory.read_value cells r) t)) begin.cells
-          (unchanged Instance f g s t (memory.read_value s.cells r) begin);
-    };
-    loaded_of = λ f g x h. record {
-      from = λ s t begin.
-          subst (λ cells. LikewiseAt Steps F Instance Instance Same s t (of_result f (memory.loaded s.cells x) s) (of_result g (memory.loaded cells x) t)) begin.cells
-          (unchanged Instance f g s t (memory.loaded s.cells x) begin);
-    };
     write_of = λ f g r x h. record {
       from = λ s t begin.
           subst (λ cells. LikewiseAt Steps F (Unit {0}) (Unit {0}) Same s t (stored f s (memory.written s.cells r x)) (stored g t (memory.written cells r x))) begin.cells
@@ -125,19 +132,14 @@ module _ (Steps : ℕ → ℕ → Type 0) (equal : (a b : ℕ) → a ≡ b → S
         steps = equal (s.left + t.left) (t.left + s.left) (omega arith);
       };
     };
-    scoped_of = λ A B S m n b. record {
-      from = λ s t begin.
-          subst (λ cells. LikewiseAt Steps F A B S s t (back_to (length s.cells) (m s)) (back_to (length cells) (n t))) begin.cells
-          (back_at A B S s t (m s) (n t) (length s.cells) (b.from s t begin));
-    };
   }
 
 -- no more steps
-pub kept_better : (F : Type 0) (SameFault : F → F → Type 0) → Kept F SameFault (Better F)
+pub kept_better : (F : Type 0) (SameFault : F → F → Type 0) → KeptThroughout F SameFault (Better F)
 kept_better F = kept_likewise (λ a b. a ≤ b) (λ a b is. omega (arith, is)) (λ a b l. l) (λ s t s1 t1 s2 t2 f g. omega (arith, f, g)) F
 
 -- as many steps
-pub kept_carries : (F : Type 0) (SameFault : F → F → Type 0) → Kept F SameFault (Carries F)
+pub kept_carries : (F : Type 0) (SameFault : F → F → Type 0) → KeptThroughout F SameFault (Carries F)
 kept_carries F = kept_likewise (λ a b. a ≡ b) (λ a b is. is) (λ a b is. omega (arith, is)) (λ s t s1 t1 s2 t2 f g. omega (arith, f, g)) F
 
 -- ---- what is over is over likewise
@@ -176,26 +178,33 @@ module _ (F : Type 0) (SameFault : F → F → Type 0) where
   over_back A B S (Failed f) p n b = record { fault = b.fault; fails = ap (back_to n) b.fails; alike = b.alike }
   over_back A B S Deep p n b = tt
 
-  pub kept_extends : Kept F SameFault (Extends F SameFault)
+  pub kept_extends : KeptThroughout F SameFault (Extends F SameFault)
   kept_extends = record {
-    pure_of = λ A B S x y h. record { from = λ s t cells left. record { answer = y; state = t; ends = refl; alike = h; cells = cells; steps = left } };
-    fail_of = λ A B S f g h. record { from = λ s t cells left. record { fault = g; fails = refl; alike = h } };
+    kept = record {
+      pure_of = λ A B S x y h. record { from = λ s t cells left. record { answer = y; state = t; ends = refl; alike = h; cells = cells; steps = left } };
+      fail_of = λ A B S f g h. record { from = λ s t cells left. record { fault = g; fails = refl; alike = h } };
+      going_on = λ A B C D S T m n f g b h. record { from = λ s t cells left. over_bind A B C D S T (m s) (n t) f g (b.from s t cells left) h };
+      tick_of = λ f g h. record {
+        from = λ s t cells left.
+            subst (λ n. ExtendsAt F SameFault (Unit {0}) (Unit {0}) Same (one_step f s s.left) (one_step g t n)) left (over_tick f g s.left s t h cells);
+      };
+      read_of = λ f g r h. record {
+        from = λ s t cells left.
+            subst (λ l. ExtendsAt F SameFault Instance Instance Same (of_result f (memory.read_value s.cells r) s) (of_result g (memory.read_value l r) t)) cells
+            (over_result Instance f g s t (memory.read_value s.cells r) h cells left);
+      };
+      loaded_of = λ f g x h. record {
+        from = λ s t cells left.
+            subst (λ l. ExtendsAt F SameFault Instance Instance Same (of_result f (memory.loaded s.cells x) s) (of_result g (memory.loaded l x) t)) cells
+            (over_result Instance f g s t (memory.loaded s.cells x) h cells left);
+      };
+      scoped_of = λ A B S m n b. record {
+        from = λ s t cells left.
+            subst (λ l. ExtendsAt F SameFault A B S (back_to (length s.cells) (m s)) (back_to (length l) (n t))) cells
+            (over_back A B S (m s) (n t) (length s.cells) (b.from s t cells left));
+      };
+    };
     deep_of = λ A B S. record { from = λ s t cells left. tt };
-    going_on = λ A B C D S T m n f g b h. record { from = λ s t cells left. over_bind A B C D S T (m s) (n t) f g (b.from s t cells left) h };
-    tick_of = λ f g h. record {
-      from = λ s t cells left.
-          subst (λ n. ExtendsAt F SameFault (Unit {0}) (Unit {0}) Same (one_step f s s.left) (one_step g t n)) left (over_tick f g s.left s t h cells);
-    };
-    read_of = λ f g r h. record {
-      from = λ s t cells left.
-          subst (λ l. ExtendsAt F SameFault Instance Instance Same (of_result f (memory.read_value s.cells r) s) (of_result g (memory.read_value l r) t)) cells
-          (over_result Instance f g s t (memory.read_value s.cells r) h cells left);
-    };
-    loaded_of = λ f g x h. record {
-      from = λ s t cells left.
-          subst (λ l. ExtendsAt F SameFault Instance Instance Same (of_result f (memory.loaded s.cells x) s) (of_result g (memory.loaded l x) t)) cells
-          (over_result Instance f g s t (memory.loaded s.cells x) h cells left);
-    };
     write_of = λ f g r x h. record {
       from = λ s t cells left.
           subst (λ l. ExtendsAt F SameFault (Unit {0}) (Unit {0}) Same (stored f s (memory.written s.cells r x)) (stored g t (memory.written l r x))) cells
@@ -210,10 +219,5 @@ module _ (F : Type 0) (SameFault : F → F → Type 0) where
         cells = ap (λ l. l ++ x ∷ []) cells;
         steps = left;
       };
-    };
-    scoped_of = λ A B S m n b. record {
-      from = λ s t cells left.
-          subst (λ l. ExtendsAt F SameFault A B S (back_to (length s.cells) (m s)) (back_to (length l) (n t))) cells
-          (over_back A B S (m s) (n t) (length s.cells) (b.from s t cells left));
     };
   }

@@ -2,22 +2,22 @@
 use Rattle.std.proofs.Common.{◌≡◌, ℕ, zero, suc, ◌<◌, ◌≤◌, Option, refl, arith}
 use Rattle.wgsl_instance.specs.declared.tree.Instance.{Instance}
 use Rattle.wgsl_computations.specs.Machine.{State, Outcome, Done, Failed, Deep, Computation, next_of, bind, one_step, with_left, tick}
-use Rattle.wgsl_computations.specs.Lift.{Lift, Same, Kept}
+use Rattle.wgsl_computations.specs.Lift.{Lift, Same, KeptThroughout}
 use Rattle.wgsl_computations.specs.Loops.{Flow, Next, Broke, Goes, Returned, turned, repeat, AlikeFlow, both_next, both_broke, both_goes, both_returned, IsOverAt, IsOver}
 
-module _ (F : Type 0) (SameFault : F → F → Type 0) (R : Lift F) (kept : Kept F SameFault R) (V : Option Instance → Option Instance → Type 0) where
+module _ (F : Type 0) (SameFault : F → F → Type 0) (R : Lift F) (throughout : KeptThroughout F SameFault R) (V : Option Instance → Option Instance → Type 0) where
   turned_alike : (m n : Computation F Flow) → R Flow Flow (AlikeFlow V) m n → (a b : Flow) → AlikeFlow V a b → R Flow Flow (AlikeFlow V) (turned m a) (turned n b)
   turned_alike m n again _ _ both_next = again
   turned_alike m n again _ _ both_goes = again
-  turned_alike m n again _ _ both_broke = kept.pure_of Flow Flow (AlikeFlow V) Next Next both_next
-  turned_alike m n again _ _ (both_returned {a = a} {b = b} v) = kept.pure_of Flow Flow (AlikeFlow V) (Returned a) (Returned b) (both_returned v)
+  turned_alike m n again _ _ both_broke = throughout.kept.pure_of Flow Flow (AlikeFlow V) Next Next both_next
+  turned_alike m n again _ _ (both_returned {a = a} {b = b} v) = throughout.kept.pure_of Flow Flow (AlikeFlow V) (Returned a) (Returned b) (both_returned v)
 
   -- loops whose bodies are related are related
   pub repeat_alike : (f g : F) → SameFault f g → (m n : Computation F Flow) → R Flow Flow (AlikeFlow V) m n → (k : ℕ) → R Flow Flow (AlikeFlow V) (repeat k f m) (repeat k g n)
-  repeat_alike f g same m n body zero = kept.deep_of Flow Flow (AlikeFlow V)
+  repeat_alike f g same m n body zero = throughout.deep_of Flow Flow (AlikeFlow V)
   repeat_alike f g same m n body (suc k) =
-      kept.going_on (Unit {0}) (Unit {0}) Flow Flow Same (AlikeFlow V) (tick f) (tick g) _ _ (kept.tick_of f g same) (λ x y e.
-      kept.going_on Flow Flow Flow Flow (AlikeFlow V) (AlikeFlow V) m n (turned (repeat k f m)) (turned (repeat k g n)) body
+      throughout.kept.going_on (Unit {0}) (Unit {0}) Flow Flow Same (AlikeFlow V) (tick f) (tick g) _ _ (throughout.kept.tick_of f g same) (λ x y e.
+      throughout.kept.going_on Flow Flow Flow Flow (AlikeFlow V) (AlikeFlow V) m n (turned (repeat k f m)) (turned (repeat k g n)) body
       (turned_alike (repeat k f m) (repeat k g n) (repeat_alike f g same m n body k)))
 
 -- ---- the bound

@@ -167,16 +167,21 @@ module _ (R : Lift Fault) (kept : Kept Fault Same R) where
     same_count ps qs no_parameters = refl
     same_count ps qs (one_parameter {ps = ps'} {qs = qs'} f fs) = ap suc (same_count ps' qs' fs)
 
+    -- what a call does after its step
+    pub inner_meets : (f : Name) (ps ns : List Param) (a b : Option Typ) (body others : List Stm) → FollowParameters D ps ns → FollowType D a b → FollowStatements D (map (λ p. p.name) ps) a body others
+        → (xs : List Instance) → length xs ≡ length ps
+        → R (Option Instance) (Option Instance) Same (scoped (bind (bound w ps xs) (body_of w s f a body))) (scoped (bind (bound u ns xs) (body_of u t f b others)))
+    inner_meets f ps ns a b body others fp ft fs xs count =
+        kept.scoped_of (Option Instance) (Option Instance) Same (bind (bound w ps xs) (body_of w s f a body)) (bind (bound u ns xs) (body_of u t f b others))
+        (on_one Env (Option Instance) (Option Instance) (λ env. names_of env ≡ map (λ p. p.name) ps) Same (bound w ps xs) (bound u ns xs) _ _ (bound_meets ps ns fp xs count) (λ env names.
+        body_meets f a b ft env body others (subst (λ l. FollowStatements D l a body others) (sym names) fs)))
+
     pub call_meets : (f : Name) (d e : Decl) → FollowsDeclaration D d e → (xs : List Instance) → R (Option Instance) (Option Instance) Same (call_in w s f (Some d) xs) (call_in u t f (Some e) xs)
     call_meets f d e (keeps_const _ _) xs = fail_same (Option Instance) _
     call_meets f d e (keeps_function {ps = ps} {ns = ns} {t = a} {u = b} {b = body} {c = others} fa fp ft fs) xs =
-        let inner : M (Option Instance) = bind (bound w ps xs) (body_of w s f a body.statements) in
-        let inner' : M (Option Instance) = bind (bound u ns xs) (body_of u t f b others.statements) in
         counted (length xs) (length ps) (length ns) f _ _ (same_count ps ns fp) (λ count.
-        on (Unit {0}) (Option Instance) (Option Instance) Same step step (λ _. scoped inner) (λ _. scoped inner') (kept.tick_of StepLimit StepLimit refl) (λ _.
-        kept.scoped_of (Option Instance) (Option Instance) Same inner inner'
-        (on_one Env (Option Instance) (Option Instance) (λ env. names_of env ≡ map (λ p. p.name) ps) Same (bound w ps xs) (bound u ns xs) _ _ (bound_meets ps ns fp xs count) (λ env names.
-        body_meets f a b ft env body.statements others.statements (subst (λ l. FollowStatements D l a body.statements others.statements) (sym names) fs)))))
+        on (Unit {0}) (Option Instance) (Option Instance) Same step step _ _ (kept.tick_of StepLimit StepLimit refl) (λ _.
+        inner_meets f ps ns a b body.statements others.statements fp ft fs xs count))
 
     pub result_type_meets : (f : Name) (d e : Decl) → FollowsDeclaration D d e → R (Option ShaderType) (Option ShaderType) Same (result_in w f (Some d)) (result_in u f (Some e))
     result_type_meets f d e (keeps_const _ _) = fail_same (Option ShaderType) _

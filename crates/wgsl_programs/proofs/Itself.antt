@@ -37,21 +37,21 @@ module _ (l : List Name) where
     follow_themselves nil = no_more
     follow_themselves (cons e es) = one_more (follows_itself e) (follow_themselves es)
 
-  statements_themselves : (t : Option Typ) (ss : List Stm) → FollowStatements itself l t ss ss
+  pub statements_themselves : (t : Option Typ) (ss : List Stm) → FollowStatements itself l t ss ss
   statements_themselves t [] = no_statements
   statements_themselves t (returning a None ∷ rest) = returns_nothing (statements_themselves t rest)
   statements_themselves t (returning a (Some e) ∷ rest) = returns (as_it_is (follows_itself e)) (statements_themselves t rest)
 
-attributes_themselves : (a : List Attr) → FollowAttributes itself a a
+pub attributes_themselves : (a : List Attr) → FollowAttributes itself a a
 attributes_themselves [] = no_attributes
 attributes_themselves (fragment ∷ rest) = keeps_fragment (attributes_themselves rest)
 attributes_themselves (location e ∷ rest) = keeps_location (follows_itself [] e) (attributes_themselves rest)
 
-type_itself : (t : Option Typ) → FollowType itself t t
+pub type_itself : (t : Option Typ) → FollowType itself t t
 type_itself None = no_type
 type_itself (Some t) = keeps_type refl
 
-parameters_themselves : (ps : List Param) → FollowParameters itself ps ps
+pub parameters_themselves : (ps : List Param) → FollowParameters itself ps ps
 parameters_themselves [] = no_parameters
 parameters_themselves (p ∷ ps) = one_parameter (record { name = refl; type = refl; attributes = attributes_themselves p.attributes }) (parameters_themselves ps)
 

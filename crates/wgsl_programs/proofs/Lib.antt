@@ -1,3 +1,5 @@
 pub mod Simulates
 pub mod Bodies
 pub mod Itself
+pub mod Longer
+pub mod Limits
