@@ -3,3 +3,4 @@ pub mod Bodies
 pub mod Itself
 pub mod Longer
 pub mod Limits
+pub mod Stages
