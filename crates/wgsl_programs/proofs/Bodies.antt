@@ -15,9 +15,9 @@ use Rattle.wgsl_computations.specs.Loops.{Flow, Next, Returned}
 use Rattle.wgsl_computations.specs.Lift.{Lift, Same, Kept}
 use Rattle.wgsl_programs.specs.Faults.{Fault, StepLimit, Operation, OfName, UnknownDecl, UninitConst, NotCallable, ParamCount, ReturnType, NotEntrypoint, InvalidEntrypointParam}
 use Rattle.wgsl_programs.specs.Computing.{M, computed, at_once, used, step}
-use Rattle.wgsl_programs.specs.Names.{Name, Symbol, Has, Env, find, plain_name}
+use Rattle.wgsl_programs.specs.Names.{Name, Symbol, Has, Env, find}
 use Rattle.wgsl_programs.specs.Operations.{literal_value, unary_type, operand_type, binary_type, argument}
-use Rattle.wgsl_programs.specs.Meaning.{World, name_value, name_type, call_value, call_type, type_written, value, values, typed, all_typed}
+use Rattle.wgsl_programs.specs.Meaning.{World, plain_name, name_value, name_type, call_value, call_type, type_written, value, values, typed, all_typed}
 use Rattle.wgsl_programs.specs.Calls.{initial, initialized, const_in, bound, executed, handed_back, returned_by, written_result, body_of, call_in, result_in}
 use Rattle.wgsl_programs.specs.Runs.{Handed, attribute_number, location_of, input_at, inputs_bound, has_stage, entered}
 use Rattle.wgsl_programs.specs.Follows.{Differences, Follows, FollowAll, keeps_literal, keeps_parentheses, keeps_unary, keeps_binary, keeps_call, keeps_name, replaces, no_more, one_more, FollowsAt, as_it_is, at_the_type, FollowStatements, no_statements, returns_nothing, returns, FollowAttributes, no_attributes, keeps_fragment, keeps_location, FollowType, no_type, keeps_type, FollowsParameter, FollowParameters, no_parameters, one_parameter, FollowInitializer, no_initializer, keeps_initializer, FollowsDeclaration, keeps_const, keeps_function}
@@ -27,16 +27,16 @@ use Rattle.wgsl_computations.proofs.Laws.{bind_pure}
 use Rattle.wgsl_programs.proofs.Simulates as expressions
 
 abbrev pub name_here : World → ShaderStage → Env → Typ → M Instance
-name_here w s env x = bind (at_once (plain_name x)) (λ a. name_value w s a (find a env) (w.denotes a))
+name_here w s env x = bind (at_once (plain_name w env x)) (λ a. name_value w s a (find a env) (w.denotes a))
 
 abbrev pub callee_here : World → ShaderStage → Env → Typ → List Instance → M Instance
-callee_here w s env f xs = bind (at_once (plain_name f)) (λ a. call_value w s a (find a env) (w.denotes a) xs)
+callee_here w s env f xs = bind (at_once (plain_name w env f)) (λ a. call_value w s a (find a env) (w.denotes a) xs)
 
 abbrev pub name_type_here : World → Env → Typ → M ShaderType
-name_type_here w env x = bind (at_once (plain_name x)) (λ a. name_type w a (find a env) (w.denotes a))
+name_type_here w env x = bind (at_once (plain_name w env x)) (λ a. name_type w a (find a env) (w.denotes a))
 
 abbrev pub callee_type_here : World → Env → Typ → List ShaderType → M ShaderType
-callee_type_here w env f ts = bind (at_once (plain_name f)) (λ a. call_type w a (find a env) (w.denotes a) ts)
+callee_type_here w env f ts = bind (at_once (plain_name w env f)) (λ a. call_type w a (find a env) (w.denotes a) ts)
 
 abbrev pub names_of : Env → List Name
 names_of env = map (λ b. b.0) env

@@ -1,18 +1,18 @@
 -- A program over itself: worlds of one module whose calls are related, at one stage or at two.
-use Rattle.std.proofs.Common.{◌≡◌, ℕ, zero, suc, ◌+◌, List, [], ◌∷◌, map, Option, Some, None, Ok, Err, refl, subst}
+use Rattle.std.proofs.Common.{◌≡◌, ℕ, zero, suc, ◌+◌, List, [], ◌∷◌, map, Option, Some, None, Ok, Err, refl, ap, subst}
 use Rattle.wgsl_path.specs.declared.path.ModulePath.{ModulePath}
-use Rattle.wgsl_syntax.specs.Tree.{Exp, Exps, literal, parenthesized, unary, binary, call, named, nil, cons, Typ, Attr, fragment, location, Stm, returning, Param, Decl, variable, function}
+use Rattle.wgsl_syntax.specs.Tree.{Exp, Exps, literal, parenthesized, unary, binary, call, named, nil, cons, Typ, simple, templated, Attr, fragment, location, Stm, returning, Param, Decl, variable, function}
 use Rattle.wgsl_enumerations.specs.declared.words.ShaderStage.{ShaderStage}
 use Rattle.wgsl_enumerations.specs.declared.words.ShaderStage.TheVariants.{Const, Exec}
 use Rattle.wgsl_shader_type.specs.declared.tree.ShaderType.{ShaderType}
 use Rattle.wgsl_instance.specs.declared.tree.Instance.{Instance}
 use Rattle.wgsl_computations.specs.Machine.{pure, bind}
 use Rattle.wgsl_computations.specs.Lift.{Lift, Same, Kept}
-use Rattle.wgsl_programs.specs.Faults.{Fault}
+use Rattle.wgsl_programs.specs.Faults.{Fault, OfName, UnexpectedTemplate}
 use Rattle.wgsl_programs.specs.Computing.{M, Checked, at_once}
-use Rattle.wgsl_programs.specs.Names.{Name, Symbol, Local, Has, Hidden, Env, local_type, find, plain_name, built_in_type}
+use Rattle.wgsl_programs.specs.Names.{Name, Symbol, Local, Has, Hidden, Env, local_type, find, built_in_type}
 use Rattle.wgsl_programs.specs.Operations.{construct, construct_type}
-use Rattle.wgsl_programs.specs.Meaning.{World, local_value, name_value, name_type, needed, call_value, call_type, denoted_type, type_written, value}
+use Rattle.wgsl_programs.specs.Meaning.{World, shown, plain_name, local_value, name_value, name_type, needed, call_value, call_type, denoted_type, type_written, value}
 use Rattle.wgsl_programs.specs.Calls.{written_result, result_in}
 use Rattle.wgsl_programs.specs.Programs.{function_world, Program, Known, find_known, known_value, known_type, Calls, at_exec, result_of_function, module_world}
 use Rattle.wgsl_programs.specs.Follows.{Differences, Follows, FollowAll, keeps_literal, keeps_parentheses, keeps_unary, keeps_binary, keeps_call, keeps_name, replaces, no_more, one_more, FollowsAt, as_it_is, at_the_type, FollowStatements, no_statements, returns_nothing, returns, FollowAttributes, no_attributes, keeps_fragment, keeps_location, FollowType, no_type, keeps_type, FollowsParameter, FollowParameters, no_parameters, one_parameter, FollowInitializer, no_initializer, keeps_initializer, FollowsDeclaration, keeps_const, keeps_function}
@@ -105,6 +105,17 @@ module _ (R : Lift Fault) (kept : Kept Fault Same R) where
 
   module _ (p : Program) (known : Known) (m : ModulePath) (calls others : Calls) (s t : ShaderStage) (stages : expressions.StagesMeet R kept s t)
       (called : (f : Symbol) (xs : List Instance) → R (Option Instance) (Option Instance) Same (at_exec s (p.printed f) (calls s f xs)) (at_exec t (p.printed f) (others t f xs))) where
+    same_name : (env : Env) (x : Typ) → plain_name (module_world p known m calls) env x ≡ plain_name (module_world p known m others) env x
+    same_name env (simple None x) = refl
+    same_name env (simple (Some path) x) = refl
+    same_name env (templated None x arguments) = ap (λ z. Err (OfName UnexpectedTemplate z)) (at (find x env) (p.denotes m x))
+      where
+        at : (l : Option Local) (d : Option Symbol) → shown (module_world p known m calls) x l d ≡ shown (module_world p known m others) x l d
+        at (Some l) d = refl
+        at None (Some y) = refl
+        at None None = refl
+    same_name env (templated (Some path) x arguments) = refl
+
     names_meet : (x : Name) (l : Option Local) (d : Option Symbol) → R Instance Instance Same (name_value (module_world p known m calls) s x l d) (name_value (module_world p known m others) t x l d)
     names_meet x (Some l) d = local_same x l
     names_meet x None (Some y) = known_same (p.printed y) (find_known y known) (p.item y)
@@ -116,7 +127,7 @@ module _ (R : Lift Fault) (kept : Kept Fault Same R) where
     callees_meet f None None xs = constructed_same f xs
 
     types_meet : (x : Typ) → R ShaderType ShaderType (One (λ t. Unit {0})) (type_written (module_world p known m calls) x) (type_written (module_world p known m others) x)
-    types_meet x = at (plain_name x)
+    types_meet x = subst (λ r. R ShaderType ShaderType (One (λ t. Unit {0})) (type_written (module_world p known m calls) x) (bind (at_once r) (λ y. denoted_type (module_world p known m others) y (p.denotes m y)))) (same_name [] x) (at (plain_name (module_world p known m calls) [] x))
       where
         denoted : (y : Name) (d : Option Symbol) → R ShaderType ShaderType (One (λ t. Unit {0})) (denoted_type (module_world p known m calls) y d) (denoted_type (module_world p known m others) y d)
         denoted y (Some a) = kept.fail_of ShaderType ShaderType _ _ _ refl
@@ -133,8 +144,8 @@ module _ (R : Lift Fault) (kept : Kept Fault Same R) where
     worlds_meet = record {
       is_type = λ x ty. Unit {0};
       stages = stages;
-      names_meet = λ env x y e. subst (λ z. R Instance Instance Same (name_here (module_world p known m calls) s env x) (name_here (module_world p known m others) t env z)) e (name (plain_name x) env);
-      callees_meet = λ env f g xs e. subst (λ z. R Instance Instance Same (callee_here (module_world p known m calls) s env f xs) (callee_here (module_world p known m others) t env z xs)) e (callee (plain_name f) env xs);
+      names_meet = λ env x y e. subst (λ z. R Instance Instance Same (name_here (module_world p known m calls) s env x) (name_here (module_world p known m others) t env z)) e (subst (λ r. R Instance Instance Same (name_here (module_world p known m calls) s env x) (bind (at_once r) (λ a. name_value (module_world p known m others) t a (find a env) (p.denotes m a)))) (same_name env x) (name (plain_name (module_world p known m calls) env x) env));
+      callees_meet = λ env f g xs e. subst (λ z. R Instance Instance Same (callee_here (module_world p known m calls) s env f xs) (callee_here (module_world p known m others) t env z xs)) e (subst (λ r. R Instance Instance Same (callee_here (module_world p known m calls) s env f xs) (bind (at_once r) (λ a. call_value (module_world p known m others) t a (find a env) (p.denotes m a) xs))) (same_name env f) (callee (plain_name (module_world p known m calls) env f) env xs));
       replaced_meet = λ env e d h. absurd h;
       returned_meet = λ env f type e d h. absurd h;
       types_meet = λ x y e. subst (λ z. R ShaderType ShaderType (One (λ t. Unit {0})) (type_written (module_world p known m calls) x) (type_written (module_world p known m others) z)) e (types_meet x);
@@ -154,7 +165,7 @@ module _ (R : Lift Fault) (kept : Kept Fault Same R) where
         written w None h = pure_same (Option ShaderType) None
         written w (Some x) h = expressions.on R kept ShaderType (Option ShaderType) (Option ShaderType) Same (type_written w x) (type_written w x) _ _ (h x) (λ t. pure_same (Option ShaderType) (Some t))
         plain : (x : Typ) → R ShaderType ShaderType Same (type_written (function_world p known f) x) (type_written (function_world p known f) x)
-        plain x = by_name (plain_name x)
+        plain x = by_name (plain_name (function_world p known f) [] x)
           where
             denoted : (y : Name) (d : Option Symbol) → R ShaderType ShaderType Same (denoted_type (function_world p known f) y d) (denoted_type (function_world p known f) y d)
             denoted y (Some a) = expressions.fail_same R kept ShaderType _
@@ -169,8 +180,8 @@ module _ (R : Lift Fault) (kept : Kept Fault Same R) where
 
     pub types_of_worlds_meet : TypesMeet R kept itself (module_world p known m calls) (module_world p known m others)
     types_of_worlds_meet = record {
-      name_types_meet = λ x y e. subst (λ z. R ShaderType ShaderType Same (name_type_here (module_world p known m calls) [] x) (name_type_here (module_world p known m others) [] z)) e (name (plain_name x));
-      callee_types_meet = λ f g ts e. subst (λ z. R ShaderType ShaderType Same (callee_type_here (module_world p known m calls) [] f ts) (callee_type_here (module_world p known m others) [] z ts)) e (callee (plain_name f) ts);
+      name_types_meet = λ x y e. subst (λ z. R ShaderType ShaderType Same (name_type_here (module_world p known m calls) [] x) (name_type_here (module_world p known m others) [] z)) e (subst (λ r. R ShaderType ShaderType Same (name_type_here (module_world p known m calls) [] x) (bind (at_once r) (λ a. name_type (module_world p known m others) a None (p.denotes m a)))) (same_name [] x) (name (plain_name (module_world p known m calls) [] x)));
+      callee_types_meet = λ f g ts e. subst (λ z. R ShaderType ShaderType Same (callee_type_here (module_world p known m calls) [] f ts) (callee_type_here (module_world p known m others) [] z ts)) e (subst (λ r. R ShaderType ShaderType Same (callee_type_here (module_world p known m calls) [] f ts) (bind (at_once r) (λ a. call_type (module_world p known m others) a None (p.denotes m a) ts))) (same_name [] f) (callee (plain_name (module_world p known m calls) [] f) ts));
       replaced_types_meet = λ e d h. absurd h;
     }
       where

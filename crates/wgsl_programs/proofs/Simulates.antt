@@ -12,9 +12,9 @@ use Rattle.wgsl_computations.specs.Machine.{pure, fail, bind, of_result}
 use Rattle.wgsl_computations.specs.Lift.{Lift, Same, Kept}
 use Rattle.wgsl_programs.specs.Faults.{Fault, Operation}
 use Rattle.wgsl_programs.specs.Computing.{M, Checked, computed, at_once, used}
-use Rattle.wgsl_programs.specs.Names.{Name, Env, find, plain_name}
+use Rattle.wgsl_programs.specs.Names.{Name, Env, find}
 use Rattle.wgsl_programs.specs.Operations.{literal_value, operand, unary_value, binary_value, decides}
-use Rattle.wgsl_programs.specs.Meaning.{World, name_value, call_value, between, value, values}
+use Rattle.wgsl_programs.specs.Meaning.{World, plain_name, name_value, call_value, between, value, values}
 use Rattle.wgsl_programs.specs.Follows.{Differences, Follows, FollowAll, keeps_literal, keeps_parentheses, keeps_unary, keeps_binary, keeps_call, keeps_name, replaces, no_more, one_more}
 
 module _ (R : Lift Fault) (kept : Kept Fault Same R) where
@@ -63,8 +63,8 @@ module _ (R : Lift Fault) (kept : Kept Fault Same R) where
         at false = on Instance Instance Instance Same m n _ _ r (λ y. stages.by_binary o x y)
 
     module _ (D : Differences) (locals : List Name) (w u : World) (env : Env)
-        (by_name : (x y : Typ) → D.names locals x y → R Instance Instance Same (bind (at_once (plain_name x)) (λ a. name_value w s a (find a env) (w.denotes a))) (bind (at_once (plain_name y)) (λ a. name_value u t a (find a env) (u.denotes a))))
-        (by_call : (f g : Typ) (xs : List Instance) → D.callees locals f g → R Instance Instance Same (bind (at_once (plain_name f)) (λ a. call_value w s a (find a env) (w.denotes a) xs)) (bind (at_once (plain_name g)) (λ a. call_value u t a (find a env) (u.denotes a) xs)))
+        (by_name : (x y : Typ) → D.names locals x y → R Instance Instance Same (bind (at_once (plain_name w env x)) (λ a. name_value w s a (find a env) (w.denotes a))) (bind (at_once (plain_name u env y)) (λ a. name_value u t a (find a env) (u.denotes a))))
+        (by_call : (f g : Typ) (xs : List Instance) → D.callees locals f g → R Instance Instance Same (bind (at_once (plain_name w env f)) (λ a. call_value w s a (find a env) (w.denotes a) xs)) (bind (at_once (plain_name u env g)) (λ a. call_value u t a (find a env) (u.denotes a) xs)))
         (by_replaced : (e d : Exp) → D.replaced locals e d → R Instance Instance Same (value w s env e) (value u t env d)) where
       used_meets : (e d : Exp) → R Instance Instance Same (value w s env e) (value u t env d) → R Instance Instance Same (bind (value w s env e) used) (bind (value u t env d) used)
       used_meets e d r = on Instance Instance Instance Same (value w s env e) (value u t env d) used used r used_same

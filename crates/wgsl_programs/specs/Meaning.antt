@@ -1,16 +1,16 @@
 -- The value and the type of an expression, whatever names denote (WGSL, "Expressions").
-use Rattle.std.specs.Prelude.{List, [], ◌∷◌, Option, Some, None, if◌then◌else◌}
+use Rattle.std.specs.Prelude.{List, [], ◌∷◌, Option, Some, None, Ok, Err, if◌then◌else◌}
 use Rattle.wgsl_operators.specs.declared.BinaryOperator.{BinaryOperator}
-use Rattle.wgsl_syntax.specs.Tree.{Exp, Exps, literal, parenthesized, unary, binary, call, named, nil, cons, Typ}
+use Rattle.wgsl_syntax.specs.Tree.{Exp, Exps, literal, parenthesized, unary, binary, call, named, nil, cons, Typ, simple, templated}
 use Rattle.wgsl_enumerations.specs.declared.words.ShaderStage.{ShaderStage}
 use Rattle.wgsl_shader_type.specs.declared.tree.ShaderType.{ShaderType}
 use Rattle.wgsl_shader_type.specs.Class.{loaded_type}
 use Rattle.wgsl_instance.specs.declared.tree.Instance.{Instance}
 use Rattle.wgsl_instance.specs.Typed.{type_of}
 use Rattle.wgsl_computations.specs.Machine.{pure, fail, bind}
-use Rattle.wgsl_programs.specs.Faults.{OfName, UnknownDecl, NotAccessible, NotType, NotCallable, Void}
-use Rattle.wgsl_programs.specs.Computing.{M, computed, at_once, used}
-use Rattle.wgsl_programs.specs.Names.{Name, Symbol, Local, Has, Hidden, Env, local_type, find, plain_name, built_in_type}
+use Rattle.wgsl_programs.specs.Faults.{OfName, UnknownDecl, UnexpectedTemplate, NotAccessible, NotType, NotCallable, Void}
+use Rattle.wgsl_programs.specs.Computing.{M, Checked, computed, at_once, used}
+use Rattle.wgsl_programs.specs.Names.{Name, Symbol, Local, Has, Hidden, Env, local_type, find, built_in_type}
 use Rattle.wgsl_programs.specs.Operations.{literal_value, unary_type, unary_value, operand, operand_type, binary_type, binary_value, decides, construct, construct_type}
 
 -- what names mean. They enter by `denotes` alone; faults tell printed names
@@ -25,6 +25,19 @@ pub record World : Type 0 where
   pub result_type : Symbol → M (Option ShaderType)
 
 -- ---- names
+
+-- the name that a fault tells: the printed one of what is denoted
+abbrev pub shown : World → Name → Option Local → Option Symbol → Name
+shown w x (Some l) d = x
+shown w x None (Some s) = w.printed s
+shown w x None None = x
+
+-- a plain name, without path and template arguments
+abbrev pub plain_name : World → Env → Typ → Checked Name
+plain_name w env (simple None x) = Ok x
+plain_name w env (simple (Some path) x) = Err (OfName UnknownDecl x)
+plain_name w env (templated None x arguments) = Err (OfName UnexpectedTemplate (shown w x (find x env) (w.denotes x)))
+plain_name w env (templated (Some path) x arguments) = Err (OfName UnknownDecl x)
 
 abbrev pub local_value : Name → Local → M Instance
 local_value x (Has v) = pure v
@@ -63,7 +76,7 @@ denoted_type w x (Some s) = fail (OfName NotType (w.printed s))
 denoted_type w x None = at_once (built_in_type x)
 
 abbrev pub type_written : World → Typ → M ShaderType
-type_written w t = bind (at_once (plain_name t)) (λ x. denoted_type w x (w.denotes x))
+type_written w t = bind (at_once (plain_name w [] t)) (λ x. denoted_type w x (w.denotes x))
 
 -- ---- expressions
 
@@ -79,8 +92,8 @@ abbrev mutual
   value w s env (parenthesized e) = value w s env e
   value w s env (unary o e) = bind (bind (value w s env e) (operand o)) (λ x. computed (unary_value s o x))
   value w s env (binary o a b) = bind (bind (value w s env a) used) (λ x. between s o x (bind (value w s env b) used))
-  value w s env (call f es) = bind (values w s env es) (λ xs. bind (at_once (plain_name f)) (λ g. call_value w s g (find g env) (w.denotes g) xs))
-  value w s env (named t) = bind (at_once (plain_name t)) (λ x. name_value w s x (find x env) (w.denotes x))
+  value w s env (call f es) = bind (values w s env es) (λ xs. bind (at_once (plain_name w env f)) (λ g. call_value w s g (find g env) (w.denotes g) xs))
+  value w s env (named t) = bind (at_once (plain_name w env t)) (λ x. name_value w s x (find x env) (w.denotes x))
 
   pub values : World → ShaderStage → Env → Exps → M (List Instance)
   values w s env nil = pure []
@@ -93,8 +106,8 @@ abbrev mutual
   typed w env (parenthesized e) = typed w env e
   typed w env (unary o e) = bind (typed w env e) (λ t. computed (unary_type o (operand_type o t)))
   typed w env (binary o a b) = bind (typed w env a) (λ t. bind (typed w env b) (λ u. computed (binary_type o (loaded_type t) (loaded_type u))))
-  typed w env (call f es) = bind (all_typed w env es) (λ ts. bind (at_once (plain_name f)) (λ g. call_type w g (find g env) (w.denotes g) ts))
-  typed w env (named t) = bind (at_once (plain_name t)) (λ x. name_type w x (find x env) (w.denotes x))
+  typed w env (call f es) = bind (all_typed w env es) (λ ts. bind (at_once (plain_name w env f)) (λ g. call_type w g (find g env) (w.denotes g) ts))
+  typed w env (named t) = bind (at_once (plain_name w env t)) (λ x. name_type w x (find x env) (w.denotes x))
 
   pub all_typed : World → Env → Exps → M (List ShaderType)
   all_typed w env nil = pure []

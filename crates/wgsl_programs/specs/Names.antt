@@ -3,12 +3,11 @@ use Rattle.std.specs.Prelude.{ℕ, List, [], ◌∷◌, Option, Some, None, Ok, 
 use Rattle.std.specs.Str.{bytes_eq}
 use Rattle.wgsl_path.specs.declared.path.ModulePath.{ModulePath}
 use Rattle.wgsl_path.specs.Paths.{path_text}
-use Rattle.wgsl_syntax.specs.Tree.{Typ, simple, templated}
 use Rattle.wgsl_shader_type.specs.declared.tree.ShaderType.{ShaderType}
 use Rattle.wgsl_shader_type.specs.declared.tree.ShaderType.TheVariants as type
 use Rattle.wgsl_instance.specs.declared.tree.Instance.{Instance}
 use Rattle.wgsl_instance.specs.Typed.{type_of}
-use Rattle.wgsl_programs.specs.Faults.{OfName, Todo, UnexpectedTemplate, UnknownDecl}
+use Rattle.wgsl_programs.specs.Faults.{OfName, Todo}
 use Rattle.wgsl_programs.specs.Computing.{Checked}
 
 abbrev pub Name : Type 0
@@ -43,12 +42,6 @@ find x [] = None
 find x (b ∷ bs) = if bytes_eq x b.0 then Some b.1 else find x bs
 
 -- ---- written names
-
--- a plain name, without path and template arguments
-abbrev pub plain_name : Typ → Checked Name
-plain_name (simple None x) = Ok x
-plain_name (simple (Some path) x) = Err (OfName UnknownDecl x)
-plain_name (templated path x arguments) = Err (OfName UnexpectedTemplate x)
 
 -- the built-in types that are evaluated (WGSL, "Predeclared Types")
 abbrev pub built_in_type : Name → Checked ShaderType
