@@ -20,3 +20,4 @@ pub mod Determined
 pub mod Asked
 pub mod Clashes
 pub mod Example
+pub mod Renaming
