@@ -73,9 +73,9 @@ named_in p known m calls results = record {
   result_type = results;
 }
 
--- the type of what a function hands back is written where it is declared
+-- the type of what a function hands back is written where it is declared; no call is in it
 abbrev pub function_world : Program → Known → Symbol → World
-function_world p known f = named_in p known f.home (λ s g xs. deep) (λ g. deep)
+function_world p known f = named_in p known f.home (λ s g xs. fail (OfName Todo (p.printed g))) (λ g. fail (OfName Todo (p.printed g)))
 
 abbrev pub result_of_function : Program → Known → Symbol → M (Option ShaderType)
 result_of_function p known f = result_in (function_world p known f) (p.printed f) (p.item f)
