@@ -20,4 +20,6 @@ pub mod Determined
 pub mod Asked
 pub mod Clashes
 pub mod Example
+pub mod Orders
 pub mod Renaming
+pub mod Occurring

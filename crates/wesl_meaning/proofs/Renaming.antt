@@ -35,10 +35,10 @@ module _ (new : Name → Name) (Q : Name → Type 0) where
   abbrev pub Fit : List Name → List Name → Type 0
   Fit hiding xs = (x : Name) → Contains xs x → Q x × (is_among x hiding ≡ false → is_among (new x) hiding ≡ false)
 
-  left : (hiding xs ys : List Name) → Fit hiding (xs ++ ys) → Fit hiding xs
+  pub left : (hiding xs ys : List Name) → Fit hiding (xs ++ ys) → Fit hiding xs
   left hiding xs ys f x c = f x (Contains-append_left xs ys x c)
 
-  right : (hiding xs ys : List Name) → Fit hiding (xs ++ ys) → Fit hiding ys
+  pub right : (hiding xs ys : List Name) → Fit hiding (xs ++ ys) → Fit hiding ys
   right hiding xs ys f x c = f x (Contains-append_right xs ys x c)
 
   pub record DeclFits (d : Decl) : Type 0 where
