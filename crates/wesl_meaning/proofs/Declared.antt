@@ -1,5 +1,5 @@
 -- The linked unit declares what is held.
-use Rattle.std.proofs.Common.{◌≡◌, ◌⊎◌, inl, inr, List, [], ◌∷◌, ◌++◌, map, Option, Some, None, Bool, true, false, refl, sym, ap, ◌∙◌, subst, Contains, append_assoc, append-nil}
+use Rattle.std.proofs.Common.{◌≡◌, ◌⊎◌, inl, inr, List, [], ◌∷◌, ◌++◌, map, Some, refl, sym, ap, ◌∙◌, subst, Contains, append_assoc, append-nil}
 use Rattle.std.proofs.lemmas.List.Elements.{Contains-append_right, Contains-append_cases}
 use Rattle.wgsl_items.proofs.Bools.{none_if, false_if}
 use Rattle.wgsl_syntax.specs.Tree.{Decl, UnitTree}

@@ -1,8 +1,7 @@
 -- Members of lists, and what is found by name.
-use Rattle.std.proofs.Common.{◌≡◌, ℕ, zero, suc, ◌<◌, ◌⊎◌, inl, inr, List, [], ◌∷◌, map, length, Some, None, Bool, true, false, refl, ap, subst, arith, Contains, slice_index_or}
+use Rattle.std.proofs.Common.{◌≡◌, suc, List, [], ◌∷◌, map, length, Some, None, Bool, true, false, refl, ap}
 use Rattle.std.specs.Prelude.{◌||◌, if◌then◌else◌}
 use Rattle.std.specs.Str.{bytes_eq}
-use Rattle.std.proofs.lemmas.Slice.Eq.{bytes_eq-Decides}
 use Rattle.wgsl_meaning.specs.Names.{Name, find}
 use Rattle.wesl_link_spec.specs.Occurrences.{is_among}
 

@@ -1,12 +1,12 @@
 -- The names that occur in a renamed declaration are the new names of those that occur in it.
-use Rattle.std.proofs.Common.{◌≡◌, ◌⊎◌, inl, inr, List, [], ◌∷◌, ◌++◌, map, Option, Some, None, Bool, true, false, refl, sym, ap, ◌∙◌, subst, Contains, flat_map, option_map}
+use Rattle.std.proofs.Common.{◌≡◌, ◌⊎◌, inl, inr, List, [], ◌∷◌, ◌++◌, map, Option, Some, None, Bool, true, false, refl, sym, ap, ◌∙◌, Contains, flat_map, option_map}
 use Rattle.std.specs.Prelude.{if◌then◌else◌}
 use Rattle.std.proofs.lemmas.List.Elements.{Contains-append_cases}
 use Rattle.wgsl_items.proofs.Members.{first_in}
-use Rattle.wgsl_syntax.specs.Tree.{Exp, Exps, literal, parenthesized, unary, binary, call, named, nil, cons, Typ, simple, templated, Attr, fragment, location, Stm, returning, Block, Param, Decl, variable, function}
+use Rattle.wgsl_syntax.specs.Tree.{Exp, Exps, literal, parenthesized, unary, binary, call, named, nil, cons, Typ, simple, templated, Attr, fragment, location, Stm, returning, Param, Decl, variable, function}
 use Rattle.wgsl_programs.specs.Names.{Name}
-use Rattle.wesl_link_spec.specs.Occurrences.{is_among, unless_local, in_expression, in_expressions, in_type, in_some, in_attribute, in_attributes, in_statement, in_block, in_parameter, parameter_names, names_before, names_behind, locals, names_in_body, occurrences}
-use Rattle.wesl_link_spec.specs.Linked.{new_name, renamed, all_renamed, renamed_type, renamed_attribute, renamed_attributes, renamed_statement, renamed_block, renamed_parameter, renamed_declaration}
+use Rattle.wesl_link_spec.specs.Occurrences.{is_among, unless_local, in_expression, in_expressions, in_type, in_some, in_attributes, in_statement, in_block, in_parameter, parameter_names, names_before, names_behind, names_in_body, occurrences}
+use Rattle.wesl_link_spec.specs.Linked.{new_name, renamed, all_renamed, renamed_type, renamed_attributes, renamed_statement, renamed_block, renamed_parameter, renamed_declaration}
 use Rattle.wesl_meaning.proofs.Renaming.{Fit, DeclFits, left, right}
 
 map_append : {A B : Type 0} (f : A → B) (xs ys : List A) → map f (xs ++ ys) ≡ map f xs ++ map f ys
@@ -96,8 +96,8 @@ module _ (new : Name → Name) (Q : Name → Type 0) where
   in_body (function a g ps r t b) f =
       ap (λ l. in_block l (renamed_block new (parameter_names ps) b)) (same_names ps)
       ∙ joined (in_attributes (parameter_names ps) b.attributes) (flat_map (in_statement (parameter_names ps)) b.statements) _ _
-        (of_attributes (parameter_names ps) b.attributes (left new Q (parameter_names ps) (in_attributes (parameter_names ps) b.attributes) (flat_map (in_statement (parameter_names ps)) b.statements) f.in_body))
-        (of_statements (parameter_names ps) b.statements (right new Q (parameter_names ps) (in_attributes (parameter_names ps) b.attributes) (flat_map (in_statement (parameter_names ps)) b.statements) f.in_body))
+      (of_attributes (parameter_names ps) b.attributes (left new Q (parameter_names ps) (in_attributes (parameter_names ps) b.attributes) (flat_map (in_statement (parameter_names ps)) b.statements) f.in_body))
+      (of_statements (parameter_names ps) b.statements (right new Q (parameter_names ps) (in_attributes (parameter_names ps) b.attributes) (flat_map (in_statement (parameter_names ps)) b.statements) f.in_body))
 
   pub of_declaration : (d : Decl) → DeclFits new Q d → occurrences (renamed_declaration new d) ≡ map new (occurrences d)
   of_declaration d f =
@@ -111,6 +111,7 @@ module _ (new : Name → Name) (Q : Name → Type 0) where
       by_head : Contains (names_before d) x ⊎ Contains (names_behind d) x → Q x
       by_head (inl a) = (f.before x a).0
       by_head (inr a) = (f.behind x a).0
+
       by_part : Contains (names_before d ++ names_behind d) x ⊎ Contains (names_in_body d) x → Q x
       by_part (inl a) = by_head (Contains-append_cases (names_before d) (names_behind d) x a)
       by_part (inr a) = (f.in_body x a).0

@@ -1,5 +1,5 @@
 -- Orders of the start of two lists whose elements correspond, one by one.
-use Rattle.std.proofs.Common.{◌≡◌, ◌⊎◌, inl, inr, ℕ, zero, suc, ◌<◌, ◌↔◌, List, [], ◌∷◌, ◌++◌, length, refl, sym, ap, ◌∙◌, subst, arith, Contains}
+use Rattle.std.proofs.Common.{◌≡◌, ◌⊎◌, inl, inr, ◌↔◌, List, [], ◌∷◌, ◌++◌, refl, subst, Contains}
 use Rattle.wgsl_items.proofs.Members.{first_in, later_in, in_cases, in_none}
 use Rattle.wesl_order.specs.Order.{Progress, beginning, ending, Selects, nothing_left, takes, leaves, Starts, none_left, passes, starts, nothing_yet, IsStartOrder}
 

@@ -1,10 +1,8 @@
 -- A program, and a plain unit in which each held symbol stands renamed: their runs are related.
-use Rattle.std.proofs.Common.{◌≡◌, ℕ, zero, suc, List, [], ◌∷◌, ◌++◌, map, Option, Some, None, Bool, true, false, Ok, Err, refl, sym, ap, ◌∙◌, subst, Contains, flat_map, option_map}
+use Rattle.std.proofs.Common.{◌≡◌, ℕ, zero, suc, List, [], ◌∷◌, ◌++◌, map, Option, Some, None, Bool, true, false, refl, sym, ap, ◌∙◌, subst, Contains, flat_map, option_map}
 use Rattle.std.specs.Prelude.{if◌then◌else◌}
-use Rattle.std.specs.Str.{bytes_eq}
 use Rattle.std.proofs.lemmas.List.Elements.{Contains-append_left, Contains-append_right}
-use Rattle.wgsl_path.specs.declared.path.ModulePath.{ModulePath}
-use Rattle.wgsl_syntax.specs.Tree.{Exp, Exps, literal, parenthesized, unary, binary, call, named, nil, cons, Typ, simple, templated, Attr, fragment, location, Stm, returning, Block, Param, Decl, variable, function}
+use Rattle.wgsl_syntax.specs.Tree.{Exp, Exps, literal, parenthesized, unary, binary, call, named, nil, cons, Typ, simple, templated, Attr, fragment, location, Stm, returning, Param, Decl, variable, function}
 use Rattle.wgsl_enumerations.specs.declared.words.ShaderStage.{ShaderStage}
 use Rattle.wgsl_enumerations.specs.declared.words.ShaderStage.TheVariants.{Const, Override, Exec}
 use Rattle.wgsl_shader_type.specs.declared.tree.ShaderType.{ShaderType}
@@ -15,7 +13,7 @@ use Rattle.wgsl_computations.specs.Lift.{Lift, Same, Kept, KeptThroughout}
 use Rattle.wgsl_computations.proofs.Laws.{bind_pure}
 use Rattle.wgsl_programs.specs.Faults.{Fault, OfName, UnexpectedTemplate, NotType, Todo}
 use Rattle.wgsl_programs.specs.Computing.{M, at_once}
-use Rattle.wgsl_programs.specs.Names.{Name, Symbol, Local, Env, find, is_same, built_in_type}
+use Rattle.wgsl_programs.specs.Names.{Path, Name, Symbol, Local, Env, find, is_same, built_in_type}
 use Rattle.wgsl_programs.specs.Meaning.{World, shown, plain_name, name_value, name_type, needed, call_value, call_type, denoted_type, type_written}
 use Rattle.wgsl_programs.specs.Calls.{const_in, call_in, result_in}
 use Rattle.wgsl_programs.specs.Programs.{Program, Known, named_in, find_known, known_value, known_type, Calls, at_exec, function_world, result_of_function, module_world, calls_inside, world, root, here}
@@ -24,8 +22,8 @@ use Rattle.wgsl_programs.specs.Follows.{Differences, Follows, FollowAll, keeps_l
 use Rattle.wgsl_programs.proofs.Simulates as expressions
 use Rattle.wgsl_programs.proofs.Bodies.{One, names_of, name_here, callee_here, name_type_here, callee_type_here, Meet, TypesMeet, call_meets, const_meets, entered_meets, result_type_meets}
 use Rattle.wgsl_programs.proofs.Itself.{local_same, needed_same, constructed_same, constructed_type_same}
-use Rattle.wesl_link_spec.specs.Occurrences.{is_among, unless_local, in_expression, in_expressions, in_type, in_some, in_attributes, in_statement, in_block, in_parameter, parameter_names, names_before, names_behind, locals, names_in_body}
-use Rattle.wesl_link_spec.specs.Linked.{new_name, renamed, all_renamed, renamed_type, renamed_attributes, renamed_statement, renamed_block, renamed_parameter, renamed_declaration}
+use Rattle.wesl_link_spec.specs.Occurrences.{is_among, unless_local, in_expression, in_expressions, in_type, in_some, in_attributes, in_statement, in_parameter, parameter_names, names_before, names_behind, locals, names_in_body}
+use Rattle.wesl_link_spec.specs.Linked.{new_name, renamed, all_renamed, renamed_type, renamed_attributes, renamed_statement, renamed_parameter, renamed_declaration}
 use Rattle.wesl_meaning.proofs.Members.{find_none, find_some}
 
 -- ---- trees and their renamed ones
@@ -125,7 +123,7 @@ find_behind s (b ∷ bs) t v = at (is_same s b.0) (find_behind s bs t v)
 -- IsHeld: a symbol is held, and has this name in the unit
 module _ (p : Program) (ds : List Decl) (IsHeld : Symbol → Name → Type 0) where
   -- a name denotes a held symbol, and its new name is that symbol's; or it denotes nothing, in the module and in the unit, and stays
-  pub data Means (m : ModulePath) (new : Name → Name) (x : Name) : Type 0 where
+  pub data Means (m : Path) (new : Name → Name) (x : Name) : Type 0 where
     of_symbol : (s : Symbol) → p.denotes m x ≡ Some s → IsHeld s (new x) → Means m new x
     of_none : p.denotes m x ≡ None → find_decl x ds ≡ None → new x ≡ x → Means m new x
 
@@ -143,17 +141,18 @@ module _ (p : Program) (ds : List Decl) (IsHeld : Symbol → Name → Type 0) wh
     pub same : (s : Symbol) (y : Name) → IsHeld s y → find_known s known ≡ find_known (here y) others
 
   -- how a name is read in a module, with locals, and its new name in the unit
-  data Reads (m : ModulePath) (env : Env) (x y : Name) : Type 0 where
+  data Reads (m : Path) (env : Env) (x y : Name) : Type 0 where
     as_local : (l : Local) → find x env ≡ Some l → find y env ≡ Some l → x ≡ y → Reads m env x y
     as_symbol : (s : Symbol) → find x env ≡ None → find y env ≡ None → p.denotes m x ≡ Some s → IsHeld s y → Reads m env x y
     as_free : find x env ≡ None → find y env ≡ None → p.denotes m x ≡ None → find_decl y ds ≡ None → x ≡ y → Reads m env x y
 
-  reads : (m : ModulePath) (new : Name → Name) (env : Env) (x : Name) → Fit new (Means m new) (names_of env) (unless_local (names_of env) x) → Reads m env x (new_name new (names_of env) x)
+  reads : (m : Path) (new : Name → Name) (env : Env) (x : Name) → Fit new (Means m new) (names_of env) (unless_local (names_of env) x) → Reads m env x (new_name new (names_of env) x)
   reads m new env x fit = at (is_among x (names_of env)) refl fit
     where
       beyond : find x env ≡ None → find (new x) env ≡ None → Means m new x → Reads m env x (new x)
       beyond a b (of_symbol s den held) = as_symbol s a b den held
       beyond a b (of_none den none same) = as_free a b den (ap (λ z. find_decl z ds) same ∙ none) (sym same)
+
       at : (b : Bool) → is_among x (names_of env) ≡ b → Fit new (Means m new) (names_of env) (if b then [] else x ∷ []) → Reads m env x (if b then x else new x)
       at true e f = let l = find_some x env e in as_local l.0 l.1 l.1 refl
       at false e f = let q = f x (first_in x []) in beyond (find_none x env e) (find_none (new x) env (q.1 e)) q.0
@@ -163,7 +162,7 @@ module _ (p : Program) (ds : List Decl) (IsHeld : Symbol → Name → Type 0) wh
     found_here s y h = ap (here_if y) (stands s y h).found
 
     -- what is said of a name by its local, its symbol, or neither
-    module _ (X : Type 0) (P : X → X → Type 0) (m : ModulePath) (env : Env) (F G : Name → Option Local → Option Symbol → X)
+    module _ (X : Type 0) (P : X → X → Type 0) (m : Path) (env : Env) (F G : Name → Option Local → Option Symbol → X)
         (on_local : (x : Name) (l : Local) (d e : Option Symbol) → P (F x (Some l) d) (G x (Some l) e))
         (on_symbol : (x y : Name) (s : Symbol) → IsHeld s y → P (F x None (Some s)) (G y None (Some (here y))))
         (on_free : (x : Name) → P (F x None None) (G x None None)) where
@@ -218,7 +217,7 @@ module _ (p : Program) (ds : List Decl) (IsHeld : Symbol → Name → Type 0) wh
           at x None (function a f ps r t b) new = fail_same ShaderType _
 
       -- the world of a module, and that of the unit
-      module _ (m : ModulePath) (new : Name → Name) (calls calls' : Calls) (results results' : Symbol → M (Option ShaderType))
+      module _ (m : Path) (new : Name → Name) (calls calls' : Calls) (results results' : Symbol → M (Option ShaderType))
           (called : (st : ShaderStage) (s : Symbol) (y : Name) (xs : List Instance) → IsHeld s y → R (Option Instance) (Option Instance) Same (at_exec st (p.printed s) (calls st s xs)) (at_exec st y (calls' st (here y) xs)))
           (typed : (s : Symbol) (y : Name) → IsHeld s y → R (Option ShaderType) (Option ShaderType) Same (results s) (results' (here y))) where
         abbrev Source : World
@@ -328,10 +327,10 @@ module _ (p : Program) (ds : List Decl) (IsHeld : Symbol → Name → Type 0) wh
       called_alike calls calls' h Override s y xs held = todo_alike (Option Instance) s y held
 
       module _ (calls calls' : Calls) (h : CallsAlike calls calls') where
-        opened : (m : ModulePath) (new : Name → Name) (st : ShaderStage) → Meet R kept (renaming new (Means m new)) st st (module_world p known m calls) (module_world (plain ds) others root calls')
+        opened : (m : Path) (new : Name → Name) (st : ShaderStage) → Meet R kept (renaming new (Means m new)) st st (module_world p known m calls) (module_world (plain ds) others root calls')
         opened m new = worlds_meet m new calls calls' (result_of_function p known) (result_of_function (plain ds) others) (called_alike calls calls' h) results_alike
 
-        opened_types : (m : ModulePath) (new : Name → Name) → TypesMeet R kept (renaming new (Means m new)) (module_world p known m calls) (module_world (plain ds) others root calls')
+        opened_types : (m : Path) (new : Name → Name) → TypesMeet R kept (renaming new (Means m new)) (module_world p known m calls) (module_world (plain ds) others root calls')
         opened_types m new = types_of_worlds_meet m new calls calls' (result_of_function p known) (result_of_function (plain ds) others) (called_alike calls calls' h) results_alike
 
         -- a held symbol's declaration in the one, and the renamed one in the other

@@ -4,7 +4,7 @@ use Rattle.wgsl_shader_type.specs.declared.error.Error.{Error}
 use Rattle.wgsl_instance.specs.declared.tree.Instance.{Instance}
 use Rattle.wgsl_memory.specs.Places as memory
 use Rattle.wgsl_computations.specs.Machine.{State, Outcome, Done, Failed, Deep, Computation, of_result, next_of, one_step, with_left, with_cells, stored, back_to}
-use Rattle.wgsl_computations.specs.Lift.{Same, Kept, KeptThroughout}
+use Rattle.wgsl_computations.specs.Lift.{Same, KeptThroughout}
 use Rattle.wgsl_computations.specs.Compare.{Begin, LikewiseAt, IsLikewise, Better, Carries, ExtendsAt, IsExtended, Extends}
 
 -- ---- what ends well ends well likewise, for each way to compare steps with these laws

@@ -1,7 +1,7 @@
 -- Declarations that follow one another mean the same, in worlds whose names meet: consts, functions, calls and entry points.
-use Rattle.std.proofs.Common.{◌≡◌, ℕ, suc, List, [], ◌∷◌, map, length, Option, Some, None, Bool, true, false, Ok, Err, refl, sym, ap, ◌∙◌, subst, arith}
+use Rattle.std.proofs.Common.{◌≡◌, ℕ, suc, List, [], ◌∷◌, map, length, Option, Some, None, Bool, true, false, refl, sym, ap, subst, arith}
 use Rattle.std.specs.Prelude.{if◌then◌else◌, ◌==◌}
-use Rattle.wgsl_syntax.specs.Tree.{Exp, Exps, literal, parenthesized, unary, binary, call, named, nil, cons, Typ, Attr, fragment, location, Stm, returning, Param, Decl, variable, function}
+use Rattle.wgsl_syntax.specs.Tree.{Exp, Exps, Typ, Attr, Stm, Param, Decl}
 use Rattle.wgsl_enumerations.specs.declared.words.ShaderStage.{ShaderStage}
 use Rattle.wgsl_enumerations.specs.declared.words.ShaderStage.TheVariants.{Const, Exec}
 use Rattle.wgsl_shader_type.specs.declared.tree.ShaderType.{ShaderType}
@@ -13,14 +13,14 @@ use Rattle.wgsl_instance.specs.Converted.{converted}
 use Rattle.wgsl_computations.specs.Machine.{pure, fail, bind, scoped}
 use Rattle.wgsl_computations.specs.Loops.{Flow, Next, Returned}
 use Rattle.wgsl_computations.specs.Lift.{Lift, Same, Kept}
-use Rattle.wgsl_programs.specs.Faults.{Fault, StepLimit, Operation, OfName, UnknownDecl, UninitConst, NotCallable, ParamCount, ReturnType, NotEntrypoint, InvalidEntrypointParam}
+use Rattle.wgsl_programs.specs.Faults.{Fault, StepLimit, Operation, OfName, ParamCount, ReturnType, NotEntrypoint}
 use Rattle.wgsl_programs.specs.Computing.{M, computed, at_once, used, step}
-use Rattle.wgsl_programs.specs.Names.{Name, Symbol, Has, Env, find}
+use Rattle.wgsl_programs.specs.Names.{Name, Has, Env, find}
 use Rattle.wgsl_programs.specs.Operations.{literal_value, unary_type, operand_type, binary_type, argument}
-use Rattle.wgsl_programs.specs.Meaning.{World, plain_name, name_value, name_type, call_value, call_type, type_written, value, values, typed, all_typed}
+use Rattle.wgsl_programs.specs.Meaning.{World, plain_name, name_value, name_type, call_value, call_type, type_written, value, typed, all_typed}
 use Rattle.wgsl_programs.specs.Calls.{initial, initialized, const_in, bound, executed, handed_back, returned_by, written_result, body_of, call_in, result_in}
 use Rattle.wgsl_programs.specs.Runs.{Handed, attribute_number, location_of, input_at, inputs_bound, has_stage, entered}
-use Rattle.wgsl_programs.specs.Follows.{Differences, Follows, FollowAll, keeps_literal, keeps_parentheses, keeps_unary, keeps_binary, keeps_call, keeps_name, replaces, no_more, one_more, FollowsAt, as_it_is, at_the_type, FollowStatements, no_statements, returns_nothing, returns, FollowAttributes, no_attributes, keeps_fragment, keeps_location, FollowType, no_type, keeps_type, FollowsParameter, FollowParameters, no_parameters, one_parameter, FollowInitializer, no_initializer, keeps_initializer, FollowsDeclaration, keeps_const, keeps_function}
+use Rattle.wgsl_programs.specs.Follows.{Differences, Follows, FollowAll, keeps_literal, keeps_parentheses, keeps_unary, keeps_binary, keeps_call, keeps_name, replaces, no_more, one_more, as_it_is, at_the_type, FollowStatements, no_statements, returns_nothing, returns, FollowAttributes, no_attributes, keeps_fragment, keeps_location, FollowType, no_type, keeps_type, FollowParameters, no_parameters, one_parameter, FollowInitializer, no_initializer, keeps_initializer, FollowsDeclaration, keeps_const, keeps_function}
 use Rattle.wgsl_shader_type.specs.Alike.{same}
 use Rattle.wgsl_shader_type.specs.declared.error.Error.TheVariants.{ParamType}
 use Rattle.wgsl_computations.proofs.Laws.{bind_pure}
@@ -158,6 +158,7 @@ module _ (R : Lift Fault) (kept : Kept Fault Same R) where
       where
         equal : (n == m) ≡ true → n ≡ m
         equal is = grind arith
+
         at : (c : Bool) → (c ≡ true → R (Option Instance) (Option Instance) Same a b)
             → R (Option Instance) (Option Instance) Same (if c then a else fail (OfName (ParamCount m n) f)) (if c then b else fail (OfName (ParamCount m n) f))
         at true g = g refl

@@ -1,21 +1,19 @@
 -- A program over itself: worlds of one module whose calls are related, at one stage or at two.
-use Rattle.std.proofs.Common.{◌≡◌, ℕ, zero, suc, ◌+◌, List, [], ◌∷◌, map, Option, Some, None, Ok, Err, refl, ap, subst}
-use Rattle.wgsl_path.specs.declared.path.ModulePath.{ModulePath}
+use Rattle.std.proofs.Common.{◌≡◌, List, [], ◌∷◌, map, Option, Some, None, Ok, Err, refl, ap, subst}
 use Rattle.wgsl_syntax.specs.Tree.{Exp, Exps, literal, parenthesized, unary, binary, call, named, nil, cons, Typ, simple, templated, Attr, fragment, location, Stm, returning, Param, Decl, variable, function}
 use Rattle.wgsl_enumerations.specs.declared.words.ShaderStage.{ShaderStage}
-use Rattle.wgsl_enumerations.specs.declared.words.ShaderStage.TheVariants.{Const, Exec}
 use Rattle.wgsl_shader_type.specs.declared.tree.ShaderType.{ShaderType}
 use Rattle.wgsl_instance.specs.declared.tree.Instance.{Instance}
 use Rattle.wgsl_computations.specs.Machine.{pure, bind}
 use Rattle.wgsl_computations.specs.Lift.{Lift, Same, Kept}
 use Rattle.wgsl_programs.specs.Faults.{Fault, OfName, UnexpectedTemplate}
-use Rattle.wgsl_programs.specs.Computing.{M, Checked, at_once}
-use Rattle.wgsl_programs.specs.Names.{Name, Symbol, Local, Has, Hidden, Env, local_type, find, built_in_type}
+use Rattle.wgsl_programs.specs.Computing.{Checked, at_once}
+use Rattle.wgsl_programs.specs.Names.{Path, Name, Symbol, Local, Has, Hidden, Env, find, built_in_type}
 use Rattle.wgsl_programs.specs.Operations.{construct, construct_type}
-use Rattle.wgsl_programs.specs.Meaning.{World, shown, plain_name, local_value, name_value, name_type, needed, call_value, call_type, denoted_type, type_written, value}
+use Rattle.wgsl_programs.specs.Meaning.{World, shown, plain_name, local_value, name_value, name_type, needed, call_value, call_type, denoted_type, type_written}
 use Rattle.wgsl_programs.specs.Calls.{written_result, result_in}
 use Rattle.wgsl_programs.specs.Programs.{function_world, Program, Known, find_known, known_value, known_type, Calls, at_exec, result_of_function, module_world}
-use Rattle.wgsl_programs.specs.Follows.{Differences, Follows, FollowAll, keeps_literal, keeps_parentheses, keeps_unary, keeps_binary, keeps_call, keeps_name, replaces, no_more, one_more, FollowsAt, as_it_is, at_the_type, FollowStatements, no_statements, returns_nothing, returns, FollowAttributes, no_attributes, keeps_fragment, keeps_location, FollowType, no_type, keeps_type, FollowsParameter, FollowParameters, no_parameters, one_parameter, FollowInitializer, no_initializer, keeps_initializer, FollowsDeclaration, keeps_const, keeps_function}
+use Rattle.wgsl_programs.specs.Follows.{Differences, Follows, FollowAll, keeps_literal, keeps_parentheses, keeps_unary, keeps_binary, keeps_call, keeps_name, no_more, one_more, as_it_is, FollowStatements, no_statements, returns_nothing, returns, FollowAttributes, no_attributes, keeps_fragment, keeps_location, FollowType, no_type, keeps_type, FollowParameters, no_parameters, one_parameter, FollowInitializer, no_initializer, keeps_initializer, FollowsDeclaration, keeps_const, keeps_function}
 use Rattle.wgsl_programs.proofs.Simulates as expressions
 use Rattle.wgsl_programs.proofs.Bodies.{One, name_here, callee_here, name_type_here, callee_type_here, Meet, TypesMeet}
 
@@ -103,7 +101,7 @@ module _ (R : Lift Fault) (kept : Kept Fault Same R) where
   pub constructed_type_same : (f : Name) (ts : List ShaderType) → R ShaderType ShaderType Same (bind (at_once (built_in_type f)) (λ t. construct_type f t ts)) (bind (at_once (built_in_type f)) (λ t. construct_type f t ts))
   constructed_type_same f ts = expressions.on R kept ShaderType ShaderType ShaderType Same (at_once (built_in_type f)) (at_once (built_in_type f)) _ _ (expressions.at_once_same R kept ShaderType (built_in_type f)) (λ t. construct_type_same f t ts)
 
-  module _ (p : Program) (known : Known) (m : ModulePath) (calls others : Calls) (s t : ShaderStage) (stages : expressions.StagesMeet R kept s t)
+  module _ (p : Program) (known : Known) (m : Path) (calls others : Calls) (s t : ShaderStage) (stages : expressions.StagesMeet R kept s t)
       (called : (f : Symbol) (xs : List Instance) → R (Option Instance) (Option Instance) Same (at_exec s (p.printed f) (calls s f xs)) (at_exec t (p.printed f) (others t f xs))) where
     same_name : (env : Env) (x : Typ) → plain_name (module_world p known m calls) env x ≡ plain_name (module_world p known m others) env x
     same_name env (simple None x) = refl
@@ -136,6 +134,7 @@ module _ (R : Lift Fault) (kept : Kept Fault Same R) where
             built : (r : Checked ShaderType) → R ShaderType ShaderType (One (λ t. Unit {0})) (at_once r) (at_once r)
             built (Ok a) = kept.pure_of ShaderType ShaderType _ a a (refl, tt)
             built (Err f) = kept.fail_of ShaderType ShaderType _ f f refl
+
         at : (r : Checked Name) → R ShaderType ShaderType (One (λ t. Unit {0})) (bind (at_once r) (λ y. denoted_type (module_world p known m calls) y (p.denotes m y))) (bind (at_once r) (λ y. denoted_type (module_world p known m others) y (p.denotes m y)))
         at (Ok y) = denoted y (p.denotes m y)
         at (Err f) = kept.fail_of ShaderType ShaderType _ f f refl
@@ -154,6 +153,7 @@ module _ (R : Lift Fault) (kept : Kept Fault Same R) where
         name : (r : Checked Name) (env : Env) → R Instance Instance Same (bind (at_once r) (λ a. name_value (module_world p known m calls) s a (find a env) (p.denotes m a))) (bind (at_once r) (λ a. name_value (module_world p known m others) t a (find a env) (p.denotes m a)))
         name (Ok a) env = names_meet a (find a env) (p.denotes m a)
         name (Err f) env = expressions.fail_same R kept Instance f
+
         callee : (r : Checked Name) (env : Env) (xs : List Instance) → R Instance Instance Same (bind (at_once r) (λ a. call_value (module_world p known m calls) s a (find a env) (p.denotes m a) xs)) (bind (at_once r) (λ a. call_value (module_world p known m others) t a (find a env) (p.denotes m a) xs))
         callee (Ok a) env xs = callees_meet a (find a env) (p.denotes m a) xs
         callee (Err f) env xs = expressions.fail_same R kept Instance f
@@ -164,15 +164,18 @@ module _ (R : Lift Fault) (kept : Kept Fault Same R) where
         written : (w : World) (t : Option Typ) → ((x : Typ) → R ShaderType ShaderType Same (type_written w x) (type_written w x)) → R (Option ShaderType) (Option ShaderType) Same (written_result w t) (written_result w t)
         written w None h = pure_same (Option ShaderType) None
         written w (Some x) h = expressions.on R kept ShaderType (Option ShaderType) (Option ShaderType) Same (type_written w x) (type_written w x) _ _ (h x) (λ t. pure_same (Option ShaderType) (Some t))
+
         plain : (x : Typ) → R ShaderType ShaderType Same (type_written (function_world p known f) x) (type_written (function_world p known f) x)
         plain x = by_name (plain_name (function_world p known f) [] x)
           where
             denoted : (y : Name) (d : Option Symbol) → R ShaderType ShaderType Same (denoted_type (function_world p known f) y d) (denoted_type (function_world p known f) y d)
             denoted y (Some a) = expressions.fail_same R kept ShaderType _
             denoted y None = expressions.at_once_same R kept ShaderType (built_in_type y)
+
             by_name : (r : Checked Name) → R ShaderType ShaderType Same (bind (at_once r) (λ y. denoted_type (function_world p known f) y (p.denotes f.home y))) (bind (at_once r) (λ y. denoted_type (function_world p known f) y (p.denotes f.home y)))
             by_name (Ok y) = denoted y (p.denotes f.home y)
             by_name (Err e) = expressions.fail_same R kept ShaderType e
+
         at : (d : Option Decl) → R (Option ShaderType) (Option ShaderType) Same (result_in (function_world p known f) (p.printed f) d) (result_in (function_world p known f) (p.printed f) d)
         at (Some (function a g ps r t b)) = written (function_world p known f) t plain
         at (Some (variable a kind x t e)) = expressions.fail_same R kept (Option ShaderType) _
@@ -188,12 +191,15 @@ module _ (R : Lift Fault) (kept : Kept Fault Same R) where
         named_type : (x : Name) (d : Option Symbol) → R ShaderType ShaderType Same (name_type (module_world p known m calls) x None d) (name_type (module_world p known m others) x None d)
         named_type x (Some y) = known_type_same (p.printed y) (find_known y known) (p.item y)
         named_type x None = expressions.fail_same R kept ShaderType _
+
         called_type : (f : Name) (d : Option Symbol) (ts : List ShaderType) → R ShaderType ShaderType Same (call_type (module_world p known m calls) f None d ts) (call_type (module_world p known m others) f None d ts)
         called_type f (Some g) ts = expressions.on R kept (Option ShaderType) ShaderType ShaderType Same _ _ (needed (p.printed g)) (needed (p.printed g)) (result_same g) (needed_same ShaderType (p.printed g))
         called_type f None ts = constructed_type_same f ts
+
         name : (r : Checked Name) → R ShaderType ShaderType Same (bind (at_once r) (λ a. name_type (module_world p known m calls) a None (p.denotes m a))) (bind (at_once r) (λ a. name_type (module_world p known m others) a None (p.denotes m a)))
         name (Ok a) = named_type a (p.denotes m a)
         name (Err f) = expressions.fail_same R kept ShaderType f
+
         callee : (r : Checked Name) (ts : List ShaderType) → R ShaderType ShaderType Same (bind (at_once r) (λ a. call_type (module_world p known m calls) a None (p.denotes m a) ts)) (bind (at_once r) (λ a. call_type (module_world p known m others) a None (p.denotes m a) ts))
         callee (Ok a) ts = called_type a (p.denotes m a) ts
         callee (Err f) ts = expressions.fail_same R kept ShaderType f

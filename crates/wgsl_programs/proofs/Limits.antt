@@ -1,23 +1,21 @@
 -- A bound above the steps that are left is never passed.
-use Rattle.std.proofs.Common.{◌≡◌, ℕ, zero, suc, ◌<◌, ◌≤◌, List, [], ◌∷◌, map, length, Option, Some, None, Bool, true, false, refl, ap, subst, arith}
-use Rattle.std.specs.Prelude.{if◌then◌else◌, ◌==◌, Result, Ok, Err, take}
-use Rattle.wgsl_syntax.specs.Tree.{Typ, Stm, Param, Decl, variable, function, Block}
-use Rattle.wgsl_enumerations.specs.declared.words.ShaderStage.{ShaderStage}
+use Rattle.std.proofs.Common.{◌≡◌, ℕ, zero, suc, ◌<◌, ◌≤◌, List, map, length, Option, Some, None, Bool, true, false, refl, arith}
+use Rattle.std.specs.Prelude.{if◌then◌else◌, ◌==◌, Result, Ok, Err}
+use Rattle.wgsl_syntax.specs.Tree.{Decl, variable, function}
 use Rattle.wgsl_shader_type.specs.declared.error.Error.{Error}
 use Rattle.wgsl_instance.specs.declared.tree.Instance.{Instance}
 use Rattle.wgsl_memory.specs.Places as memory
-use Rattle.wgsl_computations.specs.Machine.{State, Outcome, Done, Failed, Deep, Computation, pure, fail, bind, next_of, one_step, with_left, with_cells, scoped, back_to, of_result}
+use Rattle.wgsl_computations.specs.Machine.{State, Outcome, Done, Failed, Deep, fail, bind, next_of, one_step, with_left, back_to, of_result}
 use Rattle.wgsl_computations.specs.Lift.{Lift, Same, Kept}
-use Rattle.wgsl_computations.specs.Compare.{ExtendsAt, IsExtended, Extends, EndsLikewise}
+use Rattle.wgsl_computations.specs.Compare.{ExtendsAt, Extends}
 use Rattle.wgsl_computations.specs.Loops.{IsOverAt}
 use Rattle.wgsl_computations.proofs.Kept.{kept_extends}
 use Rattle.wgsl_programs.specs.Faults.{Fault, StepLimit, OfName, ParamCount}
 use Rattle.wgsl_programs.specs.Computing.{M, step}
 use Rattle.wgsl_programs.specs.Names.{Name, Symbol}
-use Rattle.wgsl_programs.specs.Calls.{call_in, bound, body_of}
-use Rattle.wgsl_programs.specs.Programs.{Program, Known, Calls, module_world, calls_inside}
+use Rattle.wgsl_programs.specs.Calls.{call_in}
+use Rattle.wgsl_programs.specs.Programs.{Program, Known, module_world, calls_inside}
 use Rattle.wgsl_programs.specs.Runs.{Handed, run}
-use Rattle.wgsl_programs.proofs.Simulates as expressions
 use Rattle.wgsl_programs.proofs.Bodies.{inner_meets}
 use Rattle.wgsl_programs.proofs.Itself.{itself, parameters_themselves, type_itself, statements_themselves}
 use Rattle.wgsl_programs.proofs.Longer.{ExtendsSame, CallsMeet, worlds_alike, called_alike, run_alike}
@@ -87,10 +85,12 @@ counted_over n m k f inner h = at (n == m) (λ is. h (equal is))
   where
     equal : (n == m) ≡ true → n ≡ m
     equal is = grind arith
+
     stepped : (s : State) (left : ℕ) → s.left ≡ left → s.left < suc k → IsOverBelow k (Option Instance) inner → IsOverAt s.left (next_of (one_step StepLimit s left) (λ _. inner))
     stepped s zero e l over = tt
     stepped s (suc left) e l over =
         wider (Option Instance) left s.left (inner (with_left s left)) (omega (arith, e)) (over (with_left s left) (omega (arith, e, l)))
+
     at : (c : Bool) → (c ≡ true → IsOverBelow k (Option Instance) inner) → IsOverBelow (suc k) (Option Instance) (if c then bind step (λ _. inner) else fail (OfName (ParamCount m n) f))
     at true g = λ s l. stepped s s.left refl l (g refl)
     at false g = λ s l. tt

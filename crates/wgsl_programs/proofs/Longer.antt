@@ -1,22 +1,19 @@
 -- A larger bound changes nothing of what is over, and a bound above the limit is never passed.
-use Rattle.std.proofs.Common.{◌≡◌, ℕ, zero, suc, ◌+◌, ◌<◌, ◌≤◌, List, [], ◌∷◌, ◌++◌, length, Option, Some, None, Bool, true, false, Ok, Err, refl, sym, ap, ◌∙◌, subst, arith, zero-add, suc-add}
-use Rattle.std.specs.Prelude.{if◌then◌else◌, ◌==◌}
-use Rattle.wgsl_path.specs.declared.path.ModulePath.{ModulePath}
-use Rattle.wgsl_syntax.specs.Tree.{Typ, Stm, Param, Decl, variable, function}
+use Rattle.std.proofs.Common.{◌≡◌, ℕ, zero, suc, ◌+◌, List, [], ◌∷◌, ◌++◌, Option, Some, None, refl, ◌∙◌, subst, zero-add, suc-add}
+use Rattle.wgsl_syntax.specs.Tree.{Decl}
 use Rattle.wgsl_enumerations.specs.declared.words.ShaderStage.{ShaderStage}
 use Rattle.wgsl_enumerations.specs.declared.words.ShaderStage.TheVariants.{Const, Override, Exec}
 use Rattle.wgsl_instance.specs.declared.tree.Instance.{Instance}
-use Rattle.wgsl_computations.specs.Machine.{State, Outcome, Done, Failed, Deep, Computation, pure, fail, deep, bind}
+use Rattle.wgsl_computations.specs.Machine.{State, Outcome, Done, Failed, Deep}
 use Rattle.wgsl_computations.specs.Lift.{Lift, Same, Kept}
-use Rattle.wgsl_computations.specs.Compare.{EndsLikewise, FailsLikewise, ExtendsAt, IsExtended, Extends}
-use Rattle.wgsl_computations.specs.Loops.{IsOverAt}
+use Rattle.wgsl_computations.specs.Compare.{EndsLikewise, FailsLikewise, ExtendsAt, Extends}
 use Rattle.wgsl_computations.proofs.Kept.{kept_extends}
-use Rattle.wgsl_programs.specs.Faults.{Fault, StepLimit, OfName, ParamCount}
-use Rattle.wgsl_programs.specs.Computing.{M, step}
-use Rattle.wgsl_programs.specs.Names.{Name, Symbol}
-use Rattle.wgsl_programs.specs.Calls.{const_in, call_in, bound, body_of}
+use Rattle.wgsl_programs.specs.Faults.{Fault}
+use Rattle.wgsl_programs.specs.Computing.{M}
+use Rattle.wgsl_programs.specs.Names.{Path, Name, Symbol}
+use Rattle.wgsl_programs.specs.Calls.{const_in, call_in}
 use Rattle.wgsl_programs.specs.Programs.{Program, Known, Calls, at_exec, module_world, calls_inside, world}
-use Rattle.wgsl_programs.specs.Runs.{Handed, started, entered, run, allowed}
+use Rattle.wgsl_programs.specs.Runs.{Handed, started, entered, run}
 use Rattle.wgsl_programs.proofs.Simulates as expressions
 use Rattle.wgsl_programs.proofs.Bodies.{Meet, TypesMeet, call_meets, const_meets, entered_meets}
 use Rattle.wgsl_programs.proofs.Itself.{itself, declaration_itself, worlds_meet, types_of_worlds_meet}
@@ -33,24 +30,24 @@ module _ (R : Lift Fault) (kept : Kept Fault Same R) (p : Program) (known : Know
   at_each_stage calls others h Const f xs = expressions.fail_same R kept (Option Instance) _
   at_each_stage calls others h Override f xs = expressions.fail_same R kept (Option Instance) _
 
-  pub worlds_alike : (m : ModulePath) (calls others : Calls) → CallsMeet calls others → (s : ShaderStage) → Meet R kept itself s s (module_world p known m calls) (module_world p known m others)
+  pub worlds_alike : (m : Path) (calls others : Calls) → CallsMeet calls others → (s : ShaderStage) → Meet R kept itself s s (module_world p known m calls) (module_world p known m others)
   worlds_alike m calls others h s = worlds_meet R kept p known m calls others s s (expressions.same_stage R kept s) (at_each_stage calls others h s)
 
-  pub types_alike : (m : ModulePath) (calls others : Calls) → CallsMeet calls others → TypesMeet R kept itself (module_world p known m calls) (module_world p known m others)
+  pub types_alike : (m : Path) (calls others : Calls) → CallsMeet calls others → TypesMeet R kept itself (module_world p known m calls) (module_world p known m others)
   types_alike m calls others h = types_of_worlds_meet R kept p known m calls others Const Const (expressions.same_stage R kept Const) (at_each_stage calls others h Const)
 
-  pub called_alike : (m : ModulePath) (calls others : Calls) → CallsMeet calls others → (s : ShaderStage) (f : Name) (d : Option Decl) (xs : List Instance)
+  pub called_alike : (m : Path) (calls others : Calls) → CallsMeet calls others → (s : ShaderStage) (f : Name) (d : Option Decl) (xs : List Instance)
       → R (Option Instance) (Option Instance) Same (call_in (module_world p known m calls) s f d xs) (call_in (module_world p known m others) s f d xs)
   called_alike m calls others h s f (Some d) xs = call_meets R kept itself s s (module_world p known m calls) (module_world p known m others) (worlds_alike m calls others h s) f d d (declaration_itself d) xs
   called_alike m calls others h s f None xs = expressions.fail_same R kept (Option Instance) _
 
-  pub const_alike : (m : ModulePath) (calls others : Calls) → CallsMeet calls others → (x : Name) (d : Option Decl)
+  pub const_alike : (m : Path) (calls others : Calls) → CallsMeet calls others → (x : Name) (d : Option Decl)
       → R Instance Instance Same (const_in (module_world p known m calls) x d) (const_in (module_world p known m others) x d)
   const_alike m calls others h x (Some d) =
       const_meets R kept itself (module_world p known m calls) (module_world p known m others) (worlds_alike m calls others h Const) (types_alike m calls others h) x d d (declaration_itself d)
   const_alike m calls others h x None = expressions.fail_same R kept Instance _
 
-  pub entered_alike : (m : ModulePath) (calls others : Calls) → CallsMeet calls others → (f : Name) (d : Option Decl) (handed : Handed)
+  pub entered_alike : (m : Path) (calls others : Calls) → CallsMeet calls others → (f : Name) (d : Option Decl) (handed : Handed)
       → R (Option Instance) (Option Instance) Same (entered (module_world p known m calls) f d handed) (entered (module_world p known m others) f d handed)
   entered_alike m calls others h f (Some d) handed =
       entered_meets R kept itself (module_world p known m calls) (module_world p known m others) (worlds_alike m calls others h Const) (worlds_alike m calls others h Exec) f d d (declaration_itself d) handed
@@ -90,10 +87,12 @@ extends_trans A m n o a b = record { from = λ s t cells left. at s t (m s) (a.f
     more s t x r e h =
         let g : EndsLikewise Fault A A Same (λ left. e.state.left ≡ left) e.answer e.state (o t) = subst (λ q. ExtendsAt Fault Same A A Same q (o t)) e.ends h in
         record { answer = g.answer; state = g.state; ends = g.ends; alike = e.alike ∙ g.alike; cells = e.cells ∙ g.cells; steps = e.steps ∙ g.steps }
+
     wrong : (s t : State) (f : Fault) (e : FailsLikewise Fault A Same f (n s)) → ExtendsAt Fault Same A A Same (n s) (o t) → FailsLikewise Fault A Same f (o t)
     wrong s t f e h =
         let g : FailsLikewise Fault A Same e.fault (o t) = subst (λ q. ExtendsAt Fault Same A A Same q (o t)) e.fails h in
         record { fault = g.fault; fails = g.fails; alike = e.alike ∙ g.alike }
+
     at : (s t : State) (q : Outcome Fault A) → ExtendsAt Fault Same A A Same q (n s) → ExtendsAt Fault Same A A Same (n s) (o t) → ExtendsAt Fault Same A A Same q (o t)
     at s t (Done x r) e h = more s t x r e h
     at s t (Failed f) e h = wrong s t f e h

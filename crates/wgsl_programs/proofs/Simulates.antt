@@ -1,14 +1,14 @@
 -- What follows a tree means what the tree means, up to a relation of computations that going on keeps.
-use Rattle.std.proofs.Common.{◌≡◌, ℕ, List, [], ◌∷◌, Option, Some, None, Bool, true, false, Result, Ok, Err, refl, ap, subst}
+use Rattle.std.proofs.Common.{List, [], ◌∷◌, Bool, true, false, Result, Ok, Err, refl, subst}
 use Rattle.std.specs.Prelude.{if◌then◌else◌}
 use Rattle.wgsl_operators.specs.declared.UnaryOperator.{UnaryOperator}
 use Rattle.wgsl_operators.specs.declared.UnaryOperator.TheVariants.{AddressOf, Indirection, LogicalNegation, Negation, BitwiseComplement}
 use Rattle.wgsl_operators.specs.declared.BinaryOperator.{BinaryOperator}
-use Rattle.wgsl_syntax.specs.Tree.{Exp, Exps, literal, parenthesized, unary, binary, call, named, nil, cons, Typ}
+use Rattle.wgsl_syntax.specs.Tree.{Exp, Exps, Typ}
 use Rattle.wgsl_enumerations.specs.declared.words.ShaderStage.{ShaderStage}
 use Rattle.wgsl_shader_type.specs.declared.error.Error.{Error}
 use Rattle.wgsl_instance.specs.declared.tree.Instance.{Instance}
-use Rattle.wgsl_computations.specs.Machine.{pure, fail, bind, of_result}
+use Rattle.wgsl_computations.specs.Machine.{pure, fail, bind}
 use Rattle.wgsl_computations.specs.Lift.{Lift, Same, Kept}
 use Rattle.wgsl_programs.specs.Faults.{Fault, Operation}
 use Rattle.wgsl_programs.specs.Computing.{M, Checked, computed, at_once, used}

@@ -1,6 +1,5 @@
 -- Where the const stage gives a value, each stage gives the same one in as many steps.
-use Rattle.std.proofs.Common.{◌≡◌, ℕ, List, [], ◌∷◌, Option, Some, None, Result, Ok, Err, refl, sym, subst}
-use Rattle.wgsl_path.specs.declared.path.ModulePath.{ModulePath}
+use Rattle.std.proofs.Common.{◌≡◌, ℕ, List, [], ◌∷◌, Result, Ok, Err, refl, sym, subst}
 use Rattle.wgsl_operators.specs.declared.UnaryOperator.{UnaryOperator}
 use Rattle.wgsl_operators.specs.declared.UnaryOperator.TheVariants.{AddressOf, Indirection, LogicalNegation, Negation, BitwiseComplement}
 use Rattle.wgsl_operators.specs.declared.BinaryOperator.{BinaryOperator}
@@ -19,16 +18,16 @@ use Rattle.wgsl_instance.specs.declared.tree.Instance.TheOpen.{Instance-F}
 use Rattle.wgsl_instance.specs.Answer.{then_with, collected}
 use Rattle.wgsl_instance.specs.Zero.{Made}
 use Rattle.wgsl_instance.specs.Typed.{type_of}
-use Rattle.wgsl_instance_operators.specs.Operators.{as_literal, as_vector, of_pairs, with_right, with_left, by_right, by_vector, by_left, combined, component_layer, each_component, no_operands, no_operand}
+use Rattle.wgsl_instance_operators.specs.Operators.{as_literal, as_vector, of_pairs, with_right, with_left, by_right, by_vector, by_left, component_layer, each_component, no_operands, no_operand}
 use Rattle.wgsl_computations.specs.Lift.{Same}
 use Rattle.wgsl_computations.specs.Compare.{Carries}
 use Rattle.wgsl_computations.proofs.Kept.{kept_carries}
-use Rattle.wgsl_programs.specs.Faults.{Fault, Operation}
-use Rattle.wgsl_programs.specs.Computing.{M, computed}
-use Rattle.wgsl_programs.specs.Names.{Env}
+use Rattle.wgsl_programs.specs.Faults.{Fault}
+use Rattle.wgsl_programs.specs.Computing.{computed}
+use Rattle.wgsl_programs.specs.Names.{Path, Env}
 use Rattle.wgsl_programs.specs.Operations.{if_typed, unary_type, unary_value, binary_type, binary_value}
 use Rattle.wgsl_programs.specs.Meaning.{value}
-use Rattle.wgsl_programs.specs.Programs.{Program, Known, calls_inside, module_world, world}
+use Rattle.wgsl_programs.specs.Programs.{Program, Known, calls_inside, world}
 use Rattle.wgsl_programs.proofs.Simulates.{StagesMeet}
 use Rattle.wgsl_programs.proofs.Bodies.{names_of, value_meets}
 use Rattle.wgsl_programs.proofs.Itself.{itself, follows_itself, worlds_meet}
@@ -132,7 +131,7 @@ module _ (t : ShaderStage) where
   later : StagesMeet (λ A B S m n. Carries Fault A B S m n) (kept_carries Fault Same).kept Const t
   later = record { by_unary = λ o x. carried _ _ (unary_value_holds o x); by_binary = λ o x y. carried _ _ (binary_value_holds o x y) }
 
-  pub const_values_hold : (p : Program) (known : Known) (k : ℕ) (m : ModulePath) (env : Env) (e : Exp) → Carries Fault Instance Instance Same (value (world p known k m) Const env e) (value (world p known k m) t env e)
+  pub const_values_hold : (p : Program) (known : Known) (k : ℕ) (m : Path) (env : Env) (e : Exp) → Carries Fault Instance Instance Same (value (world p known k m) Const env e) (value (world p known k m) t env e)
   const_values_hold p known k m env e =
       value_meets (λ A B S m n. Carries Fault A B S m n) (kept_carries Fault Same).kept itself Const t (world p known k m) (world p known k m)
       (worlds_meet (λ A B S m n. Carries Fault A B S m n) (kept_carries Fault Same).kept p known m (calls_inside p known k) (calls_inside p known k) Const t later (λ f xs. record { from = λ a b begin. tt }))

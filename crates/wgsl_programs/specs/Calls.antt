@@ -12,7 +12,7 @@ use Rattle.wgsl_computations.specs.Machine.{pure, fail, bind, scoped}
 use Rattle.wgsl_computations.specs.Loops.{Flow, Next, Broke, Goes, Returned}
 use Rattle.wgsl_programs.specs.Faults.{OfName, UnknownDecl, UninitConst, NotCallable, ParamCount, NoReturn, UnexpectedReturn, ReturnType}
 use Rattle.wgsl_programs.specs.Computing.{M, computed, used, step}
-use Rattle.wgsl_programs.specs.Names.{Name, Local, Has, Env}
+use Rattle.wgsl_programs.specs.Names.{Name, Has, Env}
 use Rattle.wgsl_programs.specs.Operations.{argument}
 use Rattle.wgsl_programs.specs.Meaning.{World, type_written, value, typed}
 

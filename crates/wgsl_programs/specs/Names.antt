@@ -1,8 +1,6 @@
 -- Names and what they denote (WGSL, "Declaration and Scope").
 use Rattle.std.specs.Prelude.{ℕ, List, [], ◌∷◌, Option, Some, None, Ok, Err, Bool, ◌&&◌, codes, if◌then◌else◌}
 use Rattle.std.specs.Str.{bytes_eq}
-use Rattle.wgsl_path.specs.declared.path.ModulePath.{ModulePath}
-use Rattle.wgsl_path.specs.Paths.{path_text}
 use Rattle.wgsl_shader_type.specs.declared.tree.ShaderType.{ShaderType}
 use Rattle.wgsl_shader_type.specs.declared.tree.ShaderType.TheVariants as type
 use Rattle.wgsl_instance.specs.declared.tree.Instance.{Instance}
@@ -13,14 +11,17 @@ use Rattle.wgsl_programs.specs.Computing.{Checked}
 abbrev pub Name : Type 0
 Name = List ℕ
 
+-- a module, by its printed path
+abbrev pub Path : Type 0
+Path = List ℕ
+
 -- a declaration's module and name
 pub record Symbol : Type 0 where
-  pub home : ModulePath
+  pub home : Path
   pub called : Name
 
--- modules are told apart by their printed paths
 abbrev pub is_same : Symbol → Symbol → Bool
-is_same s t = bytes_eq (path_text s.home) (path_text t.home) && bytes_eq s.called t.called
+is_same s t = bytes_eq s.home t.home && bytes_eq s.called t.called
 
 -- ---- locals
 

@@ -1,10 +1,9 @@
 -- Programs, and what the names of their modules mean once values are known.
-use Rattle.std.specs.Prelude.{◌≡◌, ℕ, zero, suc, List, [], ◌∷◌, Option, Some, None, Bool, true, false, if◌then◌else◌, map}
+use Rattle.std.specs.Prelude.{◌≡◌, ℕ, zero, suc, List, [], ◌∷◌, Option, Some, None, Bool, true, false, if◌then◌else◌}
 use Rattle.std.specs.List.{Contains}
-use Rattle.wgsl_path.specs.declared.path.ModulePath.{ModulePath}
 use Rattle.wgsl_path.specs.declared.path.PathOrigin.TheVariants.{Absolute}
-use Rattle.wgsl_syntax.specs.Tree.{Decl, variable, function, UnitTree}
-use Rattle.wgsl_syntax.specs.Names.{declared_name}
+use Rattle.wgsl_path.specs.Paths.{path_text}
+use Rattle.wgsl_syntax.specs.Tree.{Decl, variable, function}
 use Rattle.wesl_link_spec.specs.Occurrences.{occurrences}
 use Rattle.wgsl_enumerations.specs.declared.words.ShaderStage.{ShaderStage}
 use Rattle.wgsl_enumerations.specs.declared.words.ShaderStage.TheVariants.{Const, Override, Exec}
@@ -14,7 +13,7 @@ use Rattle.wgsl_instance.specs.Typed.{type_of}
 use Rattle.wgsl_computations.specs.Machine.{pure, fail, deep}
 use Rattle.wgsl_programs.specs.Faults.{OfName, UnknownDecl, CyclicDecl, Todo}
 use Rattle.wgsl_programs.specs.Computing.{M}
-use Rattle.wgsl_programs.specs.Names.{Name, Symbol, is_same}
+use Rattle.wgsl_programs.specs.Names.{Path, Name, Symbol, is_same}
 use Rattle.wgsl_programs.specs.Meaning.{World}
 use Rattle.wgsl_programs.specs.Calls.{call_in, result_in}
 use Rattle.wesl_order.specs.Order.{IsStartOrder}
@@ -24,7 +23,7 @@ pub record Program : Type 0 where
   pub held : List Symbol
   pub item : Symbol → Option Decl
   pub printed : Symbol → Name
-  pub denotes : ModulePath → Name → Option Symbol
+  pub denotes : Path → Name → Option Symbol
 
 -- ---- known values
 
@@ -63,7 +62,7 @@ abbrev pub Calls : Type 0
 Calls = ShaderStage → Symbol → List Instance → M (Option Instance)
 
 -- the names of a module, without a function's type
-abbrev pub named_in : Program → Known → ModulePath → Calls → (Symbol → M (Option ShaderType)) → World
+abbrev pub named_in : Program → Known → Path → Calls → (Symbol → M (Option ShaderType)) → World
 named_in p known m calls results = record {
   denotes = p.denotes m;
   printed = p.printed;
@@ -80,7 +79,7 @@ function_world p known f = named_in p known f.home (λ s g xs. fail (OfName Todo
 abbrev pub result_of_function : Program → Known → Symbol → M (Option ShaderType)
 result_of_function p known f = result_in (function_world p known f) (p.printed f) (p.item f)
 
-abbrev pub module_world : Program → Known → ModulePath → Calls → World
+abbrev pub module_world : Program → Known → Path → Calls → World
 module_world p known m calls = named_in p known m calls (result_of_function p known)
 
 -- at most so many calls inside one another
@@ -88,7 +87,7 @@ abbrev pub calls_inside : Program → Known → ℕ → Calls
 calls_inside p known zero s f xs = deep
 calls_inside p known (suc k) s f xs = call_in (module_world p known f.home (calls_inside p known k)) s (p.printed f) (p.item f) xs
 
-abbrev pub world : Program → Known → ℕ → ModulePath → World
+abbrev pub world : Program → Known → ℕ → Path → World
 world p known k m = module_world p known m (calls_inside p known k)
 
 -- ---- the order of the start
@@ -122,8 +121,8 @@ IsOrderOf p order = IsStartOrder (Reaches p) (values_among p p.held) order
 
 -- ---- a plain unit: one module, without imports
 
-abbrev pub root : ModulePath
-root = record { origin = Absolute; components = [] }
+abbrev pub root : Path
+root = path_text (record { origin = Absolute; components = [] })
 
 abbrev pub here : Name → Symbol
 here x = record { home = root; called = x }

@@ -14,13 +14,13 @@ use Rattle.wgsl_scalar.specs.Scalars.{number}
 use Rattle.wgsl_instance.specs.declared.tree.Instance.{Instance, out-Instance}
 use Rattle.wgsl_instance.specs.declared.tree.Instance.TheOpen.{Instance-F}
 use Rattle.wgsl_instance.specs.Typed.{type_of}
-use Rattle.wgsl_computations.specs.Machine.{State, Outcome, Done, pure, fail, bind}
+use Rattle.wgsl_computations.specs.Machine.{State, Done, pure, fail, bind}
 use Rattle.wgsl_programs.specs.Faults.{Operation, NegativeAttr, OfName, UnknownDecl, NotEntrypoint, InvalidEntrypointParam, MissingUserInput}
 use Rattle.wgsl_programs.specs.Computing.{M, Checked, at_once, used}
 use Rattle.wgsl_programs.specs.Names.{Name, Symbol, Has, Env}
 use Rattle.wgsl_programs.specs.Meaning.{World, type_written, value}
 use Rattle.wgsl_programs.specs.Calls.{const_in, body_of}
-use Rattle.wgsl_programs.specs.Programs.{Program, Known, world, IsOrderOf, root, here}
+use Rattle.wgsl_programs.specs.Programs.{Program, Known, world, IsOrderOf, here}
 
 -- ---- the start
 
