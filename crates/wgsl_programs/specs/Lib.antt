@@ -7,3 +7,4 @@ pub mod Calls
 pub mod Programs
 pub mod Runs
 pub mod Follows
+pub mod Laws

@@ -1,0 +1,29 @@
+-- What holds of all programs.
+use Rattle.std.specs.Prelude.{ℕ, ◌+◌, ◌<◌, List, Option}
+use Rattle.wgsl_syntax.specs.Tree.{Exp}
+use Rattle.wgsl_enumerations.specs.declared.words.ShaderStage.{ShaderStage}
+use Rattle.wgsl_enumerations.specs.declared.words.ShaderStage.TheVariants.{Const}
+use Rattle.wgsl_instance.specs.declared.tree.Instance.{Instance}
+use Rattle.wgsl_computations.specs.Machine.{State}
+use Rattle.wgsl_computations.specs.Lift.{Same}
+use Rattle.wgsl_computations.specs.Compare.{Extends, Carries}
+use Rattle.wgsl_computations.specs.Loops.{IsOverAt}
+use Rattle.wgsl_programs.specs.Faults.{Fault}
+use Rattle.wgsl_programs.specs.Names.{Path, Symbol, Env}
+use Rattle.wgsl_programs.specs.Meaning.{value}
+use Rattle.wgsl_programs.specs.Programs.{Program, Known, world}
+use Rattle.wgsl_programs.specs.Runs.{Handed, run}
+
+-- a run at a larger bound is as it was, if it was over
+abbrev pub LargerBoundsAgree : Type 0
+LargerBoundsAgree = (p : Program) (j k : ℕ) (order : List Symbol) (s : Symbol) (handed : Handed)
+    → Extends Fault Same (Option Instance) (Option Instance) Same (run p k order s handed) (run p (j + k) order s handed)
+
+-- with fewer than k steps left, at most k calls are inside one another
+abbrev pub LimitsComeFirst : Type 0
+LimitsComeFirst = (p : Program) (k : ℕ) (order : List Symbol) (s : Symbol) (handed : Handed) (from : State) → from.left < k → IsOverAt from.left (run p k order s handed from)
+
+-- a const value is the value at every stage, whatever the locals are
+abbrev pub ConstValuesHold : Type 0
+ConstValuesHold = (stage : ShaderStage) (p : Program) (known : Known) (k : ℕ) (m : Path) (env : Env) (e : Exp)
+    → Carries Fault Instance Instance Same (value (world p known k m) Const env e) (value (world p known k m) stage env e)
