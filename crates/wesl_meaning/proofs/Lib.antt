@@ -23,3 +23,4 @@ pub mod Example
 pub mod Orders
 pub mod Renaming
 pub mod Occurring
+pub mod Started

@@ -362,16 +362,16 @@ module _ (p : Program) (ds : List Decl) (IsHeld : Symbol → Name → Type 0) wh
 
     -- ---- runs
 
+    -- the values in the order of the start, each with its name in the unit
+    pub data InOrder : List Symbol → List Symbol → Type 0 where
+      none_left : InOrder [] []
+      next : {ss ts : List Symbol} (s : Symbol) (y : Name) → IsHeld s y → InOrder ss ts → InOrder (s ∷ ss) (here y ∷ ts)
+
     module _ (R : Lift Fault) (throughout : KeptThroughout Fault Same R) where
       calls_alike : (known others : Known) (values : KnownAlike known others) (k : ℕ) → CallsAlike R throughout.kept known others values (calls_inside p known k) (calls_inside (plain ds) others k)
       calls_alike known others values zero st s y xs held = throughout.deep_of (Option Instance) (Option Instance) Same
       calls_alike known others values (suc k) st s y xs held =
           call_alike R throughout.kept known others values (calls_inside p known k) (calls_inside (plain ds) others k) (calls_alike known others values k) st s y xs held
-
-      -- the values in the order of the start, each with its name in the unit
-      pub data InOrder : List Symbol → List Symbol → Type 0 where
-        none_left : InOrder [] []
-        next : {ss ts : List Symbol} (s : Symbol) (y : Name) → IsHeld s y → InOrder ss ts → InOrder (s ∷ ss) (here y ∷ ts)
 
       module _ (apart : (s t : Symbol) (y z : Name) → IsHeld s y → IsHeld t z → is_same s t ≡ is_same (here y) (here z)) where
         extended : (known others : Known) → KnownAlike known others → (s : Symbol) (y : Name) → IsHeld s y → (v : Instance) → KnownAlike (known ++ (s, v) ∷ []) (others ++ (here y, v) ∷ [])
