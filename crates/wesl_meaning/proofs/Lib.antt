@@ -24,3 +24,4 @@ pub mod Orders
 pub mod Renaming
 pub mod Occurring
 pub mod Started
+pub mod Executed

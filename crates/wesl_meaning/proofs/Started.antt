@@ -253,7 +253,7 @@ module _ (p : Program) (ds : List Decl) (IsHeld : Symbol → Name → Type 0) (s
         let left : (allowed n).left ≡ (allowed n).left = refl in
         let b : EndsLikewise Fault (Option Instance) (Option Instance) Same (λ l. e.last.left ≡ l) answer e.last (run (plain ds) e.bound o.corresponding (here y) handed (allowed n)) =
         subst (λ q. ExtendsAt Fault Same (Option Instance) (Option Instance) Same q (run (plain ds) e.bound o.corresponding (here y) handed (allowed n))) e.ends (r.from (allowed n) (allowed n) same left) in
-        record { order = o.corresponding; is_order = o.is_order; bound = e.bound; last = b.state; ends = b.ends ∙ ap (λ z. Done z b.state) (sym b.alike) }
+        record { order = o.corresponding; is_order = o.is_order; bound = e.bound; last = b.state; ends = subst (λ z. run (plain ds) e.bound o.corresponding (here y) handed (allowed n) ≡ Done z b.state) (sym b.alike) b.ends }
 
     pub ends_back : EndsWell (plain ds) (here y) handed n answer → EndsWell p s handed n answer
     ends_back e =
@@ -266,7 +266,7 @@ module _ (p : Program) (ds : List Decl) (IsHeld : Symbol → Name → Type 0) (s
         let left : (allowed n).left ≡ (allowed n).left = refl in
         let b : EndsLikewise Fault (Option Instance) (Option Instance) (λ b a. a ≡ b) (λ l. e.last.left ≡ l) answer e.last (run p e.bound o.corresponding s handed (allowed n)) =
         subst (λ q. ExtendsAt Fault Same (Option Instance) (Option Instance) (λ b a. a ≡ b) q (run p e.bound o.corresponding s handed (allowed n))) e.ends (r.from (allowed n) (allowed n) same left) in
-        record { order = o.corresponding; is_order = o.is_order; bound = e.bound; last = b.state; ends = b.ends ∙ ap (λ z. Done z b.state) b.alike }
+        record { order = o.corresponding; is_order = o.is_order; bound = e.bound; last = b.state; ends = subst (λ z. run p e.bound o.corresponding s handed (allowed n) ≡ Done z b.state) b.alike b.ends }
       where
         forward : (ts ss : List Symbol) → Both (λ t s. Named s t) ts ss → Both Named ss ts
         forward ts ss no_more = no_more

@@ -1,6 +1,7 @@
 pub mod Alike
 pub mod SourcePrograms
 pub mod Runs
+pub mod Executions
 pub mod Declared
 pub mod Unique
 pub mod Determined

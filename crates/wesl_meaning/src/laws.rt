@@ -5,6 +5,7 @@ ghost use Rattle.wesl_meaning.specs.Asked.{OnlyWhatIsAskedCounts};
 ghost use Rattle.wesl_meaning.specs.Declared.{LinkedUnitsDeclareWhatIsHeld};
 ghost use Rattle.wesl_meaning.specs.Determined.{LoadingComesToOne};
 ghost use Rattle.wesl_meaning.specs.Example.{PremisesAreMet};
+ghost use Rattle.wesl_meaning.specs.Executions.{LinkedUnitsEndLikewise};
 ghost use Rattle.wesl_meaning.specs.Runs.{LinkedModulesHaveAProgram, LinkedUnitsEndWell, LinkedUnitsRunAlike, WhatIsLoaded};
 ghost use Rattle.wesl_meaning.specs.Same.{OrderOfModulesDoesNotCount};
 ghost use Rattle.wesl_meaning.specs.Unique.{LinkedUnitsAreOne};
@@ -19,6 +20,11 @@ pub fn linked_units_run_alike()
 /// A run of a kept name ends well in the linked unit where it does in the modules, and there alone.
 pub fn linked_units_end_well()
     ensures { LinkedUnitsEndWell }
+{}
+
+/// The same in the second form of meaning, with memory, a limit of steps and one start: within so many steps, with the same answer.
+pub fn linked_units_end_likewise()
+    ensures { LinkedUnitsEndLikewise }
 {}
 
 /// Modules that are linked have a program.
