@@ -157,9 +157,10 @@ module _ (modules : Modules) (root : Path) (keep : List Name) (unit : UnitTree) 
   pub end_likewise : (x : Name) → Contains keep x → (handed : Handed) (n : ℕ) (answer : Option Instance)
       → EndsWell p (record { home = root; called = x }) handed n answer ↔ EndsWell (program_of unit) (here x) handed n answer
   end_likewise x k handed n answer =
-      let held : IsHeld (record { home = root; called = x }) x = record { reached = kept k; printed = stays } in
-      (ends_there p unit.declarations IsHeld stands unique all_named (record { home = root; called = x }) x held handed n answer,
-       ends_back p unit.declarations IsHeld stands unique all_named (record { home = root; called = x }) x held handed n answer)
+      let held : IsHeld (record { home = root; called = x }) x = record { reached = kept k; printed = stays } in (
+        ends_there p unit.declarations IsHeld stands unique all_named (record { home = root; called = x }) x held handed n answer,
+        ends_back p unit.declarations IsHeld stands unique all_named (record { home = root; called = x }) x held handed n answer,
+      )
 
 pub linked_units_end_likewise : LinkedUnitsEndLikewise
 linked_units_end_likewise modules root keep unit p well program x k handed n answer = end_likewise modules root keep unit p well program x k handed n answer

@@ -73,10 +73,10 @@ module _ (modules : Modules) (root : Path) (keep : List Name) (loaded : AreLoade
   one : (m : Path) (u v : UnitTree) → IsModule modules m u → IsModule modules m v → u ≡ v
   one = one_unit modules root keep loaded
 
-  unit_found : (m : Path) (u : UnitTree) → IsModule modules m u → unit_at modules m ≡ Some u
+  pub unit_found : (m : Path) (u : UnitTree) → IsModule modules m u → unit_at modules m ≡ Some u
   unit_found m u i = let f = unit_there modules m i.path u i.stands i.printed in f.1 ∙ ap Some (one m f.0 u (unit_is modules m f.0 f.1) i)
 
-  once_in : (m : Path) (u : UnitTree) → IsModule modules m u → Once (scope_names u)
+  pub once_in : (m : Path) (u : UnitTree) → IsModule modules m u → Once (scope_names u)
   once_in m u i = once_of (scope_names u) (loaded.distinct (i.path, u) i.stands)
 
   -- ---- items

@@ -25,3 +25,4 @@ pub mod Renaming
 pub mod Occurring
 pub mod Started
 pub mod Executed
+pub mod Existing

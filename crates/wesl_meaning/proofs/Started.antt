@@ -1,21 +1,19 @@
 -- A program, and a plain unit in which each held symbol stands renamed: what ends well in the one ends well in the other.
-use Rattle.std.proofs.Common.{◌≡◌, ◌⊎◌, inl, inr, ◌↔◌, ℕ, List, [], ◌∷◌, ◌++◌, map, Option, Some, None, Bool, true, false, refl, sym, ap, ◌∙◌, subst, Contains}
+use Rattle.std.proofs.Common.{◌≡◌, ◌↔◌, ℕ, List, ◌∷◌, map, Option, Some, None, Bool, true, false, refl, sym, ap, ◌∙◌, subst, Contains}
 use Rattle.std.specs.Prelude.{◌&&◌, if◌then◌else◌}
 use Rattle.std.specs.Str.{bytes_eq}
 use Rattle.wgsl_syntax.specs.Tree.{Decl, variable, function}
 use Rattle.wgsl_syntax.specs.Names.{declared_name}
 use Rattle.wgsl_items.proofs.Members.{in_map, from_map, same_bytes, bytes_same}
-use Rattle.wgsl_shader_type.specs.declared.error.Error.{Error}
 use Rattle.wgsl_instance.specs.declared.tree.Instance.{Instance}
-use Rattle.wgsl_instance.specs.declared.tree.RefInstance.{RefInstance}
 use Rattle.wgsl_computations.specs.Machine.{State, Outcome, Done, Failed, Deep, tick, read, loaded, write, fresh}
-use Rattle.wgsl_computations.specs.Lift.{Lift, Same, Kept, KeptThroughout}
+use Rattle.wgsl_computations.specs.Lift.{Lift, Same, KeptThroughout}
 use Rattle.wgsl_computations.specs.Compare.{Extends, ExtendsAt, EndsLikewise}
 use Rattle.wgsl_computations.proofs.Kept.{kept_extends}
 use Rattle.wgsl_programs.specs.Faults.{Fault}
 use Rattle.wgsl_programs.specs.Computing.{M}
-use Rattle.wgsl_programs.specs.Names.{Path, Name, Symbol, is_same}
-use Rattle.wgsl_programs.specs.Programs.{Program, Mentions, Reaches, mention, onward, is_value, values_among, IsOrderOf, here}
+use Rattle.wgsl_programs.specs.Names.{Name, Symbol, is_same}
+use Rattle.wgsl_programs.specs.Programs.{Program, Mentions, Reaches, mention, onward, is_value, values_among, here}
 use Rattle.wgsl_programs.specs.Runs.{Handed, run, allowed, EndsWell, find_decl, here_if, plain}
 use Rattle.wesl_link_spec.specs.Occurrences.{occurrences}
 use Rattle.wesl_link_spec.specs.Linked.{renamed_declaration}
@@ -74,6 +72,9 @@ back = record {
   fresh_of = λ x. turned ℕ (fresh x) (fresh x) (forth.fresh_of x);
 }
 
+answered : (o : Outcome Fault (Option Instance)) (a b : Option Instance) (s : State) → o ≡ Done a s → a ≡ b → o ≡ Done b s
+answered o a b s e f = subst (λ z. o ≡ Done z s) f e
+
 -- ---- the unit
 
 module _ (p : Program) (ds : List Decl) (IsHeld : Symbol → Name → Type 0) (stands : (s : Symbol) (y : Name) → IsHeld s y → Stands p ds IsHeld s y)
@@ -120,10 +121,13 @@ module _ (p : Program) (ds : List Decl) (IsHeld : Symbol → Name → Type 0) (s
     where
       st : Stands p ds IsHeld s y
       st = stands s y h
+
       same : m.declaration ≡ (stands s y h).declaration
       same = let d : p.item s ≡ Some m.declaration = m.declares in let e : p.item s ≡ Some (stands s y h).declaration = (stands s y h).item in cc
+
       occurs : Contains (occurrences (stands s y h).declaration) m.name
       occurs = subst (λ d. Contains (occurrences d) m.name) same m.occurs
+
       at : Means p ds IsHeld s.home (stands s y h).new m.name → Steps s w y
       at (of_symbol v den held) =
           let e : p.denotes s.home m.name ≡ Some w = m.denotes in
@@ -152,15 +156,20 @@ module _ (p : Program) (ds : List Decl) (IsHeld : Symbol → Name → Type 0) (s
     where
       same : m.declaration ≡ renamed_declaration (stands s y h).new (stands s y h).declaration
       same = let d : find_decl y ds ≡ Some m.declaration = m.declares in let e : find_decl y ds ≡ Some (renamed_declaration (stands s y h).new (stands s y h).declaration) = (stands s y h).found in cc
+
       within : Contains (map (stands s y h).new (occurrences (stands s y h).declaration)) m.name
       within = subst (λ l. Contains l m.name) (of_declaration (stands s y h).new (Means p ds IsHeld s.home (stands s y h).new) (stands s y h).declaration (stands s y h).fits)
           (subst (λ d. Contains (occurrences d) m.name) same m.occurs)
+
       x : Name
       x = (from_map (stands s y h).new (occurrences (stands s y h).declaration) m.name within).0
+
       c : Contains (occurrences (stands s y h).declaration) x
       c = (from_map (stands s y h).new (occurrences (stands s y h).declaration) m.name within).1
+
       is : (stands s y h).new x ≡ m.name
       is = (from_map (stands s y h).new (occurrences (stands s y h).declaration) m.name within).2
+
       at : Means p ds IsHeld s.home (stands s y h).new x → StepsBack s t
       at (of_symbol v den held) =
           let e : here_if ((stands s y h).new x) (find_decl ((stands s y h).new x) ds) ≡ Some (here ((stands s y h).new x)) = ap (here_if ((stands s y h).new x)) (stands v ((stands s y h).new x) held).found in
@@ -222,6 +231,7 @@ module _ (p : Program) (ds : List Decl) (IsHeld : Symbol → Name → Type 0) (s
           kind : (new : Name → Name) (d : Decl) → is_value (Some d) ≡ is_value (Some (renamed_declaration new d))
           kind new (variable a k x ty e) = refl
           kind new (function a f ps r ty b) = refl
+
       at : (a b : Bool) → a ≡ b → Both Named (values_among p ss') (values_among (plain ds) ts')
           → Both Named (if a then s ∷ values_among p ss' else values_among p ss') (if b then t ∷ values_among (plain ds) ts' else values_among (plain ds) ts')
       at true true e more = one_more n more
@@ -253,7 +263,7 @@ module _ (p : Program) (ds : List Decl) (IsHeld : Symbol → Name → Type 0) (s
         let left : (allowed n).left ≡ (allowed n).left = refl in
         let b : EndsLikewise Fault (Option Instance) (Option Instance) Same (λ l. e.last.left ≡ l) answer e.last (run (plain ds) e.bound o.corresponding (here y) handed (allowed n)) =
         subst (λ q. ExtendsAt Fault Same (Option Instance) (Option Instance) Same q (run (plain ds) e.bound o.corresponding (here y) handed (allowed n))) e.ends (r.from (allowed n) (allowed n) same left) in
-        record { order = o.corresponding; is_order = o.is_order; bound = e.bound; last = b.state; ends = subst (λ z. run (plain ds) e.bound o.corresponding (here y) handed (allowed n) ≡ Done z b.state) (sym b.alike) b.ends }
+        record { order = o.corresponding; is_order = o.is_order; bound = e.bound; last = b.state; ends = answered (run (plain ds) e.bound o.corresponding (here y) handed (allowed n)) b.answer answer b.state b.ends (sym b.alike) }
 
     pub ends_back : EndsWell (plain ds) (here y) handed n answer → EndsWell p s handed n answer
     ends_back e =
@@ -266,7 +276,7 @@ module _ (p : Program) (ds : List Decl) (IsHeld : Symbol → Name → Type 0) (s
         let left : (allowed n).left ≡ (allowed n).left = refl in
         let b : EndsLikewise Fault (Option Instance) (Option Instance) (λ b a. a ≡ b) (λ l. e.last.left ≡ l) answer e.last (run p e.bound o.corresponding s handed (allowed n)) =
         subst (λ q. ExtendsAt Fault Same (Option Instance) (Option Instance) (λ b a. a ≡ b) q (run p e.bound o.corresponding s handed (allowed n))) e.ends (r.from (allowed n) (allowed n) same left) in
-        record { order = o.corresponding; is_order = o.is_order; bound = e.bound; last = b.state; ends = subst (λ z. run p e.bound o.corresponding s handed (allowed n) ≡ Done z b.state) b.alike b.ends }
+        record { order = o.corresponding; is_order = o.is_order; bound = e.bound; last = b.state; ends = answered (run p e.bound o.corresponding s handed (allowed n)) b.answer answer b.state b.ends b.alike }
       where
         forward : (ts ss : List Symbol) → Both (λ t s. Named s t) ts ss → Both Named ss ts
         forward ts ss no_more = no_more

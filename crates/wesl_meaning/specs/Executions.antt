@@ -10,6 +10,8 @@ use Rattle.wesl_link_spec.specs.Occurrences.{Name}
 use Rattle.wesl_link_spec.specs.Modules.{Path, Modules, IsDeclaration, Denotes, Reached}
 use Rattle.wesl_link_spec.specs.Modules.{Symbol as SourceSymbol}
 use Rattle.wesl_link_spec.specs.Names.{IsPrinted}
+use Rattle.wesl_link_spec.specs.Linked.{IsLinked}
+use Rattle.wesl_link_spec.specs.Loaded.{AreLoaded}
 use Rattle.wesl_meaning.specs.SourcePrograms.{IsHeldList}
 use Rattle.wesl_meaning.specs.Runs.{AreLinkedWell}
 
@@ -29,3 +31,8 @@ abbrev pub LinkedUnitsEndLikewise : Type 0
 LinkedUnitsEndLikewise = (modules : Modules) (root : Path) (keep : List Name) (unit : UnitTree) (p : Program) → AreLinkedWell modules root keep unit
     → IsProgramIn modules root keep p → (x : Name) → Contains keep x → (handed : Handed) (n : ℕ) (answer : Option Instance)
     → EndsWell p (record { home = root; called = x }) handed n answer ↔ EndsWell (program_of unit) (here x) handed n answer
+
+-- Linked modules have such a program.
+abbrev pub LinkedModulesHaveOne : Type 0
+LinkedModulesHaveOne = (modules : Modules) (root : Path) (keep : List Name) (unit : UnitTree) → AreLoaded modules root keep → IsLinked modules root keep unit
+    → (p : Program) × IsProgramIn modules root keep p

@@ -5,7 +5,7 @@ ghost use Rattle.wesl_meaning.specs.Asked.{OnlyWhatIsAskedCounts};
 ghost use Rattle.wesl_meaning.specs.Declared.{LinkedUnitsDeclareWhatIsHeld};
 ghost use Rattle.wesl_meaning.specs.Determined.{LoadingComesToOne};
 ghost use Rattle.wesl_meaning.specs.Example.{PremisesAreMet};
-ghost use Rattle.wesl_meaning.specs.Executions.{LinkedUnitsEndLikewise};
+ghost use Rattle.wesl_meaning.specs.Executions.{LinkedModulesHaveOne, LinkedUnitsEndLikewise};
 ghost use Rattle.wesl_meaning.specs.Runs.{LinkedModulesHaveAProgram, LinkedUnitsEndWell, LinkedUnitsRunAlike, WhatIsLoaded};
 ghost use Rattle.wesl_meaning.specs.Same.{OrderOfModulesDoesNotCount};
 ghost use Rattle.wesl_meaning.specs.Unique.{LinkedUnitsAreOne};
@@ -25,6 +25,11 @@ pub fn linked_units_end_well()
 /// The same in the second form of meaning, with memory, a limit of steps and one start: within so many steps, with the same answer.
 pub fn linked_units_end_likewise()
     ensures { LinkedUnitsEndLikewise }
+{}
+
+/// Modules that are linked have a program in the second form of meaning.
+pub fn linked_modules_have_one()
+    ensures { LinkedModulesHaveOne }
 {}
 
 /// Modules that are linked have a program.
