@@ -4,3 +4,4 @@ pub mod Itself
 pub mod Longer
 pub mod Limits
 pub mod Stages
+pub mod Cells

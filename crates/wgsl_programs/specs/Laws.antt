@@ -1,17 +1,17 @@
 -- What holds of all programs.
-use Rattle.std.specs.Prelude.{ℕ, ◌+◌, ◌<◌, List, Option}
+use Rattle.std.specs.Prelude.{◌≡◌, ℕ, ◌+◌, ◌<◌, List, Option}
 use Rattle.wgsl_syntax.specs.Tree.{Exp}
 use Rattle.wgsl_enumerations.specs.declared.words.ShaderStage.{ShaderStage}
 use Rattle.wgsl_enumerations.specs.declared.words.ShaderStage.TheVariants.{Const}
 use Rattle.wgsl_instance.specs.declared.tree.Instance.{Instance}
-use Rattle.wgsl_computations.specs.Machine.{State}
+use Rattle.wgsl_computations.specs.Machine.{State, Done}
 use Rattle.wgsl_computations.specs.Lift.{Same}
 use Rattle.wgsl_computations.specs.Compare.{Extends, Carries}
 use Rattle.wgsl_computations.specs.Loops.{IsOverAt}
 use Rattle.wgsl_programs.specs.Faults.{Fault}
 use Rattle.wgsl_programs.specs.Names.{Path, Symbol, Env}
 use Rattle.wgsl_programs.specs.Meaning.{value}
-use Rattle.wgsl_programs.specs.Programs.{Program, Known, world}
+use Rattle.wgsl_programs.specs.Programs.{Program, Known, calls_inside, world}
 use Rattle.wgsl_programs.specs.Runs.{Handed, run}
 
 -- a run at a larger bound is as it was, if it was over
@@ -27,3 +27,8 @@ LimitsComeFirst = (p : Program) (k : ℕ) (order : List Symbol) (s : Symbol) (ha
 abbrev pub ConstValuesHold : Type 0
 ConstValuesHold = (stage : ShaderStage) (p : Program) (known : Known) (k : ℕ) (m : Path) (env : Env) (e : Exp)
     → Carries Fault Instance Instance Same (value (world p known k m) Const env e) (value (world p known k m) stage env e)
+
+-- A call of a function leaves the cells of memory as they were. (No function of today's language writes.)
+abbrev pub CallsLeaveCells : Type 0
+CallsLeaveCells = (p : Program) (known : Known) (k : ℕ) (stage : ShaderStage) (f : Symbol) (xs : List Instance) (from after : State) (answer : Option Instance)
+    → calls_inside p known k stage f xs from ≡ Done answer after → after.cells ≡ from.cells

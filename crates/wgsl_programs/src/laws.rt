@@ -1,6 +1,6 @@
 //! Laws of what programs mean, over memory and with a limit of steps. Each function states its law and does nothing.
 
-ghost use Rattle.wgsl_programs.specs.Laws.{LargerBoundsAgree, LimitsComeFirst, ConstValuesHold};
+ghost use Rattle.wgsl_programs.specs.Laws.{LargerBoundsAgree, LimitsComeFirst, ConstValuesHold, CallsLeaveCells};
 
 /// A larger bound changes nothing of a run that is over: the same answer or fault, the same cells, as many steps left.
 pub fn larger_bounds_agree()
@@ -15,4 +15,9 @@ pub fn limits_come_first()
 /// Where the const stage gives a value, each stage gives the same one in as many steps.
 pub fn const_values_hold()
     ensures { ConstValuesHold }
+{}
+
+/// A call of a function leaves the cells of memory as they were.
+pub fn calls_leave_cells()
+    ensures { CallsLeaveCells }
 {}
