@@ -5,3 +5,4 @@ pub mod Longer
 pub mod Limits
 pub mod Stages
 pub mod Cells
+pub mod Scalars
