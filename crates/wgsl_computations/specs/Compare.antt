@@ -36,6 +36,28 @@ Better F A B S m n = IsLikewise (λ a b. a ≤ b) F A B S m n
 abbrev pub Carries : (F : Type 0) → Lift F
 Carries F A B S m n = IsLikewise (λ a b. a ≡ b) F A B S m n
 
+-- ---- where both end well they agree
+
+-- alike answers and the same cells, in as many steps: how many the first leaves and the second had, and the other way round
+pub record BothEnd (A B : Type 0) (S : A → B → Type 0) (s t : State) (x : A) (r : State) (y : B) (q : State) : Type 0 where
+  pub alike : S x y
+  pub cells : r.cells ≡ q.cells
+  pub steps : r.left + t.left ≡ q.left + s.left
+
+abbrev pub AgreeAt : (F A B : Type 0) → (A → B → Type 0) → State → State → Outcome F A → Outcome F B → Type 0
+AgreeAt F A B S s t (Done x r) (Done y q) = BothEnd A B S s t x r y q
+AgreeAt F A B S s t (Done x r) (Failed f) = Unit {0}
+AgreeAt F A B S s t (Done x r) Deep = Unit {0}
+AgreeAt F A B S s t (Failed f) o = Unit {0}
+AgreeAt F A B S s t Deep o = Unit {0}
+
+-- both begin with the same cells
+pub record IsAgreed (F A B : Type 0) (S : A → B → Type 0) (m : Computation F A) (n : Computation F B) : Type 0 where
+  pub from : (s t : State) → s.cells ≡ t.cells → AgreeAt F A B S s t (m s) (n t)
+
+abbrev pub Agrees : (F : Type 0) → Lift F
+Agrees F A B S m n = IsAgreed F A B S m n
+
 -- ---- what is over is over likewise: with a larger bound, or under other names
 
 -- a fault that counts as this one

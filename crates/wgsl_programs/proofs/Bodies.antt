@@ -11,14 +11,14 @@ use Rattle.wgsl_instance.specs.declared.tree.Instance.{Instance}
 use Rattle.wgsl_instance.specs.Typed.{type_of}
 use Rattle.wgsl_instance.specs.Converted.{converted}
 use Rattle.wgsl_computations.specs.Machine.{pure, fail, bind, scoped}
-use Rattle.wgsl_computations.specs.Loops.{Flow, Next, Returned}
+use Rattle.wgsl_computations.specs.Loops.{Flow, Next, Broke, Goes, Returned}
 use Rattle.wgsl_computations.specs.Lift.{Lift, Same, Kept}
 use Rattle.wgsl_programs.specs.Faults.{Fault, StepLimit, Operation, OfName, ParamCount, ReturnType, NotEntrypoint}
 use Rattle.wgsl_programs.specs.Computing.{M, computed, at_once, used, step}
 use Rattle.wgsl_programs.specs.Names.{Name, Has, Env, find}
 use Rattle.wgsl_programs.specs.Operations.{literal_value, unary_type, operand_type, binary_type, argument}
 use Rattle.wgsl_programs.specs.Meaning.{World, plain_name, name_value, name_type, call_value, call_type, type_written, value, typed, all_typed}
-use Rattle.wgsl_programs.specs.Calls.{initial, initialized, const_in, bound, executed, handed_back, returned_by, written_result, body_of, call_in, result_in}
+use Rattle.wgsl_programs.specs.Calls.{initial, initialized, const_in, bound, executed, handed_back, returned, ended, written_result, body_of, call_in, result_in}
 use Rattle.wgsl_programs.specs.Runs.{Handed, attribute_number, location_of, input_at, inputs_bound, has_stage, entered}
 use Rattle.wgsl_programs.specs.Follows.{Differences, Follows, FollowAll, keeps_literal, keeps_parentheses, keeps_unary, keeps_binary, keeps_call, keeps_name, replaces, no_more, one_more, as_it_is, at_the_type, FollowStatements, no_statements, returns_nothing, returns, FollowAttributes, no_attributes, keeps_fragment, keeps_location, FollowType, no_type, keeps_type, FollowParameters, no_parameters, one_parameter, FollowInitializer, no_initializer, keeps_initializer, FollowsDeclaration, keeps_const, keeps_function}
 use Rattle.wgsl_shader_type.specs.Alike.{same}
@@ -40,13 +40,6 @@ callee_type_here w env f ts = bind (at_once (plain_name w env f)) (λ a. call_ty
 
 abbrev pub names_of : Env → List Name
 names_of env = map (λ b. b.0) env
-
--- two values that a function of this type hands back alike
-abbrev pub AtReturn : Name → Option ShaderType → Instance → Instance → Type 0
-AtReturn f t x y = handed_back f t (Some x) ≡ handed_back f t (Some y)
-
-abbrev pub AtEnd : Name → Option ShaderType → Flow → Flow → Type 0
-AtEnd f t a b = handed_back f t (returned_by a) ≡ handed_back f t (returned_by b)
 
 -- one answer, of which P holds
 abbrev pub One : {A : Type 0} → (A → Type 0) → A → A → Type 0
@@ -81,7 +74,7 @@ module _ (R : Lift Fault) (kept : Kept Fault Same R) where
     pub callees_meet : (env : Env) (f g : Typ) (xs : List Instance) → D.callees (names_of env) f g → R Instance Instance Same (callee_here w s env f xs) (callee_here u t env g xs)
     pub replaced_meet : (env : Env) (e d : Exp) → D.replaced (names_of env) e d → R Instance Instance Same (value w s env e) (value u t env d)
     pub returned_meet : (env : Env) (f : Name) (type : Option Typ) (e d : Exp) → D.returned (names_of env) type e d → (ty : Option ShaderType) → IsResult is_type type ty
-        → R Instance Instance (AtReturn f ty) (bind (value w s env e) used) (bind (value u t env d) used)
+        → R (Option Instance) (Option Instance) Same (returned w s f ty env e) (returned u t f ty env d)
     pub types_meet : (x y : Typ) → D.types x y → R ShaderType ShaderType (One (is_type x)) (type_written w x) (type_written u y)
 
   -- so do the types of what they mean
@@ -93,7 +86,7 @@ module _ (R : Lift Fault) (kept : Kept Fault Same R) where
   module _ (D : Differences) (s t : ShaderStage) (w u : World) (meet : Meet D s t w u) where
     pub value_meets : (env : Env) (e d : Exp) → Follows D (names_of env) e d → R Instance Instance Same (value w s env e) (value u t env d)
     value_meets env =
-        expressions.simulates R kept s t meet.stages D (names_of env) w u env (meet.names_meet env) (λ f g xs c. meet.callees_meet env f g xs c) (meet.replaced_meet env)
+        expressions.simulates R kept s t meet.stages D (names_of env) w u env env (meet.names_meet env) (λ f g xs c. meet.callees_meet env f g xs c) (meet.replaced_meet env)
 
     pub used_meets : (env : Env) (e d : Exp) → Follows D (names_of env) e d → R Instance Instance Same (bind (value w s env e) used) (bind (value u t env d) used)
     used_meets env e d f = on Instance Instance Instance Same (value w s env e) (value u t env d) used used (value_meets env e d f) (expressions.used_same R kept)
@@ -122,17 +115,6 @@ module _ (R : Lift Fault) (kept : Kept Fault Same R) where
         on_one Env Env Env (λ env. names_of env ≡ map (λ p. p.name) ps') _ (bound w ps' xs) (bound u qs' xs) _ _ (bound_meets ps' qs' fs xs (cc)) (λ env names.
         kept.pure_of Env Env _ ((p.name, Has y) ∷ env) ((q.name, Has y) ∷ env) (ap (λ a. (a, Has y) ∷ env) f.name, ap (λ l. p.name ∷ l) names))))
 
-    executed_meets : (env : Env) (f : Name) (type : Option Typ) (ty : Option ShaderType) → IsResult meet.is_type type ty → (body others : List Stm) → FollowStatements D (names_of env) type body others
-        → R Flow Flow (AtEnd f ty) (executed w s env body) (executed u t env others)
-    executed_meets env f type ty is body others no_statements = kept.pure_of Flow Flow (AtEnd f ty) Next Next refl
-    executed_meets env f type ty is body others (returns_nothing rest) = kept.pure_of Flow Flow (AtEnd f ty) (Returned None) (Returned None) refl
-    executed_meets env f type ty is body others (returns {e = e} {d = d} (as_it_is g) rest) =
-        on Instance Flow Flow (AtEnd f ty) (bind (value w s env e) used) (bind (value u t env d) used) _ _ (used_meets env e d g)
-        (λ x. kept.pure_of Flow Flow (AtEnd f ty) (Returned (Some x)) (Returned (Some x)) refl)
-    executed_meets env f type ty is body others (returns {e = e} {d = d} (at_the_type g) rest) =
-        kept.going_on Instance Instance Flow Flow (AtReturn f ty) (AtEnd f ty) (bind (value w s env e) used) (bind (value u t env d) used) _ _ (meet.returned_meet env f type e d g ty is)
-        (λ x y same. kept.pure_of Flow Flow (AtEnd f ty) (Returned (Some x)) (Returned (Some y)) same)
-
     handed_same : (f : Name) (ty : Option ShaderType) (x : Option Instance) → R (Option Instance) (Option Instance) Same (handed_back f ty x) (handed_back f ty x)
     handed_same f None None = pure_same (Option Instance) None
     handed_same f None (Some x) = fail_same (Option Instance) _
@@ -144,12 +126,30 @@ module _ (R : Lift Fault) (kept : Kept Fault Same R) where
         at true = on Instance (Option Instance) (Option Instance) Same (computed (converted x ty)) (computed (converted x ty)) _ _ (expressions.computed_same R kept Instance (converted x ty)) (λ y. pure_same (Option Instance) (Some y))
         at false = fail_same (Option Instance) _
 
+    pub returned_meets : (env : Env) (f : Name) (ty : Option ShaderType) (e d : Exp) → Follows D (names_of env) e d → R (Option Instance) (Option Instance) Same (returned w s f ty env e) (returned u t f ty env d)
+    returned_meets env f ty e d g = on Instance (Option Instance) (Option Instance) Same (bind (value w s env e) used) (bind (value u t env d) used) _ _ (used_meets env e d g) (λ x. handed_same f ty (Some x))
+
+    executed_meets : (env : Env) (f : Name) (type : Option Typ) (ty : Option ShaderType) → IsResult meet.is_type type ty → (body others : List Stm) → FollowStatements D (names_of env) type body others
+        → R Flow Flow Same (executed w s f ty env body) (executed u t f ty env others)
+    executed_meets env f type ty is body others no_statements = pure_same Flow Next
+    executed_meets env f type ty is body others (returns_nothing rest) =
+        on (Option Instance) Flow Flow Same (handed_back f ty None) (handed_back f ty None) _ _ (handed_same f ty None) (λ y. pure_same Flow (Returned y))
+    executed_meets env f type ty is body others (returns {e = e} {d = d} (as_it_is g) rest) =
+        on (Option Instance) Flow Flow Same (returned w s f ty env e) (returned u t f ty env d) _ _ (returned_meets env f ty e d g) (λ y. pure_same Flow (Returned y))
+    executed_meets env f type ty is body others (returns {e = e} {d = d} (at_the_type g) rest) =
+        on (Option Instance) Flow Flow Same (returned w s f ty env e) (returned u t f ty env d) _ _ (meet.returned_meet env f type e d g ty is) (λ y. pure_same Flow (Returned y))
+
+    ended_same : (f : Name) (ty : Option ShaderType) (flow : Flow) → R (Option Instance) (Option Instance) Same (ended f ty flow) (ended f ty flow)
+    ended_same f ty (Returned x) = pure_same (Option Instance) x
+    ended_same f ty Next = handed_same f ty None
+    ended_same f ty Broke = handed_same f ty None
+    ended_same f ty Goes = handed_same f ty None
+
     pub body_meets : (f : Name) (x y : Option Typ) → FollowType D x y → (env : Env) (body others : List Stm) → FollowStatements D (names_of env) x body others
         → R (Option Instance) (Option Instance) Same (body_of w s f x body env) (body_of u t f y others env)
     body_meets f x y types env body others follow =
         on_one (Option ShaderType) (Option Instance) (Option Instance) (IsResult meet.is_type x) Same (written_result w x) (written_result u y) _ _ (result_meets x y types) (λ ty is.
-        kept.going_on Flow Flow (Option Instance) (Option Instance) (AtEnd f ty) Same (executed w s env body) (executed u t env others) _ _ (executed_meets env f x ty is body others follow)
-        (λ a b same. subst (λ m. R (Option Instance) (Option Instance) Same (handed_back f ty (returned_by a)) m) same (handed_same f ty (returned_by a))))
+        on Flow (Option Instance) (Option Instance) Same (executed w s f ty env body) (executed u t f ty env others) _ _ (executed_meets env f x ty is body others follow) (ended_same f ty))
 
     counted : (n m k : ℕ) (f : Name) (a b : M (Option Instance)) → m ≡ k → (n ≡ m → R (Option Instance) (Option Instance) Same a b)
         → R (Option Instance) (Option Instance) Same (if n == m then a else fail (OfName (ParamCount m n) f)) (if n == k then b else fail (OfName (ParamCount k n) f))

@@ -56,7 +56,7 @@ module _ (R : Lift Fault) (kept : Kept Fault Same R) (p : Program) (known : Know
 -- runs at two bounds
 module _ (R : Lift Fault) (kept : Kept Fault Same R) (p : Program) (j k : ℕ)
     (calls : (known : Known) → CallsMeet R kept p known (calls_inside p known j) (calls_inside p known k)) where
-  started_alike : (known : Known) (order : List Symbol) → R Known Known Same (started p j known order) (started p k known order)
+  pub started_alike : (known : Known) (order : List Symbol) → R Known Known Same (started p j known order) (started p k known order)
   started_alike known [] = expressions.pure_same R kept Known known
   started_alike known (s ∷ rest) =
       expressions.on R kept Instance Known Known Same (const_in (world p known j s.home) (p.printed s) (p.item s)) (const_in (world p known k s.home) (p.printed s) (p.item s)) _ _

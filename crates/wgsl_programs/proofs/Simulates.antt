@@ -8,10 +8,11 @@ use Rattle.wgsl_syntax.specs.Tree.{Exp, Exps, Typ}
 use Rattle.wgsl_enumerations.specs.declared.words.ShaderStage.{ShaderStage}
 use Rattle.wgsl_shader_type.specs.declared.error.Error.{Error}
 use Rattle.wgsl_instance.specs.declared.tree.Instance.{Instance}
-use Rattle.wgsl_computations.specs.Machine.{pure, fail, bind}
+use Rattle.wgsl_instance.specs.Typed.{type_of}
+use Rattle.wgsl_computations.specs.Machine.{pure, fail, bind, loaded}
 use Rattle.wgsl_computations.specs.Lift.{Lift, Same, Kept}
-use Rattle.wgsl_programs.specs.Faults.{Fault, Operation}
-use Rattle.wgsl_programs.specs.Computing.{M, Checked, computed, at_once, used}
+use Rattle.wgsl_programs.specs.Faults.{Fault, Operation, Deferred}
+use Rattle.wgsl_programs.specs.Computing.{M, Checked, computed, at_once, is_deferred, known, used}
 use Rattle.wgsl_programs.specs.Names.{Name, Env, find}
 use Rattle.wgsl_programs.specs.Operations.{literal_value, operand, unary_value, binary_value, decides}
 use Rattle.wgsl_programs.specs.Meaning.{World, plain_name, name_value, call_value, between, value, values}
@@ -36,8 +37,15 @@ module _ (R : Lift Fault) (kept : Kept Fault Same R) where
   at_once_same A (Ok x) = pure_same A x
   at_once_same A (Err f) = fail_same A f
 
+  known_same : (x : Instance) → R Instance Instance Same (known x) (known x)
+  known_same x = at (is_deferred x)
+    where
+      at : (b : Bool) → R Instance Instance Same (if b then fail (Deferred (type_of x)) else pure x) (if b then fail (Deferred (type_of x)) else pure x)
+      at true = fail_same Instance (Deferred (type_of x))
+      at false = pure_same Instance x
+
   pub used_same : (x : Instance) → R Instance Instance Same (used x) (used x)
-  used_same x = kept.loaded_of Operation Operation x (λ e. refl)
+  used_same x = on Instance Instance Instance Same (loaded Operation x) (loaded Operation x) known known (kept.loaded_of Operation Operation x (λ e. refl)) known_same
 
   pub operand_same : (o : UnaryOperator) (x : Instance) → R Instance Instance Same (operand o x) (operand o x)
   operand_same AddressOf x = pure_same Instance x
@@ -62,30 +70,31 @@ module _ (R : Lift Fault) (kept : Kept Fault Same R) where
         at true = pure_same Instance x
         at false = on Instance Instance Instance Same m n _ _ r (λ y. stages.by_binary o x y)
 
-    module _ (D : Differences) (locals : List Name) (w u : World) (env : Env)
-        (by_name : (x y : Typ) → D.names locals x y → R Instance Instance Same (bind (at_once (plain_name w env x)) (λ a. name_value w s a (find a env) (w.denotes a))) (bind (at_once (plain_name u env y)) (λ a. name_value u t a (find a env) (u.denotes a))))
-        (by_call : (f g : Typ) (xs : List Instance) → D.callees locals f g → R Instance Instance Same (bind (at_once (plain_name w env f)) (λ a. call_value w s a (find a env) (w.denotes a) xs)) (bind (at_once (plain_name u env g)) (λ a. call_value u t a (find a env) (u.denotes a) xs)))
-        (by_replaced : (e d : Exp) → D.replaced locals e d → R Instance Instance Same (value w s env e) (value u t env d)) where
-      used_meets : (e d : Exp) → R Instance Instance Same (value w s env e) (value u t env d) → R Instance Instance Same (bind (value w s env e) used) (bind (value u t env d) used)
-      used_meets e d r = on Instance Instance Instance Same (value w s env e) (value u t env d) used used r used_same
+    -- each side has its own locals
+    module _ (D : Differences) (locals : List Name) (w u : World) (env others : Env)
+        (by_name : (x y : Typ) → D.names locals x y → R Instance Instance Same (bind (at_once (plain_name w env x)) (λ a. name_value w s a (find a env) (w.denotes a))) (bind (at_once (plain_name u others y)) (λ a. name_value u t a (find a others) (u.denotes a))))
+        (by_call : (f g : Typ) (xs : List Instance) → D.callees locals f g → R Instance Instance Same (bind (at_once (plain_name w env f)) (λ a. call_value w s a (find a env) (w.denotes a) xs)) (bind (at_once (plain_name u others g)) (λ a. call_value u t a (find a others) (u.denotes a) xs)))
+        (by_replaced : (e d : Exp) → D.replaced locals e d → R Instance Instance Same (value w s env e) (value u t others d)) where
+      used_meets : (e d : Exp) → R Instance Instance Same (value w s env e) (value u t others d) → R Instance Instance Same (bind (value w s env e) used) (bind (value u t others d) used)
+      used_meets e d r = on Instance Instance Instance Same (value w s env e) (value u t others d) used used r used_same
 
       mutual
-        pub simulates : (e d : Exp) → Follows D locals e d → R Instance Instance Same (value w s env e) (value u t env d)
+        pub simulates : (e d : Exp) → Follows D locals e d → R Instance Instance Same (value w s env e) (value u t others d)
         simulates e d (keeps_literal {l = l}) = pure_same Instance (literal_value l)
         simulates e d (keeps_parentheses {a = a} {b = b} f) = simulates a b f
         simulates e d (keeps_unary {o = o} {a = a} {b = b} f) =
-            on Instance Instance Instance Same (bind (value w s env a) (operand o)) (bind (value u t env b) (operand o)) _ _
-            (on Instance Instance Instance Same (value w s env a) (value u t env b) (operand o) (operand o) (simulates a b f) (operand_same o)) (λ x. stages.by_unary o x)
+            on Instance Instance Instance Same (bind (value w s env a) (operand o)) (bind (value u t others b) (operand o)) _ _
+            (on Instance Instance Instance Same (value w s env a) (value u t others b) (operand o) (operand o) (simulates a b f) (operand_same o)) (λ x. stages.by_unary o x)
         simulates e d (keeps_binary {o = o} {a = a} {b = b} {c = c} {d = d'} f g) =
-            on Instance Instance Instance Same (bind (value w s env a) used) (bind (value u t env b) used) _ _ (used_meets a b (simulates a b f)) (λ x.
-            between_meets o x (bind (value w s env c) used) (bind (value u t env d') used) (used_meets c d' (simulates c d' g)))
+            on Instance Instance Instance Same (bind (value w s env a) used) (bind (value u t others b) used) _ _ (used_meets a b (simulates a b f)) (λ x.
+            between_meets o x (bind (value w s env c) used) (bind (value u t others d') used) (used_meets c d' (simulates c d' g)))
         simulates e d (keeps_call {f = f} {g = g} {es = es} {ds = ds} c fs) =
-            on (List Instance) Instance Instance Same (values w s env es) (values u t env ds) _ _ (simulate_all es ds fs) (λ xs. by_call f g xs c)
+            on (List Instance) Instance Instance Same (values w s env es) (values u t others ds) _ _ (simulate_all es ds fs) (λ xs. by_call f g xs c)
         simulates e d (keeps_name {x = x} {y = y} n) = by_name x y n
         simulates e d (replaces k) = by_replaced e d k
 
-        pub simulate_all : (es ds : Exps) → FollowAll D locals es ds → R (List Instance) (List Instance) Same (values w s env es) (values u t env ds)
+        pub simulate_all : (es ds : Exps) → FollowAll D locals es ds → R (List Instance) (List Instance) Same (values w s env es) (values u t others ds)
         simulate_all es ds no_more = pure_same (List Instance) []
         simulate_all es ds (one_more {e = e} {d = d} {es = es'} {ds = ds'} f fs) =
-            on Instance (List Instance) (List Instance) Same (bind (value w s env e) used) (bind (value u t env d) used) _ _ (used_meets e d (simulates e d f)) (λ x.
-            on (List Instance) (List Instance) (List Instance) Same (values w s env es') (values u t env ds') _ _ (simulate_all es' ds' fs) (λ xs. pure_same (List Instance) (x ∷ xs)))
+            on Instance (List Instance) (List Instance) Same (bind (value w s env e) used) (bind (value u t others d) used) _ _ (used_meets e d (simulates e d f)) (λ x.
+            on (List Instance) (List Instance) (List Instance) Same (values w s env es') (values u t others ds') _ _ (simulate_all es' ds' fs) (λ xs. pure_same (List Instance) (x ∷ xs)))

@@ -33,7 +33,7 @@ use Rattle.wgsl_programs.proofs.Bodies.{names_of, value_meets}
 use Rattle.wgsl_programs.proofs.Itself.{itself, follows_itself, worlds_meet}
 
 -- a value there is the value here
-abbrev Holds : {A : Type 0} → Result A Error → Result A Error → Type 0
+abbrev pub Holds : {A : Type 0} → Result A Error → Result A Error → Type 0
 Holds (Ok x) r = r ≡ Ok x
 Holds (Err e) r = Unit {0}
 
@@ -114,14 +114,14 @@ module _ (t : ShaderStage) where
   each_holds : (o : UnaryOperator) (x : Instance) → Holds (if_typed (unary_type o (type_of x)) (each_component Const o x)) (if_typed (unary_type o (type_of x)) (each_component t o x))
   each_holds o x = typed_holds (unary_type o (type_of x)) _ _ (component_holds o (no_operand o x) (out-Instance x))
 
-  unary_value_holds : (o : UnaryOperator) (x : Instance) → Holds (unary_value Const o x) (unary_value t o x)
+  pub unary_value_holds : (o : UnaryOperator) (x : Instance) → Holds (unary_value Const o x) (unary_value t o x)
   unary_value_holds AddressOf x = same_holds _
   unary_value_holds Indirection x = same_holds _
   unary_value_holds LogicalNegation x = each_holds LogicalNegation x
   unary_value_holds Negation x = each_holds Negation x
   unary_value_holds BitwiseComplement x = each_holds BitwiseComplement x
 
-  binary_value_holds : (o : BinaryOperator) (x y : Instance) → Holds (binary_value Const o x y) (binary_value t o x y)
+  pub binary_value_holds : (o : BinaryOperator) (x y : Instance) → Holds (binary_value Const o x y) (binary_value t o x y)
   binary_value_holds o x y = typed_holds (binary_type o (type_of x) (type_of y)) _ _ (left_holds o (no_operands o x y) y (out-Instance x))
 
   carried : (r q : Made) → Holds r q → Carries Fault Instance Instance Same (computed r) (computed q)

@@ -41,34 +41,39 @@ bound w (p ∷ ps) [] = pure []
 bound w (p ∷ ps) (x ∷ xs) =
     bind (type_written w p.type) (λ t. bind (computed (argument t x)) (λ y. bind (bound w ps xs) (λ env. pure ((p.name, Has y) ∷ env))))
 
--- how a body's statements end
-abbrev pub executed : World → ShaderStage → Env → List Stm → M Flow
-executed w s env [] = pure Next
-executed w s env (returning attributes None ∷ rest) = pure (Returned None)
-executed w s env (returning attributes (Some e) ∷ rest) = bind (bind (value w s env e) used) (λ x. pure (Returned (Some x)))
-
 abbrev pub converted_return : Name → ShaderType → Instance → M (Option Instance)
 converted_return f t x = if converts (type_of x) t then bind (computed (converted x t)) (λ y. pure (Some y)) else fail (OfName (ReturnType (type_of x) t) f)
 
--- what is returned, converted to the function's type
+-- what is handed back, converted to the function's type
 abbrev pub handed_back : Name → Option ShaderType → Option Instance → M (Option Instance)
 handed_back f None None = pure None
 handed_back f None (Some x) = fail (OfName (UnexpectedReturn (type_of x)) f)
 handed_back f (Some t) None = fail (OfName (NoReturn t) f)
 handed_back f (Some t) (Some x) = converted_return f t x
 
-abbrev pub returned_by : Flow → Option Instance
-returned_by (Returned x) = x
-returned_by Next = None
-returned_by Broke = None
-returned_by Goes = None
+-- the value of a `return`
+abbrev pub returned : World → ShaderStage → Name → Option ShaderType → Env → Exp → M (Option Instance)
+returned w s f t env e = bind (bind (value w s env e) used) (λ x. handed_back f t (Some x))
+
+-- how the statements of a function of this type end
+abbrev pub executed : World → ShaderStage → Name → Option ShaderType → Env → List Stm → M Flow
+executed w s f t env [] = pure Next
+executed w s f t env (returning attributes None ∷ rest) = bind (handed_back f t None) (λ y. pure (Returned y))
+executed w s f t env (returning attributes (Some e) ∷ rest) = bind (returned w s f t env e) (λ y. pure (Returned y))
+
+-- a body that ends without a `return` hands back nothing
+abbrev pub ended : Name → Option ShaderType → Flow → M (Option Instance)
+ended f t (Returned x) = pure x
+ended f t Next = handed_back f t None
+ended f t Broke = handed_back f t None
+ended f t Goes = handed_back f t None
 
 abbrev pub written_result : World → Option Typ → M (Option ShaderType)
 written_result w None = pure None
 written_result w (Some t) = bind (type_written w t) (λ u. pure (Some u))
 
 abbrev pub body_of : World → ShaderStage → Name → Option Typ → List Stm → Env → M (Option Instance)
-body_of w s f type body env = bind (written_result w type) (λ t. bind (executed w s env body) (λ flow. handed_back f t (returned_by flow)))
+body_of w s f type body env = bind (written_result w type) (λ t. bind (executed w s f t env body) (ended f t))
 
 -- A call is a step. What its locals are stored in goes at its end
 abbrev pub call_in : World → ShaderStage → Name → Option Decl → List Instance → M (Option Instance)

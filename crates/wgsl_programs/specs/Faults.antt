@@ -44,6 +44,8 @@ pub data Fault : Type 0 where
   StepLimit : Fault
   -- of an operator, a conversion, a constructor, or of memory
   Operation : Error → Fault
+  -- a value of this type is used that isn't known yet
+  Deferred : ShaderType → Fault
   -- a number of an attribute is below 0
   NegativeAttr : ℤ → Fault
   OfName : NameFault → List ℕ → Fault
