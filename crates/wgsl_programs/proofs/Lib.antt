@@ -7,3 +7,4 @@ pub mod Stages
 pub mod Cells
 pub mod Scalars
 pub mod Agreeing
+pub mod Converting
