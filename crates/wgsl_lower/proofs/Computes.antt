@@ -41,7 +41,7 @@ use Rattle.wgsl_lower.proofs.Units.{Parts, parts_of}
 abbrev pub as_value : LiteralInstance → Instance
 as_value x = v.Literal x
 
-computed_done : {A : Type 0} (r : Result A Error) (x : A) (n : ℕ) → plain.computed r ≡ Done x n → r ≡ Ok x
+pub computed_done : {A : Type 0} (r : Result A Error) (x : A) (n : ℕ) → plain.computed r ≡ Done x n → r ≡ Ok x
 computed_done (Ok y) x n e = let same : y ≡ x = cc in ap Ok same
 computed_done (Err f) x n e = absurd (cc)
 
@@ -51,7 +51,7 @@ literal_is (L.I32 z) = refl
 literal_is (L.U32 n) = refl
 
 -- a result on scalars that is there
-of_scalars : (r : Result LiteralInstance Error) (x : LiteralInstance) → r ≡ Ok x → computed (as_literal r) ≡ pure (v.Literal x)
+pub of_scalars : (r : Result LiteralInstance Error) (x : LiteralInstance) → r ≡ Ok x → computed (as_literal r) ≡ pure (v.Literal x)
 of_scalars r x e = ap (λ q. computed (as_literal q)) e
 
 -- what decides is the result
@@ -70,6 +70,14 @@ decided_is t o x z y d h = absurd (cc)
 module _ (t : ShaderStage) (w : plain_meaning.World) (env : plain_meaning.Env) (u : World) (others : Env) (same_stage : w.stage ≡ t)
     (by_name : (x : Typ) (y : LiteralInstance) (n : ℕ) → plain_meaning.value_here w env (plain_names.plain_name x) ≡ Done y n → name_here u t others x ≡ pure (v.Literal y))
     (by_call : (f : Typ) (xs : List LiteralInstance) (y : LiteralInstance) (n : ℕ) → plain_meaning.result_here w env (plain_names.plain_name f) xs ≡ Done y n → callee_here u t others f (map as_value xs) ≡ pure (v.Literal y)) where
+  betweens : (o : BinaryOperator) (x z y : LiteralInstance) → scalar.binary_value t o x z ≡ Ok y → between t o (v.Literal x) (pure (v.Literal z)) ≡ pure (v.Literal y)
+  betweens o x z y is =
+      ap (λ b. if b then pure (v.Literal x) else bind (pure (v.Literal z)) (λ q. computed (binary_value t o (v.Literal x) q))) (decides_literal o x) ∙ either (decides_scalar o x) refl
+    where
+      either : (b : Bool) → decides_scalar o x ≡ b → (if b then pure (v.Literal x) else bind (pure (v.Literal z)) (λ q. computed (binary_value t o (v.Literal x) q))) ≡ pure (v.Literal y)
+      either true d = ap (λ q. pure (v.Literal q)) (decided_is t o x z y d is)
+      either false d = ap computed (binary_of_scalars others_refused t o x z) ∙ of_scalars (scalar.binary_value t o x z) y is
+
   mutual
     pub computes : (e : Exp) (y : LiteralInstance) (n : ℕ) → plain_meaning.value w env e ≡ Done y n → value u t others e ≡ pure (v.Literal y)
     computes (literal l) y n h = let same : plain_values.literal_value l ≡ y = cc in ap pure (literal_is l ∙ ap as_value same)
@@ -105,11 +113,3 @@ module _ (t : ShaderStage) (w : plain_meaning.World) (env : plain_meaning.Env) (
         ∙ ap (λ m. bind m (λ p. bind (values u t others es) (λ ps. pure (p ∷ ps)))) (used_literal x.first)
         ∙ ap (λ m. bind m (λ ps. pure (v.Literal x.first ∷ ps))) (compute_all es xs.first xs.steps xs.first_is)
         ∙ ap (λ l. pure (map as_value l)) same
-
-    betweens : (o : BinaryOperator) (x z y : LiteralInstance) → scalar.binary_value t o x z ≡ Ok y → between t o (v.Literal x) (pure (v.Literal z)) ≡ pure (v.Literal y)
-    betweens o x z y is =
-        ap (λ b. if b then pure (v.Literal x) else bind (pure (v.Literal z)) (λ q. computed (binary_value t o (v.Literal x) q))) (decides_literal o x) ∙ either (decides_scalar o x) refl
-      where
-        either : (b : Bool) → decides_scalar o x ≡ b → (if b then pure (v.Literal x) else bind (pure (v.Literal z)) (λ q. computed (binary_value t o (v.Literal x) q))) ≡ pure (v.Literal y)
-        either true d = ap (λ q. pure (v.Literal q)) (decided_is t o x z y d is)
-        either false d = ap computed (binary_of_scalars others_refused t o x z) ∙ of_scalars (scalar.binary_value t o x z) y is

@@ -230,7 +230,7 @@ module _ (ds : List Decl) (cs : Consts) where
 
   -- ---- declarations
 
-  outside : Typed []
+  abbrev outside : Typed []
   outside = record { types = []; named = refl; clear = λ x t h. refl }
 
   attributes_go : (a low : List Attr) → lowered_attributes (scope []) a ≡ Ok low → FollowAttributes lowering a low

@@ -130,7 +130,7 @@ built_same x t h = at (bytes_eq x (codes "i32")) (bytes_eq x (codes "u32")) h
 
 built_of : (f : Name) (t : ScalarType) (xs : List LiteralInstance) (y : LiteralInstance) (n : ℕ) → plain_meaning.construct f t xs ≡ Done y n → construct f (scalar_type t) (map as_value xs) ≡ pure (v.Literal y)
 built_of f t [] y n h = ap computed (zero_of_scalar t) ∙ of_scalars (constructed t (V.AbstractInt (pos 0))) y (computed_done (constructed t (V.AbstractInt (pos 0))) y n h)
-built_of f t (x ∷ []) y n h = ap computed (built_of_scalar t x) ∙ of_scalars (constructed t x) y (computed_done (constructed t x) y n h)
+built_of f t (x ∷ []) y n h = ap computed (built_of_scalar x t) ∙ of_scalars (constructed t x) y (computed_done (constructed t x) y n h)
 built_of f t (x ∷ z ∷ xs) y n h = absurd (cc)
 
 -- a constructor by its name
@@ -169,7 +169,7 @@ module _ (ds : List Decl) (cs : Consts) (declared : AreDeclared ds cs) (ts : Typ
   s = record { declarations = ds; consts = cs; parameters = ts }
 
   abbrev pub scope_world : World
-  scope_world = world (runs.plain ds) 0 (known_of cs) root
+  scope_world = world (runs.plain ds) (known_of cs) 0 root
 
   not_hidden : (x : Name) → plain_names.find x ts ≡ None → find x (hidden_locals ts) ≡ None
   not_hidden x e = hidden_found x ts ∙ ap if_hidden e
