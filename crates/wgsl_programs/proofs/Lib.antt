@@ -6,3 +6,4 @@ pub mod Limits
 pub mod Stages
 pub mod Cells
 pub mod Scalars
+pub mod Typing
