@@ -28,6 +28,8 @@ use Rattle.wgsl_shader_type.specs.Class.{is_bool, bool_layer, is_handle, loaded_
 use Rattle.wgsl_shader_type.specs.Operator.{takes, gives, is_arithmetic, is_logical, is_shift, ScalarSignature, Signature}
 use Rattle.wgsl_shader_type.specs.Rank.{converts}
 use Rattle.wgsl_shader_type.specs.ResultOf.{unary_result, unary_fault, binary_result}
+use Rattle.wgsl_shader_type.specs.Alike.{same}
+use Rattle.wgsl_shader_type.specs.Equality.{equal_if_same}
 use Rattle.wgsl_shader_type.specs.Trees.{induction}
 use Rattle.wgsl_shader_type.proofs.Candidates.{result_found}
 use Rattle.wgsl_shader_type.proofs.UnaryCandidates as unary_candidates
@@ -57,15 +59,15 @@ use Rattle.wgsl_instance_operators.proofs.Types.{values_have_their_types as oper
 use Rattle.wgsl_constructors.specs.Built.{literal_of, cast, cast_at, built_scalar}
 use Rattle.wgsl_computations.specs.Machine.{State, Outcome, Done, Failed, Deep, pure, fail, bind, next_of, back_to, scoped, of_result}
 use Rattle.wgsl_computations.specs.Loops.{Flow, Next, Returned}
-use Rattle.wgsl_programs.specs.Faults.{Fault, Operation, OfName, Todo, ParamCount, ReturnType}
+use Rattle.wgsl_programs.specs.Faults.{Fault, Operation, OfName, Todo, ParamCount, ReturnType, NotEntrypoint}
 use Rattle.wgsl_programs.specs.Computing.{M, Checked, computed, at_once, used, step}
 use Rattle.wgsl_programs.specs.Names.{Name, Path, Symbol, is_same, Local, Has, Hidden, local_type, Env, find, built_in_type}
 use Rattle.wgsl_programs.specs.Operations.{literal_value, type_or, if_typed, unary_type, unary_value, operand, operand_type, binary_type, binary_value, decides_layer, decides, argument, construct, construct_type}
 use Rattle.wgsl_programs.specs.Meaning.{World, plain_name, name_value, name_type, needed, call_value, call_type, denoted_type, type_written, between, value, values, typed, all_typed}
 use Rattle.wgsl_programs.specs.Calls.{const_in, bound, executed, handed_back, returned_by, written_result, body_of, call_in, result_in}
 use Rattle.wgsl_programs.specs.Programs.{Program, Known, find_known, known_value, known_type, at_exec, Calls, function_world, result_of_function, module_world, calls_inside, world}
-use Rattle.wgsl_programs.specs.Runs.{started}
-use Rattle.wgsl_programs.specs.Typing.{Gives, IsProper, IsOfType, AreProper, IsProperLocal, AreProperLocals, local_types, IsProperResult, IsOfResultType, ValuesAreProper, ValuesHaveTheirTypes, ResultsHaveTheirTypes, StartedValuesAreProper}
+use Rattle.wgsl_programs.specs.Runs.{started, Handed, location_of, input_at, inputs_bound, has_stage, entered}
+use Rattle.wgsl_programs.specs.Typing.{Gives, IsProper, IsOfType, AreProper, IsProperLocal, AreProperLocals, local_types, AreWellFormed, IsProperResult, IsOfResultType, ValuesAreProper, ValuesHaveTheirTypes, ResultsHaveTheirTypes, StartedValuesAreProper, RunsHaveTheirTypes}
 use Rattle.wgsl_programs.proofs.Scalars.{scalar_of_scalar}
 
 -- ---- how what ends well went
@@ -839,3 +841,46 @@ started_proper p k known all (s ∷ rest) after g =
 
 pub started_values_are_proper : StartedValuesAreProper
 started_values_are_proper p k known after order all g = started_proper p k known all order after g
+
+-- ---- runs
+
+input_proper : (x : Name) (n : ℕ) (t : ShaderType) → IsScalarType t → (o : Option Instance) → ((y : Instance) → o ≡ Some y → IsWellFormed y) → (z : Instance) → Gives (input_at x n t o) z → IsProper z
+input_proper x n t is None formed z g = no_fail _ z g
+input_proper x n t is (Some y) formed z g = at (same (type_of y) t) refl g
+  where
+    at : (b : Bool) → same (type_of y) t ≡ b → Gives (if b then pure y else fail (Operation (error.ParamType t (type_of y)))) z → IsProper z
+    at true e g = subst IsProper (pure_is y z g) (record { formed = formed y refl; no_handle = ap is_handle (equal_if_same (type_of y) t e) ∙ no_handle_at t is })
+    at false e g = no_fail _ z g
+
+inputs_proper : (w : World) (handed : Handed) → AreWellFormed handed → (ps : List Param) (env : Env) → Gives (inputs_bound w handed ps) env → AreProperLocals env
+inputs_proper w handed formed [] env g = subst AreProperLocals (pure_is [] env g) (All-nil (λ l. IsProperLocal l.1))
+inputs_proper w handed formed (p ∷ ps) env g =
+    let a = through (location_of w p.name p.attributes) (λ n. bind (type_written w p.type) (λ t. bind (input_at p.name n t (handed.inputs n)) (λ y.
+    bind (inputs_bound w handed ps) (λ others. pure ((p.name, Has y) ∷ others))))) env g in
+    let b = through (type_written w p.type) (λ t. bind (input_at p.name a.answer t (handed.inputs a.answer)) (λ y.
+    bind (inputs_bound w handed ps) (λ others. pure ((p.name, Has y) ∷ others)))) env a.rest in
+    let c = through (input_at p.name a.answer b.answer (handed.inputs a.answer)) (λ y. bind (inputs_bound w handed ps) (λ others. pure ((p.name, Has y) ∷ others))) env b.rest in
+    let d = through (inputs_bound w handed ps) (λ others. pure ((p.name, Has c.answer) ∷ others)) env c.rest in
+    let one = input_proper p.name a.answer b.answer (writes_scalar p.type b.answer (writes w p.type b.answer b.first)) (handed.inputs a.answer) (formed a.answer) c.answer c.first in
+    subst AreProperLocals {x = (p.name, Has c.answer) ∷ d.answer} (pure_is ((p.name, Has c.answer) ∷ d.answer) env d.rest)
+    (All-cons (λ l. IsProperLocal l.1) (p.name, Has c.answer) d.answer one (inputs_proper w handed formed ps d.answer d.first))
+
+entered_typed : (w : World) → GivesProper w Exec → (f : Name) (d : Option Decl) (handed : Handed) → AreWellFormed handed → (y : Option Instance) → Gives (entered w f d handed) y → IsResultOf d y
+entered_typed w world f (Some (function attributes g parameters return_attributes type body)) handed formed y h = at (has_stage attributes) h
+  where
+    at : (b : Bool) → Gives (if b then bind (inputs_bound w handed parameters) (body_of w Exec f type body.statements) else fail (OfName NotEntrypoint f)) y
+        → IsResultOf (Some (function attributes g parameters return_attributes type body)) y
+    at true h =
+        let a = through (inputs_bound w handed parameters) (body_of w Exec f type body.statements) y h in
+        let r = body_typed w Exec world f type body.statements a.answer (inputs_proper w handed formed parameters a.answer a.first) y a.rest in
+        record { type = r.is; declared = r.written; typed = r.typed }
+    at false h = no_fail _ y h
+entered_typed w world f (Some (variable attributes kind x type e)) handed formed y h = no_fail _ y h
+entered_typed w world f None handed formed y h = no_fail _ y h
+
+pub runs_have_their_types : RunsHaveTheirTypes
+runs_have_their_types p k order s handed known t answer formed g h =
+    let a = through (started p k [] order) (λ all. entered (world p all k s.home) (p.printed s) (p.item s) handed) answer h in
+    let all = started_proper p k [] (All-nil (λ b. IsProper b.1)) order a.answer a.first in
+    let r = entered_typed (world p a.answer k s.home) (world_proper p a.answer all k s.home Exec) (p.printed s) (p.item s) handed formed answer a.rest in
+    subst (λ u. IsOfResultType u answer) (declared_once (p.item s) r.type t r.declared (declares_result (function_world p known s) (p.printed s) (p.item s) t g)) r.typed

@@ -11,7 +11,7 @@ use Rattle.wgsl_programs.specs.Computing.{M}
 use Rattle.wgsl_programs.specs.Names.{Name, Path, Symbol, Local, Has, Hidden, local_type, Env}
 use Rattle.wgsl_programs.specs.Meaning.{typed, value}
 use Rattle.wgsl_programs.specs.Programs.{Program, Known, result_of_function, calls_inside, world}
-use Rattle.wgsl_programs.specs.Runs.{started}
+use Rattle.wgsl_programs.specs.Runs.{started, Handed, run}
 
 -- from some state it ends well, with this answer
 pub record Gives {A : Type 0} (m : M A) (x : A) : Type 0 where
@@ -58,6 +58,11 @@ IsOfResultType (Some t) (Some x) = IsOfType t x
 IsOfResultType None None = Unit {0}
 IsOfResultType t x = ⊥
 
+-- ---- what is handed in
+
+abbrev pub AreWellFormed : Handed → Type 0
+AreWellFormed handed = (n : ℕ) (x : Instance) → handed.inputs n ≡ Some x → IsWellFormed x
+
 -- ---- laws
 
 -- The value of an expression is proper, where known values and locals are
@@ -79,3 +84,8 @@ ResultsHaveTheirTypes = (p : Program) (known : Known) (k : ℕ) (stage : ShaderS
 -- The start makes proper values known
 abbrev pub StartedValuesAreProper : Type 0
 StartedValuesAreProper = (p : Program) (k : ℕ) (known after : Known) (order : List Symbol) → AreProper known → Gives (started p k known order) after → AreProper after
+
+-- What a run answers has the type of its entry point's result. (No value is in that type.)
+abbrev pub RunsHaveTheirTypes : Type 0
+RunsHaveTheirTypes = (p : Program) (k : ℕ) (order : List Symbol) (s : Symbol) (handed : Handed) (known : Known) (t : Option ShaderType) (answer : Option Instance)
+    → AreWellFormed handed → Gives (result_of_function p known s) t → Gives (run p k order s handed) answer → IsOfResultType t answer

@@ -1,7 +1,7 @@
 //! Laws of what programs mean, over memory and with a limit of steps. Each function states its law and does nothing.
 
 ghost use Rattle.wgsl_programs.specs.Laws.{LargerBoundsAgree, LimitsComeFirst, ConstValuesHold, CallsLeaveCells};
-ghost use Rattle.wgsl_programs.specs.Typing.{ValuesAreProper, ValuesHaveTheirTypes, ResultsHaveTheirTypes, StartedValuesAreProper};
+ghost use Rattle.wgsl_programs.specs.Typing.{ValuesAreProper, ValuesHaveTheirTypes, ResultsHaveTheirTypes, StartedValuesAreProper, RunsHaveTheirTypes};
 
 /// A larger bound changes nothing of a run that is over: the same answer or fault, the same cells, as many steps left.
 pub fn larger_bounds_agree()
@@ -41,4 +41,9 @@ pub fn results_have_their_types()
 /// The values that the start of a program makes known are well formed, and neither references nor pointers.
 pub fn started_values_are_proper()
     ensures { StartedValuesAreProper }
+{}
+
+/// Where the values that are handed in are well formed, what a run answers has the type that its entry point's declaration writes.
+pub fn runs_have_their_types()
+    ensures { RunsHaveTheirTypes }
 {}
