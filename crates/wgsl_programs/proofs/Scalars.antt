@@ -41,7 +41,7 @@ use Rattle.wgsl_instance.specs.Typed.{literal_type, type_of}
 use Rattle.wgsl_instance.specs.Zero.{Made, zero_value, zero_scalar}
 use Rattle.wgsl_instance.specs.Parts.{address_layer, indirection_layer}
 use Rattle.wgsl_instance.specs.Converted.{scalar_of, to_scalar, parts_layer, by_types, mismatch, converted, converted_parts}
-use Rattle.wgsl_instance.proofs.Typings.{literal_typed}
+use Rattle.wgsl_instance.proofs.Typings.{not_ok, literal_typed}
 use Rattle.wgsl_instance.proofs.Conversions.{converted_is}
 use Rattle.wgsl_instance.proofs.Zeros.{zero_of_bool, zero_of_abstract_int, zero_of_i32, zero_of_u32}
 use Rattle.wgsl_memory.specs.Places.{loaded_layer}
@@ -289,6 +289,21 @@ converted_scalar x t h =
     ∙ (λ k. by_types (types.same (literal_typed x k) (scalar_type t)) (converts (literal_typed x k) (scalar_type t)) (Ok (v.Literal x)) (converted_part x t k) (Err (Conversion (literal_typed x k) (scalar_type t))))
     ∙ (λ k. chosen_of (same_of_scalars (scalars.type_of x) t k) (converts_of_scalars (scalars.type_of x) t k) x t)
     ∙ chosen x t h
+
+-- where the conversion of the scalar gives one, it was in range
+in_range : (x : LiteralInstance) (t : ScalarType) (y : LiteralInstance) → conversions.converted t x ≡ Ok y → IsInRange t x
+in_range (scalar.AbstractInt z) (Integer AbstractInt) y h = at (scalars.fits AbstractInt z) h
+  where
+    at : (b : Bool) → (if b then Ok (scalar.AbstractInt z) else Err (ConvOverflow (scalar.AbstractInt z) type.AbstractInt)) ≡ Ok y → b ≡ true
+    at true h = refl
+    at false h = not_ok (ConvOverflow (scalar.AbstractInt z) type.AbstractInt) y h
+in_range x (Integer AbstractInt) y h = tt
+in_range x (Integer I32) y h = tt
+in_range x (Integer U32) y h = tt
+in_range x Truth y h = tt
+
+pub converted_scalar_ok : (x : LiteralInstance) (t : ScalarType) (y : LiteralInstance) → conversions.converted t x ≡ Ok y → converted (v.Literal x) (scalar_type t) ≡ Ok (v.Literal y)
+converted_scalar_ok x t y h = converted_scalar x t (in_range x t y h) ∙ ap as_literal h
 
 -- to an integer type of a size, whatever the number is
 pub converted_i32 : (x : LiteralInstance) → converted (v.Literal x) (scalar_type (Integer I32)) ≡ as_literal (conversions.converted (Integer I32) x)
