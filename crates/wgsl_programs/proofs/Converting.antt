@@ -18,6 +18,7 @@ use Rattle.wgsl_scalar.specs.declared.scalar.IntegerType.TheVariants.{AbstractIn
 use Rattle.wgsl_scalar.specs.Scalars as scalars
 use Rattle.wgsl_scalar.specs.Scalars.{scalar_type}
 use Rattle.wgsl_scalar.specs.Conversions as conversions
+use Rattle.wgsl_scalar.specs.OperatorTypes as scalar_types
 use Rattle.wgsl_instance.specs.declared.tree.Instance.{Instance, roll-Instance, out-Instance, roll-out-Instance}
 use Rattle.wgsl_instance.specs.declared.tree.Instance.TheVariants as v
 use Rattle.wgsl_instance.specs.declared.tree.Instance.TheOpen.{Instance-F}
@@ -33,7 +34,7 @@ use Rattle.wgsl_programs.specs.Faults.{Fault, OfName, ReturnType}
 use Rattle.wgsl_programs.specs.Computing.{M, computed, is_deferred_layer, is_deferred, used}
 use Rattle.wgsl_programs.specs.Names.{Name}
 use Rattle.wgsl_programs.specs.Calls.{handed_back}
-use Rattle.wgsl_programs.proofs.Scalars.{used_literal, type_of_literal, converts_scalars, IsInRange, converted_scalar, built_of_scalar}
+use Rattle.wgsl_programs.proofs.Scalars.{used_literal, type_of_literal, converts_of_scalars, IsInRange, converted_scalar, built_of_scalar}
 
 -- i32 or u32
 abbrev pub IsConcrete : IntegerType → Type 0
@@ -89,8 +90,7 @@ makes U32 c (scalar.AbstractInt z) y h = record { made = h; typed = from_abstrac
 makes U32 c (scalar.I32 z) y h = absurd (cc)
 makes U32 c (scalar.U32 n) y h = let is : scalar.U32 n ≡ y = cc in record { made = h; typed = ap scalars.type_of (sym is) }
 
-converts_itself : (t : IntegerType) → is_some (rank_layer same rank_of (out-ShaderType (scalar_type (Integer t))) (out-ShaderType (scalar_type (Integer t)))) ≡ true
-unfolding tree.out-ShaderType denote.Hole.Carrier.out
+converts_itself : (t : IntegerType) → scalar_types.converts (Integer t) (Integer t) ≡ true
 converts_itself AbstractInt = refl
 converts_itself I32 = refl
 converts_itself U32 = refl
@@ -113,7 +113,7 @@ module _ (f : Name) (t : IntegerType) (concrete : IsConcrete t) where
   own y h = (λ k. given (is k) (type_of (v.Literal y)) (own_value t concrete y h k))
     where
       is : converts (type_of (v.Literal y)) T ≡ true
-      is = ap (λ u. converts u T) (type_of_literal y ∙ ap scalar_type h) ∙ converts_scalars (Integer t) (Integer t) ∙ converts_itself t
+      is = ap (λ u. converts u T) (type_of_literal y ∙ ap scalar_type h) ∙ converts_of_scalars (Integer t) (Integer t) ∙ converts_itself t
 
   abbrev pub constructed_first : Result Instance Error → M (Option Instance)
   constructed_first r = bind (bind (computed r) used) (λ y. handed_back f (Some T) (Some y))

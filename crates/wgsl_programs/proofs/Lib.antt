@@ -6,5 +6,6 @@ pub mod Limits
 pub mod Stages
 pub mod Cells
 pub mod Scalars
+pub mod Typing
 pub mod Agreeing
 pub mod Converting

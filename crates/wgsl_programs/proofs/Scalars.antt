@@ -8,7 +8,7 @@ use Rattle.wgsl_operators.specs.declared.BinaryOperator.{BinaryOperator}
 use Rattle.wgsl_operators.specs.declared.BinaryOperator.TheVariants.{ShortCircuitOr, ShortCircuitAnd}
 use Rattle.wgsl_enumerations.specs.declared.words.ShaderStage.{ShaderStage}
 use Rattle.wgsl_shader_type.specs.declared.error.Error.{Error}
-use Rattle.wgsl_shader_type.specs.declared.error.Error.TheVariants.{Unary, Binary, Conversion, ConvOverflow}
+use Rattle.wgsl_shader_type.specs.declared.error.Error.TheVariants.{Unary, Binary, Conversion, ConvOverflow, ParamType}
 use Rattle.wgsl_shader_type.specs.declared.literal.LiteralInstance.{LiteralInstance}
 use Rattle.wgsl_shader_type.specs.declared.literal.LiteralInstance.TheVariants as scalar
 use Rattle.wgsl_shader_type.specs.declared.tree.ShaderType.{ShaderType}
@@ -41,7 +41,7 @@ use Rattle.wgsl_instance.specs.Typed.{literal_type, type_of}
 use Rattle.wgsl_instance.specs.Zero.{Made, zero_value, zero_scalar}
 use Rattle.wgsl_instance.specs.Parts.{address_layer, indirection_layer}
 use Rattle.wgsl_instance.specs.Converted.{scalar_of, to_scalar, parts_layer, by_types, mismatch, converted, converted_parts}
-use Rattle.wgsl_instance.proofs.Typings.{literal_typed}
+use Rattle.wgsl_instance.proofs.Typings.{not_ok, literal_typed}
 use Rattle.wgsl_instance.proofs.Conversions.{converted_is}
 use Rattle.wgsl_instance.proofs.Zeros.{zero_of_bool, zero_of_abstract_int, zero_of_i32, zero_of_u32}
 use Rattle.wgsl_memory.specs.Places.{loaded_layer}
@@ -50,7 +50,7 @@ use Rattle.wgsl_constructors.specs.Built.{literal_layer, cast, cast_at, built_sc
 use Rattle.wgsl_computations.specs.Machine.{pure, fail, bind, loaded, of_result}
 use Rattle.wgsl_programs.specs.Faults.{Operation, Deferred}
 use Rattle.wgsl_programs.specs.Computing.{is_deferred_layer, known, used}
-use Rattle.wgsl_programs.specs.Operations.{type_or, if_typed, operand, operand_type, unary_type, unary_value, binary_type, binary_value, decides_layer, decides}
+use Rattle.wgsl_programs.specs.Operations.{type_or, if_typed, operand, operand_type, unary_type, unary_value, binary_type, binary_value, decides_layer, decides, argument}
 
 -- two scalars combined
 pub combined_scalars : (s : ShaderStage) (o : BinaryOperator) (x y : LiteralInstance) → combined s o (v.Literal x) (v.Literal y) ≡ as_literal (on_scalars.binary_value s o x y)
@@ -206,25 +206,67 @@ unary_type_of_scalars o t = ap (unary_type o) (operand_scalar o t) ∙ taken_in_
 
 -- ---- conversions and constructors of scalars
 
+abbrev pub is_same : ScalarType → ScalarType → Bool
+is_same Truth Truth = true
+is_same (Integer AbstractInt) (Integer AbstractInt) = true
+is_same (Integer I32) (Integer I32) = true
+is_same (Integer U32) (Integer U32) = true
+is_same t u = false
+
+converts_ranked : (t u : ScalarType) → is_some (rank_layer types.same rank_of (tree.out-ShaderType (scalar_type t)) (tree.out-ShaderType (scalar_type u))) ≡ scalar_types.converts t u
+unfolding tree.out-ShaderType denote.Hole.Carrier.out
+converts_ranked Truth Truth = refl
+converts_ranked Truth (Integer AbstractInt) = refl
+converts_ranked Truth (Integer I32) = refl
+converts_ranked Truth (Integer U32) = refl
+converts_ranked (Integer AbstractInt) Truth = refl
+converts_ranked (Integer AbstractInt) (Integer AbstractInt) = refl
+converts_ranked (Integer AbstractInt) (Integer I32) = refl
+converts_ranked (Integer AbstractInt) (Integer U32) = refl
+converts_ranked (Integer I32) Truth = refl
+converts_ranked (Integer I32) (Integer AbstractInt) = refl
+converts_ranked (Integer I32) (Integer I32) = refl
+converts_ranked (Integer I32) (Integer U32) = refl
+converts_ranked (Integer U32) Truth = refl
+converts_ranked (Integer U32) (Integer AbstractInt) = refl
+converts_ranked (Integer U32) (Integer I32) = refl
+converts_ranked (Integer U32) (Integer U32) = refl
+
+pub converts_of_scalars : (t u : ScalarType) → converts (scalar_type t) (scalar_type u) ≡ scalar_types.converts t u
+converts_of_scalars t u = ap is_some (rank_out (scalar_type t) (scalar_type u)) ∙ converts_ranked t u
+
+same_ranked : (t u : ScalarType) → types.same_layer types.same (tree.out-ShaderType (scalar_type t)) (tree.out-ShaderType (scalar_type u)) ≡ is_same t u
+unfolding tree.out-ShaderType denote.Hole.Carrier.out
+same_ranked Truth Truth = refl
+same_ranked Truth (Integer AbstractInt) = refl
+same_ranked Truth (Integer I32) = refl
+same_ranked Truth (Integer U32) = refl
+same_ranked (Integer AbstractInt) Truth = refl
+same_ranked (Integer AbstractInt) (Integer AbstractInt) = refl
+same_ranked (Integer AbstractInt) (Integer I32) = refl
+same_ranked (Integer AbstractInt) (Integer U32) = refl
+same_ranked (Integer I32) Truth = refl
+same_ranked (Integer I32) (Integer AbstractInt) = refl
+same_ranked (Integer I32) (Integer I32) = refl
+same_ranked (Integer I32) (Integer U32) = refl
+same_ranked (Integer U32) Truth = refl
+same_ranked (Integer U32) (Integer AbstractInt) = refl
+same_ranked (Integer U32) (Integer I32) = refl
+same_ranked (Integer U32) (Integer U32) = refl
+
+pub same_of_scalars : (t u : ScalarType) → types.same (scalar_type t) (scalar_type u) ≡ is_same t u
+same_of_scalars t u = same_out (scalar_type t) (scalar_type u) ∙ same_ranked t u
+
 -- an AbstractInt is in its type's range where it is converted to its own type; values of code are
 abbrev pub IsInRange : ScalarType → LiteralInstance → Type 0
 IsInRange (Integer AbstractInt) (scalar.AbstractInt z) = scalars.fits AbstractInt z ≡ true
 IsInRange t x = Unit {0}
 
-same_scalars : (t u : ScalarType) → types.same (scalar_type t) (scalar_type u) ≡ types.same_layer types.same (tree.out-ShaderType (scalar_type t)) (tree.out-ShaderType (scalar_type u))
-same_scalars t u = same_out (scalar_type t) (scalar_type u)
-
-pub converts_scalars : (t u : ScalarType) → converts (scalar_type t) (scalar_type u) ≡ is_some (rank_layer types.same rank_of (tree.out-ShaderType (scalar_type t)) (tree.out-ShaderType (scalar_type u)))
-converts_scalars t u = ap is_some (rank_out (scalar_type t) (scalar_type u))
-
 -- the value itself, or its conversion, or a mismatch
 abbrev chosen_of : Bool → Bool → LiteralInstance → ScalarType → Made
 chosen_of same converting x t = by_types same converting (Ok (v.Literal x)) (as_literal (conversions.converted t x)) (Err (Conversion (literal_type x) (scalar_type t)))
 
-chosen : (x : LiteralInstance) (t : ScalarType) → IsInRange t x
-    → chosen_of (types.same_layer types.same (tree.out-ShaderType (literal_type x)) (tree.out-ShaderType (scalar_type t))) (is_some (rank_layer types.same rank_of (tree.out-ShaderType (literal_type x)) (tree.out-ShaderType (scalar_type t)))) x t
-        ≡ as_literal (conversions.converted t x)
-unfolding tree.out-ShaderType denote.Hole.Carrier.out
+chosen : (x : LiteralInstance) (t : ScalarType) → IsInRange t x → chosen_of (is_same (scalars.type_of x) t) (scalar_types.converts (scalars.type_of x) t) x t ≡ as_literal (conversions.converted t x)
 chosen (scalar.Bool b) Truth h = refl
 chosen (scalar.Bool b) (Integer AbstractInt) h = refl
 chosen (scalar.Bool b) (Integer I32) h = refl
@@ -251,8 +293,37 @@ pub converted_scalar : (x : LiteralInstance) (t : ScalarType) → IsInRange t x 
 converted_scalar x t h =
     converted_is (v.Literal x) (scalar_type t)
     ∙ (λ k. by_types (types.same (literal_typed x k) (scalar_type t)) (converts (literal_typed x k) (scalar_type t)) (Ok (v.Literal x)) (converted_part x t k) (Err (Conversion (literal_typed x k) (scalar_type t))))
-    ∙ (λ k. chosen_of (same_scalars (scalars.type_of x) t k) (converts_scalars (scalars.type_of x) t k) x t)
+    ∙ (λ k. chosen_of (same_of_scalars (scalars.type_of x) t k) (converts_of_scalars (scalars.type_of x) t k) x t)
     ∙ chosen x t h
+
+-- where the conversion of the scalar gives one, it was in range
+in_range : (x : LiteralInstance) (t : ScalarType) (y : LiteralInstance) → conversions.converted t x ≡ Ok y → IsInRange t x
+in_range (scalar.AbstractInt z) (Integer AbstractInt) y h = at (scalars.fits AbstractInt z) h
+  where
+    at : (b : Bool) → (if b then Ok (scalar.AbstractInt z) else Err (ConvOverflow (scalar.AbstractInt z) type.AbstractInt)) ≡ Ok y → b ≡ true
+    at true h = refl
+    at false h = not_ok (ConvOverflow (scalar.AbstractInt z) type.AbstractInt) y h
+in_range x (Integer AbstractInt) y h = tt
+in_range x (Integer I32) y h = tt
+in_range x (Integer U32) y h = tt
+in_range x Truth y h = tt
+
+pub converted_scalar_ok : (x : LiteralInstance) (t : ScalarType) (y : LiteralInstance) → conversions.converted t x ≡ Ok y → converted (v.Literal x) (scalar_type t) ≡ Ok (v.Literal y)
+converted_scalar_ok x t y h = converted_scalar x t (in_range x t y h) ∙ ap as_literal h
+
+-- to an integer type of a size, whatever the number is
+pub converted_i32 : (x : LiteralInstance) → converted (v.Literal x) (scalar_type (Integer I32)) ≡ as_literal (conversions.converted (Integer I32) x)
+converted_i32 x = converted_scalar x (Integer I32) tt
+
+pub converted_u32 : (x : LiteralInstance) → converted (v.Literal x) (scalar_type (Integer U32)) ≡ as_literal (conversions.converted (Integer U32) x)
+converted_u32 x = converted_scalar x (Integer U32) tt
+
+-- where the type doesn't convert, the error tells the parameter's type first
+pub argument_of_scalar : (x : LiteralInstance) (t : ScalarType) → IsInRange t x
+    → argument (scalar_type t) (v.Literal x) ≡ (if scalar_types.converts (scalars.type_of x) t then as_literal (conversions.converted t x) else Err (ParamType (scalar_type t) (literal_type x)))
+argument_of_scalar x t h =
+    (λ k. if converts (literal_typed x k) (scalar_type t) then converted_scalar x t h k else Err (ParamType (scalar_type t) (literal_typed x k)))
+    ∙ (λ k. if converts_of_scalars (scalars.type_of x) t k then as_literal (conversions.converted t x) else Err (ParamType (scalar_type t) (literal_type x)))
 
 pub built_of_scalar : (x : LiteralInstance) (t : ScalarType) → built_scalar (scalar_type t) (v.Literal x) ≡ as_literal (conversions.constructed t x)
 built_of_scalar x t =

@@ -7,4 +7,5 @@ pub mod Calls
 pub mod Programs
 pub mod Runs
 pub mod Follows
+pub mod Typing
 pub mod Laws

@@ -1,6 +1,7 @@
 //! Laws of what programs mean, over memory and with a limit of steps. Each function states its law and does nothing.
 
 ghost use Rattle.wgsl_programs.specs.Laws.{LargerBoundsAgree, LimitsComeFirst, ConstValuesHold, CallsLeaveCells};
+ghost use Rattle.wgsl_programs.specs.Typing.{ValuesAreProper, ValuesHaveTheirTypes, ResultsHaveTheirTypes, StartedValuesAreProper, RunsHaveTheirTypes};
 
 /// A larger bound changes nothing of a run that is over: the same answer or fault, the same cells, as many steps left.
 pub fn larger_bounds_agree()
@@ -20,4 +21,29 @@ pub fn const_values_hold()
 /// A call of a function leaves the cells of memory as they were.
 pub fn calls_leave_cells()
     ensures { CallsLeaveCells }
+{}
+
+/// Where known values and locals are well formed, and neither references nor pointers, each value of an expression is so.
+pub fn values_are_proper()
+    ensures { ValuesAreProper }
+{}
+
+/// A value has the type that typing finds of the expression, at every stage, also where the typing knows of locals no more than their types.
+pub fn values_have_their_types()
+    ensures { ValuesHaveTheirTypes }
+{}
+
+/// What a call hands back has the type that the function's declaration writes; without one nothing is handed back.
+pub fn results_have_their_types()
+    ensures { ResultsHaveTheirTypes }
+{}
+
+/// The values that the start of a program makes known are well formed, and neither references nor pointers.
+pub fn started_values_are_proper()
+    ensures { StartedValuesAreProper }
+{}
+
+/// Where the values that are handed in are well formed, what a run answers has the type that its entry point's declaration writes.
+pub fn runs_have_their_types()
+    ensures { RunsHaveTheirTypes }
 {}
