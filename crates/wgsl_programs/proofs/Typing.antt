@@ -57,14 +57,14 @@ use Rattle.wgsl_memory.specs.Places.{loaded_layer}
 use Rattle.wgsl_instance_operators.specs.Operators.{as_literal, as_vector, first_type, of_pairs, with_left, with_right, by_left, by_right, by_vector, no_operands, combined, component_layer, no_operand, each_component}
 use Rattle.wgsl_instance_operators.proofs.Types.{values_have_their_types as operators_have_their_types, unary_values_have_their_types}
 use Rattle.wgsl_constructors.specs.Built.{literal_of, cast, cast_at, built_scalar}
-use Rattle.wgsl_computations.specs.Machine.{State, Outcome, Done, Failed, Deep, pure, fail, bind, next_of, back_to, scoped, of_result}
-use Rattle.wgsl_computations.specs.Loops.{Flow, Next, Returned}
-use Rattle.wgsl_programs.specs.Faults.{Fault, Operation, OfName, Todo, ParamCount, ReturnType, NotEntrypoint}
-use Rattle.wgsl_programs.specs.Computing.{M, Checked, computed, at_once, used, step}
+use Rattle.wgsl_computations.specs.Machine.{State, Outcome, Done, Failed, Deep, pure, fail, bind, next_of, loaded, back_to, scoped, of_result}
+use Rattle.wgsl_computations.specs.Loops.{Flow, Next, Broke, Goes, Returned}
+use Rattle.wgsl_programs.specs.Faults.{Fault, Operation, Deferred, OfName, Todo, ParamCount, ReturnType, NotEntrypoint}
+use Rattle.wgsl_programs.specs.Computing.{M, Checked, computed, at_once, is_deferred, known, used, step}
 use Rattle.wgsl_programs.specs.Names.{Name, Path, Symbol, is_same, Local, Has, Hidden, local_type, Env, find, built_in_type}
 use Rattle.wgsl_programs.specs.Operations.{literal_value, type_or, if_typed, unary_type, unary_value, operand, operand_type, binary_type, binary_value, decides_layer, decides, argument, construct, construct_type}
 use Rattle.wgsl_programs.specs.Meaning.{World, plain_name, name_value, name_type, needed, call_value, call_type, denoted_type, type_written, between, value, values, typed, all_typed}
-use Rattle.wgsl_programs.specs.Calls.{const_in, bound, executed, handed_back, returned_by, written_result, body_of, call_in, result_in}
+use Rattle.wgsl_programs.specs.Calls.{const_in, bound, executed, handed_back, returned, ended, written_result, body_of, call_in, result_in}
 use Rattle.wgsl_programs.specs.Programs.{Program, Known, find_known, known_value, known_type, at_exec, Calls, function_world, result_of_function, module_world, calls_inside, world}
 use Rattle.wgsl_programs.specs.Runs.{started, Handed, location_of, input_at, inputs_bound, has_stage, entered}
 use Rattle.wgsl_programs.specs.Typing.{Gives, IsProper, IsOfType, AreProper, IsProperLocal, AreProperLocals, local_types, AreWellFormed, IsProperResult, IsOfResultType, ValuesAreProper, ValuesHaveTheirTypes, ResultsHaveTheirTypes, StartedValuesAreProper, RunsHaveTheirTypes}
@@ -166,10 +166,20 @@ loads : (cells : List Instance) (x : Instance) (y : Instance-F Instance) → is_
 loads cells x (Instance-F.Ref r) h = absurd (true≢false (sym (handle_of_reference r) ∙ h))
 loads cells x y h = refl
 
+loaded_is_itself : (x : Instance) → IsProper x → (y : Instance) → Gives (loaded Operation x) y → x ≡ y
+loaded_is_itself x proper y g =
+    same_ok x y (sym (loads g.from.cells x (out-Instance x) proper.no_handle) ∙ result_is (loaded_layer g.from.cells x (out-Instance x)) g.from g.after y g.ends)
+
+known_is_itself : (x y : Instance) → Gives (known x) y → x ≡ y
+known_is_itself x y g = at (is_deferred x) g
+  where
+    at : (b : Bool) → Gives (if b then fail (Deferred (type_of x)) else pure x) y → x ≡ y
+    at true h = no_fail _ y h
+    at false h = pure_is x y h
+
 -- where it is used, a proper value is itself
 used_is : (x : Instance) → IsProper x → (y : Instance) → Gives (used x) y → x ≡ y
-used_is x proper y g =
-    same_ok x y (sym (loads g.from.cells x (out-Instance x) proper.no_handle) ∙ result_is (loaded_layer g.from.cells x (out-Instance x)) g.from g.after y g.ends)
+used_is x proper y g = let a = through (loaded Operation x) known y g in loaded_is_itself x proper a.answer a.first ∙ known_is_itself a.answer y a.rest
 
 operand_is : (o : UnaryOperator) (x : Instance) → IsProper x → (y : Instance) → Gives (operand o x) y → x ≡ y
 operand_is AddressOf x proper y g = pure_is x y g
@@ -558,13 +568,6 @@ module _ (w : World) (s : ShaderStage) (world : GivesProper w s) where
     pub proper_used : (e : Exp) (x : Instance) → Gives (bind (value w s env e) used) x → IsProper x
     proper_used e x g = used_proper (value w s env e) (proper e) x g
 
-    executed_proper : (body : List Stm) (flow : Flow) → Gives (executed w s env body) flow → IsProperResult (returned_by flow)
-    executed_proper [] flow g = subst (λ f. IsProperResult (returned_by f)) (pure_is Next flow g) tt
-    executed_proper (returning attributes None ∷ rest) flow g = subst (λ f. IsProperResult (returned_by f)) (pure_is (Returned None) flow g) tt
-    executed_proper (returning attributes (Some e) ∷ rest) flow g =
-        let a = through (bind (value w s env e) used) (λ x. pure (Returned (Some x))) flow g in
-        subst (λ f. IsProperResult (returned_by f)) (pure_is (Returned (Some a.answer)) flow a.rest) (proper_used e a.answer a.first)
-
 -- ---- calls
 
 bound_proper : (w : World) (ps : List Param) (xs : List Instance) → All IsProper xs → (env : Env) → Gives (bound w ps xs) env → AreProperLocals env
@@ -612,13 +615,36 @@ module _ (w : World) (s : ShaderStage) (world : GivesProper w s) (f : Name) wher
     written : WritesResult type is
     typed : IsOfResultType is y
 
+  -- how statements end at a type
+  abbrev IsFlowOf : Option ShaderType → Flow → Type 0
+  IsFlowOf t (Returned y) = IsOfResultType t y
+  IsFlowOf t Next = Unit {0}
+  IsFlowOf t Broke = Unit {0}
+  IsFlowOf t Goes = Unit {0}
+
+  executed_typed : (t : Option ShaderType) → IsScalarResult t → (env : Env) → AreProperLocals env → (body : List Stm) (flow : Flow) → Gives (executed w s f t env body) flow → IsFlowOf t flow
+  executed_typed t is env locals [] flow g = subst (IsFlowOf t) (pure_is Next flow g) tt
+  executed_typed t is env locals (returning attributes None ∷ rest) flow g =
+      let a = through (handed_back f t None) (λ y. pure (Returned y)) flow g in
+      subst (IsFlowOf t) (pure_is (Returned a.answer) flow a.rest) (handed_typed f t is None tt a.answer a.first)
+  executed_typed t is env locals (returning attributes (Some e) ∷ rest) flow g =
+      let a = through (returned w s f t env e) (λ y. pure (Returned y)) flow g in
+      let b = through (bind (value w s env e) used) (λ x. handed_back f t (Some x)) a.answer a.first in
+      subst (IsFlowOf t) (pure_is (Returned a.answer) flow a.rest) (handed_typed f t is (Some b.answer) (proper_used w s world env locals e b.answer b.first) a.answer b.rest)
+
+  ended_typed : (t : Option ShaderType) → IsScalarResult t → (flow : Flow) → IsFlowOf t flow → (y : Option Instance) → Gives (ended f t flow) y → IsOfResultType t y
+  ended_typed t is (Returned x) h y g = subst (IsOfResultType t) (pure_is x y g) h
+  ended_typed t is Next h y g = handed_typed f t is None tt y g
+  ended_typed t is Broke h y g = handed_typed f t is None tt y g
+  ended_typed t is Goes h y g = handed_typed f t is None tt y g
+
   body_typed : (type : Option Typ) (body : List Stm) (env : Env) → AreProperLocals env → (y : Option Instance) → Gives (body_of w s f type body env) y → IsBodys type y
   body_typed type body env locals y g =
-      let a = through (written_result w type) (λ t. bind (executed w s env body) (λ flow. handed_back f t (returned_by flow))) y g in
-      let b = through (executed w s env body) (λ flow. handed_back f a.answer (returned_by flow)) y a.rest in
+      let a = through (written_result w type) (λ t. bind (executed w s f t env body) (ended f t)) y g in
+      let b = through (executed w s f a.answer env body) (ended f a.answer) y a.rest in
       let is = writes_result w type a.answer a.first in
-      let p = executed_proper w s world env locals body b.answer b.first in
-      record { is = a.answer; written = is; typed = handed_typed f a.answer (writes_scalar_result type a.answer is) (returned_by b.answer) p y b.rest }
+      let scalar = writes_scalar_result type a.answer is in
+      record { is = a.answer; written = is; typed = ended_typed a.answer scalar b.answer (executed_typed a.answer scalar env locals body b.answer b.first) y b.rest }
 
   call_typed : (d : Option Decl) (xs : List Instance) → All IsProper xs → (y : Option Instance) → Gives (call_in w s f d xs) y → IsResultOf d y
   call_typed (Some (function attributes g parameters return_attributes type body)) xs all y h = at (length xs == length parameters) h
