@@ -17,13 +17,13 @@ use Rattle.wgsl_meaning.specs.Values.{Checked, and_then, is_same_integer, is_sam
 use Rattle.wgsl_meaning.specs.Outcome.{Outcome, Done, Failed, Deep, after, bind}
 use Rattle.wgsl_meaning.specs.Names.{Name, find, find_decl}
 use Rattle.wgsl_meaning.specs.Meaning.{Types, World}
-use Rattle.wgsl_meaning.specs.Programs.{input_at, started_by}
+use Rattle.wgsl_programs.specs.Programs.{is_value}
 use Rattle.wgsl_meaning.specs.ConstStage.{Scope}
 use Rattle.wgsl_eval.specs.declared.error.DeclarationFault.{DeclarationFault}
 use Rattle.wgsl_eval.specs.Start.{then_more}
 use Rattle.wgsl_lower.specs.Lowered.{type_here, lowered_attributes, lowered_parameters, parameter_types, checked_type, lowered_statements, with_parameters, lowered_body, lowered_rest, lowered_function, refusing, lowered_declarations}
 use Rattle.wgsl_lower.specs.Keeps.{is_clear, ClearParameters, AreClear}
-use Rattle.wgsl_lower.proofs.Goes.{then_ok}
+use Rattle.wgsl_lower.proofs.Steps.{then_ok}
 
 -- ---- lists of declarations
 
@@ -132,19 +132,19 @@ module _ (s : Scope) where
           )
       at false d more l go e = go e
 
-  -- a lowered unit has no consts, so that its start does nothing
-  pub starts : (ds low : List Decl) → lowered_declarations s ds ≡ Ok low → (w : World) (y x : Name) → started_by w y (find_decl x low) ≡ Done tt 0
-  starts [] low h w y x = let same : [] ≡ low = cc in ap (λ l. started_by w y (find_decl x l)) (sym same)
-  starts (variable attributes kind z type i ∷ ds) low h w y x = starts ds low h w y x
-  starts (function as' f ps rs t b ∷ ds) low h w y x =
+  -- a lowered unit declares no values
+  pub only_functions : (ds low : List Decl) → lowered_declarations s ds ≡ Ok low → (x : Name) → is_value (find_decl x low) ≡ false
+  only_functions [] low h x = let same : [] ≡ low = cc in ap (λ l. is_value (find_decl x l)) (sym same)
+  only_functions (variable attributes kind z type i ∷ ds) low h x = only_functions ds low h x
+  only_functions (function as' f ps rs t b ∷ ds) low h x =
       let d = then_more_ok (refusing f (lowered_function s as' f ps rs t b)) (λ d. then_more (lowered_declarations s ds) (λ more. Ok (d ∷ more))) low h in
       let l = is_lowered s as' f ps rs t b d.0 (refusing_ok f _ d.0 d.1) in
       let more = then_more_ok (lowered_declarations s ds) (λ more. Ok (d.0 ∷ more)) low d.2 in
       let same : function l.attributes f l.parameters l.result t l.block ∷ more.0 ≡ low = cc in
-      ap (λ z. started_by w y (find_decl x z)) (sym same) ∙ at (bytes_eq x f) l more.0 (starts ds more.0 more.1 w y x)
+      ap (λ z. is_value (find_decl x z)) (sym same) ∙ at (bytes_eq x f) l more.0 (only_functions ds more.0 more.1 x)
     where
-      at : {d : Decl} (c : Bool) (l : IsLowered s as' f ps rs t b d) (more : List Decl) → started_by w y (find_decl x more) ≡ Done tt 0 →
-          started_by w y (if c then Some (function l.attributes f l.parameters l.result t l.block) else find_decl x more) ≡ Done tt 0
+      at : {d : Decl} (c : Bool) (l : IsLowered s as' f ps rs t b d) (more : List Decl) → is_value (find_decl x more) ≡ false →
+          is_value (if c then Some (function l.attributes f l.parameters l.result t l.block) else find_decl x more) ≡ false
       at true l more e = refl
       at false l more e = e
 
@@ -154,10 +154,10 @@ not_first : (b : Bool) (x y : Name) (d : Decl) (o : Option Decl) → bytes_eq x 
 not_first true x y d o h differ e = absurd (differ (sym (same_text x y (sym h))))
 not_first false x y d o h differ e = e
 
-pub clear_declaration : (ds : List Decl) → AreClear ds → find_decl (codes "i32") ds ≡ None
-clear_declaration [] c = refl
-clear_declaration (variable attributes kind x type e ∷ ds) c = not_first (bytes_eq (codes "i32") x) (codes "i32") x _ _ refl c.0.0 (clear_declaration ds c.1)
-clear_declaration (function as' f ps rs t body ∷ ds) c = not_first (bytes_eq (codes "i32") f) (codes "i32") f _ _ refl c.0.0.0 (clear_declaration ds c.1)
+pub clear_declaration : (x : Name) → ((y : Name) → is_clear y → y ≡ x → ⊥) → (ds : List Decl) → AreClear ds → find_decl x ds ≡ None
+clear_declaration x never [] c = refl
+clear_declaration x never (variable attributes kind y type e ∷ ds) c = not_first (bytes_eq x y) x y _ _ refl (never y c.0) (clear_declaration x never ds c.1)
+clear_declaration x never (function as' f ps rs t body ∷ ds) c = not_first (bytes_eq x f) x f _ _ refl (never f c.0.0) (clear_declaration x never ds c.1)
 
 either_clear : (k : Bool) (as2 : List Attr) (g : Name) (qs : List Param) (rs2 : List Attr) (t2 : Option Typ) (b2 : Block) (o : Option Decl) (as' : List Attr) (f : Name) (ps : List Param) (rs : List Attr) (t : Option Typ) (b : Block) →
     ClearParameters qs → (o ≡ Some (function as' f ps rs t b) → ClearParameters ps) → (if k then Some (function as2 g qs rs2 t2 b2) else o) ≡ Some (function as' f ps rs t b) → ClearParameters ps
@@ -206,22 +206,3 @@ pub parts_of : (A B : Type 0) (o : Outcome A) (f : A → Outcome B) (y : B) (m :
 parts_of A B (Done x n) f y m e = let r = after_done n (f x) y m e in record { first = x; steps = n; first_is = refl; more = r.0; then_is = r.1 }
 parts_of A B (Failed g) f y m e = absurd (cc)
 parts_of A B Deep f y m e = absurd (cc)
-
-same_integer : (a b : IntegerType) → is_same_integer a b ≡ true → a ≡ b
-same_integer AbstractInt AbstractInt e = refl
-same_integer I32 I32 e = refl
-same_integer U32 U32 e = refl
-same_integer a b e = absurd (cc)
-
-pub same_type : (a b : ScalarType) → is_same_type a b ≡ true → a ≡ b
-same_type Truth Truth e = refl
-same_type (Integer a) (Integer b) e = ap Integer (same_integer a b e)
-same_type a b e = absurd (cc)
-
-input_either : (b : Bool) (w v : LiteralInstance) (t : ScalarType) (f : Fault) (m : ℕ) → is_same_type (type_of w) t ≡ b → (if b then Done w 0 else Failed f) ≡ Done v m → type_of v ≡ t
-input_either true w v t f m is e = let same : w ≡ v = cc in ap type_of (sym same) ∙ same_type (type_of w) t is
-input_either false w v t f m is e = absurd (cc)
-
-pub input_type : (x : Name) (n : ℕ) (t : ScalarType) (o : Option LiteralInstance) (v : LiteralInstance) (m : ℕ) → input_at x n t o ≡ Done v m → type_of v ≡ t
-input_type x n t None v m e = absurd (cc)
-input_type x n t (Some w) v m e = input_either (is_same_type (type_of w) t) w v t _ m refl e

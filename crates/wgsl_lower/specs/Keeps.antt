@@ -1,10 +1,10 @@
 -- What lowering keeps.
 use Rattle.std.specs.Prelude.{◌≡◌, ℕ, List, [], ◌∷◌, Option, codes}
 use Rattle.wgsl_syntax.specs.Tree.{Param, Decl, variable, function}
-use Rattle.wgsl_meaning.specs.Names.{Name}
-use Rattle.wgsl_meaning.specs.Programs.{Inputs, plain, here, run}
-use Rattle.wgsl_meaning.specs.Compare.{Better}
-use Rattle.wgsl_shader_type.specs.declared.literal.LiteralInstance.{LiteralInstance}
+use Rattle.wgsl_instance.specs.declared.tree.Instance.{Instance}
+use Rattle.wgsl_programs.specs.Names.{Name}
+use Rattle.wgsl_programs.specs.Programs.{here}
+use Rattle.wgsl_programs.specs.Runs.{Handed, EndsWell, plain}
 
 abbrev pub is_clear : Name → Type 0
 is_clear x = (x ≡ codes "i32" → ⊥) × (x ≡ codes "u32" → ⊥)
@@ -22,6 +22,6 @@ abbrev pub AreClear : List Decl → Type 0
 AreClear [] = Unit {0}
 AreClear (d ∷ ds) = IsClear d × AreClear ds
 
--- every run of a function that ends well, ends well after with the same answer in no more steps
+-- every run of a function that ends well within so many steps, ends well after within as many, with the same answer
 abbrev pub Keeps : List Decl → List Decl → Type 0
-Keeps ds low = (f : Name) (k : ℕ) (inputs : Inputs) → Better (Option LiteralInstance) (run (plain ds) k (here f) inputs) (run (plain low) k (here f) inputs)
+Keeps ds low = (f : Name) (handed : Handed) (n : ℕ) (answer : Option Instance) → EndsWell (plain ds) (here f) handed n answer → EndsWell (plain low) (here f) handed n answer

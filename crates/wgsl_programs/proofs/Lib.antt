@@ -9,3 +9,4 @@ pub mod Scalars
 pub mod Typing
 pub mod Agreeing
 pub mod Converting
+pub mod Known
