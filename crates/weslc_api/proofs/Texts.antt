@@ -5,7 +5,7 @@ use Rattle.wgsl_syntax.specs.Print.{unit_text}
 use Rattle.wesl_link_spec.specs.Occurrences.{Name}
 use Rattle.wesl_link_spec.specs.Modules.{Path}
 use Rattle.wesl_link_spec.specs.Rounds.{Sources}
-use Rattle.wesl_meaning.proofs.Exists.{have_a_program}
+use Rattle.wesl_meaning.proofs.Existing.{linked_modules_have_one}
 use Rattle.weslc_unit.specs.Compiled.{IsTextOf, IsCompiled}
 use Rattle.weslc_unit.proofs.ClearLemmas.{clear-names}
 use Rattle.weslc_laws.specs.Headline.{IsLinkedFrom}
@@ -20,7 +20,7 @@ module _ (found : Sources) (root : Path) (asked : List Name) (max : ℕ) where
     whole = whole;
     reads = reads;
     keeps = runs_exactly_as_sources found root asked max linked from;
-    has_program = have_a_program from.modules root from.kept from.linked_well.loaded linked from.linked_well.linked;
+    has_program = linked_modules_have_one from.modules root from.kept linked from.linked_well.loaded from.linked_well.linked;
   }
 
   pub compiled_text : (linked : UnitTree) → IsLinkedFrom found root asked max linked → (text : List ℕ) → IsCompiled linked text → IsCompiledText found root asked max text
@@ -29,5 +29,5 @@ module _ (found : Sources) (root : Path) (asked : List Name) (max : ℕ) where
     from = from;
     compiled = compiled;
     keeps = runs_as_sources found root asked max linked compiled.low from (clear-names linked compiled.lowered.clear) compiled.lowered.lowered;
-    has_program = have_a_program from.modules root from.kept from.linked_well.loaded linked from.linked_well.linked;
+    has_program = linked_modules_have_one from.modules root from.kept linked from.linked_well.loaded from.linked_well.linked;
   }

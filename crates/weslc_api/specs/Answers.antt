@@ -13,8 +13,8 @@ use Rattle.wesl_link_spec.specs.Kept.{kept_names}
 use Rattle.wesl_link_spec.specs.Loaded.{IsClashFree}
 use Rattle.wesl_link_spec.specs.Clashing.{IsFirstClash}
 use Rattle.wesl_link_spec.specs.Same.{SameModules}
-use Rattle.wgsl_meaning.specs.Programs.{Program}
-use Rattle.wesl_meaning.specs.SourcePrograms.{IsProgramOf}
+use Rattle.wgsl_programs.specs.Programs.{Program}
+use Rattle.wesl_meaning.specs.Executions.{IsProgramIn}
 use Rattle.wesl_reach.specs.Resolved.{modules_of, IsResolved}
 use Rattle.wesl_link.specs.declared.rounds.Resolutions.{Resolutions}
 use Rattle.weslc_unit.specs.Compiled.{IsTextOf, IsToldOfAll, IsCompiled, Refuses}
@@ -145,7 +145,7 @@ module _ (found : Sources) (root : Path) (asked : List Name) (max : ℕ) where
     pub whole : text ≡ unit_text linked
     pub reads : IsTextOf linked text
     pub keeps : RunsExactlyAsSources from.modules root from.kept linked
-    pub has_program : (p : Program) × IsProgramOf from.modules root from.kept p
+    pub has_program : (p : Program) × IsProgramIn from.modules root from.kept p
 
   -- The compiled text of the unit that the loaded modules are linked into. What it is read as declares the held functions, each
   -- once under its printed name, and every run that ends well in the modules ends well there, with the same answer in no more steps.
@@ -154,4 +154,4 @@ module _ (found : Sources) (root : Path) (asked : List Name) (max : ℕ) where
     pub from : IsLinkedFrom found root asked max linked
     pub compiled : IsCompiled linked text
     pub keeps : RunsAsSources from.modules root from.kept linked compiled.low
-    pub has_program : (p : Program) × IsProgramOf from.modules root from.kept p
+    pub has_program : (p : Program) × IsProgramIn from.modules root from.kept p

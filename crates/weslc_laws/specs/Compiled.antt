@@ -1,5 +1,6 @@
 -- What compiled modules are, and what is kept of their runs.
 use Rattle.std.specs.Prelude.{◌≡◌, ℕ, List, Option, Ok, ◌↔◌}
+use Rattle.std.specs.List.{Contains}
 use Rattle.wgsl_token.specs.declared.token.SpannedToken.{SpannedToken}
 use Rattle.wgsl_syntax.specs.declared.unit.TranslationUnit.{TranslationUnit}
 use Rattle.wgsl_syntax.specs.Tree.{UnitTree}
@@ -10,19 +11,24 @@ use Rattle.wgsl_grammar.specs.Declarations.{IsUnit}
 use Rattle.wgsl_round_trip.specs.Printing.{StandsFor}
 use Rattle.wesl_link_spec.specs.Occurrences.{Name}
 use Rattle.wesl_link_spec.specs.Modules.{Path, Modules}
-use Rattle.wgsl_shader_type.specs.declared.literal.LiteralInstance.{LiteralInstance}
-use Rattle.wgsl_meaning.specs.Names.{Symbol}
-use Rattle.wgsl_meaning.specs.Programs.{Program, Inputs, here, program_of, EndsWell}
-use Rattle.wesl_meaning.specs.SourcePrograms.{IsProgramOf}
-use Rattle.wesl_meaning.specs.Runs.{AreLinkedWell, IsKept}
+use Rattle.wgsl_instance.specs.declared.tree.Instance.{Instance}
+use Rattle.wgsl_programs.specs.Names.{Symbol}
+use Rattle.wgsl_programs.specs.Programs.{Program, here}
+use Rattle.wgsl_programs.specs.Runs.{Handed, EndsWell, program_of}
+use Rattle.wesl_meaning.specs.Runs.{AreLinkedWell}
+use Rattle.wesl_meaning.specs.Executions.{IsProgramIn}
 use Rattle.wgsl_lower.specs.Lowered.{Lowers}
 use Rattle.wgsl_lower.specs.Keeps.{AreClear}
 
+-- the symbol of a name of the root
+abbrev pub at_root : Path → Name → Symbol
+at_root root x = record { home = root; called = x }
+
 -- Every run of a kept name that ends well in the modules within so many steps, ends well in the plain unit within as many, with the
--- same answer: whatever its inputs, and for each number of steps.
+-- same answer: whatever is handed in, and for each number of steps.
 abbrev pub RunsAsItsSources : Modules → Path → List Name → UnitTree → Type 0
-RunsAsItsSources modules root keep unit = (p : Program) → IsProgramOf modules root keep p → (s : Symbol) → IsKept root keep s
-    → (inputs : Inputs) (n : ℕ) (answer : Option LiteralInstance) → EndsWell p s inputs n answer → EndsWell (program_of unit) (here s.called) inputs n answer
+RunsAsItsSources modules root keep unit = (p : Program) → IsProgramIn modules root keep p → (x : Name) → Contains keep x
+    → (handed : Handed) (n : ℕ) (answer : Option Instance) → EndsWell p (at_root root x) handed n answer → EndsWell (program_of unit) (here x) handed n answer
 
 -- modules that are linked into a unit with clear names, which is lowered into another
 pub record AreCompiled (modules : Modules) (root : Path) (keep : List Name) (lowered : UnitTree) : Type 0 where
@@ -50,11 +56,11 @@ abbrev pub PrintedTextRunsAsItsSources : Type 0
 PrintedTextRunsAsItsSources = (modules : Modules) (root : Path) (keep : List Name) (lowered : UnitTree) → AreCompiled modules root keep lowered
     → (text : List ℕ) → StandsFor text lowered → PrintsWell modules root keep lowered
 
--- Every run of a kept name ends well in the plain unit exactly where it does in the modules, with the same answer in the same
--- steps.
+-- Every run of a kept name ends well in the plain unit exactly where it does in the modules, with the same answer, for each number of
+-- steps that is allowed.
 abbrev pub RunsExactlyAsItsSources : Modules → Path → List Name → UnitTree → Type 0
-RunsExactlyAsItsSources modules root keep unit = (p : Program) → IsProgramOf modules root keep p → (s : Symbol) → IsKept root keep s
-    → (inputs : Inputs) (n : ℕ) (answer : Option LiteralInstance) → EndsWell p s inputs n answer ↔ EndsWell (program_of unit) (here s.called) inputs n answer
+RunsExactlyAsItsSources modules root keep unit = (p : Program) → IsProgramIn modules root keep p → (x : Name) → Contains keep x
+    → (handed : Handed) (n : ℕ) (answer : Option Instance) → EndsWell p (at_root root x) handed n answer ↔ EndsWell (program_of unit) (here x) handed n answer
 
 -- So it is with a text of the linked unit.
 abbrev pub LinkedTextRunsAsItsSources : Type 0

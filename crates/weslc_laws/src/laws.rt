@@ -26,7 +26,7 @@ pub fn compiled_units_declare_held_functions()
     ensures { CompiledUnitsDeclareHeldFunctions }
 {}
 
-/// A run ends well in a text of the linked unit exactly where it does in the modules, with the same answer in the same steps.
+/// A run ends well in a text of the linked unit exactly where it does in the modules, with the same answer, for each number of steps that is allowed.
 pub fn linked_text_runs_as_its_sources()
     ensures { LinkedTextRunsAsItsSources }
 {}
