@@ -4,7 +4,8 @@ use Rattle.std.proofs.lemmas.List.Elements.{Contains-append_right, Contains-appe
 use Rattle.wgsl_items.proofs.Bools.{none_if, false_if}
 use Rattle.wgsl_syntax.specs.Tree.{Decl, UnitTree}
 use Rattle.wgsl_syntax.specs.Names.{declared_name}
-use Rattle.wgsl_meaning.specs.Names.{Name, find_decl}
+use Rattle.wgsl_programs.specs.Names.{Name}
+use Rattle.wgsl_programs.specs.Runs.{find_decl}
 use Rattle.wesl_link_spec.specs.Occurrences.{is_among, occurrences, names_before, names_behind, names_in_body, locals}
 use Rattle.wesl_link_spec.specs.Modules.{Path, Symbol, Modules, Declares, local_name, IsDeclaration, Reached, onto}
 use Rattle.wesl_link_spec.specs.Names.{IsPrinted}

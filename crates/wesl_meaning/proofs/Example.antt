@@ -6,7 +6,22 @@ use Rattle.std.proofs.lemmas.List.Elements.{Contains-append_left, Contains-appen
 use Rattle.wgsl_path.specs.declared.path.ModulePath.{ModulePath}
 use Rattle.wgsl_path.specs.Paths.{path_text}
 use Rattle.wgsl_syntax.specs.Tree.{Decl, Imp, UnitTree}
-use Rattle.wgsl_meaning.specs.Names.{Name}
+use Rattle.wgsl_shader_type.specs.declared.literal.LiteralInstance.TheVariants as V
+use Rattle.wgsl_shader_type.specs.declared.tree.ShaderType.TheVariants as type
+use Rattle.wgsl_scalar.specs.declared.scalar.IntegerType.TheVariants.{U32}
+use Rattle.wgsl_instance.specs.declared.tree.Instance.TheVariants as v
+use Rattle.wgsl_computations.specs.Machine.{pure, bind}
+use Rattle.wgsl_computations.specs.Loops.{Returned}
+use Rattle.wgsl_programs.specs.Computing.{used}
+use Rattle.wgsl_programs.specs.Names.{Name}
+use Rattle.wgsl_programs.specs.Names.{Symbol as ProgramSymbol}
+use Rattle.wgsl_programs.specs.Calls.{handed_back, ended}
+use Rattle.wgsl_programs.specs.Programs.{Known, world, Mentions, Reaches, mention, onward, IsOrderOf}
+use Rattle.wgsl_programs.specs.Runs.{Handed, started, entered, allowed}
+use Rattle.wgsl_programs.proofs.Scalars.{used_literal}
+use Rattle.wgsl_programs.proofs.Converting.{own as own_type}
+use Rattle.wesl_order.specs.Order.{none_left, starts}
+use Rattle.wesl_order.specs.Order.{nothing_left as nothing_left_over, leaves}
 use Rattle.wesl_link_spec.specs.Occurrences.{occurrences, locals, names_before, names_behind, names_in_body}
 use Rattle.wesl_link_spec.specs.Modules.{Path, Symbol, IsModule, Declares, Imports, local_name, IsFree, IsDeclaration, Denotes, own, imported, Reached, kept, onto}
 use Rattle.wesl_link_spec.specs.Names.{IsPrinted, stays, is_mangled}
@@ -14,10 +29,12 @@ use Rattle.wesl_link_spec.specs.Rounds.{AreDistinct, no_names, another, one_path
 use Rattle.wesl_link_spec.specs.Linked.{IsNaming, nothing_left, takes, IsInOrder, IsLinkedModule, no_module, a_module, IsLinked, IsShared, IsTaken, Clashes, shared, hidden, captured}
 use Rattle.wesl_link_spec.specs.Loaded.{AreLoaded, IsClashFree}
 use Rattle.wesl_meaning.specs.SourcePrograms.{of_none, of_more}
-use Rattle.wesl_meaning.specs.Example.{const_of_two, entry_of, root_path, other_path, import_of_two, root_unit, other_unit, two_modules, linked_unit, entry, the_two, PremisesAreMet}
+use Rattle.wesl_meaning.specs.Example.{const_of_two, entry_of, root_path, other_path, import_of_two, root_unit, other_unit, two_modules, linked_unit, entry, the_two, the_program, PremisesAreMet}
 use Rattle.wgsl_items.proofs.Members.{first_in, later_in, in_cases, in_none, same_bytes, bytes_same}
 use Rattle.wesl_meaning.proofs.Symbols.{printed_once}
+use Rattle.wesl_meaning.specs.SourcePrograms.{sources}
 use Rattle.wesl_meaning.proofs.Exists.{sources_are}
+use Rattle.wesl_meaning.proofs.Existing.{program_is}
 
 differ : (x y : Name) → bytes_eq x y ≡ false → x ≡ y → ⊥
 differ x y f e = let t : bytes_eq x y ≡ true = ap (bytes_eq x) (sym e) ∙ bytes_same x in let c : true ≡ false = sym t ∙ f in absurd (cc)
@@ -324,14 +341,57 @@ is_linked = record {
       (a_module {ds = const_of_two (codes "package_m_two") ∷ []} {es = []} other_linked no_module);
 }
 
+-- ---- the run
+
+abbrev two_symbol : ProgramSymbol
+two_symbol = record { home = the_other; called = codes "two" }
+
+abbrev two_known : Known
+two_known = (two_symbol, v.Literal (V.U32 2)) ∷ []
+
+-- the const mentions nothing
+no_mention : (s : ProgramSymbol) → Mentions the_program two_symbol s → ⊥
+no_mention s m = let d : const_of_two (codes "two") ≡ m.declaration = cc (m.declares) in absurd (in_none m.name (subst (λ z. Contains (occurrences z) m.name) (sym d) m.occurs))
+
+alone : (s : ProgramSymbol) → Reaches the_program two_symbol s → ⊥
+alone s (mention m) = no_mention _ m
+alone s (onward m r) = no_mention _ m
+
+the_order : IsOrderOf the_program (two_symbol ∷ [])
+the_order = record {
+  progress = record { begun = two_symbol ∷ []; started = two_symbol ∷ [] };
+  comes = starts [] (λ c. in_none two_symbol c) (leaves (alone two_symbol) nothing_left_over) none_left none_left;
+  whole = refl;
+}
+
+literal_used : bind (pure (v.Literal (V.U32 2))) used ≡ pure (v.Literal (V.U32 2))
+literal_used = used_literal (V.U32 2)
+
+started_so : started the_program 1 [] (two_symbol ∷ []) ≡ pure two_known
+started_so = ap (λ m. bind m (λ x. pure ((two_symbol, x) ∷ []))) literal_used
+
+returned_so : handed_back (codes "g") (Some type.U32) (Some (v.Literal (V.U32 2))) ≡ pure (Some (v.Literal (V.U32 2)))
+returned_so = own_type (codes "g") U32 tt (V.U32 2) refl
+
+entered_so : (handed : Handed) → entered (world the_program two_known 1 the_root) (codes "g") (Some (entry_of (codes "two"))) handed ≡ pure (Some (v.Literal (V.U32 2)))
+entered_so handed =
+    ap (λ m. bind (bind (bind m (λ x. handed_back (codes "g") (Some type.U32) (Some x))) (λ y. pure (Returned y))) (ended (codes "g") (Some type.U32))) literal_used
+    ∙ ap (λ m. bind (bind m (λ y. pure (Returned y))) (ended (codes "g") (Some type.U32))) returned_so
+
 pub premises_are_met : PremisesAreMet
 premises_are_met = record {
   linked_well = record { loaded = all_loaded; clash_free = clash_free; linked = is_linked };
-  program = sources_are two_modules the_root keeps all_loaded (entry ∷ the_two ∷ []) (record {
+  program = program_is two_modules the_root keeps all_loaded (sources two_modules (entry ∷ the_two ∷ [])) (sources_are two_modules the_root keeps all_loaded (entry ∷ the_two ∷ []) (record {
     order = the_root ∷ the_other ∷ [];
     in_order = in_order;
     are_held = of_more {ss = st ∷ []} root_unit (entry_of (codes "two") ∷ []) root_module (takes entry_reached nothing_left)
         (of_more {ss = []} other_unit (const_of_two (codes "two") ∷ []) other_module (takes const_reached nothing_left) of_none);
-  });
-  ends_well = λ inputs. record { bound = 2; steps = 0; ends = refl; within = omega arith };
+  }));
+  ends_well = λ handed. record {
+    order = two_symbol ∷ [];
+    is_order = the_order;
+    bound = 1;
+    last = allowed 0;
+    ends = (λ k. bind (started_so k) (λ known. entered (world the_program known 1 the_root) (codes "g") (Some (entry_of (codes "two"))) handed) (allowed 0)) ∙ (λ k. entered_so handed k (allowed 0));
+  };
 }

@@ -11,7 +11,6 @@ use Rattle.wgsl_instance.specs.declared.tree.Instance.{Instance}
 use Rattle.wgsl_programs.specs.Names.{Symbol}
 use Rattle.wgsl_programs.specs.Programs.{Program, here}
 use Rattle.wgsl_programs.specs.Runs.{Handed, EndsWell, find_decl, program_of}
-use Rattle.wgsl_meaning.specs.Names.{find_decl as first_decl}
 use Rattle.wesl_link_spec.specs.Occurrences.{Name, is_among, occurrences, names_before, names_behind, names_in_body, locals}
 use Rattle.wesl_link_spec.specs.Modules.{Path, Modules, IsModule, IsFree, IsDeclaration, Denotes, Reached, kept, onto}
 use Rattle.wesl_link_spec.specs.Modules.{Symbol as SourceSymbol}
@@ -30,15 +29,6 @@ use Rattle.wesl_meaning.proofs.Started.{Named, ends_there, ends_back}
 is_true : (b : Bool) → b ≡ true → IsTrue b
 is_true true e = refl
 is_true false e = absurd (cc)
-
--- both forms find the first declaration of a name
-same_found : (x : Name) (ds : List Decl) → find_decl x ds ≡ first_decl x ds
-same_found x [] = refl
-same_found x (d ∷ ds) = at (bytes_eq x (declared_name d)) (same_found x ds)
-  where
-    at : (b : Bool) → find_decl x ds ≡ first_decl x ds → (if b then Some d else find_decl x ds) ≡ (if b then Some d else first_decl x ds)
-    at true e = refl
-    at false e = e
 
 module _ (modules : Modules) (root : Path) (keep : List Name) (unit : UnitTree) (p : Program) (well : AreLinkedWell modules root keep unit) (program : IsProgramIn modules root keep p) where
   -- a symbol is reached, and has this printed name
@@ -66,7 +56,7 @@ module _ (modules : Modules) (root : Path) (keep : List Name) (unit : UnitTree) 
     means_nothing : (hiding : List Name) (x : Name) → Unclashed hiding x → IsFree modules s.home x → Means p unit.declarations IsHeld s.home new x
     means_nothing hiding x clear free = of_no_symbol
         (none_if (p.denotes s.home x) (λ t e. free_denotes_none modules root keep well.loaded s.home x (source t) free ((program.denotes s.home x t).0 e)))
-        (none_if (find_decl x unit.declarations) (λ e f. clear x (captured free (taken modules root keep unit well x e (sym (same_found x unit.declarations) ∙ f)))))
+        (none_if (find_decl x unit.declarations) (λ e f. clear x (captured free (taken modules root keep unit well x e f))))
         (naming.free x free)
 
     fits_one : (hiding : List Name) (x : Name) → Contains (occurrences d) x → Unclashed hiding x → Means p unit.declarations IsHeld s.home new x × (is_among x hiding ≡ false → is_among (new x) hiding ≡ false)
@@ -107,7 +97,7 @@ module _ (modules : Modules) (root : Path) (keep : List Name) (unit : UnitTree) 
       let f = name_there modules root keep well.loaded unit well.linked (source s) y h.reached h.printed in
       let there = found_in y unit.declarations f.0 f.1 in
       let o = origin modules root keep well.loaded unit well.linked f.0 there.0 in
-      stands_from s y h f.0 (same_found y unit.declarations ∙ f.1) there.1 o (origin_same modules root keep unit well (source s) f.0 h.reached (subst (IsPrinted modules root (source s)) (sym there.1) h.printed) o)
+      stands_from s y h f.0 f.1 there.1 o (origin_same modules root keep unit well (source s) f.0 h.reached (subst (IsPrinted modules root (source s)) (sym there.1) h.printed) o)
 
   unique : (s t : Symbol) (y : Name) → IsHeld s y → IsHeld t y → s ≡ t
   unique s t y h k = ap symbol_of (held_once modules root keep unit well (source s) (source t) y h.reached k.reached h.printed k.printed)

@@ -1,4 +1,4 @@
--- Loaded modules have a program in the second form of meaning.
+-- Loaded modules have a program.
 use Rattle.std.proofs.Common.{◌≡◌, ◌⊎◌, inl, inr, List, [], ◌∷◌, map, Option, Some, None, Bool, true, false, refl, sym, ap, ◌∙◌, subst, Contains, option_map}
 use Rattle.std.specs.Prelude.{if◌then◌else◌}
 use Rattle.std.specs.Str.{bytes_eq}
@@ -7,8 +7,7 @@ use Rattle.wgsl_path.specs.Paths.{path_text}
 use Rattle.wgsl_syntax.specs.Tree.{Decl, UnitTree}
 use Rattle.wgsl_syntax.specs.Names.{declared_name}
 use Rattle.wgsl_items.proofs.Members.{first_in, later_in, in_cases, in_none, same_bytes, bytes_same}
-use Rattle.wgsl_meaning.specs.Names.{Symbol as FirstSymbol}
-use Rattle.wgsl_meaning.specs.Programs.{Program as FirstProgram}
+use Rattle.wesl_meaning.specs.SourcePrograms.{Symbol as PathSymbol, Program as PathProgram}
 use Rattle.wgsl_programs.specs.Names.{Symbol}
 use Rattle.wgsl_programs.specs.Programs.{Program}
 use Rattle.wesl_resolve.specs.Mangling.{mangled}
@@ -18,16 +17,12 @@ use Rattle.wesl_link_spec.specs.Modules.{Symbol as SourceSymbol}
 use Rattle.wesl_link_spec.specs.Names.{IsPrinted, stays, is_mangled}
 use Rattle.wesl_link_spec.specs.Loaded.{AreLoaded}
 use Rattle.wesl_meaning.specs.SourcePrograms.{source_symbol, AreHeld, IsProgramOf, unit_at, declared_at}
-use Rattle.wesl_meaning.specs.Executions.{source, IsProgramIn, LinkedModulesHaveOne}
+use Rattle.wesl_meaning.specs.Executions.{path_at, texted, denoted_from, printed_from, program_by_texts, source, IsProgramIn, LinkedModulesHaveOne}
 use Rattle.wesl_meaning.proofs.Distinct.{once_right, once_same}
 use Rattle.wesl_meaning.proofs.Symbols.{found_in, finds_one, reached_declared}
 use Rattle.wesl_meaning.proofs.Exists.{unit_is, unit_found, once_in, have_a_program}
 
 -- ---- paths of modules by their texts
-
-abbrev path_at : Modules → Path → Option ModulePath
-path_at [] m = None
-path_at (a ∷ rest) m = if bytes_eq (path_text a.0) m then Some a.0 else path_at rest m
 
 record IsPath (modules : Modules) (m : Path) (path : ModulePath) : Type 0 where
   unit : UnitTree
@@ -54,27 +49,7 @@ path_there (a ∷ rest) m path u c e = at (λ d. path_there rest m path u d e) (
 
 -- ---- the program
 
-abbrev texted : FirstSymbol → Symbol
-texted s = record { home = path_text s.home; called = s.called }
-
-abbrev denoted_from : FirstProgram → Name → Option ModulePath → Option Symbol
-denoted_from p x (Some path) = option_map texted (p.denotes path x)
-denoted_from p x None = None
-
-abbrev printed_from : Bool → Option ModulePath → Name → Name
-printed_from true path x = x
-printed_from false (Some path) x = mangled path x
-printed_from false None x = x
-
-abbrev program : Modules → Path → FirstProgram → Program
-program modules root p = record {
-  held = map texted p.held;
-  item = λ s. declared_at s.called (unit_at modules s.home);
-  printed = λ s. printed_from (bytes_eq s.home root) (path_at modules s.home) s.called;
-  denotes = λ m x. denoted_from p x (path_at modules m);
-}
-
-module _ (modules : Modules) (root : Path) (keep : List Name) (loaded : AreLoaded modules root keep) (p : FirstProgram) (first : IsProgramOf modules root keep p) where
+module _ (modules : Modules) (root : Path) (keep : List Name) (loaded : AreLoaded modules root keep) (p : PathProgram) (first : IsProgramOf modules root keep p) where
   item_declares : (s : Symbol) (d : Decl) (o : Option UnitTree) → unit_at modules s.home ≡ o → declared_at s.called o ≡ Some d → IsDeclaration modules (source s) d
   item_declares s d None e f = absurd (cc)
   item_declares s d (Some u) e f = let there = found_in s.called u.declarations d f in record { unit = u; is_module = unit_is modules s.home u e; stands = there.0; name = there.1 }
@@ -91,7 +66,7 @@ module _ (modules : Modules) (root : Path) (keep : List Name) (loaded : AreLoade
   denotes_from m x s None e f = absurd (cc)
   denotes_from m x s (Some path) e f = at (p.denotes path x) refl f
     where
-      at : (o : Option FirstSymbol) → p.denotes path x ≡ o → option_map texted o ≡ Some s → Denotes modules m x (source s)
+      at : (o : Option PathSymbol) → p.denotes path x ≡ o → option_map texted o ≡ Some s → Denotes modules m x (source s)
       at None is g = absurd (cc)
       at (Some t) is g =
           let to : texted t ≡ s = cc in
@@ -120,11 +95,11 @@ module _ (modules : Modules) (root : Path) (keep : List Name) (loaded : AreLoade
       let there = path_there modules s.home i.path (reached_declared modules root keep loaded (source s) r).1.unit i.stands i.printed in
       absurd (cc (f, there.1))
 
-  all_texted : (hs : List FirstSymbol) → map source (map texted hs) ≡ map source_symbol hs
+  all_texted : (hs : List PathSymbol) → map source (map texted hs) ≡ map source_symbol hs
   all_texted [] = refl
   all_texted (h ∷ hs) = ap (λ l. source_symbol h ∷ l) (all_texted hs)
 
-  program_is : IsProgramIn modules root keep (program modules root p)
+  pub program_is : IsProgramIn modules root keep (program_by_texts modules root p)
   program_is = record {
     items = λ s d. (λ e. item_declares s d (unit_at modules s.home) refl e, declared_item s d);
     denotes = λ m x s. (λ e. denotes_from m x s (path_at modules m) refl e, denoted_there m x s);
@@ -138,4 +113,4 @@ module _ (modules : Modules) (root : Path) (keep : List Name) (loaded : AreLoade
 
 pub linked_modules_have_one : LinkedModulesHaveOne
 linked_modules_have_one modules root keep unit loaded linked =
-    let f = have_a_program modules root keep loaded unit linked in (program modules root f.0, program_is modules root keep loaded f.0 f.1)
+    let f = have_a_program modules root keep loaded unit linked in (program_by_texts modules root f.0, program_is modules root keep loaded f.0 f.1)

@@ -6,8 +6,9 @@ use Rattle.wgsl_path.specs.declared.path.ModulePath.{ModulePath}
 use Rattle.wgsl_path.specs.Paths.{path_text}
 use Rattle.wgsl_syntax.specs.Tree.{Decl, Imp, UnitTree}
 use Rattle.wgsl_syntax.specs.Names.{declared_name}
-use Rattle.wgsl_meaning.specs.Names.{Name, Symbol, find_decl}
-use Rattle.wgsl_meaning.specs.Programs.{Program}
+use Rattle.wgsl_programs.specs.Names.{Name}
+use Rattle.wgsl_programs.specs.Runs.{find_decl}
+use Rattle.wesl_meaning.specs.SourcePrograms.{Symbol, Program}
 use Rattle.wesl_link_spec.specs.Modules.{Path, Modules, IsModule, local_name, IsImport, IsDeclaration, Denotes, own, imported}
 use Rattle.wesl_link_spec.specs.Modules.{Symbol as SourceSymbol}
 use Rattle.wesl_link_spec.specs.Rounds.{scope_names}

@@ -2,7 +2,8 @@
 use Rattle.std.proofs.Common.{◌≡◌, ◌≢◌, ◌⊎◌, inl, inr, Some, sym, ap, ◌∙◌, subst, List}
 use Rattle.wgsl_syntax.specs.Tree.{Decl, UnitTree}
 use Rattle.wgsl_syntax.specs.Names.{declared_name}
-use Rattle.wgsl_meaning.specs.Names.{Name, find_decl}
+use Rattle.wgsl_programs.specs.Names.{Name}
+use Rattle.wgsl_programs.specs.Runs.{find_decl}
 use Rattle.wesl_link_spec.specs.Modules.{Path, Symbol, Modules, Reached}
 use Rattle.wesl_link_spec.specs.Names.{IsPrinted}
 use Rattle.wesl_link_spec.specs.Linked.{IsTaken}

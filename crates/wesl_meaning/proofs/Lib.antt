@@ -1,12 +1,8 @@
-pub mod Outcomes
 pub mod Members
-pub mod Renamed
-pub mod Programs
 pub mod Order
 pub mod Symbols
 pub mod Held
 pub mod Declared
-pub mod Linked
 pub mod Distinct
 pub mod Exists
 pub mod Loading

@@ -2,7 +2,7 @@
 use Rattle.std.proofs.Common.{◌≡◌, suc, List, [], ◌∷◌, map, length, Some, None, Bool, true, false, refl, ap}
 use Rattle.std.specs.Prelude.{◌||◌, if◌then◌else◌}
 use Rattle.std.specs.Str.{bytes_eq}
-use Rattle.wgsl_meaning.specs.Names.{Name, find}
+use Rattle.wgsl_programs.specs.Names.{Name, find}
 use Rattle.wesl_link_spec.specs.Occurrences.{is_among}
 
 pub length_map : {X Y : Type 0} (f : X → Y) (xs : List X) → length (map f xs) ≡ length xs

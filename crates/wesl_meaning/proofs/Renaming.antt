@@ -21,6 +21,7 @@ use Rattle.wgsl_programs.specs.Runs.{Handed, started, entered, run, find_decl, h
 use Rattle.wgsl_programs.specs.Follows.{Differences, Follows, FollowAll, keeps_literal, keeps_parentheses, keeps_unary, keeps_binary, keeps_call, keeps_name, no_more, one_more, as_it_is, FollowStatements, no_statements, returns_nothing, returns, FollowAttributes, no_attributes, keeps_fragment, keeps_location, FollowType, no_type, keeps_type, FollowParameters, no_parameters, one_parameter, FollowInitializer, no_initializer, keeps_initializer, FollowsDeclaration, keeps_const, keeps_function}
 use Rattle.wgsl_programs.proofs.Simulates as expressions
 use Rattle.wgsl_programs.proofs.Bodies.{One, names_of, name_here, callee_here, name_type_here, callee_type_here, Meet, TypesMeet, call_meets, const_meets, entered_meets, result_type_meets}
+use Rattle.wgsl_programs.proofs.Known.{or_if, find_behind}
 use Rattle.wgsl_programs.proofs.Itself.{local_same, needed_same, constructed_same, constructed_type_same}
 use Rattle.wesl_link_spec.specs.Occurrences.{is_among, unless_local, in_expression, in_expressions, in_type, in_some, in_attributes, in_statement, in_parameter, parameter_names, names_before, names_behind, locals, names_in_body}
 use Rattle.wesl_link_spec.specs.Linked.{new_name, renamed, all_renamed, renamed_type, renamed_attributes, renamed_statement, renamed_parameter, renamed_declaration}
@@ -103,20 +104,6 @@ module _ (new : Name → Name) (Q : Name → Type 0) where
       (parameters ps (left [] (flat_map in_parameter ps) (in_attributes [] r) (left [] (flat_map in_parameter ps ++ in_attributes [] r) (in_some (in_type []) t) f.behind)))
       (maybe_type t (right [] (flat_map in_parameter ps ++ in_attributes [] r) (in_some (in_type []) t) f.behind))
       (statements (parameter_names ps) t b.statements (right (parameter_names ps) (in_attributes (parameter_names ps) b.attributes) (flat_map (in_statement (parameter_names ps)) b.statements) f.in_body))
-
--- ---- known values
-
-abbrev or_if : Option Instance → Bool → Instance → Option Instance
-or_if (Some x) b v = Some x
-or_if None b v = if b then Some v else None
-
-find_behind : (s : Symbol) (known : Known) (t : Symbol) (v : Instance) → find_known s (known ++ (t, v) ∷ []) ≡ or_if (find_known s known) (is_same s t) v
-find_behind s [] t v = refl
-find_behind s (b ∷ bs) t v = at (is_same s b.0) (find_behind s bs t v)
-  where
-    at : (c : Bool) → find_known s (bs ++ (t, v) ∷ []) ≡ or_if (find_known s bs) (is_same s t) v → (if c then Some b.1 else find_known s (bs ++ (t, v) ∷ [])) ≡ or_if (if c then Some b.1 else find_known s bs) (is_same s t) v
-    at true more = refl
-    at false more = more
 
 -- ---- names
 

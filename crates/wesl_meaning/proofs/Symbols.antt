@@ -7,7 +7,8 @@ use Rattle.wgsl_path.specs.declared.path.ModulePath.{ModulePath}
 use Rattle.wgsl_path.specs.Paths.{path_text}
 use Rattle.wgsl_syntax.specs.Tree.{Decl, variable, function, UnitTree}
 use Rattle.wgsl_syntax.specs.Names.{declared_name}
-use Rattle.wgsl_meaning.specs.Names.{Name, find_decl}
+use Rattle.wgsl_programs.specs.Names.{Name}
+use Rattle.wgsl_programs.specs.Runs.{find_decl}
 use Rattle.wesl_link_spec.specs.Modules.{Path, Symbol, Modules, IsModule, Declares, Imports, local_name, IsFree, IsDeclaration, Denotes, own, imported, Reached, kept, onto}
 use Rattle.wesl_resolve.specs.Mangling.{mangled}
 use Rattle.wesl_link_spec.specs.Names.{IsPrinted, stays, is_mangled}

@@ -3,7 +3,7 @@ use Rattle.std.specs.Prelude.{◌≡◌, List, map, Some, None, false}
 use Rattle.std.specs.List.{Contains}
 use Rattle.wgsl_syntax.specs.Tree.{Decl, UnitTree}
 use Rattle.wgsl_syntax.specs.Names.{declared_name}
-use Rattle.wgsl_meaning.specs.Names.{find_decl}
+use Rattle.wgsl_programs.specs.Runs.{find_decl}
 use Rattle.wesl_link_spec.specs.Occurrences.{Name, is_among, occurrences, names_in_body, locals}
 use Rattle.wesl_link_spec.specs.Modules.{Path, Symbol, Modules, Declares, IsFree, IsDeclaration, Denotes, Reached}
 use Rattle.wesl_link_spec.specs.Names.{IsPrinted}

@@ -6,10 +6,13 @@ use Rattle.wgsl_syntax.specs.declared.expression.LiteralExpression.TheVariants a
 use Rattle.wgsl_syntax.specs.declared.declaration.DeclarationKind.TheVariants.{Const}
 use Rattle.wgsl_syntax.specs.Tree.{literal, named, simple, fragment, returning, Decl, variable, function, Imp, UnitTree}
 use Rattle.wgsl_shader_type.specs.declared.literal.LiteralInstance.TheVariants as V
-use Rattle.wgsl_meaning.specs.Names.{Name, Symbol}
-use Rattle.wgsl_meaning.specs.Programs.{Program, Inputs, EndsWell}
+use Rattle.wgsl_instance.specs.declared.tree.Instance.TheVariants as v
+use Rattle.wgsl_programs.specs.Names.{Name, Symbol}
+use Rattle.wgsl_programs.specs.Programs.{Program}
+use Rattle.wgsl_programs.specs.Runs.{Handed, EndsWell}
 use Rattle.wesl_link_spec.specs.Modules.{Modules}
-use Rattle.wesl_meaning.specs.SourcePrograms.{IsProgramOf, sources}
+use Rattle.wesl_meaning.specs.SourcePrograms.{Symbol as PathSymbol, sources}
+use Rattle.wesl_meaning.specs.Executions.{program_by_texts, IsProgramIn}
 use Rattle.wesl_meaning.specs.Runs.{AreLinkedWell}
 
 -- `const two = 2u;` under a name
@@ -42,17 +45,20 @@ two_modules = (root_path, root_unit) ∷ (other_path, other_unit) ∷ []
 abbrev pub linked_unit : UnitTree
 linked_unit = record { imports = []; declarations = entry_of (codes "package_m_two") ∷ const_of_two (codes "package_m_two") ∷ [] }
 
-abbrev pub entry : Symbol
+abbrev pub entry : PathSymbol
 entry = record { home = root_path; called = codes "g" }
 
-abbrev pub the_two : Symbol
+abbrev pub the_two : PathSymbol
 the_two = record { home = other_path; called = codes "two" }
 
 abbrev pub the_program : Program
-the_program = sources two_modules (entry ∷ the_two ∷ [])
+the_program = program_by_texts two_modules (codes "package") (sources two_modules (entry ∷ the_two ∷ []))
 
--- they are linked well into that unit, they have that program, and a run ends well with 2
+abbrev pub the_entry : Symbol
+the_entry = record { home = codes "package"; called = codes "g" }
+
+-- they are linked well into that unit, they have that program, and a run ends well with 2, without a step
 pub record PremisesAreMet : Type 0 where
   pub linked_well : AreLinkedWell two_modules (codes "package") (codes "g" ∷ []) linked_unit
-  pub program : IsProgramOf two_modules (codes "package") (codes "g" ∷ []) the_program
-  pub ends_well : (inputs : Inputs) → EndsWell the_program entry inputs 0 (Some (V.U32 2))
+  pub program : IsProgramIn two_modules (codes "package") (codes "g" ∷ []) the_program
+  pub ends_well : (handed : Handed) → EndsWell the_program the_entry handed 0 (Some (v.Literal (V.U32 2)))

@@ -1,5 +1,10 @@
--- Runs of linked modules in the second form of meaning: with memory, a limit of steps and one start.
-use Rattle.std.specs.Prelude.{◌≡◌, ℕ, List, map, Option, Some, ◌↔◌}
+-- Programs of modules, and runs of linked modules.
+use Rattle.std.specs.Prelude.{◌≡◌, ℕ, List, [], ◌∷◌, map, Bool, true, false, Option, Some, None, ◌↔◌, if◌then◌else◌}
+use Rattle.std.specs.Str.{bytes_eq}
+use Rattle.std.specs.Option.{option_map}
+use Rattle.wgsl_path.specs.declared.path.ModulePath.{ModulePath}
+use Rattle.wgsl_path.specs.Paths.{path_text}
+use Rattle.wesl_resolve.specs.Mangling.{mangled}
 use Rattle.std.specs.List.{Contains}
 use Rattle.wgsl_syntax.specs.Tree.{Decl, UnitTree}
 use Rattle.wgsl_instance.specs.declared.tree.Instance.{Instance}
@@ -12,7 +17,7 @@ use Rattle.wesl_link_spec.specs.Modules.{Symbol as SourceSymbol}
 use Rattle.wesl_link_spec.specs.Names.{IsPrinted}
 use Rattle.wesl_link_spec.specs.Linked.{IsLinked}
 use Rattle.wesl_link_spec.specs.Loaded.{AreLoaded}
-use Rattle.wesl_meaning.specs.SourcePrograms.{IsHeldList}
+use Rattle.wesl_meaning.specs.SourcePrograms.{Symbol as PathSymbol, Program as PathProgram, IsHeldList, unit_at, declared_at}
 use Rattle.wesl_meaning.specs.Runs.{AreLinkedWell}
 
 abbrev pub source : Symbol → SourceSymbol
@@ -36,3 +41,31 @@ LinkedUnitsEndLikewise = (modules : Modules) (root : Path) (keep : List Name) (u
 abbrev pub LinkedModulesHaveOne : Type 0
 LinkedModulesHaveOne = (modules : Modules) (root : Path) (keep : List Name) (unit : UnitTree) → AreLoaded modules root keep → IsLinked modules root keep unit
     → (p : Program) × IsProgramIn modules root keep p
+
+-- ---- that program, as a function of a program over paths
+
+-- the first path that prints so
+abbrev pub path_at : Modules → Path → Option ModulePath
+path_at [] m = None
+path_at (a ∷ rest) m = if bytes_eq (path_text a.0) m then Some a.0 else path_at rest m
+
+abbrev pub texted : PathSymbol → Symbol
+texted s = record { home = path_text s.home; called = s.called }
+
+abbrev pub denoted_from : PathProgram → Name → Option ModulePath → Option Symbol
+denoted_from p x (Some path) = option_map texted (p.denotes path x)
+denoted_from p x None = None
+
+-- the root's names stay
+abbrev pub printed_from : Bool → Option ModulePath → Name → Name
+printed_from true path x = x
+printed_from false (Some path) x = mangled path x
+printed_from false None x = x
+
+abbrev pub program_by_texts : Modules → Path → PathProgram → Program
+program_by_texts modules root p = record {
+  held = map texted p.held;
+  item = λ s. declared_at s.called (unit_at modules s.home);
+  printed = λ s. printed_from (bytes_eq s.home root) (path_at modules s.home) s.called;
+  denotes = λ m x. denoted_from p x (path_at modules m);
+}

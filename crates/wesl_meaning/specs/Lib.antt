@@ -1,4 +1,3 @@
-pub mod Alike
 pub mod SourcePrograms
 pub mod Runs
 pub mod Executions

@@ -1,4 +1,4 @@
--- The program that loaded modules are.
+-- The program that loaded modules are, over the paths of modules; programs over printed paths (`Executions`) are made of it.
 use Rattle.std.specs.Prelude.{◌≡◌, List, [], ◌∷◌, ◌++◌, map, Option, Some, None, if◌then◌else◌, ◌↔◌}
 use Rattle.std.specs.Str.{bytes_eq}
 use Rattle.wgsl_path.specs.declared.path.ModulePath.{ModulePath}
@@ -9,10 +9,20 @@ use Rattle.wesl_link_spec.specs.Occurrences.{Name}
 use Rattle.wesl_link_spec.specs.Modules.{Path, Modules, local_name, IsModule, IsDeclaration, Denotes, Reached}
 use Rattle.wesl_link_spec.specs.Modules.{Symbol as SourceSymbol}
 use Rattle.wesl_link_spec.specs.Linked.{Selects, IsInOrder}
-use Rattle.wgsl_meaning.specs.Names.{Symbol, find_decl}
-use Rattle.wgsl_meaning.specs.Programs.{Program}
+use Rattle.wgsl_programs.specs.Runs.{find_decl}
 
--- a symbol of a program by the printed path of its module
+-- a declaration's module, by its path, and name
+pub record Symbol : Type 0 where
+  pub home : ModulePath
+  pub called : Name
+
+-- what is held, what each symbol declares, and what a name means in a module
+pub record Program : Type 0 where
+  pub held : List Symbol
+  pub item : Symbol → Option Decl
+  pub denotes : ModulePath → Name → Option Symbol
+
+-- a symbol by the printed path of its module
 abbrev pub source_symbol : Symbol → SourceSymbol
 source_symbol s = record { home = path_text s.home; name = s.called }
 

@@ -6,35 +6,20 @@ ghost use Rattle.wesl_meaning.specs.Declared.{LinkedUnitsDeclareWhatIsHeld};
 ghost use Rattle.wesl_meaning.specs.Determined.{LoadingComesToOne};
 ghost use Rattle.wesl_meaning.specs.Example.{PremisesAreMet};
 ghost use Rattle.wesl_meaning.specs.Executions.{LinkedModulesHaveOne, LinkedUnitsEndLikewise};
-ghost use Rattle.wesl_meaning.specs.Runs.{LinkedModulesHaveAProgram, LinkedUnitsEndWell, LinkedUnitsRunAlike, WhatIsLoaded};
+ghost use Rattle.wesl_meaning.specs.Runs.{WhatIsLoaded};
 ghost use Rattle.wesl_meaning.specs.Same.{OrderOfModulesDoesNotCount};
 ghost use Rattle.wesl_meaning.specs.Unique.{LinkedUnitsAreOne};
 
 use wesl_resolve::Resolver;
 
-/// A run of a kept name ends in the linked unit as it does in the modules, with the same answer in the same steps.
-pub fn linked_units_run_alike()
-    ensures { LinkedUnitsRunAlike }
-{}
-
-/// A run of a kept name ends well in the linked unit where it does in the modules, and there alone.
-pub fn linked_units_end_well()
-    ensures { LinkedUnitsEndWell }
-{}
-
-/// The same in the second form of meaning, with memory, a limit of steps and one start: within so many steps, with the same answer.
+/// A run of a kept name ends well in the linked unit, within so many steps, exactly where it does in the modules, with the same answer.
 pub fn linked_units_end_likewise()
     ensures { LinkedUnitsEndLikewise }
 {}
 
-/// Modules that are linked have a program in the second form of meaning.
+/// Modules that are linked have a program.
 pub fn linked_modules_have_one()
     ensures { LinkedModulesHaveOne }
-{}
-
-/// Modules that are linked have a program.
-pub fn linked_modules_have_a_program()
-    ensures { LinkedModulesHaveAProgram }
 {}
 
 /// Modules that loading comes to are what is found at their paths; they are apart, have each name once, and all that occurs in what

@@ -109,7 +109,7 @@ module _ (f : Name) (t : IntegerType) (concrete : IsConcrete t) where
   given b u r = if b then bind (computed r) (λ y. pure (Some y)) else fail (OfName (ReturnType u T) f)
 
   -- a value of the function's type is handed back as it is
-  own : (y : LiteralInstance) → scalars.type_of y ≡ Integer t → handed_back f (Some T) (Some (v.Literal y)) ≡ pure (Some (v.Literal y))
+  pub own : (y : LiteralInstance) → scalars.type_of y ≡ Integer t → handed_back f (Some T) (Some (v.Literal y)) ≡ pure (Some (v.Literal y))
   own y h = (λ k. given (is k) (type_of (v.Literal y)) (own_value t concrete y h k))
     where
       is : converts (type_of (v.Literal y)) T ≡ true
