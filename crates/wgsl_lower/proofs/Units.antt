@@ -13,7 +13,7 @@ use Rattle.wgsl_scalar.specs.declared.scalar.IntegerType.{IntegerType}
 use Rattle.wgsl_scalar.specs.declared.scalar.IntegerType.TheVariants.{AbstractInt, I32, U32}
 use Rattle.wgsl_meaning.specs.declared.fault.Fault.{Fault}
 use Rattle.wgsl_scalar.specs.Scalars.{type_of}
-use Rattle.wgsl_meaning.specs.Values.{Checked, and_then, is_same_integer, is_same_type}
+use Rattle.wgsl_meaning.specs.Values.{Checked, and_then}
 use Rattle.wgsl_meaning.specs.Outcome.{Outcome, Done, Failed, Deep, after, bind}
 use Rattle.wgsl_meaning.specs.Names.{Name, find, find_decl}
 use Rattle.wgsl_meaning.specs.Meaning.{Types, World}

@@ -3,8 +3,5 @@ pub mod Outcome
 pub mod Names
 pub mod Meaning
 pub mod Programs
-pub mod Compare
-pub mod Follows
 pub mod Written
-pub mod Typing
 pub mod ConstStage

@@ -1,18 +1,18 @@
--- What expressions, consts and functions mean, whatever the names of modules denote.
-use Rattle.std.specs.Prelude.{pos, List, [], ◌∷◌, Option, Some, None, Ok, Err, if◌then◌else◌, length, ◌==◌}
-use Rattle.wgsl_syntax.specs.Tree.{Exp, Exps, literal, parenthesized, unary, binary, call, named, nil, cons, Typ, Stm, returning, Param, Decl, variable, function}
+-- Values and types of expressions and consts of the const stage, on scalars, as code computes them.
+use Rattle.std.specs.Prelude.{pos, List, [], ◌∷◌, Option, Some, None, Ok, Err}
+use Rattle.wgsl_syntax.specs.Tree.{Exp, Exps, literal, parenthesized, unary, binary, call, named, nil, cons, Typ, Decl, variable, function}
 use Rattle.wgsl_enumerations.specs.declared.words.ShaderStage.{ShaderStage}
 use Rattle.wgsl_shader_type.specs.declared.literal.LiteralInstance.{LiteralInstance}
 use Rattle.wgsl_shader_type.specs.declared.literal.LiteralInstance.TheVariants as V
 use Rattle.wgsl_scalar.specs.declared.scalar.ScalarType.{ScalarType}
 use Rattle.wgsl_meaning.specs.declared.fault.Fault.TheVariants.{Name as Named}
-use Rattle.wgsl_meaning.specs.declared.fault.NameFault.TheVariants.{UnknownDecl, NotCallable, UninitConst, Signature, ParamCount, Void, NoReturn, UnexpectedReturn, ReturnType}
+use Rattle.wgsl_meaning.specs.declared.fault.NameFault.TheVariants.{UnknownDecl, NotCallable, UninitConst, Signature}
 use Rattle.wgsl_scalar.specs.Scalars.{type_of}
 use Rattle.wgsl_scalar.specs.Conversions.{converted, constructed}
 use Rattle.wgsl_scalar.specs.Operators.{unary_value, binary_value}
-use Rattle.wgsl_scalar.specs.OperatorTypes.{converts, unary_type, binary_type}
-use Rattle.wgsl_meaning.specs.Values.{Checked, and_then, literal_value, argument_value}
-use Rattle.wgsl_meaning.specs.Outcome.{Outcome, Done, Failed, after, bind, at_once, computed}
+use Rattle.wgsl_scalar.specs.OperatorTypes.{unary_type, binary_type}
+use Rattle.wgsl_meaning.specs.Values.{Checked, and_then, literal_value}
+use Rattle.wgsl_meaning.specs.Outcome.{Outcome, Done, Failed, bind, at_once, computed}
 use Rattle.wgsl_meaning.specs.Names.{Name, find, plain_name}
 
 -- ---- expressions
@@ -95,7 +95,7 @@ abbrev mutual
   all_typed w env nil = Done [] 0
   all_typed w env (cons e es) = bind (typed w env e) (λ t. bind (all_typed w env es) (λ ts. Done (t ∷ ts) 0))
 
--- ---- constructors, consts and functions
+-- ---- constructors and consts
 
 -- the constructor of a type: of one argument, or of none for zero (WGSL, "Zero Value Built-in Functions")
 abbrev pub construct : Name → ScalarType → List LiteralInstance → Outcome LiteralInstance
@@ -126,55 +126,3 @@ abbrev pub const_in : World → Name → Option Decl → Outcome LiteralInstance
 const_in w x (Some (variable attributes kind y type e)) = initialized w y type e
 const_in w x (Some (function attributes f parameters return_attributes return_type body)) = Failed (Named UnknownDecl x)
 const_in w x None = Failed (Named UnknownDecl x)
-
--- the parameters take the values, each converted to the parameter's type
-abbrev pub bound : World → List Param → List LiteralInstance → Outcome Env
-bound w [] vs = Done [] 0
-bound w (p ∷ ps) [] = Done [] 0
-bound w (p ∷ ps) (v ∷ vs) =
-    bind (type_written w p.type) (λ t. bind (computed (argument_value t v)) (λ x.
-    bind (bound w ps vs) (λ env. Done ((p.name, x) ∷ env) 0)))
-
--- what a body of at most one return hands back
-abbrev pub returned_by : World → Env → List Stm → Outcome (Option LiteralInstance)
-returned_by w env [] = Done None 0
-returned_by w env (returning attributes None ∷ rest) = Done None 0
-returned_by w env (returning attributes (Some e) ∷ rest) = bind (value w env e) (λ v. Done (Some v) 0)
-
-abbrev pub converted_return : Name → ScalarType → LiteralInstance → Outcome (Option LiteralInstance)
-converted_return f t v =
-    if converts (type_of v) t then bind (computed (converted t v)) (λ x. Done (Some x) 0)
-    else Failed (Named (ReturnType (type_of v) t) f)
-
--- it is converted to the function's type
-abbrev pub handed_back : Name → Option ScalarType → Option LiteralInstance → Outcome (Option LiteralInstance)
-handed_back f None None = Done None 0
-handed_back f None (Some v) = Failed (Named (UnexpectedReturn (type_of v)) f)
-handed_back f (Some t) None = Failed (Named (NoReturn t) f)
-handed_back f (Some t) (Some v) = converted_return f t v
-
-abbrev pub return_type_of : World → Option Typ → Outcome (Option ScalarType)
-return_type_of w None = Done None 0
-return_type_of w (Some t) = bind (type_written w t) (λ u. Done (Some u) 0)
-
-abbrev pub body_of : World → Name → Option Typ → List Stm → Env → Outcome (Option LiteralInstance)
-body_of w f type body env = bind (return_type_of w type) (λ t. bind (returned_by w env body) (λ v. handed_back f t v))
-
--- a value where one is needed
-abbrev pub needed : Name → Option LiteralInstance → Outcome LiteralInstance
-needed f (Some v) = Done v 0
-needed f None = Failed (Named Void f)
-
--- a call, which is a step (WGSL, "Function Calls")
-abbrev pub call_in : World → Name → Option Decl → List LiteralInstance → Outcome LiteralInstance
-call_in w f (Some (function attributes g parameters return_attributes type body)) vs =
-    if length vs == length parameters then after 1 (bind (bound w parameters vs) (λ env. bind (body_of w f type body.statements env) (needed f)))
-    else Failed (Named (ParamCount (length parameters) (length vs)) f)
-call_in w f (Some (variable attributes kind x type e)) vs = Failed (Named NotCallable f)
-call_in w f None vs = Failed (Named NotCallable f)
-
-abbrev pub call_type : World → Name → Option Decl → Outcome ScalarType
-call_type w f (Some (function attributes g parameters return_attributes (Some t) body)) = type_written w t
-call_type w f (Some (function attributes g parameters return_attributes None body)) = Failed (Named Void f)
-call_type w f (Some (variable attributes kind x type e)) = Failed (Named NotCallable f)
-call_type w f None = Failed (Named NotCallable f)

@@ -1,20 +1,13 @@
 -- What evaluation has beside the scalars' own conversions and operators: faults, literals, and the conversions of a place.
-use Rattle.std.specs.Prelude.{◌≡◌, ◌⊎◌, Bool, true, false, Result, Ok, Err, if◌then◌else◌}
+use Rattle.std.specs.Prelude.{◌≡◌, ◌⊎◌, Result, Ok, Err}
 use Rattle.wgsl_items.specs.declared.error.OrOutOfMemory.{OrOutOfMemory}
 use Rattle.wgsl_items.specs.declared.error.OrOutOfMemory.TheVariants as memory
 use Rattle.wgsl_syntax.specs.declared.expression.LiteralExpression.{LiteralExpression}
 use Rattle.wgsl_syntax.specs.declared.expression.LiteralExpression.TheVariants as L
 use Rattle.wgsl_shader_type.specs.declared.error.Error.{Error}
-use Rattle.wgsl_shader_type.specs.declared.error.Error.TheVariants.{ParamType, OutOfMemory}
+use Rattle.wgsl_shader_type.specs.declared.error.Error.TheVariants.{OutOfMemory}
 use Rattle.wgsl_shader_type.specs.declared.literal.LiteralInstance.{LiteralInstance}
 use Rattle.wgsl_shader_type.specs.declared.literal.LiteralInstance.TheVariants as V
-use Rattle.wgsl_scalar.specs.declared.scalar.ScalarType.{ScalarType}
-use Rattle.wgsl_scalar.specs.declared.scalar.ScalarType.TheVariants.{Bool as Truth, Integer}
-use Rattle.wgsl_scalar.specs.declared.scalar.IntegerType.{IntegerType}
-use Rattle.wgsl_scalar.specs.declared.scalar.IntegerType.TheVariants.{AbstractInt, I32, U32}
-use Rattle.wgsl_scalar.specs.Scalars.{scalar_type, type_of}
-use Rattle.wgsl_scalar.specs.Conversions.{converted}
-use Rattle.wgsl_scalar.specs.OperatorTypes.{converts}
 use Rattle.wgsl_meaning.specs.declared.fault.Fault.{Fault}
 use Rattle.wgsl_meaning.specs.declared.fault.Fault.TheVariants.{Operation}
 
@@ -40,18 +33,3 @@ abbrev pub literal_value : LiteralExpression → LiteralInstance
 literal_value (L.AbstractInt z) = V.AbstractInt z
 literal_value (L.I32 z) = V.I32 z
 literal_value (L.U32 n) = V.U32 n
-
--- an argument as a parameter of this type takes it (WGSL, "Function Calls"); the error tells the parameter's type first
-abbrev pub argument_value : ScalarType → LiteralInstance → Result LiteralInstance Error
-argument_value t v = if converts (type_of v) t then converted t v else Err (ParamType (scalar_type t) (scalar_type (type_of v)))
-
-abbrev pub is_same_integer : IntegerType → IntegerType → Bool
-is_same_integer AbstractInt AbstractInt = true
-is_same_integer I32 I32 = true
-is_same_integer U32 U32 = true
-is_same_integer s t = false
-
-abbrev pub is_same_type : ScalarType → ScalarType → Bool
-is_same_type Truth Truth = true
-is_same_type (Integer s) (Integer t) = is_same_integer s t
-is_same_type s t = false
