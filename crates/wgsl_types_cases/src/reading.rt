@@ -112,10 +112,11 @@ impl Read for Type {
 impl Read for StructMemberType {
     fn read(alloc: Global, text: &str) -> Result<StructMemberType, AllocError> {
         let (name, ty) = text.split_once(": ").unwrap_or((text, ""));
-        let ty = plain_type(alloc, ty)?;
         let align = if name.starts_with('@') { Some(0) } else { None };
+        let name = Text::from_str(alloc, name)?;
+        let ty = plain_type(alloc, ty)?;
         Ok(StructMemberType {
-            name: Text::from_str(alloc, name)?,
+            name,
             ty,
             size: None,
             align,

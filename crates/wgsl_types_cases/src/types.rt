@@ -250,17 +250,22 @@ fn refused<E: Display + Drop>(alloc: Global, answer: Result<(), E>) -> Result<St
     }
 }
 
+/// A call on one type or on two.
+fn of_few(alloc: Global, call: &str, types: &[Type]) -> Result<String, AllocError> {
+    match types {
+        [ty] => of_one(alloc, call, ty),
+        [from, to] => of_two(alloc, call, from, to),
+        _ => String::from_str(alloc, "no types"),
+    }
+}
+
 /// A call on types.
 fn of_types(alloc: Global, group: &str, call: &str, types: &[Type]) -> Result<String, AllocError> {
     match group {
         "list" => of_list(alloc, call, types),
         "constructor" => told_of_copies(alloc, constructed(alloc, call, types)),
         "templated" => told(alloc, templated(alloc, call, types)),
-        _ => match types {
-            [ty] => of_one(alloc, call, ty),
-            [from, to] => of_two(alloc, call, from, to),
-            _ => String::from_str(alloc, "no types"),
-        },
+        _ => of_few(alloc, call, types),
     }
 }
 
