@@ -77,12 +77,20 @@ pub fn printed<T: CloneIn + PartialEq + Display + Drop>(
     }
 }
 
+/// Adds a place from what `Debug` has written of it.
+fn push_place(all: &mut String, written: &str) -> Result<(), AllocError> {
+    let (place, _) = written.split_once(" }").unwrap_or(("", ""));
+    let (start, end) = place.split_once(", end: ").unwrap_or(("", ""));
+    write!(all, " {start}..{end}")?;
+    Ok(())
+}
+
 /// Adds the places in a tree that `Debug` has written: each one after those of its parts.
 fn push_places(all: &mut String, tree: &str) -> Result<(), AllocError> {
-    for part in tree.split("Span { start: ").skip(1) {
-        let (place, _) = part.split_once(" }").unwrap_or(("", ""));
-        let (start, end) = place.split_once(", end: ").unwrap_or(("", ""));
-        write!(all, " {start}..{end}")?;
+    let mut parts = tree.split("Span { start: ");
+    parts.next();
+    for part in parts {
+        push_place(all, part)?;
     }
     Ok(())
 }

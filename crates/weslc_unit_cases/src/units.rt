@@ -18,6 +18,11 @@ use wgsl_syntax::{
     TranslationUnit,
 };
 
+/// A value in the form of `Debug`.
+fn shown<T: Debug>(alloc: Global, value: &T) -> Result<String, AllocError> {
+    format!(in alloc; "{value:?}")
+}
+
 /// What the cases tell of a refusal.
 trait Tell {
     fn tell(&self, alloc: Global) -> Result<String, AllocError>;
@@ -35,8 +40,8 @@ impl<E: Tell> Tell for OrOutOfMemory<E> {
 impl Tell for Fault {
     fn tell(&self, alloc: Global) -> Result<String, AllocError> {
         match self {
-            Fault::Operation(error) => format!(in alloc; "{:?}", error.get()),
-            Fault::NegativeAttr(_) => format!(in alloc; "{self:?}"),
+            Fault::Operation(error) => shown(alloc, error.get()),
+            Fault::NegativeAttr(_) => shown(alloc, self),
             Fault::Name(fault, name) => format!(in alloc; "{fault:?} {}", name.as_str()),
         }
     }
@@ -143,18 +148,14 @@ fn add_function(alloc: Global, unit: &mut TranslationUnit, name: &str) -> Result
     unit.global_declarations.push(declaration)
 }
 
-/// A value, or its refusal, and whether its type is `u32`.
-fn with_type<T: Debug + Drop, E: Tell + Drop>(
+/// A value, or its refusal.
+fn valued<T: Debug + Drop, E: Tell + Drop>(
     alloc: Global,
     value: Result<T, E>,
-    is_u32: bool,
 ) -> Result<String, AllocError> {
     match value {
-        Ok(value) => format!(in alloc; "{value:?} u32 {is_u32}"),
-        Err(error) => {
-            let fault = error.tell(alloc)?;
-            format!(in alloc; "{fault} u32 {is_u32}")
-        }
+        Ok(value) => shown(alloc, &value),
+        Err(error) => error.tell(alloc),
     }
 }
 
@@ -166,7 +167,8 @@ fn evaluated(
 ) -> Result<String, AllocError> {
     let ty = eval_ty(alloc, scope, expression).ok();
     let is_u32 = ty == Some(ScalarType::Integer(IntegerType::U32));
-    with_type(alloc, eval_value(alloc, scope, expression), is_u32)
+    let value = valued(alloc, eval_value(alloc, scope, expression))?;
+    format!(in alloc; "{value} u32 {is_u32}")
 }
 
 /// The same, where `k` is a const of 40.
