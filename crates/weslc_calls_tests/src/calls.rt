@@ -17,85 +17,130 @@ const LINKED: &str =
 
 const COMPILED: &str = "fn g() -> u32 {\n    return 3u;\n}\n";
 
-fn add(resolver: &mut VirtualResolver, alloc: Global, path: &str, text: &str) -> Result<(), Fail> {
-    let path = ModulePath::from_str(alloc, path)?;
-    let text = Text::from_str(alloc, text)?;
-    resolver.add_module(path, text)?;
-    Ok(())
+/// The calls that are made.
+#[derive(Clone, Copy)]
+enum Call {
+    Link,
+    Compile,
 }
 
-fn two_modules(alloc: Global) -> Result<VirtualResolver, Fail> {
-    let mut resolver = VirtualResolver::new(alloc);
-    add(&mut resolver, alloc, "package", ROOT)?;
-    add(&mut resolver, alloc, "package::m", M)?;
-    Ok(resolver)
+fn add(resolver: &mut VirtualResolver, alloc: Global, path: &str, text: &str) -> Option<()> {
+    let path = ModulePath::from_str(alloc, path).ok()?;
+    resolver
+        .add_module(path, Text::from_str(alloc, text).ok()?)
+        .ok()
 }
 
-fn keeping_g(alloc: Global) -> Result<Options, Fail> {
-    let mut options = Options::new(alloc);
-    options.keep.push(Text::from_str(alloc, "g")?)?;
-    Ok(options)
+fn add_both(resolver: &mut VirtualResolver, alloc: Global) -> Option<()> {
+    add(resolver, alloc, "package", ROOT)?;
+    add(resolver, alloc, "package::m", M)
 }
 
-// The map tells where the imported const was declared.
-fn is_declared(alloc: Global, map: &BasicSourceMap) -> Result<bool, Fail> {
-    let m = ModulePath::from_str(alloc, "package::m")?;
+fn keep_g(alloc: Global, options: &mut Options) -> Option<()> {
+    options.keep.push(Text::from_str(alloc, "g").ok()?).ok()
+}
+
+/// Whether the map tells where the imported const was declared.
+fn is_declared(map: &BasicSourceMap, m: &ModulePath) -> bool {
     match map.get_decl("package_m_two") {
-        Some((module, item)) => Ok(*module == m && item == "two"),
-        None => Ok(false),
+        Some((module, item)) => *module == *m && item == "two",
+        None => false,
     }
 }
 
-// The map has the texts of both modules.
-fn has_texts(alloc: Global, map: &BasicSourceMap) -> Result<bool, Fail> {
-    let m = ModulePath::from_str(alloc, "package::m")?;
-    let text = map.get_source(alloc, &m)?.unwrap_or("");
-    Ok(text == M && map.get_default_source().unwrap_or("") == ROOT)
+/// Whether the map has the texts of both modules.
+fn has_texts(alloc: Global, map: &BasicSourceMap, m: &ModulePath) -> bool {
+    map.get_source(alloc, m).ok() == Some(Some(M)) && map.get_default_source() == Some(ROOT)
+}
+
+fn maps_back(alloc: Global, map: &BasicSourceMap) -> Option<bool> {
+    let m = ModulePath::from_str(alloc, "package::m").ok()?;
+    Some(is_declared(map, &m) && has_texts(alloc, map, &m))
+}
+
+/// Whether a call gives this text and a map that maps its names back. Over any errors, since to prove their drop is dear.
+fn gives<E: Drop>(
+    alloc: Global,
+    answer: Result<(String, BasicSourceMap), E>,
+    wanted: &str,
+) -> Option<bool> {
+    let (text, map) = answer.ok()?;
+    Some(text.as_str() == wanted && maps_back(alloc, &map)?)
+}
+
+fn answers(
+    alloc: Global,
+    call: Call,
+    resolver: &mut VirtualResolver,
+    root: &ModulePath,
+    options: &Options,
+) -> Option<bool> {
+    match call {
+        Call::Link => gives(alloc, link(alloc, resolver, root, options), LINKED),
+        Call::Compile => gives(alloc, compile(alloc, resolver, root, options), COMPILED),
+    }
+}
+
+fn keeping_g(
+    alloc: Global,
+    call: Call,
+    resolver: &mut VirtualResolver,
+    root: &ModulePath,
+) -> Option<bool> {
+    let mut options = Options::new(alloc);
+    keep_g(alloc, &mut options)?;
+    answers(alloc, call, resolver, root, &options)
+}
+
+fn of_root(alloc: Global, call: Call, resolver: &mut VirtualResolver) -> Option<bool> {
+    let root = ModulePath::from_str(alloc, "package").ok()?;
+    keeping_g(alloc, call, resolver, &root)
+}
+
+/// Whether a call on the two modules gives what it should; nothing where it, or what it needs, is refused.
+fn is_right(alloc: Global, call: Call) -> Option<bool> {
+    let mut resolver = VirtualResolver::new(alloc);
+    add_both(&mut resolver, alloc)?;
+    of_root(alloc, call, &mut resolver)
 }
 
 #[test]
 fn linked_names_map_back(rt: HostRuntime) -> Result<(), Fail> {
-    let alloc = rt.alloc();
-    let mut resolver = two_modules(alloc)?;
-    let root = ModulePath::from_str(alloc, "package")?;
-    let options = keeping_g(alloc)?;
-    let (text, map) = link(alloc, &mut resolver, &root, &options)?;
-    assert_eq!(rt; text.as_str(), LINKED);
-    assert!(rt; is_declared(alloc, &map)?);
-    assert!(rt; has_texts(alloc, &map)?);
+    assert_eq!(rt; is_right(rt.alloc(), Call::Link), Some(true));
     Ok(())
 }
 
 #[test]
 fn compiled_names_map_back(rt: HostRuntime) -> Result<(), Fail> {
-    let alloc = rt.alloc();
-    let mut resolver = two_modules(alloc)?;
-    let root = ModulePath::from_str(alloc, "package")?;
-    let options = keeping_g(alloc)?;
-    let (text, map) = compile(alloc, &mut resolver, &root, &options)?;
-    assert_eq!(rt; text.as_str(), COMPILED);
-    assert!(rt; is_declared(alloc, &map)?);
-    assert!(rt; has_texts(alloc, &map)?);
+    assert_eq!(rt; is_right(rt.alloc(), Call::Compile), Some(true));
     Ok(())
 }
 
-// Whether a name is mangled into this one, which is read back as path and item.
-fn is_mangled(alloc: Global, path: &str, item: &str, name: &str) -> Result<bool, Fail> {
-    let path = ModulePath::from_str(alloc, path)?;
-    let mangled = EscapeMangler.mangle(alloc, &path, item)?;
-    match EscapeMangler.unmangle(alloc, name)? {
-        Some((module, back)) => {
-            Ok(mangled.as_str() == name && module == path && back.as_str() == item)
-        }
-        None => Ok(false),
-    }
+/// Whether a name is read back as this path and item.
+fn is_unmangled(alloc: Global, path: &ModulePath, item: &str, name: &str) -> Option<bool> {
+    let (module, back) = EscapeMangler.unmangle(alloc, name).ok()??;
+    Some(module == *path && back.as_str() == item)
+}
+
+/// Whether a path and an item are mangled into this name.
+fn is_mangled(alloc: Global, path: &ModulePath, item: &str, name: &str) -> Option<bool> {
+    let mangled = EscapeMangler.mangle(alloc, path, item).ok()?;
+    Some(mangled.as_str() == name)
+}
+
+/// Whether a path and an item are mangled into this name and come back.
+fn comes_back(alloc: Global, path: &str, item: &str, name: &str) -> Option<bool> {
+    let path = ModulePath::from_str(alloc, path).ok()?;
+    Some(is_mangled(alloc, &path, item, name)? && is_unmangled(alloc, &path, item, name)?)
 }
 
 #[test]
 fn mangled_names_come_back(rt: HostRuntime) -> Result<(), Fail> {
     let alloc = rt.alloc();
     let lighting = "package__1bevy_pbr_lighting_item";
-    assert!(rt; is_mangled(alloc, "package::bevy_pbr::lighting", "item", lighting)?);
-    assert!(rt; is_mangled(alloc, "a_b::c_d::e", "item", "_1a_b__1c_d_e_item")?);
+    let back = comes_back(alloc, "package::bevy_pbr::lighting", "item", lighting);
+    assert_eq!(rt; back, Some(true));
+    let back = comes_back(alloc, "a_b::c_d::e", "item", "_1a_b__1c_d_e_item");
+    assert_eq!(rt; back, Some(true));
     Ok(())
 }

@@ -15,20 +15,18 @@ fn cut(text: &str) -> (&str, &str) {
     text.split_once('\t').unwrap_or((text, ""))
 }
 
-/// A line with its line breaks.
-fn with_line_breaks(alloc: Global, line: &str) -> Result<String, AllocError> {
-    let mut text = String::new(alloc);
+/// Adds a line with its line breaks.
+fn push_line(text: &mut String, line: &str) -> Result<(), AllocError> {
     for c in line.chars() {
         text.push(if c == '¶' { '\n' } else { c })?;
     }
-    Ok(text)
+    Ok(())
 }
 
 fn answer(alloc: Global, case: &str) -> Result<String, AllocError> {
     let (call, with) = cut(case);
     match call {
         "lex" => parsing::tokens(alloc, with),
-        "parse" | "places" => parsing::parsed(alloc, call, with),
         "is_blankspace" | "is_line_break" => parsing::told(alloc, call, with),
         "number" => numbers::answer(alloc, with),
         call => units::answer(alloc, call, with),
@@ -37,37 +35,49 @@ fn answer(alloc: Global, case: &str) -> Result<String, AllocError> {
 
 /// Tells of a case whose answer differs from the one that it names. An answer that tells that memory was refused ends all.
 fn check(alloc: Global, report: &mut String, line: &str) -> Result<(), AllocError> {
-    let text = with_line_breaks(alloc, line)?;
+    let mut text = String::new(alloc);
+    push_line(&mut text, line)?;
     let (case, wanted) = text.as_str().rsplit_once('\t').unwrap_or(("", ""));
+    compare(alloc, report, line, case, wanted)
+}
+
+fn compare(
+    alloc: Global,
+    report: &mut String,
+    line: &str,
+    case: &str,
+    wanted: &str,
+) -> Result<(), AllocError> {
     let found = answer(alloc, case)?;
-    if found.as_str() == "out of memory" || found.as_str() == "out of memory at 0..0" {
-        return Err(AllocError);
+    match found.as_str() {
+        "out of memory" | "out of memory at 0..0" => Err(AllocError),
+        found => tell(report, line, found, wanted),
     }
-    if found.as_str() != wanted {
+}
+
+fn tell(report: &mut String, line: &str, found: &str, wanted: &str) -> Result<(), AllocError> {
+    if found != wanted {
         writeln!(report, "{line}\n    answers {found}")?;
     }
     Ok(())
 }
 
-/// The cases of a text that differ.
-fn report(alloc: Global, text: &str) -> Result<String, AllocError> {
-    let mut report = String::new(alloc);
+/// Tells of the cases of a text that differ. How many cases there are.
+fn check_all(alloc: Global, report: &mut String, text: &str) -> Result<u64, AllocError> {
+    let mut count: u64 = 0;
     for line in text.lines() {
         if line.contains('\t') {
-            check(alloc, &mut report, line)?;
+            check(alloc, report, line)?;
+            count = count.saturating_add(1);
         }
     }
-    Ok(report)
+    Ok(count)
 }
 
 fn check_file(rt: &HostRuntime, file: &str) -> io::Result<()> {
     let text = fs::read_to_string(rt, file)?;
-    let count = text
-        .as_str()
-        .lines()
-        .filter(|line| line.contains('\t'))
-        .count();
-    let report = report(rt.alloc(), text.as_str())?;
+    let mut report = String::new(rt.alloc());
+    let count = check_all(rt.alloc(), &mut report, text.as_str())?;
     println!(rt; "{report}{file}: {count} cases")
 }
 

@@ -2,6 +2,7 @@
 
 use crate::cut;
 use std::alloc::{AllocError, Global};
+use std::fmt::Debug;
 use wgsl_enumerations::ShaderStage;
 use wgsl_operators::{BinaryOperator, UnaryOperator};
 use wgsl_scalar::{
@@ -45,14 +46,17 @@ fn result_of(
     left: LiteralInstance,
     right: Option<LiteralInstance>,
 ) -> Result<LiteralInstance, Error> {
-    match (right, call.split_once(' ')) {
-        (Some(right), Some(("const", sign))) => binary(ShaderStage::Const, sign, left, right),
-        (Some(right), Some(("exec", sign))) => binary(ShaderStage::Exec, sign, left, right),
+    let Some(right) = right else {
+        return unary(call, left);
+    };
+    match call.split_once(' ') {
+        Some(("const", sign)) => binary(ShaderStage::Const, sign, left, right),
+        Some(("exec", sign)) => binary(ShaderStage::Exec, sign, left, right),
         _ => unary(call, left),
     }
 }
 
-fn shown(alloc: Global, given: &Result<LiteralInstance, Error>) -> Result<String, AllocError> {
+fn shown<T: Debug + Drop>(alloc: Global, given: T) -> Result<String, AllocError> {
     format!(in alloc; "{given:?}")
 }
 
@@ -60,7 +64,7 @@ pub fn answer(alloc: Global, with: &str) -> Result<String, AllocError> {
     let (call, operands) = cut(with);
     let (left, right) = cut(operands);
     match value_of(left) {
-        Some(value) => shown(alloc, &result_of(call, value, value_of(right))),
+        Some(value) => shown(alloc, result_of(call, value, value_of(right))),
         None => String::from_str(alloc, "no number"),
     }
 }

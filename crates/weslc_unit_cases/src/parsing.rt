@@ -1,10 +1,9 @@
-//! Tokens, and trees of texts.
+//! Tokens, and what trees print.
 
 use std::alloc::{AllocError, Global};
-use std::fmt::Write;
+use std::fmt::{Display, Write};
 use wgsl_items::CloneIn;
 use wgsl_lex::{is_blankspace, is_line_break, lex};
-use wgsl_parse::parse_str;
 use wgsl_syntax::TranslationUnit;
 use wgsl_token::{SpannedToken, Token};
 
@@ -22,56 +21,88 @@ pub fn told(alloc: Global, call: &str, text: &str) -> Result<String, AllocError>
     format!(in alloc; "{all}")
 }
 
-/// A token's sign, word or number, and its place.
-fn token(alloc: Global, token: &SpannedToken) -> Result<String, AllocError> {
-    let (start, end) = (token.span.start, token.span.end);
-    match &token.token {
-        Token::Fixed(fixed) => format!(in alloc; " `{fixed}` {start}..{end}"),
-        Token::Identifier(word) => format!(in alloc; " name {} {start}..{end}", word.as_str()),
-        Token::Reserved(word) => format!(in alloc; " reserved {} {start}..{end}", word.as_str()),
-        Token::AbstractInt(number) => format!(in alloc; " {number} {start}..{end}"),
-        Token::I32(number) => format!(in alloc; " {number}i {start}..{end}"),
-        Token::U32(number) => format!(in alloc; " {number}u {start}..{end}"),
-        Token::Invalid => format!(in alloc; " invalid {start}..{end}"),
+fn push<T: Display>(
+    all: &mut String,
+    before: &str,
+    shown: &T,
+    after: &str,
+) -> Result<(), AllocError> {
+    write!(all, "{before}{shown}{after}")?;
+    Ok(())
+}
+
+/// Adds a token's sign, word or number.
+fn push_token(all: &mut String, token: &Token) -> Result<(), AllocError> {
+    match token {
+        Token::Fixed(fixed) => push(all, " `", fixed, "`"),
+        Token::Identifier(word) => push(all, " name ", word, ""),
+        Token::Reserved(word) => push(all, " reserved ", word, ""),
+        Token::AbstractInt(number) => push(all, " ", number, ""),
+        Token::I32(number) => push(all, " ", number, "i"),
+        Token::U32(number) => push(all, " ", number, "u"),
+        Token::Invalid => all.push_str(" invalid"),
     }
+}
+
+/// Adds the tokens, each with its place.
+fn push_tokens(all: &mut String, tokens: &[SpannedToken]) -> Result<(), AllocError> {
+    for token in tokens {
+        push_token(all, &token.token)?;
+        write!(all, " {}..{}", token.span.start, token.span.end)?;
+    }
+    Ok(())
+}
+
+fn shown_tokens(alloc: Global, tokens: &[SpannedToken]) -> Result<String, AllocError> {
+    let mut all = String::new(alloc);
+    push_tokens(&mut all, tokens)?;
+    Ok(all)
 }
 
 pub fn tokens(alloc: Global, text: &str) -> Result<String, AllocError> {
     let tokens = lex(alloc, text)?;
-    let mut all = String::new(alloc);
-    for found in tokens.as_slice() {
-        all.push_str(token(alloc, found)?.as_str())?;
-    }
-    Ok(all)
+    shown_tokens(alloc, tokens.as_slice())
 }
 
-/// The printed text of a text's tree and of its copy, or the places in it, or the fault.
-pub fn parsed(alloc: Global, call: &str, text: &str) -> Result<String, AllocError> {
-    let answer = parse_str(alloc, text);
-    match &answer {
-        Ok(unit) if call == "places" => places(alloc, unit),
-        Ok(unit) => printed(alloc, unit),
-        Err(error) => error.to_string(alloc),
-    }
-}
-
-fn printed(alloc: Global, unit: &TranslationUnit) -> Result<String, AllocError> {
-    let copy = unit.clone_in(alloc)?;
-    if copy == *unit {
+/// The printed text of a copy.
+pub fn printed<T: CloneIn + PartialEq + Display + Drop>(
+    alloc: Global,
+    original: &T,
+) -> Result<String, AllocError> {
+    let copy = original.clone_in(alloc)?;
+    if copy == *original {
         copy.to_string(alloc)
     } else {
         String::from_str(alloc, "a copy differs")
     }
 }
 
-/// The places in a tree: each one after those of its parts.
-fn places(alloc: Global, unit: &TranslationUnit) -> Result<String, AllocError> {
-    let tree = format!(in alloc; "{unit:?}")?;
-    let mut all = String::new(alloc);
-    for part in tree.as_str().split("Span { start: ").skip(1) {
-        let (place, _) = part.split_once(" }").unwrap_or(("", ""));
-        let (start, end) = place.split_once(", end: ").unwrap_or(("", ""));
-        write!(all, " {start}..{end}")?;
+/// Adds a place from what `Debug` has written of it.
+fn push_place(all: &mut String, written: &str) -> Result<(), AllocError> {
+    let (place, _) = written.split_once(" }").unwrap_or(("", ""));
+    let (start, end) = place.split_once(", end: ").unwrap_or(("", ""));
+    write!(all, " {start}..{end}")?;
+    Ok(())
+}
+
+/// Adds the places in a tree that `Debug` has written: each one after those of its parts.
+fn push_places(all: &mut String, tree: &str) -> Result<(), AllocError> {
+    let mut parts = tree.split("Span { start: ");
+    parts.next();
+    for part in parts {
+        push_place(all, part)?;
     }
+    Ok(())
+}
+
+fn places_of(alloc: Global, tree: &str) -> Result<String, AllocError> {
+    let mut all = String::new(alloc);
+    push_places(&mut all, tree)?;
     Ok(all)
+}
+
+/// The places in a tree.
+pub fn places(alloc: Global, unit: &TranslationUnit) -> Result<String, AllocError> {
+    let tree = format!(in alloc; "{unit:?}")?;
+    places_of(alloc, tree.as_str())
 }

@@ -1,12 +1,13 @@
 //! Validation, evaluation and compiled units.
 
 use crate::cut;
+use crate::parsing::{places, printed};
 use std::alloc::{AllocError, Global};
-use std::fmt::Display;
-use wesl_validate::{unclear_name, validate_wesl};
+use std::fmt::{Debug, Display};
+use wesl_validate::{ValidateFault, unclear_name, validate_wesl};
 use weslc_unit::{UnitRefusal, compile_unit, print_declaration, print_unit};
 use wgsl_builtin::builtin_names;
-use wgsl_eval::{EvalError, Fault, Scope, eval_ty, eval_value};
+use wgsl_eval::{Fault, Scope, eval_ty, eval_value};
 use wgsl_items::{Items, OrOutOfMemory, Text};
 use wgsl_lower::lower;
 use wgsl_parse::parse_str;
@@ -17,28 +18,57 @@ use wgsl_syntax::{
     TranslationUnit,
 };
 
-fn fault_text(alloc: Global, fault: &Fault) -> Result<String, AllocError> {
-    match fault {
-        Fault::Operation(error) => format!(in alloc; "{:?}", error.get()),
-        Fault::NegativeAttr(_) => format!(in alloc; "{fault:?}"),
-        Fault::Name(fault, name) => format!(in alloc; "{fault:?} {}", name.as_str()),
+/// A value in the form of `Debug`.
+fn shown<T: Debug>(alloc: Global, value: &T) -> Result<String, AllocError> {
+    format!(in alloc; "{value:?}")
+}
+
+/// What the cases tell of a refusal.
+trait Tell {
+    fn tell(&self, alloc: Global) -> Result<String, AllocError>;
+}
+
+impl<E: Tell> Tell for OrOutOfMemory<E> {
+    fn tell(&self, alloc: Global) -> Result<String, AllocError> {
+        match self {
+            OrOutOfMemory::Error(error) => error.tell(alloc),
+            OrOutOfMemory::OutOfMemory => Err(AllocError),
+        }
     }
 }
 
-fn refusal_text(alloc: Global, refusal: &UnitRefusal) -> Result<String, AllocError> {
-    match refusal {
-        UnitRefusal::Eval(found) => {
-            let fault = fault_text(alloc, &found.fault)?;
-            format!(in alloc; "{fault} in `{}`", found.declaration.as_str())
+impl Tell for Fault {
+    fn tell(&self, alloc: Global) -> Result<String, AllocError> {
+        match self {
+            Fault::Operation(error) => shown(alloc, error.get()),
+            Fault::NegativeAttr(_) => shown(alloc, self),
+            Fault::Name(fault, name) => format!(in alloc; "{fault:?} {}", name.as_str()),
         }
-        refusal => refusal.to_string(alloc),
+    }
+}
+
+impl Tell for ValidateFault {
+    fn tell(&self, alloc: Global) -> Result<String, AllocError> {
+        self.to_string(alloc)
+    }
+}
+
+impl Tell for UnitRefusal {
+    fn tell(&self, alloc: Global) -> Result<String, AllocError> {
+        match self {
+            UnitRefusal::Eval(found) => {
+                let fault = found.fault.tell(alloc)?;
+                format!(in alloc; "{fault} in `{}`", found.declaration.as_str())
+            }
+            refusal => refusal.to_string(alloc),
+        }
     }
 }
 
 /// Whether two calls give the same.
-fn agree<T: PartialEq, E, F>(left: &Result<T, E>, right: &Result<T, F>) -> bool {
-    match (left, right) {
-        (Ok(left), Ok(right)) => *left == *right,
+fn agree<T: PartialEq + Drop>(left: Option<T>, right: Option<T>) -> bool {
+    match (&left, &right) {
+        (Some(left), Some(right)) => *left == *right,
         _ => false,
     }
 }
@@ -54,28 +84,41 @@ fn told<T: Display + Drop, E: Display + Drop>(
     }
 }
 
-/// The compiled text of a unit, which reads back as what the unit is lowered to, or its refusal.
-fn compiled(alloc: Global, unit: &TranslationUnit) -> Result<String, AllocError> {
-    let answer = compile_unit(alloc, unit);
-    match &answer {
-        Ok(text) if agree(&lower(alloc, unit), &parse_str(alloc, text.as_str())) => text.clone(),
+/// The text of what is found, or `none`.
+fn maybe<T: Display + Drop>(
+    alloc: Global,
+    found: Result<Option<T>, AllocError>,
+) -> Result<String, AllocError> {
+    match found? {
+        Some(found) => found.to_string(alloc),
+        None => String::from_str(alloc, "none"),
+    }
+}
+
+/// Whether a text reads back as what a unit is lowered to.
+fn reads_back(alloc: Global, unit: &TranslationUnit, text: &str) -> bool {
+    agree(lower(alloc, unit).ok(), parse_str(alloc, text).ok())
+}
+
+/// A compiled text, which reads back, or its refusal.
+fn compiled<E: Tell + Drop>(
+    alloc: Global,
+    unit: &TranslationUnit,
+    answer: Result<String, E>,
+) -> Result<String, AllocError> {
+    match answer {
+        Ok(text) if reads_back(alloc, unit, text.as_str()) => Ok(text),
         Ok(_) => String::from_str(alloc, "it reads back as another unit"),
-        Err(refusal) => refusal_text(alloc, refusal),
+        Err(refusal) => refusal.tell(alloc),
     }
 }
 
-fn validated(alloc: Global, unit: &TranslationUnit) -> Result<String, AllocError> {
-    let answer = validate_wesl(alloc, unit, builtin_names());
-    match &answer {
+/// How a unit is refused, if it is.
+fn refused<E: Tell + Drop>(alloc: Global, answer: Result<(), E>) -> Result<String, AllocError> {
+    match answer {
         Ok(()) => String::from_str(alloc, "fine"),
-        Err(OrOutOfMemory::Error(fault)) => fault.to_string(alloc),
-        Err(OrOutOfMemory::OutOfMemory) => String::from_str(alloc, "out of memory"),
+        Err(fault) => fault.tell(alloc),
     }
-}
-
-fn unclear(alloc: Global, unit: &TranslationUnit) -> Result<String, AllocError> {
-    let found = unclear_name(alloc, unit, builtin_names())?;
-    String::from_str(alloc, found.as_ref().map_or("none", Text::as_str))
 }
 
 /// The text of the last declaration, or its refusal.
@@ -105,48 +148,55 @@ fn add_function(alloc: Global, unit: &mut TranslationUnit, name: &str) -> Result
     unit.global_declarations.push(declaration)
 }
 
-/// The value and the type of the first const of a unit.
-fn evaluated(
+/// A value, or its refusal.
+fn valued<T: Debug + Drop, E: Tell + Drop>(
     alloc: Global,
-    unit: &TranslationUnit,
-    scope: &Scope<'_>,
+    value: Result<T, E>,
 ) -> Result<String, AllocError> {
-    let Some(expression) = first_value(unit) else {
-        return String::from_str(alloc, "no const");
-    };
-    let value = eval_value(alloc, scope, expression);
-    let ty = eval_ty(alloc, scope, expression);
-    let is_typed = ty == Ok(ScalarType::Integer(IntegerType::U32));
-    match &value {
-        Ok(value) => format!(in alloc; "{value:?} u32 {is_typed}"),
-        Err(EvalError::Error(fault)) => {
-            let fault = fault_text(alloc, fault)?;
-            format!(in alloc; "{fault} u32 {is_typed}")
-        }
-        Err(EvalError::OutOfMemory) => String::from_str(alloc, "out of memory"),
+    match value {
+        Ok(value) => shown(alloc, &value),
+        Err(error) => error.tell(alloc),
     }
 }
 
-/// The same, where `k` is a const of 40 or a parameter of type `u32`.
-fn evaluated_with(
+/// The value and the type of an expression.
+fn evaluated(
     alloc: Global,
-    unit: &TranslationUnit,
-    is_const: bool,
+    scope: &Scope<'_>,
+    expression: &Expression,
 ) -> Result<String, AllocError> {
+    let ty = eval_ty(alloc, scope, expression).ok();
+    let is_u32 = ty == Some(ScalarType::Integer(IntegerType::U32));
+    let value = valued(alloc, eval_value(alloc, scope, expression))?;
+    format!(in alloc; "{value} u32 {is_u32}")
+}
+
+/// The same, where `k` is a const of 40.
+fn with_const(alloc: Global, expression: &Expression) -> Result<String, AllocError> {
     let consts = [(
         Text::from_str(alloc, "k")?,
         LiteralInstance::AbstractInt(40),
     )];
+    let scope = Scope {
+        declarations: &[],
+        consts: &consts,
+        parameters: &[],
+    };
+    evaluated(alloc, &scope, expression)
+}
+
+/// The same, where `k` is a parameter of type `u32`.
+fn with_parameter(alloc: Global, expression: &Expression) -> Result<String, AllocError> {
     let parameters = [(
         Text::from_str(alloc, "k")?,
         ScalarType::Integer(IntegerType::U32),
     )];
     let scope = Scope {
         declarations: &[],
-        consts: if is_const { &consts } else { &[] },
-        parameters: if is_const { &[] } else { &parameters },
+        consts: &[],
+        parameters: &parameters,
     };
-    evaluated(alloc, unit, &scope)
+    evaluated(alloc, &scope, expression)
 }
 
 fn first_value(unit: &TranslationUnit) -> Option<&Expression> {
@@ -158,28 +208,62 @@ fn first_value(unit: &TranslationUnit) -> Option<&Expression> {
     }
 }
 
+/// The value and the type of the first const of a unit.
+fn first_evaluated(
+    alloc: Global,
+    call: &str,
+    unit: &TranslationUnit,
+) -> Result<String, AllocError> {
+    match first_value(unit) {
+        Some(expression) if call == "eval with const" => with_const(alloc, expression),
+        Some(expression) => with_parameter(alloc, expression),
+        None => String::from_str(alloc, "no const"),
+    }
+}
+
+/// What a call on a unit gives.
 fn of_unit(alloc: Global, call: &str, unit: &TranslationUnit) -> Result<String, AllocError> {
     match call {
-        "compile_unit" => compiled(alloc, unit),
-        "validate_wesl" => validated(alloc, unit),
-        "unclear_name" => unclear(alloc, unit),
+        "parse" => printed(alloc, unit),
+        "places" => places(alloc, unit),
+        "compile_unit" => compiled(alloc, unit, compile_unit(alloc, unit)),
+        "validate_wesl" => refused(alloc, validate_wesl(alloc, unit, builtin_names())),
+        "unclear_name" => maybe(alloc, unclear_name(alloc, unit, builtin_names())),
         "print_declaration" => last_printed(alloc, unit),
         "print_unit" => told(alloc, print_unit(alloc, unit)),
-        call => evaluated_with(alloc, unit, call == "eval with const"),
+        call => first_evaluated(alloc, call, unit),
+    }
+}
+
+/// What calls are made on, with a function added where it has a name.
+trait Called {
+    fn called(&mut self, alloc: Global, call: &str, function: &str) -> Result<String, AllocError>;
+}
+
+impl Called for TranslationUnit {
+    fn called(&mut self, alloc: Global, call: &str, function: &str) -> Result<String, AllocError> {
+        if !function.is_empty() {
+            add_function(alloc, self, function)?;
+        }
+        of_unit(alloc, call, self)
+    }
+}
+
+/// What a call on what is read gives, or the fault.
+fn of_read<T: Called + Drop, E: Display + Drop>(
+    alloc: Global,
+    call: &str,
+    function: &str,
+    read: Result<T, E>,
+) -> Result<String, AllocError> {
+    match read {
+        Ok(mut unit) => unit.called(alloc, call, function),
+        Err(error) => error.to_string(alloc),
     }
 }
 
 /// What a call on the unit of a text gives. A second text is the name of a function that is added.
 pub fn answer(alloc: Global, call: &str, with: &str) -> Result<String, AllocError> {
     let (text, function) = cut(with);
-    let mut answer = parse_str(alloc, text);
-    match &mut answer {
-        Ok(unit) => {
-            if !function.is_empty() {
-                add_function(alloc, unit, function)?;
-            }
-            of_unit(alloc, call, unit)
-        }
-        Err(error) => error.to_string(alloc),
-    }
+    of_read(alloc, call, function, parse_str(alloc, text))
 }

@@ -1,38 +1,41 @@
 //! Constructors.
 
-use crate::answer::{Kind, error_kind, is_literal};
+use crate::answer::{Kind, error_kind, gives, instances};
 use std::alloc::Global;
 use std::test::Fail;
 use wgsl_constructors::call_ctor;
 use wgsl_instance::Instance;
-use wgsl_shader_type::LiteralInstance;
+use wgsl_shader_type::{Error, LiteralInstance};
+
+/// What a constructor of scalars gives.
+pub fn call(alloc: Global, name: &str, scalars: &[LiteralInstance]) -> Result<Instance, Error> {
+    let arguments = instances(alloc, scalars)?;
+    call_ctor(alloc, name, None, arguments.as_slice())
+}
 
 /// Whether a constructor of nothing gives this scalar.
 fn zero_is(alloc: Global, name: &str, wanted: LiteralInstance) -> bool {
-    is_literal(call_ctor(alloc, name, None, &[]).ok(), wanted)
+    gives(call(alloc, name, &[]), wanted)
 }
 
 /// Whether a constructor of one scalar gives this scalar.
 fn cast_is(alloc: Global, name: &str, scalar: LiteralInstance, wanted: LiteralInstance) -> bool {
-    let arguments = [Instance::Literal(scalar)];
-    is_literal(call_ctor(alloc, name, None, &arguments).ok(), wanted)
+    gives(call(alloc, name, &[scalar]), wanted)
 }
 
 /// Whether a scalar is too large for a type.
 fn overflows(alloc: Global, name: &str, scalar: LiteralInstance) -> bool {
-    let arguments = [Instance::Literal(scalar)];
-    error_kind(call_ctor(alloc, name, None, &arguments).err()) == Kind::ConvOverflow
+    error_kind(call(alloc, name, &[scalar])) == Kind::ConvOverflow
 }
 
 /// Whether a constructor of nothing is not evaluated yet.
 fn is_not_yet(alloc: Global, name: &str) -> bool {
-    error_kind(call_ctor(alloc, name, None, &[]).err()) == Kind::Todo
+    error_kind(call(alloc, name, &[])) == Kind::Todo
 }
 
 /// Whether there is no such call with two scalars.
 fn is_no_call(alloc: Global, name: &str, first: LiteralInstance, second: LiteralInstance) -> bool {
-    let arguments = [Instance::Literal(first), Instance::Literal(second)];
-    error_kind(call_ctor(alloc, name, None, &arguments).err()) == Kind::Signature
+    error_kind(call(alloc, name, &[first, second])) == Kind::Signature
 }
 
 #[test]

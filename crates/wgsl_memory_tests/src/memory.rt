@@ -1,9 +1,9 @@
 //! Views, reads and writes, each tried on a memory of its own, whose only cell holds the vector of three zeros.
 
-use crate::answer::{Kind, error_kind, is_literal};
+use crate::answer::{Kind, error_kind, gives};
+use crate::constructors::call;
 use std::alloc::Global;
 use std::test::Fail;
-use wgsl_constructors::call_ctor;
 use wgsl_enumerations::{AccessMode, AddressSpace};
 use wgsl_instance::{Instance, RefInstance};
 use wgsl_items::Items;
@@ -25,19 +25,50 @@ enum Trial {
 
 /// Whether a view at this index is out of bounds.
 fn is_outside(alloc: Global, memory: &Memory, whole: &RefInstance, index: i64) -> bool {
-    error_kind(memory.view_index(alloc, whole, index).err()) == Kind::OutOfBounds(3)
+    error_kind(memory.view_index(alloc, whole, index)) == Kind::OutOfBounds(3)
 }
 
-/// Whether a view reads this scalar.
-fn reads(
+/// What refers to a place.
+trait Place {
+    /// Whether this scalar is there.
+    fn reads(&self, alloc: Global, memory: &Memory, wanted: LiteralInstance) -> bool;
+
+    /// Whether 7 is written.
+    fn writes(&self, alloc: Global, memory: &mut Memory) -> bool;
+}
+
+impl Place for RefInstance {
+    fn reads(&self, alloc: Global, memory: &Memory, wanted: LiteralInstance) -> bool {
+        gives(memory.read(alloc, self), wanted)
+    }
+
+    fn writes(&self, alloc: Global, memory: &mut Memory) -> bool {
+        error_kind(memory.write(alloc, self, Instance::Literal(SEVEN))) == Kind::Absent
+    }
+}
+
+/// Whether a place is there and has this scalar.
+fn reads<P: Place + Drop, E: Drop>(
     alloc: Global,
     memory: &Memory,
-    view: &Option<RefInstance>,
+    place: Result<P, E>,
     wanted: LiteralInstance,
 ) -> bool {
-    match view {
-        Some(part) => is_literal(memory.read(alloc, part).ok(), wanted),
-        None => false,
+    match place {
+        Ok(place) => place.reads(alloc, memory, wanted),
+        Err(_) => false,
+    }
+}
+
+/// Whether a place is there and 7 is written to it.
+fn writes<P: Place + Drop, E: Drop>(
+    alloc: Global,
+    memory: &mut Memory,
+    place: Result<P, E>,
+) -> bool {
+    match place {
+        Ok(place) => place.writes(alloc, memory),
+        Err(_) => false,
     }
 }
 
@@ -52,59 +83,61 @@ fn component_is(
     reads(
         alloc,
         memory,
-        &memory.view_index(alloc, whole, index).ok(),
+        memory.view_index(alloc, whole, index),
         wanted,
     )
 }
 
-/// Whether 7 is written through a view.
-fn writes(alloc: Global, memory: &mut Memory, view: &Option<RefInstance>) -> bool {
-    match view {
-        Some(part) => memory
-            .write(alloc, part, Instance::Literal(SEVEN))
-            .ok()
-            .is_some(),
-        None => false,
-    }
-}
-
 /// Whether 7 is written to the component at this index.
 fn write(alloc: Global, memory: &mut Memory, whole: &RefInstance, index: i64) -> bool {
-    let view = memory.view_index(alloc, whole, index).ok();
-    writes(alloc, memory, &view)
+    let view = memory.view_index(alloc, whole, index);
+    writes(alloc, memory, view)
 }
 
 /// Whether a write of a scalar is refused for want of access.
 fn is_refused(alloc: Global, memory: &mut Memory, whole: &RefInstance) -> bool {
-    error_kind(memory.write(alloc, whole, Instance::Literal(SEVEN)).err()) == Kind::NotWrite
+    error_kind(memory.write(alloc, whole, Instance::Literal(SEVEN))) == Kind::NotWrite
 }
 
-fn holds(alloc: Global, memory: &mut Memory, whole: &RefInstance, trial: Trial) -> bool {
-    let zero = LiteralInstance::U32(0);
-    match trial {
-        Trial::Outside(index) => is_outside(alloc, memory, whole, index),
-        Trial::ReadOnly => {
-            is_refused(alloc, memory, whole) && component_is(alloc, memory, whole, 1, zero)
-        }
-        Trial::OneWritten => {
-            write(alloc, memory, whole, 1)
-                && component_is(alloc, memory, whole, 1, SEVEN)
-                && component_is(alloc, memory, whole, 0, zero)
+/// What trials are made on.
+trait Whole {
+    /// Whether a trial ends so.
+    fn holds(&self, alloc: Global, memory: &mut Memory, trial: Trial) -> bool;
+}
+
+impl Whole for RefInstance {
+    fn holds(&self, alloc: Global, memory: &mut Memory, trial: Trial) -> bool {
+        let zero = LiteralInstance::U32(0);
+        match trial {
+            Trial::Outside(index) => is_outside(alloc, memory, self, index),
+            Trial::ReadOnly => {
+                is_refused(alloc, memory, self) && component_is(alloc, memory, self, 1, zero)
+            }
+            Trial::OneWritten => {
+                write(alloc, memory, self, 1)
+                    && component_is(alloc, memory, self, 1, SEVEN)
+                    && component_is(alloc, memory, self, 0, zero)
+            }
         }
     }
 }
 
-fn holds_by(alloc: Global, memory: &mut Memory, whole: &Option<RefInstance>, trial: Trial) -> bool {
+/// Whether something is there on which a trial ends so.
+fn holds<W: Whole + Drop>(
+    alloc: Global,
+    memory: &mut Memory,
+    whole: Option<W>,
+    trial: Trial,
+) -> bool {
     match whole {
-        Some(whole) => holds(alloc, memory, whole, trial),
+        Some(whole) => whole.holds(alloc, memory, trial),
         None => false,
     }
 }
 
 /// Allocates the vector of three zeros; whether it was.
 fn fill(alloc: Global, memory: &mut Memory) -> bool {
-    let zero = [Instance::Literal(LiteralInstance::U32(0))];
-    match call_ctor(alloc, "vec3", None, &zero).ok() {
+    match call(alloc, "vec3", &[LiteralInstance::U32(0)]).ok() {
         Some(value) => memory.allocate(value).is_ok(),
         None => false,
     }
@@ -130,11 +163,12 @@ fn first(alloc: Global, memory: &Memory, access: AccessMode) -> Option<RefInstan
 
 fn is_so(alloc: Global, access: AccessMode, trial: Trial) -> bool {
     let mut memory = Memory::new(alloc);
-    if !fill(alloc, &mut memory) {
-        return false;
+    if fill(alloc, &mut memory) {
+        let whole = first(alloc, &memory, access);
+        holds(alloc, &mut memory, whole, trial)
+    } else {
+        false
     }
-    let whole = first(alloc, &memory, access);
-    holds_by(alloc, &mut memory, &whole, trial)
 }
 
 #[test]

@@ -1,6 +1,6 @@
 //! Operators at each stage. The expected values and faults are those of the project's description.
 
-use crate::answer::{Kind, error_kind, is_literal};
+use crate::answer::{Kind, error_kind, gives, instances};
 use std::alloc::Global;
 use std::test::Fail;
 use wgsl_enumerations::ShaderStage;
@@ -24,9 +24,11 @@ fn applied(
     operands: Pair,
     stage: ShaderStage,
 ) -> Result<Instance, Error> {
-    let left = Instance::Literal(operands.0);
-    let right = Instance::Literal(operands.1);
-    call_binary_op(alloc, operator, &left, &right, stage)
+    let operands = instances(alloc, &[operands.0, operands.1])?;
+    match operands.as_slice() {
+        [left, right] => call_binary_op(alloc, operator, left, right, stage),
+        _ => Err(Error::OutOfMemory),
+    }
 }
 
 /// Whether an operator on two scalars gives this scalar when the shader runs.
@@ -36,8 +38,8 @@ fn runs_as(
     operands: Pair,
     wanted: LiteralInstance,
 ) -> bool {
-    is_literal(
-        applied(alloc, operator, operands, ShaderStage::Exec).ok(),
+    gives(
+        applied(alloc, operator, operands, ShaderStage::Exec),
         wanted,
     )
 }
@@ -50,7 +52,7 @@ fn fails(
     stage: ShaderStage,
     wanted: Kind,
 ) -> bool {
-    error_kind(applied(alloc, operator, operands, stage).err()) == wanted
+    error_kind(applied(alloc, operator, operands, stage)) == wanted
 }
 
 #[test]

@@ -4,7 +4,7 @@
 #![tactic(auto)]
 
 use std::alloc::{AllocError, Global};
-use std::fmt::Write;
+use std::fmt::{Display, Write};
 use std::{fs, io};
 use wgsl_operators::{BinaryOperator, UnaryOperator};
 use wgsl_scalar::{
@@ -50,34 +50,55 @@ fn compare_row(
 ) -> Result<(), AllocError> {
     let mut operands = operands.split(' ');
     for wanted in results.split(' ') {
-        let operand = operands.next().unwrap_or("");
-        let given = answer(alloc, call, operand)?;
-        if given.as_str() != wanted {
-            writeln!(
-                report.text,
-                "{call} {operand}: wanted {wanted}, given {given}"
-            )?;
-        }
-        report.count = report.count.saturating_add(1);
+        compare(alloc, report, call, operands.next().unwrap_or(""), wanted)?;
     }
     Ok(())
 }
 
-/// What a call gives for an operand, as text.
-fn answer(alloc: Global, call: &str, operand: &str) -> Result<String, AllocError> {
-    let operand = literal_of(operand);
+fn compare(
+    alloc: Global,
+    report: &mut Report,
+    call: &str,
+    operand: &str,
+    wanted: &str,
+) -> Result<(), AllocError> {
+    report.count = report.count.saturating_add(1);
+    let given = told(alloc, answer(call, literal_of(operand)))?;
+    if given.as_str() != wanted {
+        writeln!(
+            report.text,
+            "{call} {operand}: wanted {wanted}, given {given}"
+        )?;
+    }
+    Ok(())
+}
+
+/// What the cases call an error.
+trait Letter {
+    fn letter(&self) -> &'static str;
+}
+
+/// A value, or the letter of an error, as text.
+fn told<T: Display + Drop, E: Letter + Drop>(
+    alloc: Global,
+    given: Result<T, E>,
+) -> Result<String, AllocError> {
+    match given {
+        Ok(value) => value.to_string(alloc),
+        Err(error) => String::from_str(alloc, error.letter()),
+    }
+}
+
+/// What a call gives for an operand.
+fn answer(call: &str, operand: LiteralInstance) -> Result<LiteralInstance, Error> {
     let (kind, rest) = call.split_once('\t').unwrap_or((call, ""));
     let (first, rest) = rest.split_once('\t').unwrap_or((rest, ""));
     let (operator, left) = rest.split_once('\t').unwrap_or((rest, ""));
-    let given = match kind {
+    match kind {
         "unary" => unary(first, operator, operand),
         "binary" => binary(first, operator, literal_of(left), operand),
         "construct" => construct_scalar(type_of(first), operand),
         _ => convert_scalar(type_of(first), operand),
-    };
-    match given {
-        Ok(value) => value.to_string(alloc),
-        Err(error) => String::from_str(alloc, letter(&error)),
     }
 }
 
@@ -128,20 +149,21 @@ fn literal_of(text: &str) -> LiteralInstance {
     }
 }
 
-/// The letter of an error in the cases.
-fn letter(error: &Error) -> &'static str {
-    match error {
-        Error::AddOverflow => "A",
-        Error::SubOverflow => "S",
-        Error::MulOverflow => "M",
-        Error::DivByZero => "D",
-        Error::RemZeroDiv => "R",
-        Error::ShlOverflow(_, _) => "L",
-        Error::ShrOverflow(_, _) => "H",
-        Error::ConvOverflow(_, _) => "C",
-        Error::Conversion(_, _) => "V",
-        Error::Unary(_, _) => "U",
-        Error::Binary(_, _, _) => "B",
-        _ => "?",
+impl Letter for Error {
+    fn letter(&self) -> &'static str {
+        match self {
+            Error::AddOverflow => "A",
+            Error::SubOverflow => "S",
+            Error::MulOverflow => "M",
+            Error::DivByZero => "D",
+            Error::RemZeroDiv => "R",
+            Error::ShlOverflow(_, _) => "L",
+            Error::ShrOverflow(_, _) => "H",
+            Error::ConvOverflow(_, _) => "C",
+            Error::Conversion(_, _) => "V",
+            Error::Unary(_, _) => "U",
+            Error::Binary(_, _, _) => "B",
+            _ => "?",
+        }
     }
 }

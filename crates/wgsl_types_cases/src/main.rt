@@ -35,25 +35,22 @@ fn check(alloc: Global, report: &mut String, line: &str) -> Result<(), AllocErro
     Ok(())
 }
 
-/// The cases of a text that differ.
-fn report(alloc: Global, text: &str) -> Result<String, AllocError> {
-    let mut report = String::new(alloc);
+/// Tells of the cases of a text that differ. How many cases there are.
+fn check_all(alloc: Global, report: &mut String, text: &str) -> Result<u64, AllocError> {
+    let mut count: u64 = 0;
     for line in text.lines() {
         if line.contains('\t') {
-            check(alloc, &mut report, line)?;
+            check(alloc, report, line)?;
+            count = count.saturating_add(1);
         }
     }
-    Ok(report)
+    Ok(count)
 }
 
 fn check_file(rt: &HostRuntime, file: &str) -> io::Result<()> {
     let text = fs::read_to_string(rt, file)?;
-    let count = text
-        .as_str()
-        .lines()
-        .filter(|line| line.contains('\t'))
-        .count();
-    let report = report(rt.alloc(), text.as_str())?;
+    let mut report = String::new(rt.alloc());
+    let count = check_all(rt.alloc(), &mut report, text.as_str())?;
     println!(rt; "{report}{file}: {count} cases")
 }
 

@@ -1,8 +1,8 @@
 //! Rows of tables: a call on one type and each scalar or vector type in turn. `tools/type_cases.py` writes these cases.
 
-use crate::reading::type_of;
+use crate::reading::list_of;
+use crate::types::{maybe, told};
 use std::alloc::{AllocError, Global};
-use std::fmt::Display;
 use wgsl_types::{BinaryOperator, Type, conversion_rank, convert_ty, type_binary_op};
 
 /// The scalar types, then the vectors of two, three and four components.
@@ -14,77 +14,78 @@ vec4<bool> vec4<AbstractInt> vec4<AbstractFloat> vec4<i32> vec4<u32> vec4<f32> v
 /// A letter for each of the types.
 const LETTERS: &str = "ABCDEFGHIJKLMNOPQRSTUVWXYZab";
 
-/// The letter of a type, or the text of something else.
-fn letter(text: &str) -> char {
-    for (name, letter) in TYPES.split(' ').zip(LETTERS.chars()) {
+/// The letter of a type by its text, or a dot for the text of a refusal.
+fn letter(text: &str, refusal: &str) -> char {
+    let mut letters = LETTERS.chars();
+    for name in TYPES.split(' ') {
+        let letter = letters.next().unwrap_or('?');
         if name == text {
             return letter;
         }
     }
-    '?'
+    if text == refusal { '.' } else { '?' }
 }
 
-/// The letter of what an operator gives, or a dot where it refuses these types by this text.
-fn operated<T: Display + Drop, E: Display + Drop>(
-    alloc: Global,
-    answer: Result<T, E>,
-    refusal: &str,
-) -> Result<char, AllocError> {
-    match answer {
-        Ok(given) => Ok(letter(given.to_string(alloc)?.as_str())),
-        Err(error) => Ok(if error.to_string(alloc)?.as_str() == refusal {
-            '.'
-        } else {
-            '?'
-        }),
+/// The letter of what an operator gives, or a dot where it refuses these types.
+fn operated(alloc: Global, sign: &str, left: &Type, right: &Type) -> Result<char, AllocError> {
+    let Ok(operator) = sign.parse::<BinaryOperator>() else {
+        return Ok('?');
+    };
+    let refusal = format!(in alloc;
+        "cannot use the operator `{sign}` on operands of types `{left}` and `{right}`"
+    )?;
+    let given = told(alloc, type_binary_op(alloc, operator, left, right))?;
+    Ok(letter(given.as_str(), refusal.as_str()))
+}
+
+/// The letter of a type to which both are converted.
+fn common(alloc: Global, left: &Type, right: &Type) -> Result<char, AllocError> {
+    let given = maybe(alloc, Ok(convert_ty(left, right)))?;
+    Ok(letter(given.as_str(), "none"))
+}
+
+fn rank(left: &Type, right: &Type) -> char {
+    match conversion_rank(left, right) {
+        Some(rank) => char::from_digit(rank, 10).unwrap_or('?'),
+        None => '.',
     }
 }
 
 /// What a call gives at two types: a digit for a rank, or the letter of a type.
 fn entry(alloc: Global, call: &str, left: &Type, right: &Type) -> Result<char, AllocError> {
-    if call == "conversion_rank" {
-        return Ok(match conversion_rank(left, right) {
-            Some(rank) => char::from_digit(rank, 10).unwrap_or('?'),
-            None => '.',
-        });
+    match call {
+        "conversion_rank" => Ok(rank(left, right)),
+        "convert_ty" => common(alloc, left, right),
+        sign => operated(alloc, sign, left, right),
     }
-    if call == "convert_ty" {
-        return Ok(match convert_ty(left, right) {
-            Some(ty) => letter(ty.to_string(alloc)?.as_str()),
-            None => '.',
-        });
-    }
-    let Ok(operator) = call.parse::<BinaryOperator>() else {
-        return Ok('?');
-    };
-    let refusal = format!(in alloc;
-        "cannot use the operator `{call}` on operands of types `{left}` and `{right}`"
-    )?;
-    operated(
-        alloc,
-        type_binary_op(alloc, operator, left, right),
-        refusal.as_str(),
-    )
 }
 
-fn push_entry(
+/// Adds what a call gives at a type and at each of the others.
+fn push_row(
     alloc: Global,
     row: &mut String,
     call: &str,
     left: &Type,
-    right: &str,
+    others: &[Type],
 ) -> Result<(), AllocError> {
-    let right = type_of(alloc, right)?;
-    let entry = entry(alloc, call, left, &right)?;
-    row.push(entry)?;
+    for right in others {
+        row.push(entry(alloc, call, left, right)?)?;
+    }
     Ok(())
 }
 
-pub fn answer(alloc: Global, call: &str, left: &str) -> Result<String, AllocError> {
-    let left = type_of(alloc, left)?;
+/// What a call gives at the first type and at each of the others.
+fn row(alloc: Global, call: &str, types: &[Type]) -> Result<String, AllocError> {
     let mut row = String::new(alloc);
-    for right in TYPES.split(' ') {
-        push_entry(alloc, &mut row, call, &left, right)?;
+    if let Some((left, others)) = types.split_first() {
+        push_row(alloc, &mut row, call, left, others)?;
     }
     Ok(row)
+}
+
+/// What a call gives at a type and at each of all types.
+pub fn answer(alloc: Global, call: &str, left: &str) -> Result<String, AllocError> {
+    let names = format!(in alloc; "{left} {TYPES}")?;
+    let types = list_of(alloc, names.as_str(), " ")?;
+    row(alloc, call, types.as_slice())
 }

@@ -68,33 +68,65 @@ fn plain_type(alloc: Global, text: &str) -> Result<Type, AllocError> {
     }
 }
 
-pub fn type_of(alloc: Global, text: &str) -> Result<Type, AllocError> {
-    if text.contains('{') {
-        ShaderType::from_in(alloc, struct_of(alloc, text)?)
-    } else {
-        plain_type(alloc, text)
+/// What the cases write in lists.
+pub trait Read: Sized {
+    fn read(alloc: Global, text: &str) -> Result<Self, AllocError>;
+}
+
+/// Adds what a text has between separators.
+fn read_all<T: Read + Drop>(
+    alloc: Global,
+    all: &mut Items<T>,
+    text: &str,
+    separator: &str,
+) -> Result<(), AllocError> {
+    for part in text.split(separator) {
+        if !part.is_empty() {
+            all.push(T::read(alloc, part)?)?;
+        }
+    }
+    Ok(())
+}
+
+/// What a text has between separators.
+pub fn list_of<T: Read + Drop>(
+    alloc: Global,
+    text: &str,
+    separator: &str,
+) -> Result<Items<T>, AllocError> {
+    let mut all = Items::new(alloc);
+    read_all(alloc, &mut all, text, separator)?;
+    Ok(all)
+}
+
+impl Read for Type {
+    fn read(alloc: Global, text: &str) -> Result<Type, AllocError> {
+        if text.contains('{') {
+            ShaderType::from_in(alloc, struct_of(alloc, text)?)
+        } else {
+            plain_type(alloc, text)
+        }
     }
 }
 
-fn member_of(alloc: Global, text: &str) -> Result<StructMemberType, AllocError> {
-    let (name, ty) = text.split_once(": ").unwrap_or((text, ""));
-    let align = if name.starts_with('@') { Some(0) } else { None };
-    let name = Text::from_str(alloc, name)?;
-    let ty = plain_type(alloc, ty)?;
-    Ok(StructMemberType {
-        name,
-        ty,
-        size: None,
-        align,
-    })
+impl Read for StructMemberType {
+    fn read(alloc: Global, text: &str) -> Result<StructMemberType, AllocError> {
+        let (name, ty) = text.split_once(": ").unwrap_or((text, ""));
+        let align = if name.starts_with('@') { Some(0) } else { None };
+        let name = Text::from_str(alloc, name)?;
+        let ty = plain_type(alloc, ty)?;
+        Ok(StructMemberType {
+            name,
+            ty,
+            size: None,
+            align,
+        })
+    }
 }
 
 pub fn struct_of(alloc: Global, text: &str) -> Result<StructType, AllocError> {
     let (name, of) = text.split_once('{').unwrap_or((text, ""));
-    let mut members = Items::new(alloc);
-    for member in of.trim_end_matches('}').split(" & ") {
-        members.push(member_of(alloc, member)?)?;
-    }
+    let members = list_of(alloc, of.trim_end_matches('}'), " & ")?;
     Ok(StructType::new(Text::from_str(alloc, name)?, members))
 }
 
@@ -110,30 +142,14 @@ pub fn literal_of(text: &str) -> Option<LiteralInstance> {
     }
 }
 
-pub fn types_of(alloc: Global, text: &str) -> Result<Items<Type>, AllocError> {
-    let mut types = Items::new(alloc);
-    for part in text.split("; ") {
-        if !part.is_empty() {
-            types.push(type_of(alloc, part)?)?;
+impl Read for TpltParam {
+    fn read(alloc: Global, text: &str) -> Result<TpltParam, AllocError> {
+        if let Ok(word) = text.parse::<Enumerant>() {
+            return Ok(TpltParam::Enumerant(word));
+        }
+        match literal_of(text) {
+            Some(literal) => Ok(TpltParam::Instance(literal)),
+            None => Ok(TpltParam::Ty(plain_type(alloc, text)?)),
         }
     }
-    Ok(types)
-}
-
-fn param_of(alloc: Global, text: &str) -> Result<TpltParam, AllocError> {
-    if let Ok(word) = text.parse::<Enumerant>() {
-        return Ok(TpltParam::Enumerant(word));
-    }
-    match literal_of(text) {
-        Some(literal) => Ok(TpltParam::Instance(literal)),
-        None => Ok(TpltParam::Ty(plain_type(alloc, text)?)),
-    }
-}
-
-pub fn params_of(alloc: Global, text: &str) -> Result<Items<TpltParam>, AllocError> {
-    let mut params = Items::new(alloc);
-    for part in text.split("; ") {
-        params.push(param_of(alloc, part)?)?;
-    }
-    Ok(params)
 }

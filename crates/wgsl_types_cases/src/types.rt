@@ -1,9 +1,9 @@
 //! Types, their operators, conversions, layouts, constructors and templates.
 
-use crate::cut;
-use crate::reading::{literal_of, params_of, struct_of, type_of, types_of};
+use crate::reading::{list_of, literal_of, struct_of};
 use std::alloc::{AllocError, Global};
 use std::fmt::{Debug, Display};
+use std::str::FromStr;
 use wgsl_builtin::is_builtin_name;
 use wgsl_items::CloneIn;
 use wgsl_types::{
@@ -15,7 +15,7 @@ use wgsl_types::{
 };
 
 /// The text of what a call gives, or of its refusal.
-fn told<T: Display + Drop, E: Display + Drop>(
+pub fn told<T: Display + Drop, E: Display + Drop>(
     alloc: Global,
     answer: Result<T, E>,
 ) -> Result<String, AllocError> {
@@ -49,11 +49,24 @@ fn told_of_copy<T: CloneIn + PartialEq + Display + Drop>(
     }
 }
 
-fn maybe<T: Display + Drop>(alloc: Global, found: Option<T>) -> Result<String, AllocError> {
-    match found {
+/// The text of what is found, or `none`.
+pub fn maybe<T: Display + Drop>(
+    alloc: Global,
+    found: Result<Option<T>, AllocError>,
+) -> Result<String, AllocError> {
+    match found? {
         Some(found) => found.to_string(alloc),
         None => String::from_str(alloc, "none"),
     }
+}
+
+/// What a call gives, in the form of `Debug`.
+fn shown<T: Debug + Drop>(
+    alloc: Global,
+    answer: Result<T, AllocError>,
+) -> Result<String, AllocError> {
+    let given = answer?;
+    format!(in alloc; "{given:?}")
 }
 
 /// What the method of an operator answers.
@@ -92,15 +105,16 @@ fn unary(alloc: Global, call: &str, ty: &Type) -> Result<Type, Error> {
     }
 }
 
+/// The size, the alignment and the least size of a type.
+fn layout(alloc: Global, ty: &Type) -> Result<String, AllocError> {
+    let (size, align, least) = (ty.size_of(), ty.align_of(), ty.min_size_of());
+    format!(in alloc; "{size:?} {align:?} {least:?}")
+}
+
 /// A call on one type.
 fn of_one(alloc: Global, call: &str, ty: &Type) -> Result<String, AllocError> {
     match call {
-        "layout" => format!(in alloc;
-            "{:?} {:?} {:?}",
-            ty.size_of(),
-            ty.align_of(),
-            ty.min_size_of()
-        ),
+        "layout" => layout(alloc, ty),
         "zero_value" => told(alloc, LiteralInstance::zero_value(alloc, ty)),
         "type" => told_of_copy(alloc, ty),
         "loaded" => told(alloc, ty.loaded(alloc)),
@@ -113,12 +127,12 @@ fn of_one(alloc: Global, call: &str, ty: &Type) -> Result<String, AllocError> {
 /// A call on two types.
 fn of_two(alloc: Global, call: &str, from: &Type, to: &Type) -> Result<String, AllocError> {
     match call {
-        "conversion_rank" => format!(in alloc; "{:?}", conversion_rank(from, to)),
-        "is_convertible_to" => format!(in alloc; "{}", from.is_convertible_to(to)),
-        "convert_ty" => maybe(alloc, convert_ty(from, to)),
-        "convert_inner_to" => maybe(alloc, from.convert_inner_to(alloc, to)?),
-        "convert" => format!(in alloc; "{:?}", convert(alloc, from, to)?),
-        "convert_inner" => format!(in alloc; "{:?}", convert_inner(alloc, from, to)?),
+        "conversion_rank" => shown(alloc, Ok(conversion_rank(from, to))),
+        "is_convertible_to" => shown(alloc, Ok(from.is_convertible_to(to))),
+        "convert_ty" => maybe(alloc, Ok(convert_ty(from, to))),
+        "convert_inner_to" => maybe(alloc, from.convert_inner_to(alloc, to)),
+        "convert" => shown(alloc, convert(alloc, from, to)),
+        "convert_inner" => shown(alloc, convert_inner(alloc, from, to)),
         sign => told_of_copies(alloc, binary(alloc, sign, from, to)),
     }
 }
@@ -126,13 +140,10 @@ fn of_two(alloc: Global, call: &str, from: &Type, to: &Type) -> Result<String, A
 /// A call on a list of types.
 fn of_list(alloc: Global, call: &str, types: &[Type]) -> Result<String, AllocError> {
     match call {
-        "convert_all_ty" => maybe(alloc, convert_all_ty(types)),
-        "convert_all" => format!(in alloc; "{:?}", convert_all(alloc, types)?),
-        "convert_all_to i32" => format!(in alloc;
-            "{:?}",
-            convert_all_to(alloc, types, &Type::I32)?
-        ),
-        _ => format!(in alloc; "{:?}", convert_all_inner_to(alloc, types, &Type::U32)?),
+        "convert_all_ty" => maybe(alloc, Ok(convert_all_ty(types))),
+        "convert_all" => shown(alloc, convert_all(alloc, types)),
+        "convert_all_to i32" => shown(alloc, convert_all_to(alloc, types, &Type::I32)),
+        _ => shown(alloc, convert_all_inner_to(alloc, types, &Type::U32)),
     }
 }
 
@@ -169,35 +180,57 @@ fn constructed(alloc: Global, name: &str, args: &[Type]) -> Result<Type, Error> 
     }
 }
 
-/// A constructor by its name, with the template of `i32` or of two `u32`.
-fn templated(alloc: Global, name: &str, args: &[Type]) -> Result<Type, Error> {
-    let of_vector = VecTemplate {
+fn array_of_two(alloc: Global, args: &[Type]) -> Result<Type, Error> {
+    let template = ArrayTemplate::new(Type::U32, Some(2));
+    array_t(alloc, Some(&template), args)
+}
+
+fn vector_of_i32(alloc: Global, count: u8, args: &[Type]) -> Result<Type, Error> {
+    let template = VecTemplate {
         component: Type::I32,
     };
+    vec_t(alloc, count, Some(&template), args)
+}
+
+/// A constructor by its name, with the template of `i32` or of two `u32`.
+fn templated(alloc: Global, name: &str, args: &[Type]) -> Result<Type, Error> {
     match name {
-        "array_t" => array_t(alloc, Some(&ArrayTemplate::new(Type::U32, Some(2))), args),
-        "vec2_t" => vec_t(alloc, 2, Some(&of_vector), args),
-        _ => vec_t(alloc, 3, Some(&of_vector), args),
+        "array_t" => array_of_two(alloc, args),
+        "vec2_t" => vector_of_i32(alloc, 2, args),
+        _ => vector_of_i32(alloc, 3, args),
     }
+}
+
+fn parsed<T: FromStr + Debug + Drop>(alloc: Global, word: &str) -> Result<String, AllocError>
+where
+    T::Err: Drop,
+{
+    shown(alloc, Ok(word.parse::<T>().ok()))
+}
+
+fn told_of_template(alloc: Global, template: &ArrayTemplate) -> Result<String, AllocError> {
+    format!(in alloc; "{:?} {}", template.n(), template.inner_ty())
+}
+
+fn array_template(alloc: Global) -> Result<String, AllocError> {
+    let template = ArrayTemplate::new(Type::U32, Some(2));
+    told_of_template(alloc, &template)
 }
 
 /// The value that a word spells, or what is told of it.
 fn of_word(alloc: Global, call: &str, word: &str) -> Result<String, AllocError> {
     match call {
-        "Enumerant" => format!(in alloc; "{:?}", word.parse::<Enumerant>().ok()),
-        "AddressSpace" => format!(in alloc; "{:?}", word.parse::<AddressSpace>().ok()),
-        "BuiltinValue" => format!(in alloc; "{:?}", word.parse::<BuiltinValue>().ok()),
-        "UnaryOperator" => format!(in alloc; "{:?}", word.parse::<UnaryOperator>().ok()),
-        "BinaryOperator" => format!(in alloc; "{:?}", word.parse::<BinaryOperator>().ok()),
-        "AssignmentOperator" => format!(in alloc; "{:?}", word.parse::<AssignmentOperator>().ok()),
-        "is_ctor" => format!(in alloc; "{}", is_ctor(word)),
-        "is_builtin_name" => format!(in alloc; "{}", is_builtin_name(word)),
+        "Enumerant" => parsed::<Enumerant>(alloc, word),
+        "AddressSpace" => parsed::<AddressSpace>(alloc, word),
+        "BuiltinValue" => parsed::<BuiltinValue>(alloc, word),
+        "UnaryOperator" => parsed::<UnaryOperator>(alloc, word),
+        "BinaryOperator" => parsed::<BinaryOperator>(alloc, word),
+        "AssignmentOperator" => parsed::<AssignmentOperator>(alloc, word),
+        "is_ctor" => shown(alloc, Ok(is_ctor(word))),
+        "is_builtin_name" => shown(alloc, Ok(is_builtin_name(word))),
         "builtin_type" => told(alloc, builtin_type(alloc, word, None)),
-        "ArrayTemplate of two" => {
-            let template = ArrayTemplate::new(Type::U32, Some(2));
-            format!(in alloc; "{:?} {}", template.n(), template.inner_ty())
-        }
-        _ => format!(in alloc; "{:?}", AddressSpace::Uniform.default_access_mode()),
+        "ArrayTemplate of two" => array_template(alloc),
+        _ => shown(alloc, Ok(AddressSpace::Uniform.default_access_mode())),
     }
 }
 
@@ -217,31 +250,34 @@ fn refused<E: Display + Drop>(alloc: Global, answer: Result<(), E>) -> Result<St
     }
 }
 
-fn one(alloc: Global, call: &str, text: &str) -> Result<String, AllocError> {
-    let ty = type_of(alloc, text)?;
-    of_one(alloc, call, &ty)
-}
-
-fn two(alloc: Global, call: &str, with: &str) -> Result<String, AllocError> {
-    let (from, to) = cut(with);
-    let from = type_of(alloc, from)?;
-    let to = type_of(alloc, to)?;
-    of_two(alloc, call, &from, &to)
-}
-
-/// A call on a list of types, or with types as arguments.
-fn list(alloc: Global, group: &str, call: &str, with: &str) -> Result<String, AllocError> {
-    let types = types_of(alloc, with)?;
-    match group {
-        "list" => of_list(alloc, call, types.as_slice()),
-        "constructor" => told_of_copies(alloc, constructed(alloc, call, types.as_slice())),
-        _ => told(alloc, templated(alloc, call, types.as_slice())),
+/// A call on one type or on two.
+fn of_few(alloc: Global, call: &str, types: &[Type]) -> Result<String, AllocError> {
+    match types {
+        [ty] => of_one(alloc, call, ty),
+        [from, to] => of_two(alloc, call, from, to),
+        _ => String::from_str(alloc, "no types"),
     }
+}
+
+/// A call on types.
+fn of_types(alloc: Global, group: &str, call: &str, types: &[Type]) -> Result<String, AllocError> {
+    match group {
+        "list" => of_list(alloc, call, types),
+        "constructor" => told_of_copies(alloc, constructed(alloc, call, types)),
+        "templated" => told(alloc, templated(alloc, call, types)),
+        _ => of_few(alloc, call, types),
+    }
+}
+
+fn with_types(alloc: Global, group: &str, call: &str, with: &str) -> Result<String, AllocError> {
+    let separator = if group == "two" { "\t" } else { "; " };
+    let types = list_of(alloc, with, separator)?;
+    of_types(alloc, group, call, types.as_slice())
 }
 
 /// A call with arguments of a template.
 fn with_params(alloc: Global, group: &str, call: &str, with: &str) -> Result<String, AllocError> {
-    let params = params_of(alloc, with)?;
+    let params = list_of(alloc, with, "; ")?;
     if group == "template" {
         template(alloc, call, params.as_slice())
     } else {
@@ -249,20 +285,22 @@ fn with_params(alloc: Global, group: &str, call: &str, with: &str) -> Result<Str
     }
 }
 
-fn of_struct(alloc: Global, made: &str, args: &str) -> Result<String, AllocError> {
+fn made_of(alloc: Global, made: &str, args: &[Type]) -> Result<String, AllocError> {
     let made = struct_of(alloc, made)?;
-    let args = types_of(alloc, args)?;
-    refused(alloc, typecheck_struct_ctor(alloc, &made, args.as_slice()))
+    refused(alloc, typecheck_struct_ctor(alloc, &made, args))
+}
+
+fn of_struct(alloc: Global, made: &str, args: &str) -> Result<String, AllocError> {
+    let args = list_of(alloc, args, "; ")?;
+    made_of(alloc, made, args.as_slice())
 }
 
 pub fn answer(alloc: Global, group: &str, call: &str, with: &str) -> Result<String, AllocError> {
     match group {
-        "one" => one(alloc, call, with),
-        "two" => two(alloc, call, with),
         "literal" => of_literal(alloc, call, with),
         "template" | "builtin_type" => with_params(alloc, group, call, with),
         "struct" => of_struct(alloc, call, with),
         "word" => of_word(alloc, call, with),
-        _ => list(alloc, group, call, with),
+        _ => with_types(alloc, group, call, with),
     }
 }
