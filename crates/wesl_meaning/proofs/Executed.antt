@@ -1,7 +1,6 @@
 -- The linked unit runs as its modules do, in the second form of meaning.
 use Rattle.std.proofs.Common.{◌≡◌, ◌↔◌, ℕ, ◌⊎◌, inl, inr, List, [], ◌∷◌, ◌++◌, map, Option, Some, Bool, true, false, refl, sym, ap, ◌∙◌, subst, Contains}
-use Rattle.std.specs.Prelude.{IsTrue, if◌then◌else◌}
-use Rattle.std.specs.Str.{bytes_eq}
+use Rattle.std.specs.Prelude.{IsTrue}
 use Rattle.std.proofs.lemmas.List.Elements.{Contains-append_left, Contains-append_right}
 use Rattle.wgsl_items.proofs.Bools.{none_if, false_if}
 use Rattle.wgsl_items.proofs.Members.{first_in}

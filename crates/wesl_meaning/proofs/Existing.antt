@@ -9,8 +9,6 @@ use Rattle.wgsl_syntax.specs.Names.{declared_name}
 use Rattle.wgsl_items.proofs.Members.{first_in, later_in, in_cases, in_none, same_bytes, bytes_same}
 use Rattle.wesl_meaning.specs.SourcePrograms.{Symbol as PathSymbol, Program as PathProgram}
 use Rattle.wgsl_programs.specs.Names.{Symbol}
-use Rattle.wgsl_programs.specs.Programs.{Program}
-use Rattle.wesl_resolve.specs.Mangling.{mangled}
 use Rattle.wesl_link_spec.specs.Occurrences.{Name}
 use Rattle.wesl_link_spec.specs.Modules.{Path, Modules, IsModule, local_name, IsDeclaration, Denotes, own, imported, Reached}
 use Rattle.wesl_link_spec.specs.Modules.{Symbol as SourceSymbol}

@@ -1,7 +1,5 @@
 -- What holds of runs of linked modules.
-use Rattle.std.specs.Prelude.{◌≡◌, ℕ, List, Option, Ok, ◌↔◌}
-use Rattle.std.specs.List.{Contains}
-use Rattle.wgsl_path.specs.Paths.{path_text}
+use Rattle.std.specs.Prelude.{ℕ, List, Ok}
 use Rattle.wgsl_syntax.specs.Tree.{UnitTree}
 use Rattle.wesl_resolve.specs.Found.{unit_of}
 use Rattle.wesl_link_spec.specs.Occurrences.{Name}

@@ -3,9 +3,9 @@ use Rattle.std.proofs.Common.{◌≡◌, ℕ, zero, suc, ◌+◌, ◌≤◌, Lis
 use Rattle.wgsl_shader_type.specs.declared.error.Error.{Error}
 use Rattle.wgsl_instance.specs.declared.tree.Instance.{Instance}
 use Rattle.wgsl_memory.specs.Places as memory
-use Rattle.wgsl_computations.specs.Machine.{State, Outcome, Done, Failed, Deep, Computation, of_result, next_of, one_step, with_left, with_cells, stored, back_to, pure}
-use Rattle.wgsl_computations.specs.Lift.{Same, Kept, KeptThroughout}
-use Rattle.wgsl_computations.specs.Compare.{Begin, LikewiseAt, IsLikewise, BothEnd, AgreeAt, IsAgreed, Agrees}
+use Rattle.wgsl_computations.specs.Machine.{State, Outcome, Done, Failed, Deep, Computation, of_result, next_of, one_step, stored, back_to, pure}
+use Rattle.wgsl_computations.specs.Lift.{Same, KeptThroughout}
+use Rattle.wgsl_computations.specs.Compare.{Begin, LikewiseAt, IsLikewise, AgreeAt, IsAgreed, Agrees}
 
 module _ (F : Type 0) where
   -- a fault of the second

@@ -1,18 +1,18 @@
 -- Two worlds of a program agree, where what both know is the same: the second at any stage, the first at the const stage.
-use Rattle.std.proofs.Common.{◌≡◌, ℕ, List, [], ◌∷◌, Option, Some, None, Result, Ok, Err, refl, sym, subst}
+use Rattle.std.proofs.Common.{◌≡◌, ℕ, List, Option, Some, None, Ok, Err, refl, sym, subst}
 use Rattle.wgsl_syntax.specs.Tree.{Exp, Typ, simple, templated, Decl, variable, function}
 use Rattle.wgsl_enumerations.specs.declared.words.ShaderStage.{ShaderStage}
 use Rattle.wgsl_enumerations.specs.declared.words.ShaderStage.TheVariants.{Const}
 use Rattle.wgsl_instance.specs.declared.tree.Instance.{Instance}
 use Rattle.wgsl_instance.specs.Zero.{Made}
-use Rattle.wgsl_computations.specs.Machine.{State, Done, pure, bind}
+use Rattle.wgsl_computations.specs.Machine.{State, Done, pure}
 use Rattle.wgsl_computations.specs.Lift.{Lift, Same, Kept}
 use Rattle.wgsl_computations.specs.Compare.{AgreeAt, Agrees, Better}
 use Rattle.wgsl_computations.proofs.Agreed.{kept_agrees, better_by_answer}
 use Rattle.wgsl_programs.specs.Faults.{Fault}
-use Rattle.wgsl_programs.specs.Computing.{M, computed, at_once}
+use Rattle.wgsl_programs.specs.Computing.{computed}
 use Rattle.wgsl_programs.specs.Names.{Path, Name, Symbol, Local, Has, Hidden, Env, find}
-use Rattle.wgsl_programs.specs.Meaning.{World, plain_name, name_value, call_value, value}
+use Rattle.wgsl_programs.specs.Meaning.{World, name_value, call_value, value}
 use Rattle.wgsl_programs.specs.Programs.{Program, Known, find_known, known_value, world}
 use Rattle.wgsl_programs.proofs.Simulates as expressions
 use Rattle.wgsl_programs.proofs.Bodies.{names_of, name_here, callee_here}
