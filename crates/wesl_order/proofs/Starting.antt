@@ -31,7 +31,7 @@ values_from-append i (r ∷ rs) ys =
     ∙ if_value-append i r.parameters (values_from (suc i) rs) (values_from (i + length (r ∷ rs)) ys)
 
 -- the positions of the first of some rows, and so on, are these
-values_within : (i : ℕ) (rs : List Row) (y : ℕ) → Contains (values_from i rs) y → (i ≤ y) × (y < i + length rs)
+pub values_within : (i : ℕ) (rs : List Row) (y : ℕ) → Contains (values_from i rs) y → (i ≤ y) × (y < i + length rs)
 values_within i [] y c = absurd (in_none y c)
 values_within i (r ∷ rs) y c = at (case r.parameters c) (values_within (suc i) rs y)
   where
@@ -65,14 +65,14 @@ module _ (rows : List Row) (i : ℕ) (row : Row) (within : i < length rows) (is 
   pub value_next : is_some row.parameters ≡ false → values_from 0 (take (i + 1) rows) ≡ values_from 0 (take i rows) ++ i ∷ []
   value_next h = values_more rows i row within is ∙ ap (λ l. values_from 0 (take i rows) ++ l) (value_one i row.parameters h)
 
-  value_in : is_some row.parameters ≡ false → Contains (values_from 0 rows) i
+  pub value_in : is_some row.parameters ≡ false → Contains (values_from 0 rows) i
   value_in h =
       subst (λ l. Contains (values_from 0 l) i) (take-append-drop (i + 1) rows)
       (subst (λ l. Contains l i) (sym (values_from-append 0 (take (i + 1) rows) (drop (i + 1) rows)))
       (Contains-append_left (values_from 0 (take (i + 1) rows)) (values_from (0 + length (take (i + 1) rows)) (drop (i + 1) rows)) i
       (subst (λ l. Contains l i) (sym (value_next h)) (Contains-push (values_from 0 (take i rows)) i))))
 
-  not_value : is_some row.parameters ≡ true → Contains (values_from 0 rows) i → ⊥
+  pub not_value : is_some row.parameters ≡ true → Contains (values_from 0 rows) i → ⊥
   not_value h c =
       at (Contains-append_cases (values_from 0 (take (i + 1) rows)) (values_from (0 + length (take (i + 1) rows)) (drop (i + 1) rows)) i
       (subst (λ l. Contains l i) (values_from-append 0 (take (i + 1) rows) (drop (i + 1) rows))

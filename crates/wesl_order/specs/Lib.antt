@@ -3,3 +3,4 @@ pub mod Units
 pub mod Laws
 pub mod Searches
 pub mod Progressing
+pub mod Checks

@@ -5,6 +5,7 @@ ghost use Rattle.wesl_validate.specs.Lookups.{trees};
 ghost use Rattle.wesl_order.specs.Units.{IsStartOf, IsStartOrderOf};
 ghost use Rattle.wesl_order.specs.Progressing.{view, none_begun, Begins, Settles, SettlesFunction, Ends, Keeps, StartsOne};
 
+use crate::check::checked_order;
 use crate::index::unit_rows;
 use crate::search::{denote_settled, reached_from};
 use std::alloc::{AllocError, Global};
@@ -104,7 +105,7 @@ fn start_all(alloc: Global, rows: &[Row], state: &mut State) -> Result<(), Alloc
     Ok(())
 }
 
-fn row_order(alloc: Global, rows: &[Row]) -> Result<Vec<usize>, AllocError>
+fn searched_order(alloc: Global, rows: &[Row]) -> Result<Vec<usize>, AllocError>
     ensures { IfOk result (λ order. IsStartOf rows.now order.items) }
 {
     let mut state = State {
@@ -121,6 +122,15 @@ fn row_order(alloc: Global, rows: &[Row]) -> Result<Vec<usize>, AllocError>
         started,
     } = state;
     Ok(started)
+}
+
+fn row_order(alloc: Global, rows: &[Row]) -> Result<Vec<usize>, AllocError>
+    ensures { IfOk result (λ order. IsStartOf rows.now order.items) }
+{
+    match checked_order(alloc, rows)? {
+        Some(order) => Ok(order),
+        None => searched_order(alloc, rows),
+    }
 }
 
 /// The order in which the values of these declarations are started, by their positions, which count from 0 and count functions

@@ -1,6 +1,6 @@
 -- Each fault of a case names the declaration in which it stands, so a unit's fault names one that the unit declares.
-use Rattle.std.proofs.Common.{◌≡◌, ◌⊎◌, inl, inr, ⊎_elim, ℕ, zero, suc, List, [], ◌∷◌, ◌++◌, map, Bool, true, false, Option, Some, None, refl, sym, ap, subst, arith, Contains}
-use Rattle.std.specs.Prelude.{if◌then◌else◌, slice_get}
+use Rattle.std.proofs.Common.{◌≡◌, ◌⊎◌, inl, inr, ⊎_elim, List, [], ◌∷◌, ◌++◌, map, Bool, true, false, Option, Some, None, sym, ap, subst, Contains}
+use Rattle.std.specs.Prelude.{if◌then◌else◌}
 use Rattle.std.specs.List.{flat_map}
 use Rattle.wgsl_items.proofs.Members.{first_in, later_in, to_contains, get_map}
 use Rattle.wgsl_syntax.specs.Tree.{Decl, UnitTree}
@@ -14,7 +14,7 @@ use Rattle.wesl_validate.specs.declared.place.Place.{Place}
 use Rattle.wesl_validate.specs.declared.place.Row.{Row}
 use Rattle.wesl_validate.specs.Scopes.{Name, parameters_of, is_in, names, global_of, row_of, rows}
 use Rattle.wesl_validate.specs.First.{first}
-use Rattle.wesl_validate.specs.Faults.{fault, again, repeats, duplicates, undefined_in, undefined_at, call_fault, maybe_fault, miscall_at, faults_at, duplicate, undefined, miscall, ring}
+use Rattle.wesl_validate.specs.Faults.{fault, again, repeats, duplicates_in, undefined_in, undefined_at, call_fault, maybe_fault, miscall_at, faults_at, duplicate, undefined, miscall, ring}
 use Rattle.wesl_validate.specs.Located.{FaultsAreInDeclarations}
 use Rattle.std.proofs.lemmas.Simd.{map-map}
 
@@ -51,17 +51,12 @@ maybe_here holder x (Some kind) f h = let same : fault kind holder x ≡ f = cc 
 
 -- ---- all declarations
 
-duplicates_in : (before : List Name) (ds : List Decl) (f : ValidateFault) → first (duplicates before ds) ≡ Some f → Contains (map declared_name ds) f.declaration
-duplicates_in before [] f h = absurd (cc)
-duplicates_in before (d ∷ ds) f h =
-    ⊎_elim (λ inside. ⊎_elim (λ a. here (alone_at Duplicate (declared_name d) (declared_name d) (is_in (declared_name d) before) f a))
-    (λ p. here (repeats_at (declared_name d) [] (parameters_of d) f p))
-    (either_first (again (declared_name d) before (declared_name d)) (repeats (declared_name d) [] (parameters_of d)) f inside))
-    (λ more. later_in f.declaration (declared_name d) (map declared_name ds) (duplicates_in (before ++ declared_name d ∷ []) ds f more))
-    (either_first (again (declared_name d) before (declared_name d) ++ repeats (declared_name d) [] (parameters_of d)) (duplicates (before ++ declared_name d ∷ []) ds) f h)
-  where
-    here : f.declaration ≡ declared_name d → Contains (map declared_name (d ∷ ds)) f.declaration
-    here same = subst (Contains (map declared_name (d ∷ ds))) (sym same) (first_in (declared_name d) (map declared_name ds))
+repeated_in : (ds : List Decl) (f : ValidateFault) → first (flat_map duplicates_in ds) ≡ Some f → Contains (map declared_name ds) f.declaration
+repeated_in [] f h = absurd (cc)
+repeated_in (d ∷ ds) f h =
+    ⊎_elim (λ inside. subst (Contains (map declared_name (d ∷ ds))) (sym (repeats_at (declared_name d) [] (parameters_of d) f inside)) (first_in (declared_name d) (map declared_name ds)))
+    (λ more. later_in f.declaration (declared_name d) (map declared_name ds) (repeated_in ds f more))
+    (either_first (duplicates_in d) (flat_map duplicates_in ds) f h)
 
 -- what is found at a place names the declaration that holds the place
 module _ (at : Name → Place → List ValidateFault) (named : (holder : Name) (p : Place) (f : ValidateFault) → first (at holder p) ≡ Some f → f.declaration ≡ holder) where
@@ -82,7 +77,7 @@ names_of_rows : (unit : UnitTree) → map (λ r. r.name) (rows unit) ≡ names u
 names_of_rows unit = map-map (λ (r : Row). r.name) (row_of (global_of unit)) unit.declarations
 
 pub faults_are_in_declarations : FaultsAreInDeclarations
-faults_are_in_declarations unit table _ (duplicate f h) = duplicates_in [] unit.declarations f h
+faults_are_in_declarations unit table _ (duplicate f h) = repeated_in unit.declarations f h
 faults_are_in_declarations unit table _ (undefined f d h) =
     subst (λ xs. Contains xs f.declaration) (names_of_rows unit) (faults_in (undefined_at table) (λ holder p. undefined_here table holder p.name p.meaning) (rows unit) f h)
 faults_are_in_declarations unit table _ (miscall f d u h) =

@@ -1,15 +1,15 @@
 -- Where a list of names has a name first.
-use Rattle.std.proofs.Common.{◌≡◌, ℕ, ◌+◌, ◌<◌, suc, List, [], ◌∷◌, ◌++◌, length, Option, Some, None, Bool, true, false, cond, refl, sym, ap, ◌∙◌, subst, arith}
-use Rattle.std.specs.Prelude.{position, ◌||◌, not, is_some, nat_lt, if◌then◌else◌}
-use Rattle.std.specs.List.{list_any, position_or_len}
+use Rattle.std.proofs.Common.{◌≡◌, ◌⊎◌, inl, inr, ℕ, ◌+◌, suc, List, [], ◌∷◌, ◌++◌, length, Option, Some, None, Bool, true, false, cond, refl, sym, ap, ◌∙◌, subst, arith}
+use Rattle.std.specs.Prelude.{position, ◌||◌, not, is_some, nat_lt}
+use Rattle.std.specs.List.{position_or_len}
 use Rattle.std.specs.Option.{option_map}
-use Rattle.std.specs.Bool.{Decides}
 use Rattle.std.specs.Str.{bytes_eq}
-use Rattle.std.proofs.lemmas.Bool.{cond-true, cond-false, or_parts, false≢true, false_from_ne_true, lt-ltb, le-ltb}
+use Rattle.std.proofs.lemmas.Bool.{or_parts, or_cases, lt-ltb, le-ltb}
 use Rattle.std.proofs.lemmas.Slice.Eq.{bytes_eq-Decides}
 use Rattle.std.proofs.lemmas.Bool.Decides.{same_from_decides}
-use Rattle.wgsl_items.proofs.Members.{same_bytes, bytes_same}
+use Rattle.wgsl_items.proofs.Members.{same_bytes}
 use Rattle.wesl_validate.specs.Scopes.{Name, is_in}
+use Rattle.wesl_validate.specs.Clearness.{is_before}
 
 pub bytes_eq-comm : (x y : Name) → bytes_eq x y ≡ bytes_eq y x
 bytes_eq-comm x y = same_from_decides (bytes_eq x y) (bytes_eq y x) (bytes_eq-Decides x y) ((λ e. sym (same_bytes y x e)), (λ e. (bytes_eq-Decides y x).1 (sym e)))
@@ -68,6 +68,47 @@ position-push (z ∷ zs) y x new =
         ap (λ b. cond b (Some 0) (Some (1 + length zs))) (ap (λ t. bytes_eq t z) (sym (same_bytes y x e)) ∙ (or_parts (bytes_eq y z) (is_in y zs) new).0)
         ∙ ap Some (omega arith)
     at false e = refl
+
+-- an element behind the list that doesn't pass
+position-away : (p : Name → Bool) (xs : List Name) (y : Name) → p y ≡ false → position p (xs ++ y ∷ []) ≡ position p xs
+position-away p [] y e = position-cons p y [] ∙ ap (λ b. cond b (Some 0) None) e
+position-away p (z ∷ zs) y e =
+    position-cons p z (zs ++ y ∷ []) ∙ ap (λ o. cond (p z) (Some 0) (option_map (λ n. 1 + n) o)) (position-away p zs y e) ∙ sym (position-cons p z zs)
+
+-- one more name, which was there
+pub position-again : (xs : List Name) (y x : Name) → is_in y xs ≡ true → position (bytes_eq x) (xs ++ y ∷ []) ≡ position (bytes_eq x) xs
+position-again [] y x known = absurd (cc)
+position-again (z ∷ zs) y x known =
+    position-cons (bytes_eq x) z (zs ++ y ∷ [])
+    ∙ at (or_cases (bytes_eq y z) (is_in y zs) known) (position-again zs y x) (bytes_eq x z) refl
+    ∙ sym (position-cons (bytes_eq x) z zs)
+  where
+    at : (bytes_eq y z ≡ true) ⊎ (is_in y zs ≡ true) → (is_in y zs ≡ true → position (bytes_eq x) (zs ++ y ∷ []) ≡ position (bytes_eq x) zs)
+        → (b : Bool) → bytes_eq x z ≡ b
+        → cond b (Some 0) (option_map (λ n. 1 + n) (position (bytes_eq x) (zs ++ y ∷ []))) ≡ cond b (Some 0) (option_map (λ n. 1 + n) (position (bytes_eq x) zs))
+    at known more true e = refl
+    at (inl same) more false e =
+        ap (option_map (λ n. 1 + n)) (position-away (bytes_eq x) zs y (subst (λ w. bytes_eq x w ≡ false) (sym (same_bytes y z same)) e))
+    at (inr there) more false e = ap (option_map (λ n. 1 + n)) (more there)
+
+-- a name stands before the end of the first names exactly where it is among them
+pub is_before-position : (x : Name) (before rest : List Name) → is_before (length before) (position (bytes_eq x) (before ++ rest)) ≡ is_in x before
+is_before-position x [] rest = none (position (bytes_eq x) rest)
+  where
+    none : (o : Option ℕ) → is_before 0 o ≡ false
+    none None = refl
+    none (Some n) = le-ltb n 0 (omega arith)
+is_before-position x (y ∷ ys) rest =
+    ap (is_before (suc (length ys))) (position-cons (bytes_eq x) y (ys ++ rest)) ∙ at (bytes_eq x y) (is_before-position x ys rest)
+  where
+    moved : (o : Option ℕ) → is_before (suc (length ys)) (option_map (λ n. 1 + n) o) ≡ is_before (length ys) o
+    moved None = refl
+    moved (Some n) = ltb-suc n (length ys)
+
+    at : (b : Bool) → is_before (length ys) (position (bytes_eq x) (ys ++ rest)) ≡ is_in x ys
+        → is_before (suc (length ys)) (cond b (Some 0) (option_map (λ n. 1 + n) (position (bytes_eq x) (ys ++ rest)))) ≡ (b || is_in x ys)
+    at true h = ltb-zero (length ys)
+    at false h = moved (position (bytes_eq x) (ys ++ rest)) ∙ h
 
 -- what a look-up of an index says of the names that it holds
 pub known_from : (look : Name → Option ℕ) (names : List Name) (x y : Name) (b : Bool) → x ≡ y

@@ -1,5 +1,5 @@
 -- The tree of a call and of a name, from the trees of their parts, and the names that occur in them.
-use Rattle.std.proofs.Common.{◌≡◌, refl, sym, ap, ◌∙◌, ℕ, ◌+◌, length, List, [], ◌∷◌, ◌++◌, map, Option, Some, None, arith}
+use Rattle.std.proofs.Common.{◌≡◌, refl, ap, ◌∙◌, ℕ, ◌+◌, length, List, [], ◌∷◌, ◌++◌, map, Option, Some, None, arith}
 use Rattle.std.proofs.lemmas.Simd.{map-map}
 use Rattle.wgsl_path.specs.declared.span.Spanned.{Spanned}
 use Rattle.wgsl_path.specs.declared.ident.Ident.{Ident}
@@ -7,7 +7,7 @@ use Rattle.wgsl_path.specs.declared.path.ModulePath.{ModulePath}
 use Rattle.wgsl_syntax.specs.declared.expression.FunctionCallOf.{FunctionCallOf}
 use Rattle.wgsl_syntax.specs.declared.expression.TypeExpressionOf.{TypeExpressionOf}
 use Rattle.wgsl_syntax.specs.declared.expression.TemplateArgOf.{TemplateArgOf}
-use Rattle.wgsl_syntax.specs.declared.expression.Expression.{Expression, out-Expression, map-Expression, fold_out-Expression}
+use Rattle.wgsl_syntax.specs.declared.expression.Expression.{Expression, map-Expression, fold_out-Expression}
 use Rattle.wgsl_syntax.specs.declared.expression.Expression.TheOpen.{Expression-F}
 use Rattle.wgsl_syntax.specs.declared.expression.Expression.TheVariants.{FunctionCall, outs-FunctionCall, TypeOrIdentifier, outs-TypeOrIdentifier}
 use Rattle.wgsl_syntax.specs.Tree.{Exp, call, named, exps, simple, templated}

@@ -1,22 +1,21 @@
 -- What the answers of the cases say of a whole unit.
-use Rattle.std.proofs.Common.{◌≡◌, ℕ, List, [], map, Option, Some, Result, Ok, Err, refl, sym, ap, ◌∙◌, subst}
+use Rattle.std.proofs.Common.{◌≡◌, ℕ, List, [], map, Option, Result, Ok, Err, sym, ap, ◌∙◌, subst}
 use Rattle.std.specs.Prelude.{position, OnOk, IfErr}
+use Rattle.std.specs.List.{flat_map}
 use Rattle.std.specs.Result.{IsErrAnd}
 use Rattle.std.specs.Str.{bytes_eq}
 use Rattle.wgsl_path.specs.declared.span.Spanned.{Spanned}
 use Rattle.wgsl_syntax.specs.declared.declaration.GlobalDeclaration.{GlobalDeclaration}
-use Rattle.wgsl_syntax.specs.Tree.{Decl, UnitTree}
+use Rattle.wgsl_syntax.specs.Tree.{UnitTree}
 use Rattle.wgsl_syntax.specs.View.{declaration_tree, unit_tree}
 use Rattle.wgsl_syntax.specs.declared.unit.TranslationUnit.{TranslationUnit}
 use Rattle.wgsl_syntax.specs.Names.{declared_name}
-use Rattle.wesl_validate.specs.declared.error.ValidateFault.{ValidateFault}
 use Rattle.wgsl_items.specs.declared.error.OrOutOfMemory.TheVariants.{Error, OutOfMemory}
 use Rattle.wgsl_items.specs.Memory.{UnlessOutOfMemory}
 use Rattle.wesl_validate.specs.declared.place.Row.{Row}
 use Rattle.wesl_validate.specs.Scopes.{Name, names, global_of, row_of, rows}
 use Rattle.wesl_validate.specs.Lookups.{trees, declared}
-use Rattle.wesl_validate.specs.Rings.{IsFirstOnRing}
-use Rattle.wesl_validate.specs.Faults.{duplicates, faults_at, undefined_at, miscall_at, duplicates_of, undefined_of, miscalls_of, IsFlat, IsFaultless, IsFirstFault, duplicate, undefined, miscall, ring, IsFirstRing, FindsRing}
+use Rattle.wesl_validate.specs.Faults.{duplicates_in, duplicates_of, undefined_of, miscalls_of, IsFlat, IsFaultless, IsFirstFault, duplicate, undefined, miscall, ring, IsFirstRing, FindsRing}
 use Rattle.wesl_validate.proofs.FaultLemmas.{Refusal, Refuses}
 use Rattle.std.proofs.lemmas.Simd.{map-map}
 
@@ -31,8 +30,8 @@ rows_are u ds look made are is same =
     λ x. is x ∙ ap (λ xs. position (bytes_eq x) (declared xs)) are ∙ ap (position (bytes_eq x)) (sym names_are) in
     same ∙ (λ k. map (row_of (λ x. looks x k)) (trees (are k)))
 
-pub distinct_is : (u : TranslationUnit) (ds : List (Spanned GlobalDeclaration)) → ds ≡ u.global_declarations → duplicates [] (trees ds) ≡ [] → duplicates_of (unit_tree u) ≡ []
-distinct_is u ds are h = subst (λ xs. duplicates [] (trees xs) ≡ []) are h
+pub distinct_is : (u : TranslationUnit) (ds : List (Spanned GlobalDeclaration)) → ds ≡ u.global_declarations → flat_map duplicates_in (trees ds) ≡ [] → duplicates_of (unit_tree u) ≡ []
+distinct_is u ds are h = subst (λ xs. flat_map duplicates_in (trees xs) ≡ []) are h
 
 -- ---- each case
 

@@ -1,7 +1,8 @@
 -- The faults of a unit. Those of a case are listed in text order; the fault of a unit is the first of the first case that
--- has any. (The order of the cases is this project's own. The cases are errors of WGSL: "Declaration and Scope" for names that
--- are declared twice, not at all, or by means of themselves; "Function Calls" for callees and arguments.)
-use Rattle.std.specs.Prelude.{◌≡◌, ℕ, ◌<◌, List, [], ◌∷◌, ◌++◌, map, length, slice_get, ◌==◌, Option, Some, None, Bool, true, false, if◌then◌else◌, Result, Ok, Err}
+-- has any. (The order of the cases is this project's own. The cases are errors of WGSL: "Declaration and Scope" for locals that
+-- are declared twice, names that are not declared at all, or by means of themselves; "Function Calls" for callees and arguments. Two
+-- declarations of one name are no fault here: clear names refuse them.)
+use Rattle.std.specs.Prelude.{◌≡◌, ℕ, List, [], ◌∷◌, ◌++◌, slice_get, ◌==◌, Option, Some, None, if◌then◌else◌, Result, Ok, Err}
 use Rattle.std.specs.List.{flat_map}
 use Rattle.wgsl_items.specs.declared.error.OrOutOfMemory.{OrOutOfMemory}
 use Rattle.wgsl_items.specs.Memory.{UnlessOutOfMemory}
@@ -21,20 +22,18 @@ use Rattle.wesl_validate.specs.Rings.{IsOnRing, IsFirstOnRing}
 abbrev pub fault : ValidateError → Name → Name → ValidateFault
 fault kind holder x = record { kind = kind; declaration = holder; name = x }
 
--- ---- two parameters of one function, or two declarations, of one name: the later is named
+-- ---- two parameters of one function of one name: the later is named
 
 abbrev pub again : Name → List Name → Name → List ValidateFault
 again holder before x = if is_in x before then fault Duplicate holder x ∷ [] else []
 
+-- of names that stand after the names `before`
 abbrev pub repeats : Name → List Name → List Name → List ValidateFault
 repeats holder before [] = []
 repeats holder before (x ∷ xs) = again holder before x ++ repeats holder (before ++ x ∷ []) xs
 
--- of declarations that stand after those of the names `before`
-abbrev pub duplicates : List Name → List Decl → List ValidateFault
-duplicates before [] = []
-duplicates before (d ∷ ds) =
-    again (declared_name d) before (declared_name d) ++ repeats (declared_name d) [] (parameters_of d) ++ duplicates (before ++ declared_name d ∷ []) ds
+abbrev pub duplicates_in : Decl → List ValidateFault
+duplicates_in d = repeats (declared_name d) [] (parameters_of d)
 
 -- ---- a free name that the table does not have
 
@@ -79,7 +78,7 @@ abbrev pub faults_at : (Name → Place → List ValidateFault) → List Row → 
 faults_at at rows = flat_map (λ r. flat_map (at r.name) r.places) rows
 
 abbrev pub duplicates_of : UnitTree → List ValidateFault
-duplicates_of unit = duplicates [] unit.declarations
+duplicates_of unit = flat_map duplicates_in unit.declarations
 
 abbrev pub undefined_of : UnitTree → List Name → List ValidateFault
 undefined_of unit table = faults_at (undefined_at table) (rows unit)

@@ -1,6 +1,6 @@
 -- Rings of declarations (WGSL, "Declaration and Scope": no declaration of a module is recursive; draw an edge from a declaration
 -- to each one whose identifier its definition mentions, and no ring may stand).
-use Rattle.std.specs.Prelude.{◌≡◌, ℕ, ◌<◌, List, slice_get, Option, Some}
+use Rattle.std.specs.Prelude.{◌≡◌, ℕ, ◌<◌, List, slice_get, Some}
 use Rattle.std.specs.List.{Contains}
 use Rattle.wesl_validate.specs.declared.place.Meaning.TheVariants.{Global}
 use Rattle.wesl_validate.specs.declared.place.Place.{Place}

@@ -1,5 +1,5 @@
 -- What the search for rings knows on its way.
-use Rattle.std.specs.Prelude.{◌≡◌, ◌≢◌, ℕ, ◌+◌, ◌<◌, ◌≤◌, ◌⊎◌, List, [], ◌∷◌, ◌++◌, length, Bool, true, false}
+use Rattle.std.specs.Prelude.{◌≡◌, ◌≢◌, ℕ, ◌<◌, ◌≤◌, ◌⊎◌, List, [], ◌∷◌, ◌++◌, length, Bool, true, false}
 use Rattle.std.specs.List.{All, Contains, slice_index_or, slice_index}
 use Rattle.wesl_validate.specs.declared.place.Meaning.{Meaning}
 use Rattle.wesl_validate.specs.declared.place.Meaning.TheVariants.{Local, Global, Free}

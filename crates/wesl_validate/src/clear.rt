@@ -7,54 +7,43 @@ ghost use Rattle.wgsl_syntax.specs.View.{declaration_tree, unit_tree};
 ghost use Rattle.wesl_validate.specs.First.{first};
 ghost use Rattle.wesl_validate.specs.Scopes.{Name, parameters_of};
 ghost use Rattle.wesl_validate.specs.Lookups.{lookup, local_names, texts, trees, declared};
-ghost use Rattle.wesl_validate.specs.Clearness.{sharing_of, is_shared_by, is_declared_by, unclear_by, unclear};
+ghost use Rattle.wesl_validate.specs.Clearness.{is_repeated_by, is_declared_by, unclear_by, unclear_from, unclear};
 
+use crate::index::first_positions;
+use crate::place::Index;
 use std::alloc::{AllocError, Global};
-use std::collections::HashMap;
 use wgsl_builtin::is_known;
 use wgsl_items::Text;
 use wgsl_syntax::{FormalParameter, GlobalDeclaration, GlobalDeclarationNode, TranslationUnit};
 
-/// For each name that a unit declares, whether two declarations share it.
-type Sharing<'a> = HashMap<&'a str, bool>;
-
-fn sharing<'a>(
-    alloc: Global,
-    declarations: &'a [GlobalDeclarationNode],
-) -> Result<Sharing<'a>, AllocError>
-    ensures { IfOk result (λ made. (x : Name) → lookup made x ≡ sharing_of x (declared declarations.now)) }
+fn is_repeated(index: &Index<'_>, names: &[&str], position: usize, name: &str) -> bool
+    ensures { result ≡ is_repeated_by (lookup index.now) (texts names.now) position name.now }
 {
-    let mut made = HashMap::new(alloc);
-    for declaration in declarations {
-        let name = declaration.node().declared_name();
-        let again = made.contains_key(name);
-        made.insert(name, again)?;
+    if is_known(name, names) {
+        return true;
     }
-    Ok(made)
+    match index.get(name) {
+        Some(first) => *first < position,
+        None => false,
+    }
 }
 
-fn is_shared(sharing: &Sharing<'_>, names: &[&str], name: &str) -> bool
-    ensures { result ≡ is_shared_by (lookup sharing.now) (texts names.now) name.now }
+fn is_declared(index: &Index<'_>, names: &[&str], name: &str) -> bool
+    ensures { result ≡ is_declared_by (lookup index.now) (texts names.now) name.now }
 {
-    is_known(name, names) || sharing.get(name).copied().unwrap_or(false)
-}
-
-fn is_declared(sharing: &Sharing<'_>, names: &[&str], name: &str) -> bool
-    ensures { result ≡ is_declared_by (lookup sharing.now) (texts names.now) name.now }
-{
-    is_known(name, names) || sharing.contains_key(name)
+    is_known(name, names) || index.contains_key(name)
 }
 
 fn unclear_parameter<'a>(
-    sharing: &Sharing<'_>,
+    index: &Index<'_>,
     names: &[&str],
     parameters: &'a [FormalParameter],
 ) -> Option<&'a str>
-    ensures { option_copied result ≡ first (filter (is_declared_by (lookup sharing.now) (texts names.now)) (local_names parameters.now)) }
+    ensures { option_copied result ≡ first (filter (is_declared_by (lookup index.now) (texts names.now)) (local_names parameters.now)) }
 {
     for parameter in parameters {
         let name = parameter.ident.as_str();
-        if is_declared(sharing, names, name) {
+        if is_declared(index, names, name) {
             return Some(name);
         }
     }
@@ -62,45 +51,42 @@ fn unclear_parameter<'a>(
 }
 
 fn unclear_local<'a>(
-    sharing: &Sharing<'_>,
+    index: &Index<'_>,
     names: &[&str],
     declaration: &'a GlobalDeclaration,
 ) -> Option<&'a str>
-    ensures { option_copied result ≡ first (filter (is_declared_by (lookup sharing.now) (texts names.now)) (parameters_of (declaration_tree declaration.now))) }
+    ensures { option_copied result ≡ first (filter (is_declared_by (lookup index.now) (texts names.now)) (parameters_of (declaration_tree declaration.now))) }
 {
     match declaration {
         GlobalDeclaration::Declaration(_) => None,
-        GlobalDeclaration::Function(x) => unclear_parameter(
-            sharing,
-            names,
-            x.parameters.as_slice(),
-        ),
+        GlobalDeclaration::Function(x) => unclear_parameter(index, names, x.parameters.as_slice()),
     }
 }
 
 fn unclear_inside<'a>(
-    sharing: &Sharing<'_>,
+    index: &Index<'_>,
     names: &[&str],
+    position: usize,
     declaration: &'a GlobalDeclaration,
 ) -> Option<&'a str>
-    ensures { option_copied result ≡ first (unclear_by (lookup sharing.now) (texts names.now) (declaration_tree declaration.now)) }
+    ensures { option_copied result ≡ first (unclear_by (lookup index.now) (texts names.now) position (declaration_tree declaration.now)) }
 {
     let name = declaration.declared_name();
-    if is_shared(sharing, names, name) {
+    if is_repeated(index, names, position, name) {
         return Some(name);
     }
-    unclear_local(sharing, names, declaration)
+    unclear_local(index, names, declaration)
 }
 
 fn first_unclear<'a>(
-    sharing: &Sharing<'_>,
+    index: &Index<'_>,
     names: &[&str],
     declarations: &'a [GlobalDeclarationNode],
 ) -> Option<&'a str>
-    ensures { option_copied result ≡ first (flat_map (unclear_by (lookup sharing.now) (texts names.now)) (trees declarations.now)) }
+    ensures { option_copied result ≡ first (unclear_from (lookup index.now) (texts names.now) 0 (trees declarations.now)) }
 {
-    for declaration in declarations {
-        let found = unclear_inside(sharing, names, declaration.node());
+    for (position, declaration) in declarations.iter().enumerate() {
+        let found = unclear_inside(index, names, position, declaration.node());
         if found.is_some() {
             return found;
         }
@@ -109,7 +95,7 @@ fn first_unclear<'a>(
 }
 
 /// The first name, in text order, of a declaration or a parameter that the printed unit would blur: of a declaration, where
-/// another has it or the table of WGSL's names; of a parameter, where a declaration has it or the table.
+/// an earlier one has it or the table of WGSL's names; of a parameter, where a declaration has it or the table.
 pub fn unclear_name(
     alloc: Global,
     unit: &TranslationUnit,
@@ -118,8 +104,8 @@ pub fn unclear_name(
     ensures { IfOk result (λ found. found ≡ first (unclear (unit_tree unit.now) (texts names.now))) }
 {
     let declarations = unit.global_declarations.as_slice();
-    let sharing = sharing(alloc, declarations)?;
-    match first_unclear(&sharing, names, declarations) {
+    let index = first_positions(alloc, declarations)?;
+    match first_unclear(&index, names, declarations) {
         None => Ok(None),
         Some(name) => Ok(Some(Text::from_str(alloc, name)?)),
     }

@@ -20,7 +20,7 @@ pub enum ValidateError {
     /// A call of what is no function.
     #[error("not callable")]
     NotCallable,
-    /// The second of two declarations of one name in one scope.
+    /// The second of two locals of one name in one scope.
     #[error("duplicate declaration")]
     Duplicate,
     /// A declaration that leads back to itself.

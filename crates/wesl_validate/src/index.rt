@@ -1,19 +1,38 @@
-//! The names that a unit declares, each once.
+//! Where names are declared, and parameters of one name.
 
 ghost use Rattle.std.specs.Prelude.{◌≡◌, [], position, IfOk};
+ghost use Rattle.std.specs.List.{flat_map};
 ghost use Rattle.std.specs.Str.{bytes_eq};
 ghost use Rattle.wgsl_syntax.specs.View.{declaration_tree};
 ghost use Rattle.wgsl_syntax.specs.Names.{declared_name};
 ghost use Rattle.wesl_validate.specs.Scopes.{Name, parameters_of};
 ghost use Rattle.wesl_validate.specs.Lookups.{lookup, local_names, trees, declared};
-ghost use Rattle.wesl_validate.specs.Faults.{again, repeats, duplicates, Finds};
+ghost use Rattle.wesl_validate.specs.Faults.{again, repeats, duplicates_in, Finds};
 
 use crate::error::{ValidateError, ValidateFault, refused};
 use crate::place::{Index, is_local};
-use std::alloc::Global;
+use std::alloc::{AllocError, Global};
 use std::collections::HashMap;
 use wgsl_items::OrOutOfMemory;
 use wgsl_syntax::{FormalParameter, GlobalDeclaration, GlobalDeclarationNode};
+
+/// The position of the first declaration of each name.
+pub fn first_positions<'a>(
+    alloc: Global,
+    declarations: &'a [GlobalDeclarationNode],
+) -> Result<Index<'a>, AllocError>
+    ensures { IfOk result (λ index. (x : Name) → lookup index x ≡ position (bytes_eq x) (declared declarations.now)) }
+{
+    let mut index = HashMap::new(alloc);
+    for (position, declaration) in declarations.iter().enumerate() {
+        let name = declaration.node().declared_name();
+        if index.contains_key(name) {
+            continue;
+        }
+        index.insert(name, position)?;
+    }
+    Ok(index)
+}
 
 fn check_parameters(
     alloc: Global,
@@ -35,7 +54,7 @@ fn check_inside(
     alloc: Global,
     declaration: &GlobalDeclaration,
 ) -> Result<(), OrOutOfMemory<ValidateFault>>
-    ensures { Finds (repeats (declared_name (declaration_tree declaration.now)) [] (parameters_of (declaration_tree declaration.now))) result }
+    ensures { Finds (duplicates_in (declaration_tree declaration.now)) result }
 {
     match declaration {
         GlobalDeclaration::Declaration(_) => Ok(()),
@@ -47,22 +66,15 @@ fn check_inside(
     }
 }
 
-/// Where each name is declared, once no scope has a name twice.
-pub fn distinct_names<'a>(
+/// Refuses the first parameter whose name an earlier parameter of its function has.
+pub fn check_duplicates(
     alloc: Global,
-    declarations: &'a [GlobalDeclarationNode],
-) -> Result<Index<'a>, OrOutOfMemory<ValidateFault>>
-    ensures faults { Finds (duplicates [] (trees declarations.now)) result }
-    ensures index { IfOk result (λ index. (x : Name) → lookup index x ≡ position (bytes_eq x) (declared declarations.now)) }
+    declarations: &[GlobalDeclarationNode],
+) -> Result<(), OrOutOfMemory<ValidateFault>>
+    ensures { Finds (flat_map duplicates_in (trees declarations.now)) result }
 {
-    let mut index = HashMap::new(alloc);
-    for (position, declaration) in declarations.iter().enumerate() {
-        let name = declaration.node().declared_name();
-        if index.contains_key(name) {
-            return Err(refused(alloc, ValidateError::Duplicate, name, name));
-        }
+    for declaration in declarations {
         check_inside(alloc, declaration.node())?;
-        index.insert(name, position)?;
     }
-    Ok(index)
+    Ok(())
 }

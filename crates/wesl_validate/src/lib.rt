@@ -1,4 +1,4 @@
-//! Validation of a linked unit: duplicates, free names, calls, rings of declarations, and names that printing would blur.
+//! Validation of a linked unit: locals of one name, free names, calls, rings of declarations, and names that printing would blur.
 #![tactic(auto)]
 
 mod check;
@@ -12,5 +12,6 @@ mod validate;
 
 pub use clear::unclear_name;
 pub use error::{ValidateError, ValidateFault};
+pub use index::first_positions;
 pub use place::{Index, Meaning, Place, Row, rows};
 pub use validate::validate_wesl;

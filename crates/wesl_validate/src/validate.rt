@@ -8,7 +8,7 @@ ghost use Rattle.wesl_validate.specs.Faults.{FindsRing, IsFaultless, IsFirstFaul
 
 use crate::check::{check_calls, check_names};
 use crate::error::{ValidateError, ValidateFault, refused};
-use crate::index::distinct_names;
+use crate::index::{check_duplicates, first_positions};
 use crate::place::{Row, rows};
 use crate::ring::first_on_ring;
 use std::alloc::Global;
@@ -26,7 +26,8 @@ fn check_rings(alloc: Global, rows: &[Row]) -> Result<(), OrOutOfMemory<Validate
 }
 
 /// Whether a linked unit, one module without imports, is faultless; else its first fault. The cases in their order:
-/// duplicates, free names that the table doesn't have, wrong calls, rings of declarations; each in text order.
+/// parameters of one name, free names that the table doesn't have, wrong calls, rings of declarations; each in text order.
+/// Where two declarations have one name, it denotes the first: that they share it is left to `unclear_name`.
 pub fn validate_wesl(
     alloc: Global,
     unit: &TranslationUnit,
@@ -36,7 +37,8 @@ pub fn validate_wesl(
     ensures fault { IfErr result (UnlessOutOfMemory (IsFirstFault (unit_tree unit.now) (texts names.now))) }
 {
     let declarations = unit.global_declarations.as_slice();
-    let index = distinct_names(alloc, declarations)?;
+    check_duplicates(alloc, declarations)?;
+    let index = first_positions(alloc, declarations)?;
     let rows = rows(alloc, &index, declarations)?;
     let rows = rows.as_slice();
     check_names(alloc, rows, names)?;

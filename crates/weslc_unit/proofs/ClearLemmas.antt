@@ -1,13 +1,13 @@
 -- Clear names are no names of types.
 use Rattle.std.proofs.Common.{◌≡◌, ℕ, List, [], ◌∷◌, ◌++◌, map, Bool, true, false, cond, refl, sym, ap, ◌∙◌}
-use Rattle.std.specs.Prelude.{codes, filter, ◌||◌}
-use Rattle.std.specs.List.{flat_map}
+use Rattle.std.specs.Prelude.{codes, filter}
 use Rattle.std.proofs.lemmas.Bool.{or_parts, false≢true}
 use Rattle.wgsl_syntax.specs.Tree.{Attr, Block, Param, Decl, variable, function, UnitTree as Module}
+use Rattle.wgsl_syntax.specs.Names.{declared_name}
 use Rattle.wgsl_builtin.specs.Names.{Name, is_in}
 use Rattle.wgsl_builtin.specs.Builtin.{builtin_names}
 use Rattle.wesl_validate.specs.Scopes.{names}
-use Rattle.wesl_validate.specs.Clearness.{unclear_in, unclear, is_unclear_global, is_unclear_local}
+use Rattle.wesl_validate.specs.Clearness.{is_taken, unclear_in, unclear_after, unclear}
 use Rattle.wgsl_lower.specs.Keeps.{is_clear, ClearParameters, IsClear, AreClear}
 
 -- a test that no element of a list passes
@@ -26,28 +26,30 @@ not-built-in : (x : Name) → is_in x builtin_names ≡ false → is_clear x
 not-built-in x h =
     ((λ e. false≢true (sym h ∙ ap (λ y. is_in y builtin_names) e)), (λ e. false≢true (sym h ∙ ap (λ y. is_in y builtin_names) e)))
 
-module _ (global local : Name → Bool) (globals : (x : Name) → global x ≡ false → is_clear x) (locals : (x : Name) → local x ≡ false → is_clear x) where
-  clear-parameters : (ps : List Param) → filter local (map (λ p. p.name) ps) ≡ [] → ClearParameters ps
+-- a name that is not taken
+not-taken : (taken : List Name) (x : Name) → is_taken builtin_names taken x ≡ false → is_clear x
+not-taken taken x h = not-built-in x (or_parts (is_in x builtin_names) (is_in x taken) h).0
+
+module _ (globals : List Name) where
+  clear-parameters : (ps : List Param) → filter (is_taken builtin_names globals) (map (λ p. p.name) ps) ≡ [] → ClearParameters ps
   clear-parameters [] h = tt
   clear-parameters (p ∷ ps) h =
-      let parts = left-out local p.name (map (λ q. q.name) ps) h in
-      (locals p.name parts.0, clear-parameters ps parts.1)
+      let parts = left-out (is_taken builtin_names globals) p.name (map (λ q. q.name) ps) h in
+      (not-taken globals p.name parts.0, clear-parameters ps parts.1)
 
-  clear-declaration : (d : Decl) → unclear_in global local d ≡ [] → IsClear d
-  clear-declaration (variable attributes kind x type e) h = globals x (left-out global x [] (both-empty (filter global (x ∷ [])) [] h).0).0
-  clear-declaration (function attributes f ps return_attributes type body) h =
-      let parts = both-empty (filter global (f ∷ [])) (filter local (map (λ p. p.name) ps)) h in
-      (globals f (left-out global f [] parts.0).0, clear-parameters ps parts.1)
+  clear-declaration : (before : List Name) (d : Decl) → unclear_in builtin_names globals before d ≡ [] → IsClear d
+  clear-declaration before (variable attributes kind x type e) h =
+      not-taken before x (left-out (is_taken builtin_names before) x [] (both-empty (filter (is_taken builtin_names before) (x ∷ [])) [] h).0).0
+  clear-declaration before (function attributes f ps return_attributes type body) h =
+      let parts = both-empty (filter (is_taken builtin_names before) (f ∷ [])) (filter (is_taken builtin_names globals) (map (λ p. p.name) ps)) h in
+      (not-taken before f (left-out (is_taken builtin_names before) f [] parts.0).0, clear-parameters ps parts.1)
 
-  clear-declarations : (ds : List Decl) → flat_map (unclear_in global local) ds ≡ [] → AreClear ds
-  clear-declarations [] h = tt
-  clear-declarations (d ∷ ds) h =
-      let parts = both-empty (unclear_in global local d) (flat_map (unclear_in global local) ds) h in
-      (clear-declaration d parts.0, clear-declarations ds parts.1)
+  clear-declarations : (before : List Name) (ds : List Decl) → unclear_after builtin_names globals before ds ≡ [] → AreClear ds
+  clear-declarations before [] h = tt
+  clear-declarations before (d ∷ ds) h =
+      let parts = both-empty (unclear_in builtin_names globals before d) (unclear_after builtin_names globals (before ++ declared_name d ∷ []) ds) h in
+      (clear-declaration before d parts.0, clear-declarations (before ++ declared_name d ∷ []) ds parts.1)
 
 -- a unit with clear names has none of a type
 pub clear-names : (u : Module) → unclear u builtin_names ≡ [] → AreClear u.declarations
-clear-names u h =
-    clear-declarations (is_unclear_global builtin_names (names u)) (is_unclear_local builtin_names (names u))
-    (λ x e. not-built-in x (or_parts (is_in x builtin_names) _ e).0) (λ x e. not-built-in x (or_parts (is_in x builtin_names) _ e).0)
-    u.declarations h
+clear-names u h = clear-declarations (names u) [] u.declarations h

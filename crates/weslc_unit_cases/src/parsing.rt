@@ -40,6 +40,9 @@ fn push_token(all: &mut String, token: &Token) -> Result<(), AllocError> {
         Token::AbstractInt(number) => push(all, " ", number, ""),
         Token::I32(number) => push(all, " ", number, "i"),
         Token::U32(number) => push(all, " ", number, "u"),
+        Token::AbstractFloat(spelled) => push(all, " ", spelled, ""),
+        Token::F32(spelled) => push(all, " ", spelled, "f"),
+        Token::F16(spelled) => push(all, " ", spelled, "h"),
         Token::Invalid => all.push_str(" invalid"),
     }
 }

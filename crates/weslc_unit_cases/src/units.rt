@@ -3,11 +3,12 @@
 use crate::cut;
 use crate::parsing::{places, printed};
 use std::alloc::{AllocError, Global};
+use std::collections::HashMap;
 use std::fmt::{Debug, Display};
 use wesl_validate::{ValidateFault, unclear_name, validate_wesl};
 use weslc_unit::{UnitRefusal, compile_unit, print_declaration, print_unit};
 use wgsl_builtin::builtin_names;
-use wgsl_eval::{Fault, Scope, eval_ty, eval_value};
+use wgsl_eval::{Declarations, Fault, Scope, Values, eval_ty, eval_value};
 use wgsl_items::{Items, OrOutOfMemory, Text};
 use wgsl_lower::lower;
 use wgsl_parse::parse_str;
@@ -159,30 +160,31 @@ fn valued<T: Debug + Drop, E: Tell + Drop>(
     }
 }
 
-/// The value and the type of an expression.
+/// The value and the type of an expression, where these declarations, consts and parameters are in scope.
 fn evaluated(
     alloc: Global,
-    scope: &Scope<'_>,
+    declarations: &Declarations<'_>,
+    consts: &Values<'_>,
+    parameters: &[(Text, ScalarType)],
     expression: &Expression,
 ) -> Result<String, AllocError> {
-    let ty = eval_ty(alloc, scope, expression).ok();
+    let scope = Scope {
+        declarations,
+        consts,
+        parameters,
+    };
+    let ty = eval_ty(alloc, &scope, expression).ok();
     let is_u32 = ty == Some(ScalarType::Integer(IntegerType::U32));
-    let value = valued(alloc, eval_value(alloc, scope, expression))?;
+    let value = valued(alloc, eval_value(alloc, &scope, expression))?;
     format!(in alloc; "{value} u32 {is_u32}")
 }
 
 /// The same, where `k` is a const of 40.
 fn with_const(alloc: Global, expression: &Expression) -> Result<String, AllocError> {
-    let consts = [(
-        Text::from_str(alloc, "k")?,
-        LiteralInstance::AbstractInt(40),
-    )];
-    let scope = Scope {
-        declarations: &[],
-        consts: &consts,
-        parameters: &[],
-    };
-    evaluated(alloc, &scope, expression)
+    let declarations: Declarations<'_> = HashMap::new(alloc);
+    let mut consts: Values<'_> = HashMap::new(alloc);
+    consts.insert("k", LiteralInstance::AbstractInt(40))?;
+    evaluated(alloc, &declarations, &consts, &[], expression)
 }
 
 /// The same, where `k` is a parameter of type `u32`.
@@ -191,12 +193,9 @@ fn with_parameter(alloc: Global, expression: &Expression) -> Result<String, Allo
         Text::from_str(alloc, "k")?,
         ScalarType::Integer(IntegerType::U32),
     )];
-    let scope = Scope {
-        declarations: &[],
-        consts: &[],
-        parameters: &parameters,
-    };
-    evaluated(alloc, &scope, expression)
+    let declarations: Declarations<'_> = HashMap::new(alloc);
+    let consts: Values<'_> = HashMap::new(alloc);
+    evaluated(alloc, &declarations, &consts, &parameters, expression)
 }
 
 fn first_value(unit: &TranslationUnit) -> Option<&Expression> {

@@ -1,3 +1,4 @@
 pub mod Lists
 pub mod Refusals
 pub mod Faults
+pub mod Tables

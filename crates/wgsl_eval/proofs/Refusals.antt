@@ -1,5 +1,5 @@
 -- Refusals of the start.
-use Rattle.std.proofs.Common.{◌≡◌, Err, sym, ap, ◌∙◌}
+use Rattle.std.proofs.Common.{Err, sym, ap, ◌∙◌}
 use Rattle.wgsl_shader_type.specs.declared.literal.LiteralInstance.{LiteralInstance}
 use Rattle.wgsl_meaning.specs.Outcome.{Outcome}
 use Rattle.wgsl_meaning.specs.Names.{Name}

@@ -2,3 +2,4 @@ pub mod Ends
 pub mod Scopes
 pub mod Start
 pub mod Refusals
+pub mod Starts

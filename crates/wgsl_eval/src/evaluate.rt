@@ -33,8 +33,8 @@ pub(crate) fn name_value(
     if found(name, scope.parameters).is_some() {
         return Err(named(alloc, NameFault::NotAccessible, name));
     }
-    if let Some(value) = found(name, scope.consts) {
-        return Ok(value);
+    if let Some(value) = scope.consts.get(name.as_str()) {
+        return Ok(*value);
     }
     match declaration(name, scope.declarations) {
         Some(GlobalDeclaration::Declaration(_)) => Err(named(alloc, NameFault::CyclicDecl, name)),

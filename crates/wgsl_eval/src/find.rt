@@ -1,14 +1,16 @@
 //! What stands under a name.
 
-ghost use Rattle.std.specs.Prelude.{◌≡◌, codes};
+ghost use Rattle.std.specs.Prelude.{◌≡◌, codes, IfOk};
 ghost use Rattle.std.specs.Str.{bytes_eq};
-ghost use Rattle.wgsl_syntax.specs.View.{type_tree, declaration_tree};
+ghost use Rattle.wgsl_syntax.specs.View.{type_tree};
 ghost use Rattle.wgsl_meaning.specs.Names as spec;
 ghost use Rattle.wgsl_eval.specs.Ends.{Gives};
-ghost use Rattle.wgsl_eval.specs.Scopes.{decls, seen};
+ghost use Rattle.wgsl_eval.specs.Scopes.{decls, lookup, Declares};
 
 use crate::error::{EvalError, named};
-use std::alloc::Global;
+use crate::scope::Declarations;
+use std::alloc::{AllocError, Global};
+use std::collections::HashMap;
 use wgsl_items::Text;
 use wgsl_meaning::NameFault;
 use wgsl_scalar::{IntegerType, ScalarType};
@@ -31,19 +33,29 @@ pub(crate) fn found<T: Copy>(name: &Text, entries: &[(Text, T)]) -> Option<T>
 /// The first declaration of a name.
 pub(crate) fn declaration<'a>(
     name: &Text,
-    declarations: &'a [GlobalDeclarationNode],
+    declarations: &Declarations<'a>,
 ) -> Option<&'a GlobalDeclaration>
-    ensures { seen result ≡ spec.find_decl name.now (decls declarations.now) }
+    ensures { result ≡ lookup declarations.now name.now }
 {
-    let mut rest = declarations;
-    while let [first, more @ ..] = rest {
-        let declaration = first.node();
-        if name.as_str() == declaration.declared_name() {
-            return Some(declaration);
+    declarations.get(name.as_str()).copied()
+}
+
+/// The declarations under their names.
+pub fn declarations_of<'a>(
+    alloc: Global,
+    nodes: &'a [GlobalDeclarationNode],
+) -> Result<Declarations<'a>, AllocError>
+    ensures { IfOk result (λ table. Declares table (decls nodes.now)) }
+{
+    let mut table = HashMap::new(alloc);
+    for node in nodes {
+        let name = node.node().declared_name();
+        if table.contains_key(name) {
+            continue;
         }
-        rest = more;
+        table.insert(name, node.node())?;
     }
-    None
+    Ok(table)
 }
 
 /// The type of a built-in name.

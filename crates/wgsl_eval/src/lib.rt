@@ -11,9 +11,9 @@ mod typing;
 
 pub use error::{DeclarationFault, EvalError, UnitError, refused};
 pub use evaluate::{callee, eval_value};
-pub use find::plain_name;
+pub use find::{declarations_of, plain_name};
 pub use literal::literal_value;
-pub use scope::Scope;
-pub use start::start_values;
+pub use scope::{Declarations, Scope, Values};
+pub use start::{Start, start_values};
 pub use typing::{const_value, eval_ty, ty_eval_ty};
 pub use wgsl_meaning::{Fault, NameFault};

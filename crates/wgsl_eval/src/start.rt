@@ -1,45 +1,90 @@
 //! The start: the values of the consts, one after another.
 
-ghost use Rattle.std.specs.Prelude.{◌≡◌, slice_get};
+ghost use Rattle.std.specs.Prelude.{◌≡◌, List, [], ◌∷◌, ◌++◌, Some, OnOk, IfOk, slice_get};
+ghost use Rattle.wgsl_syntax.specs.Tree.{Decl};
+ghost use Rattle.wgsl_syntax.specs.View.{declaration_tree};
+ghost use Rattle.wgsl_syntax.specs.declared.declaration.GlobalDeclaration.TheVariants.{Declaration as TheDeclaration};
 ghost use Rattle.wgsl_meaning.specs.Names.{find_decl};
+ghost use Rattle.wgsl_meaning.specs.ConstStage.{Consts};
 ghost use Rattle.wgsl_eval.specs.Start as spec;
-ghost use Rattle.wgsl_eval.specs.Scopes.{decls};
-ghost use Rattle.wgsl_eval.specs.Refusals.{Answers};
+ghost use Rattle.wgsl_eval.specs.Scopes.{decls, Declares, Holds};
+ghost use Rattle.wgsl_eval.specs.Starts.{Tells, Starts};
 
 use crate::error::{UnitError, refused};
-use crate::find::declaration;
+use crate::find::{declaration, declarations_of};
+use crate::scope::{Declarations, Values};
 use crate::typing::const_value;
-use std::alloc::Global;
-use wgsl_items::{CloneIn, Items, Text};
+use std::alloc::{AllocError, Global};
+use std::collections::HashMap;
+use wgsl_items::Text;
 use wgsl_shader_type::LiteralInstance;
-use wgsl_syntax::{GlobalDeclaration, GlobalDeclarationNode};
+use wgsl_syntax::{Declaration, GlobalDeclaration, GlobalDeclarationNode};
 
-fn push_value(
-    alloc: Global,
-    declarations: &[GlobalDeclarationNode],
-    consts: &mut Items<(Text, LiteralInstance)>,
-    name: &Text,
-) -> Result<(), UnitError>
-    ensures { Answers (λ u. consts.new) (spec.valued (decls declarations.now) consts.old name.now (find_decl name.now (decls declarations.now))) result }
+/// What names mean outside of functions, once the consts have their values.
+#[derive(Drop)]
+pub struct Start<'a> {
+    pub declarations: Declarations<'a>,
+    pub consts: Values<'a>,
+}
+
+fn add_value<'a>(
+    consts: &mut Values<'a>,
+    name: &'a Text,
+    value: LiteralInstance,
+) -> Result<(), AllocError>
+    ensures { OnOk result ((cs : Consts) → Holds consts.old cs → Holds consts.new (cs ++ (name.now, value) ∷ [])) }
 {
-    if let Some(GlobalDeclaration::Declaration(d)) = declaration(name, declarations) {
-        match const_value(alloc, declarations, consts.as_slice(), d) {
-            Ok(value) => consts.push((name.clone_in(alloc)?, value))?,
-            Err(error) => return Err(refused(alloc, name, error)),
-        }
+    let key = name.as_str();
+    if consts.contains_key(key) {
+        return Ok(());
     }
+    consts.insert(key, value)?;
     Ok(())
 }
 
-fn push_value_at(
+fn push_const<'a>(
     alloc: Global,
-    declarations: &[GlobalDeclarationNode],
-    consts: &mut Items<(Text, LiteralInstance)>,
+    declarations: &Declarations<'a>,
+    consts: &mut Values<'a>,
+    name: &'a Text,
+    declared: &Declaration,
+) -> Result<(), UnitError>
+    ensures { (ds : List Decl) (cs : Consts) → Declares declarations.now ds → Holds consts.old cs → Tells consts.new (spec.valued ds cs name.now (Some (declaration_tree (TheDeclaration declared.now)))) result }
+{
+    match const_value(alloc, declarations, consts, declared) {
+        Ok(value) => {
+            add_value(consts, name, value)?;
+            Ok(())
+        }
+        Err(error) => Err(refused(alloc, name, error)),
+    }
+}
+
+fn push_value<'a>(
+    alloc: Global,
+    declarations: &Declarations<'a>,
+    consts: &mut Values<'a>,
+    name: &'a Text,
+) -> Result<(), UnitError>
+    ensures { (ds : List Decl) (cs : Consts) → Declares declarations.now ds → Holds consts.old cs → Tells consts.new (spec.valued ds cs name.now (find_decl name.now ds)) result }
+{
+    match declaration(name, declarations) {
+        Some(GlobalDeclaration::Declaration(d)) => push_const(alloc, declarations, consts, name, d),
+        Some(GlobalDeclaration::Function(_)) => Ok(()),
+        None => Ok(()),
+    }
+}
+
+fn push_value_at<'a>(
+    alloc: Global,
+    declarations: &Declarations<'a>,
+    consts: &mut Values<'a>,
+    nodes: &'a [GlobalDeclarationNode],
     position: usize,
 ) -> Result<(), UnitError>
-    ensures { Answers (λ u. consts.new) (spec.valued_at (decls declarations.now) consts.old (slice_get (decls declarations.now) position)) result }
+    ensures { (cs : Consts) → Declares declarations.now (decls nodes.now) → Holds consts.old cs → Tells consts.new (spec.valued_at (decls nodes.now) cs (slice_get (decls nodes.now) position)) result }
 {
-    let Some(node) = declarations.get(position) else {
+    let Some(node) = nodes.get(position) else {
         return Ok(());
     };
     match node.node() {
@@ -50,18 +95,35 @@ fn push_value_at(
     }
 }
 
-/// The consts of a unit with their values, or the first fault. `order` has the positions of their declarations, in the order in
-/// which they get their values; a const whose value is needed before its turn is `CyclicDecl`.
-pub fn start_values(
+fn values_of<'a>(
     alloc: Global,
-    declarations: &[GlobalDeclarationNode],
+    declarations: &Declarations<'a>,
+    nodes: &'a [GlobalDeclarationNode],
     order: &[usize],
-) -> Result<Items<(Text, LiteralInstance)>, UnitError>
-    ensures { Answers (λ consts. consts) (spec.consts_of (decls declarations.now) order.now) result }
+) -> Result<Values<'a>, UnitError>
+    ensures { Declares declarations.now (decls nodes.now) → Starts (λ consts. consts) (spec.consts_of (decls nodes.now) order.now) result }
 {
-    let mut consts = Items::new(alloc);
+    let mut consts = HashMap::new(alloc);
     for position in order {
-        push_value_at(alloc, declarations, &mut consts, *position)?;
+        push_value_at(alloc, declarations, &mut consts, nodes, *position)?;
     }
     Ok(consts)
+}
+
+/// The consts of a unit with their values, or the first fault. `order` has the positions of their declarations, in the order in
+/// which they get their values; a const whose value is needed before its turn is `CyclicDecl`.
+pub fn start_values<'a>(
+    alloc: Global,
+    nodes: &'a [GlobalDeclarationNode],
+    order: &[usize],
+) -> Result<Start<'a>, UnitError>
+    ensures declares { IfOk result (λ start. Declares start.declarations (decls nodes.now)) }
+    ensures starts { Starts (λ start. start.consts) (spec.consts_of (decls nodes.now) order.now) result }
+{
+    let declarations = declarations_of(alloc, nodes)?;
+    let consts = values_of(alloc, &declarations, nodes, order)?;
+    Ok(Start {
+        declarations,
+        consts,
+    })
 }

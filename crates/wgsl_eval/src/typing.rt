@@ -6,24 +6,22 @@ ghost use Rattle.wgsl_syntax.specs.Tree.{exps};
 ghost use Rattle.wgsl_syntax.specs.View.{tree, node_tree, type_tree, call_layer, declaration_tree};
 ghost use Rattle.wgsl_syntax.specs.declared.declaration.GlobalDeclaration.TheVariants.{Declaration as TheDeclaration};
 ghost use Rattle.wgsl_meaning.specs.Meaning as spec;
-ghost use Rattle.wgsl_meaning.specs.ConstStage.{stage, module_scope};
+ghost use Rattle.wgsl_meaning.specs.ConstStage.{stage};
 ghost use Rattle.wgsl_meaning.specs.Names.{find};
 ghost use Rattle.wgsl_eval.specs.Ends.{Ends};
-ghost use Rattle.wgsl_eval.specs.Scopes.{scope_of, decls};
+ghost use Rattle.wgsl_eval.specs.Scopes.{scope_of, outside};
 
 use crate::error::{EvalError, computed, named};
 use crate::evaluate::{callee, eval_value, name_value};
 use crate::find::{built_in_type, declaration, found, plain_name};
 use crate::literal::literal_value;
-use crate::scope::Scope;
+use crate::scope::{Declarations, Scope, Values};
 use std::alloc::Global;
 use wgsl_items::{Items, Text};
 use wgsl_meaning::NameFault;
 use wgsl_scalar::{ScalarType, convert_scalar, scalar_binary_type, scalar_unary_type, type_of};
 use wgsl_shader_type::LiteralInstance;
-use wgsl_syntax::{
-    Declaration, Expression, ExpressionNode, FunctionCall, GlobalDeclarationNode, TypeExpression,
-};
+use wgsl_syntax::{Declaration, Expression, ExpressionNode, FunctionCall, TypeExpression};
 
 fn name_type(alloc: Global, scope: &Scope<'_>, name: &Text) -> Result<ScalarType, EvalError>
     ensures { Ends (spec.local_or (find name.now scope.now.parameters.now) (spec.type_in_world ((stage (scope_of scope.now)).value_of name.now))) result }
@@ -147,11 +145,11 @@ fn initial_untyped(
 /// The value of a const, where these consts have values by now.
 pub fn const_value(
     alloc: Global,
-    declarations: &[GlobalDeclarationNode],
-    consts: &[(Text, LiteralInstance)],
+    declarations: &Declarations<'_>,
+    consts: &Values<'_>,
     declared: &Declaration,
 ) -> Result<LiteralInstance, EvalError>
-    ensures { Ends (spec.const_in (stage (module_scope (decls declarations.now) consts.now)) declared.now.ident.name (Some (declaration_tree (TheDeclaration declared.now)))) result }
+    ensures { Ends (spec.const_in (stage (outside declarations.now consts.now)) declared.now.ident.name (Some (declaration_tree (TheDeclaration declared.now)))) result }
 {
     let scope = Scope {
         declarations,

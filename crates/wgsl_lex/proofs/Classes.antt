@@ -5,6 +5,7 @@ use Rattle.std.specs.List.{list_all, list_any}
 use Rattle.std.specs.Char.{is_ascii_digit}
 use Rattle.unicode_ident.specs.Ident.{is_xid_start, is_xid_continue}
 use Rattle.unicode_ident.proofs.Computing.{unicode_ident}
+use Rattle.wgsl_lex.specs.Floats.{is_point}
 use Rattle.wgsl_lex.specs.Tokens.{is_line_break, is_blank}
 use Rattle.wgsl_lex.proofs.Bools.{not_both, is_number, differs, implies, all_below, below_passes}
 use Rattle.wgsl_lex.proofs.Tables.{begins_word}
@@ -119,3 +120,14 @@ blank_no_slash c h = differs is_blank c 47 h refl
 
 pub blank_no_digit : (c : ℕ) → is_blank c ≡ true → is_ascii_digit c ≡ false
 blank_no_digit c h = not_true _ (blank_passes (λ x. not (is_ascii_digit x)) refl c h)
+
+-- nor a point
+point_begins_no_word : begins_word 46 ≡ false
+unfolding unicode_ident
+point_begins_no_word = refl
+
+pub word_no_number : (c : ℕ) → begins_word c ≡ true → (is_ascii_digit c || is_point c) ≡ false
+word_no_number c h = rw (word_no_digit c h, differs begins_word c 46 h point_begins_no_word)
+
+pub blank_no_number : (c : ℕ) → is_blank c ≡ true → (is_ascii_digit c || is_point c) ≡ false
+blank_no_number c h = rw (blank_no_digit c h, differs is_blank c 46 h refl)

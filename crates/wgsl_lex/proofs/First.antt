@@ -8,14 +8,15 @@ use Rattle.wgsl_token.specs.declared.token.Token.{Token}
 use Rattle.wgsl_token.specs.declared.token.Token.TheVariants.{Fixed, Invalid}
 use Rattle.wgsl_token.specs.declared.token.Fixed.{Fixed as FixedToken}
 use Rattle.wgsl_lex.specs.declared.piece.Piece.{Piece}
-use Rattle.wgsl_lex.specs.Tokens.{digit_value, is_blank, is_trivia, is_word, is_line_comment_tail, is_block_comment_tail, fixed_of, token_form, form, Form, trivia, token, NoLonger, IsLongest, abstract_token, signed_token, unsigned_token}
+use Rattle.wgsl_lex.specs.Tokens.{digit_value, is_blank, is_trivia, is_word, is_line_comment_tail, is_block_comment_tail, fixed_of, token_form, form, Form, trivia, token, NoLonger, IsLongest}
 use Rattle.wgsl_lex.specs.Runs.{IsRun, IsLongestRun, IsLongestMagnitude, IsValue, is_no_line_break, begins_with_pair, value_behind}
-use Rattle.wgsl_lex.specs.Pieces.{IsCommentAnswer, no_comment, comment, opens_word, StandsFirst, trivia_first, token_first, nothing_first, BeginsNothingElse, HasMagnitude, opens_comment, begins_with_continue, spelled_by_two, spelled_by_three, is_mark, goes_on}
+use Rattle.wgsl_lex.specs.Pieces.{IsCommentAnswer, no_comment, comment, opens_word, StandsFirst, trivia_first, token_first, nothing_first, BeginsNothingElse, HasMagnitude, opens_comment, begins_with_continue, spelled_by_two, spelled_by_three, goes_on, opens_number}
+use Rattle.wgsl_lex.specs.Floats.{is_mark}
 use Rattle.wgsl_lex.proofs.Bools.{and_false, covered, covered_word, neither, not_both, is_number}
 use Rattle.wgsl_lex.proofs.Tables.{begins_word}
-use Rattle.wgsl_lex.proofs.Forms.{suffix_token, fixed_form, no_form}
+use Rattle.wgsl_lex.proofs.Forms.{fixed_form, opens_less, no_form}
 use Rattle.wgsl_lex.proofs.Longest.{longest_run, word_longest, blank_longest, line_comment_longest, block_comment_longest}
-use Rattle.wgsl_lex.proofs.Numbers.{decimal_longest, hexadecimal_longest, zero_longest, plain_longest, suffixed_longest}
+use Rattle.wgsl_lex.proofs.Numbers.{decimal_longest, hexadecimal_longest, zero_longest}
 use Rattle.wgsl_lex.proofs.Symbols.{four_is_none}
 use Rattle.wgsl_items.proofs.Bools.{and_both as both, false_if as fails}
 
@@ -118,7 +119,7 @@ pub record IsOpen (behind : List ℕ) (at depth : ℕ) : Type 0 where
   pub goes_on : (more rest : List ℕ) → drop at behind ≡ more ++ rest → is_block_comment_tail 1 (take at behind ++ more) ≡ is_block_comment_tail depth more
 
 -- the parts of a list at an index
-drop_one : (cs : List ℕ) (at c : ℕ) (ds : List ℕ) → drop at cs ≡ c ∷ ds → (at < length cs) × (drop (at + 1) cs ≡ ds) × (take (at + 1) cs ≡ take at cs ++ c ∷ [])
+pub drop_one : (cs : List ℕ) (at c : ℕ) (ds : List ℕ) → drop at cs ≡ c ∷ ds → (at < length cs) × (drop (at + 1) cs ≡ ds) × (take (at + 1) cs ≡ take at cs ++ c ∷ [])
 drop_one [] zero c ds e = cc
 drop_one [] (suc at) c ds e = cc
 drop_one (x ∷ cs) zero c ds e = let same : x ≡ c = cc in let rest : cs ≡ ds = cc in (omega arith, rest, ap (λ y. y ∷ []) same)
@@ -271,57 +272,6 @@ no_mark x behind tail b h = ap goes_on b ∙ unmarked tail
     unmarked [] = refl
     unmarked (c ∷ cs) = rw h
 
--- the character at an index, if there is one
-at_index : (cs : List ℕ) (n s : ℕ) → slice_get cs n ≡ Some s → drop n cs ≡ s ∷ drop (suc n) cs
-at_index [] n s e = cc
-at_index (c ∷ cs) zero s e = let same : c ≡ s = cc in ap (λ x. x ∷ cs) same
-at_index (c ∷ cs) (suc n) s e = at_index cs n s e
-
-pub get_within : (cs : List ℕ) (n s : ℕ) → slice_get cs n ≡ Some s → n < length cs
-get_within [] n s e = cc
-get_within (c ∷ cs) zero s e = omega arith
-get_within (c ∷ cs) (suc n) s e = let h = get_within cs n s e in omega arith
-
-at_front : (cs : List ℕ) (d : ℕ) (ds : List ℕ) → cs ≡ d ∷ ds → slice_get cs 0 ≡ Some d
-at_front cs d ds e = ap (λ xs. slice_get xs 0) e
-
-get_drop : (cs : List ℕ) (n : ℕ) → slice_get (drop n cs) 0 ≡ slice_get cs n
-get_drop [] zero = refl
-get_drop [] (suc n) = refl
-get_drop (c ∷ cs) zero = refl
-get_drop (c ∷ cs) (suc n) = get_drop cs n
-
-seam : (cs : List ℕ) (n s : ℕ) → drop n cs ≡ s ∷ drop (suc n) cs → take (suc n) cs ≡ take n cs ++ s ∷ []
-seam cs n s e = let h = drop_one cs n s (drop (suc n) cs) e in let one : suc n ≡ n + 1 = omega arith in ap (λ k. take k cs) one ∙ h.2
-
--- a number with its suffix
-pub suffix_first : (c s : ℕ) (behind : List ℕ) (n v : ℕ) (t : Token) → is_ascii_digit c ≡ true → IsLongestMagnitude (c ∷ take n behind) (drop n behind) v → slice_get behind n ≡ Some s → suffix_token s (Some v) ≡ Some t
-    → StandsFirst (c ∷ behind) (n + 2) (Some t)
-suffix_first c s behind n v t digit run at suffix =
-    let split = at_index behind n s at in
-    let whole : IsLongestMagnitude (c ∷ take n behind) (s ∷ drop (suc n) behind) v = let P : List ℕ → Type 0 = λ xs. IsLongestMagnitude (c ∷ take n behind) xs v in subst P split run in
-    let long : IsLongest (c ∷ (take n behind ++ s ∷ [])) (drop (suc n) behind) (token t) = suffixed_longest c (take n behind) (drop (suc n) behind) v digit s t whole suffix in
-    let Q : List ℕ → Type 0 = λ xs. IsLongest (c ∷ xs) (drop (suc n) behind) (token t) in
-    token_first (one_more c behind (suc n) (n + 2) (token t) (omega arith) (subst Q (sym (seam behind n s split)) long))
-
-pub signed_first : (c : ℕ) (behind : List ℕ) (n : ℕ) (word : Option ℕ) (t : Token) → is_ascii_digit c ≡ true → HasMagnitude c behind n word → slice_get behind n ≡ Some 105 → ((v : ℕ) → IsValue word v → t ≡ signed_token v)
-    → StandsFirst (c ∷ behind) (n + 2) (Some t)
-signed_first c behind n word t digit has at is = suffix_first c 105 behind n has.value t digit has.longest at (ap Some (sym (is has.value has.is_value)))
-
-pub unsigned_first : (c : ℕ) (behind : List ℕ) (n : ℕ) (word : Option ℕ) (t : Token) → is_ascii_digit c ≡ true → HasMagnitude c behind n word → slice_get behind n ≡ Some 117 → ((v : ℕ) → IsValue word v → t ≡ unsigned_token v)
-    → StandsFirst (c ∷ behind) (n + 2) (Some t)
-unsigned_first c behind n word t digit has at is = suffix_first c 117 behind n has.value t digit has.longest at (ap Some (sym (is has.value has.is_value)))
-
-pub plain_first : (c : ℕ) (behind : List ℕ) (n : ℕ) (word : Option ℕ) (t : Token) → is_ascii_digit c ≡ true → HasMagnitude c behind n word → (slice_get behind n ≡ Some 105 → ⊥) → (slice_get behind n ≡ Some 117 → ⊥)
-    → ((v : ℕ) → IsValue word v → t ≡ abstract_token v) → StandsFirst (c ∷ behind) (n + 1) (Some t)
-plain_first c behind n word t digit has not_i not_u is =
-    let long : IsLongest (c ∷ take n behind) (drop n behind) (token (abstract_token has.value)) = plain_longest c (take n behind) (drop n behind) has.value digit has.longest (λ d ds e. (other d ds e 105 not_i, other d ds e 117 not_u)) in
-    let P : Token → Type 0 = λ x. IsLongest (c ∷ take n behind) (drop n behind) (token x) in
-    token_first (one_more c behind n (n + 1) (token t) (omega arith) (subst P (sym (is has.value has.is_value)) long))
-  where
-    other : (d : ℕ) (ds : List ℕ) → drop n behind ≡ d ∷ ds → (k : ℕ) → (slice_get behind n ≡ Some k → ⊥) → (d == k) ≡ false
-    other d ds e k no_k = fails _ (λ same. let there : slice_get behind n ≡ Some d = sym (get_drop behind n) ∙ at_front (drop n behind) d ds e in no_k (there ∙ ap Some (is_number d k same)))
-
 -- Symbols
 
 module _ (c : ℕ) (behind : List ℕ) (plain : BeginsNothingElse c behind) where
@@ -341,7 +291,7 @@ module _ (c : ℕ) (behind : List ℕ) (plain : BeginsNothingElse c behind) wher
   more_form [] rest nonempty e fixed = absurd (nonempty refl)
   more_form (d ∷ ds) rest nonempty e fixed =
       no_form c (d ∷ ds) (trivial (d ∷ ds) rest e) fixed
-      (covered_word (is_xid_start c) (c == 95) (is_xid_continue d) (list_all is_xid_continue ds) starts (ap (λ xs. (c == 95) && begins_with_continue xs) (sym e) ∙ underscore)) plain.digit
+      (covered_word (is_xid_start c) (c == 95) (is_xid_continue d) (list_all is_xid_continue ds) starts (ap (λ xs. (c == 95) && begins_with_continue xs) (sym e) ∙ underscore)) (opens_less c (d ∷ ds) rest (ap (opens_number c) (sym e) ∙ plain.number))
 
   fixed_is : (ds rest : List ℕ) (fixed : FixedToken) → behind ≡ ds ++ rest → fixed_of (c ∷ ds) ≡ Some fixed → form (c ∷ ds) ≡ Some (token (Fixed fixed))
   fixed_is ds rest fixed e f = fixed_form (c ∷ ds) fixed (trivial ds rest e) f
@@ -366,7 +316,7 @@ module _ (c : ℕ) (behind : List ℕ) (plain : BeginsNothingElse c behind) wher
   one_first fixed none nor f = token_first (record { is = fixed_is [] behind fixed refl f; longest = alone none nor })
 
   pub none_first : spelled_by_three c behind ≡ None → spelled_by_two c behind ≡ None → fixed_of (c ∷ []) ≡ None → StandsFirst (c ∷ behind) 1 (Some Invalid)
-  none_first none nor f = nothing_first refl (no_form c [] plain.blank f starts plain.digit) (alone none nor)
+  none_first none nor f = nothing_first refl (no_form c [] plain.blank f starts (opens_less c [] behind plain.number)) (alone none nor)
 
 two_longest : (c d : ℕ) (ds : List ℕ) (plain : BeginsNothingElse c (d ∷ ds)) (fixed : FixedToken) → spelled_by_three c (d ∷ ds) ≡ None → fixed_of (c ∷ d ∷ []) ≡ Some fixed
     → IsLongest (c ∷ d ∷ []) ds (token (Fixed fixed))

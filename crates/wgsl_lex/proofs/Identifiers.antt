@@ -1,11 +1,11 @@
 -- Which texts are identifiers, by their characters.
-use Rattle.std.proofs.Common.{◌≡◌, refl, sym, ap, ◌∙◌, ℕ, Bool, true, false, ◌&&◌, ◌||◌, ◌==◌, List, [], ◌∷◌, length, Option, Some, None}
+use Rattle.std.proofs.Common.{◌≡◌, refl, sym, ap, ◌∙◌, ℕ, Bool, true, false, ◌&&◌, ◌||◌, ◌==◌, List, [], ◌∷◌, length, Some}
 use Rattle.std.specs.List.{list_all}
-use Rattle.std.specs.Str.{chars, all_scalars, bytes_eq, IsUtf8}
+use Rattle.std.specs.Str.{chars, all_scalars, IsUtf8}
 use Rattle.std.proofs.lemmas.Str.{scalars-chars}
 use Rattle.unicode_ident.specs.Ident.{is_xid_start, is_xid_continue}
 use Rattle.wgsl_token.specs.declared.token.Token.{Token}
-use Rattle.wgsl_token.specs.declared.token.Token.TheVariants.{Fixed, Identifier, Reserved, AbstractInt, I32, U32, Invalid}
+use Rattle.wgsl_token.specs.declared.token.Token.TheVariants.{Fixed, Identifier, Reserved, AbstractInt, I32, U32, AbstractFloat, F32, F16, Invalid}
 use Rattle.wgsl_lex.specs.Tokens.{is_word, token_form}
 use Rattle.wgsl_lex.specs.Identifiers.{is_identifier_of, is_identifier}
 
@@ -34,4 +34,7 @@ other_token name (Reserved x) h = refl
 other_token name (AbstractInt x) h = refl
 other_token name (I32 x) h = refl
 other_token name (U32 x) h = refl
+other_token name (AbstractFloat x) h = refl
+other_token name (F32 x) h = refl
+other_token name (F16 x) h = refl
 other_token name Invalid h = refl

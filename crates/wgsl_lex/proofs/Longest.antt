@@ -11,8 +11,8 @@ use Rattle.wgsl_lex.specs.Tokens.{is_blank, is_trivia, is_line_comment_tail, is_
 use Rattle.wgsl_lex.specs.Runs.{IsRun, IsLongestRun}
 use Rattle.wgsl_lex.proofs.Bools.{and_false}
 use Rattle.wgsl_lex.proofs.Tables.{begins_word, stays_word, spellings_stay_words, no_fixed}
-use Rattle.wgsl_lex.proofs.Classes.{word_no_slash, word_no_digit, word_no_blank, blank_no_slash, blank_no_digit, blank_begins_no_word, slash_begins_no_word}
-use Rattle.wgsl_lex.proofs.Forms.{trivia_form, token_form_is, no_form, no_trivia, no_word}
+use Rattle.wgsl_lex.proofs.Classes.{word_no_slash, word_no_number, word_no_blank, blank_no_slash, blank_no_number, blank_begins_no_word, slash_begins_no_word}
+use Rattle.wgsl_lex.proofs.Forms.{trivia_form, token_form_is, opens_none, no_form, no_trivia, no_word}
 
 -- the front of a run passes
 run_front : (p : ℕ → Bool) (cs : List ℕ) (n : ℕ) → IsRun p cs n → (i : ℕ) → i ≤ n → list_all p (take i cs) ≡ true
@@ -49,7 +49,7 @@ longest_parts whole cs rest what e n m h =
 word_no_form : (c : ℕ) (es : List ℕ) → begins_word c ≡ true → list_all is_xid_continue es ≡ false → form (c ∷ es) ≡ None
 word_no_form c [] w e = cc
 word_no_form c (d ∷ es) w e =
-    no_form c (d ∷ es) (no_trivia c d es (word_no_slash c w)) (no_fixed stays_word spellings_stay_words (c ∷ d ∷ es) (rw (w, e))) (rw (w, e)) (word_no_digit c w)
+    no_form c (d ∷ es) (no_trivia c d es (word_no_slash c w)) (no_fixed stays_word spellings_stay_words (c ∷ d ∷ es) (rw (w, e))) (rw (w, e)) (opens_none c (d ∷ es) (word_no_number c w))
 
 pub word_no_longer : (c : ℕ) (ds rest : List ℕ) → begins_word c ≡ true → IsLongestRun (list_all is_xid_continue) ds rest → NoLonger (c ∷ ds) rest
 word_no_longer c ds rest w run more behind nonempty e = word_no_form c (ds ++ more) w (run.longest more behind nonempty e)
@@ -82,7 +82,7 @@ blank_longest c rest blank = record {
     alone [] nonempty = absurd (nonempty refl)
     alone (d ∷ more) nonempty =
         let begins : begins_word c ≡ false = blank_begins_no_word c blank in
-        no_form c (d ∷ more) (no_trivia c d more (blank_no_slash c blank)) (no_fixed begins_no_blank refl (c ∷ d ∷ more) (rw blank)) (no_word c (d ∷ more) begins) (blank_no_digit c blank)
+        no_form c (d ∷ more) (no_trivia c d more (blank_no_slash c blank)) (no_fixed begins_no_blank refl (c ∷ d ∷ more) (rw blank)) (no_word c (d ∷ more) begins) (opens_none c (d ∷ more) (blank_no_number c blank))
 
 -- Comments
 

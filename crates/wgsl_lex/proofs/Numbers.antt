@@ -1,16 +1,17 @@
--- Whole numbers.
+-- Numbers.
 use Rattle.std.specs.Prelude.{◌≢◌, Option, Some, None, if◌then◌else◌}
-use Rattle.std.proofs.Common.{◌≡◌, ℕ, ◌+◌, ◌*◌, ◌^◌, ◌<◌, ◌≤◌, true, false, ◌&&◌, ◌==◌, List, [], ◌∷◌, ◌++◌, length, take, drop, get_or, refl, sym, ◌∙◌, ap, subst, arith, append_assoc, append-nil}
-use Rattle.std.specs.Option.{option_map}
+use Rattle.std.proofs.Common.{◌≡◌, ℕ, ◌+◌, ◌*◌, ◌^◌, ◌<◌, ◌≤◌, true, false, ◌&&◌, ◌==◌, List, [], ◌∷◌, ◌++◌, length, take, drop, reverse, get_or, refl, sym, ◌∙◌, ap, subst, arith, append_assoc, append-nil}
+use Rattle.std.specs.Option.{option_map, option_or}
 use Rattle.std.specs.List.{list_all}
 use Rattle.std.specs.Char.{is_ascii_digit, is_ascii_hexdigit}
 use Rattle.std.proofs.lemmas.List.{take_more, take-append-drop}
 use Rattle.std.proofs.Math.Nat.{le-mul_of_pos_right}
 use Rattle.wgsl_token.specs.declared.token.Token.{Token}
-use Rattle.wgsl_lex.specs.Tokens.{magnitude, zero_led_value, digit_value, digits_value, abstract_token, number_token, token, IsLongest}
+use Rattle.wgsl_lex.specs.Tokens.{magnitude, zero_led_value, digit_value, digits_value, plain_number, number_with, suffixed_number, number_token, form, token, IsLongest}
 use Rattle.wgsl_lex.specs.Runs.{IsLongestRun, IsLongestMagnitude, IsValue, value_behind}
-use Rattle.wgsl_lex.specs.Pieces.{is_mark, goes_on}
-use Rattle.wgsl_lex.proofs.Forms.{Ends, ends, nothing, last, suffix_token, suffix_of_none, number_token-append, digit_form}
+use Rattle.wgsl_lex.specs.Floats.{is_mark}
+use Rattle.wgsl_lex.specs.Pieces.{goes_on, IsLongestStem}
+use Rattle.wgsl_lex.proofs.Forms.{Ends, ends, nothing, last, NoStem, no_plain, no_number_with, number_token-append}
 
 -- The three kinds
 
@@ -45,51 +46,52 @@ zero_longest rest ended = record { is = refl; longest = λ more behind nonempty 
 
 -- With a suffix or without
 
-module _ (c : ℕ) (ds rest : List ℕ) (value : ℕ) (digit : is_ascii_digit c ≡ true) where
+module _ (cs rest : List ℕ) (forms : (xs : List ℕ) → form (cs ++ xs) ≡ option_map token (number_token (cs ++ xs))) where
+  stem_less : {back : List ℕ} → IsLongestStem cs back → (more behind : List ℕ) → more ≢ [] → back ≡ more ++ behind → NoStem (cs ++ more)
+  stem_less stem more behind nonempty e = record { whole = stem.no_whole more behind nonempty e; float = stem.no_float more behind nonempty e }
+
+  -- the last of some characters is no suffix of those before it
+  no_last : (ys : List ℕ) (y : ℕ) → NoStem (cs ++ (ys ++ y ∷ [])) → number_with y (cs ++ ys) ≡ None → number_token (cs ++ (ys ++ y ∷ [])) ≡ None
+  no_last ys y none suffixless =
+      let seam : cs ++ (ys ++ y ∷ []) ≡ (cs ++ ys) ++ y ∷ [] = sym (append_assoc cs ys (y ∷ [])) in
+      ap number_token seam ∙ number_token-append (cs ++ ys) y ∙ (λ i. option_or ((ap plain_number (sym seam) ∙ no_plain (cs ++ (ys ++ y ∷ [])) none) i) (suffixless i))
+
   -- without
-  pub plain_longest : IsLongestMagnitude (c ∷ ds) rest value → ((d : ℕ) (behind : List ℕ) → rest ≡ d ∷ behind → ((d == 105) ≡ false) × ((d == 117) ≡ false))
-      → IsLongest (c ∷ ds) rest (token (abstract_token value))
-  plain_longest run unsuffixed = record {
-    is = digit_form c ds digit ∙ rw run.is;
-    longest = λ more behind nonempty e. digit_form c (ds ++ more) digit ∙ ap (option_map token) (stops more (ends more) behind nonempty e);
+  pub plain_longest : (t : Token) → IsLongestStem cs rest → plain_number cs ≡ Some t → ((d : ℕ) (behind : List ℕ) → rest ≡ d ∷ behind → number_with d cs ≡ None) → IsLongest cs rest (token t)
+  plain_longest t stem plain unsuffixed = record {
+    is = ap form (sym (append-nil cs)) ∙ forms [] ∙ ap (λ xs. option_map token (number_token xs)) (append-nil cs) ∙ ap (λ o. option_map token (option_or o (suffixed_number (reverse cs)))) plain;
+    longest = λ more behind nonempty e. forms more ∙ ap (option_map token) (stops more (ends more) behind nonempty e);
   }
     where
-      before : (ys : List ℕ) (y : ℕ) (behind : List ℕ) → rest ≡ ys ++ y ∷ behind → suffix_token y (magnitude (c ∷ (ds ++ ys))) ≡ None
-      before [] y behind e =
-          let h = unsuffixed y behind e in
-          let m : magnitude (c ∷ (ds ++ [])) ≡ magnitude (c ∷ ds) = ap (λ xs. magnitude (c ∷ xs)) (append-nil ds) in
-          ap (suffix_token y) (m ∙ run.is) ∙ rw (h.0, h.1)
-      before (x ∷ ys) y behind e = ap (suffix_token y) (run.longest (x ∷ ys) (y ∷ behind) (λ n. cc) e) ∙ suffix_of_none y
+      before : (ys : List ℕ) (y : ℕ) (behind : List ℕ) → rest ≡ ys ++ y ∷ behind → number_with y (cs ++ ys) ≡ None
+      before [] y behind e = ap (number_with y) (append-nil cs) ∙ unsuffixed y behind e
+      before (x ∷ ys) y behind e = no_number_with y (cs ++ x ∷ ys) (stem_less stem (x ∷ ys) (y ∷ behind) (λ n. cc) e)
 
-      stops : (more : List ℕ) → Ends more → (behind : List ℕ) → more ≢ [] → rest ≡ more ++ behind → number_token (c ∷ (ds ++ more)) ≡ None
-      stops [] nothing behind nonempty e = absurd (nonempty refl)
-      stops _ (last ys y) behind nonempty e =
-          let seam : c ∷ (ds ++ (ys ++ y ∷ [])) ≡ (c ∷ (ds ++ ys)) ++ y ∷ [] = ap (λ xs. c ∷ xs) (sym (append_assoc ds ys (y ∷ []))) in
-          let gone : magnitude ((c ∷ (ds ++ ys)) ++ y ∷ []) ≡ None = ap magnitude (sym seam) ∙ run.longest (ys ++ y ∷ []) behind nonempty e in
-          ap number_token seam ∙ number_token-append (c ∷ (ds ++ ys)) y ∙ rw gone (before ys y behind (e ∙ append_assoc ys (y ∷ []) behind))
+      filled : (ys : List ℕ) (y : ℕ) → ys ++ y ∷ [] ≢ []
+      filled [] y e = cc
+      filled (x ∷ ys) y e = cc
+
+      stops : (more : List ℕ) → Ends more → (behind : List ℕ) → more ≢ [] → rest ≡ more ++ behind → number_token (cs ++ more) ≡ None
+      stops _ nothing behind nonempty e = absurd (nonempty refl)
+      stops _ (last ys y) behind nonempty e = no_last ys y (stem_less stem (ys ++ y ∷ []) behind (filled ys y) e) (before ys y behind (e ∙ append_assoc ys (y ∷ []) behind))
 
   -- with
-  pub suffixed_longest : (s : ℕ) (t : Token) → IsLongestMagnitude (c ∷ ds) (s ∷ rest) value → suffix_token s (Some value) ≡ Some t → IsLongest (c ∷ (ds ++ s ∷ [])) rest (token t)
-  suffixed_longest s t run suffix = record {
-    is = digit_form c (ds ++ s ∷ []) digit ∙ ap (option_map token) whole;
-    longest = λ more behind nonempty e. digit_form c ((ds ++ s ∷ []) ++ more) digit ∙ ap (option_map token) (stops more (ends more) behind nonempty e);
+  pub suffixed_longest : (s : ℕ) (t : Token) → IsLongestStem cs (s ∷ rest) → number_with s cs ≡ Some t → IsLongest (cs ++ s ∷ []) rest (token t)
+  suffixed_longest s t stem suffix = record {
+    is = forms (s ∷ []) ∙ ap (option_map token) whole;
+    longest = λ more behind nonempty e.
+        ap form (append_assoc cs (s ∷ []) more) ∙ forms (s ∷ more) ∙ ap (option_map token) (stops more (ends more) behind nonempty e);
   }
     where
-      whole : number_token (c ∷ (ds ++ s ∷ [])) ≡ Some t
-      whole = number_token-append (c ∷ ds) s ∙ rw (run.longest (s ∷ []) rest (λ n. cc) refl, run.is) suffix
+      whole : number_token (cs ++ s ∷ []) ≡ Some t
+      whole = number_token-append cs s ∙ (λ i. option_or (no_plain (cs ++ s ∷ []) (stem_less stem (s ∷ []) rest (λ n. cc) refl) i) (suffix i))
 
-      stops : (more : List ℕ) → Ends more → (behind : List ℕ) → more ≢ [] → rest ≡ more ++ behind → number_token (c ∷ ((ds ++ s ∷ []) ++ more)) ≡ None
-      stops [] nothing behind nonempty e = absurd (nonempty refl)
+      stops : (more : List ℕ) → Ends more → (behind : List ℕ) → more ≢ [] → rest ≡ more ++ behind → number_token (cs ++ s ∷ more) ≡ None
+      stops _ nothing behind nonempty e = absurd (nonempty refl)
       stops _ (last ys y) behind nonempty e =
-          let seam : c ∷ ((ds ++ s ∷ []) ++ (ys ++ y ∷ [])) ≡ (c ∷ (ds ++ s ∷ ys)) ++ y ∷ [] =
-          ap (λ xs. c ∷ xs) (append_assoc ds (s ∷ []) (ys ++ y ∷ []) ∙ sym (append_assoc ds (s ∷ ys) (y ∷ [])))
-          in
           let e' : s ∷ rest ≡ (s ∷ ys) ++ y ∷ behind = ap (λ xs. s ∷ xs) (e ∙ append_assoc ys (y ∷ []) behind) in
           let e'' : s ∷ rest ≡ (s ∷ (ys ++ y ∷ [])) ++ behind = ap (λ xs. s ∷ xs) e in
-          let gone : magnitude ((c ∷ (ds ++ s ∷ ys)) ++ y ∷ []) ≡ None =
-          ap (λ xs. magnitude (c ∷ xs)) (append_assoc ds (s ∷ ys) (y ∷ [])) ∙ run.longest (s ∷ (ys ++ y ∷ [])) behind (λ n. cc) e''
-          in
-          ap number_token seam ∙ number_token-append (c ∷ (ds ++ s ∷ ys)) y ∙ rw (gone, run.longest (s ∷ ys) (y ∷ behind) (λ n. cc) e') (suffix_of_none y)
+          no_last (s ∷ ys) y (stem_less stem (s ∷ (ys ++ y ∷ [])) behind (λ n. cc) e'') (no_number_with y (cs ++ s ∷ ys) (stem_less stem (s ∷ ys) (y ∷ behind) (λ n. cc) e'))
 
 -- Values
 

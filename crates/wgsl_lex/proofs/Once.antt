@@ -5,12 +5,13 @@ use Rattle.std.proofs.lemmas.Str.{encodes_same}
 use Rattle.wgsl_token.specs.declared.token.SpannedToken.{SpannedToken}
 use Rattle.wgsl_token.specs.declared.token.Token.{Token}
 use Rattle.wgsl_token.specs.declared.token.Token.TheVariants.{Invalid}
+use Rattle.wgsl_lex.specs.Floats.{is_float}
 use Rattle.wgsl_lex.specs.Tokens.{fixed_of, token_form, form, Form, trivia, token, NoLonger, IsLongest, size, spanned, Lexes, at_the_end, behind_trivia, a_token, no_token, IsLexed}
 use Rattle.wgsl_lex.specs.Pieces.{StandsFirst, trivia_first, token_first, nothing_first}
 
 -- nothing is no form
 no_empty_form : form [] ≡ None
-unfolding form token_form fixed_of
+unfolding form token_form fixed_of is_float
 no_empty_form = refl
 
 -- what is taken off the front: a longest form, or a character with which none begins

@@ -1,3 +1,4 @@
+pub mod Floats
 pub mod Identifiers
 pub mod Laws
 pub mod Pieces

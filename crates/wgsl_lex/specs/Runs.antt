@@ -1,5 +1,5 @@
 -- Runs of characters of one kind.
-use Rattle.std.specs.Prelude.{◌≡◌, ◌≢◌, ℕ, ◌<◌, ◌≤◌, Bool, true, false, not, List, [], ◌++◌, ◌^◌, length, slice_index, Option, Some, None, MatchOption, ◌+◌, ◌*◌, ◌==◌, ◌&&◌, ◌∷◌, fold}
+use Rattle.std.specs.Prelude.{◌≡◌, ◌≢◌, ℕ, ◌<◌, ◌≤◌, Bool, true, false, not, List, [], ◌++◌, ◌^◌, length, take, slice_index, Option, Some, None, MatchOption, ◌+◌, ◌*◌, ◌==◌, ◌&&◌, ◌∷◌, fold}
 use Rattle.wgsl_lex.specs.Tokens.{is_line_break, magnitude, digit_value}
 
 abbrev pub is_no_line_break : ℕ → Bool
@@ -20,6 +20,12 @@ pub record IsLongestRun (test : List ℕ → Bool) (cs rest : List ℕ) : Type 0
 pub record IsLongestMagnitude (cs rest : List ℕ) (value : ℕ) : Type 0 where
   pub is : magnitude cs ≡ Some value
   pub longest : (more behind : List ℕ) → more ≢ [] → rest ≡ more ++ behind → magnitude (cs ++ more) ≡ None
+
+-- The first n characters pass the test and more of them don't, or n is 0 and none at the front pass.
+pub record IsLongestFront (test : List ℕ → Bool) (cs : List ℕ) (n : ℕ) : Type 0 where
+  pub within : n ≤ length cs
+  pub passes : 0 < n → test (take n cs) ≡ true
+  pub longest : (k : ℕ) → n < k → k ≤ length cs → test (take k cs) ≡ false
 
 -- a value in 64 bits, or none where it is past them
 abbrev pub IsValue : Option ℕ → ℕ → Type 0

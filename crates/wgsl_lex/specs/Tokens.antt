@@ -7,11 +7,12 @@ use Rattle.std.specs.Char.{is_ascii_digit, is_ascii_hexdigit}
 use Rattle.std.specs.Str.{encode_utf8_all, all_scalars, bytes_eq}
 use Rattle.unicode_ident.specs.Ident.{is_xid_start, is_xid_continue}
 use Rattle.wgsl_token.specs.declared.token.Token.{Token}
-use Rattle.wgsl_token.specs.declared.token.Token.TheVariants.{Fixed, Identifier, Reserved, AbstractInt, I32, U32, Invalid}
+use Rattle.wgsl_token.specs.declared.token.Token.TheVariants.{Fixed, Identifier, Reserved, AbstractInt, I32, U32, AbstractFloat, F32, F16, Invalid}
 use Rattle.wgsl_token.specs.declared.token.Fixed.{Fixed as FixedToken}
 use Rattle.wgsl_token.specs.declared.token.Fixed.TheVariants as f
 use Rattle.wgsl_token.specs.declared.token.SpannedToken.{SpannedToken}
 use Rattle.wgsl_token.specs.Spelling.{spelling}
+use Rattle.wgsl_lex.specs.Floats.{is_mark, is_float, takes_float_suffix}
 
 -- Blankspace and comments (WGSL, "Blankspace and Line Breaks", "Comments")
 
@@ -112,7 +113,7 @@ digits_value base cs = fold (λ n c. n * base + digit_value c) 0 cs
 abbrev pub zero_led_value : List ℕ → Option ℕ
 zero_led_value [] = Some 0
 zero_led_value (x ∷ []) = None
-zero_led_value (x ∷ c ∷ cs) = if ((x == 120) || (x == 88)) && list_all is_ascii_hexdigit (c ∷ cs) then Some (digits_value 16 (c ∷ cs)) else None
+zero_led_value (x ∷ c ∷ cs) = if is_mark x && list_all is_ascii_hexdigit (c ∷ cs) then Some (digits_value 16 (c ∷ cs)) else None
 
 -- the value of a whole number without its suffix: `0`, a hexadecimal number, or a digit other than `0` and digits
 abbrev pub magnitude : List ℕ → Option ℕ
@@ -129,14 +130,27 @@ signed_token n = if nat_le n 2147483647 then I32 (pos n) else Invalid
 abbrev pub unsigned_token : ℕ → Token
 unsigned_token n = if nat_le n 4294967295 then U32 n else Invalid
 
--- from the characters in reverse: the suffix `i` or `u`, and the number before it
+-- Numbers with a suffix or without (WGSL, "Numeric Literals")
+
+-- A float's value is not computed: the token has the text before the suffix.
+abbrev pub plain_number : List ℕ → Option Token
+plain_number cs = option_or (option_map abstract_token (magnitude cs)) (if is_float cs then Some (AbstractFloat (encode_utf8_all cs)) else None)
+
+-- with the suffix `i` or `u` of a whole number, or `f` or `h` of a float
+abbrev pub number_with : ℕ → List ℕ → Option Token
+number_with suffix cs =
+    if suffix == 105 then option_map signed_token (magnitude cs)
+    else (if suffix == 117 then option_map unsigned_token (magnitude cs)
+    else (if (suffix == 102) && takes_float_suffix cs then Some (F32 (encode_utf8_all cs))
+    else (if (suffix == 104) && takes_float_suffix cs then Some (F16 (encode_utf8_all cs)) else None)))
+
+-- from the characters in reverse: the suffix, and the number before it
 abbrev pub suffixed_number : List ℕ → Option Token
 suffixed_number [] = None
-suffixed_number (c ∷ cs) =
-    if c == 105 then option_map signed_token (magnitude (reverse cs)) else (if c == 117 then option_map unsigned_token (magnitude (reverse cs)) else None)
+suffixed_number (c ∷ cs) = number_with c (reverse cs)
 
 abbrev pub number_token : List ℕ → Option Token
-number_token cs = option_or (option_map abstract_token (magnitude cs)) (suffixed_number (reverse cs))
+number_token cs = option_or (plain_number cs) (suffixed_number (reverse cs))
 
 -- Forms: what a run of characters is
 

@@ -4,7 +4,7 @@ ghost use Rattle.std.specs.Prelude.{◌≡◌, ◌≤◌, ◌<◌, ◌^◌, ◌+
 ghost use Rattle.wgsl_lex.specs.Tokens.{size, IsLexed};
 ghost use Rattle.wgsl_lex.specs.Pieces.{StandsFirst};
 
-use crate::number::number;
+use crate::number::{number, opens_number};
 use crate::piece::Piece;
 use crate::run::word_run;
 use crate::symbol::symbol;
@@ -25,7 +25,7 @@ pub fn lex(alloc: Global, text: &str) -> Result<Items<SpannedToken>, AllocError>
     let mut rest = characters.as_slice();
     let mut start = 0;
     while let Some((first, behind)) = rest.split_first() {
-        let Piece { length, token } = first_piece(alloc, *first, behind)?;
+        let Piece { length, token } = first_piece(alloc, rest, *first, behind)?;
         let (front, back) = rest.split_at(length);
         let end = start + size_of(front);
         if let Some(token) = token {
@@ -38,8 +38,14 @@ pub fn lex(alloc: Global, text: &str) -> Result<Items<SpannedToken>, AllocError>
     Ok(tokens)
 }
 
-/// What stands at the front: of this character, and what is behind it.
-fn first_piece(alloc: Global, first: char, behind: &[char]) -> Result<Piece, AllocError>
+/// What stands at the front of some characters: of the first one, and what is behind it.
+fn first_piece(
+    alloc: Global,
+    characters: &[char],
+    first: char,
+    behind: &[char],
+) -> Result<Piece, AllocError>
+    requires { characters.now ≡ first ∷ behind.now }
     ensures within { IfOk result (λ piece. piece.length ≤ length behind.now + 1) }
     ensures first { IfOk result (λ piece. StandsFirst (first ∷ behind.now) piece.length piece.token) }
 {
@@ -57,8 +63,8 @@ fn first_piece(alloc: Global, first: char, behind: &[char]) -> Result<Piece, All
             token: Some(token),
         });
     }
-    if first.is_ascii_digit() {
-        return Ok(number(first, behind));
+    if opens_number(first, behind) {
+        return number(alloc, characters, first, behind);
     }
     Ok(symbol(first, behind))
 }

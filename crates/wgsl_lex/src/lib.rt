@@ -1,6 +1,7 @@
 //! The tokens of WGSL texts.
 #![tactic(auto)]
 
+mod float;
 mod identifier;
 pub mod laws;
 mod lexer;

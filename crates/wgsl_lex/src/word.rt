@@ -267,7 +267,7 @@ fn found(table: &[(&str, Option<Fixed>)], word: &str) -> Option<Option<Fixed>>
 }
 
 /// The text that some characters spell.
-fn text_of(alloc: Global, first: char, behind: &[char]) -> Result<Text, AllocError>
+pub(crate) fn text_of(alloc: Global, first: char, behind: &[char]) -> Result<Text, AllocError>
     ensures { IfOk result (λ text. text ≡ encode_utf8_all (first ∷ behind.now)) }
 {
     let mut text = Text::new(alloc);

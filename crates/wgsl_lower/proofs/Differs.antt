@@ -52,7 +52,7 @@ AreClearTypes ts = (x : Name) (t : ScalarType) → built_in_type x ≡ Ok t → 
 
 module _ (ds : List Decl) (cs : Consts) where
   abbrev pub scope : Types → Scope
-  scope ts = record { declarations = ds; consts = cs; parameters = ts }
+  scope ts = record { declared = λ x. find_decl x ds; known = λ x. find x cs; parameters = ts }
 
   -- types of locals of these names
   pub record Typed (locals : List Name) : Type 0 where

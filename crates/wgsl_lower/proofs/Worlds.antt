@@ -166,7 +166,7 @@ AreDeclared ds cs = (x : Name) (y : LiteralInstance) → plain_names.find x cs �
 
 module _ (ds : List Decl) (cs : Consts) (declared : AreDeclared ds cs) (ts : Types) where
   abbrev s : Scope
-  s = record { declarations = ds; consts = cs; parameters = ts }
+  s = record { declared = λ x. plain_names.find_decl x ds; known = λ x. plain_names.find x cs; parameters = ts }
 
   abbrev pub scope_world : World
   scope_world = world (runs.plain ds) (known_of cs) 0 root

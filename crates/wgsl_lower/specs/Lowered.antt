@@ -128,7 +128,7 @@ lowered_statements s t [] = Ok []
 lowered_statements s t (x ∷ rest) = and_then (lowered_statement s t x) (λ y. and_then (lowered_statements s t rest) (λ others. Ok (y ∷ others)))
 
 abbrev pub with_parameters : Scope → Types → Scope
-with_parameters s ts = record { declarations = s.declarations; consts = s.consts; parameters = ts }
+with_parameters s ts = record { declared = s.declared; known = s.known; parameters = ts }
 
 abbrev pub lowered_body : Scope → Option Typ → Block → Checked Block
 lowered_body s t b =
@@ -164,12 +164,15 @@ lowered_declarations s (variable attributes kind x type e ∷ ds) = lowered_decl
 lowered_declarations s (function attributes f parameters return_attributes type body ∷ ds) =
     then_more (refusing f (lowered_function s attributes f parameters return_attributes type body)) (λ d. then_more (lowered_declarations s ds) (λ more. Ok (d ∷ more)))
 
+-- the unit of the rewritten functions
+abbrev pub lowered_under : Scope → List Decl → Result Module DeclarationFault
+lowered_under s ds = then_more (lowered_declarations s ds) (λ low. Ok (record { imports = []; declarations = low }))
+
 -- first the consts at these positions get their values, one after another, then functions are rewritten, in text order; the refusal
 -- is the first
 abbrev pub lowered_after : List ℕ → Module → Result Module DeclarationFault
 lowered_after order u =
-    then_more (consts_of u.declarations order) (λ cs. then_more (lowered_declarations (module_scope u.declarations cs) u.declarations) (λ low.
-    Ok (record { imports = []; declarations = low })))
+    then_more (consts_of u.declarations order) (λ cs. lowered_under (module_scope u.declarations cs) u.declarations)
 
 -- What a unit is lowered to, or its refusal: every const gets its value at the start, each after those that it reaches.
 pub record Lowers (u : Module) (o : Result Module DeclarationFault) : Type 0 where

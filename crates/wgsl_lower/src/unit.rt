@@ -2,16 +2,15 @@
 
 ghost use Rattle.std.specs.Prelude.{◌≡◌, [], map, IfOk};
 ghost use Rattle.wgsl_syntax.specs.View.{unit_tree, declaration_tree};
-ghost use Rattle.wgsl_meaning.specs.ConstStage.{module_scope};
 ghost use Rattle.wgsl_eval.specs.Refusals.{Answers};
-ghost use Rattle.wgsl_eval.specs.Scopes.{decls, scope_of};
+ghost use Rattle.wgsl_eval.specs.Scopes.{decls, outside, scope_of};
 ghost use Rattle.wgsl_lower.specs.Lowered as spec;
 ghost use Rattle.wgsl_lower.specs.Keeps.{AreClear, Keeps};
 
 use crate::function::lowered_function;
 use std::alloc::Global;
 use wesl_order::start_order;
-use wgsl_eval::{Scope, UnitError, refused, start_values};
+use wgsl_eval::{Declarations, Scope, Start, UnitError, Values, refused, start_values};
 use wgsl_items::Items;
 use wgsl_syntax::{GlobalDeclaration, GlobalDeclarationNode, Spanned, TranslationUnit};
 
@@ -53,12 +52,34 @@ fn lowered_in_turn(
 
 fn lowered_declarations(
     alloc: Global,
-    scope: &Scope<'_>,
+    declarations: &Declarations<'_>,
+    consts: &Values<'_>,
     nodes: &[GlobalDeclarationNode],
 ) -> Result<Items<GlobalDeclarationNode>, UnitError>
-    ensures { Answers decls (spec.lowered_declarations (scope_of scope.now) (decls nodes.now)) result }
+    ensures { Answers decls (spec.lowered_declarations (outside declarations.now consts.now) (decls nodes.now)) result }
 {
-    lowered_in_turn(alloc, scope, nodes)
+    let scope = Scope {
+        declarations,
+        consts,
+        parameters: &[],
+    };
+    lowered_in_turn(alloc, &scope, nodes)
+}
+
+// The unit of the functions, once the consts have these values.
+fn lowered_under(
+    alloc: Global,
+    declarations: &Declarations<'_>,
+    consts: &Values<'_>,
+    nodes: &[GlobalDeclarationNode],
+) -> Result<TranslationUnit, UnitError>
+    ensures { Answers unit_tree (spec.lowered_under (outside declarations.now consts.now) (decls nodes.now)) result }
+{
+    let global_declarations = lowered_declarations(alloc, declarations, consts, nodes)?;
+    Ok(TranslationUnit {
+        imports: Items::new(alloc),
+        global_declarations,
+    })
 }
 
 // The unit, where its consts get their values in this order.
@@ -69,18 +90,12 @@ fn lowered_after(
 ) -> Result<TranslationUnit, UnitError>
     ensures { Answers unit_tree (spec.lowered_after order.now (unit_tree unit.now)) result }
 {
-    let declarations = unit.global_declarations.as_slice();
-    let consts = start_values(alloc, declarations, order)?;
-    let scope = Scope {
+    let nodes = unit.global_declarations.as_slice();
+    let Start {
         declarations,
-        consts: consts.as_slice(),
-        parameters: &[],
-    };
-    let global_declarations = lowered_declarations(alloc, &scope, declarations)?;
-    Ok(TranslationUnit {
-        imports: Items::new(alloc),
-        global_declarations,
-    })
+        consts,
+    } = start_values(alloc, nodes, order)?;
+    lowered_under(alloc, &declarations, &consts, nodes)
 }
 
 fn lowered_unit(alloc: Global, unit: &TranslationUnit) -> Result<TranslationUnit, UnitError>

@@ -16,9 +16,10 @@ use Rattle.wgsl_meaning.specs.Programs.{called_at, call_type_at, type_at, here_i
 abbrev pub Consts : Type 0
 Consts = List (Name × LiteralInstance)
 
+-- what is in scope: the declaration of a name, the value of a const that has one by now, and the parameters' types
 pub record Scope : Type 0 where
-  pub declarations : List Decl
-  pub consts : Consts
+  pub declared : Name → Option Decl
+  pub known : Name → Option LiteralInstance
   pub parameters : Types
 
 -- a parameter has no value at this stage
@@ -36,15 +37,15 @@ const_known x None None = Failed (Named UnknownDecl x)
 abbrev pub stage : Scope → World
 stage s = record {
   stage = Const;
-  value_of = λ x. hidden x (find x s.parameters) (const_known x (find x s.consts) (find_decl x s.declarations));
-  result_of = λ f vs. called_or f (find f s.parameters) (called_at Const f (here_if f (find_decl f s.declarations)) (λ x xs. Deep) vs);
-  result_type = λ f ts. call_type_at Const f (here_if f (find_decl f s.declarations)) (λ x. Deep) ts;
-  type_named = λ x. type_at x (here_if x (find_decl x s.declarations));
+  value_of = λ x. hidden x (find x s.parameters) (const_known x (s.known x) (s.declared x));
+  result_of = λ f vs. called_or f (find f s.parameters) (called_at Const f (here_if f (s.declared f)) (λ x xs. Deep) vs);
+  result_type = λ f ts. call_type_at Const f (here_if f (s.declared f)) (λ x. Deep) ts;
+  type_named = λ x. type_at x (here_if x (s.declared x));
 }
 
 -- outside of functions
 abbrev pub module_scope : List Decl → Consts → Scope
-module_scope ds cs = record { declarations = ds; consts = cs; parameters = [] }
+module_scope ds cs = record { declared = λ x. find_decl x ds; known = λ x. find x cs; parameters = [] }
 
 -- each const has its value by those before it in the list
 pub data Settled (ds : List Decl) : Consts → Type 0 where
@@ -60,4 +61,4 @@ callee_at f None (Some d) = Err (Named Todo f)
 callee_at f None None = built_in_type f
 
 abbrev pub callee_of : Scope → Name → Checked ScalarType
-callee_of s f = callee_at f (find f s.parameters) (find_decl f s.declarations)
+callee_of s f = callee_at f (find f s.parameters) (s.declared f)

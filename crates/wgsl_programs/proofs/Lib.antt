@@ -3,6 +3,7 @@ pub mod Bodies
 pub mod Itself
 pub mod Longer
 pub mod Limits
+pub mod Answers
 pub mod Stages
 pub mod Cells
 pub mod Scalars

@@ -1,5 +1,5 @@
 -- What holds of all programs.
-use Rattle.std.specs.Prelude.{◌≡◌, ℕ, ◌+◌, ◌<◌, List, Option}
+use Rattle.std.specs.Prelude.{◌≡◌, ℕ, ◌+◌, ◌<◌, ◌≤◌, List, Option}
 use Rattle.wgsl_syntax.specs.Tree.{Exp}
 use Rattle.wgsl_enumerations.specs.declared.words.ShaderStage.{ShaderStage}
 use Rattle.wgsl_enumerations.specs.declared.words.ShaderStage.TheVariants.{Const}
@@ -12,7 +12,7 @@ use Rattle.wgsl_programs.specs.Faults.{Fault}
 use Rattle.wgsl_programs.specs.Names.{Path, Symbol, Env}
 use Rattle.wgsl_programs.specs.Meaning.{value}
 use Rattle.wgsl_programs.specs.Programs.{Program, Known, calls_inside, world}
-use Rattle.wgsl_programs.specs.Runs.{Handed, run}
+use Rattle.wgsl_programs.specs.Runs.{Handed, run, EndsWell}
 
 -- a run at a larger bound is as it was, if it was over
 abbrev pub LargerBoundsAgree : Type 0
@@ -22,6 +22,14 @@ LargerBoundsAgree = (p : Program) (j k : ℕ) (order : List Symbol) (s : Symbol)
 -- with fewer than k steps left, at most k calls are inside one another
 abbrev pub LimitsComeFirst : Type 0
 LimitsComeFirst = (p : Program) (k : ℕ) (order : List Symbol) (s : Symbol) (handed : Handed) (from : State) → from.left < k → IsOverAt from.left (run p k order s handed from)
+
+-- what ends well within n steps ends well with the same answer within any more
+abbrev pub MoreStepsAgree : Type 0
+MoreStepsAgree = (p : Program) (s : Symbol) (handed : Handed) (n m : ℕ) (answer : Option Instance) → n ≤ m → EndsWell p s handed n answer → EndsWell p s handed m answer
+
+-- two runs that both end well have the same answer, within whatever numbers of steps
+abbrev pub RunsHaveOneAnswer : Type 0
+RunsHaveOneAnswer = (p : Program) (s : Symbol) (handed : Handed) (n m : ℕ) (a b : Option Instance) → EndsWell p s handed n a → EndsWell p s handed m b → a ≡ b
 
 -- a const value is the value at every stage, whatever the locals are
 abbrev pub ConstValuesHold : Type 0

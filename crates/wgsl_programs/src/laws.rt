@@ -1,6 +1,6 @@
 //! Laws of what programs mean, over memory and with a limit of steps. Each function states its law and does nothing.
 
-ghost use Rattle.wgsl_programs.specs.Laws.{LargerBoundsAgree, LimitsComeFirst, ConstValuesHold, CallsLeaveCells};
+ghost use Rattle.wgsl_programs.specs.Laws.{LargerBoundsAgree, LimitsComeFirst, MoreStepsAgree, RunsHaveOneAnswer, ConstValuesHold, CallsLeaveCells};
 ghost use Rattle.wgsl_programs.specs.Typing.{ValuesAreProper, ValuesHaveTheirTypes, ResultsHaveTheirTypes, StartedValuesAreProper, RunsHaveTheirTypes};
 
 /// A larger bound changes nothing of a run that is over: the same answer or fault, the same cells, as many steps left.
@@ -11,6 +11,16 @@ pub fn larger_bounds_agree()
 /// A bound above the steps that are allowed is never passed: the run ends with an answer or a fault, the limit of steps among them.
 pub fn limits_come_first()
     ensures { LimitsComeFirst }
+{}
+
+/// A run that ends well within some number of steps ends well, with the same answer, within any larger one.
+pub fn more_steps_agree()
+    ensures { MoreStepsAgree }
+{}
+
+/// Two runs of the same program, function and handed values that both end well have the same answer, within whatever numbers of steps.
+pub fn runs_have_one_answer()
+    ensures { RunsHaveOneAnswer }
 {}
 
 /// Where the const stage gives a value, each stage gives the same one in as many steps.

@@ -307,6 +307,9 @@ known_of (t.Reserved k) s = s
 known_of (t.AbstractInt k) s = s
 known_of (t.I32 k) s = s
 known_of (t.U32 k) s = s
+known_of (t.AbstractFloat k) s = s
+known_of (t.F32 k) s = s
+known_of (t.F16 k) s = s
 
 number_known : (n : Token) (l : LiteralExpression) → literal_of n ≡ Some l → Known n → Spelled n
 number_known (t.AbstractInt n) l eq h = h

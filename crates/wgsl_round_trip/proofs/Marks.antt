@@ -8,8 +8,8 @@ use Rattle.unicode_ident.proofs.Computing.{unicode_ident}
 use Rattle.wgsl_token.specs.Spelling.{spelling}
 use Rattle.wgsl_lex.specs.Tokens.{all_fixed, form, NoLonger}
 use Rattle.wgsl_lex.proofs.Tables.{no_fixed, begins_word, stays_word, spellings_stay_words}
-use Rattle.wgsl_lex.proofs.Classes.{word_no_slash, word_no_digit}
-use Rattle.wgsl_lex.proofs.Forms.{no_form, no_trivia, no_word}
+use Rattle.wgsl_lex.proofs.Classes.{word_no_slash, word_no_number}
+use Rattle.wgsl_lex.proofs.Forms.{begins_number, opens_none, no_form, no_trivia, no_word}
 
 -- what may stand behind a word or a number: a space or `(` `)` `,` `:` `;`
 abbrev pub is_stop : ℕ → Bool
@@ -49,21 +49,21 @@ alone_pair c d (x ∷ []) = true
 alone_pair c d (x ∷ y ∷ []) = true
 alone_pair c d (x ∷ y ∷ z ∷ xs) = not ((x == c) && (y == d))
 
-pub alone_no_longer : (c : ℕ) (rest : List ℕ) → (c == 47) ≡ false → list_all (λ g. alone c (spelling g)) all_fixed ≡ true → begins_word c ≡ false → is_ascii_digit c ≡ false
+pub alone_no_longer : (c : ℕ) (rest : List ℕ) → (c == 47) ≡ false → list_all (λ g. alone c (spelling g)) all_fixed ≡ true → begins_word c ≡ false → begins_number c ≡ false
     → NoLonger (c ∷ []) rest
-alone_no_longer c rest slash table letter digit [] behind filled e = absurd (filled refl)
-alone_no_longer c rest slash table letter digit (d ∷ more) behind filled e =
+alone_no_longer c rest slash table letter number [] behind filled e = absurd (filled refl)
+alone_no_longer c rest slash table letter number (d ∷ more) behind filled e =
     let same : (c == c) ≡ true = eq-eqb c c refl in
-    no_form c (d ∷ more) (no_trivia c d more slash) (no_fixed (alone c) table (c ∷ d ∷ more) (ap not same)) (no_word c (d ∷ more) letter) digit
+    no_form c (d ∷ more) (no_trivia c d more slash) (no_fixed (alone c) table (c ∷ d ∷ more) (ap not same)) (no_word c (d ∷ more) letter) (opens_none c (d ∷ more) number)
 
-pub pair_no_longer : (c d : ℕ) (rest : List ℕ) → (c == 47) ≡ false → list_all (λ g. alone_pair c d (spelling g)) all_fixed ≡ true → begins_word c ≡ false → is_ascii_digit c ≡ false
+pub pair_no_longer : (c d : ℕ) (rest : List ℕ) → (c == 47) ≡ false → list_all (λ g. alone_pair c d (spelling g)) all_fixed ≡ true → begins_word c ≡ false → begins_number c ≡ false
     → NoLonger (c ∷ d ∷ []) rest
-pair_no_longer c d rest slash table letter digit [] behind filled e = absurd (filled refl)
-pair_no_longer c d rest slash table letter digit (x ∷ more) behind filled e =
+pair_no_longer c d rest slash table letter number [] behind filled e = absurd (filled refl)
+pair_no_longer c d rest slash table letter number (x ∷ more) behind filled e =
     let same : (c == c) ≡ true = eq-eqb c c refl in
     let same' : (d == d) ≡ true = eq-eqb d d refl in
     let both : not ((c == c) && (d == d)) ≡ false = rw (same, same') in
-    no_form c (d ∷ x ∷ more) (no_trivia c d (x ∷ more) slash) (no_fixed (alone_pair c d) table (c ∷ d ∷ x ∷ more) both) (no_word c (d ∷ x ∷ more) letter) digit
+    no_form c (d ∷ x ∷ more) (no_trivia c d (x ∷ more) slash) (no_fixed (alone_pair c d) table (c ∷ d ∷ x ∷ more) both) (no_word c (d ∷ x ∷ more) letter) (opens_none c (d ∷ x ∷ more) number)
 
 -- Marks behind which a space stands
 
@@ -72,11 +72,11 @@ unspaced [] = true
 unspaced (x ∷ []) = true
 unspaced (x ∷ y ∷ xs) = not (y == 32)
 
-pub spaced_no_longer : (c : ℕ) (rest : List ℕ) → begins_word c ≡ false → is_ascii_digit c ≡ false → spaced rest ≡ true → NoLonger (c ∷ []) rest
-spaced_no_longer c rest letter digit ok = no_longer spaced (c ∷ []) rest ok next
+pub spaced_no_longer : (c : ℕ) (rest : List ℕ) → begins_word c ≡ false → begins_number c ≡ false → spaced rest ≡ true → NoLonger (c ∷ []) rest
+spaced_no_longer c rest letter number ok = no_longer spaced (c ∷ []) rest ok next
   where
     at_space : (more : List ℕ) → form (c ∷ 32 ∷ more) ≡ None
-    at_space more = no_form c (32 ∷ more) (no_comment (c == 47)) (no_fixed unspaced refl (c ∷ 32 ∷ more) refl) (no_word c (32 ∷ more) letter) digit
+    at_space more = no_form c (32 ∷ more) (no_comment (c == 47)) (no_fixed unspaced refl (c ∷ 32 ∷ more) refl) (no_word c (32 ∷ more) letter) (opens_none c (32 ∷ more) number)
       where
         no_comment : (b : Bool) → (b && false) ≡ false
         no_comment true = refl
@@ -142,7 +142,7 @@ all_fails p (c ∷ cs) d more h = ap (λ b. p c && b) (all_fails p cs d more h) 
 word_no_form : (c : ℕ) (es : List ℕ) → begins_word c ≡ true → list_all is_xid_continue es ≡ false → form (c ∷ es) ≡ None
 word_no_form c [] w e = absurd cc
 word_no_form c (d ∷ es) w e =
-    no_form c (d ∷ es) (no_trivia c d es (word_no_slash c w)) (no_fixed stays_word spellings_stay_words (c ∷ d ∷ es) (rw (w, e))) (rw (w, e)) (word_no_digit c w)
+    no_form c (d ∷ es) (no_trivia c d es (word_no_slash c w)) (no_fixed stays_word spellings_stay_words (c ∷ d ∷ es) (rw (w, e))) (rw (w, e)) (opens_none c (d ∷ es) (word_no_number c w))
 
 pub word_no_longer : (c : ℕ) (cs rest : List ℕ) → begins_word c ≡ true → stops rest ≡ true → NoLonger (c ∷ cs) rest
 word_no_longer c cs rest w ok = no_longer stops (c ∷ cs) rest ok (λ d more behind h. word_no_form c (cs ++ d ∷ more) w (all_fails is_xid_continue cs d more (stop_ends_word d h)))

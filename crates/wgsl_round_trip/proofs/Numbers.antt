@@ -1,9 +1,10 @@
 -- Whole numbers in decimal are read as the tokens that they stand for.
-use Rattle.std.proofs.Common.{◌≡◌, refl, sym, ap, ◌∙◌, ℕ, zero, suc, ◌+◌, ◌*◌, ◌^◌, ◌<◌, ◌≤◌, ◌/◌, ◌%◌, true, false, not, nat_lt, ◌&&◌, ◌==◌, List, [], ◌∷◌, ◌++◌, append_assoc, append-nil, arith, lit<, mod-lt, reverse, codes, Option, Some, None, pos}
+use Rattle.std.proofs.Common.{◌≡◌, refl, sym, ap, ◌∙◌, ℕ, zero, suc, ◌+◌, ◌*◌, ◌^◌, ◌<◌, ◌≤◌, ◌/◌, ◌%◌, Bool, true, false, not, nat_lt, ◌&&◌, ◌==◌, List, [], ◌∷◌, ◌++◌, append_assoc, append-nil, arith, lit<, mod-lt, reverse, codes, Option, Some, None, pos}
 use Rattle.std.specs.Prelude.{nat_le, if◌then◌else◌}
 use Rattle.std.specs.Option.{option_map, option_or}
 use Rattle.std.specs.List.{list_all}
 use Rattle.std.specs.Char.{is_ascii_digit}
+use Rattle.std.specs.Str.{encode_utf8_all}
 use Rattle.std.specs.Fmt.{decimal}
 use Rattle.std.proofs.lemmas.Bool.{leb-true, le-leb, lt-ltb, ne_eqb, and_parts, and_from}
 use Rattle.std.proofs.lemmas.List.Folds.{list_all-append}
@@ -12,9 +13,10 @@ use Rattle.std.proofs.lemmas.Nat.{div-add-mod'}
 use Rattle.std.proofs.lemmas.Fmt.{decimal_by_steps, decimal_digit}
 use Rattle.wgsl_token.specs.declared.token.Token.{Token}
 use Rattle.wgsl_token.specs.declared.token.Token.TheVariants as t
-use Rattle.wgsl_lex.specs.Tokens.{form, token, digit_value, digits_value, magnitude, abstract_token, suffixed_number, number_token, NoLonger}
-use Rattle.wgsl_lex.proofs.Forms.{digit_form, suffix_token, number_token-append}
-use Rattle.wgsl_round_trip.proofs.Forms.{is_magnitude_char, is_number_char, all_weaker, magnitude_chars, number_chars}
+use Rattle.wgsl_lex.specs.Floats.{is_float}
+use Rattle.wgsl_lex.specs.Tokens.{form, token, digit_value, digits_value, magnitude, abstract_token, signed_token, unsigned_token, plain_number, suffixed_number, number_token, NoLonger}
+use Rattle.wgsl_lex.proofs.Forms.{digit_form, number_token-append}
+use Rattle.wgsl_round_trip.proofs.Forms.{is_magnitude_char, is_float_char, is_number_char, all_weaker, magnitude_chars, float_chars, number_chars}
 use Rattle.wgsl_round_trip.proofs.Marks.{stops, no_longer, all_fails, at_stop}
 
 -- a number in decimal
@@ -77,6 +79,14 @@ no_magnitude_with cs d more h = go (magnitude (cs ++ d ∷ more)) refl
     go None e = e
     go (Some v) e = let wrong : true ≡ false = sym (magnitude_chars (cs ++ d ∷ more) v e) ∙ all_fails is_magnitude_char cs d more h in absurd cc
 
+-- no number without suffix either
+no_plain_with : (cs : List ℕ) (d : ℕ) (more : List ℕ) → is_float_char d ≡ false → is_magnitude_char d ≡ false → plain_number (cs ++ d ∷ more) ≡ None
+no_plain_with cs d more h g = rw (no_magnitude_with cs d more g, no_float (is_float (cs ++ d ∷ more)) refl)
+  where
+    no_float : (b : Bool) → is_float (cs ++ d ∷ more) ≡ b → is_float (cs ++ d ∷ more) ≡ false
+    no_float false e = e
+    no_float true e = let wrong : true ≡ false = sym (float_chars (cs ++ d ∷ more) e) ∙ all_fails is_float_char cs d more h in absurd cc
+
 no_number_with : (cs : List ℕ) (d : ℕ) (more : List ℕ) → is_number_char d ≡ false → number_token (cs ++ d ∷ more) ≡ None
 no_number_with cs d more h = go (number_token (cs ++ d ∷ more)) refl
   where
@@ -100,20 +110,20 @@ pub abstract_form : (n : ℕ) → n ≤ 9223372036854775807 → form (decimal n)
 abstract_form n range =
     let small : n < 2 ^ 64 = omega arith in
     rw (append-nil (decimal n)) at (form_of_digits (decimal_is n small) []) ∙ ap (option_map token)
-    (ap (λ m. option_or (option_map abstract_token m) (suffixed_number (reverse (decimal n)))) (magnitude_decimal n small) ∙ ap (λ b. Some (if b then t.AbstractInt (pos n) else t.Invalid)) (le-leb n 9223372036854775807 range))
+    (ap (λ m. option_or (option_or (option_map abstract_token m) (if is_float (decimal n) then Some (t.AbstractFloat (encode_utf8_all (decimal n))) else None)) (suffixed_number (reverse (decimal n)))) (magnitude_decimal n small) ∙ ap (λ b. Some (if b then t.AbstractInt (pos n) else t.Invalid)) (le-leb n 9223372036854775807 range))
 
 pub signed_form : (n : ℕ) → n ≤ 2147483647 → form (decimal n ++ codes "i") ≡ Some (token (t.I32 (pos n)))
 signed_form n range =
     let small : n < 2 ^ 64 = omega arith in
     form_of_digits (decimal_is n small) (codes "i") ∙ ap (option_map token)
-    (number_token-append (decimal n) 105 ∙ (λ k. option_or (option_map abstract_token (no_magnitude_with (decimal n) 105 [] refl k)) (suffix_token 105 (magnitude_decimal n small k)))
+    (number_token-append (decimal n) 105 ∙ (λ k. option_or (no_plain_with (decimal n) 105 [] refl refl k) (option_map signed_token (magnitude_decimal n small k)))
     ∙ ap (λ b. Some (if b then t.I32 (pos n) else t.Invalid)) (le-leb n 2147483647 range))
 
 pub unsigned_form : (n : ℕ) → n ≤ 4294967295 → form (decimal n ++ codes "u") ≡ Some (token (t.U32 n))
 unsigned_form n range =
     let small : n < 2 ^ 64 = omega arith in
     form_of_digits (decimal_is n small) (codes "u") ∙ ap (option_map token)
-    (number_token-append (decimal n) 117 ∙ (λ k. option_or (option_map abstract_token (no_magnitude_with (decimal n) 117 [] refl k)) (suffix_token 117 (magnitude_decimal n small k)))
+    (number_token-append (decimal n) 117 ∙ (λ k. option_or (no_plain_with (decimal n) 117 [] refl refl k) (option_map unsigned_token (magnitude_decimal n small k)))
     ∙ ap (λ b. Some (if b then t.U32 n else t.Invalid)) (le-leb n 4294967295 range))
 
 pub digits_are_ascii : {n : ℕ} {ds : List ℕ} → IsDecimal n ds → list_all (λ c. nat_lt c 128) ds ≡ true

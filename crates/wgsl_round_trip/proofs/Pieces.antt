@@ -19,7 +19,7 @@ use Rattle.wgsl_lex.proofs.Tables.{begins_word, fixed_of-spelling}
 use Rattle.wgsl_lex.proofs.Forms.{trivia_form, fixed_form}
 use Rattle.wgsl_grammar.specs.Terminals.{literal_of}
 use Rattle.wgsl_round_trip.proofs.Marks.{stops, spaced, no_sign, alone_no_longer, pair_no_longer, spaced_no_longer, minus_no_longer, word_no_longer}
-use Rattle.wgsl_round_trip.proofs.Forms.{Made, as_fixed, as_word, as_number, made, of_some, word_is, Numeral, abstract, signed, unsigned, past, number_numeral}
+use Rattle.wgsl_round_trip.proofs.Forms.{Made, as_fixed, as_word, as_number, made, of_some, word_is, Numeral, abstract, signed, unsigned, float, single, half, past, number_numeral}
 use Rattle.wgsl_round_trip.proofs.Numbers.{decimal_is, number_no_longer, abstract_form, signed_form, unsigned_form, digits_are_ascii, digit_is_no_sign, begins_with_digit}
 use Rattle.wgsl_round_trip.proofs.Prints.{Prints, Spells, spells_then, spells_ascii, Nothing, Is, prints_token, prints_trivia, anything}
 
@@ -206,6 +206,9 @@ numeral_piece lit (signed n range) eq =
 numeral_piece lit (unsigned n range) eq =
     let same : l.U32 n ≡ lit = of_some eq in
     piece_as (ap literal_text same) (decimal_piece n (t.U32 n) (codes "u") (omega arith) (spells_ascii (codes "u") refl) (unsigned_form n range))
+numeral_piece lit (float text) eq = absurd cc
+numeral_piece lit (single text) eq = absurd cc
+numeral_piece lit (half text) eq = absurd cc
 numeral_piece lit past eq = absurd cc
 
 pub number_piece : (n : Token) (l : LiteralExpression) → literal_of n ≡ Some l → Spelled n → Piece n (literal_text l)

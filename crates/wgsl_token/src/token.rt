@@ -182,6 +182,12 @@ pub enum Token {
     I32(i32),
     /// A whole number with the suffix `u`.
     U32(u32),
+    /// A float without suffix, as it is spelled.
+    AbstractFloat(Text),
+    /// A float with the suffix `f`, as it is spelled before it.
+    F32(Text),
+    /// A float with the suffix `h`, as it is spelled before it.
+    F16(Text),
     /// What is no token: a word that begins with two underscores, a whole number past its range, or a character that
     /// begins no token.
     Invalid,

@@ -1,7 +1,5 @@
 use Rattle.std.proofs.Common.{◌≡◌, drop}
-use Rattle.std.specs.List.{flat_map}
-use Rattle.wesl_validate.specs.Lookups.{texts}
-use Rattle.wesl_validate.specs.Faults.{undefined_at, miscall_at, faults_at}
+use Rattle.wesl_validate.specs.Faults.{miscall_at, faults_at}
 use Rattle.wesl_validate.proofs.check.check_calls.Given as goal
 
 abbrev pub invariant-loop-row : goal.invariant-loop-row

@@ -1,7 +1,6 @@
 use Rattle.std.proofs.Common.{◌≡◌, drop}
 use Rattle.std.specs.List.{flat_map}
-use Rattle.wesl_validate.specs.Lookups.{texts}
-use Rattle.wesl_validate.specs.Faults.{undefined_at, miscall_at, faults_at}
+use Rattle.wesl_validate.specs.Faults.{miscall_at}
 use Rattle.wesl_validate.proofs.check.check_calls_in.Given as goal
 
 abbrev pub invariant-loop-place : goal.invariant-loop-place

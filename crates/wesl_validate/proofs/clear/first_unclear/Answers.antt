@@ -1,28 +1,25 @@
-use Rattle.std.proofs.Common.{◌≡◌, sym, ap, subst, ◌∙◌}
-use Rattle.std.specs.Option.{option_copied}
+use Rattle.std.proofs.Common.{sym, ap, ◌∙◌}
 use Rattle.wgsl_syntax.specs.View.{declaration_tree}
 use Rattle.wesl_validate.specs.First.{first}
 use Rattle.wesl_validate.specs.Lookups.{lookup, texts}
-use Rattle.wesl_validate.specs.Clearness.{is_shared_by, is_declared_by, unclear_in}
+use Rattle.wesl_validate.specs.Clearness.{unclear_by}
 use Rattle.wesl_validate.proofs.ClearLemmas.{first_found, first_goes}
 use Rattle.wesl_validate.proofs.clear.first_unclear.Goals as goal
 
 pub returns-then-is_some : goal.returns-then-is_some
 returns-then-is_some c =
-    let look = lookup c.args.sharing.now in
+    let look = lookup c.args.index.now in
     let table = texts c.args.names.now in
-    let G = unclear_in (is_shared_by look table) (is_declared_by look table) in
-    let found = c.unclear_inside-found.ensures ∙ ap (λ n. first (G (declaration_tree n))) c.node.ensures in
-    first_found G c.args.declarations.now c.loop-declaration.declaration-index c.declaration-item.result c.loop-declaration-test.true c.declaration-item.is
+    let found = c.unclear_inside-found.ensures ∙ ap (λ n. first (unclear_by look table c.loop-position.position (declaration_tree n))) c.node.ensures in
+    first_found look table c.args.declarations.now c.loop-position.position c.index-declarations-position.result c.loop-position-test.true c.index-declarations-position.is
     c.unclear_inside-found.result found (sym c.is_some.ensures ∙ c.if-is_some.true)
-    ∙ c.loop-declaration.invariant
+    ∙ c.loop-position.invariant
 
-pub loop-declaration-preserved : goal.loop-declaration-preserved
-loop-declaration-preserved c =
-    let look = lookup c.args.sharing.now in
+pub loop-position-preserved : goal.loop-position-preserved
+loop-position-preserved c =
+    let look = lookup c.args.index.now in
     let table = texts c.args.names.now in
-    let G = unclear_in (is_shared_by look table) (is_declared_by look table) in
-    let found = c.unclear_inside-found.ensures ∙ ap (λ n. first (G (declaration_tree n))) c.node.ensures in
-    first_goes G c.args.declarations.now c.loop-declaration.declaration-index c.declaration-item.result c.loop-declaration-test.true c.declaration-item.is
+    let found = c.unclear_inside-found.ensures ∙ ap (λ n. first (unclear_by look table c.loop-position.position (declaration_tree n))) c.node.ensures in
+    first_goes look table c.args.declarations.now c.loop-position.position c.index-declarations-position.result c.loop-position-test.true c.index-declarations-position.is
     c.unclear_inside-found.result found (sym c.is_some.ensures ∙ c.if-is_some.false)
-    ∙ c.loop-declaration.invariant
+    ∙ c.loop-position.invariant

@@ -1,11 +1,10 @@
 use Rattle.std.proofs.Common.{◌≡◌, drop}
-use Rattle.std.specs.List.{flat_map}
 use Rattle.wesl_validate.specs.First.{first}
 use Rattle.wesl_validate.specs.Lookups.{lookup, texts, trees}
-use Rattle.wesl_validate.specs.Clearness.{is_shared_by, is_declared_by, unclear_in}
+use Rattle.wesl_validate.specs.Clearness.{unclear_from}
 use Rattle.wesl_validate.proofs.clear.first_unclear.Given as goal
 
-abbrev pub invariant-loop-declaration : goal.invariant-loop-declaration
-invariant-loop-declaration l =
-    first (flat_map (unclear_in (is_shared_by (lookup l.sharing) (texts l.names)) (is_declared_by (lookup l.sharing) (texts l.names))) (trees (drop l.declaration-index l.declarations)))
-    ≡ first (flat_map (unclear_in (is_shared_by (lookup l.sharing) (texts l.names)) (is_declared_by (lookup l.sharing) (texts l.names))) (trees l.declarations))
+abbrev pub invariant-loop-position : goal.invariant-loop-position
+invariant-loop-position l =
+    first (unclear_from (lookup l.index) (texts l.names) l.position (trees (drop l.position l.declarations)))
+    ≡ first (unclear_from (lookup l.index) (texts l.names) 0 (trees l.declarations))

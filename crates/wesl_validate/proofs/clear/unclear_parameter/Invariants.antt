@@ -6,5 +6,5 @@ use Rattle.wesl_validate.proofs.clear.unclear_parameter.Given as goal
 
 abbrev pub invariant-loop-parameter : goal.invariant-loop-parameter
 invariant-loop-parameter l =
-    first (filter (is_declared_by (lookup l.sharing) (texts l.names)) (local_names (drop l.parameter-index l.parameters)))
-    ≡ first (filter (is_declared_by (lookup l.sharing) (texts l.names)) (local_names l.parameters))
+    first (filter (is_declared_by (lookup l.index) (texts l.names)) (local_names (drop l.parameter-index l.parameters)))
+    ≡ first (filter (is_declared_by (lookup l.index) (texts l.names)) (local_names l.parameters))

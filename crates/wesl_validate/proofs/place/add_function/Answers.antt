@@ -1,4 +1,4 @@
-use Rattle.std.proofs.Common.{rules, arith}
+use Rattle.std.proofs.Common.{arith}
 use Rattle.std.proofs.lemmas.Grind.{common_steps}
 use Rattle.wesl_validate.proofs.TreeLemmas.{names_of_trees}
 use Rattle.wesl_validate.proofs.place.add_function.Goals as goal

@@ -1,8 +1,8 @@
-use Rattle.std.proofs.Common.{◌≡◌, ◌++◌, drop, take, map}
+use Rattle.std.proofs.Common.{◌≡◌, ◌++◌, drop, map}
 use Rattle.std.specs.List.{flat_map}
-use Rattle.wgsl_syntax.specs.View.{attributes_tree, statement_tree, parameter_tree, declaration_tree}
-use Rattle.wesl_validate.specs.Scopes.{attributes_places, statement_places, parameter_places, decl_places}
-use Rattle.wesl_validate.specs.Lookups.{lookup, local_names}
+use Rattle.wgsl_syntax.specs.View.{parameter_tree}
+use Rattle.wesl_validate.specs.Scopes.{parameter_places}
+use Rattle.wesl_validate.specs.Lookups.{lookup}
 use Rattle.std.proofs.Common.{[]}
 use Rattle.wesl_validate.proofs.place.add_parameters.Given as goal
 

@@ -1,5 +1,5 @@
-use Rattle.std.proofs.Common.{◌<◌, length, rules, arith, sym, refl, ap, ◌∙◌}
-use Rattle.wesl_validate.proofs.SearchLemmas.{search_starts, search_finds, search_more, search_ends}
+use Rattle.std.proofs.Common.{◌<◌, length, rules, arith, ◌∙◌}
+use Rattle.wesl_validate.proofs.SearchLemmas.{search_finds, search_more, search_ends}
 use Rattle.wesl_validate.proofs.ring.leads_back.Goals as goal
 
 pub returns-then-at-len : goal.returns-then-at-len

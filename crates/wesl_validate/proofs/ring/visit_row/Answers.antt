@@ -1,4 +1,4 @@
-use Rattle.std.proofs.Common.{◌≡◌, refl, sym, ◌∙◌, subst, true, false, length}
+use Rattle.std.proofs.Common.{◌≡◌, refl, subst, true, false, length}
 use Rattle.std.proofs.lemmas.Option.{slice_get_past, slice_get_read}
 use Rattle.std.proofs.lemmas.Result.{IfOk-weaker}
 use Rattle.wesl_validate.specs.Rings.{Leads}

@@ -1,27 +1,28 @@
-use Rattle.std.proofs.Common.{◌≡◌, sym, ap, ◌∙◌, subst, []}
+use Rattle.std.proofs.Common.{◌≡◌, ◌∙◌, subst, []}
+use Rattle.std.specs.List.{flat_map}
 use Rattle.wgsl_syntax.specs.View.{unit_tree}
 use Rattle.wesl_validate.specs.Lookups.{lookup, texts, trees}
-use Rattle.wesl_validate.specs.Faults.{duplicates, faults_at, undefined_at, miscall_at, IsFlat, FindsRing}
+use Rattle.wesl_validate.specs.Faults.{duplicates_in, faults_at, undefined_at, miscall_at, IsFlat, FindsRing}
 use Rattle.wesl_validate.proofs.FaultLemmas.{Refuses}
 use Rattle.wesl_validate.proofs.UnitLemmas.{rows_are, distinct_is, through, names_duplicate, names_undefined, names_miscall, faultless, ring_named}
 use Rattle.wesl_validate.proofs.validate.validate_wesl.Goals as goal
 
-pub returns-in_err-index-clause-fault : goal.returns-in_err-index-clause-fault
-returns-in_err-index-clause-fault c =
+pub returns-in_err-check_duplicates-clause-fault : goal.returns-in_err-check_duplicates-clause-fault
+returns-in_err-check_duplicates-clause-fault c =
     let unit = unit_tree c.args.unit.now in
     let table = texts c.args.names.now in
     let are = c.as_slice-declarations.ensures in
-    through _ unit table _ c.in_err-index.field-0.0 c.from_residual.ensures.1
-    (names_duplicate unit table c.in_err-index.field-0.0
-    (subst (λ xs. Refuses (duplicates [] (trees xs)) c.in_err-index.field-0.0) are c.in_err-index.ensures.faults))
+    through _ unit table _ c.in_err-check_duplicates.field-0.0 c.from_residual.ensures.1
+    (names_duplicate unit table c.in_err-check_duplicates.field-0.0
+    (subst (λ xs. Refuses (flat_map duplicates_in (trees xs)) c.in_err-check_duplicates.field-0.0) are c.in_err-check_duplicates.ensures))
 
 pub returns-in_err-check_names-clause-fault : goal.returns-in_err-check_names-clause-fault
 returns-in_err-check_names-clause-fault c =
     let unit = unit_tree c.args.unit.now in
     let table = texts c.args.names.now in
     let are = c.as_slice-declarations.ensures in
-    let distinct = distinct_is c.args.unit.now c.as_slice-declarations.result.now are c.in_ok-index.ensures.faults in
-    let made = rows_are c.args.unit.now c.as_slice-declarations.result.now (lookup c.in_ok-index.index) c.as_slice-rows.result.now are c.in_ok-index.ensures.index (c.as_slice-rows.ensures ∙ c.in_ok-rows.ensures) in
+    let distinct = distinct_is c.args.unit.now c.as_slice-declarations.result.now are c.in_ok-check_duplicates.ensures in
+    let made = rows_are c.args.unit.now c.as_slice-declarations.result.now (lookup c.in_ok-index.index) c.as_slice-rows.result.now are c.in_ok-index.ensures (c.as_slice-rows.ensures ∙ c.in_ok-rows.ensures) in
     through _ unit table _ c.in_err-check_names.field-0.0 c.from_residual-in_err-check_names.ensures.1
     (names_undefined unit table c.in_err-check_names.field-0.0 distinct
     (subst (λ rs. Refuses (faults_at (undefined_at table) rs) c.in_err-check_names.field-0.0) made c.in_err-check_names.ensures))
@@ -31,8 +32,8 @@ returns-in_err-check_calls-clause-fault c =
     let unit = unit_tree c.args.unit.now in
     let table = texts c.args.names.now in
     let are = c.as_slice-declarations.ensures in
-    let distinct = distinct_is c.args.unit.now c.as_slice-declarations.result.now are c.in_ok-index.ensures.faults in
-    let made = rows_are c.args.unit.now c.as_slice-declarations.result.now (lookup c.in_ok-index.index) c.as_slice-rows.result.now are c.in_ok-index.ensures.index (c.as_slice-rows.ensures ∙ c.in_ok-rows.ensures) in
+    let distinct = distinct_is c.args.unit.now c.as_slice-declarations.result.now are c.in_ok-check_duplicates.ensures in
+    let made = rows_are c.args.unit.now c.as_slice-declarations.result.now (lookup c.in_ok-index.index) c.as_slice-rows.result.now are c.in_ok-index.ensures (c.as_slice-rows.ensures ∙ c.in_ok-rows.ensures) in
     let defined = subst (λ rs. faults_at (undefined_at table) rs ≡ []) made c.in_ok-check_names.ensures in
     through _ unit table _ c.in_err-check_calls.field-0.0 c.from_residual-in_err-check_calls.ensures.1
     (names_miscall unit table c.in_err-check_calls.field-0.0 distinct defined
@@ -43,8 +44,8 @@ returns-clause-ok c =
     let unit = unit_tree c.args.unit.now in
     let table = texts c.args.names.now in
     let are = c.as_slice-declarations.ensures in
-    let distinct = distinct_is c.args.unit.now c.as_slice-declarations.result.now are c.in_ok-index.ensures.faults in
-    let made = rows_are c.args.unit.now c.as_slice-declarations.result.now (lookup c.in_ok-index.index) c.as_slice-rows.result.now are c.in_ok-index.ensures.index (c.as_slice-rows.ensures ∙ c.in_ok-rows.ensures) in
+    let distinct = distinct_is c.args.unit.now c.as_slice-declarations.result.now are c.in_ok-check_duplicates.ensures in
+    let made = rows_are c.args.unit.now c.as_slice-declarations.result.now (lookup c.in_ok-index.index) c.as_slice-rows.result.now are c.in_ok-index.ensures (c.as_slice-rows.ensures ∙ c.in_ok-rows.ensures) in
     let defined = subst (λ rs. faults_at (undefined_at table) rs ≡ []) made c.in_ok-check_names.ensures in
     let called = subst (λ rs. faults_at (miscall_at rs) rs ≡ []) made c.in_ok-check_calls.ensures in
     let flat : IsFlat unit table = record { distinct = distinct; defined = defined; called = called } in
@@ -55,8 +56,8 @@ returns-clause-fault c =
     let unit = unit_tree c.args.unit.now in
     let table = texts c.args.names.now in
     let are = c.as_slice-declarations.ensures in
-    let distinct = distinct_is c.args.unit.now c.as_slice-declarations.result.now are c.in_ok-index.ensures.faults in
-    let made = rows_are c.args.unit.now c.as_slice-declarations.result.now (lookup c.in_ok-index.index) c.as_slice-rows.result.now are c.in_ok-index.ensures.index (c.as_slice-rows.ensures ∙ c.in_ok-rows.ensures) in
+    let distinct = distinct_is c.args.unit.now c.as_slice-declarations.result.now are c.in_ok-check_duplicates.ensures in
+    let made = rows_are c.args.unit.now c.as_slice-declarations.result.now (lookup c.in_ok-index.index) c.as_slice-rows.result.now are c.in_ok-index.ensures (c.as_slice-rows.ensures ∙ c.in_ok-rows.ensures) in
     let defined = subst (λ rs. faults_at (undefined_at table) rs ≡ []) made c.in_ok-check_names.ensures in
     let called = subst (λ rs. faults_at (miscall_at rs) rs ≡ []) made c.in_ok-check_calls.ensures in
     let flat : IsFlat unit table = record { distinct = distinct; defined = defined; called = called } in

@@ -1,0 +1,5 @@
+pub mod Trees
+pub mod Texts
+pub mod Clinging
+pub mod Numbers
+pub mod Commas

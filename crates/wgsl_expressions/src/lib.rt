@@ -1,0 +1,19 @@
+//! The syntax trees of all expressions of WGSL with the paths of WESL, their copies and their text.
+#![tactic(auto)]
+
+mod copy;
+mod expression;
+mod layout;
+mod print;
+
+pub use expression::{
+    BinaryExpression, BinaryExpressionOf, Expression, ExpressionNode, FunctionCall, FunctionCallOf,
+    IndexingExpression, IndexingExpressionOf, LiteralExpression, NamedComponentExpression,
+    NamedComponentExpressionOf, ParenthesizedExpression, ParenthesizedExpressionOf, TemplateArg,
+    TemplateArgOf, TemplateArgs, TypeExpression, TypeExpressionOf, UnaryExpression,
+    UnaryExpressionOf,
+};
+pub use layout::{write_indent, write_list};
+pub use print::write_qualifier;
+pub use wgsl_operators::{BinaryOperator, UnaryOperator};
+pub use wgsl_path::{Ident, ModulePath, PathOrigin, Span, Spanned};

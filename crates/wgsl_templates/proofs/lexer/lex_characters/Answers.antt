@@ -1,0 +1,28 @@
+use Rattle.std.proofs.Common.{arith}
+use Rattle.wgsl_lex.proofs.Sizes.{size_parts}
+use Rattle.wgsl_templates.proofs.Reading.{lex_start, lex_trivia, lex_token, lex_all, stands_more}
+use Rattle.wgsl_templates.proofs.lexer.lex_characters.Goals as goal
+
+pub size_of-requires : goal.size_of-requires
+size_of-requires g c = omega (arith, c.loop-first.invariant.ends, size_parts _ _ _ _ c.split_at.ensures.front c.split_at.ensures.back)
+
+pub overflow_add-end : goal.overflow_add-end
+overflow_add-end g c = omega (arith, c.loop-first.invariant.ends, size_parts _ _ _ _ c.split_at.ensures.front c.split_at.ensures.back, c.size_of.ensures)
+
+pub loop-first-smaller-in_ok-after_word : goal.loop-first-smaller-in_ok-after_word
+loop-first-smaller-in_ok-after_word g c = omega (arith, c.split_at.ensures.back_len, stands_more _ _ _ _ (c.in_ok-length.ensures.first 0))
+
+pub loop-first-preserved-in_ok-after_word : goal.loop-first-preserved-in_ok-after_word
+loop-first-preserved-in_ok-after_word g c = lex_token _ _ _ _ _ _ _ c.loop-first.invariant _ _ c.in-Some.ensures.cases.0 _ _ _ c.split_at.ensures.front c.split_at.ensures.back _ c.size_of.ensures _ c.as_slice.ensures.value _ c.in_ok-length.ensures.first _ _ _ _ c.in-Some-token.is c.in_ok-after_word.ensures.taken c.in_ok-after_word.ensures.word c.in_ok-after_word.ensures.brackets
+
+pub loop-first-smaller : goal.loop-first-smaller
+loop-first-smaller g c = omega (arith, c.split_at.ensures.back_len, stands_more _ _ _ _ (c.in_ok-length.ensures.first 0))
+
+pub loop-first-preserved : goal.loop-first-preserved
+loop-first-preserved g c = lex_trivia _ _ _ _ _ _ _ c.loop-first.invariant _ _ c.in-Some.ensures.cases.0 _ _ _ c.split_at.ensures.front c.split_at.ensures.back _ c.size_of.ensures _ c.as_slice.ensures.value _ c.in_ok-length.ensures.first c.in_default-token.is
+
+pub returns : goal.returns
+returns g c = lex_all _ _ _ _ _ _ _ c.loop-first.invariant c.in_default.ensures.cases
+
+pub loop-first-init : goal.loop-first-init
+loop-first-init g c = lex_start _ _ _ _ c.requires.table c.requires.covered c.new-opened.ensures.items c.new-tokens.ensures

@@ -1,0 +1,9 @@
+use Rattle.std.proofs.Common.{length}
+use Rattle.wgsl_templates.proofs.Reading.{IsLexedTo}
+use Rattle.wgsl_templates.proofs.lexer.lex_characters.Given as goal
+
+abbrev pub decreases-loop-first : goal.decreases-loop-first
+decreases-loop-first g l = length l.rest
+
+abbrev pub invariant-loop-first : goal.invariant-loop-first
+invariant-loop-first g l = IsLexedTo l.characters l.table l.rest l.at l.after_word l.opened.items l.tokens

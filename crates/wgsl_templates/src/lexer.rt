@@ -1,0 +1,137 @@
+//! The tokens of a text in which template lists are told.
+
+ghost use Rattle.std.specs.Prelude.{◌≡◌, ◌<◌, ◌≤◌, ◌^◌, ◌∷◌, ◌++◌, [], length, reverse, IfOk, List};
+ghost use Rattle.std.specs.Str.{chars};
+ghost use Rattle.wgsl_lex.specs.Tokens.{size};
+ghost use Rattle.wgsl_template_spec.specs.Tokens.{start, is_word, behind, Lexes, IsLexed};
+ghost use Rattle.wgsl_templates.specs.Steps.{IsTable};
+
+use crate::piece::{Pieces, TemplatePiece, next};
+use crate::recognize::Recognizer;
+use crate::table::table_of;
+use std::alloc::{AllocError, Global};
+use wgsl_items::Items;
+use wgsl_path::Span;
+use wgsl_template_spec::{Bracket, SpannedTemplateToken, TemplateToken};
+use wgsl_token::{Fixed, Token};
+
+/// The tokens of a text (WGSL, "Textual Structure" and "Template Lists"), each with its place in bytes. Only memory can fail.
+pub fn lex<P: Pieces, R: Recognizer>(
+    alloc: Global,
+    pieces: &P,
+    recognizer: &R,
+    text: &str,
+) -> Result<Items<SpannedTemplateToken>, AllocError>
+    ensures { IfOk result (IsLexed text.now) }
+{
+    let characters: Vec<char> = text.chars().collect(alloc)?;
+    let table = table_of(alloc, pieces, recognizer, characters.as_slice())?;
+    lex_characters(alloc, pieces, characters.as_slice(), table.as_slice())
+}
+
+/// The tokens of some characters, by the table of their template lists.
+fn lex_characters<P: Pieces>(
+    alloc: Global,
+    pieces: &P,
+    characters: &[char],
+    table: &[bool],
+) -> Result<Items<SpannedTemplateToken>, AllocError>
+    requires table { IsTable characters.now table.now }
+    requires covered { length characters.now ≤ length table.now }
+    requires bounded { size characters.now < 2 ^ 64 }
+    ensures { IfOk result (Lexes start characters.now) }
+{
+    let mut tokens = Items::new(alloc);
+    let mut opened: Vec<Bracket> = Vec::new(alloc);
+    let mut rest = characters;
+    let mut after_word = false;
+    let mut at = 0;
+    while let Some((first, behind)) = rest.split_first() {
+        let TemplatePiece { length, token } = next(
+            alloc,
+            pieces,
+            *first,
+            behind,
+            after_word,
+            opened.as_slice(),
+            table,
+        )?;
+        let (front, back) = rest.split_at(length);
+        let end = at + size_of(front);
+        if let Some(token) = token {
+            let span = Span { start: at, end };
+            after_word = push_token(&mut tokens, &mut opened, token, span)?;
+        }
+        rest = back;
+        at = end;
+    }
+    Ok(tokens)
+}
+
+/// Takes a token that was read. Whether a `<` behind it may open a template list.
+fn push_token(
+    tokens: &mut Items<SpannedTemplateToken>,
+    opened: &mut Vec<Bracket>,
+    token: TemplateToken,
+    span: Span,
+) -> Result<bool, AllocError>
+    ensures word { IfOk result (λ word. word ≡ is_word token) }
+    ensures taken { IfOk result (λ _. tokens.new ≡ tokens.old ++ record { token = token; span = span } ∷ []) }
+    ensures brackets { IfOk result (λ _. reverse opened.new.items ≡ behind (reverse opened.old.items) token) }
+{
+    follow(opened, &token)?;
+    let word = is_word(&token);
+    tokens.push(SpannedTemplateToken { token, span })?;
+    Ok(word)
+}
+
+/// How many bytes some characters have in UTF-8.
+fn size_of(characters: &[char]) -> usize
+    requires { size characters.now < 2 ^ 64 }
+    ensures { result ≡ size characters.now }
+{
+    let mut size = 0;
+    for character in characters {
+        size += character.len_utf8();
+    }
+    size
+}
+
+/// Whether a `<` behind the token may open a template list.
+pub(crate) fn is_word(token: &TemplateToken) -> bool
+    ensures { result ≡ is_word token.now }
+{
+    matches!(
+        token,
+        TemplateToken::Plain(Token::Identifier(_) | Token::Fixed(Fixed::Var))
+    )
+}
+
+/// What is open behind a token.
+pub(crate) fn follow(opened: &mut Vec<Bracket>, token: &TemplateToken) -> Result<(), AllocError>
+    ensures { IfOk result (λ _. reverse opened.new.items ≡ behind (reverse opened.old.items) token.now) }
+{
+    match token {
+        TemplateToken::TemplateArgsStart => opened.push(Bracket::TemplateList)?,
+        TemplateToken::TemplateArgsEnd => {
+            opened.pop();
+        }
+        TemplateToken::Plain(Token::Fixed(fixed)) => follow_fixed(opened, *fixed)?,
+        _ => {}
+    }
+    Ok(())
+}
+
+/// What is open behind a token of one spelling.
+fn follow_fixed(opened: &mut Vec<Bracket>, fixed: Fixed) -> Result<(), AllocError>
+    ensures { IfOk result (λ _. reverse opened.new.items ≡ behind (reverse opened.old.items) (TemplateToken.Plain (Token.Fixed fixed))) }
+{
+    match fixed {
+        Fixed::ParenLeft | Fixed::BracketLeft => opened.push(Bracket::Plain)?,
+        Fixed::ParenRight | Fixed::BracketRight => {
+            opened.pop();
+        }
+        _ => {}
+    }
+    Ok(())
+}

@@ -1,0 +1,11 @@
+//! Which `<` of a WGSL text open template lists (WGSL, "Template Lists"), and the tokens of texts with these told.
+#![tactic(auto)]
+
+mod lexer;
+mod piece;
+mod recognize;
+mod table;
+
+pub use lexer::lex;
+pub use piece::{Piece, Pieces};
+pub use recognize::{Answer, Recognizer};

@@ -1,0 +1,127 @@
+//! What stands first.
+
+ghost use Rattle.std.specs.Prelude.{◌≡◌, ◌≤◌, ◌<◌, ◌+◌, ◌∷◌, ◌==◌, ◌&&◌, ℕ, length, reverse, IfOk, Some, None};
+ghost use Rattle.wgsl_lex.specs.Pieces.{StandsFirst};
+ghost use Rattle.wgsl_template_spec.specs.Tokens as tokens;
+ghost use Rattle.wgsl_templates.specs.Steps.{StandsHere, state, IsTable};
+
+use std::alloc::{AllocError, Global};
+use wgsl_template_spec::{Bracket, TemplateToken};
+use wgsl_token::Token;
+
+/// The longest run of characters at the front that is blankspace, a comment or a token.
+#[derive(Debug, Drop)]
+pub struct Piece {
+    /// How many characters it has.
+    pub length: usize,
+    /// Its token, unless it is blankspace or a comment.
+    pub token: Option<Token>,
+}
+
+/// Who knows what stands first.
+pub trait Pieces {
+    /// What stands at the front: of this character, and what is behind it. Only memory can fail.
+    fn first_piece(&self, alloc: Global, first: char, behind: &[char]) -> Result<Piece, AllocError>
+        ensures within { IfOk result (λ piece. piece.length ≤ length behind.now + 1) }
+        ensures first { IfOk result (λ piece. StandsFirst (first ∷ behind.now) piece.length piece.token) };
+}
+
+/// What stands first where template lists are told.
+#[derive(Debug, Drop)]
+pub(crate) struct TemplatePiece {
+    /// How many characters it has.
+    pub(crate) length: usize,
+    /// Its token, unless it is blankspace or a comment.
+    pub(crate) token: Option<TemplateToken>,
+}
+
+/// What stands first, behind a word or not, where these brackets are open, the last one at the end.
+pub(crate) fn next<P: Pieces>(
+    alloc: Global,
+    pieces: &P,
+    first: char,
+    behind: &[char],
+    after_word: bool,
+    opened: &[Bracket],
+    table: &[bool],
+) -> Result<TemplatePiece, AllocError>
+    requires table { IsTable (first ∷ behind.now) table.now }
+    requires covered { length behind.now < length table.now }
+    ensures within { IfOk result (λ piece. piece.length ≤ length behind.now + 1) }
+    ensures first { IfOk result (λ piece. (at : ℕ) → StandsHere (state at after_word opened.now) (first ∷ behind.now) piece.length piece.token) }
+{
+    let Piece { length, token } = pieces.first_piece(alloc, first, behind)?;
+    let Some(token) = token else {
+        return Ok(TemplatePiece {
+            length,
+            token: None,
+        });
+    };
+    Ok(told(first, behind, length, token, after_word, opened, table))
+}
+
+/// A token with what it is where it stands.
+fn told(
+    first: char,
+    behind: &[char],
+    count: usize,
+    token: Token,
+    after_word: bool,
+    opened: &[Bracket],
+    table: &[bool],
+) -> TemplatePiece
+    requires table { IsTable (first ∷ behind.now) table.now }
+    requires covered { length behind.now < length table.now }
+    requires within { count ≤ length behind.now + 1 }
+    requires first { StandsFirst (first ∷ behind.now) count (Some token) }
+    ensures within { result.length ≤ length behind.now + 1 }
+    ensures first { (at : ℕ) → StandsHere (state at after_word opened.now) (first ∷ behind.now) result.length result.token }
+{
+    if closes(first, opened) {
+        return TemplatePiece {
+            length: 1,
+            token: Some(TemplateToken::TemplateArgsEnd),
+        };
+    }
+    if is_asked(first, count, after_word) {
+        return TemplatePiece {
+            length: count,
+            token: Some(less_or_start(table[behind.len()], token)),
+        };
+    }
+    TemplatePiece {
+        length: count,
+        token: Some(TemplateToken::Plain(token)),
+    }
+}
+
+/// Whether a template list ends here.
+fn closes(first: char, opened: &[Bracket]) -> bool
+    ensures { result ≡ (tokens.is_in_list (reverse opened.now) && (first == 62)) }
+{
+    is_in_list(opened) && first == '>'
+}
+
+/// Whether a template list may begin here.
+fn is_asked(first: char, count: usize, after_word: bool) -> bool
+    ensures { result ≡ (after_word && ((first == 60) && (count == 1))) }
+{
+    after_word && first == '<' && count == 1
+}
+
+fn less_or_start(opens: bool, token: Token) -> TemplateToken
+    ensures { result ≡ tokens.less_or_start opens token }
+{
+    if opens {
+        TemplateToken::TemplateArgsStart
+    } else {
+        TemplateToken::Plain(token)
+    }
+}
+
+/// Whether the last one is a template list.
+fn is_in_list(opened: &[Bracket]) -> bool
+    ensures { result ≡ tokens.is_in_list (reverse opened.now) }
+{
+    matches!(opened.last(), Some(Bracket::TemplateList))
+}
