@@ -9,7 +9,7 @@ use Rattle.wgsl_lower.specs.Lowered.{lowered_after, Lowers}
 use Rattle.wgsl_lower.specs.Once.{LoweredOnce}
 
 pub lowered_once : LoweredOnce
-lowered_once unit one other a b =
+lowered_once steps unit one other a b =
     let rows = rows_of unit.declarations in
     let same : a.order ≡ b.order = orders_are_one (Chain rows) (values_from 0 rows) a.order b.order a.is_order b.is_order in
-    sym a.comes ∙ ap (λ order. lowered_after order unit) same ∙ b.comes
+    sym a.comes ∙ ap (λ order. lowered_after steps order unit) same ∙ b.comes

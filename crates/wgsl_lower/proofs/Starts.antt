@@ -37,7 +37,7 @@ use Rattle.wgsl_programs.proofs.Agreeing.{KnownAgree, const_answer}
 use Rattle.wgsl_programs.proofs.Known.{or_if, find_behind}
 use Rattle.wgsl_programs.proofs.Scalars.{used_literal, IsInRange, converted_scalar}
 use Rattle.wgsl_programs.proofs.Converting.{IsConcrete}
-use Rattle.wgsl_lower.specs.Lowered.{type_here}
+use Rattle.wgsl_lower.specs.Computed.{type_here}
 use Rattle.wgsl_lower.proofs.Units.{Parts, parts_of}
 use Rattle.wgsl_lower.proofs.Computes.{computed_done}
 use Rattle.wgsl_lower.proofs.Worlds.{same_decl, if_root, known_of, known_found, IsType, type_means, denotes_none, AreDeclared, scope_computes}
@@ -59,7 +59,7 @@ find_last y (b ∷ bs) x z = step (bytes_eq y b.0) (find_last y bs x z)
     step true e = refl
     step false e = e
 
-in_range : (t : IntegerType) → IsConcrete t → (x : LiteralInstance) → IsInRange (Integer t) x
+pub in_range : (t : IntegerType) → IsConcrete t → (x : LiteralInstance) → IsInRange (Integer t) x
 in_range AbstractInt c x = absurd c
 in_range I32 c x = tt
 in_range U32 c x = tt
