@@ -2,6 +2,7 @@
 #![tactic(auto)]
 
 mod ident;
+mod joining;
 mod path;
 mod reading;
 mod span;
