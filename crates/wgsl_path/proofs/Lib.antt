@@ -1,2 +1,3 @@
 pub mod SuperLemmas
 pub mod PartsLemmas
+pub mod JoinLemmas

@@ -44,6 +44,10 @@ supers_of Absolute = zero
 supers_of (Relative supers) = supers
 supers_of (Package name) = zero
 
+-- names that are others, and more behind them
+abbrev pub BeginsWith : List (List ℕ) → List (List ℕ) → Type 0
+BeginsWith names first = (rest : List (List ℕ)) × (names ≡ first ++ rest)
+
 -- the origin is the same, and the names begin with those of the other
 abbrev pub StartsWith : ModulePath → ModulePath → Type 0
-StartsWith path prefix = (path.origin ≡ prefix.origin) × (rest : List (List ℕ)) × (path.components ≡ prefix.components ++ rest)
+StartsWith path prefix = (path.origin ≡ prefix.origin) × BeginsWith path.components prefix.components

@@ -1,3 +1,4 @@
 pub mod Paths
 pub mod Reading
 pub mod Joining
+pub mod Laws

@@ -2,7 +2,7 @@
 
 ghost use Rattle.std.specs.Prelude.{◌≡◌, ◌∷◌, [], ◌++◌, ◌-◌, ◌↔◌, length, take, slice_get, IsTrue, IfOk, OnOk, OnErr};
 ghost use Rattle.std.specs.Option.{option_copied};
-ghost use Rattle.wgsl_path.specs.Joining.{root_path, with_names, origin_above, path_up, joined, StartsWith};
+ghost use Rattle.wgsl_path.specs.Joining.{root_path, with_names, origin_above, path_up, joined, BeginsWith, StartsWith};
 
 use crate::path::{ModulePath, PathOrigin};
 use std::alloc::{AllocError, Global};
@@ -66,6 +66,56 @@ impl ModulePath {
         let components = chained(components, suffix)?;
         Ok(ModulePath { origin, components })
     }
+
+    /// A path as it is meant in the module of this path. A relative one goes as many levels up as it has `super`: as many of the last
+    /// names go, but nothing is above a root, and a relative path takes what is left over as more `super`, up to `usize::MAX`. Then
+    /// the names of the other path follow. A path that isn't relative is the answer itself.
+    pub fn join_path(&self, alloc: Global, suffix: &ModulePath) -> Result<ModulePath, AllocError>
+        ensures { IfOk result (λ path. path ≡ joined self.now suffix.now) }
+    {
+        match &suffix.origin {
+            PathOrigin::Absolute | PathOrigin::Package(_) => suffix.clone_in(alloc),
+            PathOrigin::Relative(supers) => {
+                let ModulePath { origin, components } = self.up(alloc, *supers)?;
+                let components = with_copies(alloc, components, suffix.components.as_slice())?;
+                Ok(ModulePath { origin, components })
+            }
+        }
+    }
+
+    fn up(&self, alloc: Global, levels: usize) -> Result<ModulePath, AllocError>
+        ensures { IfOk result (λ path. path ≡ path_up levels self.now) }
+    {
+        let names = self.components.as_slice();
+        let kept = names.len().saturating_sub(levels);
+        let left_over = levels.saturating_sub(names.len());
+        let components = with_copies(alloc, Items::new(alloc), &names[..kept])?;
+        Ok(ModulePath {
+            origin: self.origin.up(alloc, left_over)?,
+            components,
+        })
+    }
+
+    /// Whether this path has the other's origin, and its names begin with the other's.
+    pub fn starts_with(&self, prefix: &ModulePath) -> bool
+        ensures { IsTrue result ↔ StartsWith self.now prefix.now }
+    {
+        self.origin == prefix.origin
+            && begins_with(self.components.as_slice(), prefix.components.as_slice())
+    }
+}
+
+impl PathOrigin {
+    fn up(&self, alloc: Global, levels: usize) -> Result<PathOrigin, AllocError>
+        ensures { IfOk result (λ origin. origin ≡ origin_above levels self.now) }
+    {
+        match self {
+            PathOrigin::Relative(supers) => {
+                Ok(PathOrigin::Relative(supers.saturating_add(levels)))
+            }
+            PathOrigin::Absolute | PathOrigin::Package(_) => self.clone_in(alloc),
+        }
+    }
 }
 
 /// A list, and another behind it.
@@ -77,4 +127,21 @@ fn chained(names: Items<Text>, more: Items<Text>) -> Result<Items<Text>, AllocEr
         chained.push(name)?;
     }
     Ok(chained)
+}
+
+/// A list, and copies of more behind it.
+fn with_copies(alloc: Global, names: Items<Text>, more: &[Text]) -> Result<Items<Text>, AllocError>
+    ensures { IfOk result (λ all. all ≡ names ++ more.now) }
+{
+    let mut all = names;
+    for name in more {
+        all.push(name.clone_in(alloc)?)?;
+    }
+    Ok(all)
+}
+
+fn begins_with(names: &[Text], first: &[Text]) -> bool
+    ensures { IsTrue result ↔ BeginsWith names.now first.now }
+{
+    first.len() <= names.len() && &names[..first.len()] == first
 }

@@ -3,6 +3,7 @@
 
 mod ident;
 mod joining;
+pub mod laws;
 mod path;
 mod reading;
 mod span;
