@@ -10,6 +10,7 @@ use Rattle.wgsl_path.specs.Joining.{BeginsWith}
 pub tells_beginning : (names first : List (List ℕ)) (r : Bool) → r ≡ pointwise bytes_eq (take (length first) names) first → IsTrue r ↔ BeginsWith names first
 tells_beginning names first r test =
     let same = slice_eq-Decides bytes_eq-Decides (take (length first) names) first r test in
-    let behind = drop (length first) names in
-    (λ yes. (behind, sym (take-append-drop (length first) names) ∙ ap (λ front. front ++ behind) (same.0 yes)),
-    λ begins. same.1 (ap (take (length first)) begins.1 ∙ take-append_seam first begins.0))
+    let behind = drop (length first) names in (
+      λ yes. (behind, sym (take-append-drop (length first) names) ∙ ap (λ front. front ++ behind) (same.0 yes)),
+      λ begins. same.1 (ap (take (length first)) begins.1 ∙ take-append_seam first begins.0),
+    )

@@ -1,3 +1,4 @@
 pub mod SuperLemmas
 pub mod PartsLemmas
 pub mod JoinLemmas
+pub mod Lawful

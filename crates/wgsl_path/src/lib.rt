@@ -1,6 +1,7 @@
 //! Places in a text, identifiers, and the paths of modules.
 #![tactic(auto)]
 
+mod equality;
 mod ident;
 mod joining;
 pub mod laws;
