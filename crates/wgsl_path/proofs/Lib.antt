@@ -2,3 +2,4 @@ pub mod SuperLemmas
 pub mod PartsLemmas
 pub mod JoinLemmas
 pub mod Lawful
+pub mod Printed

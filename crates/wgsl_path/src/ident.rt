@@ -32,7 +32,7 @@ impl Ident {
     pub fn name(&self) -> &str
         ensures { result.now ≡ self.now.name }
     {
-        self.name.as_str()
+        self.as_str()
     }
 
     /// Another name for this one identifier. It needs no memory.

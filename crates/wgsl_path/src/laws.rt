@@ -6,7 +6,7 @@ ghost use Rattle.std.specs.Cmp.{IsEquivalence};
 ghost use Rattle.std.specs.Hash.{Alike};
 ghost use Rattle.wgsl_path.specs.declared.ident.Ident.{Ident};
 ghost use Rattle.wgsl_path.specs.declared.path.ModulePath.{ModulePath};
-ghost use Rattle.wgsl_path.specs.Laws.{SelfBefore, SelfBehind, JoinsInAnyOrder, BeginsWithItself, BeginsAlong, BeginsWithTheFirst};
+ghost use Rattle.wgsl_path.specs.Laws.{SelfBefore, SelfBehind, JoinsInAnyOrder, BeginsWithItself, BeginsAlong, BeginsWithTheFirst, PrintsToBeRead, PrintedOnce, WorkedJoins};
 
 use crate::ident::Ident;
 use crate::path::ModulePath;
@@ -21,6 +21,11 @@ pub fn join_path_is_a_monoid()
     ensures associative { JoinsInAnyOrder }
     ensures before { SelfBefore }
     ensures behind { SelfBehind }
+{}
+
+/// Examples of what `join_path` answers.
+pub fn join_path_at_examples()
+    ensures { WorkedJoins }
 {}
 
 /// `starts_with` is reflexive and transitive, and a path with more names starts with the path.
@@ -58,3 +63,10 @@ pub fn read_and_printed(alloc: Global, text: &str) -> Result<String, ModulePathP
     let path = ModulePath::from_str(alloc, text)?;
     Ok(format!(in alloc; "{path}")?)
 }
+
+/// A path of names that identifiers may be is printed as a text that is read as that path, so no two of them are printed alike. Others may
+/// be: a package of the name `package` is printed as the root of the own package is.
+pub fn printed_to_be_read()
+    ensures read { PrintsToBeRead }
+    ensures once { PrintedOnce }
+{}

@@ -6,6 +6,7 @@ ghost use Rattle.wgsl_path.specs.Paths.{across};
 ghost use Rattle.wgsl_path.specs.contracts.span.Spanned.{the_row};
 
 use std::alloc::{AllocError, Global};
+use std::fmt;
 use std::ops::Range;
 use wgsl_items::{Boxed, CloneIn};
 
@@ -111,5 +112,14 @@ impl<T: CloneIn + Drop> CloneIn for Spanned<T> {
             node: self.node.clone_in(alloc)?,
             span: self.span,
         })
+    }
+}
+
+/// It is written as its value is.
+impl<T: fmt::Display> fmt::Display for Spanned<T> {
+    ghost output = { λ spanned. T.output spanned.node };
+
+    fn fmt<W: fmt::Write>(&self, f: &mut fmt::Formatter<W>) -> fmt::Result {
+        self.node.get().fmt(f)
     }
 }
