@@ -101,7 +101,10 @@ fn maybe<T: Display + Drop>(
 
 /// Whether a text reads back as what a unit is lowered to.
 fn reads_back(alloc: Global, unit: &TranslationUnit, text: &str) -> bool {
-    agree(lower(alloc, unit, MAX_STEPS).ok(), parse_str(alloc, text).ok())
+    agree(
+        lower(alloc, unit, MAX_STEPS).ok(),
+        parse_str(alloc, text).ok(),
+    )
 }
 
 /// A compiled text, which reads back, or its refusal.

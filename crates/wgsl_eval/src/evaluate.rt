@@ -84,8 +84,10 @@ fn decides(operator: BinaryOperator, left: LiteralInstance) -> bool
 {
     matches!(
         (operator, left),
-        (BinaryOperator::ShortCircuitAnd, LiteralInstance::Bool(false))
-            | (BinaryOperator::ShortCircuitOr, LiteralInstance::Bool(true))
+        (
+            BinaryOperator::ShortCircuitAnd,
+            LiteralInstance::Bool(false)
+        ) | (BinaryOperator::ShortCircuitOr, LiteralInstance::Bool(true))
     )
 }
 

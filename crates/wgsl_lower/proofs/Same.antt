@@ -239,18 +239,19 @@ module _ (ds : List Decl) (cs : Consts) (declared : AreDeclared ds cs) (steps : 
   rest_same as' f ps ts rs t b =
       λ k. and_then (attributes_same [] rs k) (λ qs. and_then (checked_same t k) (λ u. and_then (body_same ts t b k) (λ c. Ok (function as' f ps qs t c))))
 
+  abbrev under : Name → List Attr → Option Typ → Block → List Attr → List Param → Env → Checked Decl
+  under f rs t b bs qs env =
+      and_then (means.lowered_attributes steps w [] rs) (λ ys. and_then (means.checked_type steps w t) (λ u. and_then (means.lowered_body steps w env t b) (λ c. Ok (function bs f qs ys t c))))
+
+  inside_same : (f : Name) (ps : List Param) (rs : List Attr) (t : Option Typ) (b : Block) (bs : List Attr) (qs : List Param)
+      → and_then (means.parameter_locals steps w ps) (under f rs t b bs qs) ≡ and_then (code.parameter_types (s []) ps) (λ ts. code.lowered_rest (s []) bs f qs ts rs t b)
+  inside_same f ps rs t b bs qs =
+      ap (λ o. and_then o (under f rs t b bs qs)) (locals_same ps) ∙ past_locals (code.parameter_types (s []) ps) (under f rs t b bs qs)
+      ∙ (λ k. and_then (code.parameter_types (s []) ps) (λ ts. rest_same bs f qs ts rs t b k))
+
   function_same : (as' : List Attr) (f : Name) (ps : List Param) (rs : List Attr) (t : Option Typ) (b : Block) → means.lowered_function steps w as' f ps rs t b ≡ code.lowered_function (s []) as' f ps rs t b
   function_same as' f ps rs t b =
-      λ k. and_then (attributes_same [] as' k) (λ bs. and_then (parameters_same ps k) (λ qs. (inside bs qs) k))
-    where
-      abbrev under : List Attr → List Param → Env → Checked Decl
-      under bs qs env =
-          and_then (means.lowered_attributes steps w [] rs) (λ ys. and_then (means.checked_type steps w t) (λ u. and_then (means.lowered_body steps w env t b) (λ c. Ok (function bs f qs ys t c))))
-
-      inside : (bs : List Attr) (qs : List Param) → and_then (means.parameter_locals steps w ps) (under bs qs) ≡ and_then (code.parameter_types (s []) ps) (λ ts. code.lowered_rest (s []) bs f qs ts rs t b)
-      inside bs qs =
-          ap (λ o. and_then o (under bs qs)) (locals_same ps) ∙ past_locals (code.parameter_types (s []) ps) (under bs qs)
-          ∙ (λ k. and_then (code.parameter_types (s []) ps) (λ ts. rest_same bs f qs ts rs t b k))
+      λ k. and_then (attributes_same [] as' k) (λ bs. and_then (parameters_same ps k) (λ qs. (inside_same f ps rs t b bs qs) k))
 
   declarations_same : (xs : List Decl) → means.lowered_declarations steps w xs ≡ code.lowered_declarations (s []) xs
   declarations_same [] = refl
