@@ -1,6 +1,6 @@
 -- What the plain functions on scalars give, which code computes with, is what the expression means: its value or its fault.
-use Rattle.std.proofs.Common.{◌≡◌, ℕ, List, [], ◌∷◌, map, Option, Some, None, Bool, true, false, Result, Ok, Err, refl, sym, ap, ◌∙◌, subst}
-use Rattle.std.specs.Prelude.{codes, pos, if◌then◌else◌}
+use Rattle.std.proofs.Common.{◌≡◌, ℕ, List, ◌∷◌, map, Bool, true, false, Result, Ok, Err, refl, sym, ap, ◌∙◌}
+use Rattle.std.specs.Prelude.{if◌then◌else◌}
 use Rattle.wgsl_operators.specs.declared.UnaryOperator.{UnaryOperator}
 use Rattle.wgsl_operators.specs.declared.BinaryOperator.{BinaryOperator}
 use Rattle.wgsl_syntax.specs.declared.expression.LiteralExpression.{LiteralExpression}
@@ -13,7 +13,6 @@ use Rattle.wgsl_shader_type.specs.declared.tree.ShaderType.{ShaderType}
 use Rattle.wgsl_shader_type.specs.Class.{loaded_type}
 use Rattle.wgsl_scalar.specs.declared.scalar.ScalarType.{ScalarType}
 use Rattle.wgsl_scalar.specs.Scalars.{scalar_type}
-use Rattle.wgsl_scalar.specs.Scalars as scalars
 use Rattle.wgsl_scalar.specs.Operators as scalar
 use Rattle.wgsl_scalar.specs.OperatorTypes as scalar_types
 use Rattle.wgsl_instance.specs.declared.tree.Instance.{Instance}
@@ -26,10 +25,9 @@ use Rattle.wgsl_meaning.specs.Outcome as plain
 use Rattle.wgsl_meaning.specs.Names as plain_names
 use Rattle.wgsl_meaning.specs.Values as plain_values
 use Rattle.wgsl_meaning.specs.Meaning as plain_meaning
-use Rattle.wgsl_programs.specs.Faults.{Fault}
 use Rattle.wgsl_programs.specs.Computing.{M, computed, at_once, used}
-use Rattle.wgsl_programs.specs.Names.{Name, Env, find}
-use Rattle.wgsl_programs.specs.Operations.{literal_value, operand, operand_type, unary_value, unary_type, binary_value, binary_type, decides, construct}
+use Rattle.wgsl_programs.specs.Names.{Env, find}
+use Rattle.wgsl_programs.specs.Operations.{literal_value, operand, operand_type, unary_value, unary_type, binary_value, binary_type}
 use Rattle.wgsl_programs.specs.Meaning.{World, plain_name, name_type, call_type, between, value, values, typed, all_typed}
 use Rattle.wgsl_programs.proofs.Bodies.{name_here, callee_here}
 use Rattle.wgsl_scalar.proofs.Types.{others_refused}

@@ -1,10 +1,10 @@
 -- A run of the lowered unit is as good as the run of the unit.
-use Rattle.std.proofs.Common.{◌≡◌, ℕ, ◌≤◌, List, [], ◌∷◌, ◌++◌, map, Option, Some, None, Bool, true, false, Result, Ok, Err, refl, sym, ap, ◌∙◌, subst}
+use Rattle.std.proofs.Common.{◌≡◌, ℕ, ◌≤◌, List, [], ◌∷◌, ◌++◌, map, Option, Some, None, Bool, true, false, Ok, Err, refl, sym, ap, ◌∙◌, subst}
 use Rattle.std.specs.Prelude.{codes, if◌then◌else◌, slice_get, ◌⊎◌}
 use Rattle.std.proofs.Common.{inl, inr}
 use Rattle.std.specs.Str.{bytes_eq}
 use Rattle.std.specs.Cmp.Lexicographic.{same_text}
-use Rattle.wgsl_syntax.specs.Tree.{Typ, Attr, Block, Param, Decl, variable, function, UnitTree as Module}
+use Rattle.wgsl_syntax.specs.Tree.{Param, Decl, variable, function, UnitTree as Module}
 use Rattle.wgsl_syntax.specs.Names.{declared_name}
 use Rattle.wgsl_enumerations.specs.declared.words.ShaderStage.TheVariants.{Const, Exec}
 use Rattle.wgsl_shader_type.specs.declared.literal.LiteralInstance.{LiteralInstance}
@@ -15,12 +15,11 @@ use Rattle.wgsl_instance.specs.declared.tree.Instance.{Instance}
 use Rattle.wgsl_computations.specs.Machine.{State, next_of}
 use Rattle.wgsl_computations.specs.Machine as machine
 use Rattle.wgsl_computations.specs.Lift.{Same}
-use Rattle.wgsl_computations.specs.Compare.{LikewiseAt, EndsLikewise, Better}
+use Rattle.wgsl_computations.specs.Compare.{LikewiseAt, Better}
 use Rattle.wgsl_meaning.specs.declared.fault.Fault.TheVariants.{Name as Named}
 use Rattle.wgsl_meaning.specs.declared.fault.NameFault.TheVariants.{Todo}
 use Rattle.wgsl_meaning.specs.Outcome.{Outcome, Done, Failed, Deep}
 use Rattle.wgsl_meaning.specs.Names.{Name, find_decl, built_in_type}
-use Rattle.wgsl_meaning.specs.Values.{Checked}
 use Rattle.wgsl_meaning.specs.Meaning.{Types, const_in}
 use Rattle.wgsl_meaning.specs.ConstStage.{Consts, stage, module_scope, Settled, nothing, another}
 use Rattle.wgsl_programs.specs.Faults.{Fault}
@@ -31,11 +30,10 @@ use Rattle.wgsl_programs.proofs.Bodies.{entered_meets}
 use Rattle.wgsl_programs.proofs.Agreeing.{KnownAgree}
 use Rattle.wgsl_programs.proofs.Cells.{IsLeft, Leaves, start_leaves}
 use Rattle.wesl_order.specs.Order.{IsStartOrder, none_left}
-use Rattle.wgsl_eval.specs.declared.error.DeclarationFault.{DeclarationFault}
 use Rattle.wgsl_eval.specs.Start.{then_more, added, valued, valued_at, all_valued, consts_of}
 use Rattle.wgsl_lower.specs.Computed.{parameter_types, lowered_declarations, lowered_after}
 use Rattle.wgsl_lower.specs.Keeps.{is_clear, ClearParameters, AreClear, Keeps}
-use Rattle.wgsl_lower.proofs.Units.{then_more_ok, IsLowered, gone_too, found_too, only_functions, clear_declaration, clear_found, clear_types}
+use Rattle.wgsl_lower.proofs.Units.{then_more_ok, gone_too, found_too, only_functions, clear_declaration, clear_found, clear_types}
 use Rattle.wgsl_lower.proofs.Worlds.{same_decl, known_of}
 use Rattle.wgsl_lower.proofs.Differs.{AreClearTypes, lowering, declaration_goes}
 use Rattle.wgsl_lower.proofs.Meets.{BetterLift, kept, worlds_meet}

@@ -1,5 +1,5 @@
 -- What code computes on scalars is the lowered unit as it is defined over the meaning of programs, refusal for refusal.
-use Rattle.std.proofs.Common.{◌≡◌, ℕ, suc, List, [], ◌∷◌, ◌++◌, map, Option, Some, None, Bool, true, false, Result, Ok, Err, refl, sym, ap, ◌∙◌, subst}
+use Rattle.std.proofs.Common.{◌≡◌, ℕ, suc, List, [], ◌∷◌, ◌++◌, Option, Some, None, Bool, true, false, Result, Ok, Err, refl, sym, ap, ◌∙◌, subst}
 use Rattle.std.specs.Prelude.{slice_get, if◌then◌else◌}
 use Rattle.std.specs.Str.{bytes_eq}
 use Rattle.std.specs.Cmp.Lexicographic.{same_text}
@@ -8,36 +8,34 @@ use Rattle.wgsl_syntax.specs.declared.declaration.DeclarationKind.{DeclarationKi
 use Rattle.wgsl_syntax.specs.Names.{declared_name}
 use Rattle.wgsl_enumerations.specs.declared.words.ShaderStage.TheVariants.{Const}
 use Rattle.wgsl_shader_type.specs.declared.literal.LiteralInstance.{LiteralInstance}
-use Rattle.wgsl_shader_type.specs.declared.tree.ShaderType.{ShaderType}
-use Rattle.wgsl_shader_type.specs.declared.tree.ShaderType as tree
-use Rattle.wgsl_shader_type.specs.Class.{is_abstract}
+use Rattle.wgsl_shader_type.specs.declared.tree.ShaderType.{ShaderType, map-ShaderType, fold_out-ShaderType}
+use Rattle.wgsl_shader_type.specs.declared.tree.ShaderType.TheVariants as type
+use Rattle.wgsl_shader_type.specs.Class.{is_abstract, abstract_layer}
 use Rattle.wgsl_scalar.specs.declared.scalar.ScalarType.{ScalarType}
 use Rattle.wgsl_scalar.specs.declared.scalar.ScalarType.TheVariants.{Bool as Truth, Integer}
 use Rattle.wgsl_scalar.specs.declared.scalar.IntegerType.TheVariants.{AbstractInt, I32, U32}
 use Rattle.wgsl_scalar.specs.Scalars.{scalar_type}
 use Rattle.wgsl_scalar.specs.Conversions as conversions
-use Rattle.wgsl_instance.specs.declared.tree.Instance.{Instance}
 use Rattle.wgsl_instance.specs.declared.tree.Instance.TheVariants as v
 use Rattle.wgsl_instance.specs.Converted.{converted}
 use Rattle.wgsl_computations.specs.Machine.{fail, bind}
-use Rattle.wgsl_meaning.specs.declared.fault.Fault.{Fault}
 use Rattle.wgsl_meaning.specs.Outcome.{Outcome, Done, Failed, Deep}
 use Rattle.wgsl_meaning.specs.Outcome as plain
 use Rattle.wgsl_meaning.specs.Values.{Checked, and_then}
 use Rattle.wgsl_meaning.specs.Names as plain_names
 use Rattle.wgsl_meaning.specs.Meaning as plain_meaning
 use Rattle.wgsl_meaning.specs.Meaning.{Types}
-use Rattle.wgsl_meaning.specs.ConstStage.{Consts, Scope, stage, module_scope, callee_at, callee_of, Settled, nothing}
+use Rattle.wgsl_meaning.specs.ConstStage.{Consts, Scope, stage, module_scope, callee_at, Settled, nothing}
 use Rattle.wgsl_programs.specs.Faults.{StepLimit, OfName, UnexpectedTemplate, UninitConst}
 use Rattle.wgsl_programs.specs.Computing.{M, computed, used}
-use Rattle.wgsl_programs.specs.Names.{Name, Symbol, Hidden, Env, find}
+use Rattle.wgsl_programs.specs.Names.{Name, Hidden, Env}
 use Rattle.wgsl_programs.specs.Meaning.{World, type_written, value, typed}
-use Rattle.wgsl_programs.specs.Calls.{const_in, initialized}
+use Rattle.wgsl_programs.specs.Calls.{initialized}
 use Rattle.wgsl_programs.specs.Programs.{Known, here}
 use Rattle.wgsl_programs.specs.Runs.{find_decl, here_if}
 use Rattle.wgsl_programs.proofs.Scalars.{converted_scalar, IsInRange}
 use Rattle.wgsl_eval.specs.declared.error.DeclarationFault.{DeclarationFault}
-use Rattle.wgsl_eval.specs.Start.{refused, then_more, added, valued, valued_at, all_valued, consts_of}
+use Rattle.wgsl_eval.specs.Start.{then_more, added, valued, valued_at, all_valued, consts_of}
 use Rattle.wgsl_lower.specs.Lowered.{given, written_layer, unless_const, constructed_by, constructed_type, constructor_call, in_declaration, unit_world, started_const, started_at, started_consts}
 use Rattle.wgsl_lower.specs.Lowered as means
 use Rattle.wgsl_lower.specs.Computed as code
@@ -76,12 +74,23 @@ unless_same e (Done x n) p = λ k. Ok (written_layer e (v.outs-Literal x k))
 unless_same e (Failed f) p = refl
 unless_same e Deep p = refl
 
+-- a number without a type
+abbrev is_number : ScalarType → Bool
+is_number (Integer AbstractInt) = true
+is_number t = false
+
+-- of the scalars one type is abstract
+abstract_scalar : (t : ScalarType) → is_abstract (scalar_type t) ≡ is_number t
+abstract_scalar Truth = fold_out-ShaderType Bool abstract_layer type.Bool ∙ (λ k. abstract_layer (map-ShaderType ShaderType Bool is_abstract (type.outs-Bool k)))
+abstract_scalar (Integer AbstractInt) = fold_out-ShaderType Bool abstract_layer type.AbstractInt ∙ (λ k. abstract_layer (map-ShaderType ShaderType Bool is_abstract (type.outs-AbstractInt k)))
+abstract_scalar (Integer I32) = fold_out-ShaderType Bool abstract_layer type.I32 ∙ (λ k. abstract_layer (map-ShaderType ShaderType Bool is_abstract (type.outs-I32 k)))
+abstract_scalar (Integer U32) = fold_out-ShaderType Bool abstract_layer type.U32 ∙ (λ k. abstract_layer (map-ShaderType ShaderType Bool is_abstract (type.outs-U32 k)))
+
 constructor_same : (t : Typ) (e : Exp) (o : Outcome ScalarType) → constructor_call t e (checked_of scalar_type o) ≡ code.constructor_call t e o
-unfolding tree.out-ShaderType denote.Hole.Carrier.out
-constructor_same t e (Done Truth n) = refl
-constructor_same t e (Done (Integer AbstractInt) n) = refl
-constructor_same t e (Done (Integer I32) n) = refl
-constructor_same t e (Done (Integer U32) n) = refl
+constructor_same t e (Done Truth n) = ap (λ b. if b then Ok (call t (cons e nil)) else Ok e) (abstract_scalar Truth)
+constructor_same t e (Done (Integer AbstractInt) n) = ap (λ b. if b then Ok (call t (cons e nil)) else Ok e) (abstract_scalar (Integer AbstractInt))
+constructor_same t e (Done (Integer I32) n) = ap (λ b. if b then Ok (call t (cons e nil)) else Ok e) (abstract_scalar (Integer I32))
+constructor_same t e (Done (Integer U32) n) = ap (λ b. if b then Ok (call t (cons e nil)) else Ok e) (abstract_scalar (Integer U32))
 constructor_same t e (Failed f) = refl
 constructor_same t e Deep = refl
 
@@ -111,11 +120,11 @@ known_more (c ∷ cs) x z = ap (λ l. (here c.0, v.Literal c.1) ∷ l) (known_mo
 -- what is found under a name has it
 name_of : (x : Name) (ds : List Decl) (d : Decl) → plain_names.find_decl x ds ≡ Some d → x ≡ declared_name d
 name_of x [] d h = absurd (cc)
-name_of x (e ∷ ds) d h = at (bytes_eq x (declared_name e)) refl h
+name_of x (e ∷ ds) d h = at (bytes_eq x (declared_name e)) refl h (name_of x ds d)
   where
-    at : (b : Bool) → bytes_eq x (declared_name e) ≡ b → (if b then Some e else plain_names.find_decl x ds) ≡ Some d → x ≡ declared_name d
-    at true is k = let same : e ≡ d = cc in same_text x (declared_name e) (sym is) ∙ ap declared_name same
-    at false is k = name_of x ds d k
+    at : (b : Bool) → bytes_eq x (declared_name e) ≡ b → (if b then Some e else plain_names.find_decl x ds) ≡ Some d → (plain_names.find_decl x ds ≡ Some d → x ≡ declared_name d) → x ≡ declared_name d
+    at true is k go = let same : e ≡ d = cc in same_text x (declared_name e) (sym is) ∙ ap declared_name same
+    at false is k go = go k
 
 module _ (ds : List Decl) (cs : Consts) (declared : AreDeclared ds cs) (steps : ℕ) where
   abbrev s : Types → Scope
@@ -193,10 +202,10 @@ module _ (ds : List Decl) (cs : Consts) (declared : AreDeclared ds cs) (steps : 
   parameter_same : (p : Param) → means.lowered_parameter steps w p ≡ code.lowered_parameter (s []) p
   parameter_same p = λ k. and_then (attributes_same [] p.attributes k) (λ as'. (typed_past as') k)
     where
-      typed_past : (as' : List Attr) → and_then (means.type_here steps w p.type) (λ t. Ok (record { attributes = as'; name = p.name; type = p.type }))
-          ≡ and_then (code.type_here (s []) p.type) (λ t. Ok (record { attributes = as'; name = p.name; type = p.type }))
+      typed_past : (as' : List Attr) → and_then {B = Param} (means.type_here steps w p.type) (λ t. Ok (record { attributes = as'; name = p.name; type = p.type }))
+          ≡ and_then {B = Param} (code.type_here (s []) p.type) (λ t. Ok (record { attributes = as'; name = p.name; type = p.type }))
       typed_past as' =
-          ap (λ o. and_then o (λ t. Ok (record { attributes = as'; name = p.name; type = p.type }))) (type_same p.type)
+          ap (λ o. and_then {B = Param} o (λ t. Ok (record { attributes = as'; name = p.name; type = p.type }))) (type_same p.type)
           ∙ past_type (code.type_here (s []) p.type) (Ok (record { attributes = as'; name = p.name; type = p.type }))
 
   parameters_same : (ps : List Param) → means.lowered_parameters steps w ps ≡ code.lowered_parameters (s []) ps
@@ -300,9 +309,9 @@ module _ (ds : List Decl) (cs : Consts) (declared : AreDeclared ds cs) (steps : 
 
   const_same : (x : Name) (attributes : List Attr) (kind : DeclarationKind) (y : Name) (t : Option Typ) (e : Option Exp) → x ≡ y
       → initialized w x t e ≡ lift as_value (plain_meaning.initialized (stage (s [])) y t e)
-  const_same x attributes kind y (Some t) (Some e) named = typed_const t e
-  const_same x attributes kind y None (Some e) named = untyped_const e
-  const_same x attributes kind y t None named = ap (λ z. fail (OfName UninitConst z)) named
+  const_same x attributes kind y (Some t) (Some e) same = typed_const t e
+  const_same x attributes kind y None (Some e) same = untyped_const e
+  const_same x attributes kind y t None same = ap (λ z. fail (OfName UninitConst z)) same
 
   added_same : (x : Name) (o : Outcome LiteralInstance) → then_more (in_declaration x (checked_of as_value o)) (λ z. Ok (known_of cs ++ (here x, z) ∷ [])) ≡ known_or (added cs x o)
   added_same x (Done z n) = ap Ok (known_more cs x z)
