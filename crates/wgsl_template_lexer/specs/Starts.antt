@@ -24,3 +24,11 @@ pub record BeginsWithTemplateList (kinds : List Kind) : Type 0 where
   pub behind : List Kind
   pub starts : kinds ≡ TemplateArgsStart ∷ behind
   pub inside : BeginsWithList behind
+
+-- whether what stands first is a `<`
+pub record IsLessFirst (text : List ℕ) (less : Bool) : Type 0 where
+  pub n : ℕ
+  pub what : Option Token
+  pub first : IsFirst text n what
+  pub is : is_less (take n text) ≡ less
+  pub single : less ≡ true → n ≡ 1

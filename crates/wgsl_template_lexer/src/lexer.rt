@@ -1,8 +1,8 @@
 //! Texts.
 
-ghost use Rattle.std.specs.Prelude.{◌≡◌, ◌==◌, ◌&&◌, IfOk};
+ghost use Rattle.std.specs.Prelude.{◌≡◌, ◌∷◌, ◌==◌, ◌&&◌, IfOk};
 ghost use Rattle.wgsl_template_spec.specs.Tokens.{IsLexed};
-ghost use Rattle.wgsl_template_lexer.specs.Starts.{StartsList, TextStartsList};
+ghost use Rattle.wgsl_template_lexer.specs.Starts.{StartsList, TextStartsList, IsLessFirst};
 
 use crate::pieces::TextPieces;
 use std::alloc::{AllocError, Global};
@@ -37,13 +37,26 @@ fn starts_list(alloc: Global, characters: &[char]) -> Result<bool, AllocError>
     let Some((first, behind)) = characters.split_first() else {
         return Ok(false);
     };
-    let piece = first_piece(alloc, characters, *first, behind)?;
-    if is_less(*first, piece.length) {
-        let pieces = TextPieces { alloc };
-        let recognizer = ListRecognizer { alloc };
-        return opens_list(alloc, &pieces, &recognizer, behind);
+    if !begins_with_less(alloc, characters, *first, behind)? {
+        return Ok(false);
     }
-    Ok(false)
+    let pieces = TextPieces { alloc };
+    let recognizer = ListRecognizer { alloc };
+    opens_list(alloc, &pieces, &recognizer, behind)
+}
+
+/// Whether `<` alone stands at the front of some characters: of the first one, and what is behind it.
+fn begins_with_less(
+    alloc: Global,
+    characters: &[char],
+    first: char,
+    behind: &[char],
+) -> Result<bool, AllocError>
+    requires { characters.now ≡ first ∷ behind.now }
+    ensures { IfOk result (IsLessFirst (first ∷ behind.now)) }
+{
+    let piece = first_piece(alloc, characters, first, behind)?;
+    Ok(is_less(first, piece.length))
 }
 
 /// Whether so many characters are `<` alone.
