@@ -193,7 +193,8 @@ filled_statements level f (n ∷ ns) = one (f n.node)
 
 filled_continuing : (level : ℕ) (o : Option (ContinuingStatementOf Statement)) → is_filled (continuing_text level (continuing_layer statement_tree o)) ≡ is_some o
 filled_continuing level None = refl
-filled_continuing level (Some c) = filled_last (indent level ++ attrs_text (attributes_tree c.attributes) ++ codes "continuing " ++ extended_text level (block_tree c.body) (break_line (level + 1) (option_map break_if_tree c.break_if))) 10 []
+filled_continuing level (Some c) =
+    filled_last (indent level ++ (attrs_text (attributes_tree c.attributes) ++ codes "continuing " ++ extended_text level (block_tree c.body) (break_line (level + 1) (option_map break_if_tree c.break_if)))) 10 []
 
 filled_break : (level : ℕ) (o : Option BreakIfStatement) → is_filled (break_line level (option_map break_if_tree o)) ≡ is_some o
 filled_break level None = refl

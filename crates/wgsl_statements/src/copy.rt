@@ -44,10 +44,7 @@ fn copied_node(node: &StatementNode, alloc: Global) -> Result<StatementNode, All
 }
 
 #[cycle(copy)]
-fn copied_compound(
-    x: &CompoundStatement,
-    alloc: Global,
-) -> Result<CompoundStatement, AllocError>
+fn copied_compound(x: &CompoundStatement, alloc: Global) -> Result<CompoundStatement, AllocError>
     ensures { IfOk result (λ copy. copy ≡ x.now) }
 {
     Ok(CompoundStatement {
@@ -115,10 +112,7 @@ fn copied_else_if(x: &ElseIfClause, alloc: Global) -> Result<ElseIfClause, Alloc
 }
 
 #[cycle(copy)]
-fn copied_else(
-    clause: &Option<ElseClause>,
-    alloc: Global,
-) -> Result<Option<ElseClause>, AllocError>
+fn copied_else(clause: &Option<ElseClause>, alloc: Global) -> Result<Option<ElseClause>, AllocError>
     ensures { IfOk result (λ copy. copy ≡ clause.now) }
 {
     match clause {
@@ -130,10 +124,7 @@ fn copied_else(
 }
 
 #[cycle(copy)]
-fn copied_switch(
-    x: &SwitchStatement,
-    alloc: Global,
-) -> Result<Boxed<SwitchStatement>, AllocError>
+fn copied_switch(x: &SwitchStatement, alloc: Global) -> Result<Boxed<SwitchStatement>, AllocError>
     ensures { IfOk result (λ copy. copy ≡ x.now) }
 {
     let copy = SwitchStatement {

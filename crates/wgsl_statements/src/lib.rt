@@ -10,9 +10,9 @@ pub use print::{write_block, write_statement};
 pub use statement::{
     CompoundStatement, CompoundStatementOf, ConstAssertStatement, ContinuingStatement,
     ContinuingStatementOf, DeclarationStatement, ElseClause, ElseClauseOf, ElseIfClause,
-    ElseIfClauseOf, ForStatement, ForStatementOf, IfClause, IfClauseOf, IfStatement,
-    IfStatementOf, LoopStatement, LoopStatementOf, Statement, StatementNode, SwitchClause,
-    SwitchClauseOf, SwitchStatement, SwitchStatementOf, WhileStatement, WhileStatementOf,
+    ElseIfClauseOf, ForStatement, ForStatementOf, IfClause, IfClauseOf, IfStatement, IfStatementOf,
+    LoopStatement, LoopStatementOf, Statement, StatementNode, SwitchClause, SwitchClauseOf,
+    SwitchStatement, SwitchStatementOf, WhileStatement, WhileStatementOf,
 };
 pub use wgsl_simple_statements::{
     AssignmentStatement, BreakIfStatement, BreakStatement, CaseSelector, ConstAssert,

@@ -6,6 +6,8 @@ ghost use Rattle.std.specs.List.{flat_map, list_any};
 ghost use Rattle.std.specs.Fmt.{WritesOnOk};
 ghost use Rattle.wgsl_expressions.specs.View.{node_tree};
 ghost use Rattle.wgsl_expressions.specs.Print.{indent};
+ghost use Rattle.wgsl_attributes.specs.View.{attributes_tree};
+ghost use Rattle.wgsl_attributes.specs.Print.{attrs_text};
 ghost use Rattle.wgsl_simple_statements.specs.View.{break_if_tree, selector_tree};
 ghost use Rattle.wgsl_simple_statements.specs.Print.{case_head};
 ghost use Rattle.wgsl_statements.specs.View.{statement_tree, statements_tree, block_tree, part, part_layer, else_layer, elses_layer, if_layer, clauses_layer, switch_layer, continuing_layer, loop_layer, for_layer, while_layer};
@@ -63,11 +65,7 @@ fn write_opening<W: fmt::Write>(filled: bool, f: &mut fmt::Formatter<W>) -> fmt:
 }
 
 /// Writes the last brace, with lines before it or without.
-fn write_closing<W: fmt::Write>(
-    level: u32,
-    filled: bool,
-    f: &mut fmt::Formatter<W>,
-) -> fmt::Result
+fn write_closing<W: fmt::Write>(level: u32, filled: bool, f: &mut fmt::Formatter<W>) -> fmt::Result
     ensures { WritesOnOk W.write_str_gives f.old result (closing level filled) f.new }
 {
     if filled {
@@ -235,7 +233,11 @@ pub fn write_block<W: fmt::Write>(
 }
 
 #[cycle(display)]
-pub(crate) fn write_if<W: fmt::Write>(x: &IfStatement, level: u32, f: &mut fmt::Formatter<W>) -> fmt::Result
+pub(crate) fn write_if<W: fmt::Write>(
+    x: &IfStatement,
+    level: u32,
+    f: &mut fmt::Formatter<W>,
+) -> fmt::Result
     ensures { WritesOnOk W.write_str_gives f.old result (bare_text level (if_layer statement_tree x.now)) f.new }
 {
     write_attributes(x.attributes.as_slice(), f)?;
@@ -246,13 +248,19 @@ pub(crate) fn write_if<W: fmt::Write>(x: &IfStatement, level: u32, f: &mut fmt::
 
 /// Writes what stands behind the first clause.
 #[cycle(display)]
-#[tactic(auto, using(crate::proofs::Texts::elses_flat))]
-fn write_elses<W: fmt::Write>(
+fn write_elses<W: fmt::Write>(x: &IfStatement, level: u32, f: &mut fmt::Formatter<W>) -> fmt::Result
+    ensures { WritesOnOk W.write_str_gives f.old result (elses_text level (elses_layer statement_tree x.now.else_if_clauses x.now.else_clause)) f.new }
+{
+    write_each_else(x, level, f)
+}
+
+#[cycle(display)]
+fn write_each_else<W: fmt::Write>(
     x: &IfStatement,
     level: u32,
     f: &mut fmt::Formatter<W>,
 ) -> fmt::Result
-    ensures { WritesOnOk W.write_str_gives f.old result (elses_text level (elses_layer statement_tree x.now.else_if_clauses x.now.else_clause)) f.new }
+    ensures { WritesOnOk W.write_str_gives f.old result (flat_map (λ c. codes " " ++ (head_text (codes "else if ") (node_tree c.expression) ++ block_text level (block_tree c.body))) x.now.else_if_clauses ++ elses_text level (else_layer statement_tree x.now.else_clause)) f.new }
 {
     write_else_ifs(x.else_if_clauses.as_slice(), level, f)?;
     write_else(&x.else_clause, level, f)
@@ -421,10 +429,21 @@ pub(crate) fn write_continuing_lines<W: fmt::Write>(
     ensures { WritesOnOk W.write_str_gives f.old result (continuing_text level (continuing_layer statement_tree (Some x.now))) f.new }
 {
     write_indent(level, f)?;
+    write_continuing_line(x, level, f)?;
+    f.write_str("\n")
+}
+
+#[cycle(display)]
+fn write_continuing_line<W: fmt::Write>(
+    x: &ContinuingStatement,
+    level: u32,
+    f: &mut fmt::Formatter<W>,
+) -> fmt::Result
+    ensures { WritesOnOk W.write_str_gives f.old result (attrs_text (attributes_tree x.now.attributes) ++ codes "continuing " ++ extended_text level (block_tree x.now.body) (break_line (level + 1) (option_map break_if_tree x.now.break_if))) f.new }
+{
     write_attributes(x.attributes.as_slice(), f)?;
     f.write_str("continuing ")?;
-    write_continuing_body(x, level, f)?;
-    f.write_str("\n")
+    write_continuing_body(x, level, f)
 }
 
 #[cycle(display)]

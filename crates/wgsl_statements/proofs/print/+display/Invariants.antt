@@ -31,16 +31,16 @@ abbrev pub decreases-write_continuing_body : goal.decreases-write_continuing_bod
 decreases-write_continuing_body g l = 16 * goal.size-write_continuing_body g l + 4
 
 abbrev pub decreases-write_continuing_lines : goal.decreases-write_continuing_lines
-decreases-write_continuing_lines g l = 16 * goal.size-write_continuing_lines g l + 5
+decreases-write_continuing_lines g l = 16 * goal.size-write_continuing_lines g l + 6
 
 abbrev pub decreases-write_continuing : goal.decreases-write_continuing
-decreases-write_continuing g l = 16 * goal.size-write_continuing g l + 6
+decreases-write_continuing g l = 16 * goal.size-write_continuing g l + 7
 
 abbrev pub decreases-write_loop_body : goal.decreases-write_loop_body
-decreases-write_loop_body g l = 16 * goal.size-write_loop_body g l + 7
+decreases-write_loop_body g l = 16 * goal.size-write_loop_body g l + 8
 
 abbrev pub decreases-write_loop : goal.decreases-write_loop
-decreases-write_loop g l = 16 * goal.size-write_loop g l + 8
+decreases-write_loop g l = 16 * goal.size-write_loop g l + 9
 
 abbrev pub decreases-write_else_if : goal.decreases-write_else_if
 decreases-write_else_if g l = 16 * goal.size-write_else_if g l + 5
@@ -52,10 +52,10 @@ abbrev pub decreases-write_else : goal.decreases-write_else
 decreases-write_else g l = 16 * goal.size-write_else g l + 5
 
 abbrev pub decreases-write_elses : goal.decreases-write_elses
-decreases-write_elses g l = 16 * goal.size-write_elses g l + 7
+decreases-write_elses g l = 16 * goal.size-write_elses g l + 8
 
 abbrev pub decreases-write_if : goal.decreases-write_if
-decreases-write_if g l = 16 * goal.size-write_if g l + 8
+decreases-write_if g l = 16 * goal.size-write_if g l + 9
 
 abbrev pub decreases-write_clause : goal.decreases-write_clause
 decreases-write_clause g l = 16 * goal.size-write_clause g l + 5
@@ -80,6 +80,12 @@ decreases-write_for g l = 16 * goal.size-write_for g l + 5
 
 abbrev pub decreases-write_while : goal.decreases-write_while
 decreases-write_while g l = 16 * goal.size-write_while g l + 5
+
+abbrev pub decreases-write_continuing_line : goal.decreases-write_continuing_line
+decreases-write_continuing_line g l = 16 * goal.size-write_continuing_line g l + 5
+
+abbrev pub decreases-write_each_else : goal.decreases-write_each_else
+decreases-write_each_else g l = 16 * goal.size-write_each_else g l + 7
 
 abbrev pub invariant-write_statements-loop-statement : goal.invariant-write_statements-loop-statement
 invariant-write_statements-loop-statement g l =
