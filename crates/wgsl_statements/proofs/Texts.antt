@@ -1,5 +1,5 @@
 -- The text of each kind of statement, and texts from their pieces.
-use Rattle.std.proofs.Common.{◌≡◌, refl, sym, ap, ◌∙◌, ℕ, ◌+◌, ◌==◌, Bool, true, false, not, ◌||◌, List, [], ◌∷◌, ◌++◌, append_assoc, map, length, Option, Some, None, is_some, codes}
+use Rattle.std.proofs.Common.{◌≡◌, refl, sym, ap, ◌∙◌, ℕ, ◌+◌, ◌==◌, Bool, true, false, not, ◌||◌, List, [], ◌∷◌, ◌++◌, append_assoc, map, length, Option, Some, None, is_some, codes, arith}
 use Rattle.std.proofs.lemmas.Bool.{ne_eqb}
 use Rattle.std.specs.List.{flat_map, list_any}
 use Rattle.std.specs.Option.{option_map}
@@ -183,18 +183,21 @@ filled_end [] (loop_statement a b c) = refl
 filled_end [] (for_statement a i c u b) = refl
 filled_end [] (while_statement a x b) = refl
 
+filled_one : (level : ℕ) (o : Option Stm) (os : List (Option Stm)) (b : Bool) → is_filled (stms_text level (stms os)) ≡ b
+    → is_filled (stms_text level (stms (o ∷ os))) ≡ (is_some o || b)
+filled_one level None os b e = e
+filled_one level (Some s) os b e =
+    filled_front (indent level ++ bare_text level s ++ end_text s) (stms_text level (stms os)) (filled_end (indent level ++ bare_text level s) s)
+
 filled_statements : {A : Type 0} (level : ℕ) (f : A → Option Stm) (ns : List (Spanned A)) → is_filled (stms_text level (nodes_layer f ns)) ≡ list_any (λ n. is_some (f n.node)) ns
 filled_statements level f [] = refl
-filled_statements level f (n ∷ ns) = one (f n.node)
-  where
-    one : (o : Option Stm) → is_filled (stms_text level (stms (o ∷ map (λ n. f n.node) ns))) ≡ (is_some o || list_any (λ n. is_some (f n.node)) ns)
-    one None = filled_statements level f ns
-    one (Some s) = filled_front (indent level ++ bare_text level s ++ end_text s) (stms_text level (nodes_layer f ns)) (filled_end (indent level ++ bare_text level s) s)
+filled_statements level f (n ∷ ns) =
+    filled_one level (f n.node) (map (λ n. f n.node) ns) (list_any (λ n. is_some (f n.node)) ns) (filled_statements level f ns)
 
 filled_continuing : (level : ℕ) (o : Option (ContinuingStatementOf Statement)) → is_filled (continuing_text level (continuing_layer statement_tree o)) ≡ is_some o
 filled_continuing level None = refl
 filled_continuing level (Some c) =
-    filled_last (indent level ++ (attrs_text (attributes_tree c.attributes) ++ codes "continuing " ++ extended_text level (block_tree c.body) (break_line (level + 1) (option_map break_if_tree c.break_if)))) 10 []
+    filled_last (indent level ++ (attrs_text (attributes_tree c.attributes) ++ (codes "continuing " ++ extended_text level (block_tree c.body) (break_line (level + 1) (option_map break_if_tree c.break_if))))) 10 []
 
 filled_break : (level : ℕ) (o : Option BreakIfStatement) → is_filled (break_line level (option_map break_if_tree o)) ≡ is_some o
 filled_break level None = refl

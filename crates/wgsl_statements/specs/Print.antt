@@ -90,7 +90,7 @@ abbrev mutual
   pub continuing_text : ℕ → Continuing → List ℕ
   continuing_text level no_continuing = []
   continuing_text level (continuing_statement attributes b condition) =
-      indent level ++ (attrs_text attributes ++ codes "continuing " ++ extended_text level b (break_line (level + 1) condition)) ++ codes "\n"
+      indent level ++ (attrs_text attributes ++ (codes "continuing " ++ extended_text level b (break_line (level + 1) condition))) ++ codes "\n"
 
   pub part_text : ℕ → Part → List ℕ
   part_text level absent = []

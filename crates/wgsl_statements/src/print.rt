@@ -439,9 +439,21 @@ fn write_continuing_line<W: fmt::Write>(
     level: u32,
     f: &mut fmt::Formatter<W>,
 ) -> fmt::Result
-    ensures { WritesOnOk W.write_str_gives f.old result (attrs_text (attributes_tree x.now.attributes) ++ codes "continuing " ++ extended_text level (block_tree x.now.body) (break_line (level + 1) (option_map break_if_tree x.now.break_if))) f.new }
+    ensures { WritesOnOk W.write_str_gives f.old result (attrs_text (attributes_tree x.now.attributes) ++ (codes "continuing " ++ extended_text level (block_tree x.now.body) (break_line (level + 1) (option_map break_if_tree x.now.break_if)))) f.new }
 {
     write_attributes(x.attributes.as_slice(), f)?;
+    write_plain_continuing(x, level, f)
+}
+
+/// Writes `continuing` without its attributes.
+#[cycle(display)]
+fn write_plain_continuing<W: fmt::Write>(
+    x: &ContinuingStatement,
+    level: u32,
+    f: &mut fmt::Formatter<W>,
+) -> fmt::Result
+    ensures { WritesOnOk W.write_str_gives f.old result (codes "continuing " ++ extended_text level (block_tree x.now.body) (break_line (level + 1) (option_map break_if_tree x.now.break_if))) f.new }
+{
     f.write_str("continuing ")?;
     write_continuing_body(x, level, f)
 }

@@ -31,16 +31,16 @@ abbrev pub decreases-write_continuing_body : goal.decreases-write_continuing_bod
 decreases-write_continuing_body g l = 16 * goal.size-write_continuing_body g l + 4
 
 abbrev pub decreases-write_continuing_lines : goal.decreases-write_continuing_lines
-decreases-write_continuing_lines g l = 16 * goal.size-write_continuing_lines g l + 6
+decreases-write_continuing_lines g l = 16 * goal.size-write_continuing_lines g l + 7
 
 abbrev pub decreases-write_continuing : goal.decreases-write_continuing
-decreases-write_continuing g l = 16 * goal.size-write_continuing g l + 7
+decreases-write_continuing g l = 16 * goal.size-write_continuing g l + 8
 
 abbrev pub decreases-write_loop_body : goal.decreases-write_loop_body
-decreases-write_loop_body g l = 16 * goal.size-write_loop_body g l + 8
+decreases-write_loop_body g l = 16 * goal.size-write_loop_body g l + 9
 
 abbrev pub decreases-write_loop : goal.decreases-write_loop
-decreases-write_loop g l = 16 * goal.size-write_loop g l + 9
+decreases-write_loop g l = 16 * goal.size-write_loop g l + 10
 
 abbrev pub decreases-write_else_if : goal.decreases-write_else_if
 decreases-write_else_if g l = 16 * goal.size-write_else_if g l + 5
@@ -82,10 +82,13 @@ abbrev pub decreases-write_while : goal.decreases-write_while
 decreases-write_while g l = 16 * goal.size-write_while g l + 5
 
 abbrev pub decreases-write_continuing_line : goal.decreases-write_continuing_line
-decreases-write_continuing_line g l = 16 * goal.size-write_continuing_line g l + 5
+decreases-write_continuing_line g l = 16 * goal.size-write_continuing_line g l + 6
 
 abbrev pub decreases-write_each_else : goal.decreases-write_each_else
 decreases-write_each_else g l = 16 * goal.size-write_each_else g l + 7
+
+abbrev pub decreases-write_plain_continuing : goal.decreases-write_plain_continuing
+decreases-write_plain_continuing g l = 16 * goal.size-write_plain_continuing g l + 5
 
 abbrev pub invariant-write_statements-loop-statement : goal.invariant-write_statements-loop-statement
 invariant-write_statements-loop-statement g l =
