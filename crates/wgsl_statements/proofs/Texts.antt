@@ -222,51 +222,45 @@ behind level front lines b e =
     ap (λ t. front ++ t) (pieces level lines b e) ∙ sym (append_assoc front (opening b ++ lines) (closing level b))
     ∙ ap (λ t. t ++ closing level b) (sym (append_assoc front (opening b) lines))
 
-pub block_pieces : (level : ℕ) (x : CompoundStatementOf Statement)
-    → let b = list_any (λ n. is_some (statement_tree n.node)) x.statements in
-    block_text level (block_tree x) ≡ attrs_text (attributes_tree x.attributes) ++ opening b ++ flat_map (λ n. lines_text (level + 1) (statement_tree n.node)) x.statements ++ closing level b
-block_pieces level x =
-    let b = list_any (λ n. is_some (statement_tree n.node)) x.statements in
+pub block_pieces : (level : ℕ) (x : CompoundStatementOf Statement) (b : Bool) → b ≡ list_any (λ n. is_some (statement_tree n.node)) x.statements
+    → block_text level (block_tree x) ≡ attrs_text (attributes_tree x.attributes) ++ opening b ++ flat_map (λ n. lines_text (level + 1) (statement_tree n.node)) x.statements ++ closing level b
+block_pieces level x b e =
     let front = attrs_text (attributes_tree x.attributes) in
-    behind level front (stms_text (level + 1) (statements_tree x.statements)) b (filled_statements (level + 1) statement_tree x.statements)
+    behind level front (stms_text (level + 1) (statements_tree x.statements)) b (filled_statements (level + 1) statement_tree x.statements ∙ sym e)
     ∙ ap (λ t. front ++ opening b ++ t ++ closing level b) (stms_flat (level + 1) statement_tree x.statements)
 
-extended : (level : ℕ) (front : List ℕ) (ns : List (Spanned Statement)) (more : List ℕ) (b : Bool) → is_filled more ≡ b
-    → let c = list_any (λ n. is_some (statement_tree n.node)) ns || b in
-    front ++ braced level (stms_text (level + 1) (statements_tree ns) ++ more)
+extended : (level : ℕ) (front : List ℕ) (ns : List (Spanned Statement)) (more : List ℕ) (b c : Bool) → is_filled more ≡ b
+    → c ≡ (list_any (λ n. is_some (statement_tree n.node)) ns || b)
+    → front ++ braced level (stms_text (level + 1) (statements_tree ns) ++ more)
     ≡ front ++ opening c ++ flat_map (λ n. lines_text (level + 1) (statement_tree n.node)) ns ++ more ++ closing level c
-extended level front ns more b e =
-    let a = list_any (λ n. is_some (statement_tree n.node)) ns in
+extended level front ns more b c e same =
     let lines = stms_text (level + 1) (statements_tree ns) in
-    behind level front (lines ++ more) (a || b) (filled_more lines more ∙ (λ k. filled_statements (level + 1) statement_tree ns k || e k))
-    ∙ ap (λ t. t ++ closing level (a || b)) (sym (append_assoc (front ++ opening (a || b)) lines more))
-    ∙ ap (λ t. front ++ opening (a || b) ++ t ++ more ++ closing level (a || b)) (stms_flat (level + 1) statement_tree ns)
+    behind level front (lines ++ more) c (filled_more lines more ∙ (λ k. filled_statements (level + 1) statement_tree ns k || e k) ∙ sym same)
+    ∙ ap (λ t. t ++ closing level c) (sym (append_assoc (front ++ opening c) lines more))
+    ∙ ap (λ t. front ++ opening c ++ t ++ more ++ closing level c) (stms_flat (level + 1) statement_tree ns)
 
-pub loop_pieces : (level : ℕ) (x : LoopStatementOf Statement)
-    → let b = list_any (λ n. is_some (statement_tree n.node)) x.body.statements || is_some x.continuing in
-    let more = continuing_text (level + 1) (continuing_layer statement_tree x.continuing) in
+pub loop_pieces : (level : ℕ) (x : LoopStatementOf Statement) (b : Bool) → b ≡ (list_any (λ n. is_some (statement_tree n.node)) x.body.statements || is_some x.continuing)
+    → let more = continuing_text (level + 1) (continuing_layer statement_tree x.continuing) in
     extended_text level (block_tree x.body) more
     ≡ attrs_text (attributes_tree x.body.attributes) ++ opening b ++ flat_map (λ n. lines_text (level + 1) (statement_tree n.node)) x.body.statements ++ more ++ closing level b
-loop_pieces level x =
+loop_pieces level x b e =
     extended level (attrs_text (attributes_tree x.body.attributes)) x.body.statements
-    (continuing_text (level + 1) (continuing_layer statement_tree x.continuing)) (is_some x.continuing) (filled_continuing (level + 1) x.continuing)
+    (continuing_text (level + 1) (continuing_layer statement_tree x.continuing)) (is_some x.continuing) b (filled_continuing (level + 1) x.continuing) e
 
-pub continuing_pieces : (level : ℕ) (x : ContinuingStatementOf Statement)
-    → let b = list_any (λ n. is_some (statement_tree n.node)) x.body.statements || is_some x.break_if in
-    let more = break_line (level + 1) (option_map break_if_tree x.break_if) in
+pub continuing_pieces : (level : ℕ) (x : ContinuingStatementOf Statement) (b : Bool) → b ≡ (list_any (λ n. is_some (statement_tree n.node)) x.body.statements || is_some x.break_if)
+    → let more = break_line (level + 1) (option_map break_if_tree x.break_if) in
     extended_text level (block_tree x.body) more
     ≡ attrs_text (attributes_tree x.body.attributes) ++ opening b ++ flat_map (λ n. lines_text (level + 1) (statement_tree n.node)) x.body.statements ++ more ++ closing level b
-continuing_pieces level x =
+continuing_pieces level x b e =
     extended level (attrs_text (attributes_tree x.body.attributes)) x.body.statements
-    (break_line (level + 1) (option_map break_if_tree x.break_if)) (is_some x.break_if) (filled_break (level + 1) x.break_if)
+    (break_line (level + 1) (option_map break_if_tree x.break_if)) (is_some x.break_if) b (filled_break (level + 1) x.break_if) e
 
-pub clauses_pieces : (level : ℕ) (cs : List (SwitchClauseOf Statement))
-    → let b = not (length cs == 0) in
-    braced level (clauses_text (level + 1) (clauses_layer statement_tree cs))
+pub clauses_pieces : (level : ℕ) (cs : List (SwitchClauseOf Statement)) (b : Bool) → b ≡ not (length cs == 0)
+    → braced level (clauses_text (level + 1) (clauses_layer statement_tree cs))
     ≡ opening b ++ flat_map (λ c. indent (level + 1) ++ (case_head (map selector_tree c.case_selectors) ++ codes ": " ++ block_text (level + 1) (block_tree c.body)) ++ codes "\n") cs ++ closing level b
-clauses_pieces level cs =
-    let b = not (length cs == 0) in
-    pieces level (clauses_text (level + 1) (clauses_layer statement_tree cs)) b (filled_clauses (level + 1) cs) ∙ ap (λ t. opening b ++ t ++ closing level b) (flat (level + 1) cs)
+clauses_pieces level cs b e =
+    pieces level (clauses_text (level + 1) (clauses_layer statement_tree cs)) b (filled_clauses (level + 1) cs ∙ sym e)
+    ∙ ap (λ t. opening b ++ t ++ closing level b) (flat (level + 1) cs)
   where
     flat : (level : ℕ) (cs : List (SwitchClauseOf Statement))
         → clauses_text level (clauses_layer statement_tree cs)

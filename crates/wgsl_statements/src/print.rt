@@ -1,6 +1,6 @@
 //! Statements as text. A level says how deep in blocks a line stands.
 
-ghost use Rattle.std.specs.Prelude.{◌≡◌, ◌++◌, ◌+◌, ◌||◌, Some, map, codes, is_some};
+ghost use Rattle.std.specs.Prelude.{◌≡◌, ◌++◌, ◌+◌, ◌||◌, ◌==◌, not, length, Some, map, codes, is_some};
 ghost use Rattle.std.specs.Option.{option_map};
 ghost use Rattle.std.specs.List.{flat_map, list_any};
 ghost use Rattle.std.specs.Fmt.{WritesOnOk};
@@ -44,6 +44,13 @@ fn has_statement(statements: &[StatementNode]) -> bool
 }
 
 /// Is there a line in its braces?
+fn is_block_filled(compound: &CompoundStatement) -> bool
+    ensures { result ≡ list_any (λ n. is_some (statement_tree n.node)) compound.now.statements }
+{
+    has_statement(compound.statements.as_slice())
+}
+
+/// Is there a line in its braces?
 fn is_loop_filled(x: &LoopStatement) -> bool
     ensures { result ≡ (list_any (λ n. is_some (statement_tree n.node)) x.now.body.statements || is_some x.now.continuing) }
 {
@@ -55,6 +62,12 @@ fn is_continuing_filled(x: &ContinuingStatement) -> bool
     ensures { result ≡ (list_any (λ n. is_some (statement_tree n.node)) x.now.body.statements || is_some x.now.break_if) }
 {
     has_statement(x.body.statements.as_slice()) || x.break_if.is_some()
+}
+
+fn has_clause(clauses: &[SwitchClause]) -> bool
+    ensures { result ≡ not (length clauses.now == 0) }
+{
+    !clauses.is_empty()
 }
 
 /// Writes the first brace, with lines behind it or without.
@@ -214,7 +227,6 @@ fn write_statements<W: fmt::Write>(
 
 /// Writes a block that begins in a line at a level.
 #[cycle(display)]
-#[tactic(auto, using(crate::proofs::Texts::block_pieces))]
 pub fn write_block<W: fmt::Write>(
     compound: &CompoundStatement,
     level: u32,
@@ -222,10 +234,22 @@ pub fn write_block<W: fmt::Write>(
 ) -> fmt::Result
     ensures { WritesOnOk W.write_str_gives f.old result (block_text level (block_tree compound.now)) f.new }
 {
+    let filled = is_block_filled(compound);
+    write_block_pieces(compound, filled, level, f)
+}
+
+#[cycle(display)]
+fn write_block_pieces<W: fmt::Write>(
+    compound: &CompoundStatement,
+    filled: bool,
+    level: u32,
+    f: &mut fmt::Formatter<W>,
+) -> fmt::Result
+    ensures { WritesOnOk W.write_str_gives f.old result (attrs_text (attributes_tree compound.now.attributes) ++ opening filled ++ flat_map (λ n. lines_text (level + 1) (statement_tree n.node)) compound.now.statements ++ closing level filled) f.new }
+{
     let Some(inner) = level.checked_add(1) else {
         return Err(fmt::Error);
     };
-    let filled = has_statement(compound.statements.as_slice());
     write_attributes(compound.attributes.as_slice(), f)?;
     write_opening(filled, f)?;
     write_statements(compound.statements.as_slice(), inner, f)?;
@@ -325,7 +349,6 @@ pub(crate) fn write_switch<W: fmt::Write>(
 }
 
 #[cycle(display)]
-#[tactic(auto, using(crate::proofs::Texts::clauses_pieces))]
 fn write_clauses_in_braces<W: fmt::Write>(
     clauses: &[SwitchClause],
     level: u32,
@@ -333,10 +356,22 @@ fn write_clauses_in_braces<W: fmt::Write>(
 ) -> fmt::Result
     ensures { WritesOnOk W.write_str_gives f.old result (braced level (clauses_text (level + 1) (clauses_layer statement_tree clauses.now))) f.new }
 {
+    let filled = has_clause(clauses);
+    write_clauses_pieces(clauses, filled, level, f)
+}
+
+#[cycle(display)]
+fn write_clauses_pieces<W: fmt::Write>(
+    clauses: &[SwitchClause],
+    filled: bool,
+    level: u32,
+    f: &mut fmt::Formatter<W>,
+) -> fmt::Result
+    ensures { WritesOnOk W.write_str_gives f.old result (opening filled ++ flat_map (λ c. indent (level + 1) ++ (case_head (map selector_tree c.case_selectors) ++ codes ": " ++ block_text (level + 1) (block_tree c.body)) ++ codes "\n") clauses.now ++ closing level filled) f.new }
+{
     let Some(inner) = level.checked_add(1) else {
         return Err(fmt::Error);
     };
-    let filled = !clauses.is_empty();
     write_opening(filled, f)?;
     write_clauses(clauses, inner, f)?;
     write_closing(level, filled, f)
@@ -386,7 +421,6 @@ pub(crate) fn write_loop<W: fmt::Write>(
 }
 
 #[cycle(display)]
-#[tactic(auto, using(crate::proofs::Texts::loop_pieces))]
 fn write_loop_body<W: fmt::Write>(
     x: &LoopStatement,
     level: u32,
@@ -394,10 +428,22 @@ fn write_loop_body<W: fmt::Write>(
 ) -> fmt::Result
     ensures { WritesOnOk W.write_str_gives f.old result (extended_text level (block_tree x.now.body) (continuing_text (level + 1) (continuing_layer statement_tree x.now.continuing))) f.new }
 {
+    let filled = is_loop_filled(x);
+    write_loop_pieces(x, filled, level, f)
+}
+
+#[cycle(display)]
+fn write_loop_pieces<W: fmt::Write>(
+    x: &LoopStatement,
+    filled: bool,
+    level: u32,
+    f: &mut fmt::Formatter<W>,
+) -> fmt::Result
+    ensures { WritesOnOk W.write_str_gives f.old result (attrs_text (attributes_tree x.now.body.attributes) ++ opening filled ++ flat_map (λ n. lines_text (level + 1) (statement_tree n.node)) x.now.body.statements ++ continuing_text (level + 1) (continuing_layer statement_tree x.now.continuing) ++ closing level filled) f.new }
+{
     let Some(inner) = level.checked_add(1) else {
         return Err(fmt::Error);
     };
-    let filled = is_loop_filled(x);
     write_attributes(x.body.attributes.as_slice(), f)?;
     write_opening(filled, f)?;
     write_statements(x.body.statements.as_slice(), inner, f)?;
@@ -459,7 +505,6 @@ fn write_plain_continuing<W: fmt::Write>(
 }
 
 #[cycle(display)]
-#[tactic(auto, using(crate::proofs::Texts::continuing_pieces))]
 fn write_continuing_body<W: fmt::Write>(
     x: &ContinuingStatement,
     level: u32,
@@ -467,10 +512,22 @@ fn write_continuing_body<W: fmt::Write>(
 ) -> fmt::Result
     ensures { WritesOnOk W.write_str_gives f.old result (extended_text level (block_tree x.now.body) (break_line (level + 1) (option_map break_if_tree x.now.break_if))) f.new }
 {
+    let filled = is_continuing_filled(x);
+    write_continuing_pieces(x, filled, level, f)
+}
+
+#[cycle(display)]
+fn write_continuing_pieces<W: fmt::Write>(
+    x: &ContinuingStatement,
+    filled: bool,
+    level: u32,
+    f: &mut fmt::Formatter<W>,
+) -> fmt::Result
+    ensures { WritesOnOk W.write_str_gives f.old result (attrs_text (attributes_tree x.now.body.attributes) ++ opening filled ++ flat_map (λ n. lines_text (level + 1) (statement_tree n.node)) x.now.body.statements ++ break_line (level + 1) (option_map break_if_tree x.now.break_if) ++ closing level filled) f.new }
+{
     let Some(inner) = level.checked_add(1) else {
         return Err(fmt::Error);
     };
-    let filled = is_continuing_filled(x);
     write_attributes(x.body.attributes.as_slice(), f)?;
     write_opening(filled, f)?;
     write_statements(x.body.statements.as_slice(), inner, f)?;
