@@ -1,6 +1,7 @@
 -- How imports and directives are printed (this project's own layout).
 use Rattle.std.specs.Prelude.{ℕ, List, [], ◌++◌, Option, Some, None, codes}
 use Rattle.std.specs.List.{flat_map}
+use Rattle.wgsl_enumerations.specs.declared.words.DiagnosticSeverity.{DiagnosticSeverity}
 use Rattle.wgsl_enumerations.specs.Texts.{diagnostic_severity_text}
 use Rattle.wgsl_expressions.specs.Print.{commas, qualifier_text}
 use Rattle.wgsl_attributes.specs.Print.{attrs_text}
@@ -42,8 +43,12 @@ importing_text i = attrs_text i.attributes ++ codes "import " ++ qualifier_text 
 abbrev pub names_text : List (List ℕ) → List ℕ
 names_text names = commas (λ name. name) names
 
+-- a severity for a rule
+unfoldable pub setting_text : DiagnosticSeverity → List ℕ → List ℕ
+setting_text severity rule = codes "diagnostic(" ++ diagnostic_severity_text severity ++ codes ", " ++ rule ++ codes ")"
+
 -- a directive as a line
 abbrev pub directive_text : Directive → List ℕ
-directive_text (diagnostic attributes severity rule) = attrs_text attributes ++ codes "diagnostic(" ++ diagnostic_severity_text severity ++ codes ", " ++ rule ++ codes ");\n"
+directive_text (diagnostic attributes severity rule) = attrs_text attributes ++ setting_text severity rule ++ codes ";\n"
 directive_text (enabling attributes names) = attrs_text attributes ++ codes "enable " ++ names_text names ++ codes ";\n"
 directive_text (requiring attributes names) = attrs_text attributes ++ codes "requires " ++ names_text names ++ codes ";\n"

@@ -1,5 +1,5 @@
 -- The import and the directive without places that a code tree stands for.
-use Rattle.std.specs.Prelude.{List, map}
+use Rattle.std.specs.Prelude.{map}
 use Rattle.std.specs.Option.{option_map}
 use Rattle.wgsl_attributes.specs.View.{attributes_tree}
 use Rattle.wgsl_imports.specs.declared.import.ImportStatement.{ImportStatement}

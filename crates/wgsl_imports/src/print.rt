@@ -3,7 +3,7 @@
 ghost use Rattle.std.specs.Prelude.{◌≡◌, ◌++◌, Some, map, codes};
 ghost use Rattle.std.specs.Option.{option_map};
 ghost use Rattle.std.specs.Fmt.{WritesOnOk};
-ghost use Rattle.wgsl_imports.specs.Tree.{imps};
+ghost use Rattle.wgsl_imports.specs.Tree.{collection, imps};
 ghost use Rattle.wgsl_imports.specs.View.{item_tree, content_tree, import_tree, importing_tree};
 ghost use Rattle.wgsl_imports.specs.Print.{rename_text, steps_text, content_text, imps_text, imp_text, importing_text};
 ghost use Rattle.wgsl_expressions.specs.Print.{commas};
@@ -56,13 +56,19 @@ impl fmt::Display for ImportContent {
     fn fmt<W: fmt::Write>(&self, f: &mut fmt::Formatter<W>) -> fmt::Result {
         match self {
             ImportContent::Item(x) => x.fmt(f),
-            ImportContent::Collection(x) => {
-                f.write_str("{")?;
-                write_imports(x.as_slice(), f)?;
-                f.write_str("}")
-            }
+            ImportContent::Collection(x) => write_collection(x.as_slice(), f),
         }
     }
+}
+
+/// Writes imports in braces.
+#[cycle(display)]
+fn write_collection<W: fmt::Write>(imports: &[Import], f: &mut fmt::Formatter<W>) -> fmt::Result
+    ensures { WritesOnOk W.write_str_gives f.old result (content_text (collection (imps (map import_tree imports.now)))) f.new }
+{
+    f.write_str("{")?;
+    write_imports(imports, f)?;
+    f.write_str("}")
 }
 
 /// Writes imports with `, ` between them.

@@ -3,12 +3,13 @@
 ghost use Rattle.std.specs.Prelude.{◌≡◌, ◌++◌, Some, codes};
 ghost use Rattle.std.specs.Fmt.{WritesOnOk};
 ghost use Rattle.wgsl_imports.specs.View.{diagnostic_tree, enable_tree, requires_tree, directive_tree};
-ghost use Rattle.wgsl_imports.specs.Print.{names_text, directive_text};
+ghost use Rattle.wgsl_imports.specs.Print.{names_text, setting_text, directive_text};
 
 use crate::directive::{DiagnosticDirective, EnableDirective, GlobalDirective, RequiresDirective};
 use std::fmt;
 use std::fmt::Display;
 use wgsl_attributes::write_attributes;
+use wgsl_enumerations::DiagnosticSeverity;
 use wgsl_items::Text;
 
 impl fmt::Display for DiagnosticDirective {
@@ -16,12 +17,25 @@ impl fmt::Display for DiagnosticDirective {
 
     fn fmt<W: fmt::Write>(&self, f: &mut fmt::Formatter<W>) -> fmt::Result {
         write_attributes(self.attributes.as_slice(), f)?;
-        f.write_str("diagnostic(")?;
-        self.severity.fmt(f)?;
-        f.write_str(", ")?;
-        self.rule_name.fmt(f)?;
-        f.write_str(");\n")
+        write_setting(self.severity, &self.rule_name, f)?;
+        f.write_str(";\n")
     }
+}
+
+/// Writes a severity for a rule.
+#[tactic(auto, unfolding(crate::specs::Print::setting_text))]
+fn write_setting<W: fmt::Write>(
+    severity: DiagnosticSeverity,
+    rule_name: &Text,
+    f: &mut fmt::Formatter<W>,
+) -> fmt::Result
+    ensures { WritesOnOk W.write_str_gives f.old result (setting_text severity rule_name.now) f.new }
+{
+    f.write_str("diagnostic(")?;
+    severity.fmt(f)?;
+    f.write_str(", ")?;
+    rule_name.fmt(f)?;
+    f.write_str(")")
 }
 
 /// Writes names with `, ` between them.

@@ -6,16 +6,19 @@ use Rattle.wgsl_imports.specs.Print.{imp_text}
 use Rattle.wgsl_imports.proofs.print.+display.Given as goal
 
 abbrev pub decreases-ImportContentDisplay::fmt : goal.decreases-ImportContentDisplay::fmt
-decreases-ImportContentDisplay::fmt g l = 4 * goal.size-ImportContentDisplay::fmt g l
+decreases-ImportContentDisplay::fmt g l = 8 * goal.size-ImportContentDisplay::fmt g l
 
 abbrev pub decreases-ImportDisplay::fmt : goal.decreases-ImportDisplay::fmt
-decreases-ImportDisplay::fmt g l = 4 * goal.size-ImportDisplay::fmt g l + 1
+decreases-ImportDisplay::fmt g l = 8 * goal.size-ImportDisplay::fmt g l + 1
 
 abbrev pub decreases-write_each_import : goal.decreases-write_each_import
-decreases-write_each_import g l = 4 * goal.size-write_each_import g l + 2
+decreases-write_each_import g l = 8 * goal.size-write_each_import g l + 2
 
 abbrev pub decreases-write_imports : goal.decreases-write_imports
-decreases-write_imports g l = 4 * goal.size-write_imports g l + 3
+decreases-write_imports g l = 8 * goal.size-write_imports g l + 3
+
+abbrev pub decreases-write_collection : goal.decreases-write_collection
+decreases-write_collection g l = 8 * goal.size-write_collection g l + 4
 
 abbrev pub invariant-write_each_import-loop-import : goal.invariant-write_each_import-loop-import
 invariant-write_each_import-loop-import g l =
