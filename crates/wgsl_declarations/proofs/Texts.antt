@@ -1,8 +1,6 @@
 -- The text of lists of a module's parts, from their code trees.
 use Rattle.std.proofs.Common.{◌≡◌, refl, ap, ◌∙◌, ℕ, List, [], ◌∷◌, ◌++◌, Option, Some, None, map, codes}
-use Rattle.std.specs.Prelude.{filter_map}
-use Rattle.core.specs.List.{cons_option}
-use Rattle.std.specs.List.{flat_map}
+use Rattle.std.specs.List.{cons_option, flat_map}
 use Rattle.std.proofs.lemmas.List.Folds.{flat_map-map}
 use Rattle.wgsl_path.specs.declared.span.Spanned.{Spanned}
 use Rattle.wgsl_expressions.specs.Print.{indent}

@@ -43,15 +43,15 @@ result_text attributes (Some t) = codes " -> " ++ attrs_text attributes ++ typ_t
 
 -- the body of a function, to the end of its line
 unfoldable pub body_text : Block → List ℕ
-body_text block = codes " " ++ block_text 0 block ++ codes "\n"
+body_text body = codes " " ++ block_text 0 body ++ codes "\n"
 
 -- a declaration, to the end of its last line
 abbrev pub decl_text : Decl → List ℕ
 decl_text (variable attributes kind name type value) = simple_line (declaring attributes kind name type value)
 decl_text (alias attributes name type) = attrs_text attributes ++ alias_text name type ++ codes ";\n"
 decl_text (structure attributes name members) = structure_text attributes name ++ members_text members ++ codes "\n"
-decl_text (function attributes name params result_attributes result block) =
-    head_text attributes name params ++ result_text result_attributes result ++ body_text block
+decl_text (function attributes name params result_attributes result body) =
+    head_text attributes name params ++ result_text result_attributes result ++ body_text body
 decl_text (assertion attributes x) = simple_line (asserting attributes x)
 
 -- the same where there may be none
