@@ -1,14 +1,18 @@
 //! The syntax trees of all statements of WGSL, their copies and their text.
 #![tactic(auto)]
 
+mod copy;
+mod display;
+mod print;
 mod statement;
 
+pub use print::{write_block, write_statement};
 pub use statement::{
     CompoundStatement, CompoundStatementOf, ConstAssertStatement, ContinuingStatement,
     ContinuingStatementOf, DeclarationStatement, ElseClause, ElseClauseOf, ElseIfClause,
-    ElseIfClauseOf, ForStatement, ForStatementOf, IfClause, IfClauseOf, IfStatement,
-    IfStatementOf, LoopStatement, LoopStatementOf, Statement, StatementNode, SwitchClause,
-    SwitchClauseOf, SwitchStatement, SwitchStatementOf, WhileStatement, WhileStatementOf,
+    ElseIfClauseOf, ForStatement, ForStatementOf, IfClause, IfClauseOf, IfStatement, IfStatementOf,
+    LoopStatement, LoopStatementOf, Statement, StatementNode, SwitchClause, SwitchClauseOf,
+    SwitchStatement, SwitchStatementOf, WhileStatement, WhileStatementOf,
 };
 pub use wgsl_simple_statements::{
     AssignmentStatement, BreakIfStatement, BreakStatement, CaseSelector, ConstAssert,
