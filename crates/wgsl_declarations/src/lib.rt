@@ -1,0 +1,14 @@
+//! The syntax trees of the declarations of WGSL and of whole modules, their copies and their text.
+#![tactic(auto)]
+
+mod copy;
+mod declaration;
+mod print;
+mod print_unit;
+mod unit;
+
+pub use declaration::{
+    FormalParameter, Function, GlobalDeclaration, GlobalDeclarationNode, Struct, StructMember,
+    StructMemberNode, TypeAlias,
+};
+pub use unit::TranslationUnit;
