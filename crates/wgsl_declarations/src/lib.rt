@@ -1,10 +1,8 @@
-//! The syntax trees of the declarations of WGSL and of whole modules, their copies and their text.
+//! The syntax trees of the declarations of WGSL and of whole modules, and their copies.
 #![tactic(auto)]
 
 mod copy;
 mod declaration;
-mod print;
-mod print_unit;
 mod unit;
 
 pub use declaration::{
