@@ -24,6 +24,10 @@ names_in x = map (λ o. o.name) (outside (occurrences [] (declaration_node x)))
 abbrev name : Name → Exp
 name x = e.named (e.simple None x)
 
+-- package::x
+abbrev from_package : Name → Exp
+from_package x = e.named (e.simple (Some (record { origin = Absolute; components = [] })) x)
+
 abbrev plain : Name → Typ
 plain x = e.simple None x
 
@@ -59,17 +63,17 @@ with_loop = function_of (codes "p")
     (Some (record { attributes = []; condition = e.binary Equality (name (codes "c")) (name (codes "r")) })))
     ∷ assigned (name (codes "r")) (name (codes "c")) ∷ [])
 
--- fn f(p: T) { let x = x; { let y = x; } x = y; _ = z; }
+-- fn f(p: T) { let x = x; { let y = x; } x = y; _ = package::x; }
 abbrev pub with_blocks : Decl
 with_blocks = function_of (codes "p")
     (let_of (codes "x") (name (codes "x")) ∷ t.compound_statement (block (let_of (codes "y") (name (codes "x")) ∷ [])) ∷ assigned (name (codes "x")) (name (codes "y"))
-    ∷ assigned (name (codes "_")) (name (codes "z")) ∷ [])
+    ∷ assigned (name (codes "_")) (from_package (codes "x")) ∷ [])
 
 -- @if(flag) @size(n) const k: array<v, m> = package::x.member;
 abbrev pub with_attributes : Decl
 with_attributes = d.variable (a.if_true (name (codes "flag")) ∷ a.byte_size (name (codes "n")) ∷ []) Const (codes "k")
     (Some (e.templated None (codes "array") (exps (name (codes "v") ∷ name (codes "m") ∷ []))))
-    (Some (e.component (e.named (e.simple (Some (record { origin = Absolute; components = [] })) (codes "x"))) (codes "member")))
+    (Some (e.component (from_package (codes "x")) (codes "member")))
 
 -- the header of `for` shares its body's scope, which ends with the statement
 abbrev pub ForExample : Type 0
@@ -79,9 +83,9 @@ ForExample = names_in with_for ≡ codes "T" ∷ codes "a" ∷ codes "q" ∷ cod
 abbrev pub LoopExample : Type 0
 LoopExample = names_in with_loop ≡ codes "T" ∷ codes "b" ∷ codes "r" ∷ codes "c" ∷ []
 
--- a local is in scope behind its statement, up to the end of the block; `_` denotes nothing
+-- a local is in scope behind its statement, up to the end of the block; `_` denotes nothing, and a name behind a path no local
 abbrev pub BlockExample : Type 0
-BlockExample = names_in with_blocks ≡ codes "T" ∷ codes "x" ∷ codes "y" ∷ codes "z" ∷ []
+BlockExample = names_in with_blocks ≡ codes "T" ∷ codes "x" ∷ codes "y" ∷ codes "x" ∷ []
 
 -- a flag of a condition and the name of a member denote nothing; what stands in template lists does
 abbrev pub AttributeExample : Type 0
