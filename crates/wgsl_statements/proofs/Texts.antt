@@ -35,7 +35,7 @@ use Rattle.wgsl_statements.specs.declared.statement.Statement.{Statement}
 use Rattle.wgsl_statements.specs.declared.statement.Statement.TheVariants.{Void, Compound, Assignment, Increment, Decrement, If, Switch, Loop, For, While, Break, Continue, Return, Discard, FunctionCall, ConstAssert as Assert, Declaration as Value}
 use Rattle.wgsl_statements.specs.Tree.{Stm, simple, compound_statement, if_statement, switch_statement, loop_statement, for_statement, while_statement}
 use Rattle.wgsl_statements.specs.View.{stms, part, nodes_layer, else_layer, elses_layer, if_layer, clauses_layer, switch_layer, continuing_layer, loop_layer, for_layer, while_layer, statement_tree, statements_tree, block_tree}
-use Rattle.wgsl_statements.specs.Print.{braced, opening, closing, head_text, break_line, end_text, behind_text, bare_text, stms_text, block_text, extended_text, elses_text, clauses_text, continuing_text, part_text, lines_text}
+use Rattle.wgsl_statements.specs.Print.{braced, opening, closing, and_more, head_text, break_line, end_text, behind_text, bare_text, stms_text, block_text, extended_text, elses_text, clauses_text, continuing_text, part_text, lines_text}
 use Rattle.wgsl_statements.proofs.Trees.{tree_of_void, tree_of_compound, tree_of_assignment, tree_of_increment, tree_of_decrement, tree_of_if, tree_of_switch, tree_of_loop, tree_of_for, tree_of_while, tree_of_break, tree_of_continue, tree_of_return, tree_of_discard, tree_of_call, tree_of_assertion, tree_of_value}
 
 pub text_of_void : (level : ℕ) → part_text level (part (statement_tree Void)) ≡ []
@@ -217,43 +217,37 @@ pieces level lines b e = of_lines lines ∙ ap (λ b. opening b ++ lines ++ clos
     of_lines [] = refl
     of_lines (c ∷ cs) = append_assoc (codes "{\n" ++ (c ∷ cs)) (indent level) (codes "}")
 
-behind : (level : ℕ) (front lines : List ℕ) (b : Bool) → is_filled lines ≡ b → front ++ braced level lines ≡ front ++ opening b ++ lines ++ closing level b
-behind level front lines b e =
-    ap (λ t. front ++ t) (pieces level lines b e) ∙ sym (append_assoc front (opening b ++ lines) (closing level b))
-    ∙ ap (λ t. t ++ closing level b) (sym (append_assoc front (opening b) lines))
+pub block_pieces : (level : ℕ) (ns : List (Spanned Statement)) (b : Bool) → b ≡ list_any (λ n. is_some (statement_tree n.node)) ns
+    → braced level (stms_text (level + 1) (statements_tree ns)) ≡ opening b ++ flat_map (λ n. lines_text (level + 1) (statement_tree n.node)) ns ++ closing level b
+block_pieces level ns b e =
+    pieces level (stms_text (level + 1) (statements_tree ns)) b (filled_statements (level + 1) statement_tree ns ∙ sym e)
+    ∙ ap (λ t. opening b ++ t ++ closing level b) (stms_flat (level + 1) statement_tree ns)
 
-pub block_pieces : (level : ℕ) (x : CompoundStatementOf Statement) (b : Bool) → b ≡ list_any (λ n. is_some (statement_tree n.node)) x.statements
-    → block_text level (block_tree x) ≡ attrs_text (attributes_tree x.attributes) ++ opening b ++ flat_map (λ n. lines_text (level + 1) (statement_tree n.node)) x.statements ++ closing level b
-block_pieces level x b e =
-    let front = attrs_text (attributes_tree x.attributes) in
-    behind level front (stms_text (level + 1) (statements_tree x.statements)) b (filled_statements (level + 1) statement_tree x.statements ∙ sym e)
-    ∙ ap (λ t. front ++ opening b ++ t ++ closing level b) (stms_flat (level + 1) statement_tree x.statements)
-
-extended : (level : ℕ) (front : List ℕ) (ns : List (Spanned Statement)) (more : List ℕ) (b c : Bool) → is_filled more ≡ b
+extended : (level : ℕ) (ns : List (Spanned Statement)) (more : List ℕ) (b c : Bool) → is_filled more ≡ b
     → c ≡ (list_any (λ n. is_some (statement_tree n.node)) ns || b)
-    → front ++ braced level (stms_text (level + 1) (statements_tree ns) ++ more)
-    ≡ front ++ opening c ++ flat_map (λ n. lines_text (level + 1) (statement_tree n.node)) ns ++ more ++ closing level c
-extended level front ns more b c e same =
+    → braced level (stms_text (level + 1) (statements_tree ns) ++ more)
+    ≡ opening c ++ and_more (flat_map (λ n. lines_text (level + 1) (statement_tree n.node)) ns) more ++ closing level c
+unfolding and_more
+extended level ns more b c e same =
     let lines = stms_text (level + 1) (statements_tree ns) in
-    behind level front (lines ++ more) c (filled_more lines more ∙ (λ k. filled_statements (level + 1) statement_tree ns k || e k) ∙ sym same)
-    ∙ ap (λ t. t ++ closing level c) (sym (append_assoc (front ++ opening c) lines more))
-    ∙ ap (λ t. front ++ opening c ++ t ++ more ++ closing level c) (stms_flat (level + 1) statement_tree ns)
+    pieces level (lines ++ more) c (filled_more lines more ∙ (λ k. filled_statements (level + 1) statement_tree ns k || e k) ∙ sym same)
+    ∙ ap (λ t. opening c ++ (t ++ more) ++ closing level c) (stms_flat (level + 1) statement_tree ns)
 
 pub loop_pieces : (level : ℕ) (x : LoopStatementOf Statement) (b : Bool) → b ≡ (list_any (λ n. is_some (statement_tree n.node)) x.body.statements || is_some x.continuing)
     → let more = continuing_text (level + 1) (continuing_layer statement_tree x.continuing) in
-    extended_text level (block_tree x.body) more
-    ≡ attrs_text (attributes_tree x.body.attributes) ++ opening b ++ flat_map (λ n. lines_text (level + 1) (statement_tree n.node)) x.body.statements ++ more ++ closing level b
+    braced level (stms_text (level + 1) (statements_tree x.body.statements) ++ more)
+    ≡ opening b ++ and_more (flat_map (λ n. lines_text (level + 1) (statement_tree n.node)) x.body.statements) more ++ closing level b
 loop_pieces level x b e =
-    extended level (attrs_text (attributes_tree x.body.attributes)) x.body.statements
-    (continuing_text (level + 1) (continuing_layer statement_tree x.continuing)) (is_some x.continuing) b (filled_continuing (level + 1) x.continuing) e
+    extended level x.body.statements (continuing_text (level + 1) (continuing_layer statement_tree x.continuing)) (is_some x.continuing) b
+    (filled_continuing (level + 1) x.continuing) e
 
 pub continuing_pieces : (level : ℕ) (x : ContinuingStatementOf Statement) (b : Bool) → b ≡ (list_any (λ n. is_some (statement_tree n.node)) x.body.statements || is_some x.break_if)
     → let more = break_line (level + 1) (option_map break_if_tree x.break_if) in
-    extended_text level (block_tree x.body) more
-    ≡ attrs_text (attributes_tree x.body.attributes) ++ opening b ++ flat_map (λ n. lines_text (level + 1) (statement_tree n.node)) x.body.statements ++ more ++ closing level b
+    braced level (stms_text (level + 1) (statements_tree x.body.statements) ++ more)
+    ≡ opening b ++ and_more (flat_map (λ n. lines_text (level + 1) (statement_tree n.node)) x.body.statements) more ++ closing level b
 continuing_pieces level x b e =
-    extended level (attrs_text (attributes_tree x.body.attributes)) x.body.statements
-    (break_line (level + 1) (option_map break_if_tree x.break_if)) (is_some x.break_if) b (filled_break (level + 1) x.break_if) e
+    extended level x.body.statements (break_line (level + 1) (option_map break_if_tree x.break_if)) (is_some x.break_if) b
+    (filled_break (level + 1) x.break_if) e
 
 pub clauses_pieces : (level : ℕ) (cs : List (SwitchClauseOf Statement)) (b : Bool) → b ≡ not (length cs == 0)
     → braced level (clauses_text (level + 1) (clauses_layer statement_tree cs))

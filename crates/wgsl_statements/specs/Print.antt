@@ -2,7 +2,6 @@
 use Rattle.std.specs.Prelude.{ℕ, ◌+◌, Bool, if◌then◌else◌, List, [], ◌∷◌, ◌++◌, Option, Some, None, codes}
 use Rattle.wgsl_expressions.specs.Tree.{Exp}
 use Rattle.wgsl_expressions.specs.Print.{exp_text, indent}
-use Rattle.wgsl_attributes.specs.Tree.{Attr}
 use Rattle.wgsl_attributes.specs.Print.{attrs_text}
 use Rattle.wgsl_simple_statements.specs.Tree.{BreakIf}
 use Rattle.wgsl_simple_statements.specs.Print.{simple_text, break_if_text, case_head}
@@ -20,6 +19,10 @@ opening filled = if filled then codes "{\n" else codes "{"
 -- the last brace, with lines before it or without
 abbrev pub closing : ℕ → Bool → List ℕ
 closing level filled = if filled then (indent level ++ codes "}") else codes "}"
+
+-- lines, and further lines behind them
+unfoldable pub and_more : List ℕ → List ℕ → List ℕ
+and_more lines more = lines ++ more
 
 -- a word and an expression, up to what is in braces
 unfoldable pub head_text : List ℕ → Exp → List ℕ

@@ -11,7 +11,7 @@ ghost use Rattle.wgsl_attributes.specs.Print.{attrs_text};
 ghost use Rattle.wgsl_simple_statements.specs.View.{break_if_tree, selector_tree};
 ghost use Rattle.wgsl_simple_statements.specs.Print.{case_head};
 ghost use Rattle.wgsl_statements.specs.View.{statement_tree, statements_tree, block_tree, part, part_layer, else_layer, elses_layer, if_layer, clauses_layer, switch_layer, continuing_layer, loop_layer, for_layer, while_layer};
-ghost use Rattle.wgsl_statements.specs.Print.{braced, opening, closing, head_text, condition_text, header_text, break_line, bare_text, stms_text, block_text, extended_text, elses_text, clauses_text, continuing_text, part_text, stm_text, behind_text, lines_text};
+ghost use Rattle.wgsl_statements.specs.Print.{braced, opening, closing, and_more, head_text, condition_text, header_text, break_line, bare_text, stms_text, block_text, extended_text, elses_text, clauses_text, continuing_text, part_text, stm_text, behind_text, lines_text};
 
 use crate::statement::{
     CompoundStatement, ContinuingStatement, ElseClause, ElseIfClause, ForStatement, IfStatement,
@@ -234,6 +234,19 @@ pub fn write_block<W: fmt::Write>(
 ) -> fmt::Result
     ensures { WritesOnOk W.write_str_gives f.old result (block_text level (block_tree compound.now)) f.new }
 {
+    write_attributes(compound.attributes.as_slice(), f)?;
+    write_braces(compound, level, f)
+}
+
+/// Writes a block without its attributes.
+#[cycle(display)]
+fn write_braces<W: fmt::Write>(
+    compound: &CompoundStatement,
+    level: u32,
+    f: &mut fmt::Formatter<W>,
+) -> fmt::Result
+    ensures { WritesOnOk W.write_str_gives f.old result (braced level (stms_text (level + 1) (statements_tree compound.now.statements))) f.new }
+{
     let filled = is_block_filled(compound);
     write_block_pieces(compound, filled, level, f)
 }
@@ -245,12 +258,11 @@ fn write_block_pieces<W: fmt::Write>(
     level: u32,
     f: &mut fmt::Formatter<W>,
 ) -> fmt::Result
-    ensures { WritesOnOk W.write_str_gives f.old result (attrs_text (attributes_tree compound.now.attributes) ++ opening filled ++ flat_map (λ n. lines_text (level + 1) (statement_tree n.node)) compound.now.statements ++ closing level filled) f.new }
+    ensures { WritesOnOk W.write_str_gives f.old result (opening filled ++ flat_map (λ n. lines_text (level + 1) (statement_tree n.node)) compound.now.statements ++ closing level filled) f.new }
 {
     let Some(inner) = level.checked_add(1) else {
         return Err(fmt::Error);
     };
-    write_attributes(compound.attributes.as_slice(), f)?;
     write_opening(filled, f)?;
     write_statements(compound.statements.as_slice(), inner, f)?;
     write_closing(level, filled, f)
@@ -428,6 +440,18 @@ fn write_loop_body<W: fmt::Write>(
 ) -> fmt::Result
     ensures { WritesOnOk W.write_str_gives f.old result (extended_text level (block_tree x.now.body) (continuing_text (level + 1) (continuing_layer statement_tree x.now.continuing))) f.new }
 {
+    write_attributes(x.body.attributes.as_slice(), f)?;
+    write_loop_braces(x, level, f)
+}
+
+#[cycle(display)]
+fn write_loop_braces<W: fmt::Write>(
+    x: &LoopStatement,
+    level: u32,
+    f: &mut fmt::Formatter<W>,
+) -> fmt::Result
+    ensures { WritesOnOk W.write_str_gives f.old result (braced level (stms_text (level + 1) (statements_tree x.now.body.statements) ++ continuing_text (level + 1) (continuing_layer statement_tree x.now.continuing))) f.new }
+{
     let filled = is_loop_filled(x);
     write_loop_pieces(x, filled, level, f)
 }
@@ -439,16 +463,27 @@ fn write_loop_pieces<W: fmt::Write>(
     level: u32,
     f: &mut fmt::Formatter<W>,
 ) -> fmt::Result
-    ensures { WritesOnOk W.write_str_gives f.old result (attrs_text (attributes_tree x.now.body.attributes) ++ opening filled ++ flat_map (λ n. lines_text (level + 1) (statement_tree n.node)) x.now.body.statements ++ continuing_text (level + 1) (continuing_layer statement_tree x.now.continuing) ++ closing level filled) f.new }
+    ensures { WritesOnOk W.write_str_gives f.old result (opening filled ++ (and_more (flat_map (λ n. lines_text (level + 1) (statement_tree n.node)) x.now.body.statements) (continuing_text (level + 1) (continuing_layer statement_tree x.now.continuing))) ++ closing level filled) f.new }
 {
     let Some(inner) = level.checked_add(1) else {
         return Err(fmt::Error);
     };
-    write_attributes(x.body.attributes.as_slice(), f)?;
     write_opening(filled, f)?;
-    write_statements(x.body.statements.as_slice(), inner, f)?;
-    write_continuing(&x.continuing, inner, f)?;
+    write_loop_inside(x, inner, f)?;
     write_closing(level, filled, f)
+}
+
+#[cycle(display)]
+#[tactic(auto, unfolding(crate::specs::Print::and_more))]
+fn write_loop_inside<W: fmt::Write>(
+    x: &LoopStatement,
+    level: u32,
+    f: &mut fmt::Formatter<W>,
+) -> fmt::Result
+    ensures { WritesOnOk W.write_str_gives f.old result (and_more (flat_map (λ n. lines_text level (statement_tree n.node)) x.now.body.statements) (continuing_text level (continuing_layer statement_tree x.now.continuing))) f.new }
+{
+    write_statements(x.body.statements.as_slice(), level, f)?;
+    write_continuing(&x.continuing, level, f)
 }
 
 /// Writes `continuing` as lines at a level.
@@ -512,6 +547,18 @@ fn write_continuing_body<W: fmt::Write>(
 ) -> fmt::Result
     ensures { WritesOnOk W.write_str_gives f.old result (extended_text level (block_tree x.now.body) (break_line (level + 1) (option_map break_if_tree x.now.break_if))) f.new }
 {
+    write_attributes(x.body.attributes.as_slice(), f)?;
+    write_continuing_braces(x, level, f)
+}
+
+#[cycle(display)]
+fn write_continuing_braces<W: fmt::Write>(
+    x: &ContinuingStatement,
+    level: u32,
+    f: &mut fmt::Formatter<W>,
+) -> fmt::Result
+    ensures { WritesOnOk W.write_str_gives f.old result (braced level (stms_text (level + 1) (statements_tree x.now.body.statements) ++ break_line (level + 1) (option_map break_if_tree x.now.break_if))) f.new }
+{
     let filled = is_continuing_filled(x);
     write_continuing_pieces(x, filled, level, f)
 }
@@ -523,16 +570,27 @@ fn write_continuing_pieces<W: fmt::Write>(
     level: u32,
     f: &mut fmt::Formatter<W>,
 ) -> fmt::Result
-    ensures { WritesOnOk W.write_str_gives f.old result (attrs_text (attributes_tree x.now.body.attributes) ++ opening filled ++ flat_map (λ n. lines_text (level + 1) (statement_tree n.node)) x.now.body.statements ++ break_line (level + 1) (option_map break_if_tree x.now.break_if) ++ closing level filled) f.new }
+    ensures { WritesOnOk W.write_str_gives f.old result (opening filled ++ (and_more (flat_map (λ n. lines_text (level + 1) (statement_tree n.node)) x.now.body.statements) (break_line (level + 1) (option_map break_if_tree x.now.break_if))) ++ closing level filled) f.new }
 {
     let Some(inner) = level.checked_add(1) else {
         return Err(fmt::Error);
     };
-    write_attributes(x.body.attributes.as_slice(), f)?;
     write_opening(filled, f)?;
-    write_statements(x.body.statements.as_slice(), inner, f)?;
-    write_break_if(&x.break_if, inner, f)?;
+    write_continuing_inside(x, inner, f)?;
     write_closing(level, filled, f)
+}
+
+#[cycle(display)]
+#[tactic(auto, unfolding(crate::specs::Print::and_more))]
+fn write_continuing_inside<W: fmt::Write>(
+    x: &ContinuingStatement,
+    level: u32,
+    f: &mut fmt::Formatter<W>,
+) -> fmt::Result
+    ensures { WritesOnOk W.write_str_gives f.old result (and_more (flat_map (λ n. lines_text level (statement_tree n.node)) x.now.body.statements) (break_line level (option_map break_if_tree x.now.break_if))) f.new }
+{
+    write_statements(x.body.statements.as_slice(), level, f)?;
+    write_break_if(&x.break_if, level, f)
 }
 
 #[cycle(display)]
