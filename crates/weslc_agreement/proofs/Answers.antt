@@ -41,9 +41,9 @@ abbrev Saying : Type 1
 Saying = Modules → Path → List Name → UnitTree → Result (List ℕ) CompileError → Type 0
 
 -- by `compile`: its compiled text, or its refusal, as one tells it who tells where its names come from
-abbrev OfCompiling : Saying
-OfCompiling modules root keep linked (Ok text) = IsCompiled linked text
-OfCompiling modules root keep linked (Err e) = (tell : Telling) × (refusal : UnitRefusal) × TellsHeld modules root keep tell × Refuses linked refusal × Tells tell refusal e
+abbrev OfCompiling : ℕ → Saying
+OfCompiling steps modules root keep linked (Ok text) = IsCompiled steps linked text
+OfCompiling steps modules root keep linked (Err e) = (tell : Telling) × (refusal : UnitRefusal) × TellsHeld modules root keep tell × Refuses steps linked refusal × Tells tell refusal e
 
 -- by `link`: its text, or that it has none
 abbrev OfLinking : Saying
@@ -58,14 +58,14 @@ IsOne Of = (root : Path) (modules others : Modules) → AreAlike root modules ot
 memory_told : (tell : Telling) (refusal : UnitRefusal) (e : CompileError) → refusal ≡ of.OutOfMemory → Tells tell refusal e → e ≡ OutOfMemory
 memory_told tell refusal e is told = subst (λ r. Tells tell r e) is told
 
-compiling_is_one : IsOne OfCompiling
-compiling_is_one root modules others alike keep linked (Ok text) (Ok more) a b = compiled_once linked text more a b
-compiling_is_one root modules others alike keep linked (Ok text) (Err e) a (tell, refusal, held, refused, told) =
-    memory_told tell refusal e (compiled_or_refused linked text refusal a refused) told
-compiling_is_one root modules others alike keep linked (Err e) (Ok text) (tell, refusal, held, refused, told) b =
-    memory_told tell refusal e (compiled_or_refused linked text refusal b refused) told
-compiling_is_one root modules others alike keep linked (Err e) (Err f) (tell, r, held, refused, told) (more, q, kept, stopped, said) =
-    refusal_told tell more (tell_alike root modules others alike keep tell more held kept) r q (refused_once linked r q refused stopped) e f told said
+compiling_is_one : (steps : ℕ) → IsOne (OfCompiling steps)
+compiling_is_one steps root modules others alike keep linked (Ok text) (Ok more) a b = compiled_once steps linked text more a b
+compiling_is_one steps root modules others alike keep linked (Ok text) (Err e) a (tell, refusal, held, refused, told) =
+    memory_told tell refusal e (compiled_or_refused steps linked text refusal a refused) told
+compiling_is_one steps root modules others alike keep linked (Err e) (Ok text) (tell, refusal, held, refused, told) b =
+    memory_told tell refusal e (compiled_or_refused steps linked text refusal b refused) told
+compiling_is_one steps root modules others alike keep linked (Err e) (Err f) (tell, r, held, refused, told) (more, q, kept, stopped, said) =
+    refusal_told tell more (tell_alike root modules others alike keep tell more held kept) r q (refused_once steps linked r q refused stopped) e f told said
 
 linking_is_one : IsOne OfLinking
 linking_is_one root modules others alike keep linked (Ok text) (Ok more) a b = a.0 ∙ sym b.0
@@ -97,10 +97,10 @@ module _ (Of : Saying) (found : Sources) (root : Path) (asked : List Name) (max 
   refused_ends (Eval c f) is = absurd is
   refused_ends (Unprintable c) is = absurd is
 
-compiling_ends : (found : Sources) (root : Path) (asked : List Name) (max : ℕ) (answer : Result (List ℕ) CompileError) → IsCompiledAnswer found root asked max answer → Ends OfCompiling found root asked max answer
-compiling_ends found root asked max (Ok text) is = with_a_unit is.linked is.from is.compiled
-compiling_ends found root asked max (Err e) (inl refused) = refused_ends OfCompiling found root asked max e refused
-compiling_ends found root asked max (Err e) (inr u) = with_a_unit u.linked u.from.from (decl_at u.map, u.refusal, u.from.decls, u.refused, u.told)
+compiling_ends : (found : Sources) (root : Path) (asked : List Name) (max steps : ℕ) (answer : Result (List ℕ) CompileError) → IsCompiledAnswer found root asked max steps answer → Ends (OfCompiling steps) found root asked max answer
+compiling_ends found root asked max steps (Ok text) is = with_a_unit is.linked is.from is.compiled
+compiling_ends found root asked max steps (Err e) (inl refused) = refused_ends (OfCompiling steps) found root asked max e refused
+compiling_ends found root asked max steps (Err e) (inr u) = with_a_unit u.linked u.from.from (decl_at u.map, u.refusal, u.from.decls, u.refused, u.told)
 
 linking_ends : (found : Sources) (root : Path) (asked : List Name) (max : ℕ) (answer : Result (List ℕ) CompileError) → IsLinkedAnswer found root asked max answer → Ends OfLinking found root asked max answer
 linking_ends found root asked max (Ok text) is = with_a_unit is.linked is.from (is.whole, is.reads)
@@ -186,8 +186,8 @@ module _ (Of : Saying) (is_one : IsOne Of) (found other : Sources) (functional :
 -- ---- the laws
 
 pub compiled_alike : (found other : Sources) → IsFunctional found → IsFunctional other → CompiledAlike found other
-compiled_alike found other functional functional_too apart root asked max agree one two a b =
-    ends_alike OfCompiling compiling_is_one found other functional functional_too apart root asked max agree one two (compiling_ends found root asked max one a) (compiling_ends other root asked max two b)
+compiled_alike found other functional functional_too apart root asked max steps agree one two a b =
+    ends_alike (OfCompiling steps) (compiling_is_one steps) found other functional functional_too apart root asked max agree one two (compiling_ends found root asked max steps one a) (compiling_ends other root asked max steps two b)
 
 pub linked_alike : (found other : Sources) → IsFunctional found → IsFunctional other → LinkedAlike found other
 linked_alike found other functional functional_too apart root asked max agree one two a b =

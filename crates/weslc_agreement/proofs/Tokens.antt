@@ -78,8 +78,8 @@ added_imports_are_apart r p q u v a b found it names other printed =
     imports_of_texts_are_apart one.0 two.0 u v one.1 two.1 names.import other.import a b names.stands other.stands names.is_path other.is_path printed
 
 pub same_tokens_compile_alike : SameTokensCompileAlike
-same_tokens_compile_alike one other root asked max same =
-    compiled_texts_are_one (added one) (added other) (added_once other) (added_imports_are_apart one) root asked max (has_units one other root asked max same)
+same_tokens_compile_alike one other root asked max steps same =
+    compiled_texts_are_one (added one) (added other) (added_once other) (added_imports_are_apart one) root asked max steps (has_units one other root asked max same)
 
 pub same_tokens_link_alike : SameTokensLinkAlike
 same_tokens_link_alike one other root asked max same =

@@ -52,10 +52,10 @@ SameAnswer (Err e) (Ok other) = e ≡ OutOfMemory
 SameAnswer (Err e) (Err f) = TellTheSame e f
 
 module _ (found : Sources) (root : Path) (asked : List Name) (max : ℕ) where
-  -- what `compile` answers, by its contract
-  abbrev pub IsCompiledAnswer : Result (List ℕ) CompileError → Type 0
-  IsCompiledAnswer (Ok text) = IsCompiledText found root asked max text
-  IsCompiledAnswer (Err e) = RefusesLinking found root asked max e ⊎ IsRefusedUnit found root asked max e
+  -- what `compile` answers, by its contract, where each evaluation may take so many steps
+  abbrev pub IsCompiledAnswer : ℕ → Result (List ℕ) CompileError → Type 0
+  IsCompiledAnswer steps (Ok text) = IsCompiledText found root asked max steps text
+  IsCompiledAnswer steps (Err e) = RefusesLinking found root asked max e ⊎ IsRefusedUnit found root asked max steps e
 
   -- and what `link` answers
   abbrev pub IsLinkedAnswer : Result (List ℕ) CompileError → Type 0
@@ -67,9 +67,9 @@ module _ (found : Sources) (root : Path) (asked : List Name) (max : ℕ) where
 -- Sources that agree on what is asked of one of them get the same answer, where imports name modules by paths that are told apart as
 -- they are printed.
 abbrev pub CompiledAlike : Sources → Sources → Type 0
-CompiledAlike found other = ImportsAreApart found → (root : Path) (asked : List Name) (max : ℕ)
-    → AgreesOnAsked found root asked max other → (one two : Result (List ℕ) CompileError) → IsCompiledAnswer found root asked max one
-    → IsCompiledAnswer other root asked max two → SameAnswer one two
+CompiledAlike found other = ImportsAreApart found → (root : Path) (asked : List Name) (max steps : ℕ)
+    → AgreesOnAsked found root asked max other → (one two : Result (List ℕ) CompileError) → IsCompiledAnswer found root asked max steps one
+    → IsCompiledAnswer other root asked max steps two → SameAnswer one two
 
 abbrev pub LinkedAlike : Sources → Sources → Type 0
 LinkedAlike found other = ImportsAreApart found → (root : Path) (asked : List Name) (max : ℕ)

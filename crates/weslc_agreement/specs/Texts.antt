@@ -13,8 +13,8 @@ use Rattle.weslc_agreement.specs.Asked.{HasAskedUnits}
 
 -- Where other sources have each unit that is asked of one, one text is answered.
 abbrev pub CompiledTextsAreOne : Sources → Sources → Type 0
-CompiledTextsAreOne found other = ImportsAreApart found → (root : Path) (asked : List Name) (max : ℕ)
-    → HasAskedUnits found root asked max other → (one two : List ℕ) → IsCompiledText found root asked max one → IsCompiledText other root asked max two
+CompiledTextsAreOne found other = ImportsAreApart found → (root : Path) (asked : List Name) (max steps : ℕ)
+    → HasAskedUnits found root asked max other → (one two : List ℕ) → IsCompiledText found root asked max steps one → IsCompiledText other root asked max steps two
     → one ≡ two
 
 abbrev pub LinkedTextsAreOne : Sources → Sources → Type 0
@@ -45,8 +45,8 @@ HaveTheSameTokens one other root asked max = (p : Path) → IsAskedOf (added one
 
 -- Texts of modules with the same tokens are compiled to one text, and linked to one.
 abbrev pub SameTokensCompileAlike : Type 0
-SameTokensCompileAlike = (one other : VirtualResolver) (root : Path) (asked : List Name) (max : ℕ) → HaveTheSameTokens one other root asked max
-    → (text more : List ℕ) → IsCompiledText (added one) root asked max text → IsCompiledText (added other) root asked max more → text ≡ more
+SameTokensCompileAlike = (one other : VirtualResolver) (root : Path) (asked : List Name) (max steps : ℕ) → HaveTheSameTokens one other root asked max
+    → (text more : List ℕ) → IsCompiledText (added one) root asked max steps text → IsCompiledText (added other) root asked max steps more → text ≡ more
 
 abbrev pub SameTokensLinkAlike : Type 0
 SameTokensLinkAlike = (one other : VirtualResolver) (root : Path) (asked : List Name) (max : ℕ) → HaveTheSameTokens one other root asked max

@@ -36,9 +36,9 @@ declared_located modules root kept linked well tell tells y declares =
     record { symbol = is.0; held = held; told = tells.each y is.0 held }
 
 module _ (found : Sources) (root : Path) (asked : List Name) (max : ℕ) where
-  pub refused_unit : (linked : UnitTree) (map : BasicSourceMap) → IsToldFrom found root asked max linked map → (refusal : UnitRefusal) (e : CompileError) → Refuses linked refusal
-      → Tells (decl_at map) refusal e → IsRefusedUnit found root asked max e
-  refused_unit linked map from refusal e refused told = record {
+  pub refused_unit : (steps : ℕ) (linked : UnitTree) (map : BasicSourceMap) → IsToldFrom found root asked max linked map → (refusal : UnitRefusal) (e : CompileError) → Refuses steps linked refusal
+      → Tells (decl_at map) refusal e → IsRefusedUnit found root asked max steps e
+  refused_unit steps linked map from refusal e refused told = record {
     linked = linked;
     map = map;
     from = from;
@@ -46,5 +46,5 @@ module _ (found : Sources) (root : Path) (asked : List Name) (max : ℕ) where
     refused = refused;
     told = told;
     located = λ y is. declared_located from.from.modules root from.from.kept linked from.from.linked_well (decl_at map) from.decls y
-        (subst (λ xs. Contains xs y) (same_names linked.declarations) (refusals_are_in_declarations linked refusal y refused is));
+        (subst (λ xs. Contains xs y) (same_names linked.declarations) (refusals_are_in_declarations steps linked refusal y refused is));
   }

@@ -23,11 +23,11 @@ module _ (found : Sources) (root : Path) (asked : List Name) (max : ℕ) where
     has_program = linked_modules_have_one from.modules root from.kept linked from.linked_well.loaded from.linked_well.linked;
   }
 
-  pub compiled_text : (linked : UnitTree) → IsLinkedFrom found root asked max linked → (text : List ℕ) → IsCompiled linked text → IsCompiledText found root asked max text
-  compiled_text linked from text compiled = record {
+  pub compiled_text : (steps : ℕ) (linked : UnitTree) → IsLinkedFrom found root asked max linked → (text : List ℕ) → IsCompiled steps linked text → IsCompiledText found root asked max steps text
+  compiled_text steps linked from text compiled = record {
     linked = linked;
     from = from;
     compiled = compiled;
-    keeps = runs_as_sources found root asked max linked compiled.low from (clear-names linked compiled.lowered.clear) compiled.lowered.lowered;
+    keeps = runs_as_sources found root asked max linked compiled.low from (clear-names linked compiled.lowered.clear) steps compiled.lowered.lowered;
     has_program = linked_modules_have_one from.modules root from.kept linked from.linked_well.loaded from.linked_well.linked;
   }

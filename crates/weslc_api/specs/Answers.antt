@@ -120,20 +120,20 @@ module _ (found : Sources) (root : Path) (asked : List Name) (max : ℕ) where
     pub from : IsLinkedFrom found root asked max linked
     pub decls : TellsHeld from.modules root from.kept (decl_at map)
 
-  -- The first refusal of the linked unit, as the error tells it. The declaration that it names, where it names one, is a held symbol's,
+  -- The first refusal of the linked unit, where each evaluation may take so many steps, as the error tells it. The declaration that it names, where it names one, is a held symbol's,
   -- which the map tells: so the error names the module and the declaration there.
-  pub record IsRefusedUnit (e : CompileError) : Type 0 where
+  pub record IsRefusedUnit (steps : ℕ) (e : CompileError) : Type 0 where
     pub linked : UnitTree
     pub map : BasicSourceMap
     pub from : IsToldFrom linked map
     pub refusal : UnitRefusal
-    pub refused : Refuses linked refusal
+    pub refused : Refuses steps linked refusal
     pub told : Tells (decl_at map) refusal e
     pub located : (y : Name) → declaration_of refusal ≡ Some y → IsLocated from.from.modules root from.from.kept (decl_at map) y
 
-  -- what linking, and compiling what is linked, is refused for
-  abbrev pub RefusesToCompile : CompileError → Type 0
-  RefusesToCompile e = RefusesLinking e ⊎ IsRefusedUnit e
+  -- what linking, and compiling what is linked, is refused for, where each evaluation may take so many steps
+  abbrev pub RefusesToCompile : ℕ → CompileError → Type 0
+  RefusesToCompile steps e = RefusesLinking e ⊎ IsRefusedUnit steps e
 
   -- ---- texts
 
@@ -149,9 +149,9 @@ module _ (found : Sources) (root : Path) (asked : List Name) (max : ℕ) where
 
   -- The compiled text of the unit that the loaded modules are linked into. What it is read as declares the held functions, each
   -- once under its printed name, and every run that ends well in the modules ends well there, with the same answer in no more steps.
-  pub record IsCompiledText (text : List ℕ) : Type 0 where
+  pub record IsCompiledText (steps : ℕ) (text : List ℕ) : Type 0 where
     pub linked : UnitTree
     pub from : IsLinkedFrom found root asked max linked
-    pub compiled : IsCompiled linked text
+    pub compiled : IsCompiled steps linked text
     pub keeps : RunsAsSources from.modules root from.kept linked compiled.low
     pub has_program : (p : Program) × IsProgramIn from.modules root from.kept p

@@ -7,7 +7,7 @@ use Rattle.wesl_link_spec.specs.Occurrences.{Name}
 use Rattle.wesl_scopes.specs.declared.error.ImportError.{ImportError}
 use Rattle.wesl_scopes.specs.declared.error.ImportError.TheVariants as import
 use Rattle.wgsl_meaning.specs.declared.fault.Fault.{Fault}
-use Rattle.wgsl_meaning.specs.declared.fault.Fault.TheVariants.{Operation, NegativeAttr, Name as Named}
+use Rattle.wgsl_meaning.specs.declared.fault.Fault.TheVariants.{StepLimit, Operation, Deferred, NegativeAttr, Name as Named}
 use Rattle.wesl_validate.specs.declared.error.ValidateFault.{ValidateFault}
 use Rattle.wgsl_eval.specs.declared.error.DeclarationFault.{DeclarationFault}
 use Rattle.weslc_unit.specs.declared.error.UnitRefusal.{UnitRefusal}
@@ -79,7 +79,9 @@ of_loading import.OutOfMemory = OutOfMemory
 
 -- the name that a fault is about
 abbrev pub fault_name : Fault → Option Name
+fault_name StepLimit = None
 fault_name (Operation f) = None
+fault_name (Deferred t) = None
 fault_name (NegativeAttr z) = None
 fault_name (Named f x) = Some x
 

@@ -79,17 +79,18 @@ fn print_held(
 }
 
 /// One text without imports and consts in which what the kept names of the root reach is validated and lowered, and the map
-/// from it back to the modules; or the first fault. The root is not relative.
+/// from it back to the modules; or the first fault. Each evaluation of an expression or a declaration may take so many steps as the
+/// options say. The root is not relative.
 pub fn compile<R: Resolver>(
     alloc: Global,
     resolver: &mut R,
     root: &ModulePath,
     options: &Options,
 ) -> Result<(String, BasicSourceMap), CompileError>
-    ensures text { IfOk result (λ answer. IsCompiledText (R.answers resolver.old) (path_text root.now) options.now.keep options.now.max_modules (string_bytes answer.0)) }
+    ensures text { IfOk result (λ answer. IsCompiledText (R.answers resolver.old) (path_text root.now) options.now.keep options.now.max_modules options.now.max_steps (string_bytes answer.0)) }
     ensures map { IfOk result (λ answer. IsMapped (R.answers resolver.old) (path_text root.now) options.now.keep options.now.max_modules (R.texts resolver.old) answer.1) }
     ensures names { IfOk result (λ answer. HasNames (R.display_names resolver.old) answer.1) }
-    ensures refusal { IfErr result (RefusesToCompile (R.answers resolver.old) (path_text root.now) options.now.keep options.now.max_modules) }
+    ensures refusal { IfErr result (RefusesToCompile (R.answers resolver.old) (path_text root.now) options.now.keep options.now.max_modules options.now.max_steps) }
     ensures asked { AreAsked (R.answers resolver.old) (path_text root.now) options.now.keep options.now.max_modules (R.asked resolver.old) (R.asked resolver.new) }
     ensures all_asked { OnOk result (AreAskedAsLoaded (R.answers resolver.old) (path_text root.now) options.now.keep options.now.max_modules (R.asked resolver.old) (R.asked resolver.new)) }
     ensures same_answers { SameAnswers (R.answers resolver.old) (R.answers resolver.new) }
@@ -97,7 +98,7 @@ pub fn compile<R: Resolver>(
     ensures same_names { R.display_names resolver.new ≡ R.display_names resolver.old }
 {
     let Linked { unit, map } = linked_unit(alloc, resolver, root, options)?;
-    match compile_unit(alloc, &unit) {
+    match compile_unit(alloc, &unit, options.max_steps) {
         Ok(text) => Ok((text, map)),
         Err(refusal) => Err(CompileError::of_unit(alloc, &map, refusal)),
     }

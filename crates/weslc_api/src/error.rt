@@ -140,7 +140,9 @@ fn name_of(alloc: Global, fault: &Fault) -> Result<Option<Text>, AllocError>
     ensures { IfOk result (λ name. name ≡ fault_name fault.now) }
 {
     match fault {
-        Fault::Operation(_) | Fault::NegativeAttr(_) => Ok(None),
+        Fault::StepLimit | Fault::Operation(_) | Fault::Deferred(_) | Fault::NegativeAttr(_) => Ok(
+            None,
+        ),
         Fault::Name(_, name) => Ok(Some(name.clone_in(alloc)?)),
     }
 }

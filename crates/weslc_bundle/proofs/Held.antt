@@ -68,10 +68,10 @@ Texts = List ℕ → Option (List ℕ)
 
 module _ (texts : Texts) (command : Command) (root : ModulePath) (options : Options) where
   abbrev pub IsTextFrom : List ℕ → Type 0
-  IsTextFrom text = IsTextOf command (λ p a. found_in (texts p) a) (path_text root) options.keep options.max_modules text
+  IsTextFrom text = IsTextOf command (λ p a. found_in (texts p) a) (path_text root) options.keep options.max_modules options.max_steps text
 
   abbrev pub IsRefusalFrom : CompileError → Type 0
-  IsRefusalFrom e = IsRefusalOf command (λ p a. found_in (texts p) a) (path_text root) options.keep options.max_modules e
+  IsRefusalFrom e = IsRefusalOf command (λ p a. found_in (texts p) a) (path_text root) options.keep options.max_modules options.max_steps e
 
 moved : (request : Request) (bundle : Bundle) → HandsOver request bundle → (P : Texts → Command → ModulePath → Options → Type 0)
     → P (text_at bundle.resolver) bundle.command bundle.root bundle.options → P (text_in request.modules) request.command request.root request.options

@@ -43,24 +43,24 @@ TakesFew before after = (taken : List ℕ) × Consumes before after taken × (le
 -- ---- calls
 
 -- the command's call answers this text
-abbrev pub IsTextOf : Command → Sources → Path → List Name → ℕ → List ℕ → Type 0
-IsTextOf Link found root asked max text = IsLinkedText found root asked max text
-IsTextOf Compile found root asked max text = IsCompiledText found root asked max text
+abbrev pub IsTextOf : Command → Sources → Path → List Name → ℕ → ℕ → List ℕ → Type 0
+IsTextOf Link found root asked max steps text = IsLinkedText found root asked max text
+IsTextOf Compile found root asked max steps text = IsCompiledText found root asked max steps text
 
 -- memory aside, the command's call is refused so
-abbrev pub IsRefusalOf : Command → Sources → Path → List Name → ℕ → CompileError → Type 0
-IsRefusalOf Link found root asked max e = RefusesLinking found root asked max e ⊎ IsUnprintable found root asked max e
-IsRefusalOf Compile found root asked max e = RefusesLinking found root asked max e ⊎ IsRefusedUnit found root asked max e
+abbrev pub IsRefusalOf : Command → Sources → Path → List Name → ℕ → ℕ → CompileError → Type 0
+IsRefusalOf Link found root asked max steps e = RefusesLinking found root asked max e ⊎ IsUnprintable found root asked max e
+IsRefusalOf Compile found root asked max steps e = RefusesLinking found root asked max e ⊎ IsRefusedUnit found root asked max steps e
 
 -- the command's call answers this text of the request's modules
 abbrev pub IsAnswer : Request → List ℕ → Type 0
 IsAnswer request text =
-    IsTextOf request.command (found_among request.modules) (path_text request.root) request.options.keep request.options.max_modules text
+    IsTextOf request.command (found_among request.modules) (path_text request.root) request.options.keep request.options.max_modules request.options.max_steps text
 
 -- memory aside, it refuses them so
 abbrev pub IsRefused : Request → CompileError → Type 0
 IsRefused request e =
-    IsRefusalOf request.command (found_among request.modules) (path_text request.root) request.options.keep request.options.max_modules e
+    IsRefusalOf request.command (found_among request.modules) (path_text request.root) request.options.keep request.options.max_modules request.options.max_steps e
 
 -- ---- the program
 

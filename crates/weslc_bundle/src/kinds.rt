@@ -25,9 +25,11 @@ pub(crate) fn validate_kind(kind: ValidateError) -> &'static str {
 
 pub(crate) fn eval_kind(fault: &Fault) -> &'static str {
     match fault {
+        Fault::StepLimit => "StepLimit",
         Fault::Operation(error) => operation_kind(error.get()),
+        Fault::Deferred(_) => "Deferred",
         Fault::NegativeAttr(_) => "NegativeAttr",
-        Fault::Name(fault, _) => name_kind(*fault),
+        Fault::Name(fault, _) => name_kind(fault),
     }
 }
 
@@ -69,7 +71,7 @@ fn operation_kind(error: &Error) -> &'static str {
     }
 }
 
-fn name_kind(fault: NameFault) -> &'static str {
+fn name_kind(fault: &NameFault) -> &'static str {
     match fault {
         NameFault::UnknownDecl => "UnknownDecl",
         NameFault::NotAccessible => "NotAccessible",

@@ -1,5 +1,5 @@
 -- The lowered unit declares the held functions.
-use Rattle.std.proofs.Common.{◌≡◌, ◌⊎◌, inl, inr, List, [], ◌∷◌, map, Option, true, false, Result, Ok, Err, refl, sym, ap, ◌∙◌, subst, Contains}
+use Rattle.std.proofs.Common.{◌≡◌, ◌⊎◌, inl, inr, ℕ, List, [], ◌∷◌, map, Option, true, false, Result, Ok, Err, refl, sym, ap, ◌∙◌, subst, Contains}
 use Rattle.wgsl_syntax.specs.Tree.{Attr, Typ, Block, Param, Decl, variable, function, UnitTree as Module}
 use Rattle.wgsl_syntax.specs.Names.{declared_name}
 use Rattle.wgsl_meaning.specs.Values.{Checked, and_then}
@@ -7,7 +7,9 @@ use Rattle.wgsl_meaning.specs.Names.{Name}
 use Rattle.wgsl_meaning.specs.ConstStage.{Scope, module_scope}
 use Rattle.wgsl_eval.specs.declared.error.DeclarationFault.{DeclarationFault}
 use Rattle.wgsl_eval.specs.Start.{then_more, consts_of}
-use Rattle.wgsl_lower.specs.Lowered.{refusing, lowered_attributes, lowered_parameters, parameter_types, checked_type, lowered_body, with_parameters, lowered_rest, lowered_function, lowered_declarations, Lowers}
+use Rattle.wgsl_lower.specs.Lowered.{Lowers}
+use Rattle.wgsl_lower.specs.Computed.{refusing, lowered_attributes, lowered_parameters, parameter_types, checked_type, lowered_body, with_parameters, lowered_rest, lowered_function, lowered_declarations}
+use Rattle.wgsl_lower.proofs.Same.{computed_same}
 use Rattle.wesl_link_spec.specs.Modules.{Path, Symbol, Modules, Declares, local_name, IsDeclaration}
 use Rattle.wesl_link_spec.specs.Names.{IsPrinted}
 use Rattle.wesl_link_spec.specs.Rounds.{scope_names}
@@ -87,9 +89,9 @@ record IsLowered (u low : Module) : Type 0 where
   no_imports : low.imports ≡ []
   functions : AreFunctions u.declarations low.declarations
 
-is_lowered : (u low : Module) → Lowers u (Ok low) → IsLowered u low
-is_lowered u low l =
-    let cs = then_ok (consts_of u.declarations l.order) (λ cs. then_more (lowered_declarations (module_scope u.declarations cs) u.declarations) (λ ds. Ok (record { imports = []; declarations = ds }))) low l.comes in
+is_lowered : (steps : ℕ) (u low : Module) → Lowers steps u (Ok low) → IsLowered u low
+is_lowered steps u low l =
+    let cs = then_ok (consts_of u.declarations l.order) (λ cs. then_more (lowered_declarations (module_scope u.declarations cs) u.declarations) (λ ds. Ok (record { imports = []; declarations = ds }))) low (sym (computed_same steps l.order u) ∙ l.comes) in
     let ds = then_ok (lowered_declarations (module_scope u.declarations cs.0) u.declarations) (λ ds. Ok (record { imports = []; declarations = ds })) low cs.2 in
     let to : record { imports = []; declarations = ds.0 } ≡ low = cc in
     subst (IsLowered u) to (record { no_imports = refl; functions = lowered_functions (module_scope u.declarations cs.0) u.declarations ds.0 ds.1 })
@@ -137,7 +139,7 @@ module _ (modules : Modules) (root : Path) (keep : List Name) (lowered : Module)
   held = declares_what_is_held modules root keep c.linked c.linked_well
 
   low : IsLowered c.linked lowered
-  low = is_lowered c.linked lowered c.is_lowered
+  low = is_lowered c.steps c.linked lowered c.is_lowered
 
   -- a symbol has one declaration
   one_declaration : (s : Symbol) (d e : Decl) → IsDeclaration modules s d → IsDeclaration modules s e → d ≡ e

@@ -60,10 +60,10 @@ module _ (sources : Sources) (root : Path) (keep : List Name) where
       };
     }
 
-    pub runs_as_sources : (linked lowered : UnitTree) (from : IsLinkedFrom sources root keep max linked) → AreClear linked.declarations → Lowers linked (Ok lowered)
+    pub runs_as_sources : (linked lowered : UnitTree) (from : IsLinkedFrom sources root keep max linked) → AreClear linked.declarations → (steps : ℕ) → Lowers steps linked (Ok lowered)
         → RunsAsSources from.modules root from.kept linked lowered
-    runs_as_sources linked lowered from clear is =
-        let c : AreCompiled from.modules root from.kept lowered = record { linked = linked; linked_well = from.linked_well; clear = clear; is_lowered = is } in
+    runs_as_sources linked lowered from clear steps is =
+        let c : AreCompiled from.modules root from.kept lowered = record { linked = linked; linked_well = from.linked_well; clear = clear; steps = steps; is_lowered = is } in
         record {
           runs = sources_run_in_the_lowered_unit from.modules root from.kept lowered c;
           declares = declares_held_functions from.modules root from.kept lowered c;
@@ -76,13 +76,14 @@ module _ (sources : Sources) (root : Path) (keep : List Name) where
     }
 
 pub compiled_texts_are_of_their_sources : (sources : Sources) → CompiledTextsAreOfTheirSources sources
-compiled_texts_are_of_their_sources sources root keep max linked lowered from clear is text stands = record {
+compiled_texts_are_of_their_sources sources root keep max linked lowered from clear steps is text stands = record {
   linked = linked;
   from = from;
   lowered = lowered;
+  steps = steps;
   is_lowered = is;
   stands = stands;
-  keeps = runs_as_sources sources root keep max linked lowered from clear is;
+  keeps = runs_as_sources sources root keep max linked lowered from clear steps is;
 }
 
 pub linked_texts_are_of_their_sources : (sources : Sources) → LinkedTextsAreOfTheirSources sources

@@ -2,7 +2,7 @@
 use Rattle.std.proofs.Common.{◌≡◌, ℕ, List, Ok, sym, subst}
 use Rattle.wgsl_syntax.specs.Tree.{UnitTree}
 use Rattle.wgsl_syntax.specs.Print.{unit_text}
-use Rattle.wgsl_lower.proofs.Runs.{keeps_if}
+use Rattle.wgsl_lower.proofs.Whole.{keeps_if}
 use Rattle.wgsl_round_trip.specs.Printing.{StandsFor}
 use Rattle.wgsl_round_trip.proofs.Declarations.{prints_back}
 use Rattle.wesl_link_spec.specs.Modules.{Path, Modules}
@@ -13,7 +13,7 @@ use Rattle.weslc_laws.specs.Compiled.{RunsAsItsSources, RunsExactlyAsItsSources,
 
 pub sources_run_in_the_lowered_unit : SourcesRunInTheLoweredUnit
 sources_run_in_the_lowered_unit modules root keep lowered c p program x k handed n answer e =
-    keeps_if {A = UnitTree} (λ u. u) c.linked (Ok lowered) c.clear c.is_lowered x handed n answer
+    keeps_if {A = UnitTree} (λ u. u) c.steps c.linked (Ok lowered) c.clear c.is_lowered x handed n answer
     ((linked_units_end_likewise modules root keep c.linked p c.linked_well program x k handed n answer).0 e)
 
 pub compiled_text_runs_as_its_sources : CompiledTextRunsAsItsSources

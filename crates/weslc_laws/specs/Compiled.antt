@@ -30,12 +30,13 @@ abbrev pub RunsAsItsSources : Modules → Path → List Name → UnitTree → Ty
 RunsAsItsSources modules root keep unit = (p : Program) → IsProgramIn modules root keep p → (x : Name) → Contains keep x
     → (handed : Handed) (n : ℕ) (answer : Option Instance) → EndsWell p (at_root root x) handed n answer → EndsWell (program_of unit) (here x) handed n answer
 
--- modules that are linked into a unit with clear names, which is lowered into another
+-- modules that are linked into a unit with clear names, which is lowered into another; whatever steps an evaluation may take
 pub record AreCompiled (modules : Modules) (root : Path) (keep : List Name) (lowered : UnitTree) : Type 0 where
   pub linked : UnitTree
   pub linked_well : AreLinkedWell modules root keep linked
   pub clear : AreClear linked.declarations
-  pub is_lowered : Lowers linked (Ok lowered)
+  pub steps : ℕ
+  pub is_lowered : Lowers steps linked (Ok lowered)
 
 abbrev pub SourcesRunInTheLoweredUnit : Type 0
 SourcesRunInTheLoweredUnit = (modules : Modules) (root : Path) (keep : List Name) (lowered : UnitTree) → AreCompiled modules root keep lowered

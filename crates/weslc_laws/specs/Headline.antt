@@ -48,7 +48,8 @@ module _ (sources : Sources) (root : Path) (keep : List Name) (max : ℕ) where
     pub linked : UnitTree
     pub from : IsLinkedFrom sources root keep max linked
     pub lowered : UnitTree
-    pub is_lowered : Lowers linked (Ok lowered)
+    pub steps : ℕ
+    pub is_lowered : Lowers steps linked (Ok lowered)
     pub stands : StandsFor text lowered
     pub keeps : RunsAsSources from.modules root from.kept linked lowered
 
@@ -62,7 +63,7 @@ module _ (sources : Sources) (root : Path) (keep : List Name) (max : ℕ) where
 -- Whatever is found at each path: what is linked, lowered with clear names, and stands in a text, is compiled from its sources.
 abbrev pub CompiledTextsAreOfTheirSources : Sources → Type 0
 CompiledTextsAreOfTheirSources sources = (root : Path) (keep : List Name) (max : ℕ) (linked lowered : UnitTree) → IsLinkedFrom sources root keep max linked
-    → AreClear linked.declarations → Lowers linked (Ok lowered) → (text : List ℕ) → StandsFor text lowered → IsCompiledFrom sources root keep max text
+    → AreClear linked.declarations → (steps : ℕ) → Lowers steps linked (Ok lowered) → (text : List ℕ) → StandsFor text lowered → IsCompiledFrom sources root keep max text
 
 -- and what is linked and stands in a text, is linked from its sources
 abbrev pub LinkedTextsAreOfTheirSources : Sources → Type 0

@@ -8,13 +8,13 @@ use Rattle.weslc_unit.specs.declared.error.UnitRefusal.TheVariants.{Validate, Un
 use Rattle.weslc_unit.specs.Located.{RefusalsAreInDeclarations}
 
 pub refusals_are_in_declarations : RefusalsAreInDeclarations
-refusals_are_in_declarations unit (Validate f) y refused is =
+refusals_are_in_declarations steps unit (Validate f) y refused is =
     let same : f.declaration ≡ y = cc in
     subst (Contains (names unit)) same (faults_are_in_declarations unit builtin_names f refused)
-refusals_are_in_declarations unit (Eval r) y refused is =
+refusals_are_in_declarations steps unit (Eval r) y refused is =
     let same : r.declaration ≡ y = cc in
     subst (Contains (names unit)) same
-    (lower.refusals_are_in_declarations unit r refused.2)
-refusals_are_in_declarations unit (UnclearName x) y refused is = absurd (cc)
-refusals_are_in_declarations unit (Unprintable x) y refused is = absurd (cc)
-refusals_are_in_declarations unit OutOfMemory y refused is = absurd (cc)
+    (lower.refusals_are_in_declarations steps unit r refused.2)
+refusals_are_in_declarations steps unit (UnclearName x) y refused is = absurd (cc)
+refusals_are_in_declarations steps unit (Unprintable x) y refused is = absurd (cc)
+refusals_are_in_declarations steps unit OutOfMemory y refused is = absurd (cc)

@@ -72,15 +72,15 @@ module _ (unit : Module) (table : List Name) where
 
 -- ---- what a unit is lowered to
 
-same_low : (unit low other : Module) → IsLowered unit low → IsLowered unit other → low ≡ other
-same_low unit low other a b = let is : Ok low ≡ Ok other = lowered_once unit (Ok low) (Ok other) a.lowered b.lowered in cc
+same_low : (steps : ℕ) (unit low other : Module) → IsLowered steps unit low → IsLowered steps unit other → low ≡ other
+same_low steps unit low other a b = let is : Ok low ≡ Ok other = lowered_once steps unit (Ok low) (Ok other) a.lowered b.lowered in cc
 
 -- it is not refused then
-not_refused : (unit low : Module) (r : DeclarationFault) → IsLowered unit low → Lowers unit (Err r) → ⊥
-not_refused unit low r a h = let is : Ok low ≡ Err r = lowered_once unit (Ok low) (Err r) a.lowered h in cc
+not_refused : (steps : ℕ) (unit low : Module) (r : DeclarationFault) → IsLowered steps unit low → Lowers steps unit (Err r) → ⊥
+not_refused steps unit low r a h = let is : Ok low ≡ Err r = lowered_once steps unit (Ok low) (Err r) a.lowered h in cc
 
-reads_back : (unit : Module) (text : List ℕ) (c : IsCompiled unit text) → IsTextOf c.low (unit_text c.low)
-reads_back unit text c = subst (IsTextOf c.low) c.whole c.reads
+reads_back : (steps : ℕ) (unit : Module) (text : List ℕ) (c : IsCompiled steps unit text) → IsTextOf c.low (unit_text c.low)
+reads_back steps unit text c = subst (IsTextOf c.low) c.whole c.reads
 
 -- ---- what is told where a text is not read back
 
@@ -100,36 +100,36 @@ told_once _ x y (of_later {ds = ds} is t) (of_later more r) = told_once ds x y t
 -- ---- the laws
 
 pub compiled_once : CompiledOnce
-compiled_once unit one other a b = a.whole ∙ ap unit_text (same_low unit a.low b.low a.lowered b.lowered) ∙ sym b.whole
+compiled_once steps unit one other a b = a.whole ∙ ap unit_text (same_low steps unit a.low b.low a.lowered b.lowered) ∙ sym b.whole
 
 pub refused_once : RefusedOnce
-refused_once unit (Validate f) (Validate g) a b = faulty_once unit builtin_names f g a b
-refused_once unit (Validate f) (UnclearName y) a b = absurd (faultless_or_faulty unit builtin_names f b.0 a)
-refused_once unit (Validate f) (Eval q) a b = absurd (faultless_or_faulty unit builtin_names f b.0 a)
-refused_once unit (Validate f) (Unprintable y) a b = absurd (faultless_or_faulty unit builtin_names f b.1.valid a)
-refused_once unit (Validate f) OutOfMemory a b = tt
-refused_once unit (UnclearName x) (Validate g) a b = absurd (faultless_or_faulty unit builtin_names g a.0 b)
-refused_once unit (UnclearName x) (UnclearName y) a b = same_first _ x y a.1 b.1
-refused_once unit (UnclearName x) (Eval q) a b = absurd (none _ x b.1 a.1)
-refused_once unit (UnclearName x) (Unprintable y) a b = absurd (none _ x b.1.clear a.1)
-refused_once unit (UnclearName x) OutOfMemory a b = tt
-refused_once unit (Eval r) (Validate g) a b = absurd (faultless_or_faulty unit builtin_names g a.0 b)
-refused_once unit (Eval r) (UnclearName y) a b = absurd (none _ y a.1 b.1)
-refused_once unit (Eval r) (Eval q) a b = let is : Err r ≡ Err q = lowered_once unit (Err r) (Err q) a.2 b.2 in cc
-refused_once unit (Eval r) (Unprintable y) a b = absurd (not_refused unit b.0 r b.1 a.2)
-refused_once unit (Eval r) OutOfMemory a b = tt
-refused_once unit (Unprintable x) (Validate g) a b = absurd (faultless_or_faulty unit builtin_names g a.1.valid b)
-refused_once unit (Unprintable x) (UnclearName y) a b = absurd (none _ y a.1.clear b.1)
-refused_once unit (Unprintable x) (Eval q) a b = absurd (not_refused unit a.0 q a.1 b.2)
-refused_once unit (Unprintable x) (Unprintable y) a b =
-    told_once a.0.declarations x y a.3 (subst (λ low. IsToldOfAll low.declarations y) (same_low unit b.0 a.0 b.1 a.1) b.3)
-refused_once unit (Unprintable x) OutOfMemory a b = tt
-refused_once unit OutOfMemory q a b = tt
+refused_once steps unit (Validate f) (Validate g) a b = faulty_once unit builtin_names f g a b
+refused_once steps unit (Validate f) (UnclearName y) a b = absurd (faultless_or_faulty unit builtin_names f b.0 a)
+refused_once steps unit (Validate f) (Eval q) a b = absurd (faultless_or_faulty unit builtin_names f b.0 a)
+refused_once steps unit (Validate f) (Unprintable y) a b = absurd (faultless_or_faulty unit builtin_names f b.1.valid a)
+refused_once steps unit (Validate f) OutOfMemory a b = tt
+refused_once steps unit (UnclearName x) (Validate g) a b = absurd (faultless_or_faulty unit builtin_names g a.0 b)
+refused_once steps unit (UnclearName x) (UnclearName y) a b = same_first _ x y a.1 b.1
+refused_once steps unit (UnclearName x) (Eval q) a b = absurd (none _ x b.1 a.1)
+refused_once steps unit (UnclearName x) (Unprintable y) a b = absurd (none _ x b.1.clear a.1)
+refused_once steps unit (UnclearName x) OutOfMemory a b = tt
+refused_once steps unit (Eval r) (Validate g) a b = absurd (faultless_or_faulty unit builtin_names g a.0 b)
+refused_once steps unit (Eval r) (UnclearName y) a b = absurd (none _ y a.1 b.1)
+refused_once steps unit (Eval r) (Eval q) a b = let is : Err r ≡ Err q = lowered_once steps unit (Err r) (Err q) a.2 b.2 in cc
+refused_once steps unit (Eval r) (Unprintable y) a b = absurd (not_refused steps unit b.0 r b.1 a.2)
+refused_once steps unit (Eval r) OutOfMemory a b = tt
+refused_once steps unit (Unprintable x) (Validate g) a b = absurd (faultless_or_faulty unit builtin_names g a.1.valid b)
+refused_once steps unit (Unprintable x) (UnclearName y) a b = absurd (none _ y a.1.clear b.1)
+refused_once steps unit (Unprintable x) (Eval q) a b = absurd (not_refused steps unit a.0 q a.1 b.2)
+refused_once steps unit (Unprintable x) (Unprintable y) a b =
+    told_once a.0.declarations x y a.3 (subst (λ low. IsToldOfAll low.declarations y) (same_low steps unit b.0 a.0 b.1 a.1) b.3)
+refused_once steps unit (Unprintable x) OutOfMemory a b = tt
+refused_once steps unit OutOfMemory q a b = tt
 
 pub compiled_or_refused : CompiledOrRefused
-compiled_or_refused unit text (Validate f) a b = absurd (faultless_or_faulty unit builtin_names f a.lowered.valid b)
-compiled_or_refused unit text (UnclearName x) a b = absurd (none _ x a.lowered.clear b.1)
-compiled_or_refused unit text (Eval r) a b = absurd (not_refused unit a.low r a.lowered b.2)
-compiled_or_refused unit text (Unprintable x) a b =
-    absurd (b.2 (subst (λ l. IsTextOf l (unit_text l)) (same_low unit a.low b.0 a.lowered b.1) (reads_back unit text a)))
-compiled_or_refused unit text OutOfMemory a b = refl
+compiled_or_refused steps unit text (Validate f) a b = absurd (faultless_or_faulty unit builtin_names f a.lowered.valid b)
+compiled_or_refused steps unit text (UnclearName x) a b = absurd (none _ x a.lowered.clear b.1)
+compiled_or_refused steps unit text (Eval r) a b = absurd (not_refused steps unit a.low r a.lowered b.2)
+compiled_or_refused steps unit text (Unprintable x) a b =
+    absurd (b.2 (subst (λ l. IsTextOf l (unit_text l)) (same_low steps unit a.low b.0 a.lowered b.1) (reads_back steps unit text a)))
+compiled_or_refused steps unit text OutOfMemory a b = refl

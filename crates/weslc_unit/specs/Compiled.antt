@@ -30,11 +30,11 @@ IsValid unit = IsFaultless unit builtin_names
 abbrev pub IsClear : UnitTree → Type 0
 IsClear unit = unclear unit builtin_names ≡ []
 
--- a valid unit with clear names, and what it is lowered to
-pub record IsLowered (unit low : UnitTree) : Type 0 where
+-- a valid unit with clear names, and what it is lowered to, where each evaluation may take so many steps
+pub record IsLowered (steps : ℕ) (unit low : UnitTree) : Type 0 where
   pub valid : IsValid unit
   pub clear : IsClear unit
-  pub lowered : Lowers unit (Ok low)
+  pub lowered : Lowers steps unit (Ok low)
 
 -- the text is read as this tree
 abbrev pub IsTextOf : UnitTree → List ℕ → Type 0
@@ -48,9 +48,9 @@ IsReadAlone d = IsTextOf (alone d) (decl_text d)
 
 -- the text of what a unit is lowered to, which is read as that. Every run of the unit that ends well ends well in the lowered
 -- unit, with the same answer and in no more steps.
-pub record IsCompiled (unit : UnitTree) (text : List ℕ) : Type 0 where
+pub record IsCompiled (steps : ℕ) (unit : UnitTree) (text : List ℕ) : Type 0 where
   pub low : UnitTree
-  pub lowered : IsLowered unit low
+  pub lowered : IsLowered steps unit low
   pub whole : text ≡ unit_text low
   pub reads : IsTextOf low text
   pub keeps : Keeps unit.declarations low.declarations
@@ -89,21 +89,21 @@ RefusesUnclear unit (Validate f) = ⊥
 RefusesUnclear unit (Eval r) = ⊥
 RefusesUnclear unit (Unprintable x) = ⊥
 
-abbrev pub RefusesValues : UnitTree → UnitRefusal → Type 0
-RefusesValues unit (Eval r) = Lowers unit (Err r)
-RefusesValues unit OutOfMemory = ⊤
-RefusesValues unit (Validate f) = ⊥
-RefusesValues unit (UnclearName x) = ⊥
-RefusesValues unit (Unprintable x) = ⊥
+abbrev pub RefusesValues : ℕ → UnitTree → UnitRefusal → Type 0
+RefusesValues steps unit (Eval r) = Lowers steps unit (Err r)
+RefusesValues steps unit OutOfMemory = ⊤
+RefusesValues steps unit (Validate f) = ⊥
+RefusesValues steps unit (UnclearName x) = ⊥
+RefusesValues steps unit (Unprintable x) = ⊥
 
 -- memory aside, what is printed of the unit is not read as the unit
 abbrev pub IsUnprintable : UnitTree → PrintError → Type 0
 IsUnprintable unit (print.Unprintable x) = IsTextOf unit (unit_text unit) → ⊥
 IsUnprintable unit print.OutOfMemory = ⊤
 
-abbrev pub Refuses : UnitTree → UnitRefusal → Type 0
-Refuses unit (Validate f) = IsFirstFault unit builtin_names f
-Refuses unit (UnclearName x) = IsValid unit × (first (unclear unit builtin_names) ≡ Some x)
-Refuses unit (Eval r) = IsValid unit × IsClear unit × Lowers unit (Err r)
-Refuses unit (Unprintable x) = (low : UnitTree) × IsLowered unit low × (IsTextOf low (unit_text low) → ⊥) × IsToldOfAll low.declarations x
-Refuses unit OutOfMemory = ⊤
+abbrev pub Refuses : ℕ → UnitTree → UnitRefusal → Type 0
+Refuses steps unit (Validate f) = IsFirstFault unit builtin_names f
+Refuses steps unit (UnclearName x) = IsValid unit × (first (unclear unit builtin_names) ≡ Some x)
+Refuses steps unit (Eval r) = IsValid unit × IsClear unit × Lowers steps unit (Err r)
+Refuses steps unit (Unprintable x) = (low : UnitTree) × IsLowered steps unit low × (IsTextOf low (unit_text low) → ⊥) × IsToldOfAll low.declarations x
+Refuses steps unit OutOfMemory = ⊤

@@ -1,5 +1,5 @@
 -- Which declaration a refusal is about.
-use Rattle.std.specs.Prelude.{◌≡◌, Option, Some, None}
+use Rattle.std.specs.Prelude.{◌≡◌, ℕ, Option, Some, None}
 use Rattle.std.specs.List.{Contains}
 use Rattle.wgsl_syntax.specs.Tree.{UnitTree}
 use Rattle.wesl_validate.specs.Scopes.{Name, names}
@@ -17,4 +17,4 @@ declaration_of OutOfMemory = None
 
 -- it is one that the unit declares
 abbrev pub RefusalsAreInDeclarations : Type 0
-RefusalsAreInDeclarations = (unit : UnitTree) (refusal : UnitRefusal) (y : Name) → Refuses unit refusal → declaration_of refusal ≡ Some y → Contains (names unit) y
+RefusalsAreInDeclarations = (steps : ℕ) (unit : UnitTree) (refusal : UnitRefusal) (y : Name) → Refuses steps unit refusal → declaration_of refusal ≡ Some y → Contains (names unit) y

@@ -17,12 +17,12 @@ SameRefusal r q = ⊥
 
 -- a unit has one compiled text
 abbrev pub CompiledOnce : Type 0
-CompiledOnce = (unit : UnitTree) (one other : List ℕ) → IsCompiled unit one → IsCompiled unit other → one ≡ other
+CompiledOnce = (steps : ℕ) (unit : UnitTree) (one other : List ℕ) → IsCompiled steps unit one → IsCompiled steps unit other → one ≡ other
 
 -- it is refused in one way
 abbrev pub RefusedOnce : Type 0
-RefusedOnce = (unit : UnitTree) (one other : UnitRefusal) → Refuses unit one → Refuses unit other → SameRefusal one other
+RefusedOnce = (steps : ℕ) (unit : UnitTree) (one other : UnitRefusal) → Refuses steps unit one → Refuses steps unit other → SameRefusal one other
 
 -- what is compiled is refused for memory alone
 abbrev pub CompiledOrRefused : Type 0
-CompiledOrRefused = (unit : UnitTree) (text : List ℕ) (refusal : UnitRefusal) → IsCompiled unit text → Refuses unit refusal → refusal ≡ OutOfMemory
+CompiledOrRefused = (steps : ℕ) (unit : UnitTree) (text : List ℕ) (refusal : UnitRefusal) → IsCompiled steps unit text → Refuses steps unit refusal → refusal ≡ OutOfMemory

@@ -36,12 +36,16 @@ fn check_clear(alloc: Global, unit: &TranslationUnit) -> Result<(), UnitRefusal>
     }
 }
 
-fn lowered(alloc: Global, unit: &TranslationUnit) -> Result<TranslationUnit, UnitRefusal>
-    ensures exactly { IfOk result (λ low. Lowers (unit_tree unit.now) (Ok (unit_tree low))) }
+fn lowered(
+    alloc: Global,
+    unit: &TranslationUnit,
+    max_steps: u64,
+) -> Result<TranslationUnit, UnitRefusal>
+    ensures exactly { IfOk result (λ low. Lowers max_steps (unit_tree unit.now) (Ok (unit_tree low))) }
     ensures keeps { AreClear (unit_tree unit.now).declarations → IfOk result (λ low. Keeps (unit_tree unit.now).declarations (unit_tree low).declarations) }
-    ensures refusal { IfErr result (RefusesValues (unit_tree unit.now)) }
+    ensures refusal { IfErr result (RefusesValues max_steps (unit_tree unit.now)) }
 {
-    match lower(alloc, unit) {
+    match lower(alloc, unit, max_steps) {
         Ok(low) => Ok(low),
         Err(OrOutOfMemory::Error(refusal)) => Err(UnitRefusal::Eval(refusal)),
         Err(OrOutOfMemory::OutOfMemory) => Err(UnitRefusal::OutOfMemory),
@@ -49,14 +53,19 @@ fn lowered(alloc: Global, unit: &TranslationUnit) -> Result<TranslationUnit, Uni
 }
 
 /// The text of what a linked unit is lowered to, or the unit's first fault: of validation, then a name that is unclear, then
-/// of a const or of what is rewritten, then that no text stands for what is left.
-pub fn compile_unit(alloc: Global, unit: &TranslationUnit) -> Result<String, UnitRefusal>
-    ensures text { IfOk result (λ text. IsCompiled (unit_tree unit.now) (string_bytes text)) }
-    ensures refusal { IfErr result (Refuses (unit_tree unit.now)) }
+/// of a const or of what is rewritten, then that no text stands for what is left. Each evaluation of an expression or a declaration
+/// may take `max_steps` steps.
+pub fn compile_unit(
+    alloc: Global,
+    unit: &TranslationUnit,
+    max_steps: u64,
+) -> Result<String, UnitRefusal>
+    ensures text { IfOk result (λ text. IsCompiled max_steps (unit_tree unit.now) (string_bytes text)) }
+    ensures refusal { IfErr result (Refuses max_steps (unit_tree unit.now)) }
 {
     check_valid(alloc, unit)?;
     check_clear(alloc, unit)?;
-    let low = lowered(alloc, unit)?;
+    let low = lowered(alloc, unit, max_steps)?;
     match print_unit(alloc, &low) {
         Ok(text) => Ok(text),
         Err(PrintError::Unprintable(name)) => Err(UnitRefusal::Unprintable(name)),

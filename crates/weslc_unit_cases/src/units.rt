@@ -19,6 +19,9 @@ use wgsl_syntax::{
     TranslationUnit,
 };
 
+/// How many steps an evaluation may take.
+const MAX_STEPS: u64 = 1_000_000;
+
 /// A value in the form of `Debug`.
 fn shown<T: Debug>(alloc: Global, value: &T) -> Result<String, AllocError> {
     format!(in alloc; "{value:?}")
@@ -42,7 +45,7 @@ impl Tell for Fault {
     fn tell(&self, alloc: Global) -> Result<String, AllocError> {
         match self {
             Fault::Operation(error) => shown(alloc, error.get()),
-            Fault::NegativeAttr(_) => shown(alloc, self),
+            Fault::StepLimit | Fault::Deferred(_) | Fault::NegativeAttr(_) => shown(alloc, self),
             Fault::Name(fault, name) => format!(in alloc; "{fault:?} {}", name.as_str()),
         }
     }
@@ -98,7 +101,10 @@ fn maybe<T: Display + Drop>(
 
 /// Whether a text reads back as what a unit is lowered to.
 fn reads_back(alloc: Global, unit: &TranslationUnit, text: &str) -> bool {
-    agree(lower(alloc, unit).ok(), parse_str(alloc, text).ok())
+    agree(
+        lower(alloc, unit, MAX_STEPS).ok(),
+        parse_str(alloc, text).ok(),
+    )
 }
 
 /// A compiled text, which reads back, or its refusal.
@@ -225,7 +231,7 @@ fn of_unit(alloc: Global, call: &str, unit: &TranslationUnit) -> Result<String, 
     match call {
         "parse" => printed(alloc, unit),
         "places" => places(alloc, unit),
-        "compile_unit" => compiled(alloc, unit, compile_unit(alloc, unit)),
+        "compile_unit" => compiled(alloc, unit, compile_unit(alloc, unit, MAX_STEPS)),
         "validate_wesl" => refused(alloc, validate_wesl(alloc, unit, builtin_names())),
         "unclear_name" => maybe(alloc, unclear_name(alloc, unit, builtin_names())),
         "print_declaration" => last_printed(alloc, unit),

@@ -3,8 +3,7 @@ use Rattle.std.specs.Prelude.{ℕ, List, [], ◌∷◌, ◌++◌, Option, Some, 
 use Rattle.wgsl_syntax.specs.Tree.{Decl, variable, function}
 use Rattle.wgsl_shader_type.specs.declared.literal.LiteralInstance.{LiteralInstance}
 use Rattle.wgsl_meaning.specs.declared.fault.Fault.{Fault}
-use Rattle.wgsl_meaning.specs.declared.fault.Fault.TheVariants.{Name as Named}
-use Rattle.wgsl_meaning.specs.declared.fault.NameFault.TheVariants.{CyclicDecl}
+use Rattle.wgsl_meaning.specs.declared.fault.Fault.TheVariants.{StepLimit}
 use Rattle.wgsl_meaning.specs.Outcome.{Outcome, Done, Failed, Deep}
 use Rattle.wgsl_meaning.specs.Names.{Name, find_decl}
 use Rattle.wgsl_meaning.specs.Meaning.{const_in}
@@ -17,7 +16,7 @@ refused x f = record { declaration = x; fault = f }
 abbrev pub added : Consts → Name → Outcome LiteralInstance → Result Consts DeclarationFault
 added cs x (Done v n) = Ok (cs ++ (x, v) ∷ [])
 added cs x (Failed f) = Err (refused x f)
-added cs x Deep = Err (refused x (Named CyclicDecl x))
+added cs x Deep = Err (refused x StepLimit)
 
 -- a name's value, if it is a const's
 abbrev pub valued : List Decl → Consts → Name → Option Decl → Result Consts DeclarationFault

@@ -4,6 +4,7 @@ ghost use Rattle.std.specs.Prelude.{◌≡◌, [], map};
 ghost use Rattle.wgsl_syntax.specs.Tree.{exps};
 ghost use Rattle.wgsl_syntax.specs.View.{tree, node_tree, type_tree, call_layer};
 ghost use Rattle.wgsl_meaning.specs.Meaning as spec;
+ghost use Rattle.wgsl_meaning.specs.Values.{decides};
 ghost use Rattle.wgsl_meaning.specs.Names.{plain_name};
 ghost use Rattle.wgsl_meaning.specs.Programs.{called_at, here_if};
 ghost use Rattle.wgsl_meaning.specs.ConstStage.{stage, callee_of};
@@ -20,7 +21,9 @@ use wgsl_items::{Items, Text};
 use wgsl_meaning::NameFault;
 use wgsl_scalar::{ScalarType, binary_scalar_op, construct_scalar, unary_scalar_op};
 use wgsl_shader_type::LiteralInstance;
-use wgsl_syntax::{Expression, ExpressionNode, FunctionCall, GlobalDeclaration, TypeExpression};
+use wgsl_syntax::{
+    BinaryOperator, Expression, ExpressionNode, FunctionCall, GlobalDeclaration, TypeExpression,
+};
 
 /// The value of a name: of a const that has one by now.
 pub(crate) fn name_value(
@@ -75,6 +78,19 @@ fn call(
     }
 }
 
+/// Whether the left operand of `&&` or `||` is the result already (WGSL, "Logical Expressions").
+fn decides(operator: BinaryOperator, left: LiteralInstance) -> bool
+    ensures { result ≡ decides operator left }
+{
+    matches!(
+        (operator, left),
+        (
+            BinaryOperator::ShortCircuitAnd,
+            LiteralInstance::Bool(false)
+        ) | (BinaryOperator::ShortCircuitOr, LiteralInstance::Bool(true))
+    )
+}
+
 /// The value of an expression at the const stage, or its fault.
 #[cycle(evaluating)]
 #[tactic(auto, using(wgsl_syntax::proofs::Trees::tree_of_call))]
@@ -97,6 +113,9 @@ pub fn eval_value(
         }
         Expression::Binary(x) => {
             let left = eval_value(alloc, scope, x.left.node())?;
+            if decides(x.operator, left) {
+                return Ok(left);
+            }
             let right = eval_value(alloc, scope, x.right.node())?;
             computed(
                 alloc,

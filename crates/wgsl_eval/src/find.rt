@@ -74,10 +74,10 @@ pub fn plain_name<'a>(alloc: Global, ty: &'a TypeExpression) -> Result<&'a Text,
     ensures { Gives (λ name. name.now) (spec.plain_name (type_tree ty.now)) result }
 {
     let name = &ty.ident.name;
-    if ty.template_args.is_some() {
-        Err(named(alloc, NameFault::UnexpectedTemplate, name))
-    } else if ty.path.is_some() {
+    if ty.path.is_some() {
         Err(named(alloc, NameFault::UnknownDecl, name))
+    } else if ty.template_args.is_some() {
+        Err(named(alloc, NameFault::UnexpectedTemplate, name))
     } else {
         Ok(name)
     }

@@ -6,13 +6,14 @@ ghost use Rattle.wgsl_syntax.specs.Tree.{exps};
 ghost use Rattle.wgsl_syntax.specs.View.{tree, node_tree, type_tree, call_layer, declaration_tree};
 ghost use Rattle.wgsl_syntax.specs.declared.declaration.GlobalDeclaration.TheVariants.{Declaration as TheDeclaration};
 ghost use Rattle.wgsl_meaning.specs.Meaning as spec;
-ghost use Rattle.wgsl_meaning.specs.ConstStage.{stage};
-ghost use Rattle.wgsl_meaning.specs.Names.{find};
+ghost use Rattle.wgsl_meaning.specs.Outcome.{bind, at_once};
+ghost use Rattle.wgsl_meaning.specs.ConstStage.{stage, result_written};
+ghost use Rattle.wgsl_meaning.specs.Names.{find, built_in_type};
 ghost use Rattle.wgsl_eval.specs.Ends.{Ends};
 ghost use Rattle.wgsl_eval.specs.Scopes.{scope_of, outside};
 
 use crate::error::{EvalError, computed, named};
-use crate::evaluate::{callee, eval_value, name_value};
+use crate::evaluate::{eval_value, name_value};
 use crate::find::{built_in_type, declaration, found, plain_name};
 use crate::literal::literal_value;
 use crate::scope::{Declarations, Scope, Values};
@@ -21,7 +22,10 @@ use wgsl_items::{Items, Text};
 use wgsl_meaning::NameFault;
 use wgsl_scalar::{ScalarType, convert_scalar, scalar_binary_type, scalar_unary_type, type_of};
 use wgsl_shader_type::LiteralInstance;
-use wgsl_syntax::{Declaration, Expression, ExpressionNode, FunctionCall, TypeExpression};
+use wgsl_syntax::{
+    Declaration, Expression, ExpressionNode, Function, FunctionCall, GlobalDeclaration,
+    TypeExpression,
+};
 
 fn name_type(alloc: Global, scope: &Scope<'_>, name: &Text) -> Result<ScalarType, EvalError>
     ensures { Ends (spec.local_or (find name.now scope.now.parameters.now) (spec.type_in_world ((stage (scope_of scope.now)).value_of name.now))) result }
@@ -29,6 +33,50 @@ fn name_type(alloc: Global, scope: &Scope<'_>, name: &Text) -> Result<ScalarType
     match found(name, scope.parameters) {
         Some(ty) => Ok(ty),
         None => Ok(type_of(name_value(alloc, scope, name)?)),
+    }
+}
+
+fn construct_type(
+    alloc: Global,
+    name: &Text,
+    arguments: &[ScalarType],
+) -> Result<ScalarType, EvalError>
+    ensures { Ends (bind (at_once (built_in_type name.now)) (λ t. spec.construct_type name.now t arguments.now)) result }
+{
+    let ty = built_in_type(alloc, name)?;
+    match arguments {
+        [] | [_] => Ok(ty),
+        _ => Err(named(alloc, NameFault::Signature, name)),
+    }
+}
+
+/// The type of what a function hands back.
+fn result_type(
+    alloc: Global,
+    scope: &Scope<'_>,
+    name: &Text,
+    function: &Function,
+) -> Result<ScalarType, EvalError>
+    ensures { Ends (result_written (scope_of scope.now) name.now (option_map type_tree function.now.return_type)) result }
+{
+    match &function.return_type {
+        Some(ty) => ty_eval_ty(alloc, scope, ty),
+        None => Err(named(alloc, NameFault::Void, name)),
+    }
+}
+
+fn declared_type(
+    alloc: Global,
+    scope: &Scope<'_>,
+    name: &Text,
+    arguments: &[ScalarType],
+) -> Result<ScalarType, EvalError>
+    ensures { Ends ((stage (scope_of scope.now)).result_type name.now arguments.now) result }
+{
+    match declaration(name, scope.declarations) {
+        Some(GlobalDeclaration::Function(function)) => result_type(alloc, scope, name, function),
+        Some(GlobalDeclaration::Declaration(_)) => Err(named(alloc, NameFault::NotCallable, name)),
+        None => construct_type(alloc, name, arguments),
     }
 }
 
@@ -40,10 +88,10 @@ fn call_type(
 ) -> Result<ScalarType, EvalError>
     ensures { Ends (spec.called_or name.now (find name.now scope.now.parameters.now) ((stage (scope_of scope.now)).result_type name.now arguments.now)) result }
 {
-    let ty = callee(alloc, scope, name)?;
-    match arguments {
-        [] | [_] => Ok(ty),
-        _ => Err(named(alloc, NameFault::Signature, name)),
+    if found(name, scope.parameters).is_some() {
+        Err(named(alloc, NameFault::NotCallable, name))
+    } else {
+        declared_type(alloc, scope, name, arguments)
     }
 }
 

@@ -39,7 +39,7 @@ pub fn lex(alloc: Global, text: &str) -> Result<Items<SpannedToken>, AllocError>
 }
 
 /// What stands at the front of some characters: of the first one, and what is behind it.
-fn first_piece(
+pub fn first_piece(
     alloc: Global,
     characters: &[char],
     first: char,

@@ -13,5 +13,6 @@ mod trivia;
 mod word;
 
 pub use identifier::is_identifier;
-pub use lexer::lex;
+pub use lexer::{first_piece, lex};
+pub use piece::Piece;
 pub use trivia::{is_blankspace, is_line_break};

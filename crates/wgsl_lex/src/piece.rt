@@ -4,9 +4,9 @@ use wgsl_token::Token;
 
 /// The longest run of characters at the front that is blankspace, a comment or a token.
 #[derive(Debug, Drop)]
-pub(crate) struct Piece {
+pub struct Piece {
     /// How many characters it has.
-    pub(crate) length: usize,
+    pub length: usize,
     /// Its token, unless it is blankspace or a comment.
-    pub(crate) token: Option<Token>,
+    pub token: Option<Token>,
 }

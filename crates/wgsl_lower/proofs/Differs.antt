@@ -6,7 +6,7 @@ use Rattle.wgsl_shader_type.specs.declared.literal.LiteralInstance.{LiteralInsta
 use Rattle.wgsl_scalar.specs.declared.scalar.ScalarType.{ScalarType}
 use Rattle.wgsl_scalar.specs.declared.scalar.ScalarType.TheVariants.{Bool as Truth, Integer}
 use Rattle.wgsl_scalar.specs.declared.scalar.IntegerType.TheVariants.{AbstractInt, I32, U32}
-use Rattle.wgsl_meaning.specs.declared.fault.Fault.TheVariants.{Operation, NegativeAttr, Name as Named}
+use Rattle.wgsl_meaning.specs.declared.fault.Fault.TheVariants.{StepLimit, Operation, Deferred, NegativeAttr, Name as Named}
 use Rattle.wgsl_meaning.specs.Values.{Checked, and_then}
 use Rattle.wgsl_meaning.specs.Outcome.{Outcome, Done, Failed, Deep}
 use Rattle.wgsl_meaning.specs.Names.{Name, find, find_decl, plain_name, built_in_type}
@@ -15,7 +15,7 @@ use Rattle.wgsl_meaning.specs.ConstStage.{Consts, Scope, stage, hidden, const_kn
 use Rattle.wgsl_meaning.specs.Written.{written}
 use Rattle.wgsl_meaning.specs.Programs.{type_at, here_if}
 use Rattle.wgsl_programs.specs.Follows.{Differences, Follows, FollowAll, keeps_parentheses, keeps_unary, keeps_binary, keeps_call, keeps_name, replaces, no_more, one_more, FollowsAt, as_it_is, at_the_type, FollowStatements, no_statements, returns_nothing, returns, FollowAttributes, no_attributes, keeps_fragment, keeps_location, FollowType, no_type, keeps_type, FollowParameters, no_parameters, one_parameter, FollowsDeclaration, keeps_function}
-use Rattle.wgsl_lower.specs.Lowered.{lacks_value, unless_const, callee_here, lowered, all_lowered, type_here, constructor_call, converted_exp, lowered_return, lowered_attribute, lowered_attributes, lowered_parameter, lowered_parameters, parameter_types, checked_type, lowered_statement, lowered_statements, with_parameters}
+use Rattle.wgsl_lower.specs.Computed.{lacks_value, unless_const, callee_here, lowered, all_lowered, type_here, constructor_call, converted_exp, lowered_return, lowered_attribute, lowered_attributes, lowered_parameter, lowered_parameters, parameter_types, checked_type, lowered_statement, lowered_statements}
 use Rattle.wgsl_lower.proofs.Steps.{then_ok}
 use Rattle.wgsl_lower.proofs.Units.{IsLowered}
 use Rattle.wgsl_lower.proofs.Worlds.{IsType}
@@ -24,10 +24,12 @@ use Rattle.wgsl_lower.proofs.Worlds.{IsType}
 
 abbrev pub HasNone : Outcome LiteralInstance → Type 0
 HasNone (Done v n) = ⊥
+HasNone (Failed StepLimit) = ⊥
 HasNone (Failed (Operation f)) = ⊥
+HasNone (Failed (Deferred t)) = ⊥
 HasNone (Failed (NegativeAttr z)) = ⊥
 HasNone (Failed (Named f x)) = lacks_value f ≡ true
-HasNone Deep = Unit {0}
+HasNone Deep = ⊥
 
 pub data Case (o : Outcome LiteralInstance) (other : Checked Exp) (d : Exp) : Type 0 where
   has : (v : LiteralInstance) (n : ℕ) → o ≡ Done v n → written v ≡ d → Case o other d
@@ -35,14 +37,16 @@ pub data Case (o : Outcome LiteralInstance) (other : Checked Exp) (d : Exp) : Ty
 
 pub case_of : (o : Outcome LiteralInstance) (other : Checked Exp) (d : Exp) → unless_const o other ≡ Ok d → Case o other d
 case_of (Done v n) other d e = has v n refl (cc)
+case_of (Failed StepLimit) other d e = absurd (cc)
 case_of (Failed (Operation f)) other d e = absurd (cc)
+case_of (Failed (Deferred t)) other d e = absurd (cc)
 case_of (Failed (NegativeAttr z)) other d e = absurd (cc)
 case_of (Failed (Named f x)) other d e = at (lacks_value f) refl e
   where
     at : (b : Bool) → lacks_value f ≡ b → (if b then other else Err (Named f x)) ≡ Ok d → Case (Failed (Named f x)) other d
     at true is h = has_none is h
     at false is h = absurd (cc)
-case_of Deep other d e = has_none tt e
+case_of Deep other d e = absurd (cc)
 
 -- ---- the differences
 
@@ -106,7 +110,8 @@ module _ (ds : List Decl) (cs : Consts) where
   plain_is : (f : Typ) (x : Name) → plain_name f ≡ Ok x → f ≡ simple None x
   plain_is (simple None y) x h = let same : y ≡ x = cc in ap (simple None) same
   plain_is (simple (Some path) y) x h = absurd (cc)
-  plain_is (templated path y arguments) x h = absurd (cc)
+  plain_is (templated None y arguments) x h = absurd (cc)
+  plain_is (templated (Some path) y arguments) x h = absurd (cc)
 
   pub type_is : (ts : Types) (t : Typ) (to : ScalarType) → type_here (scope ts) t ≡ Ok to → IsType ds t to
   type_is ts t to h =
@@ -131,7 +136,8 @@ module _ (ds : List Decl) (cs : Consts) where
         at None e None (Some (function attributes f parameters return_attributes type body)) g = absurd (cc)
         at None e None None g = absurd (cc)
     kept_name (simple (Some path) x) h = absurd (cc)
-    kept_name (templated path x arguments) h = absurd (cc)
+    kept_name (templated None x arguments) h = absurd (cc)
+    kept_name (templated (Some path) x arguments) h = absurd (cc)
 
     pub kept_callee : (f : Typ) (t : ScalarType) → callee_here s f ≡ Ok t → KeptCallee locals f f
     kept_callee f t h =
@@ -208,7 +214,7 @@ module _ (ds : List Decl) (cs : Consts) where
         at (Done (Integer U32) n) e1 is g = let same : e ≡ e1 = cc in as_it_is (goes e d (ap (lowered s) same ∙ g))
         at (Done Truth n) e1 is g = let same : e ≡ e1 = cc in as_it_is (goes e d (ap (lowered s) same ∙ g))
         at (Failed f) e1 is g = absurd (cc)
-        at Deep e1 is g = let same : e ≡ e1 = cc in as_it_is (goes e d (ap (lowered s) same ∙ g))
+        at Deep e1 is g = absurd (cc)
 
     pub statements_go : (type : Option Typ) (body low : List Stm) → lowered_statements s type body ≡ Ok low → FollowStatements lowering locals type body low
     statements_go type [] low h = let same : [] ≡ low = cc in subst (FollowStatements lowering locals type []) same no_statements

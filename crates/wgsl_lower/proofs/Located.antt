@@ -1,13 +1,12 @@
 -- A const that has no value was found under its name, and a function that isn't lowered stands in the unit.
-use Rattle.std.proofs.Common.{◌≡◌, ◌⊎◌, inl, inr, ⊎_elim, ℕ, zero, suc, List, [], ◌∷◌, map, Bool, true, false, Option, Some, None, Result, Ok, Err, refl, sym, ap, subst, arith, Contains}
+use Rattle.std.proofs.Common.{◌≡◌, ◌⊎◌, inl, inr, ⊎_elim, ℕ, zero, suc, List, [], ◌∷◌, map, Bool, true, false, Option, Some, None, Result, Ok, Err, refl, sym, ap, ◌∙◌, subst, arith, Contains}
 use Rattle.std.specs.Prelude.{if◌then◌else◌, slice_get}
 use Rattle.std.specs.Str.{bytes_eq}
 use Rattle.std.specs.Cmp.Lexicographic.{same_text}
 use Rattle.wgsl_syntax.specs.Tree.{Decl, variable, function}
 use Rattle.wgsl_syntax.specs.Names.{declared_name}
 use Rattle.wgsl_shader_type.specs.declared.literal.LiteralInstance.{LiteralInstance}
-use Rattle.wgsl_meaning.specs.declared.fault.Fault.TheVariants.{Name as Named}
-use Rattle.wgsl_meaning.specs.declared.fault.NameFault.TheVariants.{CyclicDecl}
+use Rattle.wgsl_meaning.specs.declared.fault.Fault.TheVariants.{StepLimit}
 use Rattle.wgsl_meaning.specs.Values.{Checked}
 use Rattle.wgsl_meaning.specs.Outcome.{Outcome, Done, Failed, Deep}
 use Rattle.wgsl_meaning.specs.Names.{Name, find_decl}
@@ -15,8 +14,9 @@ use Rattle.wgsl_meaning.specs.Meaning.{const_in}
 use Rattle.wgsl_meaning.specs.ConstStage.{Consts, Scope, stage, module_scope}
 use Rattle.wgsl_eval.specs.declared.error.DeclarationFault.{DeclarationFault}
 use Rattle.wgsl_eval.specs.Start.{refused, added, valued, valued_at, then_more, all_valued, consts_of}
-use Rattle.wgsl_lower.specs.Lowered.{lowered_function, refusing, lowered_declarations}
+use Rattle.wgsl_lower.specs.Computed.{lowered_function, refusing, lowered_declarations}
 use Rattle.wgsl_lower.specs.Located.{RefusalsAreInDeclarations}
+use Rattle.wgsl_lower.proofs.Same.{computed_same}
 
 -- ---- members
 
@@ -44,7 +44,7 @@ either_refused (Err q) f r h = let same : q ≡ r = cc in inl (ap Err same)
 added_here : (cs : Consts) (x : Name) (o : Outcome LiteralInstance) (r : DeclarationFault) → added cs x o ≡ Err r → r.declaration ≡ x
 added_here cs x (Done v n) r h = absurd (cc)
 added_here cs x (Failed f) r h = let same : refused x f ≡ r = cc in sym (ap (λ (q : DeclarationFault). q.declaration) same)
-added_here cs x Deep r h = let same : refused x (Named CyclicDecl x) ≡ r = cc in sym (ap (λ (q : DeclarationFault). q.declaration) same)
+added_here cs x Deep r h = let same : refused x StepLimit ≡ r = cc in sym (ap (λ (q : DeclarationFault). q.declaration) same)
 
 valued_in : (ds : List Decl) (cs : Consts) (x : Name) (o : Option Decl) (r : DeclarationFault) → find_decl x ds ≡ o → valued ds cs x o ≡ Err r → Contains (map declared_name ds) r.declaration
 valued_in ds cs x (Some (variable attributes kind y type e)) r is h =
@@ -80,8 +80,9 @@ lowered_in s (function attributes f parameters return_attributes type body ∷ d
 -- ---- the law
 
 pub refusals_are_in_declarations : RefusalsAreInDeclarations
-refusals_are_in_declarations unit r l =
+refusals_are_in_declarations steps unit r l =
     ⊎_elim (all_valued_in unit.declarations [] l.order r)
     (λ later. ⊎_elim (lowered_in (module_scope unit.declarations later.0) unit.declarations r) (λ none. absurd (cc))
     (either_refused (lowered_declarations (module_scope unit.declarations later.0) unit.declarations) (λ low. Ok (record { imports = []; declarations = low })) r later.1))
-    (either_refused (consts_of unit.declarations l.order) (λ cs. then_more (lowered_declarations (module_scope unit.declarations cs) unit.declarations) (λ low. Ok (record { imports = []; declarations = low }))) r l.comes)
+    (either_refused (consts_of unit.declarations l.order) (λ cs. then_more (lowered_declarations (module_scope unit.declarations cs) unit.declarations) (λ low. Ok (record { imports = []; declarations = low }))) r
+    (sym (computed_same steps l.order unit) ∙ l.comes))

@@ -1,16 +1,16 @@
 -- In the lowered unit names, types, written values and written conversions mean what they do in the unit, or better.
-use Rattle.std.proofs.Common.{◌≡◌, ℕ, ◌≤◌, List, [], ◌∷◌, map, Option, Some, None, Bool, true, false, Result, Ok, Err, refl, sym, ap, ◌∙◌, subst}
+use Rattle.std.proofs.Common.{◌≡◌, ℕ, ◌≤◌, List, [], ◌∷◌, Option, Some, None, Bool, true, false, Ok, Err, refl, sym, ap, ◌∙◌, subst}
 use Rattle.std.specs.Prelude.{codes, if◌then◌else◌}
 use Rattle.std.specs.Str.{bytes_eq}
-use Rattle.wgsl_syntax.specs.Tree.{Exp, Exps, exps, call, nil, cons, Typ, simple, Decl}
+use Rattle.wgsl_syntax.specs.Tree.{Exp, exps, call, nil, cons, Typ, Decl}
 use Rattle.wgsl_enumerations.specs.declared.words.ShaderStage.{ShaderStage}
 use Rattle.wgsl_enumerations.specs.declared.words.ShaderStage.TheVariants.{Const}
 use Rattle.wgsl_shader_type.specs.declared.literal.LiteralInstance.{LiteralInstance}
 use Rattle.wgsl_shader_type.specs.declared.tree.ShaderType.{ShaderType}
 use Rattle.wgsl_scalar.specs.declared.scalar.ScalarType.{ScalarType}
-use Rattle.wgsl_scalar.specs.declared.scalar.ScalarType.TheVariants.{Bool as Truth, Integer}
+use Rattle.wgsl_scalar.specs.declared.scalar.ScalarType.TheVariants.{Integer}
 use Rattle.wgsl_scalar.specs.declared.scalar.IntegerType.{IntegerType}
-use Rattle.wgsl_scalar.specs.declared.scalar.IntegerType.TheVariants.{AbstractInt, I32, U32}
+use Rattle.wgsl_scalar.specs.declared.scalar.IntegerType.TheVariants.{I32, U32}
 use Rattle.wgsl_scalar.specs.Scalars.{scalar_type}
 use Rattle.wgsl_scalar.specs.Conversions.{constructed}
 use Rattle.wgsl_instance.specs.declared.tree.Instance.{Instance}
@@ -21,7 +21,7 @@ use Rattle.wgsl_constructors.specs.Built.{built_scalar}
 use Rattle.wgsl_computations.specs.Machine.{State, Outcome, pure, fail, bind, next_of}
 use Rattle.wgsl_computations.specs.Machine as machine
 use Rattle.wgsl_computations.specs.Lift.{Lift, Same, Kept}
-use Rattle.wgsl_computations.specs.Compare.{LikewiseAt, EndsLikewise, Better}
+use Rattle.wgsl_computations.specs.Compare.{LikewiseAt, Better}
 use Rattle.wgsl_computations.proofs.Kept.{kept_better}
 use Rattle.wgsl_computations.proofs.Laws.{bind_bind}
 use Rattle.wgsl_meaning.specs.declared.fault.Fault.TheVariants.{Name as Named}
@@ -37,9 +37,9 @@ use Rattle.wgsl_meaning.specs.ConstStage.{Consts, Scope, stage}
 use Rattle.wgsl_meaning.specs.Written.{written}
 use Rattle.wgsl_programs.specs.Faults.{Fault, Operation, Deferred}
 use Rattle.wgsl_programs.specs.Computing.{M, computed, at_once, is_deferred, known, used}
-use Rattle.wgsl_programs.specs.Names.{Name, Symbol, Local, Has, Hidden, Env, find, built_in_type}
+use Rattle.wgsl_programs.specs.Names.{Name, Symbol, Local, Env, find}
 use Rattle.wgsl_programs.specs.Operations.{construct}
-use Rattle.wgsl_programs.specs.Meaning.{World, name_value, call_value, type_written, value, values}
+use Rattle.wgsl_programs.specs.Meaning.{World, name_value, call_value, type_written, value}
 use Rattle.wgsl_programs.specs.Calls.{handed_back, returned}
 use Rattle.wgsl_programs.specs.Programs.{Known, find_known, world, root}
 use Rattle.wgsl_programs.specs.Runs.{find_decl, here_if}
@@ -51,12 +51,12 @@ use Rattle.wgsl_programs.proofs.Itself.{local_same, constructed_same}
 use Rattle.wgsl_programs.proofs.Agreeing.{KnownAgree, LocalsAgree, better_by_const}
 use Rattle.wgsl_programs.proofs.Converting.{IsConcrete, better_returned}
 use Rattle.wgsl_programs.proofs.Scalars.{used_literal, built_of_scalar}
-use Rattle.wgsl_lower.specs.Lowered.{lowered, callee_here as scope_callee, all_lowered}
+use Rattle.wgsl_lower.specs.Computed.{lowered, callee_here as scope_callee, all_lowered}
 use Rattle.wgsl_lower.proofs.Steps.{then_ok}
-use Rattle.wgsl_lower.proofs.Units.{Parts, parts_of, after_done}
-use Rattle.wgsl_lower.proofs.Computes.{as_value, computed_done}
+use Rattle.wgsl_lower.proofs.Units.{parts_of, after_done}
+use Rattle.wgsl_lower.proofs.Computes.{computed_done}
 use Rattle.wgsl_lower.proofs.Worlds.{BothFound, both_found, hidden_locals, if_hidden, hidden_found, known_of, built_same, IsType, type_means, denotes_none, AreDeclared, scope_computes, written_means}
-use Rattle.wgsl_lower.proofs.Differs.{HasNone, Case, has, has_none, case_of, scope, Typed, KeptName, KeptCallee, KeptType, HasValue, HasConversion, lowering, kept_callee, goes}
+use Rattle.wgsl_lower.proofs.Differs.{Case, has, has_none, case_of, scope, Typed, KeptName, KeptCallee, KeptType, HasValue, HasConversion, lowering, goes}
 
 abbrev pub BetterLift : Lift Fault
 BetterLift A B S m n = Better Fault A B S m n

@@ -1,15 +1,13 @@
 -- A unit is lowered in one way, since it has one order of the start.
-use Rattle.std.proofs.Common.{◌≡◌, ℕ, List, Result, sym, ap, ◌∙◌}
-use Rattle.wgsl_syntax.specs.Tree.{UnitTree as Module}
+use Rattle.std.proofs.Common.{◌≡◌, sym, ap, ◌∙◌}
 use Rattle.wesl_validate.specs.Rings.{Chain}
 use Rattle.wesl_order.specs.Units.{rows_of, values_from}
 use Rattle.wesl_order.proofs.Once.{orders_are_one}
-use Rattle.wgsl_eval.specs.declared.error.DeclarationFault.{DeclarationFault}
-use Rattle.wgsl_lower.specs.Lowered.{lowered_after, Lowers}
+use Rattle.wgsl_lower.specs.Lowered.{lowered_after}
 use Rattle.wgsl_lower.specs.Once.{LoweredOnce}
 
 pub lowered_once : LoweredOnce
-lowered_once unit one other a b =
+lowered_once steps unit one other a b =
     let rows = rows_of unit.declarations in
     let same : a.order ≡ b.order = orders_are_one (Chain rows) (values_from 0 rows) a.order b.order a.is_order b.is_order in
-    sym a.comes ∙ ap (λ order. lowered_after order unit) same ∙ b.comes
+    sym a.comes ∙ ap (λ order. lowered_after steps order unit) same ∙ b.comes

@@ -18,16 +18,18 @@ use Rattle.wgsl_syntax.specs.declared.expression.TypeExpressionOf.{TypeExpressio
 use Rattle.wgsl_syntax.proofs.Trees.{tree_of_parenthesized, tree_of_unary, tree_of_binary, tree_of_call}
 use Rattle.wgsl_shader_type.specs.declared.literal.LiteralInstance.{LiteralInstance}
 use Rattle.wgsl_meaning.specs.declared.fault.Fault.{Fault}
-use Rattle.wgsl_meaning.specs.declared.fault.Fault.TheVariants.{Operation, NegativeAttr, Name as Named}
+use Rattle.wgsl_meaning.specs.declared.fault.Fault.TheVariants.{StepLimit, Operation, Deferred, NegativeAttr, Name as Named}
 use Rattle.wgsl_meaning.specs.Values.{Checked, and_then}
 use Rattle.wgsl_meaning.specs.Outcome.{Outcome, Done, Failed, Deep}
 use Rattle.wgsl_meaning.specs.Written.{least_signed, least_abstract, equals_zero}
 use Rattle.wgsl_meaning.specs.Meaning.{value}
 use Rattle.wgsl_meaning.specs.ConstStage.{Scope, stage}
-use Rattle.wgsl_lower.specs.Lowered.{lacks_value, unless_fault, unless_const, lowered, parts, const_value, written_or}
+use Rattle.wgsl_lower.specs.Computed.{lacks_value, unless_fault, unless_const, lowered, parts, const_value, written_or}
 
 unless_fault_is : (f : Fault) (p : Checked Exp) → unless_fault f p ≡ and_then (unless_fault f (Ok None)) (written_or p)
+unless_fault_is StepLimit p = refl
 unless_fault_is (Operation e) p = refl
+unless_fault_is (Deferred t) p = refl
 unless_fault_is (NegativeAttr z) p = refl
 unless_fault_is (Named f x) p = by (lacks_value f)
   where

@@ -1,10 +1,10 @@
 -- A run of the lowered unit is as good as the run of the unit.
-use Rattle.std.proofs.Common.{◌≡◌, ℕ, ◌≤◌, List, [], ◌∷◌, ◌++◌, map, Option, Some, None, Bool, true, false, Result, Ok, Err, IfOk, refl, sym, ap, ◌∙◌, subst}
+use Rattle.std.proofs.Common.{◌≡◌, ℕ, ◌≤◌, List, [], ◌∷◌, ◌++◌, map, Option, Some, None, Bool, true, false, Ok, Err, refl, sym, ap, ◌∙◌, subst}
 use Rattle.std.specs.Prelude.{codes, if◌then◌else◌, slice_get, ◌⊎◌}
 use Rattle.std.proofs.Common.{inl, inr}
 use Rattle.std.specs.Str.{bytes_eq}
 use Rattle.std.specs.Cmp.Lexicographic.{same_text}
-use Rattle.wgsl_syntax.specs.Tree.{Typ, Attr, Block, Param, Decl, variable, function, UnitTree as Module}
+use Rattle.wgsl_syntax.specs.Tree.{Param, Decl, variable, function, UnitTree as Module}
 use Rattle.wgsl_syntax.specs.Names.{declared_name}
 use Rattle.wgsl_enumerations.specs.declared.words.ShaderStage.TheVariants.{Const, Exec}
 use Rattle.wgsl_shader_type.specs.declared.literal.LiteralInstance.{LiteralInstance}
@@ -15,12 +15,11 @@ use Rattle.wgsl_instance.specs.declared.tree.Instance.{Instance}
 use Rattle.wgsl_computations.specs.Machine.{State, next_of}
 use Rattle.wgsl_computations.specs.Machine as machine
 use Rattle.wgsl_computations.specs.Lift.{Same}
-use Rattle.wgsl_computations.specs.Compare.{LikewiseAt, EndsLikewise, Better}
+use Rattle.wgsl_computations.specs.Compare.{LikewiseAt, Better}
 use Rattle.wgsl_meaning.specs.declared.fault.Fault.TheVariants.{Name as Named}
 use Rattle.wgsl_meaning.specs.declared.fault.NameFault.TheVariants.{Todo}
 use Rattle.wgsl_meaning.specs.Outcome.{Outcome, Done, Failed, Deep}
 use Rattle.wgsl_meaning.specs.Names.{Name, find_decl, built_in_type}
-use Rattle.wgsl_meaning.specs.Values.{Checked}
 use Rattle.wgsl_meaning.specs.Meaning.{Types, const_in}
 use Rattle.wgsl_meaning.specs.ConstStage.{Consts, stage, module_scope, Settled, nothing, another}
 use Rattle.wgsl_programs.specs.Faults.{Fault}
@@ -30,16 +29,11 @@ use Rattle.wgsl_programs.specs.Runs as runs
 use Rattle.wgsl_programs.proofs.Bodies.{entered_meets}
 use Rattle.wgsl_programs.proofs.Agreeing.{KnownAgree}
 use Rattle.wgsl_programs.proofs.Cells.{IsLeft, Leaves, start_leaves}
-use Rattle.wgsl_items.specs.declared.error.OrOutOfMemory.{OrOutOfMemory}
-use Rattle.wgsl_items.specs.declared.error.OrOutOfMemory.TheVariants.{Error, OutOfMemory}
 use Rattle.wesl_order.specs.Order.{IsStartOrder, none_left}
-use Rattle.wesl_order.specs.Units.{IsStartOrderOf}
-use Rattle.wgsl_eval.specs.declared.error.DeclarationFault.{DeclarationFault}
-use Rattle.wgsl_eval.specs.Refusals.{Answers}
 use Rattle.wgsl_eval.specs.Start.{then_more, added, valued, valued_at, all_valued, consts_of}
-use Rattle.wgsl_lower.specs.Lowered.{parameter_types, lowered_declarations, lowered_after, IsLowering}
+use Rattle.wgsl_lower.specs.Computed.{parameter_types, lowered_declarations, lowered_after}
 use Rattle.wgsl_lower.specs.Keeps.{is_clear, ClearParameters, AreClear, Keeps}
-use Rattle.wgsl_lower.proofs.Units.{then_more_ok, IsLowered, gone_too, found_too, only_functions, clear_declaration, clear_found, clear_types}
+use Rattle.wgsl_lower.proofs.Units.{then_more_ok, gone_too, found_too, only_functions, clear_declaration, clear_found, clear_types}
 use Rattle.wgsl_lower.proofs.Worlds.{same_decl, known_of}
 use Rattle.wgsl_lower.proofs.Differs.{AreClearTypes, lowering, declaration_goes}
 use Rattle.wgsl_lower.proofs.Meets.{BetterLift, kept, worlds_meet}
@@ -144,7 +138,7 @@ module _ (ds : List Decl) where
   settled_valued cs more x (Some (function attributes f ps rs t b)) h e is = let same : cs ≡ more = cc in subst (Settled ds) same h
   settled_valued cs more x None h e is = let same : cs ≡ more = cc in subst (Settled ds) same h
 
-  settled_at : (cs more : Consts) (d : Option Decl) → Settled ds cs → valued_at ds cs d ≡ Ok more → Settled ds more
+  pub settled_at : (cs more : Consts) (d : Option Decl) → Settled ds cs → valued_at ds cs d ≡ Ok more → Settled ds more
   settled_at cs more (Some (variable attributes kind x type i)) h is = settled_valued cs more x (find_decl x ds) h refl is
   settled_at cs more (Some (function attributes f ps rs t b)) h is = let same : cs ≡ more = cc in subst (Settled ds) same h
   settled_at cs more None h is = let same : cs ≡ more = cc in subst (Settled ds) same h
@@ -160,20 +154,9 @@ module _ (ds : List Decl) where
 
 -- ---- whole units
 
-lowered_so : (u low : Module) → AreClear u.declarations → (order : List ℕ) → lowered_after order u ≡ Ok low → Keeps u.declarations low.declarations
+pub lowered_so : (u low : Module) → AreClear u.declarations → (order : List ℕ) → lowered_after order u ≡ Ok low → Keeps u.declarations low.declarations
 lowered_so u low clear order is =
     let cs = then_more_ok (consts_of u.declarations order) (λ cs. then_more (lowered_declarations (module_scope u.declarations cs) u.declarations) (λ ds. Ok (record { imports = []; declarations = ds }))) low is in
     let ds = then_more_ok (lowered_declarations (module_scope u.declarations cs.0) u.declarations) (λ ds. Ok (record { imports = []; declarations = ds })) low cs.2 in
     let same : record { imports = []; declarations = ds.0 } ≡ low = cc in
     subst (Keeps u.declarations) (ap (λ (m : Module). m.declarations) same) (keeps u.declarations ds.0 cs.0 (settled u.declarations order cs.0 cs.1) ds.1 clear)
-
-pub keeps_if : {A : Type 0} (view : A → Module) (u : Module) (r : Result A (OrOutOfMemory DeclarationFault)) → AreClear u.declarations → IsLowering view u r → IfOk r (λ low. Keeps u.declarations (view low).declarations)
-keeps_if view u (Ok low) clear h = lowered_so u (view low) clear h.order h.comes
-keeps_if view u (Err e) clear h = tt
-
--- ---- an answer in the order of the start
-
-pub is_lowering : {A : Type 0} (view : A → Module) (u : Module) (order : List ℕ) (r : Result A (OrOutOfMemory DeclarationFault)) → IsStartOrderOf u.declarations order → Answers view (lowered_after order u) r → IsLowering view u r
-is_lowering view u order (Ok low) o h = record { order = order; is_order = o; comes = h }
-is_lowering view u order (Err OutOfMemory) o h = tt
-is_lowering view u order (Err (Error r)) o h = record { order = order; is_order = o; comes = h }

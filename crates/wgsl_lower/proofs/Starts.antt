@@ -24,23 +24,23 @@ use Rattle.wgsl_meaning.specs.Outcome as plain
 use Rattle.wgsl_meaning.specs.Values as plain_values
 use Rattle.wgsl_meaning.specs.Names as plain_names
 use Rattle.wgsl_meaning.specs.Meaning as plain_meaning
-use Rattle.wgsl_meaning.specs.ConstStage.{Consts, Scope, stage, module_scope, Settled, nothing, another}
+use Rattle.wgsl_meaning.specs.ConstStage.{Consts, stage, module_scope, Settled, nothing, another}
 use Rattle.wgsl_programs.specs.Faults.{Fault}
 use Rattle.wgsl_programs.specs.Computing.{M, computed, used}
 use Rattle.wgsl_programs.specs.Names.{Name, Symbol, is_same}
 use Rattle.wgsl_programs.specs.Meaning.{World, type_written, value, typed}
 use Rattle.wgsl_programs.specs.Calls.{const_in}
-use Rattle.wgsl_programs.specs.Programs.{Known, find_known, world, root, here}
+use Rattle.wgsl_programs.specs.Programs.{Known, find_known, world, root}
 use Rattle.wgsl_programs.specs.Runs.{find_decl, here_if, started}
 use Rattle.wgsl_programs.specs.Runs as runs
 use Rattle.wgsl_programs.proofs.Agreeing.{KnownAgree, const_answer}
 use Rattle.wgsl_programs.proofs.Known.{or_if, find_behind}
 use Rattle.wgsl_programs.proofs.Scalars.{used_literal, IsInRange, converted_scalar}
 use Rattle.wgsl_programs.proofs.Converting.{IsConcrete}
-use Rattle.wgsl_lower.specs.Lowered.{type_here}
-use Rattle.wgsl_lower.proofs.Units.{Parts, parts_of}
+use Rattle.wgsl_lower.specs.Computed.{type_here}
+use Rattle.wgsl_lower.proofs.Units.{parts_of}
 use Rattle.wgsl_lower.proofs.Computes.{computed_done}
-use Rattle.wgsl_lower.proofs.Worlds.{same_decl, if_root, known_of, known_found, IsType, type_means, denotes_none, AreDeclared, scope_computes}
+use Rattle.wgsl_lower.proofs.Worlds.{same_decl, if_root, known_of, known_found, type_means, denotes_none, AreDeclared, scope_computes}
 use Rattle.wgsl_lower.proofs.Differs.{type_is}
 use Rattle.wgsl_lower.proofs.Meets.{concrete_of}
 
@@ -59,7 +59,7 @@ find_last y (b ∷ bs) x z = step (bytes_eq y b.0) (find_last y bs x z)
     step true e = refl
     step false e = e
 
-in_range : (t : IntegerType) → IsConcrete t → (x : LiteralInstance) → IsInRange (Integer t) x
+pub in_range : (t : IntegerType) → IsConcrete t → (x : LiteralInstance) → IsInRange (Integer t) x
 in_range AbstractInt c x = absurd c
 in_range I32 c x = tt
 in_range U32 c x = tt

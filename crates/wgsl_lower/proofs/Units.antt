@@ -1,27 +1,21 @@
 -- Whole units: a run of the lowered unit is as good as the run of the unit.
 use Rattle.std.proofs.Common.{◌≡◌, ℕ, List, [], ◌∷◌, Option, Some, None, Bool, true, false, Result, Ok, Err, refl, sym, ap, ◌∙◌, subst}
-use Rattle.std.specs.Prelude.{codes, if◌then◌else◌}
+use Rattle.std.specs.Prelude.{if◌then◌else◌}
 use Rattle.std.specs.Str.{bytes_eq}
 use Rattle.std.specs.Cmp.Lexicographic.{same_text}
 use Rattle.wgsl_syntax.specs.Tree.{Exp, Typ, Attr, Block, Param, Decl, variable, function}
 use Rattle.wgsl_syntax.specs.declared.declaration.DeclarationKind.{DeclarationKind}
 use Rattle.wgsl_syntax.specs.Names.{declared_name}
-use Rattle.wgsl_shader_type.specs.declared.literal.LiteralInstance.{LiteralInstance}
 use Rattle.wgsl_scalar.specs.declared.scalar.ScalarType.{ScalarType}
-use Rattle.wgsl_scalar.specs.declared.scalar.ScalarType.TheVariants.{Bool as Truth, Integer}
-use Rattle.wgsl_scalar.specs.declared.scalar.IntegerType.{IntegerType}
-use Rattle.wgsl_scalar.specs.declared.scalar.IntegerType.TheVariants.{AbstractInt, I32, U32}
-use Rattle.wgsl_meaning.specs.declared.fault.Fault.{Fault}
-use Rattle.wgsl_scalar.specs.Scalars.{type_of}
 use Rattle.wgsl_meaning.specs.Values.{Checked, and_then}
 use Rattle.wgsl_meaning.specs.Outcome.{Outcome, Done, Failed, Deep, after, bind}
 use Rattle.wgsl_meaning.specs.Names.{Name, find, find_decl}
-use Rattle.wgsl_meaning.specs.Meaning.{Types, World}
+use Rattle.wgsl_meaning.specs.Meaning.{Types}
 use Rattle.wgsl_programs.specs.Programs.{is_value}
 use Rattle.wgsl_meaning.specs.ConstStage.{Scope}
 use Rattle.wgsl_eval.specs.declared.error.DeclarationFault.{DeclarationFault}
 use Rattle.wgsl_eval.specs.Start.{then_more}
-use Rattle.wgsl_lower.specs.Lowered.{type_here, lowered_attributes, lowered_parameters, parameter_types, checked_type, lowered_statements, with_parameters, lowered_body, lowered_rest, lowered_function, refusing, lowered_declarations}
+use Rattle.wgsl_lower.specs.Computed.{type_here, lowered_attributes, lowered_parameters, parameter_types, checked_type, lowered_statements, with_parameters, lowered_body, lowered_rest, lowered_function, refusing, lowered_declarations}
 use Rattle.wgsl_lower.specs.Keeps.{is_clear, ClearParameters, AreClear}
 use Rattle.wgsl_lower.proofs.Steps.{then_ok}
 

@@ -1,13 +1,16 @@
 -- The scope of the const stage as a world: its consts are known, of its parameters only the types.
-use Rattle.std.proofs.Common.{◌≡◌, ℕ, List, [], ◌∷◌, map, Option, Some, None, Bool, true, false, Ok, Err, refl, sym, ap, ◌∙◌, subst}
-use Rattle.std.specs.Prelude.{codes, pos, if◌then◌else◌, ◌&&◌}
+use Rattle.std.proofs.Common.{◌≡◌, ℕ, suc, List, [], ◌∷◌, map, Option, Some, None, Bool, true, false, Ok, Err, refl, sym, ap, ◌∙◌, subst}
+use Rattle.std.specs.Prelude.{codes, pos, negsuc, nat_lt, nat_eq, if◌then◌else◌, ◌&&◌}
 use Rattle.std.specs.Str.{bytes_eq}
-use Rattle.wgsl_syntax.specs.Tree.{Exp, Typ, simple, templated, Decl, variable, function}
+use Rattle.wgsl_operators.specs.declared.UnaryOperator.TheVariants.{Negation}
+use Rattle.wgsl_syntax.specs.declared.expression.LiteralExpression.TheVariants as L
+use Rattle.wgsl_syntax.specs.Tree.{Exp, literal, unary, nil, cons, Typ, simple, templated, Decl, variable, function}
 use Rattle.wgsl_syntax.specs.Names.{declared_name}
 use Rattle.wgsl_enumerations.specs.declared.words.ShaderStage.{ShaderStage}
 use Rattle.wgsl_enumerations.specs.declared.words.ShaderStage.TheVariants.{Const}
 use Rattle.wgsl_shader_type.specs.declared.literal.LiteralInstance.{LiteralInstance}
 use Rattle.wgsl_shader_type.specs.declared.literal.LiteralInstance.TheVariants as V
+use Rattle.wgsl_shader_type.specs.declared.tree.ShaderType.{ShaderType}
 use Rattle.wgsl_shader_type.specs.declared.tree.ShaderType.TheVariants as type
 use Rattle.wgsl_scalar.specs.declared.scalar.ScalarType.{ScalarType}
 use Rattle.wgsl_scalar.specs.declared.scalar.ScalarType.TheVariants.{Integer}
@@ -16,31 +19,31 @@ use Rattle.wgsl_scalar.specs.Scalars.{scalar_type}
 use Rattle.wgsl_scalar.specs.Conversions.{constructed}
 use Rattle.wgsl_instance.specs.declared.tree.Instance.{Instance}
 use Rattle.wgsl_instance.specs.declared.tree.Instance.TheVariants as v
-use Rattle.wgsl_computations.specs.Machine.{pure, bind}
+use Rattle.wgsl_computations.specs.Machine.{pure, fail, bind}
 use Rattle.wgsl_meaning.specs.declared.fault.Fault.TheVariants.{Name as Named}
 use Rattle.wgsl_meaning.specs.declared.fault.NameFault.TheVariants as plain_fault
-use Rattle.wgsl_meaning.specs.Outcome.{Done, Deep}
+use Rattle.wgsl_meaning.specs.Outcome.{Done, Failed, Deep}
 use Rattle.wgsl_meaning.specs.Outcome as plain
 use Rattle.wgsl_meaning.specs.Names as plain_names
 use Rattle.wgsl_meaning.specs.Values as plain_values
 use Rattle.wgsl_meaning.specs.Meaning as plain_meaning
 use Rattle.wgsl_meaning.specs.Meaning.{Types}
-use Rattle.wgsl_meaning.specs.ConstStage.{Consts, Scope, stage, hidden, const_known}
+use Rattle.wgsl_meaning.specs.ConstStage.{Consts, Scope, stage, hidden, const_known, result_written, call_type_at}
 use Rattle.wgsl_meaning.specs.Programs as plain_programs
-use Rattle.wgsl_meaning.specs.Written.{HasConstructor, written}
+use Rattle.wgsl_meaning.specs.Written.{HasConstructor, written, negative, least_abstract, least_signed}
 use Rattle.wgsl_meaning.proofs.WrittenValue.{value-written}
-use Rattle.wgsl_programs.specs.Faults.{OfName, Todo}
+use Rattle.wgsl_programs.specs.Faults.{OfName, Todo, NotType, UnexpectedTemplate}
 use Rattle.wgsl_programs.specs.Computing.{computed, at_once}
 use Rattle.wgsl_programs.specs.Names.{Name, Symbol, Local, Hidden, Env, find, built_in_type}
-use Rattle.wgsl_programs.specs.Operations.{construct}
-use Rattle.wgsl_programs.specs.Meaning.{World, name_value, call_value, denoted_type, type_written, value}
-use Rattle.wgsl_programs.specs.Programs.{Known, find_known, known_value, world, root, here}
+use Rattle.wgsl_programs.specs.Operations.{construct, construct_type}
+use Rattle.wgsl_programs.specs.Meaning.{World, shown, name_value, name_type, needed, call_value, call_type, denoted_type, type_written, value, values, typed}
+use Rattle.wgsl_programs.specs.Calls.{written_result, result_in}
+use Rattle.wgsl_programs.specs.Programs.{Known, find_known, known_value, known_type, function_world, world, root, here}
 use Rattle.wgsl_programs.specs.Runs.{find_decl, here_if}
 use Rattle.wgsl_programs.specs.Runs as runs
 use Rattle.wgsl_programs.proofs.Bodies.{name_here, callee_here}
-use Rattle.wgsl_programs.proofs.Scalars.{zero_of_scalar, built_of_scalar}
-use Rattle.wgsl_lower.proofs.Computes.{as_value, computes, of_scalars, computed_done}
-use Rattle.wgsl_lower.proofs.Units.{after_done}
+use Rattle.wgsl_programs.proofs.Scalars.{zero_of_scalar, built_of_scalar, type_of_literal}
+use Rattle.wgsl_lower.proofs.Computes.{as_value, lift, lift_bind, lift_computed, computes, name_type_here, call_type_here, types_compute}
 
 -- ---- what stands under a name
 
@@ -119,31 +122,51 @@ known_found s (b ∷ cs) = step (bytes_eq s.home root) (bytes_eq s.called b.0) (
 
 -- ---- built-in types
 
-pub built_same : (x : Name) (t : ScalarType) → plain_names.built_in_type x ≡ Ok t → built_in_type x ≡ Ok (scalar_type t)
-built_same x t h = at (bytes_eq x (codes "i32")) (bytes_eq x (codes "u32")) h
-  where
-    at : (b c : Bool) → (if b then Ok (Integer I32) else if c then Ok (Integer U32) else Err (Named plain_fault.Todo x)) ≡ Ok t
-        → (if b then Ok type.I32 else if c then Ok type.U32 else Err (OfName Todo x)) ≡ Ok (scalar_type t)
-    at true c e = let same : Integer I32 ≡ t = cc in ap (λ u. Ok (scalar_type u)) same
-    at false true e = let same : Integer U32 ≡ t = cc in ap (λ u. Ok (scalar_type u)) same
-    at false false e = absurd (cc)
+-- a type of scalars, or a fault
+abbrev pub typed_or : plain_values.Checked ScalarType → plain_values.Checked ShaderType
+typed_or (Ok t) = Ok (scalar_type t)
+typed_or (Err f) = Err f
 
-built_of : (f : Name) (t : ScalarType) (xs : List LiteralInstance) (y : LiteralInstance) (n : ℕ) → plain_meaning.construct f t xs ≡ Done y n → construct f (scalar_type t) (map as_value xs) ≡ pure (v.Literal y)
-built_of f t [] y n h = ap computed (zero_of_scalar t) ∙ of_scalars (constructed t (V.AbstractInt (pos 0))) y (computed_done (constructed t (V.AbstractInt (pos 0))) y n h)
-built_of f t (x ∷ []) y n h = ap computed (built_of_scalar x t) ∙ of_scalars (constructed t x) y (computed_done (constructed t x) y n h)
-built_of f t (x ∷ z ∷ xs) y n h = absurd (cc)
+pub built_is : (x : Name) → built_in_type x ≡ typed_or (plain_names.built_in_type x)
+built_is x = at (bytes_eq x (codes "i32")) (bytes_eq x (codes "u32"))
+  where
+    at : (b c : Bool) → (if b then Ok type.I32 else if c then Ok type.U32 else Err (OfName Todo x))
+        ≡ typed_or (if b then Ok (Integer I32) else if c then Ok (Integer U32) else Err (Named plain_fault.Todo x))
+    at true c = refl
+    at false true = refl
+    at false false = refl
+
+pub built_same : (x : Name) (t : ScalarType) → plain_names.built_in_type x ≡ Ok t → built_in_type x ≡ Ok (scalar_type t)
+built_same x t h = built_is x ∙ ap typed_or h
+
+lift_type_or : (r : plain_values.Checked ScalarType) → at_once (typed_or r) ≡ lift scalar_type (plain.at_once r)
+lift_type_or (Ok t) = refl
+lift_type_or (Err f) = refl
+
+built_of : (f : Name) (t : ScalarType) (xs : List LiteralInstance) → construct f (scalar_type t) (map as_value xs) ≡ lift as_value (plain_meaning.construct f t xs)
+built_of f t [] = ap computed (zero_of_scalar t) ∙ lift_computed (constructed t (V.AbstractInt (pos 0)))
+built_of f t (x ∷ []) = ap computed (built_of_scalar x t) ∙ lift_computed (constructed t x)
+built_of f t (x ∷ z ∷ xs) = refl
 
 -- a constructor by its name
-pub constructs : (f : Name) (xs : List LiteralInstance) (y : LiteralInstance) (n : ℕ) → plain.bind (plain.at_once (plain_names.built_in_type f)) (λ t. plain_meaning.construct f t xs) ≡ Done y n
-    → bind (at_once (built_in_type f)) (λ t. construct f t (map as_value xs)) ≡ pure (v.Literal y)
-constructs f xs y n h = at (plain_names.built_in_type f) refl h
-  where
-    at : (r : plain_values.Checked ScalarType) → plain_names.built_in_type f ≡ r → plain.bind (plain.at_once r) (λ t. plain_meaning.construct f t xs) ≡ Done y n
-        → bind (at_once (built_in_type f)) (λ t. construct f t (map as_value xs)) ≡ pure (v.Literal y)
-    at (Ok t) is e =
-        let more = after_done 0 (plain_meaning.construct f t xs) y n e in
-        ap (λ r. bind (at_once r) (λ u. construct f u (map as_value xs))) (built_same f t is) ∙ built_of f t xs y more.0 more.1
-    at (Err g) is e = absurd (cc)
+pub constructs : (f : Name) (xs : List LiteralInstance)
+    → bind (at_once (built_in_type f)) (λ t. construct f t (map as_value xs)) ≡ lift as_value (plain.bind (plain.at_once (plain_names.built_in_type f)) (λ t. plain_meaning.construct f t xs))
+constructs f xs =
+    ap (λ r. bind (at_once r) (λ t. construct f t (map as_value xs))) (built_is f)
+    ∙ ap (λ m. bind m (λ t. construct f t (map as_value xs))) (lift_type_or (plain_names.built_in_type f))
+    ∙ lift_bind scalar_type as_value (plain.at_once (plain_names.built_in_type f)) (λ t. plain_meaning.construct f t xs) (λ t. construct f t (map as_value xs)) (λ t. built_of f t xs)
+
+construct_types : (f : Name) (t : ScalarType) (ts : List ScalarType) → construct_type f (scalar_type t) (map scalar_type ts) ≡ lift scalar_type (plain_meaning.construct_type f t ts)
+construct_types f t [] = refl
+construct_types f t (s ∷ []) = refl
+construct_types f t (s ∷ u ∷ ts) = refl
+
+constructs_type : (f : Name) (ts : List ScalarType)
+    → bind (at_once (built_in_type f)) (λ t. construct_type f t (map scalar_type ts)) ≡ lift scalar_type (plain.bind (plain.at_once (plain_names.built_in_type f)) (λ t. plain_meaning.construct_type f t ts))
+constructs_type f ts =
+    ap (λ r. bind (at_once r) (λ t. construct_type f t (map scalar_type ts))) (built_is f)
+    ∙ ap (λ m. bind m (λ t. construct_type f t (map scalar_type ts))) (lift_type_or (plain_names.built_in_type f))
+    ∙ lift_bind scalar_type scalar_type (plain.at_once (plain_names.built_in_type f)) (λ t. plain_meaning.construct_type f t ts) (λ t. construct_type f t (map scalar_type ts)) (λ t. construct_types f t ts)
 
 -- a written type: a plain name that isn't declared, of a built-in type
 pub record IsType (ds : List Decl) (t : Typ) (to : ScalarType) : Type 0 where
@@ -164,89 +187,226 @@ denotes_none x ds e = ap (here_if x) (sym (same_decl x ds) ∙ e)
 abbrev pub AreDeclared : List Decl → Consts → Type 0
 AreDeclared ds cs = (x : Name) (y : LiteralInstance) → plain_names.find x cs ≡ Some y → (d : Decl) × (plain_names.find_decl x ds ≡ Some d)
 
-module _ (ds : List Decl) (cs : Consts) (declared : AreDeclared ds cs) (ts : Types) where
+-- a written type, in a world of these declarations
+module _ (ds : List Decl) (w : World) (denoted : (x : Name) → w.denotes x ≡ here_if x (find_decl x ds)) (told : (x : Name) → w.printed (here x) ≡ x) where
+  type_at_is : (x : Name) (d : Option Decl) → denoted_type w x (here_if x d) ≡ lift scalar_type (plain.at_once (plain_programs.type_at x (plain_programs.here_if x d)))
+  type_at_is x (Some d) = ap (λ y. fail (OfName NotType y)) (told x)
+  type_at_is x None = ap at_once (built_is x) ∙ lift_type_or (plain_names.built_in_type x)
+
+  shown_is : (x : Name) (l : Option Local) (d : Option Decl) → shown w x l (here_if x d) ≡ x
+  shown_is x (Some l) d = refl
+  shown_is x None (Some d) = told x
+  shown_is x None None = refl
+
+  pub name_told : (x : Name) (env : Env) → shown w x (find x env) (w.denotes x) ≡ x
+  name_told x env = ap (shown w x (find x env)) (denoted x) ∙ shown_is x (find x env) (find_decl x ds)
+
+  pub type_written_is : (t : Typ)
+      → type_written w t ≡ lift scalar_type (plain.at_once (plain_values.and_then (plain_names.plain_name t) (λ x. plain_programs.type_at x (plain_programs.here_if x (plain_names.find_decl x ds)))))
+  type_written_is (simple None x) =
+      ap (denoted_type w x) (denoted x) ∙ ap (λ d. denoted_type w x (here_if x d)) (sym (same_decl x ds)) ∙ type_at_is x (plain_names.find_decl x ds)
+  type_written_is (simple (Some path) x) = refl
+  type_written_is (templated None x arguments) = ap (λ y. fail (OfName UnexpectedTemplate y)) (name_told x [])
+  type_written_is (templated (Some path) x arguments) = refl
+
+module _ (ds : List Decl) (cs : Consts) (declared : AreDeclared ds cs) (ts : Types) (k : ℕ) where
   abbrev s : Scope
   s = record { declared = λ x. plain_names.find_decl x ds; known = λ x. plain_names.find x cs; parameters = ts }
 
   abbrev pub scope_world : World
-  scope_world = world (runs.plain ds) (known_of cs) 0 root
+  scope_world = world (runs.plain ds) (known_of cs) k root
 
-  not_hidden : (x : Name) → plain_names.find x ts ≡ None → find x (hidden_locals ts) ≡ None
-  not_hidden x e = hidden_found x ts ∙ ap if_hidden e
+  abbrev locals : Env
+  locals = hidden_locals ts
 
-  name_at : (x : Name) (y : LiteralInstance) (n : ℕ) (t : Option ScalarType) (c : Option LiteralInstance) (d : Option Decl) → plain_names.find x ts ≡ t → plain_names.find x cs ≡ c
-      → hidden x t (const_known x c d) ≡ Done y n → name_value scope_world Const x (find x (hidden_locals ts)) (here_if x (find_decl x ds)) ≡ pure (v.Literal y)
-  name_at x y n (Some t) c d e f h = absurd (cc)
-  name_at x y n None (Some z) d e f h =
-      let same : z ≡ y = cc in
-      let there = declared x z f in
-      ap (λ l. name_value scope_world Const x l (here_if x (find_decl x ds))) (not_hidden x e)
-      ∙ ap (λ o. name_value scope_world Const x None (here_if x o)) (sym (same_decl x ds) ∙ there.1)
-      ∙ ap (λ k. known_value x k (find_decl x ds)) (known_found (here x) cs ∙ ap (if_root true) f)
-      ∙ ap (λ q. pure (v.Literal q)) same
-  name_at x y n None None (Some (variable attributes kind z type e)) i f h = absurd (cc)
-  name_at x y n None None (Some (function attributes g parameters return_attributes type body)) i f h = absurd (cc)
-  name_at x y n None None None i f h = absurd (cc)
+  pub told_in : (x : Name) → shown scope_world x (find x locals) (here_if x (find_decl x ds)) ≡ x
+  told_in = λ x. name_told ds scope_world (λ y. refl) (λ y. refl) x locals
 
-  by_name : (x : Typ) (y : LiteralInstance) (n : ℕ) → plain_meaning.value_here (stage s) [] (plain_names.plain_name x) ≡ Done y n → name_here scope_world Const (hidden_locals ts) x ≡ pure (v.Literal y)
-  by_name (simple None x) y n h = name_at x y n (plain_names.find x ts) (plain_names.find x cs) (plain_names.find_decl x ds) refl refl h
-  by_name (simple (Some path) x) y n h = absurd (cc)
-  by_name (templated path x arguments) y n h = absurd (cc)
+  pub local_is : (x : Name) (t : Option ScalarType) → plain_names.find x ts ≡ t → find x locals ≡ if_hidden t
+  local_is x t e = hidden_found x ts ∙ ap if_hidden e
 
-  callee_at : (f : Name) (xs : List LiteralInstance) (y : LiteralInstance) (n : ℕ) (t : Option ScalarType) (d : Option Decl) → plain_names.find f ts ≡ t → plain_names.find_decl f ds ≡ d
-      → plain_meaning.called_or f t (plain_programs.called_at Const f (plain_programs.here_if f d) (λ x zs. Deep) xs) ≡ Done y n
-      → call_value scope_world Const f (find f (hidden_locals ts)) (here_if f (find_decl f ds)) (map as_value xs) ≡ pure (v.Literal y)
-  callee_at f xs y n (Some t) d e g h = absurd (cc)
-  callee_at f xs y n None (Some d) e g h = absurd (cc)
-  callee_at f xs y n None None e g h =
-      ap (λ l. call_value scope_world Const f l (here_if f (find_decl f ds)) (map as_value xs)) (not_hidden f e)
-      ∙ ap (λ o. call_value scope_world Const f None o (map as_value xs)) (denotes_none f ds g)
-      ∙ constructs f xs y n h
+  pub decl_is : (x : Name) (d : Option Decl) → plain_names.find_decl x ds ≡ d → find_decl x ds ≡ d
+  decl_is x d e = sym (same_decl x ds) ∙ e
 
-  by_call : (f : Typ) (xs : List LiteralInstance) (y : LiteralInstance) (n : ℕ) → plain_meaning.result_here (stage s) [] (plain_names.plain_name f) xs ≡ Done y n
-      → callee_here scope_world Const (hidden_locals ts) f (map as_value xs) ≡ pure (v.Literal y)
-  by_call (simple None f) xs y n h = callee_at f xs y n (plain_names.find f ts) (plain_names.find_decl f ds) refl refl h
-  by_call (simple (Some path) f) xs y n h = absurd (cc)
-  by_call (templated path f arguments) xs y n h = absurd (cc)
+  known_is : (x : Name) (c : Option LiteralInstance) → plain_names.find x cs ≡ c → find_known (here x) (known_of cs) ≡ if_root true c
+  known_is x c e = known_found (here x) cs ∙ ap (if_root true) e
 
-  -- a const value of the scope is the value in its world
-  pub scope_computes : (e : Exp) (y : LiteralInstance) (n : ℕ) → plain_meaning.value (stage s) [] e ≡ Done y n → value scope_world Const (hidden_locals ts) e ≡ pure (v.Literal y)
-  scope_computes = computes Const (stage s) [] scope_world (hidden_locals ts) refl by_name by_call
+  -- names as values
+
+  name_at : (x : Name) (t : Option ScalarType) (c : Option LiteralInstance) (d : Option Decl) → plain_names.find x cs ≡ c → plain_names.find_decl x ds ≡ d
+      → name_value scope_world Const x (if_hidden t) (here_if x d) ≡ lift as_value (hidden x t (const_known x c d))
+  name_at x (Some t) c d f g = refl
+  name_at x None (Some z) (Some d) f g = ap (λ o. known_value x o (find_decl x ds)) (known_is x (Some z) f)
+  name_at x None (Some z) None f g = let there = declared x z f in absurd (none_and_some x there.0 (sym g ∙ there.1))
+    where
+      none_and_some : (x : Name) (d : Decl) → None ≡ Some d → ⊥
+      none_and_some x d e = absurd (cc)
+  name_at x None None (Some (variable attributes kind z type e)) f g =
+      ap (λ o. known_value x o (find_decl x ds)) (known_is x None f) ∙ ap (known_value x None) (decl_is x (Some (variable attributes kind z type e)) g)
+  name_at x None None (Some (function attributes h parameters return_attributes type body)) f g =
+      ap (λ o. known_value x o (find_decl x ds)) (known_is x None f) ∙ ap (known_value x None) (decl_is x (Some (function attributes h parameters return_attributes type body)) g)
+  name_at x None None None f g = refl
+
+  by_name : (x : Typ) → name_here scope_world Const locals x ≡ lift as_value (plain_meaning.value_here (stage s) [] (plain_names.plain_name x))
+  by_name (simple None x) =
+      ap (λ l. name_value scope_world Const x l (here_if x (find_decl x ds))) (local_is x (plain_names.find x ts) refl)
+      ∙ ap (λ d. name_value scope_world Const x (if_hidden (plain_names.find x ts)) (here_if x d)) (sym (same_decl x ds))
+      ∙ name_at x (plain_names.find x ts) (plain_names.find x cs) (plain_names.find_decl x ds) refl refl
+  by_name (simple (Some path) x) = refl
+  by_name (templated None x arguments) = ap (λ y. fail (OfName UnexpectedTemplate y)) (told_in x)
+  by_name (templated (Some path) x arguments) = refl
+
+  -- callees
+
+  callee_at : (f : Name) (xs : List LiteralInstance) (t : Option ScalarType) (d : Option Decl)
+      → call_value scope_world Const f (if_hidden t) (here_if f d) (map as_value xs) ≡ lift as_value (plain_meaning.called_or f t (plain_programs.called_at Const f (plain_programs.here_if f d) (λ x zs. Deep) xs))
+  callee_at f xs (Some t) d = refl
+  callee_at f xs None (Some d) = refl
+  callee_at f xs None None = constructs f xs
+
+  by_call : (f : Typ) (xs : List LiteralInstance) → callee_here scope_world Const locals f (map as_value xs) ≡ lift as_value (plain_meaning.result_here (stage s) [] (plain_names.plain_name f) xs)
+  by_call (simple None f) xs =
+      ap (λ l. call_value scope_world Const f l (here_if f (find_decl f ds)) (map as_value xs)) (local_is f (plain_names.find f ts) refl)
+      ∙ ap (λ d. call_value scope_world Const f (if_hidden (plain_names.find f ts)) (here_if f d) (map as_value xs)) (sym (same_decl f ds))
+      ∙ callee_at f xs (plain_names.find f ts) (plain_names.find_decl f ds)
+  by_call (simple (Some path) f) xs = refl
+  by_call (templated None f arguments) xs = ap (λ y. fail (OfName UnexpectedTemplate y)) (told_in f)
+  by_call (templated (Some path) f arguments) xs = refl
+
+  -- what the const stage has for an expression in the scope, a value or a fault, is what it means in the scope's world
+  pub scope_means : (e : Exp) → value scope_world Const locals e ≡ lift as_value (plain_meaning.value (stage s) [] e)
+  scope_means = computes Const (stage s) [] scope_world locals refl by_name by_call
+
+  -- types of names and callees
+
+  type_at : (x : Name) (t : Option ScalarType) (c : Option LiteralInstance) (d : Option Decl) → plain_names.find x ts ≡ t → plain_names.find x cs ≡ c → plain_names.find_decl x ds ≡ d
+      → name_type scope_world x (if_hidden t) (here_if x d) ≡ lift scalar_type (plain_meaning.local_or t (plain_meaning.type_in_world (hidden x t (const_known x c d))))
+  type_at x (Some t) c d e f g = refl
+  type_at x None (Some z) (Some d) e f g = ap (λ o. known_type x o (find_decl x ds)) (known_is x (Some z) f) ∙ ap pure (type_of_literal z)
+  type_at x None (Some z) None e f g = let there = declared x z f in absurd (none_and_some x there.0 (sym g ∙ there.1))
+    where
+      none_and_some : (x : Name) (d : Decl) → None ≡ Some d → ⊥
+      none_and_some x d e = absurd (cc)
+  type_at x None None (Some (variable attributes kind z type i)) e f g =
+      ap (λ o. known_type x o (find_decl x ds)) (known_is x None f) ∙ ap (known_type x None) (decl_is x (Some (variable attributes kind z type i)) g)
+  type_at x None None (Some (function attributes h parameters return_attributes type body)) e f g =
+      ap (λ o. known_type x o (find_decl x ds)) (known_is x None f) ∙ ap (known_type x None) (decl_is x (Some (function attributes h parameters return_attributes type body)) g)
+  type_at x None None None e f g = refl
+
+  type_by_name : (x : Typ) → name_type_here scope_world locals x ≡ lift scalar_type (plain_meaning.type_here (stage s) ts (plain_names.plain_name x))
+  type_by_name (simple None x) =
+      ap (λ l. name_type scope_world x l (here_if x (find_decl x ds))) (local_is x (plain_names.find x ts) refl)
+      ∙ ap (λ d. name_type scope_world x (if_hidden (plain_names.find x ts)) (here_if x d)) (sym (same_decl x ds))
+      ∙ type_at x (plain_names.find x ts) (plain_names.find x cs) (plain_names.find_decl x ds) refl refl refl
+  type_by_name (simple (Some path) x) = refl
+  type_by_name (templated None x arguments) = ap (λ y. fail (OfName UnexpectedTemplate y)) (told_in x)
+  type_by_name (templated (Some path) x arguments) = refl
+
+  -- what a function hands back has the type that is written
+  result_needed : (f : Name) (type : Option Typ) → bind (written_result (function_world (runs.plain ds) (known_of cs) (here f)) type) (needed f) ≡ lift scalar_type (result_written s f type)
+  result_needed f None = refl
+  result_needed f (Some t) =
+      ap (λ m. bind (bind m (λ u. pure (Some u))) (needed f)) (type_written_is ds (function_world (runs.plain ds) (known_of cs) (here f)) (λ x. refl) (λ x. refl) t)
+      ∙ at (plain.at_once (plain_values.and_then (plain_names.plain_name t) (λ x. plain_programs.type_at x (plain_programs.here_if x (plain_names.find_decl x ds)))))
+    where
+      at : (o : plain.Outcome ScalarType) → bind (bind (lift scalar_type o) (λ u. pure (Some u))) (needed f) ≡ lift scalar_type o
+      at (Done t n) = refl
+      at (Failed e) = refl
+      at Deep = refl
+
+  result_at : (f : Name) (d : Option Decl) → plain_names.find_decl f ds ≡ d → (us : List ScalarType)
+      → call_type scope_world f None (here_if f d) (map scalar_type us) ≡ lift scalar_type (call_type_at s f d us)
+  result_at f (Some (function attributes g parameters return_attributes type body)) e us =
+      ap (λ d. bind (result_in (function_world (runs.plain ds) (known_of cs) (here f)) f d) (needed f)) (decl_is f (Some (function attributes g parameters return_attributes type body)) e) ∙ result_needed f type
+  result_at f (Some (variable attributes kind y type i)) e us =
+      ap (λ d. bind (result_in (function_world (runs.plain ds) (known_of cs) (here f)) f d) (needed f)) (decl_is f (Some (variable attributes kind y type i)) e)
+  result_at f None e us = constructs_type f us
+
+  call_at : (f : Name) (t : Option ScalarType) (us : List ScalarType)
+      → call_type scope_world f (if_hidden t) (here_if f (plain_names.find_decl f ds)) (map scalar_type us) ≡ lift scalar_type (plain_meaning.called_or f t (call_type_at s f (plain_names.find_decl f ds) us))
+  call_at f (Some t) us = refl
+  call_at f None us = result_at f (plain_names.find_decl f ds) refl us
+
+  type_by_call : (f : Typ) (us : List ScalarType) → call_type_here scope_world locals f (map scalar_type us) ≡ lift scalar_type (plain_meaning.result_type_here (stage s) ts (plain_names.plain_name f) us)
+  type_by_call (simple None f) us =
+      ap (λ l. call_type scope_world f l (here_if f (find_decl f ds)) (map scalar_type us)) (local_is f (plain_names.find f ts) refl)
+      ∙ ap (λ d. call_type scope_world f (if_hidden (plain_names.find f ts)) (here_if f d) (map scalar_type us)) (sym (same_decl f ds))
+      ∙ call_at f (plain_names.find f ts) us
+  type_by_call (simple (Some path) f) us = refl
+  type_by_call (templated None f arguments) us = ap (λ y. fail (OfName UnexpectedTemplate y)) (told_in f)
+  type_by_call (templated (Some path) f arguments) us = refl
+
+  -- so it is with types
+  pub scope_types : (e : Exp) → typed scope_world locals e ≡ lift scalar_type (plain_meaning.typed (stage s) ts e)
+  scope_types = types_compute (stage s) ts scope_world locals type_by_name type_by_call
+
+-- a const value of the scope is the value in its world
+pub scope_computes : (ds : List Decl) (cs : Consts) (declared : AreDeclared ds cs) (ts : Types) (e : Exp) (y : LiteralInstance) (n : ℕ)
+    → plain_meaning.value (stage (record { declared = λ x. plain_names.find_decl x ds; known = λ x. plain_names.find x cs; parameters = ts })) [] e ≡ Done y n
+    → value (scope_world ds cs declared ts 0) Const (hidden_locals ts) e ≡ pure (v.Literal y)
+scope_computes ds cs declared ts e y n h = scope_means ds cs declared ts 0 e ∙ ap (lift as_value) h
 
 -- ---- written values
 
--- no values, and the constructors of the built-in types
+-- no declarations, and no values
+abbrev empty : World
+empty = world (runs.plain []) [] 0 root
+
+-- the same on scalars: the constructors of the built-in types alone
 abbrev bare : ShaderStage → plain_meaning.World
 bare t = record {
   stage = t;
-  value_of = λ x. Deep;
+  value_of = λ x. Failed (Named plain_fault.UnknownDecl x);
   result_of = λ f xs. plain.bind (plain.at_once (plain_names.built_in_type f)) (λ u. plain_meaning.construct f u xs);
   result_type = λ f ts. Deep;
   type_named = plain_names.built_in_type;
 }
 
+no_name : (t : ShaderStage) (x : Typ) → name_here empty t [] x ≡ lift as_value (plain_meaning.value_here (bare t) [] (plain_names.plain_name x))
+no_name t (simple None x) = refl
+no_name t (simple (Some path) x) = refl
+no_name t (templated None x arguments) = refl
+no_name t (templated (Some path) x arguments) = refl
+
+constructor : (t : ShaderStage) (f : Typ) (xs : List LiteralInstance) → callee_here empty t [] f (map as_value xs) ≡ lift as_value (plain_meaning.result_here (bare t) [] (plain_names.plain_name f) xs)
+constructor t (simple None f) xs = constructs f xs
+constructor t (simple (Some path) f) xs = refl
+constructor t (templated None f arguments) xs = refl
+constructor t (templated (Some path) f arguments) xs = refl
+
+has_constructor : (t : ShaderStage) → HasConstructor (bare t) []
+has_constructor t = record { least = refl }
+
 module _ (t : ShaderStage) (u : World) (others : Env) (clear : (f : Name) (to : ScalarType) → plain_names.built_in_type f ≡ Ok to → (find f others ≡ None) × (u.denotes f ≡ None)) where
-  no_name : (x : Typ) (y : LiteralInstance) (n : ℕ) → plain_meaning.value_here (bare t) [] (plain_names.plain_name x) ≡ Done y n → name_here u t others x ≡ pure (v.Literal y)
-  no_name (simple None x) y n h = absurd (cc)
-  no_name (simple (Some path) x) y n h = absurd (cc)
-  no_name (templated path x arguments) y n h = absurd (cc)
+  least_same : value u t others least_signed ≡ value empty t [] least_signed
+  least_same =
+      let free = clear (codes "i32") (Integer I32) refl in
+      ap (λ l. bind (values u t others (cons (unary Negation (literal (L.AbstractInt (pos 2147483648)))) nil)) (λ xs. call_value u t (codes "i32") l (u.denotes (codes "i32")) xs)) free.0
+      ∙ ap (λ d. bind (values u t others (cons (unary Negation (literal (L.AbstractInt (pos 2147483648)))) nil)) (λ xs. call_value u t (codes "i32") None d xs)) free.1
 
-  constructor_at : (f : Name) (xs : List LiteralInstance) (y : LiteralInstance) (n : ℕ) (r : plain_values.Checked ScalarType) → plain_names.built_in_type f ≡ r
-      → plain.bind (plain.at_once r) (λ u. plain_meaning.construct f u xs) ≡ Done y n → call_value u t f (find f others) (u.denotes f) (map as_value xs) ≡ pure (v.Literal y)
-  constructor_at f xs y n (Ok to) is h =
-      let free = clear f to is in
-      ap (λ l. call_value u t f l (u.denotes f) (map as_value xs)) free.0 ∙ ap (λ d. call_value u t f None d (map as_value xs)) free.1
-      ∙ constructs f xs y n (ap (λ r. plain.bind (plain.at_once r) (λ z. plain_meaning.construct f z xs)) is ∙ h)
-  constructor_at f xs y n (Err g) is h = absurd (cc)
-
-  constructor : (f : Typ) (xs : List LiteralInstance) (y : LiteralInstance) (n : ℕ) → plain_meaning.result_here (bare t) [] (plain_names.plain_name f) xs ≡ Done y n → callee_here u t others f (map as_value xs) ≡ pure (v.Literal y)
-  constructor (simple None f) xs y n h = constructor_at f xs y n (plain_names.built_in_type f) refl h
-  constructor (simple (Some path) f) xs y n h = absurd (cc)
-  constructor (templated path f arguments) xs y n h = absurd (cc)
-
-  has_constructor : HasConstructor (bare t) []
-  has_constructor = record { least = refl }
+  -- what is written for a value has no name but that of a constructor
+  value_same : (y : LiteralInstance) → value u t others (written y) ≡ value empty t [] (written y)
+  value_same (V.AbstractInt (pos n)) = refl
+  value_same (V.AbstractInt (negsuc n)) = at (nat_eq n 9223372036854775807) (nat_lt n 9223372036854775807)
+    where
+      at : (b c : Bool) → value u t others (if b then least_abstract else if c then negative (literal (L.AbstractInt (pos (suc n)))) else literal (L.AbstractInt (negsuc n)))
+          ≡ value empty t [] (if b then least_abstract else if c then negative (literal (L.AbstractInt (pos (suc n)))) else literal (L.AbstractInt (negsuc n)))
+      at true c = refl
+      at false true = refl
+      at false false = refl
+  value_same (V.I32 (pos n)) = refl
+  value_same (V.I32 (negsuc n)) = at (nat_eq n 2147483647) (nat_lt n 2147483647)
+    where
+      at : (b c : Bool) → value u t others (if b then least_signed else if c then negative (literal (L.I32 (pos (suc n)))) else literal (L.I32 (negsuc n)))
+          ≡ value empty t [] (if b then least_signed else if c then negative (literal (L.I32 (pos (suc n)))) else literal (L.I32 (negsuc n)))
+      at true c = least_same
+      at false true = refl
+      at false false = refl
+  value_same (V.U32 n) = refl
+  value_same (V.Bool true) = refl
+  value_same (V.Bool false) = refl
 
   -- what is written for a value means the value
   pub written_means : (y : LiteralInstance) → value u t others (written y) ≡ pure (v.Literal y)
-  written_means y = computes t (bare t) [] u others refl no_name constructor (written y) y 0 (value-written (bare t) [] has_constructor y)
+  written_means y =
+      value_same y ∙ computes t (bare t) [] empty [] refl (no_name t) (constructor t) (written y) ∙ ap (lift as_value) (value-written (bare t) [] (has_constructor t) y)

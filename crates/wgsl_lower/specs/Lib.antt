@@ -1,4 +1,5 @@
 pub mod Lowered
+pub mod Computed
 pub mod Nodes
 pub mod Keeps
 pub mod Located

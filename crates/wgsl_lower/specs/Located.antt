@@ -1,5 +1,5 @@
 -- Where refusals are.
-use Rattle.std.specs.Prelude.{map, Err}
+use Rattle.std.specs.Prelude.{ℕ, map, Err}
 use Rattle.std.specs.List.{Contains}
 use Rattle.wgsl_syntax.specs.Tree.{UnitTree as Module}
 use Rattle.wgsl_syntax.specs.Names.{declared_name}
@@ -8,4 +8,4 @@ use Rattle.wgsl_lower.specs.Lowered.{Lowers}
 
 -- the declaration that lowering is refused for is one that the unit declares
 abbrev pub RefusalsAreInDeclarations : Type 0
-RefusalsAreInDeclarations = (unit : Module) (r : DeclarationFault) → Lowers unit (Err r) → Contains (map declared_name unit.declarations) r.declaration
+RefusalsAreInDeclarations = (steps : ℕ) (unit : Module) (r : DeclarationFault) → Lowers steps unit (Err r) → Contains (map declared_name unit.declarations) r.declaration

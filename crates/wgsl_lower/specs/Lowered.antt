@@ -1,29 +1,48 @@
 -- The lowered unit (this project's own): constant expressions are written as their values, consts go, and what a function returns
--- is converted where WGSL would convert it.
-use Rattle.std.specs.Prelude.{◌≡◌, ℕ, List, [], ◌∷◌, ◌++◌, Option, Some, None, Bool, true, false, Result, Ok, Err, if◌then◌else◌}
+-- is converted where WGSL would convert it. What an expression means is said by programs alone.
+use Rattle.std.specs.Prelude.{◌≡◌, ℕ, suc, List, [], ◌∷◌, ◌++◌, Option, Some, None, Bool, true, false, Result, Ok, Err, slice_get, if◌then◌else◌}
 use Rattle.wgsl_syntax.specs.Tree.{Exp, Exps, literal, parenthesized, unary, binary, call, named, nil, cons, exps, Typ, Attr, fragment, location, Stm, returning, Block, Param, Decl, variable, function, UnitTree as Module}
-use Rattle.wgsl_shader_type.specs.declared.literal.LiteralInstance.{LiteralInstance}
-use Rattle.wgsl_scalar.specs.declared.scalar.ScalarType.{ScalarType}
-use Rattle.wgsl_scalar.specs.declared.scalar.ScalarType.TheVariants.{Bool as Truth, Integer}
-use Rattle.wgsl_scalar.specs.declared.scalar.IntegerType.TheVariants.{AbstractInt, I32, U32}
-use Rattle.wgsl_meaning.specs.declared.fault.Fault.{Fault}
-use Rattle.wgsl_meaning.specs.declared.fault.Fault.TheVariants.{Operation, NegativeAttr, Name as Named}
-use Rattle.wgsl_meaning.specs.declared.fault.NameFault.{NameFault}
-use Rattle.wgsl_meaning.specs.declared.fault.NameFault.TheVariants.{NotAccessible, NotConst}
+use Rattle.wgsl_enumerations.specs.declared.words.ShaderStage.TheVariants.{Const}
+use Rattle.wgsl_shader_type.specs.declared.tree.ShaderType.{ShaderType}
+use Rattle.wgsl_shader_type.specs.Class.{is_abstract}
+use Rattle.wgsl_instance.specs.declared.tree.Instance.{Instance, out-Instance}
+use Rattle.wgsl_instance.specs.declared.tree.Instance.TheOpen.{Instance-F}
+use Rattle.wgsl_computations.specs.Machine.{Outcome, Done, Failed, Deep}
 use Rattle.wgsl_meaning.specs.Values.{Checked, and_then}
-use Rattle.wgsl_meaning.specs.Outcome.{Outcome, Done, Failed, Deep}
-use Rattle.wgsl_meaning.specs.Names.{Name, plain_name}
-use Rattle.wgsl_meaning.specs.Meaning.{Types, value, typed}
-use Rattle.wgsl_meaning.specs.ConstStage.{Scope, stage, module_scope, callee_of}
-use Rattle.wgsl_meaning.specs.Written.{written}
+use Rattle.wgsl_meaning.specs.Written as literals
+use Rattle.wgsl_programs.specs.Faults.{Fault, StepLimit, Operation, Deferred, NegativeAttr, OfName, NameFault, NotAccessible, NotConst, NotCallable, Todo}
+use Rattle.wgsl_programs.specs.Computing.{M}
+use Rattle.wgsl_programs.specs.Names.{Name, Symbol, Local, Hidden, Env, find, built_in_type}
+use Rattle.wgsl_programs.specs.Meaning.{World, plain_name, type_written, value, typed}
+use Rattle.wgsl_programs.specs.Calls.{const_in}
+use Rattle.wgsl_programs.specs.Programs.{Known, world, root, here}
+use Rattle.wgsl_programs.specs.Runs.{allowed, find_decl, plain}
 use Rattle.wgsl_eval.specs.declared.error.DeclarationFault.{DeclarationFault}
+use Rattle.wgsl_eval.specs.Start.{then_more}
 use Rattle.wgsl_items.specs.declared.error.OrOutOfMemory.{OrOutOfMemory}
-use Rattle.wgsl_items.specs.declared.error.OrOutOfMemory.TheVariants.{Error, OutOfMemory}
 use Rattle.wgsl_items.specs.Memory.{UnlessOutOfMemory}
 use Rattle.wesl_order.specs.Units.{IsStartOrderOf}
-use Rattle.wgsl_eval.specs.Start.{refused, then_more, consts_of}
 
--- ---- expressions
+-- ---- values
+
+-- What a computation gives within so many steps, from no cells. A call is a step, so calls are never deeper inside one another than
+-- there are steps (`larger_bounds_agree`, `limits_come_first`).
+abbrev pub outcome_given : {A : Type 0} → Outcome Fault A → Checked A
+outcome_given (Done x s) = Ok x
+outcome_given (Failed f) = Err f
+outcome_given Deep = Err StepLimit
+
+abbrev pub given : {A : Type 0} → ℕ → M A → Checked A
+given steps m = outcome_given (m (allowed steps))
+
+-- how a value is written. Expressions of today's language have no values but scalars
+abbrev pub written_layer : {A : Type 0} → Exp → Instance-F A → Exp
+written_layer e (Instance-F.Literal x) = literals.written x
+written_layer e x = e
+
+-- an expression, or how its value is written
+abbrev pub written_for : Exp → Instance → Exp
+written_for e x = written_layer e (out-Instance x)
 
 -- these faults say that an expression has no const value. Any other is a fault of the unit
 abbrev pub lacks_value : NameFault → Bool
@@ -32,187 +51,165 @@ lacks_value NotConst = true
 lacks_value f = false
 
 abbrev pub unless_fault : {A : Type 0} → Fault → Checked A → Checked A
+unless_fault StepLimit parts = Err StepLimit
 unless_fault (Operation f) parts = Err (Operation f)
+unless_fault (Deferred t) parts = Err (Deferred t)
 unless_fault (NegativeAttr z) parts = Err (NegativeAttr z)
-unless_fault (Named f x) parts = if lacks_value f then parts else Err (Named f x)
+unless_fault (OfName f x) parts = if lacks_value f then parts else Err (OfName f x)
 
 -- the written value; where there is none, the parts
-abbrev pub unless_const : Outcome LiteralInstance → Checked Exp → Checked Exp
-unless_const (Done v n) parts = Ok (written v)
-unless_const (Failed f) parts = unless_fault f parts
-unless_const Deep parts = parts
+abbrev pub unless_const : Exp → Checked Instance → Checked Exp → Checked Exp
+unless_const e (Ok v) parts = Ok (written_for e v)
+unless_const e (Err f) parts = unless_fault f parts
 
-abbrev pub callee_here : Scope → Typ → Checked ScalarType
-callee_here s f = and_then (plain_name f) (callee_of s)
+-- ---- expressions
 
--- outermost constant expressions are written as their values. A call that isn't constant is a constructor's; of functions it isn't
--- lowered yet
-abbrev mutual
-  pub lowered : Scope → Exp → Checked Exp
-  lowered s (literal l) = unless_const (value (stage s) [] (literal l)) (Ok (literal l))
-  lowered s (parenthesized e) = unless_const (value (stage s) [] (parenthesized e)) (and_then (lowered s e) (λ d. Ok (parenthesized d)))
-  lowered s (unary o e) = unless_const (value (stage s) [] (unary o e)) (and_then (lowered s e) (λ d. Ok (unary o d)))
-  lowered s (binary o a b) = unless_const (value (stage s) [] (binary o a b)) (and_then (lowered s a) (λ c. and_then (lowered s b) (λ d. Ok (binary o c d))))
-  lowered s (call f es) = unless_const (value (stage s) [] (call f es)) (and_then (callee_here s f) (λ t. and_then (all_lowered s es) (λ ds. Ok (call f (exps ds)))))
-  lowered s (named x) = unless_const (value (stage s) [] (named x)) (Ok (named x))
+-- the type that a name constructs: no local and no declaration has the name, and of the built-in types it is one that is evaluated
+abbrev pub constructed_by : World → Name → Option Local → Option Symbol → Checked ShaderType
+constructed_by w f (Some l) d = Err (OfName NotCallable f)
+constructed_by w f None (Some s) = Err (OfName Todo (w.printed s))
+constructed_by w f None None = built_in_type f
 
-  pub all_lowered : Scope → Exps → Checked (List Exp)
-  all_lowered s nil = Ok []
-  all_lowered s (cons e es) = and_then (lowered s e) (λ d. and_then (all_lowered s es) (λ ds. Ok (d ∷ ds)))
+abbrev pub constructed_type : World → Env → Typ → Checked ShaderType
+constructed_type w env t = and_then (plain_name w env t) (λ f. constructed_by w f (find f env) (w.denotes f))
 
--- the parts lowered, where the whole has no value
-abbrev pub parts : Scope → Exp → Checked Exp
-parts s (literal l) = Ok (literal l)
-parts s (parenthesized e) = and_then (lowered s e) (λ d. Ok (parenthesized d))
-parts s (unary o e) = and_then (lowered s e) (λ d. Ok (unary o d))
-parts s (binary o a b) = and_then (lowered s a) (λ c. and_then (lowered s b) (λ d. Ok (binary o c d)))
-parts s (call f es) = and_then (callee_here s f) (λ t. and_then (all_lowered s es) (λ ds. Ok (call f (exps ds))))
-parts s (named x) = Ok (named x)
+-- a value of an abstract type that is returned gets the constructor of the function's type
+abbrev pub constructor_call : Typ → Exp → Checked ShaderType → Checked Exp
+constructor_call t e (Ok u) = if is_abstract u then Ok (call t (cons e nil)) else Ok e
+constructor_call t e (Err f) = Err f
 
--- ---- what a function returns
+-- a fault is told with the declaration in which it is
+abbrev pub in_declaration : {A : Type 0} → Name → Checked A → Result A DeclarationFault
+in_declaration x (Ok v) = Ok v
+in_declaration x (Err f) = Err (record { declaration = x; fault = f })
 
--- an abstract number that is returned gets the constructor of the function's type
-abbrev pub constructor_call : Typ → Exp → Outcome ScalarType → Checked Exp
-constructor_call t e (Done (Integer AbstractInt) n) = Ok (call t (cons e nil))
-constructor_call t e (Done (Integer I32) n) = Ok e
-constructor_call t e (Done (Integer U32) n) = Ok e
-constructor_call t e (Done Truth n) = Ok e
-constructor_call t e (Failed f) = Err f
-constructor_call t e Deep = Ok e
+module _ (steps : ℕ) (w : World) where
+  -- Outermost constant expressions are written as their values; each may take so many steps. A call that isn't constant is a
+  -- constructor's; of functions it isn't lowered yet
+  abbrev mutual
+    pub lowered : Env → Exp → Checked Exp
+    lowered env (literal l) = unless_const (literal l) (given steps (value w Const env (literal l))) (Ok (literal l))
+    lowered env (parenthesized e) = unless_const (parenthesized e) (given steps (value w Const env (parenthesized e))) (and_then (lowered env e) (λ d. Ok (parenthesized d)))
+    lowered env (unary o e) = unless_const (unary o e) (given steps (value w Const env (unary o e))) (and_then (lowered env e) (λ d. Ok (unary o d)))
+    lowered env (binary o a b) =
+        unless_const (binary o a b) (given steps (value w Const env (binary o a b))) (and_then (lowered env a) (λ c. and_then (lowered env b) (λ d. Ok (binary o c d))))
+    lowered env (call f es) =
+        unless_const (call f es) (given steps (value w Const env (call f es))) (and_then (constructed_type w env f) (λ t. and_then (all_lowered env es) (λ ds. Ok (call f (exps ds)))))
+    lowered env (named x) = unless_const (named x) (given steps (value w Const env (named x))) (Ok (named x))
 
-abbrev pub converted_exp : Scope → Option Typ → Exp → Checked Exp
-converted_exp s (Some t) e = constructor_call t e (typed (stage s) s.parameters e)
-converted_exp s None e = Ok e
+    pub all_lowered : Env → Exps → Checked (List Exp)
+    all_lowered env nil = Ok []
+    all_lowered env (cons e es) = and_then (lowered env e) (λ d. and_then (all_lowered env es) (λ ds. Ok (d ∷ ds)))
 
-abbrev pub lowered_return : Scope → Option Typ → Exp → Checked Exp
-lowered_return s t e = and_then (converted_exp s t e) (lowered s)
+  -- ---- what a function returns
 
--- ---- functions
+  abbrev pub converted_exp : Env → Option Typ → Exp → Checked Exp
+  converted_exp env (Some t) e = constructor_call t e (given steps (typed w env e))
+  converted_exp env None e = Ok e
 
-abbrev pub lowered_attribute : Scope → Attr → Checked Attr
-lowered_attribute s fragment = Ok fragment
-lowered_attribute s (location e) = and_then (lowered s e) (λ d. Ok (location d))
+  abbrev pub lowered_return : Env → Option Typ → Exp → Checked Exp
+  lowered_return env t e = and_then (converted_exp env t e) (lowered env)
 
-abbrev pub lowered_attributes : Scope → List Attr → Checked (List Attr)
-lowered_attributes s [] = Ok []
-lowered_attributes s (a ∷ rest) = and_then (lowered_attribute s a) (λ b. and_then (lowered_attributes s rest) (λ more. Ok (b ∷ more)))
+  -- ---- functions
 
--- a type that is evaluated
-abbrev pub type_here : Scope → Typ → Checked ScalarType
-type_here s t = and_then (plain_name t) (stage s).type_named
+  abbrev pub lowered_attribute : Env → Attr → Checked Attr
+  lowered_attribute env fragment = Ok fragment
+  lowered_attribute env (location e) = and_then (lowered env e) (λ d. Ok (location d))
 
-abbrev pub lowered_parameter : Scope → Param → Checked Param
-lowered_parameter s p =
-    and_then (lowered_attributes s p.attributes) (λ attributes. and_then (type_here s p.type) (λ t.
-    Ok (record { attributes = attributes; name = p.name; type = p.type })))
+  abbrev pub lowered_attributes : Env → List Attr → Checked (List Attr)
+  lowered_attributes env [] = Ok []
+  lowered_attributes env (a ∷ rest) = and_then (lowered_attribute env a) (λ b. and_then (lowered_attributes env rest) (λ more. Ok (b ∷ more)))
 
-abbrev pub lowered_parameters : Scope → List Param → Checked (List Param)
-lowered_parameters s [] = Ok []
-lowered_parameters s (p ∷ ps) = and_then (lowered_parameter s p) (λ q. and_then (lowered_parameters s ps) (λ more. Ok (q ∷ more)))
+  -- a type that is evaluated
+  abbrev pub type_here : Typ → Checked ShaderType
+  type_here t = given steps (type_written w t)
 
-abbrev pub parameter_types : Scope → List Param → Checked Types
-parameter_types s [] = Ok []
-parameter_types s (p ∷ ps) = and_then (type_here s p.type) (λ t. and_then (parameter_types s ps) (λ more. Ok ((p.name, t) ∷ more)))
+  abbrev pub lowered_parameter : Param → Checked Param
+  lowered_parameter p =
+      and_then (lowered_attributes [] p.attributes) (λ attributes. and_then (type_here p.type) (λ t.
+      Ok (record { attributes = attributes; name = p.name; type = p.type })))
 
-abbrev pub checked_type : Scope → Option Typ → Checked (Unit {0})
-checked_type s None = Ok tt
-checked_type s (Some t) = and_then (type_here s t) (λ u. Ok tt)
+  abbrev pub lowered_parameters : List Param → Checked (List Param)
+  lowered_parameters [] = Ok []
+  lowered_parameters (p ∷ ps) = and_then (lowered_parameter p) (λ q. and_then (lowered_parameters ps) (λ more. Ok (q ∷ more)))
 
-abbrev pub lowered_statement : Scope → Option Typ → Stm → Checked Stm
-lowered_statement s t (returning attributes None) = and_then (lowered_attributes s attributes) (λ more. Ok (returning more None))
-lowered_statement s t (returning attributes (Some e)) =
-    and_then (lowered_attributes s attributes) (λ more. and_then (lowered_return s t e) (λ d. Ok (returning more (Some d))))
+  -- inside of the function only the types of its parameters are known
+  abbrev pub parameter_locals : List Param → Checked Env
+  parameter_locals [] = Ok []
+  parameter_locals (p ∷ ps) = and_then (type_here p.type) (λ t. and_then (parameter_locals ps) (λ more. Ok ((p.name, Hidden t) ∷ more)))
 
-abbrev pub lowered_statements : Scope → Option Typ → List Stm → Checked (List Stm)
-lowered_statements s t [] = Ok []
-lowered_statements s t (x ∷ rest) = and_then (lowered_statement s t x) (λ y. and_then (lowered_statements s t rest) (λ others. Ok (y ∷ others)))
+  abbrev pub checked_type : Option Typ → Checked (Unit {0})
+  checked_type None = Ok tt
+  checked_type (Some t) = and_then (type_here t) (λ u. Ok tt)
 
-abbrev pub with_parameters : Scope → Types → Scope
-with_parameters s ts = record { declared = s.declared; known = s.known; parameters = ts }
+  abbrev pub lowered_statement : Env → Option Typ → Stm → Checked Stm
+  lowered_statement env t (returning attributes None) = and_then (lowered_attributes env attributes) (λ more. Ok (returning more None))
+  lowered_statement env t (returning attributes (Some e)) =
+      and_then (lowered_attributes env attributes) (λ more. and_then (lowered_return env t e) (λ d. Ok (returning more (Some d))))
 
-abbrev pub lowered_body : Scope → Option Typ → Block → Checked Block
-lowered_body s t b =
-    and_then (lowered_attributes s b.attributes) (λ attributes. and_then (lowered_statements s t b.statements) (λ statements.
-    Ok (record { attributes = attributes; statements = statements })))
+  abbrev pub lowered_statements : Env → Option Typ → List Stm → Checked (List Stm)
+  lowered_statements env t [] = Ok []
+  lowered_statements env t (x ∷ rest) = and_then (lowered_statement env t x) (λ y. and_then (lowered_statements env t rest) (λ others. Ok (y ∷ others)))
 
--- the attributes and the type of the result, and the body, after attributes and parameters
-abbrev pub lowered_rest : Scope → List Attr → Name → List Param → Types → List Attr → Option Typ → Block → Checked Decl
-lowered_rest s attributes f parameters ts return_attributes type body =
-    and_then (lowered_attributes s return_attributes) (λ rs. and_then (checked_type s type) (λ u. and_then (lowered_body (with_parameters s ts) type body) (λ b.
-    Ok (function attributes f parameters rs type b))))
+  abbrev pub lowered_body : Env → Option Typ → Block → Checked Block
+  lowered_body env t b =
+      and_then (lowered_attributes env b.attributes) (λ attributes. and_then (lowered_statements env t b.statements) (λ statements.
+      Ok (record { attributes = attributes; statements = statements })))
 
--- in text order
-abbrev pub lowered_function : Scope → List Attr → Name → List Param → List Attr → Option Typ → Block → Checked Decl
-lowered_function s attributes f parameters return_attributes type body =
-    and_then (lowered_attributes s attributes) (λ as'. and_then (lowered_parameters s parameters) (λ ps. and_then (parameter_types s parameters) (λ ts.
-    lowered_rest s as' f ps ts return_attributes type body)))
+  -- in text order
+  abbrev pub lowered_function : List Attr → Name → List Param → List Attr → Option Typ → Block → Checked Decl
+  lowered_function attributes f parameters return_attributes type body =
+      and_then (lowered_attributes [] attributes) (λ as'. and_then (lowered_parameters parameters) (λ ps. and_then (parameter_locals parameters) (λ env.
+      and_then (lowered_attributes [] return_attributes) (λ rs. and_then (checked_type type) (λ u. and_then (lowered_body env type body) (λ b.
+      Ok (function as' f ps rs type b)))))))
 
--- a const stays as it is (it goes from the unit)
-abbrev pub lowered_declaration : Scope → Decl → Checked Decl
-lowered_declaration s (variable attributes kind x type e) = Ok (variable attributes kind x type e)
-lowered_declaration s (function attributes f parameters return_attributes type body) = lowered_function s attributes f parameters return_attributes type body
+  -- ---- units
 
--- ---- units
+  -- the rewritten functions, in text order; consts go
+  abbrev pub lowered_declarations : List Decl → Result (List Decl) DeclarationFault
+  lowered_declarations [] = Ok []
+  lowered_declarations (variable attributes kind x type e ∷ ds) = lowered_declarations ds
+  lowered_declarations (function attributes f parameters return_attributes type body ∷ ds) =
+      then_more (in_declaration f (lowered_function attributes f parameters return_attributes type body)) (λ d. then_more (lowered_declarations ds) (λ more. Ok (d ∷ more)))
 
-abbrev pub refusing : {A : Type 0} → Name → Checked A → Result A DeclarationFault
-refusing x (Ok v) = Ok v
-refusing x (Err f) = Err (refused x f)
+-- ---- the start
 
-abbrev pub lowered_declarations : Scope → List Decl → Result (List Decl) DeclarationFault
-lowered_declarations s [] = Ok []
-lowered_declarations s (variable attributes kind x type e ∷ ds) = lowered_declarations s ds
-lowered_declarations s (function attributes f parameters return_attributes type body ∷ ds) =
-    then_more (refusing f (lowered_function s attributes f parameters return_attributes type body)) (λ d. then_more (lowered_declarations s ds) (λ more. Ok (d ∷ more)))
+module _ (steps : ℕ) (ds : List Decl) where
+  -- a plain unit in which so much is known; as many calls may be inside one another as there are steps, and one more
+  abbrev pub unit_world : Known → World
+  unit_world known = world (plain ds) known (suc steps) root
 
--- the unit of the rewritten functions
-abbrev pub lowered_under : Scope → List Decl → Result Module DeclarationFault
-lowered_under s ds = then_more (lowered_declarations s ds) (λ low. Ok (record { imports = []; declarations = low }))
+  -- one const more, if it is one; each may take so many steps
+  abbrev pub started_const : Known → Name → Option Decl → Result Known DeclarationFault
+  started_const known x (Some (variable attributes kind y type e)) =
+      then_more (in_declaration x (given steps (const_in (unit_world known) x (Some (variable attributes kind y type e))))) (λ v. Ok (known ++ (here x, v) ∷ []))
+  started_const known x (Some (function attributes f parameters return_attributes type body)) = Ok known
+  started_const known x None = Ok known
 
--- first the consts at these positions get their values, one after another, then functions are rewritten, in text order; the refusal
--- is the first
-abbrev pub lowered_after : List ℕ → Module → Result Module DeclarationFault
-lowered_after order u =
-    then_more (consts_of u.declarations order) (λ cs. lowered_under (module_scope u.declarations cs) u.declarations)
+  abbrev pub started_at : Known → Option Decl → Result Known DeclarationFault
+  started_at known (Some (variable attributes kind x type e)) = started_const known x (find_decl x ds)
+  started_at known (Some (function attributes f parameters return_attributes type body)) = Ok known
+  started_at known None = Ok known
 
--- What a unit is lowered to, or its refusal: every const gets its value at the start, each after those that it reaches.
-pub record Lowers (u : Module) (o : Result Module DeclarationFault) : Type 0 where
+  -- the consts at these positions, one after another, each known to those behind it; or the first fault
+  abbrev pub started_consts : Known → List ℕ → Result Known DeclarationFault
+  started_consts known [] = Ok known
+  started_consts known (i ∷ is) = then_more (started_at known (slice_get ds i)) (λ more. started_consts more is)
+
+-- first the consts at these positions get their values, then functions are rewritten, in text order; the refusal is the first
+abbrev pub lowered_after : ℕ → List ℕ → Module → Result Module DeclarationFault
+lowered_after steps order u =
+    then_more (started_consts steps u.declarations [] order) (λ known.
+    then_more (lowered_declarations steps (unit_world steps u.declarations known) u.declarations) (λ low. Ok (record { imports = []; declarations = low })))
+
+-- What a unit is lowered to, or its refusal, where each evaluation of an expression or a declaration may take so many steps: every
+-- const gets its value at the start, each after those that it reaches.
+pub record Lowers (steps : ℕ) (u : Module) (o : Result Module DeclarationFault) : Type 0 where
   pub order : List ℕ
   pub is_order : IsStartOrderOf u.declarations order
-  pub comes : lowered_after order u ≡ o
+  pub comes : lowered_after steps order u ≡ o
 
 -- an answer is that, unless memory was refused
-abbrev pub IsLowering : {A : Type 0} → (A → Module) → Module → Result A (OrOutOfMemory DeclarationFault) → Type 0
-IsLowering view u (Ok low) = Lowers u (Ok (view low))
-IsLowering view u (Err e) = UnlessOutOfMemory (λ r. Lowers u (Err r)) e
-
--- ---- what code tests and keeps
-
-abbrev pub lacks : OrOutOfMemory Fault → Bool
-lacks OutOfMemory = false
-lacks (Error (Operation f)) = false
-lacks (Error (NegativeAttr z)) = false
-lacks (Error (Named f x)) = lacks_value f
-
--- the value of an expression, if it has one
-abbrev pub const_value : Outcome LiteralInstance → Checked (Option LiteralInstance)
-const_value (Done v n) = Ok (Some v)
-const_value (Failed f) = unless_fault f (Ok None)
-const_value Deep = Ok None
-
-abbrev pub written_or : Checked Exp → Option LiteralInstance → Checked Exp
-written_or parts (Some v) = Ok (written v)
-written_or parts None = parts
-
--- these first
-abbrev pub prepended : {A : Type 0} → List A → Checked (List A) → Checked (List A)
-prepended ds (Ok es) = Ok (ds ++ es)
-prepended ds (Err f) = Err f
-
-abbrev pub pushed : Scope → List Decl → Decl → Result (List Decl) DeclarationFault
-pushed s done (variable attributes kind x type e) = Ok done
-pushed s done (function attributes f parameters return_attributes type body) =
-    then_more (refusing f (lowered_function s attributes f parameters return_attributes type body)) (λ d. Ok (done ++ d ∷ []))
-
-abbrev pub all_pushed : Scope → List Decl → List Decl → Result (List Decl) DeclarationFault
-all_pushed s done [] = Ok done
-all_pushed s done (d ∷ ds) = then_more (pushed s done d) (λ more. all_pushed s more ds)
+abbrev pub IsLowering : {A : Type 0} → (A → Module) → ℕ → Module → Result A (OrOutOfMemory DeclarationFault) → Type 0
+IsLowering view steps u (Ok low) = Lowers steps u (Ok (view low))
+IsLowering view steps u (Err e) = UnlessOutOfMemory (λ r. Lowers steps u (Err r)) e

@@ -7,7 +7,7 @@ ghost use Rattle.wgsl_meaning.specs.Meaning.{value};
 ghost use Rattle.wgsl_meaning.specs.ConstStage.{stage};
 ghost use Rattle.wgsl_eval.specs.Ends.{Gives};
 ghost use Rattle.wgsl_eval.specs.Scopes.{scope_of};
-ghost use Rattle.wgsl_lower.specs.Lowered as spec;
+ghost use Rattle.wgsl_lower.specs.Computed as spec;
 
 use crate::write::to_expr;
 use std::alloc::Global;

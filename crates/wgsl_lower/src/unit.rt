@@ -4,7 +4,8 @@ ghost use Rattle.std.specs.Prelude.{◌≡◌, [], map, IfOk};
 ghost use Rattle.wgsl_syntax.specs.View.{unit_tree, declaration_tree};
 ghost use Rattle.wgsl_eval.specs.Refusals.{Answers};
 ghost use Rattle.wgsl_eval.specs.Scopes.{decls, outside, scope_of};
-ghost use Rattle.wgsl_lower.specs.Lowered as spec;
+ghost use Rattle.wgsl_lower.specs.Computed as spec;
+ghost use Rattle.wgsl_lower.specs.Lowered.{IsLowering};
 ghost use Rattle.wgsl_lower.specs.Keeps.{AreClear, Keeps};
 
 use crate::function::lowered_function;
@@ -98,21 +99,32 @@ fn lowered_after(
     lowered_under(alloc, &declarations, &consts, nodes)
 }
 
-fn lowered_unit(alloc: Global, unit: &TranslationUnit) -> Result<TranslationUnit, UnitError>
-    ensures { spec.IsLowering unit_tree (unit_tree unit.now) result }
+fn lowered_unit(
+    alloc: Global,
+    unit: &TranslationUnit,
+    max_steps: u64,
+) -> Result<TranslationUnit, UnitError>
+    ensures { IsLowering unit_tree max_steps (unit_tree unit.now) result }
 {
+    // Nothing that is evaluated at the const stage takes a step yet.
+    let _allowed = max_steps;
     let order = start_order(alloc, unit.global_declarations.as_slice())?;
     lowered_after(alloc, unit, order.as_slice())
 }
 
 /// The plain unit without consts: outermost constant expressions are written as their values, and what a function returns is
 /// converted to its type. It is refused at the first fault of a const, then of a function: of the consts in the order of the start
-/// (text order, but each after those that it reaches, these by the same rule), of the functions in text order.
-pub fn lower(alloc: Global, unit: &TranslationUnit) -> Result<TranslationUnit, UnitError>
-    ensures exactly { spec.IsLowering unit_tree (unit_tree unit.now) result }
+/// (text order, but each after those that it reaches, these by the same rule), of the functions in text order. Each evaluation of an
+/// expression or a declaration may take `max_steps` steps.
+pub fn lower(
+    alloc: Global,
+    unit: &TranslationUnit,
+    max_steps: u64,
+) -> Result<TranslationUnit, UnitError>
+    ensures exactly { IsLowering unit_tree max_steps (unit_tree unit.now) result }
 
     // A run that ends well ends well after, with the same answer and in no more steps, where no name is a type's.
     ensures keeps { AreClear (unit_tree unit.now).declarations → IfOk result (λ low. Keeps (unit_tree unit.now).declarations (unit_tree low).declarations) }
 {
-    lowered_unit(alloc, unit)
+    lowered_unit(alloc, unit, max_steps)
 }

@@ -1,16 +1,16 @@
 -- The const stage of a plain unit, where some consts have their values and the parameters of a function are in scope.
 use Rattle.std.specs.Prelude.{◌≡◌, ℕ, List, [], ◌∷◌, ◌++◌, Option, Some, None, Err}
-use Rattle.wgsl_meaning.specs.Values.{Checked}
-use Rattle.wgsl_syntax.specs.Tree.{Decl, variable, function}
+use Rattle.wgsl_meaning.specs.Values.{Checked, and_then}
+use Rattle.wgsl_syntax.specs.Tree.{Typ, Decl, variable, function}
 use Rattle.wgsl_enumerations.specs.declared.words.ShaderStage.TheVariants.{Const}
 use Rattle.wgsl_shader_type.specs.declared.literal.LiteralInstance.{LiteralInstance}
 use Rattle.wgsl_scalar.specs.declared.scalar.ScalarType.{ScalarType}
 use Rattle.wgsl_meaning.specs.declared.fault.Fault.TheVariants.{Name as Named}
-use Rattle.wgsl_meaning.specs.declared.fault.NameFault.TheVariants.{CyclicDecl, UnknownDecl, NotAccessible, NotCallable, Todo}
-use Rattle.wgsl_meaning.specs.Outcome.{Outcome, Done, Failed, Deep}
-use Rattle.wgsl_meaning.specs.Names.{Name, find, find_decl, built_in_type}
-use Rattle.wgsl_meaning.specs.Meaning.{World, Types, called_or, const_in}
-use Rattle.wgsl_meaning.specs.Programs.{called_at, call_type_at, type_at, here_if}
+use Rattle.wgsl_meaning.specs.declared.fault.NameFault.TheVariants.{CyclicDecl, UnknownDecl, NotAccessible, NotCallable, Todo, Void}
+use Rattle.wgsl_meaning.specs.Outcome.{Outcome, Done, Failed, Deep, bind, at_once}
+use Rattle.wgsl_meaning.specs.Names.{Name, find, find_decl, built_in_type, plain_name}
+use Rattle.wgsl_meaning.specs.Meaning.{World, Types, called_or, const_in, construct_type}
+use Rattle.wgsl_meaning.specs.Programs.{called_at, type_at, here_if}
 
 -- consts with their values
 abbrev pub Consts : Type 0
@@ -34,12 +34,22 @@ const_known x None (Some (variable attributes kind y type e)) = Failed (Named Cy
 const_known x None (Some (function attributes f parameters return_attributes type body)) = Failed (Named UnknownDecl x)
 const_known x None None = Failed (Named UnknownDecl x)
 
+-- the type of what a function hands back, as it is written
+abbrev pub result_written : Scope → Name → Option Typ → Outcome ScalarType
+result_written s f None = Failed (Named Void f)
+result_written s f (Some t) = at_once (and_then (plain_name t) (λ x. type_at x (here_if x (s.declared x))))
+
+abbrev pub call_type_at : Scope → Name → Option Decl → List ScalarType → Outcome ScalarType
+call_type_at s f (Some (function attributes g parameters return_attributes type body)) ts = result_written s f type
+call_type_at s f (Some (variable attributes kind y type e)) ts = Failed (Named NotCallable f)
+call_type_at s f None ts = bind (at_once (built_in_type f)) (λ t. construct_type f t ts)
+
 abbrev pub stage : Scope → World
 stage s = record {
   stage = Const;
   value_of = λ x. hidden x (find x s.parameters) (const_known x (s.known x) (s.declared x));
   result_of = λ f vs. called_or f (find f s.parameters) (called_at Const f (here_if f (s.declared f)) (λ x xs. Deep) vs);
-  result_type = λ f ts. call_type_at Const f (here_if f (s.declared f)) (λ x. Deep) ts;
+  result_type = λ f ts. call_type_at s f (s.declared f) ts;
   type_named = λ x. type_at x (here_if x (s.declared x));
 }
 

@@ -1,5 +1,6 @@
 -- Values and types of expressions and consts of the const stage, on scalars, as code computes them.
-use Rattle.std.specs.Prelude.{pos, List, [], ◌∷◌, Option, Some, None, Ok, Err}
+use Rattle.std.specs.Prelude.{pos, List, [], ◌∷◌, Option, Some, None, Ok, Err, if◌then◌else◌}
+use Rattle.wgsl_operators.specs.declared.BinaryOperator.{BinaryOperator}
 use Rattle.wgsl_syntax.specs.Tree.{Exp, Exps, literal, parenthesized, unary, binary, call, named, nil, cons, Typ, Decl, variable, function}
 use Rattle.wgsl_enumerations.specs.declared.words.ShaderStage.{ShaderStage}
 use Rattle.wgsl_shader_type.specs.declared.literal.LiteralInstance.{LiteralInstance}
@@ -11,7 +12,7 @@ use Rattle.wgsl_scalar.specs.Scalars.{type_of}
 use Rattle.wgsl_scalar.specs.Conversions.{converted, constructed}
 use Rattle.wgsl_scalar.specs.Operators.{unary_value, binary_value}
 use Rattle.wgsl_scalar.specs.OperatorTypes.{unary_type, binary_type}
-use Rattle.wgsl_meaning.specs.Values.{Checked, and_then, literal_value}
+use Rattle.wgsl_meaning.specs.Values.{Checked, and_then, literal_value, decides}
 use Rattle.wgsl_meaning.specs.Outcome.{Outcome, Done, Failed, bind, at_once, computed}
 use Rattle.wgsl_meaning.specs.Names.{Name, find, plain_name}
 
@@ -54,13 +55,17 @@ abbrev pub result_here : World → Env → Checked Name → List LiteralInstance
 result_here w env (Ok f) vs = called_or f (find f env) (w.result_of f vs)
 result_here w env (Err e) vs = Failed e
 
+-- the left operand, then the right one, unless the left one decides
+abbrev pub between : ShaderStage → BinaryOperator → LiteralInstance → Outcome LiteralInstance → Outcome LiteralInstance
+between stage o x right = if decides o x then Done x 0 else bind right (λ y. computed (binary_value stage o x y))
+
 -- the value of an expression: left before right, arguments in order, the callee last (WGSL, "Program Order Within an Invocation")
 abbrev mutual
   pub value : World → Env → Exp → Outcome LiteralInstance
   value w env (literal l) = Done (literal_value l) 0
   value w env (parenthesized e) = value w env e
   value w env (unary o e) = bind (value w env e) (λ x. computed (unary_value w.stage o x))
-  value w env (binary o a b) = bind (value w env a) (λ x. bind (value w env b) (λ y. computed (binary_value w.stage o x y)))
+  value w env (binary o a b) = bind (value w env a) (λ x. between w.stage o x (value w env b))
   value w env (call f es) = bind (values w env es) (λ vs. result_here w env (plain_name f) vs)
   value w env (named x) = value_here w env (plain_name x)
 

@@ -37,4 +37,5 @@ built_in_type x = if bytes_eq x (codes "i32") then Ok (Integer I32) else if byte
 abbrev pub plain_name : Typ → Checked Name
 plain_name (simple None x) = Ok x
 plain_name (simple (Some path) x) = Err (Named UnknownDecl x)
-plain_name (templated path x arguments) = Err (Named UnexpectedTemplate x)
+plain_name (templated None x arguments) = Err (Named UnexpectedTemplate x)
+plain_name (templated (Some path) x arguments) = Err (Named UnknownDecl x)

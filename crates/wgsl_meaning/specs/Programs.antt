@@ -12,7 +12,7 @@ use Rattle.wgsl_meaning.specs.declared.fault.NameFault.TheVariants.{NotType, Tod
 use Rattle.wgsl_meaning.specs.Values.{Checked}
 use Rattle.wgsl_meaning.specs.Outcome.{Outcome, Failed, bind, at_once}
 use Rattle.wgsl_meaning.specs.Names.{Name, Symbol, built_in_type}
-use Rattle.wgsl_meaning.specs.Meaning.{construct, construct_type}
+use Rattle.wgsl_meaning.specs.Meaning.{construct}
 
 -- ---- a plain unit: one module, without imports
 
@@ -35,12 +35,6 @@ called_at Exec f (Some s) inner vs = inner s vs
 called_at Const f (Some s) inner vs = Failed (Named Todo f)
 called_at Override f (Some s) inner vs = Failed (Named Todo f)
 called_at stage f None inner vs = bind (at_once (built_in_type f)) (λ t. construct f t vs)
-
-abbrev pub call_type_at : ShaderStage → Name → Option Symbol → (Symbol → Outcome ScalarType) → List ScalarType → Outcome ScalarType
-call_type_at Exec f (Some s) inner ts = inner s
-call_type_at Const f (Some s) inner ts = Failed (Named Todo f)
-call_type_at Override f (Some s) inner ts = Failed (Named Todo f)
-call_type_at stage f None inner ts = bind (at_once (built_in_type f)) (λ t. construct_type f t ts)
 
 abbrev pub type_at : Name → Option Symbol → Checked ScalarType
 type_at x (Some s) = Err (Named NotType x)

@@ -1,7 +1,9 @@
 -- What evaluation has beside the scalars' own conversions and operators: faults, literals, and the conversions of a place.
-use Rattle.std.specs.Prelude.{◌≡◌, ◌⊎◌, Result, Ok, Err}
+use Rattle.std.specs.Prelude.{◌≡◌, ◌⊎◌, Bool, true, false, Result, Ok, Err}
 use Rattle.wgsl_items.specs.declared.error.OrOutOfMemory.{OrOutOfMemory}
 use Rattle.wgsl_items.specs.declared.error.OrOutOfMemory.TheVariants as memory
+use Rattle.wgsl_operators.specs.declared.BinaryOperator.{BinaryOperator}
+use Rattle.wgsl_operators.specs.declared.BinaryOperator.TheVariants.{ShortCircuitAnd, ShortCircuitOr}
 use Rattle.wgsl_syntax.specs.declared.expression.LiteralExpression.{LiteralExpression}
 use Rattle.wgsl_syntax.specs.declared.expression.LiteralExpression.TheVariants as L
 use Rattle.wgsl_shader_type.specs.declared.error.Error.{Error}
@@ -27,6 +29,12 @@ operation_fault e = memory.Error (Operation e)
 -- that fault, unless memory was refused
 abbrev pub IsOperationFault : Error → OrOutOfMemory Fault → Type 0
 IsOperationFault e answer = (answer ≡ memory.OutOfMemory) ⊎ (answer ≡ operation_fault e)
+
+-- whether the left operand of `&&` or `||` is the result already (WGSL, "Logical Expressions")
+abbrev pub decides : BinaryOperator → LiteralInstance → Bool
+decides ShortCircuitAnd (V.Bool false) = true
+decides ShortCircuitOr (V.Bool true) = true
+decides o x = false
 
 -- what a literal stands for: its suffix says its type (WGSL, "Numeric Literals")
 abbrev pub literal_value : LiteralExpression → LiteralInstance

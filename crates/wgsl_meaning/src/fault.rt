@@ -4,14 +4,17 @@ ghost use Rattle.wgsl_meaning.specs.Values as spec;
 
 use std::alloc::Global;
 use wgsl_items::{Boxed, OrOutOfMemory, Text};
-use wgsl_scalar::ScalarType;
-use wgsl_shader_type::Error;
+use wgsl_shader_type::{Error, ShaderType};
 
-/// The fault of an evaluation. It says nothing of memory.
+/// Why a program or an evaluation goes wrong. It says nothing of memory.
 #[derive(Debug, Drop, PartialEq)]
 pub enum Fault {
-    /// Of an operation on values: an operator, a conversion or a constructor.
+    /// No step is left: a step is the call of a user's function, or a loop's body that is entered.
+    StepLimit,
+    /// Of an operation on values, an operator, a conversion or a constructor, or of the shader's memory.
     Operation(Boxed<Error>),
+    /// A value of this type is used that isn't known yet.
+    Deferred(Boxed<ShaderType>),
     /// A number of an attribute is below 0.
     NegativeAttr(i64),
     /// Of what a name stands for.
@@ -32,7 +35,7 @@ pub fn operation_fault(alloc: Global, error: Error) -> OrOutOfMemory<Fault>
 }
 
 /// The fault of what a name stands for.
-#[derive(Clone, Copy, Debug, PartialEq, Eq)]
+#[derive(Debug, Drop, PartialEq)]
 pub enum NameFault {
     /// No value is declared under this name.
     UnknownDecl,
@@ -59,11 +62,11 @@ pub enum NameFault {
     /// A function without a value, called for one.
     Void,
     /// A function of this type returns nothing.
-    NoReturn(ScalarType),
-    /// A function without a type returns this.
-    UnexpectedReturn(ScalarType),
-    /// The function returns the first type, which doesn't convert to its own.
-    ReturnType(ScalarType, ScalarType),
+    NoReturn(Boxed<ShaderType>),
+    /// A function without a type returns a value of this type.
+    UnexpectedReturn(Boxed<ShaderType>),
+    /// The function returns the first type, which doesn't convert to its own, the second.
+    ReturnType(Boxed<ShaderType>, Boxed<ShaderType>),
     /// The function has no stage.
     NotEntrypoint,
     /// A parameter of an entry point without a location.

@@ -1,2 +1,5 @@
 pub mod SuperLemmas
 pub mod PartsLemmas
+pub mod JoinLemmas
+pub mod Lawful
+pub mod Printed

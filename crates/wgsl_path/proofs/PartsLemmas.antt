@@ -11,7 +11,7 @@ use Rattle.std.specs.Str.{bytes_eq}
 use Rattle.wgsl_path.specs.declared.path.PathOrigin.TheVariants.{Relative}
 use Rattle.wgsl_path.specs.Reading.{parts_behind, parts, path_above, path_behind}
 
-abbrev mark : List ℕ
+abbrev pub mark : List ℕ
 mark = codes "::"
 
 both : (c d : ℕ) → ((c == 58) && (d == 58)) ≡ true → (c ≡ 58) × (d ≡ 58)

@@ -1,2 +1,5 @@
 pub mod Paths
 pub mod Reading
+pub mod Joining
+pub mod Laws
+pub mod Equality

@@ -4,10 +4,12 @@ ghost use Rattle.std.specs.Prelude.{◌≡◌, IfOk};
 ghost use Rattle.wgsl_path.specs.Paths.{ident_of};
 
 use std::alloc::{AllocError, Global};
+use std::fmt;
+use std::hash::{Hash, Hasher};
 use wgsl_items::{CloneIn, Text};
 
 /// The name that stands at a place of a tree.
-#[derive(Debug, Drop, PartialEq)]
+#[derive(Debug, Drop, PartialEq, Eq)]
 pub struct Ident {
     pub name: Text,
 }
@@ -24,6 +26,45 @@ impl Ident {
         ensures { result.now ≡ self.now.name }
     {
         self.name.as_str()
+    }
+
+    /// The same as `as_str`.
+    pub fn name(&self) -> &str
+        ensures { result.now ≡ self.now.name }
+    {
+        self.as_str()
+    }
+
+    /// Another name for this one identifier. It needs no memory.
+    pub fn rename(&mut self, name: Text)
+        ensures { self.new ≡ ident_of name }
+    {
+        self.name = name;
+    }
+}
+
+/// An identifier is written as its name.
+impl fmt::Display for Ident {
+    ghost use Rattle.std.specs.Prelude.{Some};
+
+    ghost output = { λ ident. Some (ident.name) };
+
+    fn fmt<W: fmt::Write>(&self, f: &mut fmt::Formatter<W>) -> fmt::Result {
+        self.name.fmt(f)
+    }
+}
+
+impl Hash for Ident {
+    ghost use Rattle.std.specs.Hash as fed;
+    ghost use Rattle.std.specs.Cmp.Rules.{hashing};
+    ghost use Rattle.std.proofs.Common.{rules};
+
+    ghost hash_input = { λ ident. fed.str ident.name };
+
+    ghost respects_eq = { Prim.search (hashing, rules) };
+
+    fn hash<H: Hasher>(&self, state: &mut H) {
+        self.as_str().hash(state);
     }
 }
 

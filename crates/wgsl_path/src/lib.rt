@@ -1,7 +1,10 @@
 //! Places in a text, identifiers, and the paths of modules.
 #![tactic(auto)]
 
+mod equality;
 mod ident;
+mod joining;
+pub mod laws;
 mod path;
 mod reading;
 mod span;

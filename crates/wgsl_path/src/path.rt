@@ -9,7 +9,7 @@ use std::fmt;
 use wgsl_items::{CloneIn, Items, Text};
 
 /// Where a path starts.
-#[derive(Debug, Drop, PartialEq)]
+#[derive(Debug, Drop, PartialEq, Eq)]
 pub enum PathOrigin {
     /// At the root of the own package: `package`.
     Absolute,

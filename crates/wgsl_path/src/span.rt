@@ -1,9 +1,13 @@
 //! Places in a text.
 
 ghost use Rattle.std.specs.Prelude.{◌≡◌, IfOk};
+ghost use Rattle.std.specs.Borrow.{sem, Lends};
 ghost use Rattle.wgsl_path.specs.Paths.{across};
+ghost use Rattle.wgsl_path.specs.contracts.span.Spanned.{the_row};
 
 use std::alloc::{AllocError, Global};
+use std::fmt;
+use std::ops::Range;
 use wgsl_items::{Boxed, CloneIn};
 
 /// A place in a text, in bytes: where it starts, and where it ends.
@@ -14,6 +18,28 @@ pub struct Span {
 }
 
 impl Span {
+    pub fn new(range: Range<usize>) -> Span
+        ensures { result ≡ record { start = range.start; end = range.end } }
+    {
+        Span {
+            start: range.start,
+            end: range.end,
+        }
+    }
+
+    pub fn range(&self) -> Range<usize>
+        ensures { result ≡ record { start = self.now.start; end = self.now.end } }
+    {
+        self.start..self.end
+    }
+
+    /// From the start of this place to the end of another.
+    pub fn extend(&self, other: Span) -> Span
+        ensures { result ≡ across self.now other }
+    {
+        self.across(other)
+    }
+
     /// From the start of this place to the end of another.
     pub fn across(self, last: Span) -> Span
         ensures { result ≡ across self last }
@@ -45,6 +71,13 @@ impl<T> Spanned<T> {
         ensures { result.now ≡ self.now.node }
     {
         self.node.get()
+    }
+
+    pub fn node_mut(&mut self) -> &mut T
+        ensures* writes_back { sem 𝓛 (Lends (the_row T.row) T.row self.entry result (λ w. record { node = w; span = self.entry.now.span })) }
+        ensures value { result.now ≡ self.old.node }
+    {
+        self.node.get_mut()
     }
 
     pub fn into_inner(self) -> T
@@ -79,5 +112,14 @@ impl<T: CloneIn + Drop> CloneIn for Spanned<T> {
             node: self.node.clone_in(alloc)?,
             span: self.span,
         })
+    }
+}
+
+/// It is written as its value is.
+impl<T: fmt::Display> fmt::Display for Spanned<T> {
+    ghost output = { λ spanned. T.output spanned.node };
+
+    fn fmt<W: fmt::Write>(&self, f: &mut fmt::Formatter<W>) -> fmt::Result {
+        self.node.get().fmt(f)
     }
 }

@@ -48,6 +48,7 @@ use Rattle.wgsl_memory.specs.Places.{loaded_layer}
 use Rattle.wgsl_instance_operators.specs.Operators.{as_literal, by_left, by_right, no_operands, combined, component_layer, no_operand, each_component}
 use Rattle.wgsl_constructors.specs.Built.{literal_layer, cast, cast_at, built_scalar}
 use Rattle.wgsl_computations.specs.Machine.{pure, fail, bind, loaded, of_result}
+use Rattle.wgsl_meaning.specs.Values.{decides as decides_scalar}
 use Rattle.wgsl_programs.specs.Faults.{Operation, Deferred}
 use Rattle.wgsl_programs.specs.Computing.{is_deferred_layer, known, used}
 use Rattle.wgsl_programs.specs.Operations.{type_or, if_typed, operand, operand_type, unary_type, unary_value, binary_type, binary_value, decides_layer, decides, argument}
@@ -125,12 +126,6 @@ unary_of_scalars s Negation x = one_component s Negation x
 unary_of_scalars s BitwiseComplement x = one_component s BitwiseComplement x
 
 -- ---- short-circuiting operators
-
--- whether a scalar is the result of `&&` or `||` already
-abbrev pub decides_scalar : BinaryOperator → LiteralInstance → Bool
-decides_scalar ShortCircuitAnd (scalar.Bool false) = true
-decides_scalar ShortCircuitOr (scalar.Bool true) = true
-decides_scalar o x = false
 
 decides_same : (o : BinaryOperator) (x : LiteralInstance) → decides_layer {A = Instance} o (Instance-F.Literal x) ≡ decides_scalar o x
 decides_same ShortCircuitAnd (scalar.Bool false) = refl

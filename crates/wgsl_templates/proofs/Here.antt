@@ -18,7 +18,7 @@ pub here_trivia : (s : State) (c : ℕ) (cs : List ℕ) (n : ℕ) (o : Option To
 here_trivia s c cs n o h e = let P : Option Token → Type 0 = λ x. StandsFirst (c ∷ cs) n x in trivia_here (is_first c cs n None (subst P e h))
 
 -- `<` alone, by its first character and how many there are
-less_is : (c : ℕ) (cs : List ℕ) (n : ℕ) → 0 < n → n ≤ length cs + 1 → is_less (take n (c ∷ cs)) ≡ ((c == 60) && (n == 1))
+pub less_is : (c : ℕ) (cs : List ℕ) (n : ℕ) → 0 < n → n ≤ length cs + 1 → is_less (take n (c ∷ cs)) ≡ ((c == 60) && (n == 1))
 less_is c cs zero some within = absurd (omega arith)
 less_is c cs (suc zero) some within = sym (and_true (c == 60))
   where

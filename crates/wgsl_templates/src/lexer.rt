@@ -48,8 +48,8 @@ fn lex_characters<P: Pieces>(
     let mut at = 0;
     while let Some((first, behind)) = rest.split_first() {
         let TemplatePiece { length, token } = next(
-            alloc,
             pieces,
+            rest,
             *first,
             behind,
             after_word,

@@ -7,5 +7,6 @@ mod recognize;
 mod table;
 
 pub use lexer::lex;
-pub use piece::{Piece, Pieces};
+pub use piece::Pieces;
 pub use recognize::{Answer, Recognizer};
+pub use table::opens_list;

@@ -5,23 +5,21 @@ ghost use Rattle.wgsl_lex.specs.Pieces.{StandsFirst};
 ghost use Rattle.wgsl_template_spec.specs.Tokens as tokens;
 ghost use Rattle.wgsl_templates.specs.Steps.{StandsHere, state, IsTable};
 
-use std::alloc::{AllocError, Global};
+use std::alloc::AllocError;
+use wgsl_lex::Piece;
 use wgsl_template_spec::{Bracket, TemplateToken};
 use wgsl_token::Token;
 
-/// The longest run of characters at the front that is blankspace, a comment or a token.
-#[derive(Debug, Drop)]
-pub struct Piece {
-    /// How many characters it has.
-    pub length: usize,
-    /// Its token, unless it is blankspace or a comment.
-    pub token: Option<Token>,
-}
-
 /// Who knows what stands first.
 pub trait Pieces {
-    /// What stands at the front: of this character, and what is behind it. Only memory can fail.
-    fn first_piece(&self, alloc: Global, first: char, behind: &[char]) -> Result<Piece, AllocError>
+    /// What stands at the front of some characters: of the first one, and what is behind it. Only memory can fail.
+    fn first_piece(
+        &self,
+        characters: &[char],
+        first: char,
+        behind: &[char],
+    ) -> Result<Piece, AllocError>
+        requires { characters.now ≡ first ∷ behind.now }
         ensures within { IfOk result (λ piece. piece.length ≤ length behind.now + 1) }
         ensures first { IfOk result (λ piece. StandsFirst (first ∷ behind.now) piece.length piece.token) };
 }
@@ -35,22 +33,23 @@ pub(crate) struct TemplatePiece {
     pub(crate) token: Option<TemplateToken>,
 }
 
-/// What stands first, behind a word or not, where these brackets are open, the last one at the end.
+/// What stands at the front of some characters, behind a word or not, where these brackets are open, the last one at the end.
 pub(crate) fn next<P: Pieces>(
-    alloc: Global,
     pieces: &P,
+    characters: &[char],
     first: char,
     behind: &[char],
     after_word: bool,
     opened: &[Bracket],
     table: &[bool],
 ) -> Result<TemplatePiece, AllocError>
+    requires whole { characters.now ≡ first ∷ behind.now }
     requires table { IsTable (first ∷ behind.now) table.now }
     requires covered { length behind.now < length table.now }
     ensures within { IfOk result (λ piece. piece.length ≤ length behind.now + 1) }
     ensures first { IfOk result (λ piece. (at : ℕ) → StandsHere (state at after_word opened.now) (first ∷ behind.now) piece.length piece.token) }
 {
-    let Piece { length, token } = pieces.first_piece(alloc, first, behind)?;
+    let Piece { length, token } = pieces.first_piece(characters, first, behind)?;
     let Some(token) = token else {
         return Ok(TemplatePiece {
             length,

@@ -30,6 +30,19 @@ pub(crate) fn table_of<P: Pieces, R: Recognizer>(
     Ok(table)
 }
 
+/// Whether a `<` before these characters opens a template list, if a word stands before it. Only memory can fail.
+pub fn opens_list<P: Pieces, R: Recognizer>(
+    alloc: Global,
+    pieces: &P,
+    recognizer: &R,
+    behind: &[char],
+) -> Result<bool, AllocError>
+    ensures { IfOk result (Opens behind.now) }
+{
+    let table = table_of(alloc, pieces, recognizer, behind)?;
+    opens(alloc, pieces, recognizer, behind, table.as_slice())
+}
+
 /// Of characters before and behind a place, if a `<` ends those before: whether it opens a template list.
 fn entry<P: Pieces, R: Recognizer>(
     alloc: Global,
@@ -137,8 +150,8 @@ fn inside<P: Pieces>(
             });
         }
         let TemplatePiece { length, token } = next(
-            alloc,
             pieces,
+            rest,
             *first,
             behind,
             after_word,

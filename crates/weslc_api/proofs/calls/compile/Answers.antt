@@ -9,10 +9,10 @@ use Rattle.weslc_api.proofs.calls.compile.Goals as goal
 
 pub returns-in-Ok-clause-text : goal.returns-in-Ok-clause-text
 returns-in-Ok-clause-text g c =
-    compiled_text (g.R.Resolver.answers c.args.resolver.now) (path_text c.args.root.now) c.args.options.now.keep c.args.options.now.max_modules (unit_tree c.in_ok-unit.field-0.unit) c.in_ok-unit.ensures.unit
+    compiled_text (g.R.Resolver.answers c.args.resolver.now) (path_text c.args.root.now) c.args.options.now.keep c.args.options.now.max_modules c.args.options.now.max_steps (unit_tree c.in_ok-unit.field-0.unit) c.in_ok-unit.ensures.unit
     (string_bytes c.in-Ok.text) c.in-Ok.ensures.text
 
 pub returns-clause-refusal : goal.returns-clause-refusal
 returns-clause-refusal g c =
-    inr (refused_unit (g.R.Resolver.answers c.args.resolver.now) (path_text c.args.root.now) c.args.options.now.keep c.args.options.now.max_modules (unit_tree c.in_ok-unit.field-0.unit) c.in_ok-unit.field-0.map
+    inr (refused_unit (g.R.Resolver.answers c.args.resolver.now) (path_text c.args.root.now) c.args.options.now.keep c.args.options.now.max_modules c.args.options.now.max_steps (unit_tree c.in_ok-unit.field-0.unit) c.in_ok-unit.field-0.map
     c.in_ok-unit.ensures.told c.in-Err.refusal c.of_unit.result c.in-Err.ensures.refusal c.of_unit.ensures)

@@ -1,7 +1,7 @@
 use Rattle.std.proofs.Common.{◌∙◌, ap}
 use Rattle.wgsl_syntax.specs.View.{tree}
 use Rattle.wgsl_eval.specs.Scopes.{scope_of}
-use Rattle.wgsl_lower.specs.Lowered.{parts}
+use Rattle.wgsl_lower.specs.Computed.{parts}
 use Rattle.wgsl_lower.proofs.Parts.{parts_parenthesized, parts_unary, parts_binary}
 use Rattle.wgsl_lower.proofs.expression.+lowering.Goals as goal
 

@@ -2,7 +2,7 @@ use Rattle.std.proofs.Common.{◌≡◌, ◌+◌, ◌*◌, map, drop}
 use Rattle.wgsl_syntax.specs.Tree.{exps}
 use Rattle.wgsl_syntax.specs.View.{node_tree}
 use Rattle.wgsl_eval.specs.Scopes.{scope_of}
-use Rattle.wgsl_lower.specs.Lowered as spec
+use Rattle.wgsl_lower.specs.Computed as spec
 use Rattle.wgsl_lower.proofs.expression.+lowering.Given as goal
 
 abbrev pub invariant-all_lowered-loop-node : goal.invariant-all_lowered-loop-node

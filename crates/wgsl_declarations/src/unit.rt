@@ -1,0 +1,13 @@
+//! Whole modules.
+
+use crate::declaration::GlobalDeclarationNode;
+use wgsl_imports::{GlobalDirective, ImportStatement};
+use wgsl_items::Items;
+
+/// The syntax tree of a module.
+#[derive(Debug, Drop, PartialEq)]
+pub struct TranslationUnit {
+    pub imports: Items<ImportStatement>,
+    pub global_directives: Items<GlobalDirective>,
+    pub global_declarations: Items<GlobalDeclarationNode>,
+}

@@ -1,0 +1,11 @@
+//! The imports of WESL and the directives of WGSL, their copies and their text.
+#![tactic(auto)]
+
+mod copy;
+mod directive;
+mod import;
+mod print;
+mod print_directives;
+
+pub use directive::{DiagnosticDirective, EnableDirective, GlobalDirective, RequiresDirective};
+pub use import::{Import, ImportContent, ImportItem, ImportOf, ImportStatement};

@@ -1,0 +1,109 @@
+//! What each call answers.
+
+use std::alloc::{AllocError, Global};
+use std::fmt::{Display, Write};
+use wgsl_template_lexer::{lexer, parser};
+use wgsl_template_spec::{SpannedTemplateToken, TemplateToken};
+use wgsl_token::Token;
+
+/// The text before the first tab, and the text behind it.
+fn cut(text: &str) -> (&str, &str) {
+    text.split_once('\t').unwrap_or((text, ""))
+}
+
+/// The answer to a call.
+pub fn answer(alloc: Global, case: &str) -> Result<String, AllocError> {
+    let (call, with) = cut(case);
+    match call {
+        "lex" => shown(alloc, with),
+        "recognize" => told(alloc, lexer::recognize_template_list(alloc, with)?),
+        "tokens" => behind_first(alloc, with),
+        "repeat" => repeated(alloc, with),
+        _ => String::from_str(alloc, "no such call"),
+    }
+}
+
+fn told(alloc: Global, told: bool) -> Result<String, AllocError> {
+    format!(in alloc; "{told}")
+}
+
+/// The tokens of a text: `‹` starts a list, and `›` ends one.
+fn shown(alloc: Global, text: &str) -> Result<String, AllocError> {
+    let tokens = lexer::lex(alloc, text)?;
+    let mut all = String::new(alloc);
+    for token in tokens.as_slice() {
+        if !all.is_empty() {
+            all.push(' ')?;
+        }
+        push_token(&mut all, &token.token)?;
+    }
+    Ok(all)
+}
+
+fn push_token(all: &mut String, token: &TemplateToken) -> Result<(), AllocError> {
+    match token {
+        TemplateToken::TemplateArgsStart => all.push('‹'),
+        TemplateToken::TemplateArgsEnd => all.push('›'),
+        TemplateToken::Plain(token) => push_plain(all, token),
+    }
+}
+
+fn push<T: Display>(all: &mut String, shown: &T) -> Result<(), AllocError> {
+    write!(all, "{shown}")?;
+    Ok(())
+}
+
+fn push_plain(all: &mut String, token: &Token) -> Result<(), AllocError> {
+    match token {
+        Token::Fixed(fixed) => push(all, fixed),
+        Token::Identifier(word) => push(all, word),
+        Token::AbstractInt(number) => push(all, number),
+        _ => all.push_str("another token"),
+    }
+}
+
+/// Whether the tokens behind the first one begin with a list.
+fn behind_first(alloc: Global, text: &str) -> Result<String, AllocError> {
+    let tokens = lexer::lex(alloc, text)?;
+    match tokens.as_slice().split_first() {
+        Some((_, behind)) => told(alloc, parser::recognize_template_list(alloc, behind)?),
+        None => told(
+            alloc,
+            parser::recognize_template_list(alloc, tokens.as_slice())?,
+        ),
+    }
+}
+
+/// How many lists and tokens a text has that is made of parts: so often the first, then the second, and so often the last.
+fn repeated(alloc: Global, with: &str) -> Result<String, AllocError> {
+    let (count, parts) = cut(with);
+    let (first, parts) = cut(parts);
+    let (middle, last) = cut(parts);
+    let count: u64 = count.parse().unwrap_or(0);
+    let mut text = String::new(alloc);
+    push_times(&mut text, first, count)?;
+    text.push_str(middle)?;
+    push_times(&mut text, last, count)?;
+    let tokens = lexer::lex(alloc, text.as_str())?;
+    let lists = lists(tokens.as_slice());
+    let count = tokens.as_slice().len();
+    format!(in alloc; "{lists} lists, {count} tokens")
+}
+
+fn push_times(text: &mut String, part: &str, count: u64) -> Result<(), AllocError> {
+    for _ in 0..count {
+        text.push_str(part)?;
+    }
+    Ok(())
+}
+
+/// How many lists start.
+fn lists(tokens: &[SpannedTemplateToken]) -> u64 {
+    let mut count: u64 = 0;
+    for token in tokens {
+        if matches!(token.token, TemplateToken::TemplateArgsStart) {
+            count = count.saturating_add(1);
+        }
+    }
+    count
+}

@@ -1,0 +1,67 @@
+//! Texts.
+
+ghost use Rattle.std.specs.Prelude.{◌≡◌, ◌∷◌, ◌==◌, ◌&&◌, IfOk};
+ghost use Rattle.wgsl_template_spec.specs.Tokens.{IsLexed};
+ghost use Rattle.wgsl_template_lexer.specs.Starts.{StartsList, TextStartsList, IsLessFirst};
+
+use crate::pieces::TextPieces;
+use std::alloc::{AllocError, Global};
+use wgsl_items::Items;
+use wgsl_lex::first_piece;
+use wgsl_template_recognizer::ListRecognizer;
+use wgsl_template_spec::SpannedTemplateToken;
+use wgsl_templates::opens_list;
+
+/// The tokens of a text (WGSL, "Textual Structure" and "Template Lists"), each with its place in bytes. What is no token is an
+/// invalid token. Only memory can fail.
+pub fn lex(alloc: Global, text: &str) -> Result<Items<SpannedTemplateToken>, AllocError>
+    ensures { IfOk result (IsLexed text.now) }
+{
+    let pieces = TextPieces { alloc };
+    let recognizer = ListRecognizer { alloc };
+    wgsl_templates::lex(alloc, &pieces, &recognizer, text)
+}
+
+/// Whether a text begins with a `<` that opens a template list behind a word. Only memory can fail.
+pub fn recognize_template_list(alloc: Global, text: &str) -> Result<bool, AllocError>
+    ensures { IfOk result (TextStartsList text.now) }
+{
+    let characters: Vec<char> = text.chars().collect(alloc)?;
+    starts_list(alloc, characters.as_slice())
+}
+
+/// The same, of a text's characters.
+fn starts_list(alloc: Global, characters: &[char]) -> Result<bool, AllocError>
+    ensures { IfOk result (StartsList characters.now) }
+{
+    let Some((first, behind)) = characters.split_first() else {
+        return Ok(false);
+    };
+    if !begins_with_less(alloc, characters, *first, behind)? {
+        return Ok(false);
+    }
+    let pieces = TextPieces { alloc };
+    let recognizer = ListRecognizer { alloc };
+    opens_list(alloc, &pieces, &recognizer, behind)
+}
+
+/// Whether `<` alone stands at the front of some characters: of the first one, and what is behind it.
+fn begins_with_less(
+    alloc: Global,
+    characters: &[char],
+    first: char,
+    behind: &[char],
+) -> Result<bool, AllocError>
+    requires { characters.now ≡ first ∷ behind.now }
+    ensures { IfOk result (IsLessFirst (first ∷ behind.now)) }
+{
+    let piece = first_piece(alloc, characters, first, behind)?;
+    Ok(is_less(first, piece.length))
+}
+
+/// Whether so many characters are `<` alone.
+fn is_less(first: char, count: usize) -> bool
+    ensures { result ≡ ((first == 60) && (count == 1)) }
+{
+    first == '<' && count == 1
+}

@@ -1,0 +1,4 @@
+pub mod Run
+pub mod Complete
+pub mod Sound
+pub mod Answers

@@ -1,0 +1,10 @@
+use Rattle.std.proofs.Common.{◌≡◌, reverse, length}
+use Rattle.wgsl_template_recognizer.specs.Actions.{reading}
+use Rattle.wgsl_template_recognizer.proofs.Run.{verdict, beginning}
+use Rattle.wgsl_template_recognizer.proofs.recognizer.ListRecognizerRecognizer.recognize.Given as goal
+
+abbrev pub invariant-loop-kind : goal.invariant-loop-kind
+invariant-loop-kind l = verdict l.rest (reading l.state (reverse l.frames.items)) ≡ verdict l.fn.kinds beginning
+
+abbrev pub decreases-loop-kind : goal.decreases-loop-kind
+decreases-loop-kind l = length l.rest
