@@ -1,8 +1,10 @@
-//! The syntax trees of the declarations of WGSL and of whole modules, and their copies.
+//! The syntax trees of the declarations of WGSL and of whole modules, their copies and their text.
 #![tactic(auto)]
 
 mod copy;
 mod declaration;
+mod print;
+mod print_unit;
 mod unit;
 
 pub use declaration::{

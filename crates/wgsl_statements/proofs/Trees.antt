@@ -2,9 +2,7 @@
 use Rattle.std.proofs.Common.{◌≡◌, refl, ap, ◌∙◌, List, [], ◌∷◌, map, Option, Some, None}
 use Rattle.std.specs.Option.{option_map}
 use Rattle.wgsl_path.specs.declared.span.Spanned.{Spanned}
-use Rattle.wgsl_expressions.specs.declared.expression.Expression.{Expression}
 use Rattle.wgsl_expressions.specs.View.{node_tree}
-use Rattle.wgsl_attributes.specs.declared.attribute.Attribute.{Attribute}
 use Rattle.wgsl_attributes.specs.View.{attributes_tree}
 use Rattle.wgsl_simple_statements.specs.declared.declaration.Declaration.{Declaration}
 use Rattle.wgsl_simple_statements.specs.declared.declaration.ConstAssert.{ConstAssert}
@@ -19,7 +17,6 @@ use Rattle.wgsl_simple_statements.specs.declared.statement.FunctionCallStatement
 use Rattle.wgsl_simple_statements.specs.View.{assignment_tree, increment_tree, decrement_tree, break_tree, continue_tree, return_tree, discard_tree, call_tree, assertion_tree, value_tree, break_if_tree, selector_tree}
 use Rattle.wgsl_statements.specs.declared.statement.CompoundStatementOf.{CompoundStatementOf}
 use Rattle.wgsl_statements.specs.declared.statement.IfStatementOf.{IfStatementOf}
-use Rattle.wgsl_statements.specs.declared.statement.IfClauseOf.{IfClauseOf}
 use Rattle.wgsl_statements.specs.declared.statement.ElseIfClauseOf.{ElseIfClauseOf}
 use Rattle.wgsl_statements.specs.declared.statement.ElseClauseOf.{ElseClauseOf}
 use Rattle.wgsl_statements.specs.declared.statement.SwitchStatementOf.{SwitchStatementOf}
@@ -31,8 +28,8 @@ use Rattle.wgsl_statements.specs.declared.statement.WhileStatementOf.{WhileState
 use Rattle.wgsl_statements.specs.declared.statement.Statement.{Statement, out-Statement, map-Statement, fold_out-Statement}
 use Rattle.wgsl_statements.specs.declared.statement.Statement.TheOpen.{Statement-F}
 use Rattle.wgsl_statements.specs.declared.statement.Statement.TheVariants.{Void, outs-Void, Compound, outs-Compound, Assignment, outs-Assignment, Increment, outs-Increment, Decrement, outs-Decrement, If, outs-If, Switch, outs-Switch, Loop, outs-Loop, For, outs-For, While, outs-While, Break, outs-Break, Continue, outs-Continue, Return, outs-Return, Discard, outs-Discard, FunctionCall, outs-FunctionCall, ConstAssert as Assert, outs-ConstAssert, Declaration as Value, outs-Declaration}
-use Rattle.wgsl_statements.specs.Tree.{Stm, simple, compound_statement, if_statement, switch_statement, loop_statement, for_statement, while_statement, Block, block, Elses, no_else, else_clause, else_if_clause, Clauses, no_clauses, switch_clause, Continuing, no_continuing, continuing_statement, Part}
-use Rattle.wgsl_statements.specs.View.{stms, part, nodes_layer, block_layer, else_layer, elses_layer, if_layer, clauses_layer, switch_layer, continuing_layer, loop_layer, part_layer, for_layer, while_layer, layer, statement_tree, block_tree}
+use Rattle.wgsl_statements.specs.Tree.{Stm, simple, compound_statement, if_statement, switch_statement, loop_statement, for_statement, while_statement, Block, block, else_clause, else_if_clause, switch_clause, no_continuing, continuing_statement}
+use Rattle.wgsl_statements.specs.View.{stms, block_layer, else_layer, elses_layer, if_layer, clauses_layer, switch_layer, loop_layer, part_layer, for_layer, while_layer, layer, statement_tree, block_tree}
 
 map-map : {A B C : Type 0} (f : B → C) (h : A → B) (xs : List A) → map f (map h xs) ≡ map (λ x. f (h x)) xs
 map-map f h [] = refl

@@ -1,9 +1,12 @@
-//! The syntax trees of all statements of WGSL, and their copies.
+//! The syntax trees of all statements of WGSL, their copies and their text.
 #![tactic(auto)]
 
 mod copy;
+mod display;
+mod print;
 mod statement;
 
+pub use print::{write_block, write_statement};
 pub use statement::{
     CompoundStatement, CompoundStatementOf, ConstAssertStatement, ContinuingStatement,
     ContinuingStatementOf, DeclarationStatement, ElseClause, ElseClauseOf, ElseIfClause,
