@@ -5,6 +5,8 @@ ghost use Rattle.std.specs.Option.{option_copied};
 ghost use Rattle.std.specs.List.{slice_index_or};
 ghost use Rattle.std.specs.Prelude.{slice_set};
 ghost use Rattle.std.specs.Borrow.{sem, Lends};
+ghost use Rattle.std.specs.Fn.{CalledAt, CalledAtMut};
+ghost use Rattle.std.specs.List.Retain.{IsFiltered, RetainsInTurn};
 ghost use Rattle.wgsl_items.specs.contracts.items.Items.{the_row};
 
 use crate::copies::CloneIn;
@@ -105,6 +107,22 @@ impl<T: Drop> Items<T> {
         }
         self.items.push(item)?;
         Ok(())
+    }
+
+    /// Keeps, in order, the elements at which the closure returns `true`, and drops the others.
+    pub fn retain<F: FnMut(&T) -> bool>(&mut self, f: F)
+        requires { F.IsAlwaysCallable f }
+        ensures { IsFiltered (CalledAt F.FnMut) f self.old self.new }
+    {
+        self.items.retain(f);
+    }
+
+    /// The same, where the closure may change each element before it returns.
+    pub fn retain_mut<F: FnMut(&mut T) -> bool>(&mut self, f: F)
+        requires { F.IsAlwaysCallable f }
+        ensures { RetainsInTurn (CalledAtMut F.FnMut) f self.old self.new }
+    {
+        self.items.retain_mut(f);
     }
 }
 
