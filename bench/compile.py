@@ -31,15 +31,19 @@ def fan(n):
     return "const c0 = 1;\n" + "".join(f"const c{i} = c0 + 1;\n" for i in range(1, n)), [f"c{i}" for i in range(n)]
 
 
-def functions(n):
-    """Functions that use ten consts each; all functions are kept."""
+def functions(n, uses=10):
+    """Functions that each add so many consts to a parameter; all functions are kept."""
     half = n // 2
     consts = "".join(f"const c{i} = {i};\n" for i in range(half))
-    sums = ["".join(f" + c{(i * 10 + k) % half}" for k in range(10)) for i in range(half)]
+    sums = ["".join(f" + c{(i * 10 + k) % half}" for k in range(uses)) for i in range(half)]
     return consts + "".join(f"fn use_{i}(x: u32) -> u32 {{ return x{it}; }}\n" for i, it in enumerate(sums)), [f"use_{i}" for i in range(half)]
 
 
-SHAPES = {"each const uses the one before": before, "each const uses the next": after, "all use one": fan, "functions use ten each": functions}
+def long_sums(n):
+    return functions(n, 200)
+
+
+SHAPES = {"each const uses the one before": before, "each const uses the next": after, "all use one": fan, "functions use ten each": functions, "functions use two hundred each": long_sums}
 
 
 def bundle(command, text, keep):

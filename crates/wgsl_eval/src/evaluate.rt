@@ -62,7 +62,8 @@ pub fn callee(alloc: Global, scope: &Scope<'_>, name: &Text) -> Result<ScalarTyp
     }
 }
 
-fn call(
+/// The value of a call of a constructor with these arguments.
+pub fn call(
     alloc: Global,
     scope: &Scope<'_>,
     name: &Text,
@@ -79,7 +80,7 @@ fn call(
 }
 
 /// Whether the left operand of `&&` or `||` is the result already (WGSL, "Logical Expressions").
-fn decides(operator: BinaryOperator, left: LiteralInstance) -> bool
+pub fn decides(operator: BinaryOperator, left: LiteralInstance) -> bool
     ensures { result ≡ decides operator left }
 {
     matches!(
@@ -143,8 +144,9 @@ fn call_value(
     call(alloc, scope, name, arguments.as_slice())
 }
 
+/// The values of expressions, in order.
 #[cycle(evaluating)]
-fn values(
+pub fn values(
     alloc: Global,
     scope: &Scope<'_>,
     nodes: &[ExpressionNode],

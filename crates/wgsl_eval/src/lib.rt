@@ -9,8 +9,8 @@ mod scope;
 mod start;
 mod typing;
 
-pub use error::{DeclarationFault, EvalError, UnitError, refused};
-pub use evaluate::{callee, eval_value};
+pub use error::{DeclarationFault, EvalError, UnitError, computed, refused};
+pub use evaluate::{call, callee, decides, eval_value, values};
 pub use find::{declarations_of, plain_name};
 pub use literal::literal_value;
 pub use scope::{Declarations, Scope, Values};

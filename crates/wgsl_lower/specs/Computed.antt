@@ -169,8 +169,8 @@ lacks (Error (Deferred t)) = false
 lacks (Error (NegativeAttr z)) = false
 lacks (Error (Named f x)) = lacks_value f
 
--- the value of an expression, if it has one
-abbrev pub const_value : Outcome LiteralInstance → Checked (Option LiteralInstance)
+-- the value of an expression, or those of several, if they have them
+abbrev pub const_value : {A : Type 0} → Outcome A → Checked (Option A)
 const_value (Done v n) = Ok (Some v)
 const_value (Failed f) = unless_fault f (Ok None)
 const_value Deep = Err StepLimit

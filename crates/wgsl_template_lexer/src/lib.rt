@@ -4,3 +4,6 @@
 pub mod lexer;
 pub mod parser;
 mod pieces;
+mod tokens;
+
+pub use tokens::Lexer;

@@ -1,0 +1,66 @@
+//! The tokens of a text as an iterator.
+
+ghost use Rattle.std.specs.Prelude.{◌≡◌, ◌<◌, ◌+◌, IfOk, MatchOption, length, take};
+ghost use Rattle.wgsl_template_lexer.specs.Lexing.{Lexed, ends_at_fault, left};
+ghost use Rattle.wgsl_template_lexer.specs.Lexing as spec;
+
+use crate::lexer::lex;
+use std::alloc::{AllocError, Global};
+use std::collections::VecDeque;
+use wgsl_template_spec::{SpannedTemplateToken, TemplateToken};
+use wgsl_token::Token;
+
+/// The tokens of a text, one after another, each with its place in bytes. They end behind the last token, or behind the first
+/// one that is an invalid token.
+#[derive(Debug, Drop)]
+pub struct Lexer {
+    tokens: VecDeque<SpannedTemplateToken>,
+}
+
+impl Lexer {
+    /// The tokens of a text. Only memory can fail.
+    pub fn new(alloc: Global, text: &str) -> Result<Lexer, AllocError>
+        ensures { IfOk result (λ lexer. Lexed text.now (left lexer)) }
+    {
+        let mut tokens = lex(alloc, text)?.into_vec();
+        if let Some(at) = first_fault(tokens.as_slice()) {
+            tokens.truncate(at + 1);
+        }
+        Ok(Lexer {
+            tokens: VecDeque::from(tokens),
+        })
+    }
+}
+
+/// Where the first invalid token stands.
+fn first_fault(tokens: &[SpannedTemplateToken]) -> Option<usize>
+    ensures { MatchOption result (ends_at_fault tokens.now ≡ tokens.now) (λ at. (at < length tokens.now) × (ends_at_fault tokens.now ≡ take (at + 1) tokens.now)) }
+{
+    for (at, token) in tokens.iter().enumerate() {
+        if is_fault(token) {
+            return Some(at);
+        }
+    }
+    None
+}
+
+/// Whether a token is invalid.
+fn is_fault(token: &SpannedTemplateToken) -> bool
+    ensures { result ≡ spec.is_fault token.now }
+{
+    matches!(token.token, TemplateToken::Plain(Token::Invalid))
+}
+
+impl Iterator for Lexer {
+    ghost use Rattle.std.specs.Iterator.{YieldsFirst, item_count};
+
+    type Item = SpannedTemplateToken;
+
+    ghost next_gives = { YieldsFirst left };
+
+    ghost remaining = { item_count left };
+
+    fn next(&mut self) -> Option<SpannedTemplateToken> {
+        self.tokens.pop_front()
+    }
+}
