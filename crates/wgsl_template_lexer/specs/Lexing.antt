@@ -23,7 +23,7 @@ ends_at_fault (t ∷ ts) = if is_fault t then t ∷ [] else t ∷ ends_at_fault 
 pub record Lexed (text : List ℕ) (given : List SpannedTemplateToken) : Type 0 where
   pub tokens : List SpannedTemplateToken
   pub lexed : IsLexed text tokens
-  pub given : given ≡ ends_at_fault tokens
+  pub up_to_fault : given ≡ ends_at_fault tokens
 
 -- what is left to give
 abbrev pub left : Lexer → List SpannedTemplateToken
