@@ -1,0 +1,4 @@
+pub mod Statements
+pub mod Units
+pub mod Counts
+pub mod Laws
