@@ -1,0 +1,3 @@
+pub mod Productions
+pub mod Print
+pub mod Laws
