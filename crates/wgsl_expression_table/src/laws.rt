@@ -1,6 +1,7 @@
-//! Worked examples of the table. The function states them, and does nothing.
+//! Worked examples and laws of the table. Each function states some, and does nothing.
 
 ghost use Rattle.wgsl_expression_table.specs.Examples.{NegatedTwice, InModule, MemberOfNumber, SumOfIndexed};
+ghost use Rattle.wgsl_expression_table.specs.Laws.{TextIsPrinted};
 
 /// Texts that the table gives for four expressions.
 pub fn worked_examples()
@@ -8,4 +9,9 @@ pub fn worked_examples()
     ensures in_module { InModule }
     ensures member_of_number { MemberOfNumber }
     ensures sum_of_indexed { SumOfIndexed }
+{}
+
+/// The text that the table gives of an expression is the printer's.
+pub fn text_is_printed()
+    ensures { TextIsPrinted }
 {}
