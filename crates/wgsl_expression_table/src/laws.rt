@@ -1,7 +1,7 @@
 //! Worked examples and laws of the table. Each function states some, and does nothing.
 
 ghost use Rattle.wgsl_expression_table.specs.Examples.{NegatedTwice, InModule, MemberOfNumber, SumOfIndexed};
-ghost use Rattle.wgsl_expression_table.specs.Laws.{TextIsPrinted};
+ghost use Rattle.wgsl_expression_table.specs.Laws.{TextIsPrinted, DerivedArePhrases};
 
 /// Texts that the table gives for four expressions.
 pub fn worked_examples()
@@ -14,4 +14,9 @@ pub fn worked_examples()
 /// The text that the table gives of an expression is the printer's.
 pub fn text_is_printed()
     ensures { TextIsPrinted }
+{}
+
+/// Tokens that derive a tree by the table are, as kinds, a phrase of the grammar over kinds.
+pub fn derived_are_phrases()
+    ensures { DerivedArePhrases }
 {}
