@@ -1,7 +1,6 @@
 -- What derives a tree by the table is, as kinds of tokens, a phrase of the grammar over kinds.
-use Rattle.std.proofs.Common.{◌≡◌, refl, sym, ap, ◌∙◌, Bool, true, false, ℕ, List, [], ◌∷◌, ◌++◌, append_assoc, append-nil, Some, inl, inr, ◌⊎◌}
+use Rattle.std.proofs.Common.{◌≡◌, refl, Bool, true, false, ℕ, List, [], ◌∷◌, ◌++◌, append_assoc, append-nil, Some, inl, inr, ◌⊎◌}
 use Rattle.std.proofs.lemmas.List.{map-append}
-use Rattle.wgsl_token.specs.declared.token.Token.{Token}
 use Rattle.wgsl_token.specs.declared.token.Token.TheVariants as t
 use Rattle.wgsl_token.specs.declared.token.Fixed.{Fixed}
 use Rattle.wgsl_token.specs.declared.token.Fixed.TheVariants as f
@@ -148,9 +147,52 @@ unit_is h here = h.0
 unit_is h (there a) = unit_is h.1 a
 
 each_unit : EachUnit units
-each_unit = (λ u h. g.qualified h, (λ u h. g.from_super h, (λ u h. g.primary h, (λ u h. g.singular h, (λ u h. g.unary h, (λ u h. g.product h, (λ u h. g.sum h, (λ u h. g.shift h,
-    (λ u h. inl h, (λ u h. inl h, (λ u h. inl h, (λ u h. g.relational h, (λ u h. chain_item refl h, (λ u h. chain_item refl h, (λ u h. chain_item refl h,
-    (λ u h. inl h, (λ u h. inl h, (λ u h. g.item h, (λ u h. chain_expression refl h, (λ u h. chain_expression refl h, tt))))))))))))))))))))
+each_unit = (
+  λ u h. g.qualified h,
+  (
+    λ u h. g.from_super h,
+    (
+      λ u h. g.primary h,
+      (
+        λ u h. g.singular h,
+        (
+          λ u h. g.unary h,
+          (
+            λ u h. g.product h,
+            (
+              λ u h. g.sum h,
+              (
+                λ u h. g.shift h,
+                (
+                  λ u h. inl h,
+                  (
+                    λ u h. inl h,
+                    (
+                      λ u h. inl h,
+                      (
+                        λ u h. g.relational h,
+                        (
+                          λ u h. chain_item refl h,
+                          (
+                            λ u h. chain_item refl h,
+                            (
+                              λ u h. chain_item refl h,
+                              (λ u h. inl h, (λ u h. inl h, (λ u h. g.item h, (λ u h. chain_expression refl h, (λ u h. chain_expression refl h, tt))))),
+                            ),
+                          ),
+                        ),
+                      ),
+                    ),
+                  ),
+                ),
+              ),
+            ),
+          ),
+        ),
+      ),
+    ),
+  ),
+)
 
 -- Tokens as kinds
 

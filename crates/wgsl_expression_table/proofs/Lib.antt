@@ -1,2 +1,3 @@
 pub mod Texts
 pub mod Derived
+pub mod Found

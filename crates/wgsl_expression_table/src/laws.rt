@@ -1,7 +1,7 @@
 //! Worked examples and laws of the table. Each function states some, and does nothing.
 
 ghost use Rattle.wgsl_expression_table.specs.Examples.{NegatedTwice, InModule, MemberOfNumber, SumOfIndexed};
-ghost use Rattle.wgsl_expression_table.specs.Laws.{TextIsPrinted, DerivedArePhrases};
+ghost use Rattle.wgsl_expression_table.specs.Laws.{TextIsPrinted, DerivedArePhrases, PhrasesAreDerived};
 
 /// Texts that the table gives for four expressions.
 pub fn worked_examples()
@@ -19,4 +19,9 @@ pub fn text_is_printed()
 /// Tokens that derive a tree by the table are, as kinds, a phrase of the grammar over kinds.
 pub fn derived_are_phrases()
     ensures { DerivedArePhrases }
+{}
+
+/// Tokens that are, as kinds, a phrase of the grammar over kinds derive a tree by the table.
+pub fn phrases_are_derived()
+    ensures { PhrasesAreDerived }
 {}
