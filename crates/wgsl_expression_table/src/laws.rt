@@ -1,6 +1,7 @@
 //! Worked examples and laws of the table. Each function states some, and does nothing.
 
 ghost use Rattle.wgsl_expression_table.specs.Examples.{NegatedTwice, InModule, MemberOfNumber, SumOfIndexed};
+ghost use Rattle.wgsl_expression_table.specs.Places.{PlacesAside, TypePlacesAside};
 ghost use Rattle.wgsl_expression_table.specs.Laws.{TextIsPrinted, DerivedArePhrases, PhrasesAreDerived};
 
 /// Texts that the table gives for four expressions.
@@ -24,4 +25,10 @@ pub fn derived_are_phrases()
 /// Tokens that are, as kinds, a phrase of the grammar over kinds derive a tree by the table.
 pub fn phrases_are_derived()
     ensures { PhrasesAreDerived }
+{}
+
+/// Code trees stand for trees of the table with places. Without them, these are the trees that are printed.
+pub fn places_aside()
+    ensures expressions { PlacesAside }
+    ensures types { TypePlacesAside }
 {}
