@@ -1,3 +1,4 @@
 pub mod Productions
 pub mod Print
 pub mod Laws
+pub mod Rests
