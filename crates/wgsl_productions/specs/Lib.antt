@@ -2,3 +2,4 @@ pub mod Productions
 pub mod Print
 pub mod Laws
 pub mod Rests
+pub mod Choices
