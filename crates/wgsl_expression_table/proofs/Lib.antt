@@ -1,3 +1,4 @@
 pub mod Texts
 pub mod Derived
 pub mod Found
+pub mod Decided

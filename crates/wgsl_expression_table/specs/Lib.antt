@@ -1,3 +1,4 @@
 pub mod Table
 pub mod Examples
 pub mod Laws
+pub mod Choices

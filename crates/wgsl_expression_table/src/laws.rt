@@ -1,5 +1,6 @@
 //! Worked examples and laws of the table. Each function states some, and does nothing.
 
+ghost use Rattle.wgsl_expression_table.specs.Choices.{TableDecides};
 ghost use Rattle.wgsl_expression_table.specs.Examples.{NegatedTwice, InModule, MemberOfNumber, SumOfIndexed};
 ghost use Rattle.wgsl_expression_table.specs.Laws.{TextIsPrinted, DerivedArePhrases, PhrasesAreDerived};
 
@@ -24,4 +25,9 @@ pub fn derived_are_phrases()
 /// Tokens that are, as kinds, a phrase of the grammar over kinds derive a tree by the table.
 pub fn phrases_are_derived()
     ensures { PhrasesAreDerived }
+{}
+
+/// The table passes all tests of what the next token chooses.
+pub fn table_decides()
+    ensures { TableDecides }
 {}

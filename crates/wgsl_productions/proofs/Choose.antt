@@ -1,12 +1,11 @@
 -- What a phrase begins with, and the way that its first token chooses.
-use Rattle.std.proofs.Common.{◌≡◌, refl, sym, ap, ◌∙◌, subst, ℕ, ◌==◌, Bool, true, false, not, ◌&&◌, ◌||◌, List, [], ◌∷◌, ◌++◌, append_assoc, Option, Some, None, inl, inr}
+use Rattle.std.proofs.Common.{◌≡◌, refl, sym, ap, ◌∙◌, subst, ℕ, Bool, true, false, not, ◌&&◌, ◌||◌, List, [], ◌∷◌, ◌++◌, append_assoc, Option, Some, None}
 use Rattle.std.specs.List.{list_all}
 use Rattle.std.specs.Str.{bytes_eq}
-use Rattle.std.proofs.lemmas.Bool.{eqb-true, or_cases}
+use Rattle.std.proofs.lemmas.Bool.{eqb-true}
 use Rattle.std.proofs.lemmas.Slice.Eq.{bytes_eq-Decides}
 use Rattle.wgsl_items.proofs.Bools.{and_both}
 use Rattle.wgsl_path.specs.declared.span.Span.{Span}
-use Rattle.wgsl_token.specs.declared.token.Token.{Token}
 use Rattle.wgsl_token.specs.declared.token.Token.TheVariants as t
 use Rattle.wgsl_token.specs.declared.token.Fixed.{Fixed}
 use Rattle.wgsl_token.specs.declared.token.Fixed.TheVariants as f
@@ -18,8 +17,8 @@ use Rattle.wgsl_template_spec.specs.declared.token.TemplateToken.TheVariants.{Pl
 use Rattle.wgsl_template_spec.specs.declared.token.SpannedTemplateToken.{SpannedTemplateToken}
 use Rattle.wgsl_expressions.specs.declared.expression.LiteralExpression.{LiteralExpression}
 use Rattle.wgsl_productions.specs.Productions.{Among, here, there, Symbol, Grammar, Node, node, Nodes, cons, fixed as token, to, extent, placing, literal_of, Derives, made, passed, Row, done, a_mark, a_start, an_end, an_id, a_word, a_literal, left_out, put_in, a_phrase, a_base, a_run, a_first, a_list, some_list, deeper_run, a_space, a_line, a_gap, Run, no_more, again, Items, none, one, more}
-use Rattle.wgsl_productions.specs.Rests.{place_of, Keeps}
-use Rattle.wgsl_productions.specs.Choices.{Class, fixed, start_of_list, end_of_list, identifier, number, other, class_of, opening, is_none, is_mark, is_literal, all_openings, implies, begins, Way, by_row, by_unit, Choices, opens_items, opens_row, is_way, row_opens, unit_opens, row_is_chosen, unit_is_chosen, row_keeps, unit_keeps, Decides, IsMadeBy, GoesBy, PhrasesOpen, TokensChoose, PlacesAreKept}
+use Rattle.wgsl_productions.specs.Rests.{place_of}
+use Rattle.wgsl_productions.specs.Choices.{Class, fixed, start_of_list, end_of_list, identifier, number, other, class_of, opening, is_none, is_literal, all_openings, implies, begins, Way, by_row, by_unit, Choices, opens_items, opens_row, is_way, unit_opens, unit_is_chosen, unit_keeps, Decides, GoesBy, PhrasesOpen, TokensChoose, PlacesAreKept}
 
 -- Tests
 

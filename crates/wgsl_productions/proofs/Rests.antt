@@ -1,15 +1,14 @@
 -- A row is what is left of it, and what is left of a row is one, places included.
-use Rattle.std.proofs.Common.{◌≡◌, refl, sym, ap, ◌∙◌, subst, Bool, true, false, ◌&&◌, ◌||◌, List, [], ◌∷◌, ◌++◌, Some, inl, inr}
+use Rattle.std.proofs.Common.{◌≡◌, refl, sym, ap, ◌∙◌, subst, Bool, true, ◌||◌, List, [], ◌∷◌, ◌++◌, inl, inr}
 use Rattle.std.proofs.lemmas.Bool.{or_cases}
 use Rattle.wgsl_items.proofs.Bools.{and_both}
 use Rattle.wgsl_path.specs.declared.span.Span.{Span}
 use Rattle.wgsl_path.specs.Paths.{across}
-use Rattle.wgsl_token.specs.declared.token.Fixed.{Fixed}
 use Rattle.wgsl_template_spec.specs.declared.token.TemplateToken.{TemplateToken}
 use Rattle.wgsl_template_spec.specs.declared.token.SpannedTemplateToken.{SpannedTemplateToken}
-use Rattle.wgsl_parser_spec.specs.Sequences.{Taking, taken, Then, next, Done, done as nothing_more, Either, left, right}
-use Rattle.wgsl_productions.specs.Productions.{Symbol, mark, list_start, list_end, id, word, literal, optional, phrase, base, repeated, once_or_more, listed, some_listed, deeper, space, line, gap, Grammar, Node, name, value, node, many, Nodes, nil, cons, to, placing, token_at, Derives, Row, done, a_mark, a_start, an_end, an_id, a_word, a_literal, left_out, put_in, a_phrase, a_base, a_run, a_first, a_list, some_list, deeper_run, a_space, a_line, a_gap, Run, Items}
-use Rattle.wgsl_productions.specs.Rests.{place_of, has_token, tells, Rest, Keeps, whole, IsRowOf, RowsAreRests, RestsAreRows}
+use Rattle.wgsl_parser_spec.specs.Sequences.{taken, next, done as nothing_more, left, right}
+use Rattle.wgsl_productions.specs.Productions.{Symbol, mark, list_start, list_end, id, word, literal, optional, phrase, base, repeated, once_or_more, listed, some_listed, deeper, space, line, gap, Grammar, Node, name, value, node, many, Nodes, nil, cons, to, placing, token_at, Derives, Row, done, a_mark, a_start, an_end, an_id, a_word, a_literal, left_out, put_in, a_phrase, a_base, a_run, a_first, a_list, some_list, deeper_run, a_space, a_line, a_gap}
+use Rattle.wgsl_productions.specs.Rests.{place_of, has_token, tells, Rest, Keeps, IsRowOf, RowsAreRests, RestsAreRows}
 
 to_behind : (a b : Span) (u v : List SpannedTemplateToken) → to a (u ++ v) ≡ to (to a u) v
 to_behind a b [] v = refl
