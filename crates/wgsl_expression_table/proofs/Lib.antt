@@ -2,3 +2,4 @@ pub mod Texts
 pub mod Derived
 pub mod Found
 pub mod Placed
+pub mod Decided

@@ -1,5 +1,6 @@
 //! Worked examples and laws of the table. Each function states some, and does nothing.
 
+ghost use Rattle.wgsl_expression_table.specs.Choices.{TableDecides};
 ghost use Rattle.wgsl_expression_table.specs.Examples.{NegatedTwice, InModule, MemberOfNumber, SumOfIndexed};
 ghost use Rattle.wgsl_expression_table.specs.Places.{PlacesAside, TypePlacesAside};
 ghost use Rattle.wgsl_expression_table.specs.Laws.{TextIsPrinted, DerivedArePhrases, PhrasesAreDerived};
@@ -31,4 +32,9 @@ pub fn phrases_are_derived()
 pub fn places_aside()
     ensures expressions { PlacesAside }
     ensures types { TypePlacesAside }
+{}
+
+/// The table passes all tests of what the next token chooses.
+pub fn table_decides()
+    ensures { TableDecides }
 {}

@@ -1,1 +1,3 @@
 pub mod Places
+pub mod Rests
+pub mod Choose

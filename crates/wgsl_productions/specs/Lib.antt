@@ -1,3 +1,5 @@
 pub mod Productions
 pub mod Print
 pub mod Laws
+pub mod Rests
+pub mod Choices
