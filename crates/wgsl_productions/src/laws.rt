@@ -1,6 +1,7 @@
 //! Laws of any table of productions. Each function states one, and does nothing.
 
 ghost use Rattle.wgsl_productions.specs.Choices.{PhrasesOpen, TokensChoose, PlacesAreKept};
+ghost use Rattle.wgsl_productions.specs.Descents.{RowsAreParsed, UnitsAreParsed};
 ghost use Rattle.wgsl_productions.specs.Laws.{PlacesDoNotCount};
 ghost use Rattle.wgsl_productions.specs.Rests.{RowsAreRests, RestsAreRows};
 
@@ -32,4 +33,14 @@ pub fn tokens_choose<N, L>()
 /// Each tree that has a place tells where its tokens end.
 pub fn places_are_kept<N, L>()
     ensures { PlacesAreKept N L }
+{}
+
+/// Where the next token chooses a production, what parses its row parses the nonterminal.
+pub fn rows_are_parsed<N, L>()
+    ensures { RowsAreParsed N L }
+{}
+
+/// Where the next token chooses another nonterminal alone, what parses that one parses the nonterminal.
+pub fn units_are_parsed<N, L>()
+    ensures { UnitsAreParsed N L }
 {}
