@@ -2,3 +2,4 @@ pub mod Texts
 pub mod Derived
 pub mod Found
 pub mod Decided
+pub mod Trees
