@@ -1,3 +1,4 @@
 pub mod Places
 pub mod Rests
 pub mod Choose
+pub mod Induction
