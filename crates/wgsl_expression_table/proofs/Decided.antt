@@ -1,5 +1,5 @@
 -- The table passes the tests of its choices.
-use Rattle.std.proofs.Common.{◌≡◌, refl, sym, ◌∙◌, subst, ℕ, true, List, [], ◌∷◌, Option, Some, None}
+use Rattle.std.proofs.Common.{◌≡◌, refl, sym, ◌∙◌, subst, ℕ, true, List, [], ◌∷◌, Some}
 use Rattle.std.specs.List.{list_all}
 use Rattle.wgsl_operators.specs.declared.UnaryOperator.TheVariants as u
 use Rattle.wgsl_operators.specs.declared.BinaryOperator.TheVariants as o

@@ -1,5 +1,5 @@
 -- What derives a tree by the table is, as kinds of tokens, a phrase of the grammar over kinds.
-use Rattle.std.proofs.Common.{◌≡◌, refl, Bool, true, false, ℕ, List, [], ◌∷◌, ◌++◌, append_assoc, append-nil, Some, inl, inr, ◌⊎◌}
+use Rattle.std.proofs.Common.{◌≡◌, refl, true, ℕ, List, [], ◌∷◌, ◌++◌, append_assoc, append-nil, Some, inl, inr, ◌⊎◌}
 use Rattle.std.proofs.lemmas.List.{map-append}
 use Rattle.wgsl_token.specs.declared.token.Token.TheVariants as t
 use Rattle.wgsl_token.specs.declared.token.Fixed.{Fixed}
@@ -144,10 +144,52 @@ chain_expression e (inl h) = g.item (g.relational h)
 chain_expression e (inr h) = g.logical _ e h
 
 each_unit : EachUnit Reads units
-each_unit = (λ u x h. record { is = g.qualified h.is }, (λ u x h. record { is = g.from_super h.is }, (λ u x h. record { is = g.primary h.is }, (λ u x h. record { is = g.singular h.is }, (λ u x h. record { is = g.unary h.is },
-    (λ u x h. record { is = g.product h.is }, (λ u x h. record { is = g.sum h.is }, (λ u x h. record { is = g.shift h.is }, (λ u x h. record { is = inl h.is }, (λ u x h. record { is = inl h.is },
-    (λ u x h. record { is = inl h.is }, (λ u x h. record { is = g.relational h.is }, (λ u x h. record { is = chain_item refl h.is }, (λ u x h. record { is = chain_item refl h.is }, (λ u x h. record { is = chain_item refl h.is },
-    (λ u x h. record { is = inl h.is }, (λ u x h. record { is = inl h.is }, (λ u x h. record { is = g.item h.is }, (λ u x h. record { is = chain_expression refl h.is }, (λ u x h. record { is = chain_expression refl h.is }, tt))))))))))))))))))))
+each_unit = (
+  λ u x h. record { is = g.qualified h.is },
+  (
+    λ u x h. record { is = g.from_super h.is },
+    (
+      λ u x h. record { is = g.primary h.is },
+      (
+        λ u x h. record { is = g.singular h.is },
+        (
+          λ u x h. record { is = g.unary h.is },
+          (
+            λ u x h. record { is = g.product h.is },
+            (
+              λ u x h. record { is = g.sum h.is },
+              (
+                λ u x h. record { is = g.shift h.is },
+                (
+                  λ u x h. record { is = inl h.is },
+                  (
+                    λ u x h. record { is = inl h.is },
+                    (
+                      λ u x h. record { is = inl h.is },
+                      (
+                        λ u x h. record { is = g.relational h.is },
+                        (
+                          λ u x h. record { is = chain_item refl h.is },
+                          (
+                            λ u x h. record { is = chain_item refl h.is },
+                            (
+                              λ u x h. record { is = chain_item refl h.is },
+                              (λ u x h. record { is = inl h.is }, (λ u x h. record { is = inl h.is }, (λ u x h. record { is = g.item h.is }, (λ u x h. record { is = chain_expression refl h.is }, (λ u x h. record { is = chain_expression refl h.is }, tt))))),
+                            ),
+                          ),
+                        ),
+                      ),
+                    ),
+                  ),
+                ),
+              ),
+            ),
+          ),
+        ),
+      ),
+    ),
+  ),
+)
 
 pub derived_are_phrases : DerivedArePhrases
 derived_are_phrases n tokens x d = (holds grammar Reads (λ l u xs r. record { is = row_is l r }) each_unit d).is

@@ -1,10 +1,7 @@
 -- What phrases of the table begin with, and what the next token chooses (this project's own).
 use Rattle.std.specs.Prelude.{ℕ, Bool, true, false, if◌then◌else◌, Option, Some, None}
 use Rattle.wgsl_token.specs.declared.token.Fixed.TheVariants as f
-use Rattle.wgsl_operators.specs.declared.UnaryOperator.{UnaryOperator}
 use Rattle.wgsl_operators.specs.declared.UnaryOperator.TheVariants as u
-use Rattle.wgsl_operators.specs.declared.BinaryOperator.{BinaryOperator}
-use Rattle.wgsl_operators.specs.declared.BinaryOperator.TheVariants as o
 use Rattle.wgsl_productions.specs.Choices.{Class, fixed, identifier, number, Way, by_row, by_unit, Choices, Decides}
 use Rattle.wgsl_expression_table.specs.Table as n
 use Rattle.wgsl_expression_table.specs.Table.{Nonterminal, Label, grammar}
