@@ -17,7 +17,7 @@ use Rattle.wgsl_template_spec.specs.Grammar.{is_bitwise, IsUnary, IsRelational, 
 use Rattle.wgsl_expressions.specs.declared.expression.LiteralExpression.{LiteralExpression}
 use Rattle.wgsl_productions.specs.Productions as p
 use Rattle.wgsl_productions.specs.Productions.{Symbol, Among, here, there, Node, Nodes, cons, literal_of, Derives, Row, Run, Items}
-use Rattle.wgsl_productions.proofs.Induction.{ItemsWith, none, one, more, RowWith, done, a_mark, a_start, an_end, an_id, a_literal, a_phrase, a_base, a_list, some_list, a_space, a_gap, EachUnit, holds}
+use Rattle.wgsl_productions.proofs.Induction.{ItemsWith, none, one, more, RowWith, done, a_mark, a_start, an_end, an_id, a_literal, a_phrase, a_base, a_list, some_list, a_space, a_gap, EachUnit, no_unit, ◌⊳◌, holds}
 use Rattle.wgsl_path.specs.declared.span.Span.{Span}
 use Rattle.wgsl_expression_table.specs.Table as n
 use Rattle.wgsl_expression_table.specs.Table.{Nonterminal, Label, production, infixed, grammar, units}
@@ -144,52 +144,12 @@ chain_expression e (inl h) = g.item (g.relational h)
 chain_expression e (inr h) = g.logical _ e h
 
 each_unit : EachUnit Reads units
-each_unit = (
-  λ u x h. record { is = g.qualified h.is },
-  (
-    λ u x h. record { is = g.from_super h.is },
-    (
-      λ u x h. record { is = g.primary h.is },
-      (
-        λ u x h. record { is = g.singular h.is },
-        (
-          λ u x h. record { is = g.unary h.is },
-          (
-            λ u x h. record { is = g.product h.is },
-            (
-              λ u x h. record { is = g.sum h.is },
-              (
-                λ u x h. record { is = g.shift h.is },
-                (
-                  λ u x h. record { is = inl h.is },
-                  (
-                    λ u x h. record { is = inl h.is },
-                    (
-                      λ u x h. record { is = inl h.is },
-                      (
-                        λ u x h. record { is = g.relational h.is },
-                        (
-                          λ u x h. record { is = chain_item refl h.is },
-                          (
-                            λ u x h. record { is = chain_item refl h.is },
-                            (
-                              λ u x h. record { is = chain_item refl h.is },
-                              (λ u x h. record { is = inl h.is }, (λ u x h. record { is = inl h.is }, (λ u x h. record { is = g.item h.is }, (λ u x h. record { is = chain_expression refl h.is }, (λ u x h. record { is = chain_expression refl h.is }, tt))))),
-                            ),
-                          ),
-                        ),
-                      ),
-                    ),
-                  ),
-                ),
-              ),
-            ),
-          ),
-        ),
-      ),
-    ),
-  ),
-)
+each_unit = (λ u x h. record { is = g.qualified h.is }) ⊳ (λ u x h. record { is = g.from_super h.is }) ⊳ (λ u x h. record { is = g.primary h.is }) ⊳ (λ u x h. record { is = g.singular h.is }) ⊳
+    (λ u x h. record { is = g.unary h.is }) ⊳ (λ u x h. record { is = g.product h.is }) ⊳ (λ u x h. record { is = g.sum h.is }) ⊳ (λ u x h. record { is = g.shift h.is }) ⊳
+    (λ u x h. record { is = inl h.is }) ⊳ (λ u x h. record { is = inl h.is }) ⊳ (λ u x h. record { is = inl h.is }) ⊳ (λ u x h. record { is = g.relational h.is }) ⊳
+    (λ u x h. record { is = chain_item refl h.is }) ⊳ (λ u x h. record { is = chain_item refl h.is }) ⊳ (λ u x h. record { is = chain_item refl h.is }) ⊳ (λ u x h. record { is = inl h.is }) ⊳
+    (λ u x h. record { is = inl h.is }) ⊳ (λ u x h. record { is = g.item h.is }) ⊳ (λ u x h. record { is = chain_expression refl h.is }) ⊳
+    (λ u x h. record { is = chain_expression refl h.is }) ⊳ no_unit
 
 pub derived_are_phrases : DerivedArePhrases
 derived_are_phrases n tokens x d = (holds grammar Reads (λ l u xs r. record { is = row_is l r }) each_unit d).is

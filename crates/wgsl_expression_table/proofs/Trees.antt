@@ -11,7 +11,7 @@ use Rattle.wgsl_operators.specs.declared.BinaryOperator.TheVariants as o
 use Rattle.wgsl_template_spec.specs.declared.token.SpannedTemplateToken.{SpannedTemplateToken}
 use Rattle.wgsl_expressions.specs.Tree as tree
 use Rattle.wgsl_expressions.specs.Tree.{Exp, Exps, Typ}
-use Rattle.wgsl_productions.proofs.Induction.{ItemsWith, none, one, more, RowWith, done, a_mark, a_start, an_end, an_id, a_literal, a_phrase, a_base, a_list, some_list, a_space, a_gap, EachUnit, holds}
+use Rattle.wgsl_productions.proofs.Induction.{ItemsWith, none, one, more, RowWith, done, a_mark, a_start, an_end, an_id, a_literal, a_phrase, a_base, a_list, some_list, a_space, a_gap, EachUnit, no_unit, ◌⊳◌, holds}
 use Rattle.wgsl_productions.specs.Productions.{Node, name, node, many, Nodes, cons, extent, placing, plain, plains, Derives}
 use Rattle.wgsl_expression_table.specs.Table as n
 use Rattle.wgsl_expression_table.specs.Table.{Nonterminal, Label, production, infixed, grammar, units, single, qualified_node, above_node, name_node, exp_node, exp_nodes, typ_node}
@@ -93,61 +93,12 @@ name_above : (x : Node Label) → Stands n.Above x → Stands n.Name x
 name_above x (k, cs, w, e) = (Some (record { origin = Relative (suc k); components = cs }), w, e)
 
 each_unit : EachUnit Fits units
-each_unit = (
-  λ u x h. record { stands = qualified_name _ h.stands },
-  (
-    λ u x h. record { stands = name_above _ h.stands },
-    (
-      λ u x h. record { stands = h.stands },
-      (
-        λ u x h. record { stands = h.stands },
-        (
-          λ u x h. record { stands = h.stands },
-          (
-            λ u x h. record { stands = h.stands },
-            (
-              λ u x h. record { stands = h.stands },
-              (
-                λ u x h. record { stands = h.stands },
-                (
-                  λ u x h. record { stands = h.stands },
-                  (
-                    λ u x h. record { stands = h.stands },
-                    (
-                      λ u x h. record { stands = h.stands },
-                      (
-                        λ u x h. record { stands = h.stands },
-                        (
-                          λ u x h. record { stands = h.stands },
-                          (
-                            λ u x h. record { stands = h.stands },
-                            (
-                              λ u x h. record { stands = h.stands },
-                              (
-                                λ u x h. record { stands = h.stands },
-                                (
-                                  λ u x h. record { stands = h.stands },
-                                  (
-                                    λ u x h. record { stands = h.stands },
-                                    (λ u x h. record { stands = h.stands }, (λ u x h. record { stands = h.stands }, tt)),
-                                  ),
-                                ),
-                              ),
-                            ),
-                          ),
-                        ),
-                      ),
-                    ),
-                  ),
-                ),
-              ),
-            ),
-          ),
-        ),
-      ),
-    ),
-  ),
-)
+each_unit = (λ u x h. record { stands = qualified_name _ h.stands }) ⊳ (λ u x h. record { stands = name_above _ h.stands }) ⊳ (λ u x h. record { stands = h.stands }) ⊳
+    (λ u x h. record { stands = h.stands }) ⊳ (λ u x h. record { stands = h.stands }) ⊳ (λ u x h. record { stands = h.stands }) ⊳ (λ u x h. record { stands = h.stands }) ⊳
+    (λ u x h. record { stands = h.stands }) ⊳ (λ u x h. record { stands = h.stands }) ⊳ (λ u x h. record { stands = h.stands }) ⊳ (λ u x h. record { stands = h.stands }) ⊳
+    (λ u x h. record { stands = h.stands }) ⊳ (λ u x h. record { stands = h.stands }) ⊳ (λ u x h. record { stands = h.stands }) ⊳ (λ u x h. record { stands = h.stands }) ⊳
+    (λ u x h. record { stands = h.stands }) ⊳ (λ u x h. record { stands = h.stands }) ⊳ (λ u x h. record { stands = h.stands }) ⊳ (λ u x h. record { stands = h.stands }) ⊳
+    (λ u x h. record { stands = h.stands }) ⊳ no_unit
 
 -- Derivations
 

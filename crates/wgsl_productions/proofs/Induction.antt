@@ -46,13 +46,15 @@ pub data RowWith {N L : Type 0} (P : N → List SpannedTemplateToken → Node L 
   a_gap : (c : ℕ) {ss : List (Symbol N)} {u : List SpannedTemplateToken} {xs : Nodes L} → RowWith P ss u xs → RowWith P (gap c ∷ ss) u xs
 
 -- each of these units keeps the property
-abbrev pub EachUnit : {N L : Type 0} → (N → List SpannedTemplateToken → Node L → Type 0) → List (N × N) → Type 0
-EachUnit P [] = Unit {0}
-EachUnit {L = L} P (q ∷ qs) = ((u : List SpannedTemplateToken) (x : Node L) → P q.1 u x → P q.0 u x) × EachUnit P qs
+infixr 40 ◌⊳◌
+pub data EachUnit {N L : Type 0} (P : N → List SpannedTemplateToken → Node L → Type 0) : List (N × N) → Type 0 where
+  no_unit : EachUnit P []
+  ◌⊳◌ : {q : N × N} {qs : List (N × N)} → ((u : List SpannedTemplateToken) (x : Node L) → P q.1 u x → P q.0 u x) → EachUnit P qs → EachUnit P (q ∷ qs)
 
 unit_keeps : {N L : Type 0} (P : N → List SpannedTemplateToken → Node L → Type 0) {qs : List (N × N)} {q : N × N} → EachUnit P qs → Among qs q → (u : List SpannedTemplateToken) (x : Node L) → P q.1 u x → P q.0 u x
-unit_keeps P h here = h.0
-unit_keeps P h (there a) = unit_keeps P h.1 a
+unit_keeps P no_unit a = elim a [ ]
+unit_keeps P (keeps ⊳ units) here = keeps
+unit_keeps P (keeps ⊳ units) (there a) = unit_keeps P units a
 
 module _ {N L : Type 0} (g : Grammar N L) (P : N → List SpannedTemplateToken → Node L → Type 0)
     (rows : (l : L) (u : List SpannedTemplateToken) (xs : Nodes L) → RowWith P (g.symbols l) u xs → P (g.of l) u (placing (g.placed l) (extent u) (node l xs))) (units : EachUnit P g.units) where
