@@ -1,6 +1,7 @@
 //! Laws of any table of productions. Each function states one, and does nothing.
 
 ghost use Rattle.wgsl_productions.specs.Choices.{PhrasesOpen, TokensChoose, PlacesAreKept};
+ghost use Rattle.wgsl_productions.specs.Descent.{RestsParse};
 ghost use Rattle.wgsl_productions.specs.Laws.{PlacesDoNotCount};
 ghost use Rattle.wgsl_productions.specs.Rests.{RowsAreRests, RestsAreRows};
 
@@ -32,4 +33,9 @@ pub fn tokens_choose<N, L>()
 /// Each tree that has a place tells where its tokens end.
 pub fn places_are_kept<N, L>()
     ensures { PlacesAreKept N L }
+{}
+
+/// Behind the mark that chooses a row, whatever parses what is left of it parses its nonterminal.
+pub fn rests_parse<N, L>()
+    ensures { RestsParse N L }
 {}
