@@ -1,5 +1,5 @@
 -- Behind the mark that chooses a row, what parses the rest of the row parses its nonterminal.
-use Rattle.std.proofs.Common.{◌≡◌, refl, sym, ap, ◌∙◌, subst, Bool, true, false, List, [], ◌∷◌, ◌++◌, Option, Some, None, Result}
+use Rattle.std.proofs.Common.{◌≡◌, refl, sym, ap, ◌∙◌, subst, true, false, List, [], ◌∷◌, ◌++◌, Some}
 use Rattle.wgsl_path.specs.declared.span.Span.{Span}
 use Rattle.wgsl_token.specs.declared.token.Fixed.{Fixed}
 use Rattle.wgsl_template_spec.specs.declared.token.SpannedTemplateToken.{SpannedTemplateToken}
