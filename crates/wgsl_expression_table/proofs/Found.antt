@@ -211,37 +211,23 @@ no_tokens (j ∷ w) e = absurd cc
 nothing : RowOver [] []
 nothing = record { rows = no_tokens }
 
+-- a token of some kind, and then a row
+token_then : {ss : List (Symbol Nonterminal)} {u : List Kind} (q : Symbol Nonterminal) (c : Kind)
+    → ((j : TemplateToken) (s : Span) (w : List SpannedTemplateToken) → Told c j → IsRow ss w → IsRow (q ∷ ss) (token_at j s ∷ w)) → RowOver ss u → RowOver (q ∷ ss) (c ∷ u)
+token_then {ss = ss} {u = u} q c step a =
+    record { rows = λ w e. let h = headed c u w e in subst (IsRow (q ∷ ss)) h.whole (step h.token h.span h.rest h.is (a.rows h.rest h.behind)) }
+
 mark_then : (m : Fixed) {ss : List (Symbol Nonterminal)} {u : List Kind} → ((j : TemplateToken) → Told (fixed_kind m) j → j ≡ Plain (t.Fixed m)) → RowOver ss u → RowOver (p.mark m ∷ ss) (fixed_kind m ∷ u)
-mark_then m {ss = ss} {u = u} sure a = record {
-  rows = λ w e.
-      let h = headed (fixed_kind m) u w e in
-      let r = a.rows h.rest h.behind in
-      subst (IsRow (p.mark m ∷ ss)) (ap (λ j. token_at j h.span ∷ h.rest) (sym (sure h.token h.is)) ∙ h.whole) (record { nodes = r.nodes; row = p.a_mark m h.span r.row });
-}
+mark_then m sure a = token_then (p.mark m) (fixed_kind m) (λ j s w is r. rw (sure j is) (record { nodes = r.nodes; row = p.a_mark m s r.row })) a
 
 start_then : {ss : List (Symbol Nonterminal)} {u : List Kind} → RowOver ss u → RowOver (p.list_start ∷ ss) (k.TemplateArgsStart ∷ u)
-start_then {ss = ss} {u = u} a = record {
-  rows = λ w e.
-      let h = headed k.TemplateArgsStart u w e in
-      let r = a.rows h.rest h.behind in
-      subst (IsRow (p.list_start ∷ ss)) (ap (λ j. token_at j h.span ∷ h.rest) (sym h.is) ∙ h.whole) (record { nodes = r.nodes; row = p.a_start h.span r.row });
-}
+start_then a = token_then p.list_start k.TemplateArgsStart (λ j s w is r. rw is (record { nodes = r.nodes; row = p.a_start s r.row })) a
 
 id_then : {ss : List (Symbol Nonterminal)} {u : List Kind} → RowOver ss u → RowOver (p.id ∷ ss) (k.Word ∷ u)
-id_then {ss = ss} {u = u} a = record {
-  rows = λ w e.
-      let h = headed k.Word u w e in
-      let r = a.rows h.rest h.behind in
-      subst (IsRow (p.id ∷ ss)) (ap (λ j. token_at j h.span ∷ h.rest) (sym h.is.1) ∙ h.whole) (record { nodes = cons (name h.is.0) r.nodes; row = p.an_id h.is.0 h.span r.row });
-}
+id_then a = token_then p.id k.Word (λ j s w is r. rw is.1 (record { nodes = cons (name is.0) r.nodes; row = p.an_id is.0 s r.row })) a
 
 literal_then : {ss : List (Symbol Nonterminal)} {u : List Kind} → RowOver ss u → RowOver (p.literal ∷ ss) (k.Literal ∷ u)
-literal_then {ss = ss} {u = u} a = record {
-  rows = λ w e.
-      let h = headed k.Literal u w e in
-      let r = a.rows h.rest h.behind in
-      subst (IsRow (p.literal ∷ ss)) h.whole (record { nodes = cons (value h.is.0) r.nodes; row = p.a_literal (token_at h.token h.span) h.is.0 h.is.1 r.row });
-}
+literal_then a = token_then p.literal k.Literal (λ j s w is r. record { nodes = cons (value is.0) r.nodes; row = p.a_literal (token_at j s) is.0 is.1 r.row }) a
 
 phrase_then : {m : Nonterminal} {ss : List (Symbol Nonterminal)} {u v : List Kind} → Over m u → RowOver ss v → RowOver (p.phrase m ∷ ss) (u ++ v)
 phrase_then {m = m} {ss = ss} {u = u} {v = v} a b = record {
@@ -298,7 +284,7 @@ prefix_over {u = u} c e a = record {
 
 -- Units, by their places among all
 
-abbrev nth : {X : Type 0} → List X → ℕ → Option X
+abbrev pub nth : {X : Type 0} → List X → ℕ → Option X
 nth [] i = None
 nth (x ∷ xs) zero = Some x
 nth (x ∷ xs) (suc i) = nth xs i
@@ -335,20 +321,23 @@ logical_expression _ e a = absurd cc
 
 -- Lists with what closes them
 
-record Arguments (w : List SpannedTemplateToken) : Type 0 where
+record Closed (m : Nonterminal) (close : TemplateToken) (w : List SpannedTemplateToken) : Type 0 where
   front : List SpannedTemplateToken
-  close : Span
+  span : Span
   nodes : Nodes Label
-  items : Items grammar n.Expression front nodes
-  whole : front ++ (p.fixed f.ParenRight close ∷ []) ≡ w
+  items : Items grammar m front nodes
+  whole : front ++ (token_at close span ∷ []) ≡ w
 
-record Body (w : List SpannedTemplateToken) : Type 0 where
+record SomeClosed (m : Nonterminal) (close : TemplateToken) (w : List SpannedTemplateToken) : Type 0 where
   front : List SpannedTemplateToken
-  close : Span
+  span : Span
   item : Node Label
   nodes : Nodes Label
-  items : Items grammar n.Item front (cons item nodes)
-  whole : front ++ (token_at TemplateArgsEnd close ∷ []) ≡ w
+  items : Items grammar m front (cons item nodes)
+  whole : front ++ (token_at close span ∷ []) ≡ w
+
+closed : {m : Nonterminal} {close : TemplateToken} {w : List SpannedTemplateToken} → SomeClosed m close w → Closed m close w
+closed r = record { front = r.front; span = r.span; nodes = cons r.item r.nodes; items = r.items; whole = r.whole }
 
 no_kinds : (w : List SpannedTemplateToken) → kinds w ≡ [] → w ≡ []
 no_kinds [] e = refl
@@ -358,87 +347,57 @@ no_kinds (j ∷ w) e = absurd cc
 closing : {c : Kind} {w : List SpannedTemplateToken} (j : TemplateToken) (h : Headed c [] w) → h.token ≡ j → token_at j h.span ∷ [] ≡ w
 closing j h e = (λ i. token_at (sym e i) h.span ∷ sym (no_kinds h.rest h.behind) i) ∙ h.whole
 
-no_arguments : (w : List SpannedTemplateToken) → kinds w ≡ k.ParenRight ∷ [] → Arguments w
-no_arguments w e = let h = headed k.ParenRight [] w e in record { front = []; close = h.span; nodes = nil; items = p.none n.Expression; whole = closing _ h h.is }
-
-one_argument : {u : List Kind} → Over n.Expression u → (w : List SpannedTemplateToken) → kinds w ≡ u ++ (k.ParenRight ∷ []) → Arguments w
-one_argument {u = u} a w e =
-    let q = parted u (k.ParenRight ∷ []) w e in
-    let h = headed k.ParenRight [] q.behind q.second in
-    let x = a.derived q.front q.first in
-    record { front = q.front; close = h.span; nodes = cons x.tree nil; items = p.one x.derives; whole = ap (λ l. q.front ++ l) (closing _ h h.is) ∙ q.whole }
-
 -- tokens before a comma, and others behind it
 around_comma : {u v : List Kind} {w : List SpannedTemplateToken} (q : Parted u (k.Comma ∷ v) w) (h : Headed k.Comma v q.behind) (a b : List SpannedTemplateToken) → a ++ b ≡ h.rest
     → q.front ++ (p.fixed f.Comma h.span ∷ a) ++ b ≡ w
 around_comma q h a b e =
     append_assoc q.front (p.fixed f.Comma h.span ∷ a) b ∙ (λ i. q.front ++ (token_at (sym h.is i) h.span ∷ e i)) ∙ ap (λ l. q.front ++ l) h.whole ∙ q.whole
 
-more_arguments : {u v : List Kind} → Over n.Expression u → ((w : List SpannedTemplateToken) → kinds w ≡ v → Arguments w) → (w : List SpannedTemplateToken) → kinds w ≡ u ++ (k.Comma ∷ v) → Arguments w
-more_arguments {u = u} {v = v} a b w e =
-    let q = parted u (k.Comma ∷ v) w e in
-    let h = headed k.Comma v q.behind q.second in
-    let x = a.derived q.front q.first in
-    let r = b h.rest h.behind in
-    record {
-      front = q.front ++ (p.fixed f.Comma h.span ∷ r.front);
-      close = r.close;
-      nodes = cons x.tree r.nodes;
-      items = p.more h.span x.derives r.items;
-      whole = around_comma q h r.front (p.fixed f.ParenRight r.close ∷ []) r.whole;
-    }
+-- lists that are closed by a token of kind c, which is `close`
+module _ (m : Nonterminal) (c : Kind) (close : TemplateToken) (sure : (j : TemplateToken) → Told c j → j ≡ close) where
+  no_element : (w : List SpannedTemplateToken) → kinds w ≡ c ∷ [] → Closed m close w
+  no_element w e = let h = headed c [] w e in record { front = []; span = h.span; nodes = nil; items = p.none m; whole = closing _ h (sure h.token h.is) }
 
-one_item : {u : List Kind} → Over n.Item u → (w : List SpannedTemplateToken) → kinds w ≡ u ++ (k.TemplateArgsEnd ∷ []) → Body w
-one_item {u = u} a w e =
-    let q = parted u (k.TemplateArgsEnd ∷ []) w e in
-    let h = headed k.TemplateArgsEnd [] q.behind q.second in
-    let x = a.derived q.front q.first in
-    record { front = q.front; close = h.span; item = x.tree; nodes = nil; items = p.one x.derives; whole = ap (λ l. q.front ++ l) (closing _ h h.is) ∙ q.whole }
+  one_element : {u : List Kind} → Over m u → (w : List SpannedTemplateToken) → kinds w ≡ u ++ (c ∷ []) → SomeClosed m close w
+  one_element {u = u} a w e =
+      let q = parted u (c ∷ []) w e in
+      let h = headed c [] q.behind q.second in
+      let x = a.derived q.front q.first in
+      record { front = q.front; span = h.span; item = x.tree; nodes = nil; items = p.one x.derives; whole = ap (λ l. q.front ++ l) (closing _ h (sure h.token h.is)) ∙ q.whole }
 
-item_and_comma : {u : List Kind} → Over n.Item u → (w : List SpannedTemplateToken) → kinds w ≡ u ++ (k.Comma ∷ k.TemplateArgsEnd ∷ []) → Body w
-item_and_comma {u = u} a w e =
-    let q = parted u (k.Comma ∷ k.TemplateArgsEnd ∷ []) w e in
-    let h = headed k.Comma (k.TemplateArgsEnd ∷ []) q.behind q.second in
-    let c = headed k.TemplateArgsEnd [] h.rest h.behind in
-    let x = a.derived q.front q.first in
-    record {
-      front = q.front ++ (p.fixed f.Comma h.span ∷ []);
-      close = c.span;
-      item = x.tree;
-      nodes = nil;
-      items = p.more h.span x.derives (p.none n.Item);
-      whole = around_comma q h [] (token_at TemplateArgsEnd c.span ∷ []) (closing _ c c.is);
-    }
+  more_elements : {u v : List Kind} → Over m u → ((w : List SpannedTemplateToken) → kinds w ≡ v → Closed m close w) → (w : List SpannedTemplateToken) → kinds w ≡ u ++ (k.Comma ∷ v) → SomeClosed m close w
+  more_elements {u = u} {v = v} a b w e =
+      let q = parted u (k.Comma ∷ v) w e in
+      let h = headed k.Comma v q.behind q.second in
+      let x = a.derived q.front q.first in
+      let r = b h.rest h.behind in
+      record {
+        front = q.front ++ (p.fixed f.Comma h.span ∷ r.front);
+        span = r.span;
+        item = x.tree;
+        nodes = r.nodes;
+        items = p.more h.span x.derives r.items;
+        whole = around_comma q h r.front (token_at close r.span ∷ []) r.whole;
+      }
 
-more_items : {u v : List Kind} → Over n.Item u → ((w : List SpannedTemplateToken) → kinds w ≡ v → Body w) → (w : List SpannedTemplateToken) → kinds w ≡ u ++ (k.Comma ∷ v) → Body w
-more_items {u = u} {v = v} a b w e =
-    let q = parted u (k.Comma ∷ v) w e in
-    let h = headed k.Comma v q.behind q.second in
-    let x = a.derived q.front q.first in
-    let r = b h.rest h.behind in
-    record {
-      front = q.front ++ (p.fixed f.Comma h.span ∷ r.front);
-      close = r.close;
-      item = x.tree;
-      nodes = cons r.item r.nodes;
-      items = p.more h.span x.derives r.items;
-      whole = around_comma q h r.front (token_at TemplateArgsEnd r.close ∷ []) r.whole;
-    }
+abbrev Arguments : List SpannedTemplateToken → Type 0
+Arguments = Closed n.Expression (Plain (t.Fixed f.ParenRight))
+
+abbrev Body : List SpannedTemplateToken → Type 0
+Body = SomeClosed n.Item TemplateArgsEnd
 
 arguments_row : {u : List Kind} → ((w : List SpannedTemplateToken) → kinds w ≡ u → Arguments w) → RowOver (p.listed n.Expression ∷ p.mark f.ParenRight ∷ []) u
 arguments_row a = record {
   rows = λ w e.
       let r = a w e in
-      subst (IsRow (p.listed n.Expression ∷ p.mark f.ParenRight ∷ [])) r.whole
-      (record { nodes = cons (many r.nodes) nil; row = p.a_list n.Expression r.items (p.a_mark f.ParenRight r.close p.done) });
+      subst (IsRow (p.listed n.Expression ∷ p.mark f.ParenRight ∷ [])) r.whole (record { nodes = cons (many r.nodes) nil; row = p.a_list n.Expression r.items (p.a_mark f.ParenRight r.span p.done) });
 }
 
 body_row : {u : List Kind} → ((w : List SpannedTemplateToken) → kinds w ≡ u → Body w) → RowOver (p.some_listed n.Item ∷ p.list_end ∷ []) u
 body_row a = record {
   rows = λ w e.
       let r = a w e in
-      subst (IsRow (p.some_listed n.Item ∷ p.list_end ∷ [])) r.whole
-      (record { nodes = cons (many (cons r.item r.nodes)) nil; row = p.some_list n.Item r.items (p.an_end r.close p.done) });
+      subst (IsRow (p.some_listed n.Item ∷ p.list_end ∷ [])) r.whole (record { nodes = cons (many (cons r.item r.nodes)) nil; row = p.some_list n.Item r.items (p.an_end r.span p.done) });
 }
 
 -- Phrases
@@ -468,9 +427,9 @@ mutual
   primary_over (g.parenthesized h) = made_over n.parenthesized (mark_then f.ParenLeft (λ j e. e) (phrase_then (expression_over h) (mark_then f.ParenRight (λ j e. e) nothing)))
 
   arguments_over : {u : List Kind} → IsArguments u → (w : List SpannedTemplateToken) → kinds w ≡ u → Arguments w
-  arguments_over g.no_argument w e = no_arguments w e
-  arguments_over (g.last_argument h) w e = one_argument (expression_over h) w e
-  arguments_over (g.more_arguments h i) w e = more_arguments (expression_over h) (λ v q. arguments_over i v q) w e
+  arguments_over g.no_argument w e = no_element n.Expression k.ParenRight _ (λ j h. h) w e
+  arguments_over (g.last_argument h) w e = closed (one_element n.Expression k.ParenRight _ (λ j h. h) (expression_over h) w e)
+  arguments_over (g.more_arguments h i) w e = closed (more_elements n.Expression k.ParenRight _ (λ j h. h) (expression_over h) (λ v q. arguments_over i v q) w e)
 
   singular_over : {u : List Kind} → IsSingular u → Over n.Singular u
   singular_over (g.primary h) = unit_over 2 refl (primary_over h)
@@ -515,9 +474,9 @@ mutual
   expression_over (g.logical c e h) = logical_expression c e (logical_over h e)
 
   body_over : {u : List Kind} → IsListBody u → (w : List SpannedTemplateToken) → kinds w ≡ u → Body w
-  body_over (g.last_item h) w e = one_item (item_over h) w e
-  body_over (g.last_and_comma h) w e = item_and_comma (item_over h) w e
-  body_over (g.more_items h i) w e = more_items (item_over h) (λ v q. body_over i v q) w e
+  body_over (g.last_item h) w e = one_element n.Item k.TemplateArgsEnd _ (λ j h. h) (item_over h) w e
+  body_over (g.last_and_comma h) w e = more_elements n.Item k.TemplateArgsEnd _ (λ j h. h) (item_over h) (λ v q. no_element n.Item k.TemplateArgsEnd _ (λ j h. h) v q) w e
+  body_over (g.more_items h i) w e = more_elements n.Item k.TemplateArgsEnd _ (λ j h. h) (item_over h) (λ v q. closed (body_over i v q)) w e
 
 phrase_over : (m : Nonterminal) (u : List Kind) → IsPhrase m u → Over m u
 phrase_over n.Qualified u h = qualified_over h

@@ -3,3 +3,4 @@ pub mod Derived
 pub mod Found
 pub mod Placed
 pub mod Decided
+pub mod Trees

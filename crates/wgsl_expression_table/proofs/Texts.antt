@@ -5,6 +5,7 @@ use Rattle.wgsl_path.specs.declared.path.PathOrigin.{PathOrigin}
 use Rattle.wgsl_path.specs.declared.path.PathOrigin.TheVariants.{Absolute, Relative, Package}
 use Rattle.wgsl_path.specs.declared.path.ModulePath.{ModulePath}
 use Rattle.wgsl_path.specs.Paths.{supers, origin_text, components_text}
+use Rattle.wgsl_operators.specs.Operators.{binary_text}
 use Rattle.wgsl_operators.specs.declared.UnaryOperator.{UnaryOperator}
 use Rattle.wgsl_operators.specs.declared.UnaryOperator.TheVariants as u
 use Rattle.wgsl_operators.specs.declared.BinaryOperator.{BinaryOperator}
@@ -20,13 +21,7 @@ use Rattle.wgsl_expression_table.specs.Laws.{TextIsPrinted}
 -- parts that begin with an expression are no number
 no_value : (x : Exp) (ys : Nodes Label) → is_numeral (cons (exp_node x) ys) ≡ false
 no_value (tree.literal l) ys = refl
-no_value (tree.parenthesized x) ys = refl
-no_value (tree.component x n) ys = refl
-no_value (tree.indexed x y) ys = refl
-no_value (tree.unary o x) ys = refl
-no_value (tree.binary o x y) ys = refl
-no_value (tree.call t xs) ys = refl
-no_value (tree.named t) ys = refl
+no_value _ ys = refl
 
 -- nor are parts that begin with a name
 no_value_named : (t : Typ) (ys : Nodes Label) → is_numeral (cons (typ_node t) ys) ≡ false
@@ -108,24 +103,8 @@ module _ (level : ℕ) where
       ∙ sym (append_assoc c (codes " ") (s ++ (codes " " ++ d))) ∙ sym (append_assoc (c ++ codes " ") s (codes " " ++ d)) ∙ sym (append_assoc (c ++ codes " " ++ s) (codes " ") d)
 
   of_binary : (o : BinaryOperator) (x y : Exp) → shown x ≡ exp_text x → shown y ≡ exp_text y → shown (tree.binary o x y) ≡ exp_text (tree.binary o x y)
-  of_binary o.ShortCircuitOr x y e e' = between (codes "||") _ _ _ _ e e'
-  of_binary o.ShortCircuitAnd x y e e' = between (codes "&&") _ _ _ _ e e'
   of_binary o.Addition x y e e' = between (codes "+") _ _ _ _ e e'
-  of_binary o.Subtraction x y e e' = between (codes "-") _ _ _ _ e e'
-  of_binary o.Multiplication x y e e' = between (codes "*") _ _ _ _ e e'
-  of_binary o.Division x y e e' = between (codes "/") _ _ _ _ e e'
-  of_binary o.Remainder x y e e' = between (codes "%") _ _ _ _ e e'
-  of_binary o.Equality x y e e' = between (codes "==") _ _ _ _ e e'
-  of_binary o.Inequality x y e e' = between (codes "!=") _ _ _ _ e e'
-  of_binary o.LessThan x y e e' = between (codes "<") _ _ _ _ e e'
-  of_binary o.LessThanEqual x y e e' = between (codes "<=") _ _ _ _ e e'
-  of_binary o.GreaterThan x y e e' = between (codes ">") _ _ _ _ e e'
-  of_binary o.GreaterThanEqual x y e e' = between (codes ">=") _ _ _ _ e e'
-  of_binary o.BitwiseOr x y e e' = between (codes "|") _ _ _ _ e e'
-  of_binary o.BitwiseAnd x y e e' = between (codes "&") _ _ _ _ e e'
-  of_binary o.BitwiseXor x y e e' = between (codes "^") _ _ _ _ e e'
-  of_binary o.ShiftLeft x y e e' = between (codes "<<") _ _ _ _ e e'
-  of_binary o.ShiftRight x y e e' = between (codes ">>") _ _ _ _ e e'
+  of_binary o x y e e' = between (binary_text o) _ _ _ _ e e'
 
   four : (a b c d : List ℕ) → a ++ (b ++ (c ++ d)) ≡ a ++ b ++ c ++ d
   four a b c d = sym (append_assoc a b (c ++ d)) ∙ sym (append_assoc (a ++ b) c d)

@@ -1,10 +1,7 @@
 -- What phrases of the table begin with, and what the next token chooses (this project's own).
 use Rattle.std.specs.Prelude.{ℕ, Bool, true, false, if◌then◌else◌, Option, Some, None}
 use Rattle.wgsl_token.specs.declared.token.Fixed.TheVariants as f
-use Rattle.wgsl_operators.specs.declared.UnaryOperator.{UnaryOperator}
 use Rattle.wgsl_operators.specs.declared.UnaryOperator.TheVariants as u
-use Rattle.wgsl_operators.specs.declared.BinaryOperator.{BinaryOperator}
-use Rattle.wgsl_operators.specs.declared.BinaryOperator.TheVariants as o
 use Rattle.wgsl_productions.specs.Choices.{Class, fixed, identifier, number, Way, by_row, by_unit, Choices, Decides}
 use Rattle.wgsl_expression_table.specs.Table as n
 use Rattle.wgsl_expression_table.specs.Table.{Nonterminal, Label, grammar}
@@ -83,67 +80,19 @@ keeps n.Name = false
 keeps n.TypeSpecifier = false
 keeps _ = true
 
-abbrev pub unary_index : UnaryOperator → ℕ
-unary_index u.LogicalNegation = 13
-unary_index u.Negation = 14
-unary_index u.BitwiseComplement = 15
-unary_index u.AddressOf = 16
-unary_index u.Indirection = 17
-
-abbrev pub binary_index : BinaryOperator → ℕ
-binary_index o.Multiplication = 18
-binary_index o.Division = 19
-binary_index o.Remainder = 20
-binary_index o.Addition = 21
-binary_index o.Subtraction = 22
-binary_index o.ShiftLeft = 23
-binary_index o.ShiftRight = 24
-binary_index o.LessThan = 25
-binary_index o.LessThanEqual = 26
-binary_index o.GreaterThan = 27
-binary_index o.GreaterThanEqual = 28
-binary_index o.Equality = 29
-binary_index o.Inequality = 30
-binary_index o.BitwiseAnd = 31
-binary_index o.BitwiseXor = 32
-binary_index o.BitwiseOr = 33
-binary_index o.ShortCircuitAnd = 34
-binary_index o.ShortCircuitOr = 35
-
-abbrev pub index : Way Nonterminal Label → ℕ
-index (by_row n.word_alone) = 0
-index (by_row n.within) = 1
-index (by_row n.in_parent) = 2
-index (by_row n.further_up) = 3
-index (by_row n.in_package) = 4
-index (by_row n.simple) = 5
-index (by_row n.templated) = 6
-index (by_row n.a_literal) = 7
-index (by_row n.named) = 8
-index (by_row n.call) = 9
-index (by_row n.parenthesized) = 10
-index (by_row n.component) = 11
-index (by_row n.indexed) = 12
-index (by_row (n.unary o)) = unary_index o
-index (by_row (n.binary o)) = binary_index o
-index (by_unit n.Qualified) = 36
-index (by_unit n.Above) = 37
-index (by_unit n.Name) = 38
-index (by_unit n.TypeSpecifier) = 39
-index (by_unit n.Primary) = 40
-index (by_unit n.Singular) = 41
-index (by_unit n.Unary) = 42
-index (by_unit n.Product) = 43
-index (by_unit n.Sum) = 44
-index (by_unit n.Shift) = 45
-index (by_unit n.Relational) = 46
-index (by_unit n.Ands) = 47
-index (by_unit n.Xors) = 48
-index (by_unit n.Ors) = 49
-index (by_unit n.Item) = 50
-index (by_unit n.AllOf) = 51
-index (by_unit n.AnyOf) = 52
-index (by_unit n.Expression) = 53
+abbrev pub index : Way Nonterminal Label → Option ℕ
+index (by_unit n.Qualified) = Some 0
+index (by_unit n.Above) = Some 1
+index (by_unit n.Singular) = Some 2
+index (by_row n.in_package) = Some 3
+index (by_row n.a_literal) = Some 4
+index (by_row n.parenthesized) = Some 5
+index (by_row (n.unary u.LogicalNegation)) = Some 6
+index (by_row (n.unary u.Negation)) = Some 7
+index (by_row (n.unary u.BitwiseComplement)) = Some 8
+index (by_row (n.unary u.AddressOf)) = Some 9
+index (by_row (n.unary u.Indirection)) = Some 10
+index _ = None
 
 abbrev pub choices : Choices Nonterminal Label
 choices = record { opens = opens; undecided = undecided; choose = choose; keeps = keeps; index = index }

@@ -7,7 +7,7 @@ use Rattle.wgsl_template_spec.specs.Kinds.{kinds}
 use Rattle.wgsl_template_spec.specs.Grammar.{IsQualified, IsRelative, IsName, IsType, IsPrimary, IsSingular, IsUnary, IsProduct, IsSum, IsShift, IsRelational, IsBitwise, IsLogical, IsItem, IsExpression}
 use Rattle.wgsl_expressions.specs.Tree.{Exp}
 use Rattle.wgsl_expressions.specs.Print.{exp_text}
-use Rattle.wgsl_productions.specs.Productions.{Node, Derives}
+use Rattle.wgsl_productions.specs.Productions.{Node, Derives, plain}
 use Rattle.wgsl_productions.specs.Print.{text}
 use Rattle.wgsl_expression_table.specs.Table as n
 use Rattle.wgsl_expression_table.specs.Table.{Nonterminal, Label, grammar, exp_node}
@@ -50,3 +50,12 @@ pub record IsDerived (n : Nonterminal) (tokens : List SpannedTemplateToken) : Ty
 -- Tokens that are, as kinds, a phrase of the grammar over kinds derive a tree by the table.
 abbrev pub PhrasesAreDerived : Type 0
 PhrasesAreDerived = (n : Nonterminal) (tokens : List SpannedTemplateToken) → IsPhrase n (kinds tokens) → IsDerived n tokens
+
+-- but for places, the tree of an expression
+pub record IsExpressionTree (x : Node Label) : Type 0 where
+  pub expression : Exp
+  pub same : plain x ≡ exp_node expression
+
+-- Each tree that tokens derive as an expression is that of one.
+abbrev pub TreesAreExpressions : Type 0
+TreesAreExpressions = (tokens : List SpannedTemplateToken) (x : Node Label) → Derives grammar n.Expression tokens x → IsExpressionTree x

@@ -3,7 +3,7 @@
 ghost use Rattle.wgsl_expression_table.specs.Choices.{TableDecides};
 ghost use Rattle.wgsl_expression_table.specs.Examples.{NegatedTwice, InModule, MemberOfNumber, SumOfIndexed};
 ghost use Rattle.wgsl_expression_table.specs.Places.{PlacesAside, TypePlacesAside};
-ghost use Rattle.wgsl_expression_table.specs.Laws.{TextIsPrinted, DerivedArePhrases, PhrasesAreDerived};
+ghost use Rattle.wgsl_expression_table.specs.Laws.{TextIsPrinted, DerivedArePhrases, PhrasesAreDerived, TreesAreExpressions};
 
 /// Texts that the table gives for four expressions.
 pub fn worked_examples()
@@ -28,13 +28,18 @@ pub fn phrases_are_derived()
     ensures { PhrasesAreDerived }
 {}
 
+/// The table passes all tests of what the next token chooses.
+pub fn table_decides()
+    ensures { TableDecides }
+{}
+
+/// Each tree that tokens derive as an expression is that of one, but for places.
+pub fn trees_are_expressions()
+    ensures { TreesAreExpressions }
+{}
+
 /// Code trees stand for trees of the table with places. Without them, these are the trees that are printed.
 pub fn places_aside()
     ensures expressions { PlacesAside }
     ensures types { TypePlacesAside }
-{}
-
-/// The table passes all tests of what the next token chooses.
-pub fn table_decides()
-    ensures { TableDecides }
 {}

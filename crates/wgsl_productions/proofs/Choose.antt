@@ -18,7 +18,7 @@ use Rattle.wgsl_template_spec.specs.declared.token.SpannedTemplateToken.{Spanned
 use Rattle.wgsl_expressions.specs.declared.expression.LiteralExpression.{LiteralExpression}
 use Rattle.wgsl_productions.specs.Productions.{Among, here, there, Symbol, Grammar, Node, node, Nodes, cons, fixed as token, to, extent, placing, literal_of, Derives, made, passed, Row, done, a_mark, a_start, an_end, an_id, a_word, a_literal, left_out, put_in, a_phrase, a_base, a_run, a_first, a_list, some_list, deeper_run, a_space, a_line, a_gap, Run, no_more, again, Items, none, one, more}
 use Rattle.wgsl_productions.specs.Rests.{place_of}
-use Rattle.wgsl_productions.specs.Choices.{Class, fixed, start_of_list, end_of_list, identifier, number, other, class_of, opening, is_none, is_literal, all_openings, implies, begins, Way, by_row, by_unit, Choices, opens_items, opens_row, is_way, unit_opens, unit_is_chosen, unit_keeps, Decides, GoesBy, PhrasesOpen, TokensChoose, PlacesAreKept}
+use Rattle.wgsl_productions.specs.Choices.{same_number, Class, fixed, start_of_list, end_of_list, identifier, number, other, class_of, opening, is_none, is_literal, all_openings, implies, begins, Way, by_row, by_unit, Choices, opens_items, opens_row, is_way, unit_opens, unit_is_chosen, unit_keeps, Decides, GoesBy, PhrasesOpen, TokensChoose, PlacesAreKept}
 
 -- Tests
 
@@ -177,7 +177,12 @@ module _ {N L : Type 0} (g : Grammar N L) (c : Choices N L) (d : Decides g c) wh
   -- The way that is chosen
 
   same_way : (v w : Way N L) (o : Option (Way N L)) → is_way g c v o ≡ true → o ≡ Some w → v ≡ w
-  same_way v w o h e = d.apart v w (eqb-true _ _ (ap (is_way g c v) (sym e) ∙ h))
+  same_way v w o h e = numbered (c.index v) (c.index w) refl refl (ap (is_way g c v) (sym e) ∙ h)
+    where
+      numbered : (a b : Option ℕ) → c.index v ≡ a → c.index w ≡ b → same_number a b ≡ true → v ≡ w
+      numbered None b e f h = absurd cc
+      numbered (Some i) None e f h = absurd cc
+      numbered (Some i) (Some j) e f h = d.apart j v w (e ∙ ap Some (eqb-true i j h)) f
 
   goes : {n : N} {u : List SpannedTemplateToken} {x : Node L} (w : Way N L) → Derives g n u x → c.undecided n (opening u) ≡ false → c.choose n (opening u) ≡ Some w → GoesBy g c w n u x
   goes w (made l {u = u} {xs = xs} r) decided e =

@@ -12,7 +12,7 @@ use Rattle.wgsl_parser_spec.proofs.Steps.{parses_as, some_injective}
 use Rattle.wgsl_productions.specs.Productions.{Among, Symbol, mark, list_start, list_end, id, word, literal, Grammar, Node, name, value, node, Nodes, cons, extent, placing, token_at, identifier, literal_of, Derives, made, passed, Row, a_mark, a_start, an_end, an_id, a_word, a_literal}
 use Rattle.wgsl_productions.specs.Rests.{IsToken, IsName, IsLiteral, has_token, tells, Keeps, Rest, IsRowOf}
 use Rattle.wgsl_productions.specs.Choices.{class_of, opening, Choices, Decides, Way, by_row, by_unit, IsMadeBy, GoesBy}
-use Rattle.wgsl_productions.specs.Descents.{leads, Opened, RowsAreParsed, UnitsAreParsed}
+use Rattle.wgsl_productions.specs.Descent.{leads, Opened, RowsAreParsed, UnitsAreParsed}
 use Rattle.wgsl_productions.proofs.Rests.{rows_are_rests, rests_are_rows}
 use Rattle.wgsl_productions.proofs.Choose.{phrases_open, tokens_choose, places_are_kept}
 

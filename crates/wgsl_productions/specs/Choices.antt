@@ -75,6 +75,10 @@ all_openings p = p None && (p (Some start_of_list) && (p (Some end_of_list) && (
 abbrev pub implies : Bool → Bool → Bool
 implies a b = not a || b
 
+abbrev pub same_number : Option ℕ → Option ℕ → Bool
+same_number (Some i) (Some j) = i == j
+same_number _ _ = false
+
 -- a part that may be empty, or else begins so, and then the rest
 abbrev pub begins : Bool → (Option Class → Bool) → (Option Class → Bool) → Option Class → Bool
 begins empty part rest m = (empty && rest m) || (not (is_none m) && part m)
@@ -85,13 +89,13 @@ pub data Way (N L : Type 0) : Type 0 where
   by_unit : N → Way N L
 
 -- What a phrase may begin with; where the next token doesn't decide; what it chooses elsewhere; which nonterminals have a place in each
--- of their trees; and a number for each way.
+-- of their trees; and a number of its own for each way that is chosen.
 pub record Choices (N L : Type 0) : Type 0 where
   pub opens : N → Option Class → Bool
   pub undecided : N → Option Class → Bool
   pub choose : N → Option Class → Option (Way N L)
   pub keeps : N → Bool
-  pub index : Way N L → ℕ
+  pub index : Way N L → Option ℕ
 
 module _ {N L : Type 0} (g : Grammar N L) (c : Choices N L) where
   -- items may begin with a comma where one may be empty
@@ -120,7 +124,7 @@ module _ {N L : Type 0} (g : Grammar N L) (c : Choices N L) where
 
   abbrev pub is_way : Way N L → Option (Way N L) → Bool
   is_way w None = false
-  is_way w (Some v) = c.index w == c.index v
+  is_way w (Some v) = same_number (c.index w) (c.index v)
 
   -- Where some opening is that of a way, it is one of its nonterminal.
   abbrev pub row_opens : L → Bool
@@ -151,7 +155,7 @@ module _ {N L : Type 0} (g : Grammar N L) (c : Choices N L) where
     pub units_chosen : list_all unit_is_chosen g.units ≡ true
     pub rows_keep : (l : L) → row_keeps l ≡ true
     pub units_keep : list_all unit_keeps g.units ≡ true
-    pub apart : (v w : Way N L) → c.index v ≡ c.index w → v ≡ w
+    pub apart : (i : ℕ) (v w : Way N L) → c.index v ≡ Some i → c.index w ≡ Some i → v ≡ w
 
   -- a phrase is the node of a row of l
   pub record IsMadeBy (l : L) (n : N) (u : List SpannedTemplateToken) (x : Node L) : Type 0 where

@@ -3,4 +3,4 @@ pub mod Print
 pub mod Laws
 pub mod Rests
 pub mod Choices
-pub mod Descents
+pub mod Descent

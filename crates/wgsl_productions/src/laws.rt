@@ -1,7 +1,7 @@
 //! Laws of any table of productions. Each function states one, and does nothing.
 
 ghost use Rattle.wgsl_productions.specs.Choices.{PhrasesOpen, TokensChoose, PlacesAreKept};
-ghost use Rattle.wgsl_productions.specs.Descents.{RowsAreParsed, UnitsAreParsed};
+ghost use Rattle.wgsl_productions.specs.Descent.{RowsAreParsed, UnitsAreParsed};
 ghost use Rattle.wgsl_productions.specs.Laws.{PlacesDoNotCount};
 ghost use Rattle.wgsl_productions.specs.Rests.{RowsAreRests, RestsAreRows};
 
