@@ -1,2 +1,5 @@
 pub mod Table
 pub mod Examples
+pub mod Laws
+pub mod Places
+pub mod Choices

@@ -66,7 +66,7 @@ abbrev ◌⟸◌ : Nonterminal → List (Symbol Nonterminal) → Production
 n ⟸ ss = record { of = n; symbols = ss; placed = false }
 
 -- an operand, a sign and an operand
-abbrev infixed : Nonterminal → Fixed → Nonterminal → List (Symbol Nonterminal)
+abbrev pub infixed : Nonterminal → Fixed → Nonterminal → List (Symbol Nonterminal)
 infixed left k right = phrase left ∷ space ∷ mark k ∷ space ∷ phrase right ∷ []
 
 -- A line for each production. A chain of `&`, `^`, `|`, `&&` or `||` has that sign alone; a chain of one operand is the operand.

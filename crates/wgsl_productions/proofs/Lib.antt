@@ -1,1 +1,5 @@
 pub mod Places
+pub mod Rests
+pub mod Choose
+pub mod Descent
+pub mod Induction
