@@ -1,2 +1,3 @@
 pub mod Embedded
 pub mod Parts
+pub mod Statements
