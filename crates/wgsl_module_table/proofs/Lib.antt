@@ -1,3 +1,4 @@
 pub mod Embedded
 pub mod Parts
 pub mod Statements
+pub mod Modules

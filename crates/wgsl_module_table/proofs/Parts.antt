@@ -118,7 +118,7 @@ at_letter : (c : ℕ) (cs : List ℕ) (b : Bool) → (c == 46) ≡ b → exp_tex
 at_letter c cs true is e = ap (λ d. d ∷ cs) (sym ((Decides-eqb c 46).0 is))
 at_letter c cs false is e = behind_letter c (dotted cs).0 (dotted cs).1 ∙ ap (λ t. c ∷ t) e
 
-dotted_shown : (n : List ℕ) → exp_text (dotted_exp (dotted n)) ≡ n
+pub dotted_shown : (n : List ℕ) → exp_text (dotted_exp (dotted n)) ≡ n
 dotted_shown [] = refl
 dotted_shown (c ∷ cs) = at_letter c cs (c == 46) refl (dotted_shown cs)
 

@@ -21,12 +21,12 @@ use Rattle.wgsl_module_table.specs.Laws.{shown, StatementIsPrinted, BlockIsPrint
 use Rattle.wgsl_module_table.proofs.Parts.{two, three, four, five, six, exp_shown, with_commas, attrs_shown, plain_shown}
 
 -- trees as lines at a level
-abbrev lines : ℕ → Nodes Label → List ℕ
+abbrev pub lines : ℕ → Nodes Label → List ℕ
 lines level nil = []
 lines level (cons x xs) = (indent level ++ shown x level ++ codes "\n") ++ lines level xs
 
 -- the same as a row prints them, with the line's end before each
-abbrev deep : ℕ → Nodes Label → List ℕ
+abbrev pub deep : ℕ → Nodes Label → List ℕ
 deep level xs = flat_map (λ t. codes "\n" ++ (indent (suc level) ++ t (suc level))) (texts grammar.symbols xs)
 
 pub deep_lines : (level : ℕ) (xs : Nodes Label) (r : List ℕ) → deep level xs ++ (codes "\n" ++ r) ≡ codes "\n" ++ (lines (suc level) xs ++ r)
