@@ -3,3 +3,4 @@ pub mod Nodes
 pub mod Laws
 pub mod ModuleNodes
 pub mod ModuleLaws
+pub mod Examples
