@@ -4,7 +4,7 @@ use Rattle.std.specs.List.{flat_map}
 use Rattle.wgsl_token.specs.Spelling.{spelling}
 use Rattle.wgsl_expressions.specs.Print.{commas, begins_with, indent}
 use Rattle.wgsl_productions.specs.Productions.{Symbol, mark, list_start, list_end, id, word, literal, optional, phrase, base, repeated, once_or_more, listed, some_listed, deeper, space, line, gap, Node, name, value, node, many, at, Nodes, nil, cons}
-use Rattle.wgsl_productions.specs.Print.{Part, next, behind, lone, row_text, is_numeral, part, parts, texts, text}
+use Rattle.wgsl_productions.specs.Print.{Part, next, behind, lone, row_text, is_numeral, part, parts, texts}
 use Rattle.wgsl_expression_table.specs.Table as e
 use Rattle.wgsl_module_table.specs.Table.{Label, over, grammar}
 use Rattle.wgsl_module_table.specs.Table as l

@@ -7,12 +7,11 @@ use Rattle.wgsl_path.specs.declared.path.ModulePath.{ModulePath}
 use Rattle.wgsl_path.specs.Paths.{supers, origin_text, components_text}
 use Rattle.wgsl_enumerations.specs.declared.words.DiagnosticSeverity.{DiagnosticSeverity}
 use Rattle.wgsl_enumerations.specs.Texts.{diagnostic_severity_text}
-use Rattle.wgsl_expressions.specs.Tree.{Exp, Typ}
+use Rattle.wgsl_expressions.specs.Tree.{Typ}
 use Rattle.wgsl_expressions.specs.Print.{commas, exp_text, typ_text, qualifier_text, indent}
 use Rattle.wgsl_attributes.specs.Tree.{Attr}
 use Rattle.wgsl_attributes.specs.Print.{attrs_text}
 use Rattle.wgsl_simple_statements.specs.Tree.{declaring, asserting}
-use Rattle.wgsl_simple_statements.specs.Print.{simple_text}
 use Rattle.wgsl_statements.specs.Print.{block_text}
 use Rattle.wgsl_imports.specs.Tree as i
 use Rattle.wgsl_imports.specs.Tree.{Content, Imps}
@@ -20,7 +19,7 @@ use Rattle.wgsl_imports.specs.Print.{steps_text, content_text, imps_text, more_t
 use Rattle.wgsl_declarations.specs.Tree as d
 use Rattle.wgsl_declarations.specs.Tree.{Member, Param}
 use Rattle.wgsl_declarations.specs.Print.{alias_text, structure_text, member_text, members_text, param_text, head_text, result_text, body_text, decl_text}
-use Rattle.wgsl_productions.specs.Productions.{Node, name, node, Nodes, nil, cons}
+use Rattle.wgsl_productions.specs.Productions.{Node, node, nil, cons}
 use Rattle.wgsl_productions.specs.Print.{texts}
 use Rattle.wgsl_module_table.specs.Table.{Label, grammar}
 use Rattle.wgsl_module_table.specs.Table as l
@@ -28,8 +27,8 @@ use Rattle.wgsl_module_table.specs.Nodes.{nodes, attr_node, exp_node, value_node
 use Rattle.wgsl_module_table.specs.ModuleNodes.{steps_node, content_node, imps_nodes, above_node, origin_node, source_node, import_node, rule_node, extension_node, directive_node, member_node, members_node, param_node, result_node, decl_node}
 use Rattle.wgsl_module_table.specs.Laws.{shown}
 use Rattle.wgsl_module_table.specs.ModuleLaws.{ImportIsPrinted, DirectiveIsPrinted, DeclarationIsPrinted, ModuleIsPrinted}
-use Rattle.wgsl_module_table.proofs.Parts.{two, three, four, five, six, typ_shown, with_commas, one_by_one, attrs_shown, plain_shown, dotted_shown}
-use Rattle.wgsl_module_table.proofs.Statements.{lines, deep, deep_lines, block_is_printed}
+use Rattle.wgsl_module_table.proofs.Parts.{three, four, five, six, typ_shown, with_commas, one_by_one, attrs_shown, plain_shown, dotted_shown}
+use Rattle.wgsl_module_table.proofs.Statements.{lines, deep_lines, block_is_printed}
 
 -- Imports
 

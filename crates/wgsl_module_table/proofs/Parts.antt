@@ -2,6 +2,7 @@
 use Rattle.std.proofs.Common.{◌≡◌, refl, sym, ap, ◌∙◌, ℕ, zero, suc, ◌==◌, Bool, true, false, if◌then◌else◌, List, [], ◌∷◌, ◌++◌, append_assoc, append-nil, codes, Option, Some, None}
 use Rattle.std.specs.List.{flat_map}
 use Rattle.std.specs.Str.{bytes_eq}
+use Rattle.std.proofs.lemmas.Bool.{false≢true}
 use Rattle.std.proofs.lemmas.Bool.Decides.{Decides-eqb}
 use Rattle.std.proofs.lemmas.Slice.Eq.{bytes_eq-Decides}
 use Rattle.wgsl_path.specs.declared.path.ModulePath.{ModulePath}
@@ -13,10 +14,8 @@ use Rattle.wgsl_operators.specs.declared.UnaryOperator.{UnaryOperator}
 use Rattle.wgsl_operators.specs.declared.UnaryOperator.TheVariants as u
 use Rattle.wgsl_enumerations.specs.declared.address.AddressSpace.{AddressSpace}
 use Rattle.wgsl_enumerations.specs.declared.address.AccessMode.{AccessMode}
-use Rattle.wgsl_enumerations.specs.declared.words.DiagnosticSeverity.{DiagnosticSeverity}
 use Rattle.wgsl_enumerations.specs.declared.words.AssignmentOperator.{AssignmentOperator}
 use Rattle.wgsl_enumerations.specs.declared.words.AssignmentOperator.TheVariants as o
-use Rattle.wgsl_enumerations.specs.declared.words.InterpolationType.{InterpolationType}
 use Rattle.wgsl_enumerations.specs.declared.words.InterpolationSampling.{InterpolationSampling}
 use Rattle.wgsl_enumerations.specs.Texts.{address_space_text, access_mode_text, builtin_value_text, diagnostic_severity_text, interpolation_type_text, interpolation_sampling_text, assignment_operator_text}
 use Rattle.wgsl_expressions.specs.Tree as tree
@@ -30,14 +29,14 @@ use Rattle.wgsl_simple_statements.specs.declared.declaration.DeclarationKind.{De
 use Rattle.wgsl_simple_statements.specs.declared.declaration.DeclarationKind.TheVariants as kinds
 use Rattle.wgsl_simple_statements.specs.Tree as s
 use Rattle.wgsl_simple_statements.specs.Tree.{Simple}
-use Rattle.wgsl_simple_statements.specs.Print.{access_text, space_text, kind_text, annotation_text, initializer_text, value_text, declared_text, simple_text}
-use Rattle.wgsl_productions.specs.Productions.{Node, name, value, node, many, Nodes, nil, cons}
-use Rattle.wgsl_productions.specs.Print.{is_numeral, part, parts, texts, text}
+use Rattle.wgsl_simple_statements.specs.Print.{space_text, annotation_text, initializer_text, declared_text, simple_text}
+use Rattle.wgsl_productions.specs.Productions.{Node, node, Nodes, nil, cons}
+use Rattle.wgsl_productions.specs.Print.{is_numeral, part, texts}
 use Rattle.wgsl_expression_table.specs.Table as e
 use Rattle.wgsl_expression_table.proofs.Texts.{text_is_printed}
 use Rattle.wgsl_module_table.specs.Table.{Label, grammar, assignment_mark}
 use Rattle.wgsl_module_table.specs.Table as l
-use Rattle.wgsl_module_table.specs.Nodes.{embedded, single, nodes, exp_node, typ_node, exp_list, name_exp, words, word_among, arguments_node, attribute_node, dotted, dotted_exp, some, sampling_arguments, attr_node, access_arguments, template_node, annotation_node, initializer_node, value_node, place_operator, place_node, plain_node, attributes_of}
+use Rattle.wgsl_module_table.specs.Nodes.{embedded, single, nodes, exp_node, typ_node, exp_list, name_exp, words, word_among, arguments_node, attribute_node, dotted, dotted_exp, some, sampling_arguments, attr_node, template_node, annotation_node, initializer_node, value_node, place_node, is_phony, assignment_node, plain_node, attributes_of}
 use Rattle.wgsl_module_table.specs.Laws.{shown, AttributeIsPrinted}
 use Rattle.wgsl_module_table.proofs.Embedded.{embedding_keeps_texts}
 
@@ -295,10 +294,22 @@ listed_again (tree.cons x xs) = ap (λ t. exp_text x ++ t) (rest xs)
     rest tree.nil = refl
     rest (tree.cons x xs) = ap (λ t. codes ", " ++ exp_text x ++ t) (rest xs)
 
+phony_text : (o : AssignmentOperator) (x : Exp) → is_phony o x ≡ true → exp_text x ++ (codes " " ++ assignment_operator_text o) ≡ codes "_ ="
+phony_text o.Equal (tree.named (tree.simple None n)) same = ap (λ t. t ++ codes " =") ((bytes_eq-Decides n (codes "_")).0 same)
+phony_text _ _ same = absurd (false≢true same)
+
+assignment_shown : (o : AssignmentOperator) (x y : Exp) (level : ℕ)
+    → shown (assignment_node o x y) level ≡ exp_text x ++ (codes " " ++ (assignment_operator_text o ++ (codes " " ++ exp_text y)))
+assignment_shown o x y level =
+    chosen level (is_phony o x) (node l.phony (single (exp_node y))) (node (l.assignment o) (cons (place_node x) (single (exp_node y)))) _
+    (λ same. ap (λ t. codes "_ = " ++ t) (append-nil _ ∙ exp_shown y level) ∙ ap (λ t. t ++ (codes " " ++ exp_text y)) (sym (phony_text o x same))
+    ∙ append_assoc (exp_text x) (codes " " ++ assignment_operator_text o) (codes " " ++ exp_text y))
+    (λ k. place_shown level x k ++ (codes " " ++ (sign_shown o k ++ (codes " " ++ (append-nil _ ∙ exp_shown y level) k))))
+
 -- a statement without its `;`
 pub plain_shown : (x : Simple) (level : ℕ) → attrs_text (attributes_of x) ++ shown (plain_node x) level ≡ simple_text x
 plain_shown (s.assignment attributes o x y) level =
-    (λ k. attrs_text attributes ++ (place_shown level x k ++ (codes " " ++ (sign_shown o k ++ (codes " " ++ (append-nil _ ∙ exp_shown y level) k)))))
+    ap (λ t. attrs_text attributes ++ t) (assignment_shown o x y level)
     ∙ six (attrs_text attributes) (exp_text x) (codes " ") (assignment_operator_text o) (codes " ") (exp_text y)
 plain_shown (s.increment attributes x) level = ap (λ t. attrs_text attributes ++ (t ++ codes "++")) (place_shown level x) ∙ three (attrs_text attributes) (exp_text x) (codes "++")
 plain_shown (s.decrement attributes x) level = ap (λ t. attrs_text attributes ++ (t ++ codes "--")) (place_shown level x) ∙ three (attrs_text attributes) (exp_text x) (codes "--")

@@ -11,14 +11,14 @@ use Rattle.wgsl_simple_statements.specs.Tree.{Simple, BreakIf, Selector}
 use Rattle.wgsl_simple_statements.specs.Print.{simple_text, break_if_text, selector_text, case_head}
 use Rattle.wgsl_statements.specs.Tree as t
 use Rattle.wgsl_statements.specs.Tree.{Stm, Stms, Block, Elses, Clauses, Continuing, Part}
-use Rattle.wgsl_statements.specs.Print.{braced, head_text, header_text, condition_text, break_line, end_text, bare_text, stms_text, block_text, extended_text, elses_text, clauses_text, continuing_text, part_text, stm_text}
+use Rattle.wgsl_statements.specs.Print.{braced, head_text, header_text, condition_text, break_line, end_text, bare_text, stms_text, block_text, elses_text, clauses_text, continuing_text, part_text, stm_text}
 use Rattle.wgsl_productions.specs.Productions.{Node, node, many, Nodes, nil, cons}
-use Rattle.wgsl_productions.specs.Print.{text, texts}
+use Rattle.wgsl_productions.specs.Print.{texts}
 use Rattle.wgsl_module_table.specs.Table.{Label, grammar}
 use Rattle.wgsl_module_table.specs.Table as l
-use Rattle.wgsl_module_table.specs.Nodes.{single, exp_node, attr_node, nodes, attrs_node, plain_node, attributes_of, simple_node, break_if_nodes, selector_node, clause_node, condition_node, lined, extended, stm_node, stms_nodes, block_node, elses_node, clauses_nodes, continuing_nodes, part_node}
+use Rattle.wgsl_module_table.specs.Nodes.{single, exp_node, nodes, attrs_node, plain_node, attributes_of, simple_node, break_if_nodes, selector_node, clause_node, condition_node, lined, extended, stm_node, stms_nodes, block_node, elses_node, clauses_nodes, continuing_nodes, part_node}
 use Rattle.wgsl_module_table.specs.Laws.{shown, StatementIsPrinted, BlockIsPrinted}
-use Rattle.wgsl_module_table.proofs.Parts.{two, three, four, five, six, exp_shown, with_commas, attrs_shown, plain_shown}
+use Rattle.wgsl_module_table.proofs.Parts.{three, four, five, exp_shown, with_commas, attrs_shown, plain_shown}
 
 -- trees as lines at a level
 abbrev pub lines : ℕ → Nodes Label → List ℕ
@@ -68,7 +68,7 @@ extended_in_braces level x xs ys =
     let line : List ℕ = indent (suc level) ++ shown x (suc level) in
     both level (cons x xs) ys
     ∙ closed level line (lines (suc level) xs ++ lines (suc level) ys) _
-      (ap (λ t. t ++ lines (suc level) ys) (append_assoc line (codes "\n") (lines (suc level) xs)) ∙ append_assoc line (codes "\n" ++ lines (suc level) xs) (lines (suc level) ys))
+    (ap (λ t. t ++ lines (suc level) ys) (append_assoc line (codes "\n") (lines (suc level) xs)) ∙ append_assoc line (codes "\n" ++ lines (suc level) xs) (lines (suc level) ys))
 
 ending_in_braces : (level : ℕ) (y : Node Label) (ys : Nodes Label)
     → codes "{" ++ (deep level (cons y ys) ++ (codes "\n" ++ (indent level ++ codes "}"))) ≡ braced level (lines (suc level) (cons y ys))

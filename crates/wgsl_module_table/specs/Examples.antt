@@ -1,9 +1,8 @@
 -- Texts that the table gives.
-use Rattle.std.specs.Prelude.{◌≡◌, List, codes, None, Some, [], ◌∷◌}
+use Rattle.std.specs.Prelude.{◌≡◌, codes, None, Some, [], ◌∷◌}
 use Rattle.wgsl_path.specs.declared.path.PathOrigin.TheVariants.{Package}
 use Rattle.wgsl_enumerations.specs.declared.address.AddressSpace.TheVariants as space
 use Rattle.wgsl_enumerations.specs.declared.address.AccessMode.TheVariants as access
-use Rattle.wgsl_enumerations.specs.declared.words.AssignmentOperator.TheVariants as o
 use Rattle.wgsl_expressions.specs.Tree as e
 use Rattle.wgsl_expressions.specs.Tree.{Typ}
 use Rattle.wgsl_attributes.specs.Tree as a

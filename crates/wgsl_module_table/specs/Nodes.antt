@@ -1,9 +1,6 @@
 -- The trees of attributes, statements, declarations and modules as trees of the table, without places.
-use Rattle.std.specs.Prelude.{ℕ, zero, suc, ◌==◌, Bool, false, if◌then◌else◌, List, [], ◌∷◌, ◌++◌, Option, Some, None, codes, map}
+use Rattle.std.specs.Prelude.{ℕ, ◌==◌, Bool, false, if◌then◌else◌, List, [], ◌∷◌, ◌++◌, Option, Some, None, codes}
 use Rattle.std.specs.Str.{bytes_eq}
-use Rattle.wgsl_path.specs.declared.path.PathOrigin.{PathOrigin}
-use Rattle.wgsl_path.specs.declared.path.PathOrigin.TheVariants.{Absolute, Relative, Package}
-use Rattle.wgsl_path.specs.declared.path.ModulePath.{ModulePath}
 use Rattle.wgsl_token.specs.declared.token.Fixed.{Fixed}
 use Rattle.wgsl_token.specs.declared.token.Fixed.TheVariants as f
 use Rattle.wgsl_token.specs.Spelling.{spelling}
@@ -13,6 +10,7 @@ use Rattle.wgsl_enumerations.specs.declared.address.AddressSpace.{AddressSpace}
 use Rattle.wgsl_enumerations.specs.declared.address.AccessMode.{AccessMode}
 use Rattle.wgsl_enumerations.specs.declared.words.InterpolationSampling.{InterpolationSampling}
 use Rattle.wgsl_enumerations.specs.declared.words.AssignmentOperator.{AssignmentOperator}
+use Rattle.wgsl_enumerations.specs.declared.words.AssignmentOperator.TheVariants as o
 use Rattle.wgsl_enumerations.specs.Texts.{address_space_text, access_mode_text, builtin_value_text, diagnostic_severity_text, interpolation_type_text, interpolation_sampling_text}
 use Rattle.wgsl_expressions.specs.Tree as tree
 use Rattle.wgsl_expressions.specs.Tree.{Exp, Exps, Typ}
@@ -173,9 +171,17 @@ place_node (tree.indexed x y) = node l.place_indexed (cons (place_node x) (singl
 place_node (tree.named (tree.simple path n)) = node l.place_name (single (embedded (e.name_node path n)))
 place_node x = exp_node x
 
+-- Is it an assignment to `_` (WGSL, "Phony Assignment")?
+abbrev pub is_phony : AssignmentOperator → Exp → Bool
+is_phony o.Equal (tree.named (tree.simple None n)) = bytes_eq n (codes "_")
+is_phony _ _ = false
+
+abbrev pub assignment_node : AssignmentOperator → Exp → Exp → Node Label
+assignment_node o x y = if is_phony o x then node l.phony (single (exp_node y)) else node (l.assignment o) (cons (place_node x) (single (exp_node y)))
+
 -- a statement without its attributes and its `;`
 abbrev pub plain_node : Simple → Node Label
-plain_node (s.assignment attributes o x y) = node (l.assignment o) (cons (place_node x) (single (exp_node y)))
+plain_node (s.assignment attributes o x y) = assignment_node o x y
 plain_node (s.increment attributes x) = node l.increment (single (place_node x))
 plain_node (s.decrement attributes x) = node l.decrement (single (place_node x))
 plain_node (s.breaking attributes) = node l.a_break nil

@@ -218,12 +218,15 @@ assignment_mark o.XorEqual = f.XorEqual
 assignment_mark o.ShiftRightAssign = f.ShiftRightAssign
 assignment_mark o.ShiftLeftAssign = f.ShiftLeftAssign
 
--- nothing in braces; and lines in braces
+-- symbols in braces
 abbrev pub in_braces : List (Symbol Nonterminal) → List (Symbol Nonterminal)
 in_braces ss = mark f.BraceLeft ∷ (ss ++ (mark f.BraceRight ∷ []))
 
--- A line for each production. An empty row beside another is what is left out. Two rows take more than the grammar: `loop_lines`
--- more than one `continuing`, and `continuing_lines` more than one `break if`; `clauses` and `members` may have none.
+-- A line for each production; an empty row stands for what is left out. Attributes stand before `const`, `alias`, `struct` and
+-- `const_assert` declarations, directives and statements too (this project's own). A word behind `@` is an identifier or a word
+-- of one spelling: no symbol stands for a reserved word. Since no symbol stands for lines of which one has to be there,
+-- the rows with `deeper` take more than the standard's grammar: `clauses` and `members` none at all, `loop_lines` several
+-- `continuing`, `continuing_lines` several `break if`; and braces without lines have two rows.
 abbrev pub production : Label → Production
 production (of_expression l) = record { of = expressions (e.production l).of; symbols = map (over expressions) (e.production l).symbols; placed = (e.production l).placed }
 production (keyword k) = (if begins_with_letter (spelling k) then Word else Unread) ⟸ mark k ∷ []
@@ -318,7 +321,7 @@ production a_struct = Declaration ⟵ A ∷ mark f.Struct ∷ space ∷ id ∷ s
 production a_function = Declaration ⟵ A ∷ mark f.Fn ∷ space ∷ id ∷ mark f.ParenLeft ∷ listed Parameter ∷ mark f.ParenRight ∷ phrase Result ∷ space ∷ phrase Block ∷ line ∷ []
 production a_module = Module ⟸ repeated Import ∷ repeated Directive ∷ repeated Declaration ∷ []
 
--- Each phrase of the second is one of the first.
+-- Each phrase of the second is one of the first. The rest are the units of the table of expressions.
 abbrev pub units : List (Nonterminal × Nonterminal)
 units = (Initializer, Value) ∷ (Local, Shared) ∷ (Global, Shared) ∷ (Global, Assertion) ∷ (Place, Target) ∷ (Plain, Local) ∷ (Plain, Update) ∷ (Plain, Assertion)
     ∷ (Initial, Local) ∷ (Initial, Update) ∷ (Condition, expressions e.Expression) ∷ (Selector, expressions e.Expression) ∷ (Source, Tree) ∷ (Source, Above)
