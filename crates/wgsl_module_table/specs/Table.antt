@@ -9,10 +9,11 @@ use Rattle.wgsl_enumerations.specs.declared.words.AssignmentOperator.TheVariants
 use Rattle.wgsl_productions.specs.Productions.{Symbol, mark, list_start, list_end, id, word, literal, optional, phrase, base, repeated, once_or_more, listed, some_listed, deeper, space, line, gap, Grammar}
 use Rattle.wgsl_expression_table.specs.Table as e
 
--- `Unread` is of no production: what a tree may have and no text has.
+-- `Unread` has no production: what a tree may have and no text has. `Unnamed` is in no row: its productions are printed and not read.
 pub data Nonterminal : Type 0 where
   expressions : e.Nonterminal → Nonterminal
   Unread : Nonterminal
+  Unnamed : Nonterminal
   Word : Nonterminal
   Arguments : Nonterminal
   Attribute : Nonterminal
@@ -229,7 +230,7 @@ in_braces ss = mark f.BraceLeft ∷ (ss ++ (mark f.BraceRight ∷ []))
 -- `continuing`, `continuing_lines` several `break if`; and braces without lines have two rows.
 abbrev pub production : Label → Production
 production (of_expression l) = record { of = expressions (e.production l).of; symbols = map (over expressions) (e.production l).symbols; placed = (e.production l).placed }
-production (keyword k) = (if begins_with_letter (spelling k) then Word else Unread) ⟸ mark k ∷ []
+production (keyword k) = (if begins_with_letter (spelling k) then Word else Unnamed) ⟸ mark k ∷ []
 production a_word = Word ⟸ id ∷ []
 production no_arguments = Arguments ⟸ []
 production arguments = Arguments ⟸ mark f.ParenLeft ∷ listed (expressions e.Expression) ∷ mark f.ParenRight ∷ []
@@ -285,7 +286,7 @@ production colon = Colon ⟸ mark f.Colon ∷ []
 production no_colon = Colon ⟸ []
 production a_case = Clause ⟸ mark f.Case ∷ space ∷ some_listed Selector ∷ phrase Colon ∷ space ∷ phrase Block ∷ []
 production a_default = Clause ⟸ mark f.Default ∷ phrase Colon ∷ space ∷ phrase Block ∷ []
-production no_clauses = Unread ⟸ A ∷ in_braces []
+production no_clauses = Unnamed ⟸ A ∷ in_braces []
 production clauses = Clauses ⟸ A ∷ in_braces (deeper Clause ∷ line ∷ [])
 production a_continuing = Continuing ⟸ unread ∷ mark f.Continuing ∷ space ∷ phrase ContinuingBody ∷ []
 production no_loop_lines = LoopBody ⟸ A ∷ in_braces []
@@ -310,7 +311,7 @@ production requiring = Directive ⟸ A ∷ mark f.Requires ∷ space ∷ some_li
 production parameter = Parameter ⟸ A ∷ id ∷ mark f.Colon ∷ space ∷ a_type ∷ []
 production member = Member ⟵ A ∷ id ∷ mark f.Colon ∷ space ∷ a_type ∷ []
 production member_line = MemberLine ⟸ phrase Member ∷ mark f.Comma ∷ []
-production no_members = Unread ⟸ in_braces []
+production no_members = Unnamed ⟸ in_braces []
 production members = Members ⟸ in_braces (deeper MemberLine ∷ line ∷ [])
 production members_open = Members ⟸ in_braces (deeper MemberLine ∷ space ∷ phrase Member ∷ line ∷ [])
 production no_result = Result ⟸ []
