@@ -1,4 +1,1 @@
 pub mod Embedded
-pub mod Parts
-pub mod Statements
-pub mod Modules

@@ -1,6 +1,5 @@
 pub mod Table
 pub mod Nodes
-pub mod Laws
 pub mod ModuleNodes
-pub mod ModuleLaws
+pub mod Laws
 pub mod Examples

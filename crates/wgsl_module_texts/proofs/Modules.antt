@@ -26,9 +26,9 @@ use Rattle.wgsl_module_table.specs.Table as l
 use Rattle.wgsl_module_table.specs.Nodes.{nodes, attr_node, exp_node, value_node, dotted, dotted_exp, typ_node}
 use Rattle.wgsl_module_table.specs.ModuleNodes.{steps_node, content_node, imps_nodes, above_node, origin_node, source_node, import_node, rule_node, extension_node, directive_node, member_node, members_node, param_node, result_node, decl_node}
 use Rattle.wgsl_module_table.specs.Laws.{shown}
-use Rattle.wgsl_module_table.specs.ModuleLaws.{ImportIsPrinted, DirectiveIsPrinted, DeclarationIsPrinted, ModuleIsPrinted}
-use Rattle.wgsl_module_table.proofs.Parts.{three, four, five, six, typ_shown, with_commas, one_by_one, attrs_shown, plain_shown, dotted_shown}
-use Rattle.wgsl_module_table.proofs.Statements.{lines, deep_lines, block_is_printed}
+use Rattle.wgsl_module_texts.specs.ModuleLaws.{ImportIsPrinted, DirectiveIsPrinted, DeclarationIsPrinted, ModuleIsPrinted}
+use Rattle.wgsl_module_texts.proofs.Parts.{three, four, five, six, typ_shown, with_commas, one_by_one, attrs_shown, plain_shown, dotted_shown}
+use Rattle.wgsl_module_texts.proofs.Statements.{lines, deep_lines, block_is_printed}
 
 -- Imports
 

@@ -37,7 +37,8 @@ use Rattle.wgsl_expression_table.proofs.Texts.{text_is_printed}
 use Rattle.wgsl_module_table.specs.Table.{Label, grammar, assignment_mark}
 use Rattle.wgsl_module_table.specs.Table as l
 use Rattle.wgsl_module_table.specs.Nodes.{embedded, single, nodes, exp_node, typ_node, exp_list, name_exp, words, word_among, arguments_node, attribute_node, dotted, dotted_exp, some, sampling_arguments, attr_node, template_node, annotation_node, initializer_node, value_node, place_node, is_phony, assignment_node, plain_node, attributes_of}
-use Rattle.wgsl_module_table.specs.Laws.{shown, AttributeIsPrinted}
+use Rattle.wgsl_module_table.specs.Laws.{shown}
+use Rattle.wgsl_module_texts.specs.Laws.{AttributeIsPrinted}
 use Rattle.wgsl_module_table.proofs.Embedded.{embedding_keeps_texts}
 
 -- texts one behind the other, put together from behind or from before

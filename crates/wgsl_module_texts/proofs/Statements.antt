@@ -17,8 +17,9 @@ use Rattle.wgsl_productions.specs.Print.{texts}
 use Rattle.wgsl_module_table.specs.Table.{Label, grammar}
 use Rattle.wgsl_module_table.specs.Table as l
 use Rattle.wgsl_module_table.specs.Nodes.{single, exp_node, nodes, attrs_node, plain_node, attributes_of, simple_node, break_if_nodes, selector_node, clause_node, condition_node, lined, extended, stm_node, stms_nodes, block_node, elses_node, clauses_nodes, continuing_nodes, part_node}
-use Rattle.wgsl_module_table.specs.Laws.{shown, StatementIsPrinted, BlockIsPrinted}
-use Rattle.wgsl_module_table.proofs.Parts.{three, four, five, exp_shown, with_commas, attrs_shown, plain_shown}
+use Rattle.wgsl_module_table.specs.Laws.{shown}
+use Rattle.wgsl_module_texts.specs.Laws.{StatementIsPrinted, BlockIsPrinted}
+use Rattle.wgsl_module_texts.proofs.Parts.{three, four, five, exp_shown, with_commas, attrs_shown, plain_shown}
 
 -- trees as lines at a level
 abbrev pub lines : ℕ → Nodes Label → List ℕ
