@@ -228,6 +228,7 @@ in_braces ss = mark f.BraceLeft ∷ (ss ++ (mark f.BraceRight ∷ []))
 -- of one spelling: no symbol stands for a reserved word. Since no symbol stands for lines of which one has to be there,
 -- the rows with `deeper` take more than the standard's grammar: `clauses` and `members` none at all, `loop_lines` several
 -- `continuing`, `continuing_lines` several `break if`; and braces without lines have two rows.
+-- Nor does a row say that a `(` behind an attribute's word opens its arguments: such tokens may derive two trees.
 abbrev pub production : Label → Production
 production (of_expression l) = record { of = expressions (e.production l).of; symbols = map (over expressions) (e.production l).symbols; placed = (e.production l).placed }
 production (keyword k) = (if begins_with_letter (spelling k) then Word else Unnamed) ⟸ mark k ∷ []
