@@ -1,0 +1,5 @@
+pub mod Table
+pub mod Nodes
+pub mod ModuleNodes
+pub mod Laws
+pub mod Examples
