@@ -1,0 +1,5 @@
+mod Stacks
+mod Replays
+mod Exact
+mod Sound
+mod Whole

@@ -1,0 +1,4 @@
+pub mod Grammars
+pub mod Machine
+pub mod Fit
+pub mod Laws

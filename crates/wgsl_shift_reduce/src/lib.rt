@@ -1,0 +1,5 @@
+//! Parsers that shift and reduce: what one does, by its tables, and what its answer says of any grammar that its tables fit. This
+//! crate knows no grammar.
+#![tactic(auto)]
+
+pub mod laws;
