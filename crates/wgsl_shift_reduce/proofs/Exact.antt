@@ -1,7 +1,9 @@
 -- A sentence is read whole, and its tree is the answer.
 use Rattle.std.proofs.Common.{◌≡◌, ◌∙◌, refl, sym, ap, subst, ℕ, zero, suc, true, List, [], ◌∷◌, ◌++◌, length, append_assoc, append-nil, ◌⊎◌, inl, inr, ⊎_elim, Some}
 use Rattle.wgsl_shift_reduce.specs.Grammars.{Symbol, token, phrase, Rule, Grammar, Derives, a_token, a_phrase, Row, done, next, right_side, rest}
-use Rattle.wgsl_shift_reduce.specs.Machine.{Tables, shift, reduce, accept, stop, action, Entry, top, popped, ahead, Outcome, read, stops, no_memory, Comes, shifted, reduced, accepted, stopped, memory}
+use Rattle.wgsl_shift_reduce.specs.declared.machine.Action.TheVariants.{Shift, Reduce, Accept, Stop}
+use Rattle.wgsl_shift_reduce.specs.declared.machine.Entry.{Entry}
+use Rattle.wgsl_shift_reduce.specs.Machine.{Tables, action, top, popped, ahead, Outcome, read, stops, no_memory, Comes, shifted, reduced, accepted, stopped, memory}
 use Rattle.wgsl_shift_reduce.specs.Fit.{Among, here, Account, Holds, in_kernel, opened, IsFit}
 use Rattle.wgsl_shift_reduce.proofs.Stacks.{some_is, pair_is, drop_more, popped_more, step_shifts, shift_is, reduce_is}
 
@@ -80,15 +82,15 @@ module _ {T V : Type 0} (g : Grammar T V) (a : Tables) (w : Account) (from start
   token_read k t es v {r} {left} step (shifted _ t' act c) =
       let same : t' ≡ t = shift_is (sym act ∙ step_shifts a (top from es) (g.class_of k) t step) in
       subst (λ n. Comes g a from (record { state = n; value = g.leaf k } ∷ es) v r left) same c
-  token_read k t es v step (reduced p t' q below xs act is pop step' c) = let e : shift t ≡ reduce p = sym (step_shifts a (top from es) (g.class_of k) t step) ∙ act in absurd cc
-  token_read k t _ v step (accepted t' x {es = es} act) = let e : shift t ≡ accept = sym (step_shifts a t' (g.class_of k) t step) ∙ act in absurd cc
-  token_read k t es v step (stopped act) = let e : shift t ≡ stop = sym (step_shifts a (top from es) (g.class_of k) t step) ∙ act in absurd cc
+  token_read k t es v step (reduced p t' q below xs act is pop step' c) = let e : Shift t ≡ Reduce p = sym (step_shifts a (top from es) (g.class_of k) t step) ∙ act in absurd cc
+  token_read k t _ v step (accepted t' x {es = es} act) = let e : Shift t ≡ Accept = sym (step_shifts a t' (g.class_of k) t step) ∙ act in absurd cc
+  token_read k t es v step (stopped act) = let e : Shift t ≡ Stop = sym (step_shifts a (top from es) (g.class_of k) t step) ∙ act in absurd cc
   token_read k t es v step memory = memory
 
   reduced_to : {es above : List (Entry V)} {v : List T} {r : Outcome V} {left : List T} (p t n : ℕ) (q : Rule) (xs : List V)
-      → action a (top from above) (ahead g v) ≡ reduce p → g.rule p ≡ Some q → n ≡ length q.right → (popped n above []).0 ≡ es → (popped n above []).1 ≡ xs
+      → action a (top from above) (ahead g v) ≡ Reduce p → g.rule p ≡ Some q → n ≡ length q.right → (popped n above []).0 ≡ es → (popped n above []).1 ≡ xs
       → a.step (top from es) (phrase q.left) ≡ Some t → Comes g a from above v r left → Comes g a from (record { state = t; value = g.make p xs } ∷ es) v r left
-  reduced_to p t n q xs act is long below values step (shifted k t' act' c) = let e : reduce p ≡ shift t' = sym act ∙ act' in absurd cc
+  reduced_to p t n q xs act is long below values step (shifted k t' act' c) = let e : Reduce p ≡ Shift t' = sym act ∙ act' in absurd cc
   reduced_to {es = es} {above = above} {v = v} {r = r} {left = left} p t n q xs act is long below values step (reduced p' t' q' below' xs' act' is' pop step' c) =
       let same : p' ≡ p = reduce_is (sym act' ∙ act) in
       let rule : q' ≡ q = some_is (sym is' ∙ ap g.rule same ∙ is) in
@@ -100,8 +102,8 @@ module _ {T V : Type 0} (g : Grammar T V) (a : Tables) (w : Account) (from start
       (subst (λ ys. Comes g a from (record { state = t; value = g.make p' ys } ∷ es) v r left) made
       (subst (λ l. Comes g a from (record { state = t; value = g.make p' xs' } ∷ l) v r left) under
       (subst (λ m. Comes g a from (record { state = m; value = g.make p' xs' } ∷ below') v r left) to c)))
-  reduced_to p t n q xs act is long below values step (accepted t' x act') = let e : reduce p ≡ accept = sym act ∙ act' in absurd cc
-  reduced_to p t n q xs act is long below values step (stopped act') = let e : reduce p ≡ stop = sym act ∙ act' in absurd cc
+  reduced_to p t n q xs act is long below values step (accepted t' x act') = let e : Reduce p ≡ Accept = sym act ∙ act' in absurd cc
+  reduced_to p t n q xs act is long below values step (stopped act') = let e : Reduce p ≡ Stop = sym act ∙ act' in absurd cc
   reduced_to p t n q xs act is long below values step memory = memory
 
   both : (n : ℕ) (above : List (Entry V)) {es : List (Entry V)} {xs : List V} → (popped n above []).0 ≡ es → (popped n above []).1 ≡ xs → popped n above [] ≡ (es, xs)
@@ -168,16 +170,16 @@ module _ {T V : Type 0} (g : Grammar T V) (a : Tables) (w : Account) (from start
   kernel_from : Among (w.kernel from) (start, zero)
   kernel_from = subst (λ l. Among l (start, zero)) (sym f.begins) here
 
-  accepted_as : {t : ℕ} {x : V} {r : Outcome V} {left : List T} → action a t zero ≡ accept → Comes g a from (record { state = t; value = x } ∷ []) [] r left → (r ≡ read x) ⊎ (r ≡ no_memory)
-  accepted_as act (reduced p t' q below xs act' is pop step c) = let e : accept ≡ reduce p = sym act ∙ act' in absurd cc
+  accepted_as : {t : ℕ} {x : V} {r : Outcome V} {left : List T} → action a t zero ≡ Accept → Comes g a from (record { state = t; value = x } ∷ []) [] r left → (r ≡ read x) ⊎ (r ≡ no_memory)
+  accepted_as act (reduced p t' q below xs act' is pop step c) = let e : Accept ≡ Reduce p = sym act ∙ act' in absurd cc
   accepted_as act (accepted t' x' act') = inl refl
-  accepted_as act (stopped act') = let e : accept ≡ stop = sym act ∙ act' in absurd cc
+  accepted_as act (stopped act') = let e : Accept ≡ Stop = sym act ∙ act' in absurd cc
   accepted_as act memory = inr refl
 
   record Whole (u : List T) (x : V) : Type 0 where
     to : ℕ
     same : Same [] (u ++ []) (record { state = to; value = x } ∷ []) []
-    act : action a to zero ≡ accept
+    act : action a to zero ≡ Accept
 
   whole : {u : List T} {x : V} → Derives g (phrase goal) u x → Whole u x
   whole h =

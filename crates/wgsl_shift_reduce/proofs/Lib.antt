@@ -3,3 +3,4 @@ mod Replays
 mod Exact
 mod Sound
 mod Whole
+mod Moves

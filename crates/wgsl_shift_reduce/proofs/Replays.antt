@@ -1,7 +1,8 @@
 -- Where no sentence goes on: the same comes of other tokens behind those that were read, if what is ahead is the same.
 use Rattle.std.proofs.Common.{◌≡◌, ◌∙◌, refl, sym, ap, subst, ℕ, List, [], ◌∷◌, ◌++◌}
 use Rattle.wgsl_shift_reduce.specs.Grammars.{Grammar}
-use Rattle.wgsl_shift_reduce.specs.Machine.{Tables, action, Entry, top, ahead, Outcome, stops, Comes, shifted, reduced, accepted, stopped, memory}
+use Rattle.wgsl_shift_reduce.specs.declared.machine.Entry.{Entry}
+use Rattle.wgsl_shift_reduce.specs.Machine.{Tables, action, top, ahead, Outcome, stops, Comes, shifted, reduced, accepted, stopped, memory}
 
 module _ {T V : Type 0} (g : Grammar T V) (a : Tables) (from : ℕ) where
   pub record Replays (es : List (Entry V)) (u left : List T) (end : List (Entry V)) : Type 0 where

@@ -2,7 +2,8 @@
 use Rattle.std.proofs.Common.{◌≡◌, ◌∙◌, refl, sym, ap, subst, ℕ, zero, suc, ◌≤◌, List, [], ◌∷◌, ◌++◌, length, drop, append_assoc, append-nil, Some, arith}
 use Rattle.std.proofs.Math.Seq.{drop-length}
 use Rattle.wgsl_shift_reduce.specs.Grammars.{Symbol, token, phrase, Rule, Grammar, Derives, a_token, a_phrase, Row, done, next, right_side, rest}
-use Rattle.wgsl_shift_reduce.specs.Machine.{Tables, Entry, top, popped, ahead, Outcome, read, stops, no_memory, Comes, shifted, reduced, accepted, stopped, memory}
+use Rattle.wgsl_shift_reduce.specs.declared.machine.Entry.{Entry}
+use Rattle.wgsl_shift_reduce.specs.Machine.{Tables, top, popped, ahead, Outcome, read, stops, no_memory, Comes, shifted, reduced, accepted, stopped, memory}
 use Rattle.wgsl_shift_reduce.specs.Fit.{Among, here, there, Account, Holds, in_kernel, opened, Some_item, IsFit}
 use Rattle.wgsl_shift_reduce.proofs.Stacks.{some_is, drop_more, shifts_step}
 

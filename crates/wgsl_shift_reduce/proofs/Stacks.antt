@@ -1,7 +1,9 @@
 -- Stacks, and what actions say of the tables.
 use Rattle.std.proofs.Common.{◌≡◌, ◌∙◌, ap, ℕ, zero, suc, List, [], ◌∷◌, drop, Option, Some, None}
 use Rattle.wgsl_shift_reduce.specs.Grammars.{token}
-use Rattle.wgsl_shift_reduce.specs.Machine.{Tables, shift, reduce, reducing, shifting, action, Entry, popped}
+use Rattle.wgsl_shift_reduce.specs.declared.machine.Action.TheVariants.{Shift, Reduce}
+use Rattle.wgsl_shift_reduce.specs.declared.machine.Entry.{Entry}
+use Rattle.wgsl_shift_reduce.specs.Machine.{Tables, reducing, shifting, action, popped}
 
 pub some_is : {A : Type 0} {x y : A} → Some x ≡ Some y → x ≡ y
 some_is e = cc
@@ -28,19 +30,19 @@ popped_more zero (x ∷ es) xs ys e below is are =
 popped_more (suc n) [] xs ys e below is are = absurd cc
 popped_more (suc n) (x ∷ es) xs ys e below is are = popped_more n es (x.value ∷ xs) ys e below is are
 
-pub step_shifts : (a : Tables) (s c t : ℕ) → a.step s (token c) ≡ Some t → action a s (suc c) ≡ shift t
+pub step_shifts : (a : Tables) (s c t : ℕ) → a.step s (token c) ≡ Some t → action a s (suc c) ≡ Shift t
 step_shifts a s c t e = ap (λ o. shifting o (reducing (a.reduction s (suc c)))) e
 
-shift_of : (o p : Option ℕ) (t : ℕ) → shifting o (reducing p) ≡ shift t → o ≡ Some t
+shift_of : (o p : Option ℕ) (t : ℕ) → shifting o (reducing p) ≡ Shift t → o ≡ Some t
 shift_of None None t e = absurd cc
 shift_of None (Some p) t e = absurd cc
 shift_of (Some s) p t e = cc
 
-pub shifts_step : (a : Tables) (s c t : ℕ) → action a s (suc c) ≡ shift t → a.step s (token c) ≡ Some t
+pub shifts_step : (a : Tables) (s c t : ℕ) → action a s (suc c) ≡ Shift t → a.step s (token c) ≡ Some t
 shifts_step a s c t e = shift_of (a.step s (token c)) (a.reduction s (suc c)) t e
 
-pub shift_is : {s t : ℕ} → shift s ≡ shift t → s ≡ t
+pub shift_is : {s t : ℕ} → Shift s ≡ Shift t → s ≡ t
 shift_is e = cc
 
-pub reduce_is : {s t : ℕ} → reduce s ≡ reduce t → s ≡ t
+pub reduce_is : {s t : ℕ} → Reduce s ≡ Reduce t → s ≡ t
 reduce_is e = cc

@@ -2,7 +2,8 @@
 use Rattle.std.proofs.Common.{◌≡◌, ◌∙◌, sym, subst, ℕ, refl, List, []}
 use Rattle.std.proofs.lemmas.List.{append_cancel_right}
 use Rattle.wgsl_shift_reduce.specs.Grammars.{Grammar}
-use Rattle.wgsl_shift_reduce.specs.Machine.{Tables, Entry, Outcome, read, stops, no_memory, Comes}
+use Rattle.wgsl_shift_reduce.specs.declared.machine.Entry.{Entry}
+use Rattle.wgsl_shift_reduce.specs.Machine.{Tables, Outcome, read, stops, no_memory, Comes}
 use Rattle.wgsl_shift_reduce.specs.Fit.{Account, IsFit}
 use Rattle.wgsl_shift_reduce.specs.Laws.{IsBegun, Phrases, no_phrase, one_more, Answers, AnswersAreExact, SentencesAreAnswered, TreesAreUnique}
 use Rattle.wgsl_shift_reduce.proofs.Replays.{replays}

@@ -1,7 +1,8 @@
 -- When tables fit a grammar: what each state knows of the rules that may be under way in it.
 use Rattle.std.specs.Prelude.{◌≡◌, ℕ, zero, suc, Bool, true, List, [], ◌∷◌, ◌++◌, length, Some}
 use Rattle.wgsl_shift_reduce.specs.Grammars.{Symbol, token, phrase, Rule, Grammar, Derives, Row, rest}
-use Rattle.wgsl_shift_reduce.specs.Machine.{Tables, action, reduce, accept}
+use Rattle.wgsl_shift_reduce.specs.declared.machine.Action.TheVariants.{Reduce, Accept}
+use Rattle.wgsl_shift_reduce.specs.Machine.{Tables, action}
 
 -- x is an element of a list
 pub data Among {X : Type 0} : List X → X → Type 0 where
@@ -68,10 +69,10 @@ module _ {T V : Type 0} (g : Grammar T V) (a : Tables) (w : Account) where
     pub steps : (s p d : ℕ) (x : Symbol) (ss : List Symbol) → Holds s p d → rest g p d ≡ x ∷ ss → Steps s p d x
     pub came : (s t p d : ℕ) (x : Symbol) → a.step s x ≡ Some t → Among (w.kernel t) (p, d) → Came s p d x
     pub known : (s p d : ℕ) → Among (w.kernel s) (p, d) → (r : Rule) × (g.rule p ≡ Some r)
-    pub ends : (s p d c : ℕ) (r : Rule) → Among (w.kernel s) (p, d) → rest g p d ≡ [] → (p ≡ start → ⊥) → g.rule p ≡ Some r → w.follow r.left c ≡ true → action a s c ≡ reduce p
-    pub ends_all : (s d : ℕ) → Among (w.kernel s) (start, d) → rest g start d ≡ [] → action a s zero ≡ accept
-    pub reduces : (s p c : ℕ) → action a s c ≡ reduce p → Ended s p
-    pub accepts : (s c : ℕ) → action a s c ≡ accept → Among (w.kernel s) (start, suc zero) × (c ≡ zero)
+    pub ends : (s p d c : ℕ) (r : Rule) → Among (w.kernel s) (p, d) → rest g p d ≡ [] → (p ≡ start → ⊥) → g.rule p ≡ Some r → w.follow r.left c ≡ true → action a s c ≡ Reduce p
+    pub ends_all : (s d : ℕ) → Among (w.kernel s) (start, d) → rest g start d ≡ [] → action a s zero ≡ Accept
+    pub reduces : (s p c : ℕ) → action a s c ≡ Reduce p → Ended s p
+    pub accepts : (s c : ℕ) → action a s c ≡ Accept → Among (w.kernel s) (start, suc zero) × (c ≡ zero)
     pub no_start : (p : ℕ) (r : Rule) → g.rule p ≡ Some r → r.left ≡ sentence → p ≡ start
     pub itself : (p d n : ℕ) (ss : List Symbol) → rest g p d ≡ phrase n ∷ ss → Among (w.corners n) n
     pub deeper : (n m p k : ℕ) (r : Rule) (ss : List Symbol) → Among (w.corners n) m → g.rule p ≡ Some r → r.left ≡ m → r.right ≡ phrase k ∷ ss → Among (w.corners n) k

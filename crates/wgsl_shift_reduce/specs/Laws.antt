@@ -1,7 +1,8 @@
 -- What the answer of a parser says, whose tables fit a grammar.
 use Rattle.std.specs.Prelude.{◌≡◌, ℕ, List, [], ◌∷◌, ◌++◌}
 use Rattle.wgsl_shift_reduce.specs.Grammars.{Symbol, phrase, Grammar, Derives}
-use Rattle.wgsl_shift_reduce.specs.Machine.{Tables, Entry, ahead, Outcome, read, stops, no_memory, Comes}
+use Rattle.wgsl_shift_reduce.specs.declared.machine.Entry.{Entry}
+use Rattle.wgsl_shift_reduce.specs.Machine.{Tables, ahead, Outcome, read, stops, no_memory, Comes}
 use Rattle.wgsl_shift_reduce.specs.Fit.{Account, IsFit}
 
 module _ {T V : Type 0} (g : Grammar T V) (goal : ℕ) where

@@ -2,3 +2,4 @@ pub mod Grammars
 pub mod Machine
 pub mod Fit
 pub mod Laws
+pub mod Runs

@@ -3,3 +3,6 @@
 #![tactic(auto)]
 
 pub mod laws;
+mod machine;
+
+pub use machine::{Action, Driver, Entry, Progress, Shape, Stopped, run};

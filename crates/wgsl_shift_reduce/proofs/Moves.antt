@@ -1,0 +1,35 @@
+-- Steps of the code, as steps of a run.
+use Rattle.std.proofs.Common.{◌≡◌, ◌∙◌, sym, ap, subst, ℕ, suc, ◌-◌, ◌<◌, ◌+◌, List, ◌∷◌, arith}
+use Rattle.wgsl_shift_reduce.specs.declared.machine.Action.{Action}
+use Rattle.wgsl_shift_reduce.specs.declared.machine.Action.TheVariants.{Shift, Reduce, Accept}
+use Rattle.wgsl_shift_reduce.specs.declared.machine.Entry.{Entry}
+use Rattle.wgsl_shift_reduce.specs.Grammars.{Grammar}
+use Rattle.wgsl_shift_reduce.specs.Machine.{Tables, action, top, popped, ahead, Outcome, read, Comes, shifted, reduced, accepted}
+use Rattle.wgsl_shift_reduce.specs.Runs.{IsShift, IsReduction}
+
+popped_one : {V : Type 0} (n m : ℕ) (es : List (Entry V)) (xs : List V) (e : Entry V) → n ≡ suc m → popped m es (e.value ∷ xs) ≡ popped n (e ∷ es) xs
+popped_one n m es xs e is = ap (λ k. popped k (e ∷ es) xs) (sym is)
+
+pub popped_next : {V : Type 0} (n i : ℕ) (old new : List (Entry V)) (xs ys : List V) (e : Entry V) → i < n → old ≡ e ∷ new → ys ≡ e.value ∷ xs
+    → popped (n - (i + 1)) new ys ≡ popped (n - i) old xs
+popped_next n i old new xs ys e within is are =
+    ap (λ l. popped (n - (i + 1)) new l) are ∙ popped_one (n - i) (n - (i + 1)) new xs e (omega (arith, within)) ∙ ap (λ l. popped (n - i) l xs) (sym is)
+
+pub acts : (a : Tables) (s t m n : ℕ) {x y : Action} → x ≡ action a s m → s ≡ t → m ≡ n → x ≡ y → action a t n ≡ y
+acts a s t m n e same ahead_same is = sym (ap (λ k. action a k m) same ∙ ap (λ k. action a t k) ahead_same) ∙ sym e ∙ is
+
+module _ {T V : Type 0} (g : Grammar T V) (a : Tables) (from : ℕ) where
+  pub shift_advances : (to : ℕ) (es fs : List (Entry V)) (u v : List T) → action a (top from es) (ahead g u) ≡ Shift to → IsShift g to es fs u v
+      → (r : Outcome V) (left : List T) → Comes g a from fs v r left → Comes g a from es u r left
+  shift_advances to es fs u v act i r left c =
+      subst (λ l. Comes g a from es l r left) (sym i.taken)
+      (shifted i.token to (ap (λ l. action a (top from es) (ahead g l)) (sym i.taken) ∙ act) (subst (λ l. Comes g a from l v r left) i.put c))
+
+  pub reduce_advances : (p : ℕ) (es fs : List (Entry V)) (u : List T) → action a (top from es) (ahead g u) ≡ Reduce p → IsReduction g a from p es fs
+      → (r : Outcome V) (left : List T) → Comes g a from fs u r left → Comes g a from es u r left
+  reduce_advances p es fs u act i r left c = reduced p i.to i.rule i.below i.values act i.is i.parts i.step (subst (λ l. Comes g a from l u r left) i.put c)
+
+  pub accept_reads : (es below : List (Entry V)) (e : Entry V) (u : List T) → es ≡ e ∷ below → action a (top from es) (ahead g u) ≡ Accept → Comes g a from es u (read e.value) u
+  accept_reads es below e u is act =
+      subst (λ l. Comes g a from l u (read e.value) u) (sym is)
+      (accepted e.state e.value (ap (λ l. action a (top from l) (ahead g u)) (sym is) ∙ act))

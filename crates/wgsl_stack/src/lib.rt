@@ -1,0 +1,77 @@
+//! A stack that contracts see as the list of its values, the uppermost first.
+#![tactic(auto)]
+
+ghost use Rattle.std.specs.Prelude.{◌≡◌, [], ◌∷◌, length, MatchOption, OnOk, OnErr};
+ghost use Rattle.std.specs.Option.{option_copied};
+ghost use Rattle.wgsl_stack.specs.Tops.{first};
+
+use std::alloc::{AllocError, Global};
+use std::marker::Model;
+
+/// A stack of values on the heap.
+#[derive(Debug, Drop)]
+pub struct Stack<T> {
+    items: Vec<T>,
+}
+
+impl<T> Model for Stack<T> {
+    ghost use Rattle.std.specs.Prelude.{List, reverse};
+    ghost use Rattle.std.specs.Coded.{coded_list};
+
+    ghost Value = { List T };
+
+    ghost coded = { coded_list T.code };
+
+    ghost view = { λ it. reverse it.items.items };
+}
+
+impl<T> Stack<T> {
+    /// No values. It needs no memory.
+    pub fn new(alloc: Global) -> Stack<T>
+        ensures { result ≡ [] }
+    {
+        Stack {
+            items: Vec::new(alloc),
+        }
+    }
+
+    /// The values of a `Vec`, its first uppermost. It needs no memory.
+    pub fn from_vec(items: Vec<T>) -> Stack<T>
+        ensures { result ≡ items.items }
+    {
+        let mut items = items;
+        items.reverse();
+        Stack { items }
+    }
+
+    pub fn len(&self) -> usize
+        ensures { result ≡ length self.now }
+    {
+        self.items.len()
+    }
+
+    /// The uppermost value.
+    pub fn top(&self) -> Option<&T>
+        ensures { option_copied result ≡ first self.now }
+    {
+        self.items.last()
+    }
+
+    /// The uppermost value, taken off.
+    pub fn pop(&mut self) -> Option<T>
+        ensures { MatchOption result ((self.old ≡ []) × (self.new ≡ [])) (λ x. self.old ≡ x ∷ self.new) }
+    {
+        self.items.pop()
+    }
+}
+
+impl<T: Drop> Stack<T> {
+    /// Puts a value on top. Where memory is refused the stack is unchanged and the value dropped.
+    pub fn push(&mut self, item: T) -> Result<(), AllocError>
+        ensures ok { OnOk result (self.new ≡ item ∷ self.old) }
+        ensures err { OnErr result (self.new ≡ self.old) }
+    {
+        self.items.push(item)?;
+        Ok(())
+    }
+}
