@@ -85,12 +85,10 @@ module _ {T V : Type 0} (g : Grammar T V) (a : Tables) (w : Account) (from start
         made = i.made;
       }
 
-  -- only the bottom of the stack is in the first state
-  at_bottom : {es : List (Entry V)} {u : List T} → Built es u → top from es ≡ from → (es ≡ []) × (u ≡ [])
-  at_bottom bottom e = (refl, refl)
-  at_bottom (pushed t s x {es = es} b step h) e =
-      let am : Among (w.kernel t) (start, zero) = subst (λ m. Among (w.kernel m) (start, zero)) (sym e) (subst (λ l. Among l (start, zero)) (sym f.begins) here) in
-      let c = (f.came (top from es) t start zero s step am).one_more in absurd cc
+  -- only at the bottom of the stack nothing of a rule is read
+  at_bottom : {es : List (Entry V)} {u : List T} (p : ℕ) → Built es u → Among (w.kernel (top from es)) (p, zero) → (es ≡ []) × (u ≡ [])
+  at_bottom p bottom am = (refl, refl)
+  at_bottom p (pushed t s x {es = es} b step h) am = let c = (f.came (top from es) t p zero s step am).one_more in absurd cc
 
   start_rule : (r : Rule) → g.rule start ≡ Some r → r ≡ record { left = sentence; right = phrase goal ∷ [] }
   start_rule r is = some_is (sym is ∙ f.starts)
@@ -129,9 +127,8 @@ module _ {T V : Type 0} (g : Grammar T V) (a : Tables) (w : Account) (from start
 
   further : (n : ℕ) → Completes n → (es : List (Entry V)) (u : List T) → length es ≤ n → Built es u → (p : ℕ) (v : List T) (xs : List V) → Holds g a w (top from es) p zero → Row g (rest g p zero) v xs → Viable (u ++ v)
   further n goes_on es u short b p v xs (in_kernel am) row =
-      let first = f.fresh (top from es) p am in
-      let bare = at_bottom b first in
-      subst (λ l. Viable (l ++ v)) (sym bare.1) (viable_first p zero v xs (subst (λ m. Among (w.kernel m) (p, zero)) first am) row)
+      let bare = at_bottom p b am in
+      subst (λ l. Viable (l ++ v)) (sym bare.1) (viable_first p zero v xs (subst (λ l. Among (w.kernel (top from l)) (p, zero)) bare.0 am) row)
   further n goes_on es u short b p v xs (opened q d m k _ ss r am e corner is left) row =
       let made : Derives g (phrase k) v (g.make p xs) = subst (λ j. Derives g (phrase j) v (g.make p xs)) left (derived p r is row) in
       let grown = f.reaches m k v (g.make p xs) corner made in
@@ -185,12 +182,12 @@ module _ {T V : Type 0} (g : Grammar T V) (a : Tables) (w : Account) (from start
   sentence_is : {t : ℕ} {x : V} {es : List (Entry V)} {u : List T} → Built (record { state = t; value = x } ∷ es) u → Among (w.kernel t) (start, suc zero) → Derives g (phrase goal) u x
   sentence_is (pushed t s x {es = es} {u = u} {v = v} b step h) am =
       let c = came_by (top from es) t start zero s step (in_kernel am) in
-      let bare = at_bottom b (first_of (top from es) c.1) in
+      let bare = at_bottom start b (first_of (top from es) c.1) in
       let symbol : s ≡ phrase goal = cons_head (sym c.0 ∙ start_right) in
       subst (λ l. Derives g (phrase goal) (l ++ v) x) (sym bare.1) (subst (λ y. Derives g y v x) symbol h)
     where
-      first_of : (s : ℕ) → Holds g a w s start zero → s ≡ from
-      first_of s (in_kernel am) = f.fresh s start am
+      first_of : (s : ℕ) → Holds g a w s start zero → Among (w.kernel s) (start, zero)
+      first_of s (in_kernel am) = am
       first_of s (opened q d n m _ ss r am e corner is left) =
           absurd (f.no_sentence n (subst (λ j. Among (w.corners n) j) (sym left ∙ ap (λ (z : Rule). z.left) (start_rule r is)) corner))
 

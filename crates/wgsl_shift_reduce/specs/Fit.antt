@@ -65,7 +65,6 @@ module _ {T V : Type 0} (g : Grammar T V) (a : Tables) (w : Account) where
     pub begins : w.kernel from ≡ (start, zero) ∷ []
     pub starts : g.rule start ≡ Some (record { left = sentence; right = phrase goal ∷ [] })
     pub at_the_end : w.follow sentence zero ≡ true
-    pub fresh : (s p : ℕ) → Among (w.kernel s) (p, zero) → s ≡ from
     pub steps : (s p d : ℕ) (x : Symbol) (ss : List Symbol) → Holds s p d → rest g p d ≡ x ∷ ss → Steps s p d x
     pub came : (s t p d : ℕ) (x : Symbol) → a.step s x ≡ Some t → Among (w.kernel t) (p, d) → Came s p d x
     pub known : (s p d : ℕ) → Among (w.kernel s) (p, d) → (r : Rule) × (g.rule p ≡ Some r)

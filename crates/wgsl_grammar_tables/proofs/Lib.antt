@@ -1,0 +1,4 @@
+pub mod Passing
+pub mod Fits
+pub mod Read
+pub mod Examples

@@ -1,0 +1,4 @@
+pub mod Rows
+pub mod Decoded
+pub mod Starts
+pub mod Classes

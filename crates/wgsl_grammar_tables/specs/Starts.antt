@@ -1,0 +1,8 @@
+-- The starts of the tables: a module (0), an expression, a statement, a declaration, a directive and an import (5).
+use Rattle.std.specs.Prelude.{ℕ}
+use Rattle.wgsl_tables.specs.Listed.{Start}
+use Rattle.wgsl_grammar_tables.specs.declared.table.TheConstants.{LAST, START_RULE, GOAL, SENTENCE}
+use Rattle.wgsl_grammar_tables.specs.Decoded.{nth}
+
+unfoldable pub start : ℕ → Start
+start i = record { from = i; last = nth LAST i; rule = nth START_RULE i; sentence = nth SENTENCE i; goal = nth GOAL i }

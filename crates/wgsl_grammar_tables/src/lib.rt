@@ -1,0 +1,70 @@
+//! The tables of the parser of WGSL and of the grammar of imports, and how they are read.
+#![tactic(auto)]
+
+ghost use Rattle.std.specs.Prelude.{◌≡◌, length};
+ghost use Rattle.wgsl_grammar_tables.specs.Decoded.{listed};
+ghost use Rattle.wgsl_tables.specs.Listed.{beside, first_before, reduction_at, steps_at};
+
+pub mod class;
+mod rows;
+pub mod table;
+
+use crate::rows::{contains, row, target, wide_row};
+use crate::table::{
+    FINALS, FINALS_STARTS, FOLLOW, FOLLOW_STARTS, LEFT, RIGHT, RIGHT_STARTS, RULE_COUNT, STEPS,
+    STEPS_STARTS,
+};
+
+/// The state that a symbol of this code leads to from a state.
+#[tactic(auto, using(crate::proofs::Read::steps_starts, crate::proofs::Read::steps_row))]
+pub fn step(state: u16, symbol: u16) -> Option<u16>
+    ensures { result ≡ beside symbol (steps_at listed state) }
+{
+    target(wide_row(&STEPS_STARTS, &STEPS, state), symbol)
+}
+
+/// The rule that a state reduces by before what is ahead: 0 for the end, or a token's class and one.
+#[tactic(auto, using(crate::proofs::Read::finals_starts, crate::proofs::Read::finals_row))]
+pub fn reduction(state: u16, ahead: u16) -> Option<u16>
+    ensures { result ≡ reduction_at listed state ahead }
+{
+    let rules = row(&FINALS_STARTS, &FINALS, state);
+    if rules.len() == 1 {
+        Some(rules[0])
+    } else {
+        first_before(rules, ahead)
+    }
+}
+
+/// The first rule of a nonterminal that this may stand behind.
+#[tactic(auto, using(crate::proofs::Read::follow_starts, crate::proofs::Read::follow_row))]
+fn first_before(rules: &[u16], ahead: u16) -> Option<u16>
+    ensures { result ≡ first_before listed ahead rules.now }
+{
+    for rule in rules {
+        if contains(row(&FOLLOW_STARTS, &FOLLOW, rule_left(*rule)), ahead) {
+            return Some(*rule);
+        }
+    }
+    None
+}
+
+/// The nonterminal of a rule.
+#[tactic(auto, using(crate::proofs::Read::left_is, crate::proofs::Read::left_beyond))]
+pub fn rule_left(rule: u16) -> u16
+    ensures { result ≡ (listed.rule rule).left }
+{
+    if rule < RULE_COUNT {
+        LEFT[usize::from(rule)]
+    } else {
+        0
+    }
+}
+
+/// How many symbols a rule has.
+#[tactic(auto, using(crate::proofs::Read::right_starts, crate::proofs::Read::right_length))]
+pub fn rule_length(rule: u16) -> usize
+    ensures { result ≡ length (listed.rule rule).right }
+{
+    row(&RIGHT_STARTS, &RIGHT, rule).len()
+}

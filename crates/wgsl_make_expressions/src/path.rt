@@ -1,0 +1,52 @@
+//! Paths that go on.
+
+ghost use Rattle.std.specs.Prelude.{◌≡◌, ◌∷◌, [], IfOk};
+ghost use Rattle.wgsl_path.specs.Joining.{with_names};
+ghost use Rattle.wgsl_make_expressions.specs.Making.{path_within, template_of};
+
+use std::alloc::{AllocError, Global};
+use wgsl_expressions::{ExpressionNode, TemplateArg};
+use wgsl_items::{Items, Text};
+use wgsl_parts::QualifiedName;
+use wgsl_path::{Ident, ModulePath, PathOrigin};
+
+/// A path, and a name behind it.
+pub fn longer(path: ModulePath, name: Text) -> Result<ModulePath, AllocError>
+    ensures { IfOk result (λ longer. longer ≡ with_names path (name ∷ [])) }
+{
+    let ModulePath {
+        origin,
+        mut components,
+    } = path;
+    components.push(name)?;
+    Ok(ModulePath { origin, components })
+}
+
+/// The path of what stands within the module of this name.
+pub(crate) fn within(alloc: Global, name: QualifiedName) -> Result<ModulePath, AllocError>
+    ensures { IfOk result (λ path. path ≡ path_within name.path name.ident.name) }
+{
+    let QualifiedName { path, ident } = name;
+    let Ident { name } = ident;
+    match path {
+        None => Ok(ModulePath {
+            origin: PathOrigin::Package(name),
+            components: Items::new(alloc),
+        }),
+        Some(path) => longer(path.into_inner(), name),
+    }
+}
+
+/// Expressions as template arguments.
+pub(crate) fn template(
+    alloc: Global,
+    expressions: Items<ExpressionNode>,
+) -> Result<Items<TemplateArg>, AllocError>
+    ensures { IfOk result (λ arguments. arguments ≡ template_of expressions) }
+{
+    let mut arguments = Items::new(alloc);
+    for expression in expressions.into_vec() {
+        arguments.push(TemplateArg { expression })?;
+    }
+    Ok(arguments)
+}

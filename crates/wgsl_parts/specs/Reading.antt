@@ -1,0 +1,15 @@
+-- What parts say that may be absent.
+use Rattle.std.specs.Prelude.{List, []}
+use Rattle.wgsl_path.specs.declared.span.Spanned.{Spanned}
+use Rattle.wgsl_expressions.specs.declared.expression.Expression.{Expression}
+use Rattle.wgsl_attributes.specs.declared.attribute.Attribute.{Attribute}
+use Rattle.wgsl_parts.specs.declared.part.Part.{Part}
+use Rattle.wgsl_parts.specs.declared.part.Part.TheVariants as part
+
+abbrev pub expressions_of : Part → List (Spanned Expression)
+expressions_of (part.Expressions xs) = xs
+expressions_of _ = []
+
+abbrev pub attributes_of : Part → List (Spanned Attribute)
+attributes_of (part.Attributes xs) = xs
+attributes_of _ = []

@@ -1,0 +1,97 @@
+//! What a symbol of the grammar stands for.
+
+use wgsl_attributes::{AttributeNode, Attributes};
+use wgsl_declarations::{
+    FormalParameter, GlobalDeclarationNode, StructMemberNode, TranslationUnit,
+};
+use wgsl_expressions::{ExpressionNode, FunctionCall, LiteralExpression, TypeExpression};
+use wgsl_imports::{GlobalDirective, Import, ImportContent, ImportStatement};
+use wgsl_items::{Boxed, Items, Text};
+use wgsl_path::{Ident, ModulePath};
+use wgsl_simple_statements::{
+    BreakIfStatement, CaseSelector, ConstAssert, Declaration, DeclarationKind,
+};
+use wgsl_statements::{
+    CompoundStatement, ContinuingStatement, ElseIfClause, Statement, StatementNode, SwitchClause,
+};
+
+/// A name, maybe behind the path of a module.
+#[derive(Drop)]
+pub struct QualifiedName {
+    pub path: Option<Boxed<ModulePath>>,
+    pub ident: Ident,
+}
+
+/// A declared name, maybe with its type.
+#[derive(Drop)]
+pub struct TypedName {
+    pub ident: Ident,
+    pub ty: Option<TypeExpression>,
+}
+
+/// The result of a function: its attributes and its type.
+#[derive(Drop)]
+pub struct FunctionResult {
+    pub attributes: Attributes,
+    pub ty: TypeExpression,
+}
+
+/// What a symbol of the grammar stands for.
+#[derive(Drop)]
+pub enum Part {
+    /// What may be left out, and is.
+    Absent,
+    /// A token that says nothing but that it is there.
+    Mark,
+    Ident(Ident),
+    Reserved(Text),
+    Literal(LiteralExpression),
+    /// So many `super`.
+    Ups(usize),
+    Path(QualifiedName),
+    Type(TypeExpression),
+    Call(FunctionCall),
+    Expression(ExpressionNode),
+    Expressions(Items<ExpressionNode>),
+    /// The name of an attribute.
+    Word(Text),
+    /// The arguments of an attribute, which has parentheses.
+    Arguments(Items<ExpressionNode>),
+    Attribute(AttributeNode),
+    Attributes(Attributes),
+    Kind(DeclarationKind),
+    Typed(TypedName),
+    Declaration(Boxed<Declaration>),
+    Assertion(ConstAssert),
+    /// A statement before its place is known.
+    Plain(Boxed<Statement>),
+    Statement(StatementNode),
+    Statements(Items<StatementNode>),
+    Block(CompoundStatement),
+    ElseIf(ElseIfClause),
+    ElseIfs(Items<ElseIfClause>),
+    Clause(SwitchClause),
+    Clauses(Items<SwitchClause>),
+    Selector(CaseSelector),
+    Selectors(Items<CaseSelector>),
+    Continuing(Boxed<ContinuingStatement>),
+    BreakIf(BreakIfStatement),
+    ModulePath(ModulePath),
+    Text(Text),
+    Texts(Items<Text>),
+    Content(ImportContent),
+    Tree(Boxed<Import>),
+    Trees(Items<Import>),
+    Import(Boxed<ImportStatement>),
+    Imports(Items<ImportStatement>),
+    Directive(Boxed<GlobalDirective>),
+    Directives(Items<GlobalDirective>),
+    Global(GlobalDeclarationNode),
+    Globals(Items<GlobalDeclarationNode>),
+    Member(StructMemberNode),
+    Members(Items<StructMemberNode>),
+    Parameter(Boxed<FormalParameter>),
+    Parameters(Items<FormalParameter>),
+    Result(Boxed<FunctionResult>),
+    Module(Boxed<TranslationUnit>),
+}
