@@ -14,6 +14,7 @@ import re
 REPOSITORY = pathlib.Path(__file__).resolve().parent.parent
 TOKENS = REPOSITORY / "crates/wgsl_token/src/token.rt"
 TABLE = REPOSITORY / "crates/wgsl_grammar_tables/src/table.rt"
+LABELS = REPOSITORY / "crates/wgsl_phrases/src/table.rt"
 
 # Classes of tokens beside the fixed ones, in their order behind these.
 CLASSES = ["id", "literal", "reserved", "<t", ">t", "invalid"]
@@ -51,9 +52,9 @@ def names():
 
 def operands():
     row("call", "Call", "Callee '(' Expression,* ')'")
-    row("a_literal", "Primary", "literal")
-    row("a_true", "Primary", "'true'")
-    row("a_false", "Primary", "'false'")
+    row("literal", "Primary", "literal")
+    row("true", "Primary", "'true'")
+    row("false", "Primary", "'false'")
     row("named", "Primary", "Type")
     row("called", "Primary", "Call")
     row("parenthesized", "Primary", "'(' Expression ')'")
@@ -205,7 +206,8 @@ def imports():
 def directives():
     row("rule", "Rule", "id")
     row("rule_of", "Rule", "id '.' id")
-    row("diagnostic", "Directive", "'diagnostic' '(' id ',' Rule ',?' ')' ';'")
+    row("diagnostic", "Control", "'diagnostic' '(' id ',' Rule ',?' ')'")
+    row("pass", "Directive", "Control ';'")
     row("extension", "Extension", "id")
     row("enable", "Directive", "'enable' Extension,+ ';'")
     row("requires", "Directive", "'requires' Extension,+ ';'")
@@ -251,7 +253,8 @@ def kind_of(symbol, phrases):
 
 
 class Rules:
-    """Rules, each a left side, its right side, a label, and its parts: of each the place in the right side and one, or 0 where absent."""
+    """Rules, each a left side, its right side, a label, and the pattern of its parts: 0 for a part that is absent, 1 for a symbol that is none,
+    2 for a symbol that is one."""
 
     def __init__(self):
         self.phrases = {left for _, left, _ in ROWS}
@@ -264,15 +267,15 @@ class Rules:
         self.add_repetitions()
         self.rules = [rule for rule in self.rules if rule[1]]
         for start in STARTS:
-            self.rules.append((sentence(start), (start,), "pass", (1,)))
+            self.rules.append((sentence(start), (start,), "pass", (2,)))
 
     def add(self, label, left, choice):
-        right, parts = [], []
+        right, pattern = [], []
         for symbols, has_part in choice:
             right += symbols
-            if has_part:
-                parts.append(len(right) if symbols else 0)
-        self.rules.append((left, tuple(right), label, tuple(parts)))
+            if symbols or has_part:
+                pattern.append(0 if not symbols else 2 if has_part or label in ("true", "false") else 1)
+        self.rules.append((left, tuple(right), label, tuple(pattern)))
 
     def choices(self, symbol):
         kind, name = kind_of(symbol, self.phrases)
@@ -289,13 +292,13 @@ class Rules:
 
     def add_repetitions(self):
         for name in self.repeated:
-            self.rules.append((name + "+", (name,), "first", (1,)))
-            self.rules.append((name + "+", (name + "+", name), "more", (1, 2)))
+            self.rules.append((name + "+", (name,), "first", (2,)))
+            self.rules.append((name + "+", (name + "+", name), "more", (2, 2)))
         for name in self.listed:
-            self.rules.append((name + ",+", (name + ",,",), "pass", (1,)))
-            self.rules.append((name + ",+", (name + ",,", ","), "pass", (1,)))
-            self.rules.append((name + ",,", (name,), "first", (1,)))
-            self.rules.append((name + ",,", (name + ",,", ",", name), "more", (1, 3)))
+            self.rules.append((name + ",+", (name + ",,",), "pass", (2,)))
+            self.rules.append((name + ",+", (name + ",,", ","), "pass", (2, 1)))
+            self.rules.append((name + ",,", (name,), "first", (2,)))
+            self.rules.append((name + ",,", (name + ",,", ",", name), "more", (2, 1, 2)))
 
 
 def sentence(start):
@@ -414,13 +417,43 @@ def fixed_tokens():
     return re.findall(r"/// `(.*)`\n\s*(\w+),", body)
 
 
+OPERATORS = {"unary": "UnaryOperator", "binary": "BinaryOperator", "assignment": "AssignmentOperator"}
+
+
+GROUPS = {
+    "Name": "name_alone name_above name_in_package name_within one_up further_up simple templated call",
+    "Expression": "a_literal named called parenthesized component indexed unary binary place_name underscore",
+    "Attribute": "word reserved_word keyword arguments attribute var_kind var_in",
+    "Value": "typed typed_as var var_set const let override override_set assertion",
+    "Plain": "called_statement assignment increment decrement break continue return discard local asserted",
+    "Statement": "header void_statement plain_statement compound if switch loop for while",
+    "Clause": "block else_if default_selector selector case default continuing break_if",
+    "Import": "from_package from_own from_above from_within first_step next_step item renamed collection tree import",
+    "Directive": "rule rule_of diagnostic extension enable requires",
+    "Declaration": "void_declaration global global_const alias global_assertion struct member function parameter result module",
+}
+
+
+def label_of(label):
+    kind, _, name = label.partition(" ")
+    kind = {"literal": "a_literal", "true": "a_literal", "false": "a_literal"}.get(kind, kind)
+    variant = "".join(word.capitalize() for word in kind.split("_"))
+    if kind in ("pass", "first", "more"):
+        return "Label::" + variant
+    (group,) = (group for group, kinds in GROUPS.items() if kind in kinds.split())
+    if kind == "keyword":
+        variant += "(Fixed::" + dict(fixed_tokens())[name] + ")"
+    if kind in OPERATORS:
+        variant += f"({OPERATORS[kind]}::{name})"
+    return f"Label::{group}({group}Label::{variant})"
+
+
 class Arrays:
     def __init__(self, automaton):
         self.automaton = automaton
         spelled = [spelling for spelling, _ in fixed_tokens()]
         self.classes = {name: c for c, name in enumerate(spelled + CLASSES)}
         self.numbers = {name: n for n, name in enumerate(automaton.phrases)}
-        self.labels = list(dict.fromkeys(label for _, _, label, _ in automaton.rules))
         self.texts = []
 
     def code(self, symbol):
@@ -464,8 +497,6 @@ class Arrays:
         rules = self.automaton.rules
         self.array("The left side of each rule.", "LEFT", "u16", [self.numbers[left] for left, _, _, _ in rules])
         self.rows("For each rule the codes of the symbols of its right side.", "RIGHT", "u16", [[self.code(symbol) for symbol in right] for _, right, _, _ in rules])
-        self.array("What each rule makes.", "LABEL", "u16", [self.labels.index(label) for _, _, label, _ in rules])
-        self.rows("For each rule the places of its parts in the right side, each and one, or 0 where a part is absent.", "PARTS", "u16", [parts for _, _, _, parts in rules])
 
     def write_starts(self):
         a = self.automaton
@@ -488,7 +519,18 @@ class Arrays:
         self.write_phrases()
         self.write_rules()
         self.write_starts()
-        return "//! The tables of the parser. The tool `tools/parser_tables.py` writes this file.\n\n" + "\n".join(self.texts)
+        head = "//! The tables of the parser. The tool `tools/parser_tables.py` writes this file.\n\n"
+        return head + "\n".join(self.texts)
+
+    def labels_text(self):
+        self.texts = []
+        rules = self.automaton.rules
+        self.array("What each rule makes.", "LABELS", "Label", [label_of(label) for _, _, label, _ in rules])
+        self.rows("For each rule the pattern of its parts: 0 for one that is absent, 1 for a symbol that is none, 2 for a symbol that is one.", "PATTERNS", "u16", [pattern for _, _, _, pattern in rules])
+        head = "//! What the rules of the parser make. The tool `tools/parser_tables.py` writes this file.\n\n"
+        head += "use wgsl_enumerations::AssignmentOperator;\nuse wgsl_operators::{BinaryOperator, UnaryOperator};\n"
+        head += "use wgsl_parts::{\n    " + ", ".join(sorted([group + "Label" for group in GROUPS] + ["Label"])) + ",\n};\nuse wgsl_token::Fixed;\n\n"
+        return head + "\n".join(self.texts)
 
 
 def main():
@@ -497,8 +539,9 @@ def main():
     arrays = Arrays(automaton)
     TABLE.parent.mkdir(parents=True, exist_ok=True)
     TABLE.write_text(arrays.text())
+    LABELS.parent.mkdir(parents=True, exist_ok=True)
+    LABELS.write_text(arrays.labels_text())
     print(len(automaton.rules), "rules", len(automaton.phrases), "nonterminals", len(arrays.classes), "classes", len(automaton.kernels), "states", sum(map(len, automaton.steps)), "steps")
-    print("labels:", ", ".join(arrays.labels))
 
 
 if __name__ == "__main__":

@@ -1,15 +1,16 @@
 -- The rows as they are read are the rows that are listed.
-use Rattle.std.proofs.Common.{◌≡◌, ◌∙◌, refl, sym, ap, ℕ, ◌+◌, ◌-◌, ◌<◌, ◌≤◌, Bool, true, false, nat_lt, ◌==◌, ◌&&◌, if◌then◌else◌, List, [], ◌∷◌, map, length, inl, inr, arith, slice_index, slice_range, cond, drop, get_or, drop-cons, add-one, Some}
+use Rattle.std.proofs.Common.{◌≡◌, ◌∙◌, refl, sym, ap, ℕ, zero, suc, ◌+◌, ◌-◌, ◌<◌, ◌≤◌, Bool, true, false, nat_lt, ◌==◌, ◌&&◌, if◌then◌else◌, List, [], ◌∷◌, map, length, inl, inr, arith, slice_index, slice_range, cond, drop, get_or, drop-cons, add-one, Some}
 use Rattle.std.specs.Prelude.{nat_le}
 use Rattle.std.proofs.lemmas.Bool.{eqb-true, leb-true, and_parts, lt-ltb, le-ltb, cases_lt}
 use Rattle.std.proofs.lemmas.List.{length-map}
-use Rattle.wgsl_shift_reduce.specs.Grammars.{Symbol}
-use Rattle.wgsl_tables.specs.Listed.{code, member, steps_at, finals_at, first_before, reduction_by}
+use Rattle.wgsl_shift_reduce.specs.Grammars.{Symbol, Rule}
+use Rattle.wgsl_tables.specs.Listed.{code, member, rule_at, steps_at, finals_at, first_before, reduction_by}
 use Rattle.wgsl_tables.specs.Tests.{all_below}
-use Rattle.wgsl_tables.proofs.Facts.{each_below, pair_is, code_is}
-use Rattle.wgsl_grammar_tables.specs.declared.table.TheConstants.{RULE_COUNT, STATE_COUNT, NONTERMINAL_COUNT, STEPS, STEPS_STARTS, FINALS, FINALS_STARTS, FOLLOW, FOLLOW_STARTS, LEFT, RIGHT, RIGHT_STARTS}
+use Rattle.wgsl_tables.proofs.Facts.{given, each_below, pair_is, code_is}
+use Rattle.wgsl_grammar_tables.specs.declared.table.TheConstants.{LAST, RULE_COUNT, STATE_COUNT, NONTERMINAL_COUNT, STEPS, STEPS_STARTS, FINALS, FINALS_STARTS, FOLLOW, FOLLOW_STARTS, LEFT, RIGHT, RIGHT_STARTS}
 use Rattle.wgsl_grammar_tables.specs.Rows.{AreStarts, row_between}
-use Rattle.wgsl_grammar_tables.specs.Decoded.{listed, step_of, symbol_of, groups, number_at}
+use Rattle.wgsl_grammar_tables.specs.Starts.{start}
+use Rattle.wgsl_grammar_tables.specs.Decoded.{nth, listed, step_of, symbol_of, groups, number_at}
 
 -- ---- lists that are the same
 
@@ -63,7 +64,7 @@ more_beyond i n le = omega arith
 abbrev start_fits : List ℕ → ℕ → ℕ → Bool
 start_fits starts n i = nat_le (slice_index starts i) (slice_index starts (i + 1)) && nat_le (slice_index starts (i + 1)) n
 
-are_starts : (starts : List ℕ) (n : ℕ) → all_below (length starts - 1) (start_fits starts n) ≡ true → AreStarts starts n
+pub are_starts : (starts : List ℕ) (n : ℕ) → all_below (length starts - 1) (start_fits starts n) ≡ true → AreStarts starts n
 are_starts starts n e =
     let at : (i : ℕ) → i + 1 < length starts → start_fits starts n i ≡ true = λ i lt. each_below (length starts - 1) (start_fits starts n) i e (lt-ltb i (length starts - 1) (omega arith)) in
     let parts = λ (i : ℕ) (lt : i + 1 < length starts). and_parts (nat_le (slice_index starts i) (slice_index starts (i + 1))) (nat_le (slice_index starts (i + 1)) n) (at i lt) in
@@ -166,3 +167,22 @@ pub by_first : (c : ℕ) (ps : List ℕ) → (length ps ≡ 1 → ⊥) → first
 by_first c [] other = refl
 by_first c (p ∷ []) other = absurd (other refl)
 by_first c (p ∷ q ∷ ps) other = refl
+
+-- ---- rules and starts
+
+nth_is : (xs : List ℕ) (i : ℕ) → slice_index xs i ≡ nth xs i
+nth_is [] zero = refl
+nth_is [] (suc i) = refl
+nth_is (x ∷ xs) zero = refl
+nth_is (x ∷ xs) (suc i) = nth_is xs i
+
+pub rule_known : (p : ℕ) (r : Rule) → rule_at listed p ≡ Some r → listed.rule p ≡ r
+rule_known p r e = (given (nat_lt p listed.rule_count) (listed.rule p) r e).1
+
+pub from_is : (i : ℕ) → (start i).from ≡ i
+unfolding start
+from_is i = refl
+
+pub last_is : (i : ℕ) → slice_index LAST i ≡ (start i).last
+unfolding start
+last_is i = nth_is LAST i

@@ -1,18 +1,20 @@
 //! The tables of the parser of WGSL and of the grammar of imports, and how they are read.
 #![tactic(auto)]
 
-ghost use Rattle.std.specs.Prelude.{◌≡◌, length};
+ghost use Rattle.std.specs.Prelude.{◌≡◌, ◌<◌, length};
 ghost use Rattle.wgsl_grammar_tables.specs.Decoded.{listed};
+ghost use Rattle.wgsl_grammar_tables.specs.Starts.{start};
 ghost use Rattle.wgsl_tables.specs.Listed.{beside, first_before, reduction_at, steps_at};
 
 pub mod class;
 mod rows;
 pub mod table;
 
-use crate::rows::{contains, row, target, wide_row};
+pub use crate::rows::row;
+use crate::rows::{contains, target, wide_row};
 use crate::table::{
-    FINALS, FINALS_STARTS, FOLLOW, FOLLOW_STARTS, LEFT, RIGHT, RIGHT_STARTS, RULE_COUNT, STEPS,
-    STEPS_STARTS,
+    FINALS, FINALS_STARTS, FOLLOW, FOLLOW_STARTS, LAST, LEFT, RIGHT, RIGHT_STARTS, RULE_COUNT,
+    STEPS, STEPS_STARTS,
 };
 
 /// The state that a symbol of this code leads to from a state.
@@ -67,4 +69,13 @@ pub fn rule_length(rule: u16) -> usize
     ensures { result ≡ length (listed.rule rule).right }
 {
     row(&RIGHT_STARTS, &RIGHT, rule).len()
+}
+
+/// The state that a start ends in; it begins in the state of its own number.
+#[tactic(auto, using(crate::proofs::Read::last_is))]
+pub fn last_state(begin: u16) -> u16
+    requires { begin < 6 }
+    ensures { result ≡ (start begin).last }
+{
+    LAST[usize::from(begin)]
 }

@@ -1,10 +1,11 @@
 -- Steps of the code, as steps of a run.
-use Rattle.std.proofs.Common.{◌≡◌, ◌∙◌, sym, ap, subst, ℕ, suc, ◌-◌, ◌<◌, ◌+◌, List, ◌∷◌, arith}
+use Rattle.std.proofs.Common.{◌≡◌, ◌∙◌, refl, sym, ap, subst, ℕ, suc, ◌-◌, ◌<◌, ◌+◌, List, [], ◌∷◌, Option, arith}
 use Rattle.wgsl_shift_reduce.specs.declared.machine.Action.{Action}
 use Rattle.wgsl_shift_reduce.specs.declared.machine.Action.TheVariants.{Shift, Reduce, Accept}
 use Rattle.wgsl_shift_reduce.specs.declared.machine.Entry.{Entry}
 use Rattle.wgsl_shift_reduce.specs.Grammars.{Grammar}
-use Rattle.wgsl_shift_reduce.specs.Machine.{Tables, action, top, popped, ahead, Outcome, read, Comes, shifted, reduced, accepted}
+use Rattle.wgsl_shift_reduce.specs.Machine.{Tables, action, top, popped, ahead, ahead_of, Outcome, read, Comes, shifted, reduced, accepted}
+use Rattle.wgsl_stack.specs.Tops.{first}
 use Rattle.wgsl_shift_reduce.specs.Runs.{IsShift, IsReduction}
 
 popped_one : {V : Type 0} (n m : ℕ) (es : List (Entry V)) (xs : List V) (e : Entry V) → n ≡ suc m → popped m es (e.value ∷ xs) ≡ popped n (e ∷ es) xs
@@ -15,8 +16,13 @@ pub popped_next : {V : Type 0} (n i : ℕ) (old new : List (Entry V)) (xs ys : L
 popped_next n i old new xs ys e within is are =
     ap (λ l. popped (n - (i + 1)) new l) are ∙ popped_one (n - i) (n - (i + 1)) new xs e (omega (arith, within)) ∙ ap (λ l. popped (n - i) l xs) (sym is)
 
-pub acts : (a : Tables) (s t m n : ℕ) {x y : Action} → x ≡ action a s m → s ≡ t → m ≡ n → x ≡ y → action a t n ≡ y
-acts a s t m n e same ahead_same is = sym (ap (λ k. action a k m) same ∙ ap (λ k. action a t k) ahead_same) ∙ sym e ∙ is
+ahead_first : {T V : Type 0} (g : Grammar T V) (u : List T) → ahead_of g (first u) ≡ ahead g u
+ahead_first g [] = refl
+ahead_first g (k ∷ u) = refl
+
+pub acts : {T V : Type 0} (g : Grammar T V) (a : Tables) (s t : ℕ) (o : Option T) (u : List T) {x y : Action} → x ≡ action a s (ahead_of g o) → s ≡ t → o ≡ first u → x ≡ y → action a t (ahead g u) ≡ y
+acts g a s t o u e same next is =
+    sym (ap (λ k. action a k (ahead_of g o)) same ∙ ap (λ k. action a t k) (ap (λ j. ahead_of g j) next ∙ ahead_first g u)) ∙ sym e ∙ is
 
 module _ {T V : Type 0} (g : Grammar T V) (a : Tables) (from : ℕ) where
   pub shift_advances : (to : ℕ) (es fs : List (Entry V)) (u v : List T) → action a (top from es) (ahead g u) ≡ Shift to → IsShift g to es fs u v

@@ -42,6 +42,11 @@ module _ {T V : Type 0} (g : Grammar T V) where
   ahead [] = 0
   ahead (k ∷ u) = suc (g.class_of k)
 
+  -- what stands ahead, if that is the next token
+  abbrev pub ahead_of : Option T → ℕ
+  ahead_of None = 0
+  ahead_of (Some k) = suc (g.class_of k)
+
 -- What comes of a run: a tree is read; or nothing can be done, with this stack; or memory was refused.
 pub data Outcome (V : Type 0) : Type 0 where
   read : V → Outcome V

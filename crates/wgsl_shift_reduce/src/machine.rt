@@ -1,8 +1,9 @@
 //! The parser: it shifts tokens and reduces what it has read, by the tables of a driver.
 
-ghost use Rattle.std.specs.Prelude.{◌≡◌, [], ◌∷◌, length, suc, Some, IfOk, MatchOption};
+ghost use Rattle.std.specs.Prelude.{◌≡◌, [], ◌∷◌, length, Some, IfOk, MatchOption};
+ghost use Rattle.std.specs.Option.{option_copied};
 ghost use Rattle.wgsl_shift_reduce.specs.Grammars.{Rule, Grammar, phrase};
-ghost use Rattle.wgsl_shift_reduce.specs.Machine.{Tables, action, top, popped, ahead};
+ghost use Rattle.wgsl_shift_reduce.specs.Machine.{Tables, action, top, popped, ahead, ahead_of};
 ghost use Rattle.wgsl_shift_reduce.specs.Runs.{IsShift, IsReduction, Advances, Said};
 
 use std::alloc::{AllocError, Global};
@@ -77,23 +78,19 @@ pub trait Driver {
 
     ghost grammar: { Grammar Self.Token Self.Value };
 
-    ghost tables: { Tables };
-
-    /// What stands ahead where this is the next token: the number of its class, and one.
-    fn ahead(&self, token: &Self::Token) -> u16
-        ensures { result ≡ suc (grammar.class_of token.now) };
+    ghost tables: { Self → Tables };
 
     /// The tree of a token.
     fn leaf(&self, token: Self::Token) -> Self::Value
         ensures { result ≡ grammar.leaf token };
 
-    /// What is done in a state before what stands ahead; 0 is the end.
-    fn action(&self, state: u16, ahead: u16) -> Action
-        ensures { result ≡ action tables state ahead };
+    /// What is done in a state before the next token, or before the end.
+    fn action(&self, state: u16, next: Option<&Self::Token>) -> Action
+        ensures { result ≡ action (tables self.now) state (ahead_of grammar (option_copied next.entry)) };
 
     /// The state to which a phrase of a nonterminal leads.
     fn state_behind(&self, state: u16, nonterminal: u16) -> Option<u16>
-        ensures { result ≡ tables.step state (phrase nonterminal) };
+        ensures { result ≡ (tables self.now).step state (phrase nonterminal) };
 
     /// The shape of a rule.
     fn shape(&self, rule: u16) -> Option<Shape>
@@ -111,16 +108,6 @@ fn state_of<V>(from: u16, stack: &Stack<Entry<V>>) -> u16
     match stack.top() {
         Some(entry) => entry.state,
         None => from,
-    }
-}
-
-/// What stands ahead.
-fn ahead_of<D: Driver>(driver: &D, tokens: &Stack<D::Token>) -> u16
-    ensures { result ≡ ahead D.grammar tokens.now }
-{
-    match tokens.top() {
-        Some(token) => driver.ahead(token),
-        None => 0,
     }
 }
 
@@ -168,7 +155,7 @@ fn reduce<D: Driver>(
     rule: u16,
     stack: &mut Stack<Entry<D::Value>>,
 ) -> Result<(), AllocError>
-    ensures { IfOk result (λ _. IsReduction D.grammar D.tables from rule stack.old stack.new) }
+    ensures { IfOk result (λ _. IsReduction D.grammar (D.tables driver.now) from rule stack.old stack.new) }
 {
     let Some(shape) = driver.shape(rule) else {
         return Err(AllocError);
@@ -189,9 +176,9 @@ fn advance<D: Driver>(
     stack: &mut Stack<Entry<D::Value>>,
     tokens: &mut Stack<D::Token>,
 ) -> Result<Progress<D::Value>, AllocError>
-    ensures { IfOk result (Advances D.grammar D.tables from stack.old stack.new tokens.old tokens.new) }
+    ensures { IfOk result (Advances D.grammar (D.tables driver.now) from stack.old stack.new tokens.old tokens.new) }
 {
-    match driver.action(state_of(from, stack), ahead_of(driver, tokens)) {
+    match driver.action(state_of(from, stack), tokens.top()) {
         Action::Shift(to) => {
             shift(driver, to, stack, tokens)?;
             Ok(Progress::GoesOn)
@@ -215,7 +202,7 @@ pub fn run<D: Driver>(
     from: u16,
     tokens: Stack<D::Token>,
 ) -> Result<D::Value, Stopped<D::Token, D::Value>>
-    ensures { Said D.grammar D.tables from tokens result }
+    ensures { Said D.grammar (D.tables driver.now) from tokens result }
 {
     let mut tokens = tokens;
     let mut stack = Stack::new(alloc);

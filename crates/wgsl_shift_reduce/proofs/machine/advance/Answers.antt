@@ -4,14 +4,14 @@ use Rattle.wgsl_shift_reduce.proofs.machine.advance.Goals as goal
 
 pub returns-in_ok-shift-in-Shift : goal.returns-in_ok-shift-in-Shift
 returns-in_ok-shift-in-Shift g c =
-    shift_advances _ _ _ _ _ _ _ _ (acts g.D.Driver.tables _ _ _ _ c.action.ensures c.state_of.ensures c.ahead_of.ensures c.in-Shift.is) c.in_ok-shift-in-Shift.ensures
+    shift_advances _ _ _ _ _ _ _ _ (acts g.D.Driver.grammar (g.D.Driver.tables c.args.driver.now) _ _ _ _ c.action.ensures c.state_of.ensures c.top.ensures c.in-Shift.is) c.in_ok-shift-in-Shift.ensures
 
 pub returns-in_ok-reduce-in-Reduce : goal.returns-in_ok-reduce-in-Reduce
 returns-in_ok-reduce-in-Reduce g c =
-    reduce_advances _ _ _ _ _ _ _ (acts g.D.Driver.tables _ _ _ _ c.action.ensures c.state_of.ensures c.ahead_of.ensures c.in-Reduce.is) c.in_ok-reduce-in-Reduce.ensures
+    reduce_advances _ _ _ _ _ _ _ (acts g.D.Driver.grammar (g.D.Driver.tables c.args.driver.now) _ _ _ _ c.action.ensures c.state_of.ensures c.top.ensures c.in-Reduce.is) c.in_ok-reduce-in-Reduce.ensures
 
 pub returns-in-Some : goal.returns-in-Some
-returns-in-Some g c = accept_reads _ _ _ _ _ _ _ c.in-Some.ensures (acts g.D.Driver.tables _ _ _ _ c.action.ensures c.state_of.ensures c.ahead_of.ensures c.in-Accept.is)
+returns-in-Some g c = accept_reads _ _ _ _ _ _ _ c.in-Some.ensures (acts g.D.Driver.grammar (g.D.Driver.tables c.args.driver.now) _ _ _ _ c.action.ensures c.state_of.ensures c.top.ensures c.in-Accept.is)
 
 pub returns-in-Stop : goal.returns-in-Stop
-returns-in-Stop g c = stopped (acts g.D.Driver.tables _ _ _ _ c.action.ensures c.state_of.ensures c.ahead_of.ensures c.in-Stop.is)
+returns-in-Stop g c = stopped (acts g.D.Driver.grammar (g.D.Driver.tables c.args.driver.now) _ _ _ _ c.action.ensures c.state_of.ensures c.top.ensures c.in-Stop.is)

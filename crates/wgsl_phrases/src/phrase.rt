@@ -1,0 +1,46 @@
+//! What a phrase stands for.
+
+ghost use Rattle.std.specs.Prelude.{◌≡◌};
+
+use wgsl_path::Span;
+
+/// What may be left out of a row.
+pub trait Absence: Drop {
+    /// What stands for what is left out.
+    ghost absent: { Self };
+
+    fn absent() -> Self
+        ensures { result ≡ absent };
+}
+
+/// What is checked of arguments (WGSL, "Attributes", "Diagnostics", "Address Spaces").
+#[derive(Clone, Copy, Debug, PartialEq, Eq)]
+pub enum Check {
+    /// The arguments of an attribute.
+    Attribute,
+    /// The severity of a diagnostic.
+    DiagnosticSeverity,
+    /// The template of `var`.
+    VarTemplate,
+}
+
+/// A check that fails, and the place of the token that ends what was checked.
+#[derive(Clone, Copy, Debug, PartialEq, Eq)]
+pub struct Failure {
+    pub check: Check,
+    pub span: Span,
+}
+
+/// What a phrase stands for, and where it stands.
+#[derive(Drop)]
+pub struct Phrase<P> {
+    pub part: P,
+    /// From the beginning of its first token to the end of its last, in bytes.
+    pub span: Span,
+    /// The place of its last token.
+    pub last: Span,
+    /// The first check in it that fails.
+    pub failure: Option<Failure>,
+    /// How deep trees are nested in it.
+    pub depth: u32,
+}

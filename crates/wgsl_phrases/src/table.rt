@@ -1,0 +1,103 @@
+//! What the rules of the parser make. The tool `tools/parser_tables.py` writes this file.
+
+use wgsl_enumerations::AssignmentOperator;
+use wgsl_operators::{BinaryOperator, UnaryOperator};
+use wgsl_parts::{
+    AttributeLabel, ClauseLabel, DeclarationLabel, DirectiveLabel, ExpressionLabel, ImportLabel, Label, NameLabel, PlainLabel, StatementLabel, ValueLabel,
+};
+use wgsl_token::Fixed;
+
+/// What each rule makes.
+pub static LABELS: [Label; 319] = [
+    Label::Name(NameLabel::NameAlone), Label::Name(NameLabel::NameAbove), Label::Name(NameLabel::NameInPackage), Label::Name(NameLabel::NameWithin), Label::Name(NameLabel::OneUp), Label::Name(NameLabel::FurtherUp), Label::Name(NameLabel::Simple), Label::Name(NameLabel::Templated), Label::Pass, Label::Pass, Label::Name(NameLabel::Simple), Label::Name(NameLabel::Templated), Label::Name(NameLabel::Call), Label::Name(NameLabel::Call), Label::Expression(ExpressionLabel::ALiteral), Label::Expression(ExpressionLabel::ALiteral), Label::Expression(ExpressionLabel::ALiteral), Label::Expression(ExpressionLabel::Named), Label::Expression(ExpressionLabel::Called), Label::Expression(ExpressionLabel::Parenthesized),
+    Label::Pass, Label::Expression(ExpressionLabel::Component), Label::Expression(ExpressionLabel::Indexed), Label::Pass, Label::Expression(ExpressionLabel::Unary(UnaryOperator::LogicalNegation)), Label::Expression(ExpressionLabel::Unary(UnaryOperator::Negation)), Label::Expression(ExpressionLabel::Unary(UnaryOperator::BitwiseComplement)), Label::Expression(ExpressionLabel::Unary(UnaryOperator::Indirection)), Label::Expression(ExpressionLabel::Unary(UnaryOperator::AddressOf)), Label::Pass, Label::Expression(ExpressionLabel::Binary(BinaryOperator::Multiplication)), Label::Expression(ExpressionLabel::Binary(BinaryOperator::Division)), Label::Expression(ExpressionLabel::Binary(BinaryOperator::Remainder)), Label::Pass, Label::Expression(ExpressionLabel::Binary(BinaryOperator::Addition)), Label::Expression(ExpressionLabel::Binary(BinaryOperator::Subtraction)), Label::Pass, Label::Expression(ExpressionLabel::Binary(BinaryOperator::ShiftLeft)), Label::Expression(ExpressionLabel::Binary(BinaryOperator::ShiftRight)), Label::Pass,
+    Label::Expression(ExpressionLabel::Binary(BinaryOperator::LessThan)), Label::Expression(ExpressionLabel::Binary(BinaryOperator::LessThanEqual)), Label::Expression(ExpressionLabel::Binary(BinaryOperator::GreaterThan)), Label::Expression(ExpressionLabel::Binary(BinaryOperator::GreaterThanEqual)), Label::Expression(ExpressionLabel::Binary(BinaryOperator::Equality)), Label::Expression(ExpressionLabel::Binary(BinaryOperator::Inequality)), Label::Expression(ExpressionLabel::Binary(BinaryOperator::BitwiseAnd)), Label::Expression(ExpressionLabel::Binary(BinaryOperator::BitwiseAnd)), Label::Expression(ExpressionLabel::Binary(BinaryOperator::BitwiseXor)), Label::Expression(ExpressionLabel::Binary(BinaryOperator::BitwiseXor)), Label::Expression(ExpressionLabel::Binary(BinaryOperator::BitwiseOr)), Label::Expression(ExpressionLabel::Binary(BinaryOperator::BitwiseOr)), Label::Expression(ExpressionLabel::Binary(BinaryOperator::ShortCircuitAnd)), Label::Expression(ExpressionLabel::Binary(BinaryOperator::ShortCircuitAnd)), Label::Expression(ExpressionLabel::Binary(BinaryOperator::ShortCircuitOr)), Label::Expression(ExpressionLabel::Binary(BinaryOperator::ShortCircuitOr)), Label::Pass, Label::Pass, Label::Pass, Label::Pass,
+    Label::Pass, Label::Pass, Label::Pass, Label::Attribute(AttributeLabel::Word), Label::Attribute(AttributeLabel::ReservedWord), Label::Attribute(AttributeLabel::Keyword(Fixed::Alias)), Label::Attribute(AttributeLabel::Keyword(Fixed::Break)), Label::Attribute(AttributeLabel::Keyword(Fixed::Case)), Label::Attribute(AttributeLabel::Keyword(Fixed::Const)), Label::Attribute(AttributeLabel::Keyword(Fixed::ConstAssert)), Label::Attribute(AttributeLabel::Keyword(Fixed::Continue)), Label::Attribute(AttributeLabel::Keyword(Fixed::Continuing)), Label::Attribute(AttributeLabel::Keyword(Fixed::Default)), Label::Attribute(AttributeLabel::Keyword(Fixed::Diagnostic)), Label::Attribute(AttributeLabel::Keyword(Fixed::Discard)), Label::Attribute(AttributeLabel::Keyword(Fixed::Else)), Label::Attribute(AttributeLabel::Keyword(Fixed::Enable)), Label::Attribute(AttributeLabel::Keyword(Fixed::False)), Label::Attribute(AttributeLabel::Keyword(Fixed::Fn)), Label::Attribute(AttributeLabel::Keyword(Fixed::For)),
+    Label::Attribute(AttributeLabel::Keyword(Fixed::If)), Label::Attribute(AttributeLabel::Keyword(Fixed::Let)), Label::Attribute(AttributeLabel::Keyword(Fixed::Loop)), Label::Attribute(AttributeLabel::Keyword(Fixed::Override)), Label::Attribute(AttributeLabel::Keyword(Fixed::Requires)), Label::Attribute(AttributeLabel::Keyword(Fixed::Return)), Label::Attribute(AttributeLabel::Keyword(Fixed::Struct)), Label::Attribute(AttributeLabel::Keyword(Fixed::Switch)), Label::Attribute(AttributeLabel::Keyword(Fixed::True)), Label::Attribute(AttributeLabel::Keyword(Fixed::Var)), Label::Attribute(AttributeLabel::Keyword(Fixed::While)), Label::Attribute(AttributeLabel::Keyword(Fixed::Import)), Label::Attribute(AttributeLabel::Keyword(Fixed::Package)), Label::Attribute(AttributeLabel::Keyword(Fixed::Super)), Label::Attribute(AttributeLabel::Keyword(Fixed::As)), Label::Attribute(AttributeLabel::Arguments), Label::Attribute(AttributeLabel::Arguments), Label::Attribute(AttributeLabel::Attribute), Label::Attribute(AttributeLabel::Attribute), Label::Attribute(AttributeLabel::VarKind),
+    Label::Attribute(AttributeLabel::VarIn), Label::Value(ValueLabel::Typed), Label::Value(ValueLabel::TypedAs), Label::Value(ValueLabel::Var), Label::Value(ValueLabel::VarSet), Label::Value(ValueLabel::Const), Label::Value(ValueLabel::Let), Label::Value(ValueLabel::Override), Label::Value(ValueLabel::OverrideSet), Label::Pass, Label::Pass, Label::Pass, Label::Value(ValueLabel::Assertion), Label::Expression(ExpressionLabel::Unary(UnaryOperator::Indirection)), Label::Expression(ExpressionLabel::Unary(UnaryOperator::AddressOf)), Label::Pass, Label::Expression(ExpressionLabel::PlaceName), Label::Expression(ExpressionLabel::Parenthesized), Label::Expression(ExpressionLabel::Component), Label::Expression(ExpressionLabel::Indexed),
+    Label::Expression(ExpressionLabel::Underscore), Label::Plain(PlainLabel::CalledStatement), Label::Plain(PlainLabel::Assignment(AssignmentOperator::Equal)), Label::Plain(PlainLabel::Assignment(AssignmentOperator::PlusEqual)), Label::Plain(PlainLabel::Assignment(AssignmentOperator::MinusEqual)), Label::Plain(PlainLabel::Assignment(AssignmentOperator::TimesEqual)), Label::Plain(PlainLabel::Assignment(AssignmentOperator::DivisionEqual)), Label::Plain(PlainLabel::Assignment(AssignmentOperator::ModuloEqual)), Label::Plain(PlainLabel::Assignment(AssignmentOperator::AndEqual)), Label::Plain(PlainLabel::Assignment(AssignmentOperator::OrEqual)), Label::Plain(PlainLabel::Assignment(AssignmentOperator::XorEqual)), Label::Plain(PlainLabel::Assignment(AssignmentOperator::ShiftRightAssign)), Label::Plain(PlainLabel::Assignment(AssignmentOperator::ShiftLeftAssign)), Label::Plain(PlainLabel::Assignment(AssignmentOperator::Equal)), Label::Plain(PlainLabel::Increment), Label::Plain(PlainLabel::Decrement), Label::Plain(PlainLabel::Break), Label::Plain(PlainLabel::Continue), Label::Plain(PlainLabel::Return), Label::Plain(PlainLabel::Return),
+    Label::Plain(PlainLabel::Discard), Label::Plain(PlainLabel::Local), Label::Pass, Label::Plain(PlainLabel::Asserted), Label::Plain(PlainLabel::Local), Label::Pass, Label::Statement(StatementLabel::Header), Label::Statement(StatementLabel::Header), Label::Statement(StatementLabel::VoidStatement), Label::Statement(StatementLabel::PlainStatement), Label::Statement(StatementLabel::Compound), Label::Statement(StatementLabel::If), Label::Statement(StatementLabel::If), Label::Statement(StatementLabel::If), Label::Statement(StatementLabel::If), Label::Statement(StatementLabel::If), Label::Statement(StatementLabel::If), Label::Statement(StatementLabel::If), Label::Statement(StatementLabel::If), Label::Clause(ClauseLabel::ElseIf),
+    Label::Pass, Label::Statement(StatementLabel::Switch), Label::Statement(StatementLabel::Switch), Label::Statement(StatementLabel::Switch), Label::Statement(StatementLabel::Switch), Label::Statement(StatementLabel::Loop), Label::Statement(StatementLabel::Loop), Label::Statement(StatementLabel::Loop), Label::Statement(StatementLabel::Loop), Label::Statement(StatementLabel::Loop), Label::Statement(StatementLabel::Loop), Label::Statement(StatementLabel::Loop), Label::Statement(StatementLabel::Loop), Label::Statement(StatementLabel::Loop), Label::Statement(StatementLabel::Loop), Label::Statement(StatementLabel::Loop), Label::Statement(StatementLabel::Loop), Label::Statement(StatementLabel::Loop), Label::Statement(StatementLabel::Loop), Label::Statement(StatementLabel::Loop),
+    Label::Statement(StatementLabel::Loop), Label::Statement(StatementLabel::For), Label::Statement(StatementLabel::For), Label::Statement(StatementLabel::For), Label::Statement(StatementLabel::For), Label::Statement(StatementLabel::For), Label::Statement(StatementLabel::For), Label::Statement(StatementLabel::For), Label::Statement(StatementLabel::For), Label::Statement(StatementLabel::For), Label::Statement(StatementLabel::For), Label::Statement(StatementLabel::For), Label::Statement(StatementLabel::For), Label::Statement(StatementLabel::For), Label::Statement(StatementLabel::For), Label::Statement(StatementLabel::For), Label::Statement(StatementLabel::For), Label::Statement(StatementLabel::While), Label::Statement(StatementLabel::While), Label::Clause(ClauseLabel::Block),
+    Label::Clause(ClauseLabel::Block), Label::Clause(ClauseLabel::Block), Label::Clause(ClauseLabel::Block), Label::Clause(ClauseLabel::DefaultSelector), Label::Clause(ClauseLabel::Selector), Label::Clause(ClauseLabel::Case), Label::Clause(ClauseLabel::Case), Label::Clause(ClauseLabel::Default), Label::Clause(ClauseLabel::Default), Label::Clause(ClauseLabel::Continuing), Label::Clause(ClauseLabel::Continuing), Label::Clause(ClauseLabel::Continuing), Label::Clause(ClauseLabel::Continuing), Label::Clause(ClauseLabel::Continuing), Label::Clause(ClauseLabel::Continuing), Label::Clause(ClauseLabel::Continuing), Label::Clause(ClauseLabel::Continuing), Label::Clause(ClauseLabel::BreakIf), Label::Import(ImportLabel::FromPackage), Label::Import(ImportLabel::FromOwn),
+    Label::Import(ImportLabel::FromAbove), Label::Import(ImportLabel::FromWithin), Label::Import(ImportLabel::FirstStep), Label::Import(ImportLabel::NextStep), Label::Import(ImportLabel::Item), Label::Import(ImportLabel::Renamed), Label::Import(ImportLabel::Collection), Label::Import(ImportLabel::Tree), Label::Import(ImportLabel::Tree), Label::Import(ImportLabel::Import), Label::Import(ImportLabel::Import), Label::Import(ImportLabel::Import), Label::Import(ImportLabel::Import), Label::Directive(DirectiveLabel::Rule), Label::Directive(DirectiveLabel::RuleOf), Label::Directive(DirectiveLabel::Diagnostic), Label::Directive(DirectiveLabel::Diagnostic), Label::Pass, Label::Directive(DirectiveLabel::Extension), Label::Directive(DirectiveLabel::Enable),
+    Label::Directive(DirectiveLabel::Requires), Label::Declaration(DeclarationLabel::VoidDeclaration), Label::Declaration(DeclarationLabel::Global), Label::Declaration(DeclarationLabel::Global), Label::Declaration(DeclarationLabel::Global), Label::Declaration(DeclarationLabel::Global), Label::Declaration(DeclarationLabel::GlobalConst), Label::Declaration(DeclarationLabel::Alias), Label::Declaration(DeclarationLabel::GlobalAssertion), Label::Declaration(DeclarationLabel::Struct), Label::Declaration(DeclarationLabel::Member), Label::Declaration(DeclarationLabel::Member), Label::Declaration(DeclarationLabel::Function), Label::Declaration(DeclarationLabel::Function), Label::Declaration(DeclarationLabel::Function), Label::Declaration(DeclarationLabel::Function), Label::Declaration(DeclarationLabel::Function), Label::Declaration(DeclarationLabel::Function), Label::Declaration(DeclarationLabel::Function), Label::Declaration(DeclarationLabel::Function),
+    Label::Declaration(DeclarationLabel::Parameter), Label::Declaration(DeclarationLabel::Parameter), Label::Declaration(DeclarationLabel::Result), Label::Declaration(DeclarationLabel::Result), Label::Declaration(DeclarationLabel::Module), Label::Declaration(DeclarationLabel::Module), Label::Declaration(DeclarationLabel::Module), Label::Declaration(DeclarationLabel::Module), Label::Declaration(DeclarationLabel::Module), Label::Declaration(DeclarationLabel::Module), Label::Declaration(DeclarationLabel::Module), Label::First, Label::More, Label::First, Label::More, Label::First, Label::More, Label::First, Label::More, Label::First,
+    Label::More, Label::First, Label::More, Label::First, Label::More, Label::Pass, Label::Pass, Label::First, Label::More, Label::Pass, Label::Pass, Label::First, Label::More, Label::Pass, Label::Pass, Label::First, Label::More, Label::Pass, Label::Pass, Label::First,
+    Label::More, Label::Pass, Label::Pass, Label::First, Label::More, Label::Pass, Label::Pass, Label::First, Label::More, Label::Pass, Label::Pass, Label::First, Label::More, Label::Pass, Label::Pass, Label::Pass, Label::Pass, Label::Pass, Label::Pass,
+];
+
+/// For each rule the pattern of its parts: 0 for one that is absent, 1 for a symbol that is none, 2 for a symbol that is one.
+pub static PATTERNS: [u16; 1019] = [
+    2, 2, 2, 1, 1, 2, 2, 1, 2, 1, 1, 2, 1, 1, 2, 2, 1, 2, 1, 2,
+    2, 2, 2, 1, 2, 1, 2, 1, 0, 1, 2, 1, 2, 1, 2, 2, 2, 2, 2, 1,
+    2, 1, 2, 2, 1, 2, 2, 1, 2, 1, 2, 1, 2, 1, 2, 1, 2, 1, 2, 1,
+    2, 2, 2, 1, 2, 2, 1, 2, 2, 1, 2, 2, 2, 1, 2, 2, 1, 2, 2, 2,
+    1, 2, 2, 1, 2, 2, 2, 1, 2, 2, 1, 2, 2, 1, 2, 2, 1, 2, 2, 1,
+    2, 2, 1, 2, 2, 1, 2, 2, 1, 2, 2, 1, 2, 2, 1, 2, 2, 1, 2, 2,
+    1, 2, 2, 1, 2, 2, 1, 2, 2, 1, 2, 2, 1, 2, 2, 2, 2, 2, 2, 2,
+    2, 2, 2, 1, 1, 1, 1, 1, 1, 1, 1, 1, 1, 1, 1, 1, 1, 1, 1, 1,
+    1, 1, 1, 1, 1, 1, 1, 1, 1, 1, 1, 1, 1, 1, 0, 1, 1, 2, 1, 1,
+    2, 0, 1, 2, 2, 1, 1, 1, 2, 1, 2, 2, 1, 2, 2, 2, 2, 2, 1, 2,
+    1, 2, 1, 2, 1, 2, 1, 2, 1, 2, 1, 2, 1, 2, 2, 2, 2, 1, 2, 1,
+    2, 1, 2, 2, 2, 1, 2, 1, 2, 1, 2, 2, 1, 2, 1, 1, 2, 2, 1, 2,
+    2, 1, 2, 2, 1, 2, 2, 1, 2, 2, 1, 2, 2, 1, 2, 2, 1, 2, 2, 1,
+    2, 2, 1, 2, 2, 1, 2, 2, 1, 2, 2, 1, 2, 2, 1, 2, 1, 1, 1, 1,
+    0, 1, 2, 1, 2, 2, 2, 2, 2, 2, 2, 1, 2, 1, 2, 0, 1, 2, 2, 0,
+    0, 0, 1, 2, 2, 0, 2, 0, 1, 2, 2, 2, 0, 0, 1, 2, 2, 2, 2, 2,
+    1, 2, 2, 0, 0, 2, 1, 2, 2, 0, 2, 2, 1, 2, 2, 2, 0, 2, 1, 2,
+    2, 2, 2, 1, 1, 2, 2, 1, 2, 0, 1, 2, 0, 1, 2, 1, 0, 1, 2, 2,
+    1, 2, 1, 2, 1, 2, 0, 1, 2, 1, 2, 1, 2, 2, 1, 2, 1, 0, 1, 0,
+    1, 0, 0, 1, 0, 1, 0, 1, 0, 2, 1, 0, 1, 0, 1, 2, 0, 1, 0, 1,
+    0, 1, 2, 2, 1, 0, 1, 2, 1, 0, 0, 1, 0, 1, 2, 1, 0, 2, 1, 0,
+    1, 2, 1, 2, 0, 1, 0, 1, 2, 1, 2, 2, 1, 2, 1, 0, 1, 0, 0, 1,
+    2, 1, 0, 1, 0, 2, 1, 2, 1, 0, 1, 2, 0, 1, 2, 1, 0, 1, 2, 2,
+    1, 2, 1, 2, 1, 0, 0, 1, 2, 1, 2, 1, 0, 2, 1, 2, 1, 2, 1, 2,
+    0, 1, 2, 1, 2, 1, 2, 2, 1, 0, 1, 1, 0, 1, 0, 1, 0, 1, 2, 0,
+    1, 1, 0, 1, 0, 1, 2, 1, 2, 0, 1, 1, 0, 1, 2, 1, 0, 1, 2, 0,
+    1, 1, 0, 1, 2, 1, 2, 1, 2, 0, 1, 1, 2, 1, 0, 1, 0, 1, 2, 0,
+    1, 1, 2, 1, 0, 1, 2, 1, 2, 0, 1, 1, 2, 1, 2, 1, 0, 1, 2, 0,
+    1, 1, 2, 1, 2, 1, 2, 1, 2, 2, 1, 1, 0, 1, 0, 1, 0, 1, 2, 2,
+    1, 1, 0, 1, 0, 1, 2, 1, 2, 2, 1, 1, 0, 1, 2, 1, 0, 1, 2, 2,
+    1, 1, 0, 1, 2, 1, 2, 1, 2, 2, 1, 1, 2, 1, 0, 1, 0, 1, 2, 2,
+    1, 1, 2, 1, 0, 1, 2, 1, 2, 2, 1, 1, 2, 1, 2, 1, 0, 1, 2, 2,
+    1, 1, 2, 1, 2, 1, 2, 1, 2, 0, 1, 2, 2, 2, 1, 2, 2, 0, 1, 0,
+    1, 0, 1, 2, 1, 2, 1, 0, 1, 2, 1, 2, 1, 1, 2, 1, 2, 2, 1, 2,
+    1, 2, 1, 2, 1, 1, 2, 1, 0, 1, 0, 0, 1, 1, 0, 1, 0, 2, 1, 1,
+    0, 1, 2, 0, 1, 1, 0, 1, 2, 2, 1, 1, 2, 1, 0, 0, 1, 1, 2, 1,
+    0, 2, 1, 1, 2, 1, 2, 0, 1, 1, 2, 1, 2, 2, 1, 1, 1, 2, 1, 2,
+    1, 1, 1, 2, 2, 2, 1, 2, 1, 2, 2, 1, 2, 2, 1, 2, 1, 2, 1, 0,
+    2, 2, 2, 0, 1, 0, 2, 1, 0, 1, 2, 2, 1, 2, 1, 0, 2, 1, 2, 1,
+    2, 2, 1, 2, 2, 1, 2, 1, 1, 2, 1, 2, 1, 1, 1, 2, 1, 2, 1, 1,
+    2, 1, 2, 1, 2, 1, 1, 2, 1, 1, 0, 2, 1, 2, 2, 1, 0, 2, 1, 2,
+    2, 1, 2, 1, 1, 2, 1, 2, 1, 2, 1, 1, 2, 1, 2, 1, 0, 2, 1, 2,
+    2, 2, 1, 2, 0, 1, 2, 1, 0, 1, 0, 2, 0, 1, 2, 1, 0, 1, 2, 2,
+    0, 1, 2, 1, 2, 1, 0, 2, 0, 1, 2, 1, 2, 1, 2, 2, 2, 1, 2, 1,
+    0, 1, 0, 2, 2, 1, 2, 1, 0, 1, 2, 2, 2, 1, 2, 1, 2, 1, 0, 2,
+    2, 1, 2, 1, 2, 1, 2, 2, 0, 2, 1, 2, 2, 2, 1, 2, 1, 0, 2, 1,
+    2, 2, 0, 0, 2, 0, 2, 0, 0, 2, 2, 2, 0, 0, 2, 0, 2, 2, 2, 0,
+    2, 2, 2, 2, 2, 2, 2, 2, 2, 2, 2, 2, 2, 2, 2, 2, 2, 2, 2, 2,
+    2, 2, 2, 2, 2, 2, 1, 2, 2, 1, 2, 2, 2, 1, 2, 2, 1, 2, 2, 2,
+    1, 2, 2, 1, 2, 2, 2, 1, 2, 2, 1, 2, 2, 2, 1, 2, 2, 1, 2, 2,
+    2, 1, 2, 2, 1, 2, 2, 2, 1, 2, 2, 1, 2, 2, 2, 2, 2, 2, 2,
+];
+
+/// Where the row of each begins in [`PATTERNS`], and the end.
+pub static PATTERNS_STARTS: [u16; 320] = [
+    0, 1, 3, 6, 9, 11, 14, 15, 19, 20, 21, 22, 26, 30, 34, 35, 36, 37, 38, 39,
+    42, 43, 46, 50, 51, 53, 55, 57, 59, 61, 62, 65, 68, 71, 72, 75, 78, 79, 82, 85,
+    86, 89, 92, 95, 98, 101, 104, 107, 110, 113, 116, 119, 122, 125, 128, 131, 134, 135, 136, 137,
+    138, 139, 140, 141, 142, 143, 144, 145, 146, 147, 148, 149, 150, 151, 152, 153, 154, 155, 156, 157,
+    158, 159, 160, 161, 162, 163, 164, 165, 166, 167, 168, 169, 170, 171, 172, 173, 176, 179, 182, 185,
+    186, 190, 191, 194, 196, 200, 204, 208, 210, 214, 215, 216, 217, 219, 221, 223, 224, 225, 228, 231,
+    235, 236, 237, 240, 243, 246, 249, 252, 255, 258, 261, 264, 267, 270, 273, 275, 277, 278, 279, 281,
+    283, 284, 285, 286, 287, 288, 289, 290, 291, 292, 294, 295, 301, 307, 313, 319, 325, 331, 337, 343,
+    347, 349, 356, 363, 370, 377, 384, 391, 398, 405, 412, 419, 426, 433, 440, 447, 454, 461, 468, 475,
+    482, 489, 499, 509, 519, 529, 539, 549, 559, 569, 579, 589, 599, 609, 619, 629, 639, 649, 653, 657,
+    661, 665, 669, 673, 674, 675, 678, 682, 684, 687, 693, 699, 705, 711, 717, 723, 729, 735, 739, 741,
+    743, 744, 747, 749, 752, 753, 756, 759, 761, 763, 768, 773, 778, 783, 784, 787, 793, 800, 802, 803,
+    806, 809, 810, 813, 816, 819, 822, 824, 829, 831, 836, 840, 844, 852, 860, 868, 876, 884, 892, 900,
+    908, 912, 916, 919, 922, 925, 928, 931, 934, 937, 940, 943, 944, 946, 947, 949, 950, 952, 953, 955,
+    956, 958, 959, 961, 962, 964, 965, 967, 968, 971, 972, 974, 975, 978, 979, 981, 982, 985, 986, 988,
+    989, 992, 993, 995, 996, 999, 1000, 1002, 1003, 1006, 1007, 1009, 1010, 1013, 1014, 1015, 1016, 1017, 1018, 1019,
+];
