@@ -1,323 +1,106 @@
 #!/usr/bin/env python3
-"""Writes the tables of the parser of WGSL and of the grammar of imports: crates/wgsl_grammar_tables/src/table.rt.
+"""Writes the tables of the parser, crates/wgsl_grammar_tables/src/table.rt, from the grammar in specs/Grammar.antt of that crate.
 
-The rows below are the grammar. The tool writes each row out without parts that may be absent or stand any number of times, builds the
-SLR(1) automaton of these rules, and stops where two actions clash. Nothing is taken on trust from here: the tests that show that the
-tables fit their rules are proved in the crate.
+The tool writes each line of the grammar out without pieces that may be absent or stand any number of times, builds the SLR(1) automaton
+of these rules, and stops where two actions clash. Nothing is taken on trust from here: that the tables are those of the grammar's rules,
+and that they fit them, is proved in the crate. `rt fmt` lays the file out.
 
-    python3 tools/parser_tables.py
-"""
+usage: tools/parser_tables.py"""
 import itertools
 import pathlib
 import re
 
 REPOSITORY = pathlib.Path(__file__).resolve().parent.parent
 TOKENS = REPOSITORY / "crates/wgsl_token/src/token.rt"
+SPECS = REPOSITORY / "crates/wgsl_grammar_tables/specs"
 TABLE = REPOSITORY / "crates/wgsl_grammar_tables/src/table.rt"
-LABELS = REPOSITORY / "crates/wgsl_phrases/src/table.rt"
 
 # Classes of tokens beside the fixed ones, in their order behind these.
-CLASSES = ["id", "literal", "reserved", "<t", ">t", "invalid"]
-# Classes whose tokens have a value.
-VALUED = {"id", "literal", "reserved"}
-STARTS = ["Module", "Expression", "Statement", "Declaration", "Directive", "Import"]
-
-# What a row is made of: 'x' in quotes is a fixed token, ',?' one that may be absent; id, literal, reserved, <t and >t are classes of
-# tokens; N is a phrase, N? one that may be absent, N+ some in a row, N* those or none, N,+ a list with commas and N,* that or none.
-ROWS = []
+CLASSES = ["word", "literal", "reserved", "opens", "closes", "invalid"]
+COMMA = "f.Comma"
 
 
-def row(label, left, right):
-    ROWS.append((label, left, right.split()))
+# ---- the grammar's lines
 
 
-def passed(left, *phrases):
-    for phrase in phrases:
-        row("pass", left, phrase)
+def nonterminals():
+    return re.findall(r"^  (\w+) : Nonterminal$", (SPECS / "Nonterminals.antt").read_text(), re.M)
 
 
-def names():
-    row("name_alone", "Name", "id")
-    row("name_above", "Name", "Ups id")
-    row("name_in_package", "Name", "'package' '::' id")
-    row("name_within", "Name", "Name '::' id")
-    row("one_up", "Ups", "'super' '::'")
-    row("further_up", "Ups", "Ups 'super' '::'")
-    row("simple", "Simple", "Name")
-    row("templated", "Templated", "Name <t Item,+ >t")
-    passed("Type", "Simple", "Templated")
-    row("simple", "Callee", "Name")
-    row("templated", "Callee", "Name <t Item,+ >t")
+def list_named(name, text):
+    return re.findall(r"n\.(\w+)", re.search(rf"^{name} =(.*?)\[\]", text, re.M | re.S)[1])
 
 
-def operands():
-    row("call", "Call", "Callee '(' Expression,* ')'")
-    row("literal", "Primary", "literal")
-    row("true", "Primary", "'true'")
-    row("false", "Primary", "'false'")
-    row("named", "Primary", "Type")
-    row("called", "Primary", "Call")
-    row("parenthesized", "Primary", "'(' Expression ')'")
-    passed("Singular", "Primary")
-    row("component", "Singular", "Singular '.' id")
-    row("indexed", "Singular", "Singular '[' Expression ']'")
-    passed("Unary", "Singular")
-    for mark, operator in (("!", "LogicalNegation"), ("-", "Negation"), ("~", "BitwiseComplement"), ("*", "Indirection"), ("&", "AddressOf")):
-        row("unary " + operator, "Unary", f"'{mark}' Unary")
-
-
-def binaries(left, before, after, operators):
-    for mark, operator in operators:
-        row("binary " + operator, left, f"{before} '{mark}' {after}")
-
-
-def operations():
-    passed("Product", "Unary")
-    binaries("Product", "Product", "Unary", (("*", "Multiplication"), ("/", "Division"), ("%", "Remainder")))
-    passed("Sum", "Product")
-    binaries("Sum", "Sum", "Product", (("+", "Addition"), ("-", "Subtraction")))
-    passed("Shift", "Sum")
-    binaries("Shift", "Unary", "Unary", (("<<", "ShiftLeft"), (">>", "ShiftRight")))
-    passed("Relational", "Shift")
-    orders = (("<", "LessThan"), ("<=", "LessThanEqual"), (">", "GreaterThan"), (">=", "GreaterThanEqual"), ("==", "Equality"), ("!=", "Inequality"))
-    binaries("Relational", "Shift", "Shift", orders)
-    chains = (
-        ("Ands", "&", "BitwiseAnd", "Unary"),
-        ("Xors", "^", "BitwiseXor", "Unary"),
-        ("Ors", "|", "BitwiseOr", "Unary"),
-        ("AllOf", "&&", "ShortCircuitAnd", "Relational"),
-        ("AnyOf", "||", "ShortCircuitOr", "Relational"),
-    )
-    for left, mark, operator, part in chains:
-        row("binary " + operator, left, f"{part} '{mark}' {part}")
-        row("binary " + operator, left, f"{left} '{mark}' {part}")
-    passed("Item", "Relational", "Ands", "Xors", "Ors")
-    passed("Expression", "Item", "AllOf", "AnyOf")
-
-
-KEYWORDS = """alias break case const const_assert continue continuing default diagnostic discard else enable false fn for if let loop
-override requires return struct switch true var while import package super as""".split()
-
-
-def attributes():
-    row("word", "Word", "id")
-    row("reserved_word", "Word", "reserved")
-    for keyword in KEYWORDS:
-        row("keyword " + keyword, "Word", f"'{keyword}'")
-    row("arguments", "Arguments", "'(' Expression,* ')'")
-    row("attribute", "Attribute", "'@' Word Arguments?")
-
-
-def values():
-    row("var_kind", "VarHead", "'var'")
-    row("var_in", "VarHead", "'var' <t Item,+ >t")
-    row("typed", "Typed", "id")
-    row("typed_as", "Typed", "id ':' Type")
-    row("var", "Var", "VarHead Typed")
-    row("var_set", "Var", "VarHead Typed '=' Expression")
-    row("const", "Const", "'const' Typed '=' Expression")
-    row("let", "Let", "'let' Typed '=' Expression")
-    row("override", "Override", "'override' Typed")
-    row("override_set", "Override", "'override' Typed '=' Expression")
-    passed("Local", "Var", "Const", "Let")
-    row("assertion", "Assertion", "'const_assert' Expression")
-
-
-ASSIGNMENTS = (
-    ("=", "Equal"),
-    ("+=", "PlusEqual"),
-    ("-=", "MinusEqual"),
-    ("*=", "TimesEqual"),
-    ("/=", "DivisionEqual"),
-    ("%=", "ModuloEqual"),
-    ("&=", "AndEqual"),
-    ("|=", "OrEqual"),
-    ("^=", "XorEqual"),
-    (">>=", "ShiftRightAssign"),
-    ("<<=", "ShiftLeftAssign"),
-)
-
-
-def updates():
-    row("unary Indirection", "Place", "'*' Place")
-    row("unary AddressOf", "Place", "'&' Place")
-    passed("Place", "Target")
-    row("place_name", "Target", "Name")
-    row("parenthesized", "Target", "'(' Place ')'")
-    row("component", "Target", "Target '.' id")
-    row("indexed", "Target", "Target '[' Expression ']'")
-    row("underscore", "Phony", "'_'")
-    row("called_statement", "Update", "Call")
-    for mark, operator in ASSIGNMENTS:
-        row("assignment " + operator, "Update", f"Place '{mark}' Expression")
-    row("assignment Equal", "Update", "Phony '=' Expression")
-    row("increment", "Update", "Place '++'")
-    row("decrement", "Update", "Place '--'")
-
-
-def plain_statements():
-    row("break", "Plain", "'break'")
-    row("continue", "Plain", "'continue'")
-    row("return", "Plain", "'return' Expression?")
-    row("discard", "Plain", "'discard'")
-    row("local", "Plain", "Local")
-    passed("Plain", "Update")
-    row("asserted", "Plain", "Assertion")
-    row("local", "First", "Local")
-    passed("First", "Update")
-    row("header", "Initializer", "First")
-    row("header", "Next", "Update")
-
-
-def statements():
-    row("void_statement", "Statement", "';'")
-    row("plain_statement", "Statement", "Plain ';'")
-    row("compound", "Statement", "Block")
-    row("if", "Statement", "Attribute* 'if' Expression Block ElseIf* Else?")
-    row("else_if", "ElseIf", "'else' 'if' Expression Block")
-    row("pass", "Else", "'else' Block")
-    row("switch", "Statement", "Attribute* 'switch' Expression Attribute* '{' Clause+ '}'")
-    row("loop", "Statement", "Attribute* 'loop' Attribute* '{' Statement* Continuing? '}'")
-    row("for", "Statement", "Attribute* 'for' '(' Initializer? ';' Expression? ';' Next? ')' Block")
-    row("while", "Statement", "Attribute* 'while' Expression Block")
-    row("block", "Block", "Attribute* '{' Statement* '}'")
-    row("default_selector", "Selector", "'default'")
-    row("selector", "Selector", "Expression")
-    row("case", "Clause", "'case' Selector,+ ':?' Block")
-    row("default", "Clause", "'default' ':?' Block")
-    row("continuing", "Continuing", "'continuing' Attribute* '{' Statement* BreakIf? '}'")
-    row("break_if", "BreakIf", "'break' 'if' Expression ';'")
-
-
-def imports():
-    row("from_package", "Source", "id '::'")
-    row("from_own", "Source", "'package' '::'")
-    row("from_above", "Source", "Ups")
-    row("from_within", "Source", "Source id '::'")
-    row("first_step", "Path", "id '::'")
-    row("next_step", "Path", "Path id '::'")
-    row("item", "Content", "id")
-    row("renamed", "Content", "id 'as' id")
-    row("collection", "Content", "'{' Tree,+ '}'")
-    row("tree", "Tree", "Path? Content")
-    row("import", "Import", "Attribute* 'import' Source? Content ';'")
-
-
-def directives():
-    row("rule", "Rule", "id")
-    row("rule_of", "Rule", "id '.' id")
-    row("diagnostic", "Control", "'diagnostic' '(' id ',' Rule ',?' ')'")
-    row("pass", "Directive", "Control ';'")
-    row("extension", "Extension", "id")
-    row("enable", "Directive", "'enable' Extension,+ ';'")
-    row("requires", "Directive", "'requires' Extension,+ ';'")
-
-
-def declarations():
-    row("void_declaration", "Declaration", "';'")
-    row("global", "Declaration", "Attribute* Var ';'")
-    row("global", "Declaration", "Attribute* Override ';'")
-    row("global_const", "Declaration", "Const ';'")
-    row("alias", "Declaration", "'alias' id '=' Type ';'")
-    row("global_assertion", "Declaration", "Assertion ';'")
-    row("struct", "Declaration", "'struct' id '{' Member,+ '}'")
-    row("member", "Member", "Attribute* id ':' Type")
-    row("function", "Declaration", "Attribute* 'fn' id '(' Parameter,* ')' Result? Block")
-    row("parameter", "Parameter", "Attribute* id ':' Type")
-    row("result", "Result", "'->' Attribute* Type")
-    row("module", "Module", "Import* Directive* Declaration*")
-
-
-def write_rows():
-    for part in (names, operands, operations, attributes, values, updates, plain_statements, statements, imports, directives, declarations):
-        part()
-
-
-# ---- rules without parts that may be absent
-
-KINDS = ((",*", "any_listed"), (",+", "listed"), ("*", "any"), ("+", "some"), ("?", "optional"))
-
-
-def kind_of(symbol, phrases):
-    if symbol in (",?", ":?") or (symbol[0] == "'" and symbol[-2:] == "?'"):
-        return "optional_mark", symbol.strip("'")[0]
-    if symbol[0] == "'":
-        return "token", symbol[1:-1]
-    if symbol in CLASSES:
-        return "token", symbol
-    for suffix, kind in KINDS:
-        if symbol.endswith(suffix) and symbol[: -len(suffix)] in phrases:
-            return kind, symbol[: -len(suffix)]
-    assert symbol in phrases, symbol
-    return "phrase", symbol
-
-
-class Rules:
-    """Rules, each a left side, its right side, a label, and the pattern of its parts: 0 for a part that is absent, 1 for a symbol that is none,
-    2 for a symbol that is one."""
+class Grammar:
+    """What stands in specs/Grammar.antt: its lines, each a label, a left side and pieces, and its three lists."""
 
     def __init__(self):
-        self.phrases = {left for _, left, _ in ROWS}
-        self.repeated = []
-        self.listed = []
-        self.rules = []
-        for label, left, right in ROWS:
-            for choice in itertools.product(*map(self.choices, right)):
-                self.add(label, left, choice)
-        self.add_repetitions()
-        self.rules = [rule for rule in self.rules if rule[1]]
-        for start in STARTS:
-            self.rules.append((sentence(start), (start,), "pass", (2,)))
-
-    def add(self, label, left, choice):
-        right, pattern = [], []
-        for symbols, has_part in choice:
-            right += symbols
-            if symbols or has_part:
-                pattern.append(0 if not symbols else 2 if has_part or label in ("true", "false") else 1)
-        self.rules.append((left, tuple(right), label, tuple(pattern)))
-
-    def choices(self, symbol):
-        kind, name = kind_of(symbol, self.phrases)
-        if kind == "token":
-            return [([name], name in VALUED)]
-        if kind == "optional_mark":
-            return [([], False), ([name], False)]
-        if kind in ("phrase", "optional"):
-            return [([name], True)] if kind == "phrase" else [([], True), ([name], True)]
-        many, mark = (self.listed, ",+") if kind in ("any_listed", "listed") else (self.repeated, "+")
-        if name not in many:
-            many.append(name)
-        return ([([], True)] if kind in ("any_listed", "any") else []) + [([name + mark], True)]
-
-    def add_repetitions(self):
-        for name in self.repeated:
-            self.rules.append((name + "+", (name,), "first", (2,)))
-            self.rules.append((name + "+", (name + "+", name), "more", (2, 2)))
-        for name in self.listed:
-            self.rules.append((name + ",+", (name + ",,",), "pass", (2,)))
-            self.rules.append((name + ",+", (name + ",,", ","), "pass", (2, 1)))
-            self.rules.append((name + ",,", (name,), "first", (2,)))
-            self.rules.append((name + ",,", (name + ",,", ",", name), "more", (2, 1, 2)))
+        text = (SPECS / "Grammar.antt").read_text()
+        found = re.findall(r"^    row (\(.*\)|\S+) n\.(\w+) \((.*) ∷ \[\]\) ∷$", text, re.M)
+        assert len(found) == text.count("    row "), "a line that this tool does not read"
+        self.lines = [(label, left, pieces.split(" ∷ ")) for label, left, pieces in found]
+        self.repeated = list_named("repeated", text)
+        self.separated = list_named("separated", text)
+        self.begun = list_named("begun", text)
 
 
-def sentence(start):
-    return "sentence " + start
+# ---- rules without pieces that may be absent; a nonterminal has a name and a form
+
+PLAIN, ROW, LIST, COMMAS, SENTENCE = range(5)
+TOKENS_OF = {"word", "literal", "reserved", "opens", "closes"}
+FORMS = {"one": (PLAIN, False), "may": (PLAIN, True), "some": (ROW, False), "any": (ROW, True), "listed": (LIST, False), "any_listed": (LIST, True)}
+
+
+def choices(piece):
+    """How a piece may stand there: each time its symbols, and whether it is a part."""
+    kind, _, name = piece.partition(" ")
+    if kind in TOKENS_OF:
+        return [([kind], kind not in ("opens", "closes"))]
+    if kind in ("mark", "truth", "may_mark"):
+        return ([([], False)] if kind == "may_mark" else []) + [([name], kind == "truth")]
+    form, may_be_absent = FORMS[kind]
+    return ([([], True)] if may_be_absent else []) + [([(name[2:], form)], True)]
+
+
+def rules_of(grammar):
+    """Rules, each a left side, its right side, a label, and the pattern of its parts: 0 for one that is absent, 1 for a symbol that is none, 2
+    for one that is."""
+    rules = []
+    for label, left, pieces in grammar.lines:
+        for choice in itertools.product(*map(choices, pieces)):
+            right, parts = [], []
+            for symbols, is_part in choice:
+                right += symbols
+                parts += [2 if is_part else 1] if symbols else [0] if is_part else []
+            if right:
+                rules.append(((left, PLAIN), tuple(right), label, parts))
+    for n in grammar.repeated:
+        rules.append(((n, ROW), ((n, PLAIN),), "l.First", [2]))
+        rules.append(((n, ROW), ((n, ROW), (n, PLAIN)), "l.More", [2, 2]))
+    for n in grammar.separated:
+        rules.append(((n, LIST), ((n, COMMAS),), "l.Pass", [2]))
+        rules.append(((n, LIST), ((n, COMMAS), COMMA), "l.Pass", [2, 1]))
+        rules.append(((n, COMMAS), ((n, PLAIN),), "l.First", [2]))
+        rules.append(((n, COMMAS), ((n, COMMAS), COMMA, (n, PLAIN)), "l.More", [2, 1, 2]))
+    for n in grammar.begun:
+        rules.append(((n, SENTENCE), ((n, PLAIN),), "l.Pass", [2]))
+    return rules
 
 
 # ---- the automaton
 
 
 class Automaton:
-    def __init__(self, rules):
-        self.rules = rules
+    def __init__(self, grammar):
+        self.begun = grammar.begun
+        self.rules = rules = rules_of(grammar)
         self.phrases = list(dict.fromkeys(left for left, _, _, _ in rules))
         self.rules_of = {n: [p for p, rule in enumerate(rules) if rule[0] == n] for n in self.phrases}
         self.first = {n: set() for n in self.phrases}
         self.follow = {n: set() for n in self.phrases}
         self.close_first()
-        for start in STARTS:
-            self.follow[start].add("end")
+        for start in self.begun:
+            self.follow[start, PLAIN].add("end")
         self.close_follow()
         self.corners, self.ways = {}, {}
         for n in self.phrases:
@@ -355,8 +138,7 @@ class Automaton:
                 if symbol in self.first and symbol not in corners:
                     corners.append(symbol)
                     ways.append(p)
-        sentences = n.startswith("sentence ")
-        self.corners[n], self.ways[n] = ([], []) if sentences else (corners, ways)
+        self.corners[n], self.ways[n] = ([], []) if n[1] == SENTENCE else (corners, ways)
 
     def closure(self, kernel):
         items = list(kernel)
@@ -379,8 +161,8 @@ class Automaton:
 
     def build(self):
         self.numbers, self.kernels, self.steps, self.finals = {}, [], [], []
-        for start in STARTS:
-            self.number([(self.rules_of[sentence(start)][0], 0)])
+        for start in self.begun:
+            self.number([(self.rules_of[start, SENTENCE][0], 0)])
         for kernel in self.kernels:
             after = {}
             for p, read in self.closure(kernel):
@@ -389,7 +171,7 @@ class Automaton:
                     after.setdefault(right[read], []).append((p, read + 1))
             self.steps.append({symbol: self.number(items) for symbol, items in after.items()})
         for s, kernel in enumerate(self.kernels):
-            self.finals.append([p for p, read in kernel if read == len(self.rules[p][1]) and not self.rules[p][0].startswith("sentence ")])
+            self.finals.append([p for p, read in kernel if read == len(self.rules[p][1]) and self.rules[p][0][1] != SENTENCE])
             self.check(s)
 
     def check(self, s):
@@ -414,46 +196,32 @@ class Automaton:
 
 def fixed_tokens():
     body = TOKENS.read_text().split("pub enum Fixed {")[1].split("\n}")[0]
-    return re.findall(r"/// `(.*)`\n\s*(\w+),", body)
+    return re.findall(r"^    (\w+),", body, re.M)
 
 
-OPERATORS = {"unary": "UnaryOperator", "binary": "BinaryOperator", "assignment": "AssignmentOperator"}
-
-
-GROUPS = {
-    "Name": "name_alone name_above name_in_package name_within one_up further_up simple templated call",
-    "Expression": "a_literal named called parenthesized component indexed unary binary place_name underscore",
-    "Attribute": "word reserved_word keyword arguments attribute var_kind var_in",
-    "Value": "typed typed_as var var_set const let override override_set assertion",
-    "Plain": "called_statement assignment increment decrement break continue return discard local asserted",
-    "Statement": "header void_statement plain_statement compound if switch loop for while",
-    "Clause": "block else_if default_selector selector case default continuing break_if",
-    "Import": "from_package from_own from_above from_within first_step next_step item renamed collection tree import",
-    "Directive": "rule rule_of diagnostic extension enable requires",
-    "Declaration": "void_declaration global global_const alias global_assertion struct member function parameter result module",
-}
+GROUPS = """AttributeLabel ClauseLabel DeclarationLabel DirectiveLabel ExpressionLabel ImportLabel Label NameLabel PlainLabel StatementLabel
+ValueLabel""".split()
+PAYLOADS = {"u": "UnaryOperator", "o": "BinaryOperator", "a": "AssignmentOperator", "f": "Fixed"}
 
 
 def label_of(label):
-    kind, _, name = label.partition(" ")
-    kind = {"literal": "a_literal", "true": "a_literal", "false": "a_literal"}.get(kind, kind)
-    variant = "".join(word.capitalize() for word in kind.split("_"))
-    if kind in ("pass", "first", "more"):
-        return "Label::" + variant
-    (group,) = (group for group, kinds in GROUPS.items() if kind in kinds.split())
-    if kind == "keyword":
-        variant += "(Fixed::" + dict(fixed_tokens())[name] + ")"
-    if kind in OPERATORS:
-        variant += f"({OPERATORS[kind]}::{name})"
-    return f"Label::{group}({group}Label::{variant})"
+    """A label as it is written in code; the words of (l.Group (group.Variant p.Payload)) from the outside in."""
+    words = [word.strip("()") for word in label.split()]
+    group = words[0][2:]
+    if len(words) == 1:
+        return "Label::" + group
+    variant = f"{group}Label::" + words[1].partition(".")[2]
+    if len(words) == 3:
+        variant += f"({PAYLOADS[words[2][0]]}::{words[2][2:]})"
+    return f"Label::{group}({variant})"
 
 
 class Arrays:
     def __init__(self, automaton):
         self.automaton = automaton
-        spelled = [spelling for spelling, _ in fixed_tokens()]
-        self.classes = {name: c for c, name in enumerate(spelled + CLASSES)}
-        self.numbers = {name: n for n, name in enumerate(automaton.phrases)}
+        self.classes = {name: c for c, name in enumerate(["f." + name for name in fixed_tokens()] + CLASSES)}
+        self.all = list(itertools.product(nonterminals(), range(5)))
+        self.numbers = {n: i for i, n in enumerate(self.all)}
         self.texts = []
 
     def code(self, symbol):
@@ -486,32 +254,38 @@ class Arrays:
 
     def write_phrases(self):
         a = self.automaton
-        self.rows("For each nonterminal those that a phrase of it may begin with.", "CORNERS", "u16", [[self.numbers[m] for m in a.corners[n]] for n in a.phrases])
-        self.rows("For each of these but the first a rule that begins with it, of an earlier one.", "WAYS", "u16", [a.ways[n] for n in a.phrases])
-        self.rows("For each nonterminal its rules.", "RULES", "u16", [a.rules_of[n] for n in a.phrases])
-        self.rows("For each nonterminal what may stand behind it.", "FOLLOW", "u16", [sorted(map(self.ahead, a.follow[n])) for n in a.phrases])
-        self.rows("For each nonterminal the classes that it may begin with.", "FIRST", "u16", [sorted(self.classes[c] for c in a.first[n]) for n in a.phrases])
+        each = lambda rows: [rows.get(n, []) for n in self.all]
+        corners = {n: [self.numbers[m] for m in row] for n, row in a.corners.items()}
+        follow = {n: sorted(map(self.ahead, row)) for n, row in a.follow.items()}
+        first = {n: sorted(self.classes[c] for c in row) for n, row in a.first.items()}
+        self.rows("For each nonterminal those that a phrase of it may begin with.", "CORNERS", "u16", each(corners))
+        self.rows("For each of these but the first a rule that begins with it, of an earlier one.", "WAYS", "u16", each(a.ways))
+        self.rows("For each nonterminal its rules.", "RULES", "u16", each(a.rules_of))
+        self.rows("For each nonterminal what may stand behind it.", "FOLLOW", "u16", each(follow))
+        self.rows("For each nonterminal the classes that it may begin with.", "FIRST", "u16", each(first))
         self.array("Rules in an order in which each is made of tokens and phrases of earlier ones.", "ORDER", "u16", a.order())
 
     def write_rules(self):
         rules = self.automaton.rules
         self.array("The left side of each rule.", "LEFT", "u16", [self.numbers[left] for left, _, _, _ in rules])
         self.rows("For each rule the codes of the symbols of its right side.", "RIGHT", "u16", [[self.code(symbol) for symbol in right] for _, right, _, _ in rules])
+        self.array("What each rule makes.", "LABELS", "Label", [label_of(label) for _, _, label, _ in rules])
+        self.rows("For each rule the pattern of its parts: 0 for one that is absent, 1 for a symbol that is none, 2 for one that is.", "PATTERNS", "u16", [parts for _, _, _, parts in rules])
 
     def write_starts(self):
         a = self.automaton
-        starts = [a.rules_of[sentence(start)][0] for start in STARTS]
-        self.array("The state that each start ends in; it begins in the state of its own number.", "LAST", "u16", [a.steps[i][start] for i, start in enumerate(STARTS)])
-        self.array("The rule of each start.", "START_RULE", "u16", starts)
-        self.array("The phrase of each start.", "GOAL", "u16", [self.numbers[start] for start in STARTS])
-        self.array("The sentence of each start.", "SENTENCE", "u16", [self.numbers[sentence(start)] for start in STARTS])
+        last = [a.steps[i][start, PLAIN] for i, start in enumerate(a.begun)]
+        self.array("The state that each start ends in; it begins in the state of its own number.", "LAST", "u16", last)
+        self.array("The rule of each start.", "START_RULE", "u16", [a.rules_of[start, SENTENCE][0] for start in a.begun])
+        self.array("The phrase of each start.", "GOAL", "u16", [self.numbers[start, PLAIN] for start in a.begun])
+        self.array("The sentence of each start.", "SENTENCE", "u16", [self.numbers[start, SENTENCE] for start in a.begun])
 
     def write_counts(self):
         a = self.automaton
         self.count("How many classes of tokens there are.", "CLASS_COUNT", len(self.classes))
         self.count("How many rules there are.", "RULE_COUNT", len(a.rules))
         self.count("How many states there are.", "STATE_COUNT", len(a.kernels))
-        self.count("How many nonterminals there are.", "NONTERMINAL_COUNT", len(a.phrases))
+        self.count("How many nonterminals there are.", "NONTERMINAL_COUNT", len(self.all))
 
     def text(self):
         self.write_counts()
@@ -519,29 +293,15 @@ class Arrays:
         self.write_phrases()
         self.write_rules()
         self.write_starts()
-        head = "//! The tables of the parser. The tool `tools/parser_tables.py` writes this file.\n\n"
-        return head + "\n".join(self.texts)
-
-    def labels_text(self):
-        self.texts = []
-        rules = self.automaton.rules
-        self.array("What each rule makes.", "LABELS", "Label", [label_of(label) for _, _, label, _ in rules])
-        self.rows("For each rule the pattern of its parts: 0 for one that is absent, 1 for a symbol that is none, 2 for a symbol that is one.", "PATTERNS", "u16", [pattern for _, _, _, pattern in rules])
-        head = "//! What the rules of the parser make. The tool `tools/parser_tables.py` writes this file.\n\n"
-        head += "use wgsl_enumerations::AssignmentOperator;\nuse wgsl_operators::{BinaryOperator, UnaryOperator};\n"
-        head += "use wgsl_parts::{\n    " + ", ".join(sorted([group + "Label" for group in GROUPS] + ["Label"])) + ",\n};\nuse wgsl_token::Fixed;\n\n"
+        head = "//! The tables of the parser. The tool `tools/parser_tables.py` writes this file.\n\nuse wgsl_enumerations::AssignmentOperator;\n"
+        head += "use wgsl_operators::{BinaryOperator, UnaryOperator};\nuse wgsl_parts::{" + ", ".join(GROUPS) + "};\nuse wgsl_token::Fixed;\n\n"
         return head + "\n".join(self.texts)
 
 
 def main():
-    write_rows()
-    automaton = Automaton(Rules().rules)
-    arrays = Arrays(automaton)
-    TABLE.parent.mkdir(parents=True, exist_ok=True)
-    TABLE.write_text(arrays.text())
-    LABELS.parent.mkdir(parents=True, exist_ok=True)
-    LABELS.write_text(arrays.labels_text())
-    print(len(automaton.rules), "rules", len(automaton.phrases), "nonterminals", len(arrays.classes), "classes", len(automaton.kernels), "states", sum(map(len, automaton.steps)), "steps")
+    automaton = Automaton(Grammar())
+    TABLE.write_text(Arrays(automaton).text())
+    print(len(automaton.rules), "rules", len(automaton.phrases), "nonterminals", len(automaton.kernels), "states", sum(map(len, automaton.steps)), "steps")
 
 
 if __name__ == "__main__":

@@ -2,3 +2,4 @@ pub mod Passing
 pub mod Fits
 pub mod Read
 pub mod Examples
+pub mod Written

@@ -7,7 +7,7 @@ use Rattle.wgsl_shift_reduce.specs.Grammars.{Symbol, Rule}
 use Rattle.wgsl_tables.specs.Listed.{code, member, rule_at, steps_at, finals_at, first_before, reduction_by}
 use Rattle.wgsl_tables.specs.Tests.{all_below}
 use Rattle.wgsl_tables.proofs.Facts.{given, each_below, pair_is, code_is}
-use Rattle.wgsl_grammar_tables.specs.declared.table.TheConstants.{LAST, RULE_COUNT, STATE_COUNT, NONTERMINAL_COUNT, STEPS, STEPS_STARTS, FINALS, FINALS_STARTS, FOLLOW, FOLLOW_STARTS, LEFT, RIGHT, RIGHT_STARTS}
+use Rattle.wgsl_grammar_tables.specs.declared.table.TheConstants.{LAST, PATTERNS, PATTERNS_STARTS, RULE_COUNT, STATE_COUNT, NONTERMINAL_COUNT, STEPS, STEPS_STARTS, FINALS, FINALS_STARTS, FOLLOW, FOLLOW_STARTS, LEFT, RIGHT, RIGHT_STARTS}
 use Rattle.wgsl_grammar_tables.specs.Rows.{AreStarts, row_between}
 use Rattle.wgsl_grammar_tables.specs.Starts.{start}
 use Rattle.wgsl_grammar_tables.specs.Decoded.{nth, listed, step_of, symbol_of, groups, number_at}
@@ -15,14 +15,14 @@ use Rattle.wgsl_grammar_tables.specs.Decoded.{nth, listed, step_of, symbol_of, g
 -- ---- lists that are the same
 
 module _ {X : Type 0} (same : X → X → Bool) where
-  abbrev all_same : List X → List X → Bool
+  abbrev pub all_same : List X → List X → Bool
   all_same [] [] = true
   all_same [] (y ∷ ys) = false
   all_same (x ∷ xs) [] = false
   all_same (x ∷ xs) (y ∷ ys) = same x y && all_same xs ys
 
   module _ (sound : (x y : X) → same x y ≡ true → x ≡ y) where
-    lists_same : (xs ys : List X) → all_same xs ys ≡ true → xs ≡ ys
+    pub lists_same : (xs ys : List X) → all_same xs ys ≡ true → xs ≡ ys
     lists_same [] [] e = refl
     lists_same [] (y ∷ ys) e = absurd cc
     lists_same (x ∷ xs) [] e = absurd cc
@@ -31,7 +31,7 @@ module _ {X : Type 0} (same : X → X → Bool) where
         ap (λ z. z ∷ xs) (sound x y parts.0) ∙ ap (λ z. y ∷ z) (lists_same xs ys parts.1)
 
     -- rows are the same if they are below a count and from there on
-    rows_same : (f h : ℕ → List X) (n : ℕ) → all_below n (λ i. all_same (f i) (h i)) ≡ true → ((i : ℕ) → n ≤ i → f i ≡ h i) → (i : ℕ) → f i ≡ h i
+    pub rows_same : (f h : ℕ → List X) (n : ℕ) → all_below n (λ i. all_same (f i) (h i)) ≡ true → ((i : ℕ) → n ≤ i → f i ≡ h i) → (i : ℕ) → f i ≡ h i
     rows_same f h n e beyond i =
         elim (cases_lt i n) [
           | inl lt ↦ lists_same (f i) (h i) (each_below n (λ i. all_same (f i) (h i)) i e (lt-ltb i n lt))
@@ -44,10 +44,10 @@ same_pair a b = (a.0 == b.0) && (a.1 == b.1)
 pair_same : (a b : ℕ × ℕ) → same_pair a b ≡ true → a ≡ b
 pair_same a b e = let parts = and_parts (a.0 == b.0) (a.1 == b.1) e in pair_is (eqb-true a.0 b.0 parts.0) (eqb-true a.1 b.1 parts.1)
 
-abbrev same_symbol : Symbol → Symbol → Bool
+abbrev pub same_symbol : Symbol → Symbol → Bool
 same_symbol x y = code x == code y
 
-symbol_same : (x y : Symbol) → same_symbol x y ≡ true → x ≡ y
+pub symbol_same : (x y : Symbol) → same_symbol x y ≡ true → x ≡ y
 symbol_same x y e = code_is x y (eqb-true (code x) (code y) e)
 
 none_beyond : {X : Type 0} (xs : List X) (i n : ℕ) → n ≤ i → (if nat_lt i n then xs else []) ≡ []
@@ -64,7 +64,7 @@ more_beyond i n le = omega arith
 abbrev start_fits : List ℕ → ℕ → ℕ → Bool
 start_fits starts n i = nat_le (slice_index starts i) (slice_index starts (i + 1)) && nat_le (slice_index starts (i + 1)) n
 
-pub are_starts : (starts : List ℕ) (n : ℕ) → all_below (length starts - 1) (start_fits starts n) ≡ true → AreStarts starts n
+are_starts : (starts : List ℕ) (n : ℕ) → all_below (length starts - 1) (start_fits starts n) ≡ true → AreStarts starts n
 are_starts starts n e =
     let at : (i : ℕ) → i + 1 < length starts → start_fits starts n i ≡ true = λ i lt. each_below (length starts - 1) (start_fits starts n) i e (lt-ltb i (length starts - 1) (omega arith)) in
     let parts = λ (i : ℕ) (lt : i + 1 < length starts). and_parts (nat_le (slice_index starts i) (slice_index starts (i + 1))) (nat_le (slice_index starts (i + 1)) n) (at i lt) in
@@ -84,6 +84,9 @@ follow_starts = are_starts FOLLOW_STARTS (length FOLLOW) refl
 
 pub right_starts : AreStarts RIGHT_STARTS (length RIGHT)
 right_starts = are_starts RIGHT_STARTS (length RIGHT) refl
+
+pub parts_starts : AreStarts PATTERNS_STARTS (length PATTERNS)
+parts_starts = are_starts PATTERNS_STARTS (length PATTERNS) refl
 
 -- ---- rows
 
@@ -186,3 +189,6 @@ from_is i = refl
 pub last_is : (i : ℕ) → slice_index LAST i ≡ (start i).last
 unfolding start
 last_is i = nth_is LAST i
+
+pub parts_beyond : (p : ℕ) → RULE_COUNT ≤ p → row_between PATTERNS_STARTS PATTERNS p ≡ []
+parts_beyond p le = none_beyond (slice_range PATTERNS (slice_index PATTERNS_STARTS p) (slice_index PATTERNS_STARTS (p + 1))) (p + 1) (length PATTERNS_STARTS) (more_beyond p RULE_COUNT le)

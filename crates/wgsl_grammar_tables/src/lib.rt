@@ -1,25 +1,27 @@
 //! The tables of the parser of WGSL and of the grammar of imports, and how they are read.
 #![tactic(auto)]
 
-ghost use Rattle.std.specs.Prelude.{◌≡◌, ◌<◌, length};
+ghost use Rattle.std.specs.Prelude.{◌≡◌, ◌<◌, get_or, length};
 ghost use Rattle.wgsl_grammar_tables.specs.Decoded.{listed};
+ghost use Rattle.wgsl_parts.specs.declared.label.Label.TheVariants.{Pass};
 ghost use Rattle.wgsl_grammar_tables.specs.Starts.{start};
+ghost use Rattle.wgsl_grammar_tables.specs.Labels.{label_at, pattern_at};
 ghost use Rattle.wgsl_tables.specs.Listed.{beside, first_before, reduction_at, steps_at};
 
 pub mod class;
 mod rows;
 pub mod table;
 
-pub use crate::rows::row;
-use crate::rows::{contains, target, wide_row};
+use crate::rows::{contains, row, target, wide_row};
 use crate::table::{
-    FINALS, FINALS_STARTS, FOLLOW, FOLLOW_STARTS, LAST, LEFT, RIGHT, RIGHT_STARTS, RULE_COUNT,
-    STEPS, STEPS_STARTS,
+    FINALS, FINALS_STARTS, FOLLOW, FOLLOW_STARTS, LABELS, LAST, LEFT, PATTERNS, PATTERNS_STARTS,
+    RIGHT, RIGHT_STARTS, RULE_COUNT, STEPS, STEPS_STARTS,
 };
+use wgsl_parts::Label;
 
 /// The state that a symbol of this code leads to from a state.
 #[tactic(auto, using(crate::proofs::Read::steps_starts, crate::proofs::Read::steps_row))]
-pub fn step(state: u16, symbol: u16) -> Option<u16>
+pub fn step(state: u16, symbol: u32) -> Option<u16>
     ensures { result ≡ beside symbol (steps_at listed state) }
 {
     target(wide_row(&STEPS_STARTS, &STEPS, state), symbol)
@@ -69,6 +71,30 @@ pub fn rule_length(rule: u16) -> usize
     ensures { result ≡ length (listed.rule rule).right }
 {
     row(&RIGHT_STARTS, &RIGHT, rule).len()
+}
+
+/// What a rule makes of its parts.
+pub fn rule_label(rule: u16) -> Label
+    ensures { result ≡ label_at rule }
+{
+    label_in(&LABELS, rule)
+}
+
+fn label_in(labels: &[Label], rule: u16) -> Label
+    ensures { result ≡ get_or labels.now rule Pass }
+{
+    match labels.get(usize::from(rule)) {
+        Some(label) => *label,
+        None => Label::Pass,
+    }
+}
+
+/// The pattern of a rule's parts: 0 for one that is absent, 1 for a symbol that is none, 2 for one that is.
+#[tactic(auto, using(crate::proofs::Read::parts_starts))]
+pub fn rule_pattern(rule: u16) -> &'static [u16]
+    ensures { result.now ≡ pattern_at rule }
+{
+    row(&PATTERNS_STARTS, &PATTERNS, rule)
 }
 
 /// The state that a start ends in; it begins in the state of its own number.

@@ -32,11 +32,11 @@ pub fn wide_row<'a>(starts: &[u16], entries: &'a [u32], number: u16) -> &'a [u32
 }
 
 /// The state that a symbol's code leads to.
-pub fn target(steps: &[u32], symbol: u16) -> Option<u16>
+pub fn target(steps: &[u32], symbol: u32) -> Option<u16>
     ensures { result ≡ beside symbol (map step_of steps.now) }
 {
     for step in steps {
-        if *step / 1024 == u32::from(symbol) {
+        if *step / 1024 == symbol {
             return Some((*step % 1024) as u16);
         }
     }

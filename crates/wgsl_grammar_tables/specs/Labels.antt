@@ -2,12 +2,12 @@
 use Rattle.std.specs.Prelude.{ℕ, List, get_or}
 use Rattle.wgsl_parts.specs.declared.label.Label.{Label}
 use Rattle.wgsl_parts.specs.declared.label.Label.TheVariants.{Pass}
-use Rattle.wgsl_phrases.specs.declared.table.TheConstants.{LABELS, PATTERNS, PATTERNS_STARTS}
+use Rattle.wgsl_grammar_tables.specs.declared.table.TheConstants.{LABELS, PATTERNS, PATTERNS_STARTS}
 use Rattle.wgsl_grammar_tables.specs.Rows.{row_between}
 
 abbrev pub label_at : ℕ → Label
 label_at p = get_or LABELS p Pass
 
--- for each part of a row, in order: 0 where it is absent; 1 for a symbol that is no part; 2 for one that is
+-- the pattern of a rule's parts: 0 for one that is absent, 1 for a symbol that is none, 2 for one that is
 abbrev pub pattern_at : ℕ → List ℕ
 pattern_at p = row_between PATTERNS_STARTS PATTERNS p
