@@ -3,3 +3,4 @@ pub mod Fits
 pub mod Read
 pub mod Examples
 pub mod Written
+pub mod Driving

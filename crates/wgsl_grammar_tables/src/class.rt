@@ -1,6 +1,6 @@
 //! The class of a token.
 
-ghost use Rattle.std.specs.Prelude.{◌≡◌};
+ghost use Rattle.std.specs.Prelude.{◌≡◌, ◌<◌};
 ghost use Rattle.wgsl_grammar_tables.specs.Classes as classes;
 
 use wgsl_template_spec::TemplateToken;
@@ -8,7 +8,8 @@ use wgsl_token::{Fixed, Token};
 
 /// The class of a token: a fixed token has its own; identifiers, literals and reserved words are one each.
 pub fn class_of(token: &TemplateToken) -> u16
-    ensures { result ≡ classes.class_of token.now }
+    ensures is { result ≡ classes.class_of token.now }
+    ensures below { result < 83 }
 {
     match token {
         TemplateToken::Plain(token) => plain_class(token),
@@ -18,7 +19,8 @@ pub fn class_of(token: &TemplateToken) -> u16
 }
 
 fn plain_class(token: &Token) -> u16
-    ensures { result ≡ classes.plain_class token.now }
+    ensures is { result ≡ classes.plain_class token.now }
+    ensures below { result < 83 }
 {
     match token {
         Token::Fixed(kind) => fixed_class(*kind),
@@ -35,7 +37,8 @@ fn plain_class(token: &Token) -> u16
 }
 
 fn fixed_class(kind: Fixed) -> u16
-    ensures { result ≡ classes.fixed_class kind }
+    ensures is { result ≡ classes.fixed_class kind }
+    ensures below { result < 83 }
 {
     match kind {
         Fixed::Alias => 0,

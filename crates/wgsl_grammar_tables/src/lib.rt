@@ -9,6 +9,7 @@ ghost use Rattle.wgsl_grammar_tables.specs.Labels.{label_at, pattern_at};
 ghost use Rattle.wgsl_tables.specs.Listed.{beside, first_before, reduction_at, steps_at};
 
 pub mod class;
+pub mod drive;
 mod rows;
 pub mod table;
 

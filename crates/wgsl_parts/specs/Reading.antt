@@ -1,10 +1,14 @@
 -- What parts say that may be absent.
-use Rattle.std.specs.Prelude.{List, []}
+use Rattle.std.specs.Prelude.{List, [], Option, Some, None}
 use Rattle.wgsl_path.specs.declared.span.Spanned.{Spanned}
 use Rattle.wgsl_expressions.specs.declared.expression.Expression.{Expression}
 use Rattle.wgsl_attributes.specs.declared.attribute.Attribute.{Attribute}
 use Rattle.wgsl_parts.specs.declared.part.Part.{Part}
 use Rattle.wgsl_parts.specs.declared.part.Part.TheVariants as part
+
+abbrev pub expression_in : Part → Option (Spanned Expression)
+expression_in (part.Expression x) = Some x
+expression_in _ = None
 
 abbrev pub expressions_of : Part → List (Spanned Expression)
 expressions_of (part.Expressions xs) = xs

@@ -3,7 +3,6 @@
 
 mod label;
 mod part;
-mod stack;
 pub mod take;
 
 pub use label::{
@@ -11,4 +10,4 @@ pub use label::{
     Label, NameLabel, PlainLabel, StatementLabel, ValueLabel,
 };
 pub use part::{FunctionResult, Part, QualifiedName, TypedName};
-pub use stack::Stack;
+pub use wgsl_stack::Stack;

@@ -1,16 +1,16 @@
 //! Parts that are taken from those of a phrase, the first first. A part that does not fit is answered by an error.
 
 ghost use Rattle.std.specs.Prelude.{◌≡◌, ◌∷◌, [], IfOk};
-ghost use Rattle.wgsl_parts.specs.Reading.{expressions_of, attributes_of};
+ghost use Rattle.wgsl_parts.specs.Reading.{expression_in, expressions_of, attributes_of};
 
 use crate::part::Part;
-use crate::stack::Stack;
 use std::alloc::{AllocError, Global};
 use wgsl_attributes::Attributes;
 use wgsl_expressions::{ExpressionNode, FunctionCall, TypeExpression};
 use wgsl_items::{Boxed, Items};
 use wgsl_path::Ident;
 use wgsl_simple_statements::{ConstAssert, Declaration};
+use wgsl_stack::Stack;
 use wgsl_statements::CompoundStatement;
 
 /// The first part.
@@ -108,6 +108,17 @@ pub fn block(part: Part) -> Result<CompoundStatement, AllocError>
 {
     match part {
         Part::Block(x) => Ok(x),
+        other => misfit(other),
+    }
+}
+
+/// An expression that may be absent.
+pub fn optional_expression(part: Part) -> Result<Option<ExpressionNode>, AllocError>
+    ensures { IfOk result (λ x. x ≡ expression_in part) }
+{
+    match part {
+        Part::Absent => Ok(None),
+        Part::Expression(x) => Ok(Some(x)),
         other => misfit(other),
     }
 }

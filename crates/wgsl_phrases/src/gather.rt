@@ -18,7 +18,8 @@ pub struct Extent {
     pub depth: u32,
 }
 
-fn first_failure(failure: Option<Failure>, other: Option<Failure>) -> Option<Failure>
+/// The first of two failures, if there is one.
+pub fn first_failure(failure: Option<Failure>, other: Option<Failure>) -> Option<Failure>
     ensures { result ≡ either failure other }
 {
     match failure {

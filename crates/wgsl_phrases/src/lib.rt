@@ -5,5 +5,5 @@
 mod gather;
 mod phrase;
 
-pub use gather::{Extent, gathered};
+pub use gather::{Extent, first_failure, gathered};
 pub use phrase::{Absence, Check, Failure, Phrase};

@@ -2,6 +2,7 @@
 
 ghost use Rattle.std.specs.Prelude.{◌≡◌};
 
+use wgsl_parts::Part;
 use wgsl_path::Span;
 
 /// What may be left out of a row.
@@ -11,6 +12,16 @@ pub trait Absence: Drop {
 
     fn absent() -> Self
         ensures { result ≡ absent };
+}
+
+impl Absence for Part {
+    ghost use Rattle.wgsl_parts.specs.declared.part.Part.TheVariants.{Absent};
+
+    ghost absent = { Absent };
+
+    fn absent() -> Part {
+        Part::Absent
+    }
 }
 
 /// What is checked of arguments (WGSL, "Attributes", "Diagnostics", "Address Spaces").

@@ -1,0 +1,12 @@
+//! What attributes and the templates of `var` are, by their words and arguments.
+#![tactic(auto)]
+
+mod attribute;
+mod name;
+mod template;
+mod word;
+
+pub use attribute::attribute_of;
+pub use name::severity_in;
+pub use template::template_of;
+pub use word::{AttributeWord, word_named};

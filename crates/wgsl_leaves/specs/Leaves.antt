@@ -1,0 +1,34 @@
+-- What a token stands for.
+use Rattle.std.specs.Prelude.{true, false}
+use Rattle.wgsl_path.specs.Paths.{ident_of}
+use Rattle.wgsl_token.specs.declared.token.Fixed.{Fixed}
+use Rattle.wgsl_token.specs.declared.token.Fixed.TheVariants as fixed
+use Rattle.wgsl_token.specs.declared.token.Token.{Token}
+use Rattle.wgsl_token.specs.declared.token.Token.TheVariants as token
+use Rattle.wgsl_template_spec.specs.declared.token.TemplateToken.{TemplateToken}
+use Rattle.wgsl_template_spec.specs.declared.token.TemplateToken.TheVariants.{Plain}
+use Rattle.wgsl_expressions.specs.declared.expression.LiteralExpression.TheVariants as literal
+use Rattle.wgsl_parts.specs.declared.part.Part.{Part}
+use Rattle.wgsl_parts.specs.declared.part.Part.TheVariants as part
+
+abbrev pub fixed_leaf : Fixed → Part
+fixed_leaf fixed.True = part.Literal (literal.Bool true)
+fixed_leaf fixed.False = part.Literal (literal.Bool false)
+fixed_leaf _ = part.Mark
+
+abbrev pub plain_leaf : Token → Part
+plain_leaf (token.Fixed kind) = fixed_leaf kind
+plain_leaf (token.Identifier name) = part.Ident (ident_of name)
+plain_leaf (token.Reserved word) = part.Reserved word
+plain_leaf (token.AbstractInt n) = part.Literal (literal.AbstractInt n)
+plain_leaf (token.I32 n) = part.Literal (literal.I32 n)
+plain_leaf (token.U32 n) = part.Literal (literal.U32 n)
+plain_leaf (token.AbstractFloat spelled) = part.Literal (literal.AbstractFloat spelled)
+plain_leaf (token.F32 spelled) = part.Literal (literal.F32 spelled)
+plain_leaf (token.F16 spelled) = part.Literal (literal.F16 spelled)
+plain_leaf token.Invalid = part.Mark
+
+-- a name, a reserved word or a literal; of any other token no more than that it is there
+abbrev pub leaf : TemplateToken → Part
+leaf (Plain k) = plain_leaf k
+leaf _ = part.Mark

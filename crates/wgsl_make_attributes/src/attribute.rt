@@ -1,0 +1,111 @@
+//! Attributes, and what `var` says of a variable.
+
+ghost use Rattle.std.specs.Prelude.{◌≡◌, IfOk};
+ghost use Rattle.wgsl_make_attributes.specs.Making as making;
+
+use crate::take::{arguments, list, reserved, word};
+use std::alloc::{AllocError, Global};
+use wgsl_attribute_words::{attribute_of, template_of};
+use wgsl_attributes::{Attribute, CustomAttribute};
+use wgsl_expressions::ExpressionNode;
+use wgsl_items::{Boxed, Items, Text};
+use wgsl_parts::take::{end, expressions, first, ident};
+use wgsl_parts::{AttributeLabel, Part, Stack};
+use wgsl_path::{Ident, Span, Spanned};
+use wgsl_simple_statements::DeclarationKind;
+use wgsl_token::Fixed;
+
+fn name_word(parts: &mut Stack<Part>) -> Result<Part, AllocError>
+    ensures { IfOk result (λ part. part ≡ making.name_word parts.old) }
+{
+    let Ident { name } = ident(first(parts)?)?;
+    end(parts)?;
+    Ok(Part::Word(name))
+}
+
+fn reserved_word(parts: &mut Stack<Part>) -> Result<Part, AllocError>
+    ensures { IfOk result (λ part. part ≡ making.reserved_word parts.old) }
+{
+    let word = reserved(first(parts)?)?;
+    end(parts)?;
+    Ok(Part::Word(word))
+}
+
+fn keyword(alloc: Global, kind: Fixed) -> Result<Part, AllocError>
+    ensures { IfOk result (λ part. part ≡ making.keyword kind) }
+{
+    Ok(Part::Word(Text::from_str(alloc, kind.as_str())?))
+}
+
+fn all_arguments(alloc: Global, parts: &mut Stack<Part>) -> Result<Part, AllocError>
+    ensures { IfOk result (λ part. part ≡ making.all_arguments parts.old) }
+{
+    let arguments = expressions(alloc, first(parts)?)?;
+    end(parts)?;
+    Ok(Part::Arguments(arguments))
+}
+
+/// The attribute of a word and arguments. Where they fail its check it is custom.
+fn checked(
+    alloc: Global,
+    word: Text,
+    arguments: Option<Items<ExpressionNode>>,
+) -> Result<Attribute, AllocError>
+    ensures { IfOk result (λ made. made ≡ making.checked word arguments) }
+{
+    match attribute_of(alloc, word.as_str(), &arguments)? {
+        Some(attribute) => Ok(attribute),
+        None => {
+            let custom = CustomAttribute {
+                name: word,
+                arguments,
+            };
+            Ok(Attribute::Custom(Boxed::new(alloc, custom)?))
+        }
+    }
+}
+
+fn whole_attribute(alloc: Global, span: Span, parts: &mut Stack<Part>) -> Result<Part, AllocError>
+    ensures { IfOk result (λ part. part ≡ making.whole_attribute span parts.old) }
+{
+    let word = word(first(parts)?)?;
+    let arguments = arguments(first(parts)?)?;
+    end(parts)?;
+    let attribute = checked(alloc, word, arguments)?;
+    Ok(Part::Attribute(Spanned::new(alloc, attribute, span)?))
+}
+
+fn var_kind(parts: &mut Stack<Part>) -> Result<Part, AllocError>
+    ensures { IfOk result (λ part. part ≡ making.var_kind parts.old) }
+{
+    end(parts)?;
+    Ok(Part::Kind(DeclarationKind::Var(None)))
+}
+
+fn var_in(parts: &mut Stack<Part>) -> Result<Part, AllocError>
+    ensures { IfOk result (λ part. part ≡ making.var_in parts.old) }
+{
+    let arguments = list(first(parts)?)?;
+    end(parts)?;
+    Ok(Part::Kind(DeclarationKind::Var(template_of(arguments.as_slice()))))
+}
+
+/// What the production of this label makes of its parts. Parts that do not fit are answered as if memory were refused.
+pub fn make_attribute(
+    alloc: Global,
+    label: AttributeLabel,
+    span: Span,
+    parts: &mut Stack<Part>,
+) -> Result<Part, AllocError>
+    ensures { IfOk result (λ part. part ≡ making.make_attribute label span parts.old) }
+{
+    match label {
+        AttributeLabel::Word => name_word(parts),
+        AttributeLabel::ReservedWord => reserved_word(parts),
+        AttributeLabel::Keyword(kind) => keyword(alloc, kind),
+        AttributeLabel::Arguments => all_arguments(alloc, parts),
+        AttributeLabel::Attribute => whole_attribute(alloc, span, parts),
+        AttributeLabel::VarKind => var_kind(parts),
+        AttributeLabel::VarIn => var_in(parts),
+    }
+}

@@ -1,0 +1,106 @@
+//! Directives.
+
+ghost use Rattle.std.specs.Prelude.{◌≡◌, IfOk};
+ghost use Rattle.wgsl_make_imports.specs.Making as making;
+
+use crate::take::{text, texts};
+use std::alloc::{AllocError, Global};
+use wgsl_choices::severity;
+use wgsl_enumerations::DiagnosticSeverity;
+use wgsl_imports::{DiagnosticDirective, EnableDirective, GlobalDirective, RequiresDirective};
+use wgsl_items::{Boxed, Items};
+use wgsl_parts::take::{end, first, ident};
+use wgsl_parts::{DirectiveLabel, Part, Stack};
+use wgsl_path::Ident;
+
+fn directive(alloc: Global, directive: GlobalDirective) -> Result<Part, AllocError>
+    ensures { IfOk result (λ part. part ≡ Part.Directive directive) }
+{
+    Ok(Part::Directive(Boxed::new(alloc, directive)?))
+}
+
+/// A rule or an extension of one name.
+fn name(parts: &mut Stack<Part>) -> Result<Part, AllocError>
+    ensures { IfOk result (λ part. part ≡ making.name parts.old) }
+{
+    let Ident { name } = ident(first(parts)?)?;
+    end(parts)?;
+    Ok(Part::Text(name))
+}
+
+fn rule_of(parts: &mut Stack<Part>) -> Result<Part, AllocError>
+    ensures { IfOk result (λ part. part ≡ making.rule_of parts.old) }
+{
+    let Ident { name } = ident(first(parts)?)?;
+    let rule = ident(first(parts)?)?;
+    end(parts)?;
+    let mut whole = name;
+    whole.push_str(".")?;
+    whole.push_str(rule.as_str())?;
+    Ok(Part::Text(whole))
+}
+
+fn severity_or_off(word: &str) -> DiagnosticSeverity
+    ensures { result ≡ making.severity_or_off word.now }
+{
+    match severity(word) {
+        Some(severity) => severity,
+        None => DiagnosticSeverity::Off,
+    }
+}
+
+fn diagnostic(alloc: Global, parts: &mut Stack<Part>) -> Result<Part, AllocError>
+    ensures { IfOk result (λ part. part ≡ making.diagnostic parts.old) }
+{
+    let word = ident(first(parts)?)?;
+    let rule_name = text(first(parts)?)?;
+    end(parts)?;
+    let diagnostic = DiagnosticDirective {
+        attributes: Items::new(alloc),
+        severity: severity_or_off(word.as_str()),
+        rule_name,
+    };
+    directive(alloc, GlobalDirective::Diagnostic(diagnostic))
+}
+
+fn enable(alloc: Global, parts: &mut Stack<Part>) -> Result<Part, AllocError>
+    ensures { IfOk result (λ part. part ≡ making.enable parts.old) }
+{
+    let extensions = texts(first(parts)?)?;
+    end(parts)?;
+    let names = EnableDirective {
+        attributes: Items::new(alloc),
+        extensions,
+    };
+    directive(alloc, GlobalDirective::Enable(names))
+}
+
+fn requires_extensions(alloc: Global, parts: &mut Stack<Part>) -> Result<Part, AllocError>
+    ensures { IfOk result (λ part. part ≡ making.requires_extensions parts.old) }
+{
+    let extensions = texts(first(parts)?)?;
+    end(parts)?;
+    let names = RequiresDirective {
+        attributes: Items::new(alloc),
+        extensions,
+    };
+    directive(alloc, GlobalDirective::Requires(names))
+}
+
+/// What the production of this label makes of its parts. Parts that do not fit are answered as if memory were refused.
+pub fn make_directive(
+    alloc: Global,
+    label: DirectiveLabel,
+    parts: &mut Stack<Part>,
+) -> Result<Part, AllocError>
+    ensures { IfOk result (λ part. part ≡ making.make_directive label parts.old) }
+{
+    match label {
+        DirectiveLabel::Rule => name(parts),
+        DirectiveLabel::RuleOf => rule_of(parts),
+        DirectiveLabel::Diagnostic => diagnostic(alloc, parts),
+        DirectiveLabel::Extension => name(parts),
+        DirectiveLabel::Enable => enable(alloc, parts),
+        DirectiveLabel::Requires => requires_extensions(alloc, parts),
+    }
+}

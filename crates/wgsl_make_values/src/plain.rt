@@ -1,0 +1,151 @@
+//! Statements that hold no other statement, without their `;`.
+
+ghost use Rattle.std.specs.Prelude.{◌≡◌, IfOk};
+ghost use Rattle.wgsl_make_values.specs.Making as making;
+
+use std::alloc::{AllocError, Global};
+use wgsl_enumerations::AssignmentOperator;
+use wgsl_items::{Boxed, Items};
+use wgsl_parts::take::{assertion, call, declaration, end, expression, first, optional_expression};
+use wgsl_parts::{Part, PlainLabel, Stack};
+use wgsl_simple_statements::{
+    AssignmentStatement, BreakStatement, ContinueStatement, DecrementStatement, DiscardStatement,
+    FunctionCallStatement, IncrementStatement, ReturnStatement,
+};
+use wgsl_statements::Statement;
+
+fn plain(alloc: Global, statement: Statement) -> Result<Part, AllocError>
+    ensures { IfOk result (λ part. part ≡ Part.Plain statement) }
+{
+    Ok(Part::Plain(Boxed::new(alloc, statement)?))
+}
+
+fn called_statement(alloc: Global, parts: &mut Stack<Part>) -> Result<Part, AllocError>
+    ensures { IfOk result (λ part. part ≡ making.called_statement parts.old) }
+{
+    let call = call(first(parts)?)?;
+    end(parts)?;
+    let statement = FunctionCallStatement {
+        attributes: Items::new(alloc),
+        call,
+    };
+    let statement = Boxed::new(alloc, statement)?;
+    plain(alloc, Statement::FunctionCall(statement))
+}
+
+fn assignment(
+    alloc: Global,
+    operator: AssignmentOperator,
+    parts: &mut Stack<Part>,
+) -> Result<Part, AllocError>
+    ensures { IfOk result (λ part. part ≡ making.assignment operator parts.old) }
+{
+    let lhs = expression(first(parts)?)?;
+    let rhs = expression(first(parts)?)?;
+    end(parts)?;
+    let statement = AssignmentStatement {
+        attributes: Items::new(alloc),
+        operator,
+        lhs,
+        rhs,
+    };
+    plain(alloc, Statement::Assignment(statement))
+}
+
+fn increment(alloc: Global, parts: &mut Stack<Part>) -> Result<Part, AllocError>
+    ensures { IfOk result (λ part. part ≡ making.increment parts.old) }
+{
+    let expression = expression(first(parts)?)?;
+    end(parts)?;
+    let statement = IncrementStatement {
+        attributes: Items::new(alloc),
+        expression,
+    };
+    plain(alloc, Statement::Increment(statement))
+}
+
+fn decrement(alloc: Global, parts: &mut Stack<Part>) -> Result<Part, AllocError>
+    ensures { IfOk result (λ part. part ≡ making.decrement parts.old) }
+{
+    let expression = expression(first(parts)?)?;
+    end(parts)?;
+    let statement = DecrementStatement {
+        attributes: Items::new(alloc),
+        expression,
+    };
+    plain(alloc, Statement::Decrement(statement))
+}
+
+fn break_alone(alloc: Global, parts: &mut Stack<Part>) -> Result<Part, AllocError>
+    ensures { IfOk result (λ part. part ≡ making.break_alone parts.old) }
+{
+    end(parts)?;
+    let attributes = Items::new(alloc);
+    plain(alloc, Statement::Break(BreakStatement { attributes }))
+}
+
+fn continue_alone(alloc: Global, parts: &mut Stack<Part>) -> Result<Part, AllocError>
+    ensures { IfOk result (λ part. part ≡ making.continue_alone parts.old) }
+{
+    end(parts)?;
+    let attributes = Items::new(alloc);
+    plain(alloc, Statement::Continue(ContinueStatement { attributes }))
+}
+
+fn discard(alloc: Global, parts: &mut Stack<Part>) -> Result<Part, AllocError>
+    ensures { IfOk result (λ part. part ≡ making.discard parts.old) }
+{
+    end(parts)?;
+    let attributes = Items::new(alloc);
+    plain(alloc, Statement::Discard(DiscardStatement { attributes }))
+}
+
+fn return_value(alloc: Global, parts: &mut Stack<Part>) -> Result<Part, AllocError>
+    ensures { IfOk result (λ part. part ≡ making.return_value parts.old) }
+{
+    let expression = optional_expression(first(parts)?)?;
+    end(parts)?;
+    let statement = ReturnStatement {
+        attributes: Items::new(alloc),
+        expression,
+    };
+    plain(alloc, Statement::Return(statement))
+}
+
+fn local(alloc: Global, parts: &mut Stack<Part>) -> Result<Part, AllocError>
+    ensures { IfOk result (λ part. part ≡ making.local parts.old) }
+{
+    let declaration = declaration(first(parts)?)?;
+    end(parts)?;
+    plain(alloc, Statement::Declaration(declaration))
+}
+
+fn asserted(alloc: Global, parts: &mut Stack<Part>) -> Result<Part, AllocError>
+    ensures { IfOk result (λ part. part ≡ making.asserted parts.old) }
+{
+    let assertion = assertion(first(parts)?)?;
+    end(parts)?;
+    plain(alloc, Statement::ConstAssert(assertion))
+}
+
+/// What the production of this label makes of its parts. Parts that do not fit are answered as if memory were refused.
+pub fn make_plain(
+    alloc: Global,
+    label: PlainLabel,
+    parts: &mut Stack<Part>,
+) -> Result<Part, AllocError>
+    ensures { IfOk result (λ part. part ≡ making.make_plain label parts.old) }
+{
+    match label {
+        PlainLabel::CalledStatement => called_statement(alloc, parts),
+        PlainLabel::Assignment(operator) => assignment(alloc, operator, parts),
+        PlainLabel::Increment => increment(alloc, parts),
+        PlainLabel::Decrement => decrement(alloc, parts),
+        PlainLabel::Break => break_alone(alloc, parts),
+        PlainLabel::Continue => continue_alone(alloc, parts),
+        PlainLabel::Return => return_value(alloc, parts),
+        PlainLabel::Discard => discard(alloc, parts),
+        PlainLabel::Local => local(alloc, parts),
+        PlainLabel::Asserted => asserted(alloc, parts),
+    }
+}

@@ -1,0 +1,121 @@
+//! Declarations of values, and assertions.
+
+ghost use Rattle.std.specs.Prelude.{◌≡◌, IfOk};
+ghost use Rattle.wgsl_make_values.specs.Making as making;
+
+use crate::take::{kind, typed_name};
+use std::alloc::{AllocError, Global};
+use wgsl_expressions::ExpressionNode;
+use wgsl_items::{Boxed, Items};
+use wgsl_parts::take::{end, expression, first, ident, ty};
+use wgsl_parts::{Part, Stack, TypedName, ValueLabel};
+use wgsl_simple_statements::{ConstAssert, Declaration, DeclarationKind};
+
+fn typed(parts: &mut Stack<Part>) -> Result<Part, AllocError>
+    ensures { IfOk result (λ part. part ≡ making.typed parts.old) }
+{
+    let ident = ident(first(parts)?)?;
+    end(parts)?;
+    Ok(Part::Typed(TypedName { ident, ty: None }))
+}
+
+fn typed_as(parts: &mut Stack<Part>) -> Result<Part, AllocError>
+    ensures { IfOk result (λ part. part ≡ making.typed_as parts.old) }
+{
+    let ident = ident(first(parts)?)?;
+    let ty = Some(ty(first(parts)?)?);
+    end(parts)?;
+    Ok(Part::Typed(TypedName { ident, ty }))
+}
+
+fn declared(
+    alloc: Global,
+    kind: DeclarationKind,
+    name: TypedName,
+    initializer: Option<ExpressionNode>,
+) -> Result<Part, AllocError>
+    ensures { IfOk result (λ part. part ≡ making.declared kind name initializer) }
+{
+    let TypedName { ident, ty } = name;
+    let declaration = Declaration {
+        attributes: Items::new(alloc),
+        kind,
+        ident,
+        ty,
+        initializer,
+    };
+    Ok(Part::Declaration(Boxed::new(alloc, declaration)?))
+}
+
+fn var(alloc: Global, parts: &mut Stack<Part>) -> Result<Part, AllocError>
+    ensures { IfOk result (λ part. part ≡ making.var parts.old) }
+{
+    let kind = kind(first(parts)?)?;
+    let name = typed_name(first(parts)?)?;
+    end(parts)?;
+    declared(alloc, kind, name, None)
+}
+
+fn var_set(alloc: Global, parts: &mut Stack<Part>) -> Result<Part, AllocError>
+    ensures { IfOk result (λ part. part ≡ making.var_set parts.old) }
+{
+    let kind = kind(first(parts)?)?;
+    let name = typed_name(first(parts)?)?;
+    let value = expression(first(parts)?)?;
+    end(parts)?;
+    declared(alloc, kind, name, Some(value))
+}
+
+/// A value that is no variable: its name, and what it is.
+fn value_set(
+    alloc: Global,
+    kind: DeclarationKind,
+    parts: &mut Stack<Part>,
+) -> Result<Part, AllocError>
+    ensures { IfOk result (λ part. part ≡ making.value_set kind parts.old) }
+{
+    let name = typed_name(first(parts)?)?;
+    let value = expression(first(parts)?)?;
+    end(parts)?;
+    declared(alloc, kind, name, Some(value))
+}
+
+fn override_alone(alloc: Global, parts: &mut Stack<Part>) -> Result<Part, AllocError>
+    ensures { IfOk result (λ part. part ≡ making.override_alone parts.old) }
+{
+    let name = typed_name(first(parts)?)?;
+    end(parts)?;
+    declared(alloc, DeclarationKind::Override, name, None)
+}
+
+fn assertion(alloc: Global, parts: &mut Stack<Part>) -> Result<Part, AllocError>
+    ensures { IfOk result (λ part. part ≡ making.assertion parts.old) }
+{
+    let expression = expression(first(parts)?)?;
+    end(parts)?;
+    Ok(Part::Assertion(ConstAssert {
+        attributes: Items::new(alloc),
+        expression,
+    }))
+}
+
+/// What the production of this label makes of its parts. Parts that do not fit are answered as if memory were refused.
+pub fn make_value(
+    alloc: Global,
+    label: ValueLabel,
+    parts: &mut Stack<Part>,
+) -> Result<Part, AllocError>
+    ensures { IfOk result (λ part. part ≡ making.make_value label parts.old) }
+{
+    match label {
+        ValueLabel::Typed => typed(parts),
+        ValueLabel::TypedAs => typed_as(parts),
+        ValueLabel::Var => var(alloc, parts),
+        ValueLabel::VarSet => var_set(alloc, parts),
+        ValueLabel::Const => value_set(alloc, DeclarationKind::Const, parts),
+        ValueLabel::Let => value_set(alloc, DeclarationKind::Let, parts),
+        ValueLabel::Override => override_alone(alloc, parts),
+        ValueLabel::OverrideSet => value_set(alloc, DeclarationKind::Override, parts),
+        ValueLabel::Assertion => assertion(alloc, parts),
+    }
+}

@@ -1,0 +1,36 @@
+-- The fault of a text, by why its tokens were not read.
+use Rattle.std.specs.Prelude.{ℕ, Option, Some, None}
+use Rattle.wgsl_token.specs.declared.token.Token.TheVariants as t
+use Rattle.wgsl_template_spec.specs.declared.token.TemplateToken.{TemplateToken}
+use Rattle.wgsl_template_spec.specs.declared.token.TemplateToken.TheVariants.{Plain}
+use Rattle.wgsl_template_spec.specs.declared.token.SpannedTemplateToken.{SpannedTemplateToken}
+use Rattle.wgsl_phrases.specs.declared.phrase.Check.{Check}
+use Rattle.wgsl_phrases.specs.declared.phrase.Check.TheVariants as check
+use Rattle.wgsl_reading.specs.declared.read.Unread.{Unread}
+use Rattle.wgsl_reading.specs.declared.read.Unread.TheVariants.{OutOfMemory, Failed, Unexpected}
+use Rattle.wgsl_parser.specs.declared.error.ErrorKind.{ErrorKind}
+use Rattle.wgsl_parser.specs.declared.error.ErrorKind.TheVariants as kind
+use Rattle.wgsl_parser.specs.declared.error.Error.{Error}
+
+abbrev pub out_of_memory : Error
+out_of_memory = record { kind = kind.OutOfMemory; span = record { start = 0; end = 0 } }
+
+abbrev pub kind_of_check : Check → ErrorKind
+kind_of_check check.Attribute = kind.Attribute
+kind_of_check check.DiagnosticSeverity = kind.DiagnosticSeverity
+kind_of_check check.VarTemplate = kind.VarTemplate
+
+abbrev pub kind_of_token : TemplateToken → ErrorKind
+kind_of_token (Plain t.Invalid) = kind.InvalidToken
+kind_of_token (Plain (t.Reserved word)) = kind.ReservedWord
+kind_of_token _ = kind.UnexpectedToken
+
+-- at the next token, or at the end of a text of this length
+abbrev pub unexpected : ℕ → Option SpannedTemplateToken → Error
+unexpected length None = record { kind = kind.UnexpectedEof; span = record { start = length; end = length } }
+unexpected length (Some k) = record { kind = kind_of_token k.token; span = k.span }
+
+abbrev pub error_of : ℕ → Unread → Error
+error_of length OutOfMemory = out_of_memory
+error_of length (Failed f) = record { kind = kind_of_check f.check; span = f.span }
+error_of length (Unexpected next) = unexpected length next

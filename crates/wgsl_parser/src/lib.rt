@@ -1,0 +1,11 @@
+//! The parser of WGSL with the imports of WESL: from a text to its syntax tree, or to its first fault.
+#![tactic(auto)]
+
+mod error;
+mod parse;
+mod take;
+
+pub use error::{Error, ErrorKind};
+pub use parse::{
+    parse_declaration, parse_directive, parse_expression, parse_import, parse_statement, parse_str,
+};

@@ -1,0 +1,55 @@
+//! The parts that whole texts stand for.
+
+ghost use Rattle.std.specs.Prelude.{◌≡◌, IfOk};
+
+use std::alloc::AllocError;
+use wgsl_declarations::{GlobalDeclarationNode, TranslationUnit};
+use wgsl_imports::{GlobalDirective, ImportStatement};
+use wgsl_parts::Part;
+use wgsl_parts::take::misfit;
+use wgsl_statements::StatementNode;
+
+pub(crate) fn statement(part: Part) -> Result<StatementNode, AllocError>
+    ensures { IfOk result (λ x. part ≡ Part.Statement x) }
+{
+    match part {
+        Part::Statement(x) => Ok(x),
+        other => misfit(other),
+    }
+}
+
+pub(crate) fn declaration(part: Part) -> Result<GlobalDeclarationNode, AllocError>
+    ensures { IfOk result (λ x. part ≡ Part.Global x) }
+{
+    match part {
+        Part::Global(x) => Ok(x),
+        other => misfit(other),
+    }
+}
+
+pub(crate) fn directive(part: Part) -> Result<GlobalDirective, AllocError>
+    ensures { IfOk result (λ x. part ≡ Part.Directive x) }
+{
+    match part {
+        Part::Directive(x) => Ok(x.into_inner()),
+        other => misfit(other),
+    }
+}
+
+pub(crate) fn import(part: Part) -> Result<ImportStatement, AllocError>
+    ensures { IfOk result (λ x. part ≡ Part.Import x) }
+{
+    match part {
+        Part::Import(x) => Ok(x.into_inner()),
+        other => misfit(other),
+    }
+}
+
+pub(crate) fn module(part: Part) -> Result<TranslationUnit, AllocError>
+    ensures { IfOk result (λ x. part ≡ Part.Module x) }
+{
+    match part {
+        Part::Module(x) => Ok(x.into_inner()),
+        other => misfit(other),
+    }
+}

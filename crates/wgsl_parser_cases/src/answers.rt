@@ -1,0 +1,54 @@
+//! What each call answers: the tree's text, with `\n` for each line's end, or the error's kind and place.
+
+use std::alloc::{AllocError, Global};
+use std::fmt::{Display, Write};
+use wgsl_parser::{
+    Error, parse_declaration, parse_directive, parse_expression, parse_import, parse_statement,
+    parse_str,
+};
+
+/// The text before the first tab, and the text behind it.
+fn cut(text: &str) -> (&str, &str) {
+    text.split_once('\t').unwrap_or((text, ""))
+}
+
+/// The answer to a call.
+pub fn answer(alloc: Global, case: &str) -> Result<String, AllocError> {
+    let (call, text) = cut(case);
+    match call {
+        "module" => shown(alloc, parse_str(alloc, text)),
+        "expression" => shown(alloc, parse_expression(alloc, text)),
+        "statement" => shown(alloc, parse_statement(alloc, text)),
+        "declaration" => shown(alloc, parse_declaration(alloc, text)),
+        "directive" => shown(alloc, parse_directive(alloc, text)),
+        "import" => shown(alloc, parse_import(alloc, text)),
+        _ => String::from_str(alloc, "no such call"),
+    }
+}
+
+fn shown<T: Display + Drop>(alloc: Global, tree: Result<T, Error>) -> Result<String, AllocError> {
+    match tree {
+        Ok(tree) => on_one_line(alloc, &tree),
+        Err(error) => told(alloc, error),
+    }
+}
+
+fn told(alloc: Global, error: Error) -> Result<String, AllocError> {
+    let kind = error.kind;
+    let place = error.span;
+    format!(in alloc; "{kind:?} {}..{}", place.start, place.end)
+}
+
+fn on_one_line<T: Display>(alloc: Global, tree: &T) -> Result<String, AllocError> {
+    let mut text = String::new(alloc);
+    write!(text, "{tree}")?;
+    let mut line = String::new(alloc);
+    for character in text.as_str().chars() {
+        if character == '\n' {
+            line.push_str("\\n")?;
+        } else {
+            line.push(character)?;
+        }
+    }
+    Ok(line)
+}

@@ -1,0 +1,60 @@
+-- What the parser's answers say of tokens.
+use Rattle.std.proofs.Common.{◌≡◌, refl, sym, subst, ℕ, nat_lt, true, List, [], Option, Some, None, Result, Ok, Err}
+use Rattle.wgsl_path.specs.declared.span.Span.{Span}
+use Rattle.wgsl_template_spec.specs.declared.token.SpannedTemplateToken.{SpannedTemplateToken}
+use Rattle.wgsl_stack.specs.Tops.{first}
+use Rattle.wgsl_shift_reduce.specs.declared.machine.Entry.{Entry}
+use Rattle.wgsl_shift_reduce.specs.Machine.{Outcome, read, stops, Comes}
+use Rattle.wgsl_shift_reduce.specs.Fit.{IsFit}
+use Rattle.wgsl_shift_reduce.specs.Laws.{IsRead, IsStopped, Answers}
+use Rattle.wgsl_shift_reduce.proofs.Whole.{answers_are_exact}
+use Rattle.wgsl_tables.specs.Listed.{account}
+use Rattle.wgsl_grammar_tables.specs.Decoded.{listed}
+use Rattle.wgsl_grammar_tables.specs.Starts.{start}
+use Rattle.wgsl_grammar_tables.proofs.Fits.{tables_fit}
+use Rattle.wgsl_grammar_tables.proofs.Read.{from_is}
+use Rattle.wgsl_grammar_tables.proofs.Examples as examples
+use Rattle.wgsl_parts.specs.declared.part.Part.{Part}
+use Rattle.wgsl_phrases.specs.declared.phrase.Phrase.{Phrase}
+use Rattle.wgsl_phrases.specs.declared.phrase.Failure.{Failure}
+use Rattle.wgsl_reading.specs.declared.driver.Start.{Start as From}
+use Rattle.wgsl_reading.specs.declared.driver.Start.TheVariants.{Module, Expression, Statement, Declaration, Directive, Import}
+use Rattle.wgsl_reading.specs.Phrases.{grammar, number, tables_of}
+use Rattle.wgsl_reading.specs.Readings.{goal_of, first_failed, passing, stopping, Reads, IsFailed, in_tree, in_front, IsUnexpected, IsPart}
+
+number_below : (s : From) → nat_lt (number s) 6 ≡ true
+number_below Module = refl
+number_below Expression = refl
+number_below Statement = refl
+number_below Declaration = refl
+number_below Directive = refl
+number_below Import = refl
+
+a_place : Span
+a_place = record { start = 0; end = 0 }
+
+-- a token of each class
+token_of : (c : ℕ) → nat_lt c listed.class_count ≡ true → (k : SpannedTemplateToken) × (grammar.class_of k ≡ c)
+token_of c lt = let e = examples.each_class c lt in (record { token = e.0; span = a_place }, e.1)
+
+answers : (s : From) (tokens left : List SpannedTemplateToken) (r : Outcome (Phrase Part)) → Comes grammar (tables_of s) (number s) [] tokens r left → Answers grammar (goal_of s) tokens r left
+answers s tokens left r c =
+    let b = start (number s) in
+    answers_are_exact grammar (tables_of s) (account listed b) b.from b.rule b.sentence b.goal (tables_fit grammar (λ p. refl) token_of (number s) (number_below s)) tokens left r
+    (subst (λ n. Comes grammar (tables_of s) n [] tokens r left) (sym (from_is (number s))) c)
+
+read_by : (s : From) (tokens : List SpannedTemplateToken) (x : Phrase Part) → IsRead grammar (goal_of s) tokens x → (o : Option Failure) → x.failure ≡ o → Reads s tokens (passing o x.part)
+read_by s tokens x h None e = record { phrase = x; derived = h; passed = e; same = refl }
+read_by s tokens x h (Some f) e = in_tree x h e
+
+pub read_is : (s : From) (tokens left : List SpannedTemplateToken) (x : Phrase Part) → Comes grammar (tables_of s) (number s) [] tokens (read x) left → Reads s tokens (passing x.failure x.part)
+read_is s tokens left x c = let a = answers s tokens left (read x) c in read_by s tokens x a.0 x.failure refl
+
+stopped_by : (s : From) (tokens left : List SpannedTemplateToken) (stack : List (Entry (Phrase Part))) → IsStopped grammar (goal_of s) tokens stack left → (o : Option Failure) → first_failed stack ≡ o
+    → Reads s tokens (Err (stopping o (first left)))
+stopped_by s tokens left stack h None e = record { stack = stack; left = left; stopped = h; passed = e; first_left = refl }
+stopped_by s tokens left stack h (Some f) e = in_front stack left h e
+
+pub stopped_is : (s : From) (tokens left : List SpannedTemplateToken) (stack : List (Entry (Phrase Part))) → Comes grammar (tables_of s) (number s) [] tokens (stops stack) left
+    → Reads s tokens (Err (stopping (first_failed stack) (first left)))
+stopped_is s tokens left stack c = stopped_by s tokens left stack (answers s tokens left (stops stack) c) (first_failed stack) refl

@@ -1,0 +1,65 @@
+-- The grammar: its rules, and what tokens and phrases stand for.
+use Rattle.std.specs.Prelude.{ℕ, suc, Bool, true, false, if◌then◌else◌, List, Option, Some, None}
+use Rattle.wgsl_path.specs.declared.span.Span.{Span}
+use Rattle.wgsl_template_spec.specs.declared.token.SpannedTemplateToken.{SpannedTemplateToken}
+use Rattle.wgsl_shift_reduce.specs.Grammars.{Grammar}
+use Rattle.wgsl_shift_reduce.specs.Machine.{Tables}
+use Rattle.wgsl_tables.specs.Listed.{rule_at, tables}
+use Rattle.wgsl_grammar_tables.specs.Decoded.{listed}
+use Rattle.wgsl_grammar_tables.specs.Starts.{start}
+use Rattle.wgsl_grammar_tables.specs.Classes.{class_of}
+use Rattle.wgsl_grammar_tables.specs.Labels.{label_at, pattern_at}
+use Rattle.wgsl_parts.specs.declared.part.Part.{Part}
+use Rattle.wgsl_parts.specs.declared.part.Part.TheVariants.{Absent}
+use Rattle.wgsl_parts.specs.declared.label.Label.{Label}
+use Rattle.wgsl_parts.specs.declared.label.Label.TheVariants as l
+use Rattle.wgsl_leaves.specs.Leaves as leaves
+use Rattle.wgsl_phrases.specs.declared.phrase.Phrase.{Phrase}
+use Rattle.wgsl_phrases.specs.declared.phrase.Failure.{Failure}
+use Rattle.wgsl_phrases.specs.declared.gather.Extent.{Extent}
+use Rattle.wgsl_phrases.specs.Gathering.{either, extent_from, chosen}
+use Rattle.wgsl_reading.specs.declared.driver.Start.{Start}
+use Rattle.wgsl_reading.specs.declared.driver.Start.TheVariants.{Module, Expression, Statement, Declaration, Directive, Import}
+use Rattle.wgsl_make.specs.Making as making
+use Rattle.wgsl_reading.specs.Failures.{failure_in}
+
+-- a token at its place
+abbrev pub leaf : SpannedTemplateToken → Phrase Part
+leaf k = record { part = leaves.leaf k.token; span = k.span; last = k.span; failure = None; depth = 0 }
+
+-- Productions that make nothing new, and lists, nest no deeper than their parts.
+abbrev pub nests : Label → Bool
+nests l.Pass = false
+nests l.First = false
+nests l.More = false
+nests _ = true
+
+-- what a production makes of some phrases, with this extent and these parts; of none it makes nothing
+abbrev pub made : Label → Option Extent → List Part → Phrase Part
+made label None parts = record { part = Absent; span = record { start = 0; end = 0 }; last = record { start = 0; end = 0 }; failure = None; depth = 0 }
+made label (Some e) parts = record {
+  part = making.make label e.span parts;
+  span = e.span;
+  last = e.last;
+  failure = either e.failure (failure_in label parts (making.make label e.span parts) e.last);
+  depth = if nests label then suc e.depth else e.depth;
+}
+
+abbrev pub make : ℕ → List (Phrase Part) → Phrase Part
+make p xs = made (label_at p) (extent_from None xs) (chosen Absent (pattern_at p) xs)
+
+-- WGSL, "Grammar", and WESL's imports
+abbrev pub grammar : Grammar SpannedTemplateToken (Phrase Part)
+grammar = record { class_of = λ k. class_of k.token; leaf = leaf; rule = rule_at listed; make = make }
+
+-- the number of a start
+abbrev pub number : Start → ℕ
+number Module = 0
+number Expression = 1
+number Statement = 2
+number Declaration = 3
+number Directive = 4
+number Import = 5
+
+abbrev pub tables_of : Start → Tables
+tables_of s = tables listed (start (number s))

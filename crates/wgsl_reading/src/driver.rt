@@ -1,0 +1,143 @@
+//! The driver of the parser.
+
+ghost use Rattle.std.specs.Prelude.{◌≡◌, ◌<◌, ◌+◌, Some, None, if◌then◌else◌, IfOk, IsTrue};
+ghost use Rattle.wgsl_phrases.specs.declared.phrase.Phrase as declared_phrase;
+ghost use Rattle.std.specs.Option.{option_copied};
+ghost use Rattle.wgsl_shift_reduce.specs.Machine.{ahead_of};
+ghost use Rattle.wgsl_reading.specs.Phrases.{grammar, leaf, made, nests, number, tables_of};
+
+use crate::failure::{failure_at, made_failed, severity_failed};
+use std::alloc::{AllocError, Global};
+use wgsl_grammar_tables::class::class_of;
+use wgsl_grammar_tables::{drive, rule_label, rule_pattern};
+use wgsl_leaves::leaf;
+use wgsl_make::make;
+use wgsl_parts::{Label, Part};
+use wgsl_phrases::{Extent, Phrase, first_failure, gathered};
+use wgsl_shift_reduce::{Action, Driver, Shape};
+use wgsl_stack::Stack;
+use wgsl_template_spec::SpannedTemplateToken;
+
+/// How deep trees may be nested. A deeper one is refused as if memory were: what walks trees takes room on the call stack at each level.
+pub const MAX_DEPTH: u32 = 1000;
+
+/// What a text or some tokens are read as.
+#[derive(Clone, Copy, Debug, PartialEq, Eq)]
+pub enum Start {
+    Module,
+    Expression,
+    Statement,
+    Declaration,
+    Directive,
+    Import,
+}
+
+impl Start {
+    /// The state that the parser begins in.
+    pub fn number(self) -> u16
+        ensures is { result ≡ number self }
+        ensures below { result < 6 }
+    {
+        match self {
+            Start::Module => 0,
+            Start::Expression => 1,
+            Start::Statement => 2,
+            Start::Declaration => 3,
+            Start::Directive => 4,
+            Start::Import => 5,
+        }
+    }
+}
+
+/// The driver of the parser.
+#[derive(Drop)]
+pub struct Reader {
+    pub alloc: Global,
+    pub start: Start,
+}
+
+fn nests(label: Label) -> bool
+    ensures { result ≡ nests label }
+{
+    !matches!(label, Label::Pass | Label::First | Label::More)
+}
+
+/// How deep trees are nested in what a production makes.
+fn deeper(label: Label, depth: u32) -> Result<u32, AllocError>
+    ensures { IfOk result (λ d. d ≡ (if nests label then depth + 1 else depth)) }
+{
+    if !nests(label) {
+        return Ok(depth);
+    }
+    if depth >= MAX_DEPTH {
+        return Err(AllocError);
+    }
+    Ok(depth + 1)
+}
+
+/// What a production makes of its parts.
+fn made(
+    alloc: Global,
+    label: Label,
+    extent: Extent,
+    parts: Stack<Part>,
+) -> Result<Phrase<Part>, AllocError>
+    ensures { IfOk result (λ x. x ≡ made label (Some extent) parts) }
+{
+    let mut parts = parts;
+    let depth = deeper(label, extent.depth)?;
+    let severity = severity_failed(label, &parts);
+    let part = make(alloc, label, extent.span, &mut parts)?;
+    let failure = failure_at(extent.last, severity, made_failed(label, &part));
+    Ok(Phrase {
+        part,
+        span: extent.span,
+        last: extent.last,
+        failure: first_failure(extent.failure, failure),
+        depth,
+    })
+}
+
+impl Driver for Reader {
+    type Token = SpannedTemplateToken;
+
+    type Value = Phrase<Part>;
+
+    ghost use Rattle.wgsl_reading.specs.Phrases.{grammar, tables_of};
+
+    ghost grammar = { grammar };
+
+    ghost tables = { λ r. tables_of r.start };
+
+    fn leaf(&self, token: SpannedTemplateToken) -> Phrase<Part> {
+        let SpannedTemplateToken { token, span } = token;
+        Phrase {
+            part: leaf(token),
+            span,
+            last: span,
+            failure: None,
+            depth: 0,
+        }
+    }
+
+    fn action(&self, state: u16, next: Option<&SpannedTemplateToken>) -> Action {
+        let ahead = match next {
+            Some(token) => class_of(&token.token) + 1,
+            None => 0,
+        };
+        drive::action(self.start.number(), state, ahead)
+    }
+
+    fn state_behind(&self, state: u16, nonterminal: u16) -> Option<u16> {
+        drive::state_behind(state, nonterminal)
+    }
+
+    fn shape(&self, rule: u16) -> Option<Shape> {
+        drive::shape(rule)
+    }
+
+    fn make(&self, rule: u16, parts: Stack<Phrase<Part>>) -> Result<Phrase<Part>, AllocError> {
+        let (extent, parts) = gathered(self.alloc, rule_pattern(rule), parts)?;
+        made(self.alloc, rule_label(rule), extent, parts)
+    }
+}

@@ -1,0 +1,97 @@
+//! Checks that fail.
+
+ghost use Rattle.std.specs.Prelude.{◌≡◌};
+ghost use Rattle.std.specs.Option.{option_copied};
+ghost use Rattle.wgsl_reading.specs.Failures as failures;
+
+use wgsl_attribute_words::{AttributeWord, severity_in, word_named};
+use wgsl_attributes::{Attribute, CustomAttribute};
+use wgsl_choices::severity;
+use wgsl_parts::{AttributeLabel, DirectiveLabel, Label, Part, Stack};
+use wgsl_path::Span;
+use wgsl_phrases::{Check, Failure};
+use wgsl_simple_statements::DeclarationKind;
+
+fn custom_failed(word: AttributeWord, attribute: &CustomAttribute) -> Check
+    ensures { result ≡ failures.of_word word attribute.now.arguments }
+{
+    if !matches!(word, AttributeWord::Diagnostic) {
+        return Check::Attribute;
+    }
+    let Some(arguments) = &attribute.arguments else {
+        return Check::Attribute;
+    };
+    match arguments.as_slice() {
+        [first, ..] => match severity_in(first) {
+            Some(_) => Check::Attribute,
+            None => Check::DiagnosticSeverity,
+        },
+        [] => Check::Attribute,
+    }
+}
+
+fn attribute_failed(attribute: &Attribute) -> Option<Check>
+    ensures { result ≡ failures.attribute_failed attribute.now }
+{
+    match attribute {
+        Attribute::Custom(custom) => {
+            let custom = custom.get();
+            let word = word_named(custom.name.as_str())?;
+            Some(custom_failed(word, custom))
+        }
+        _ => None,
+    }
+}
+
+fn template_failed(label: Label) -> Option<Check>
+    ensures { result ≡ failures.template_failed label }
+{
+    match label {
+        Label::Attribute(AttributeLabel::VarIn) => Some(Check::VarTemplate),
+        _ => None,
+    }
+}
+
+/// A check that fails in what a production of this label made.
+pub(crate) fn made_failed(label: Label, part: &Part) -> Option<Check>
+    ensures { result ≡ failures.made_failed label part.now }
+{
+    match part {
+        Part::Attribute(attribute) => attribute_failed(attribute.node()),
+        Part::Kind(DeclarationKind::Var(None)) => template_failed(label),
+        _ => None,
+    }
+}
+
+fn severity_of(part: Option<&Part>) -> Option<Check>
+    ensures { result ≡ failures.part_severity (option_copied part.entry) }
+{
+    match part {
+        Some(Part::Ident(name)) => match severity(name.name.as_str()) {
+            Some(_) => None,
+            None => Some(Check::DiagnosticSeverity),
+        },
+        _ => None,
+    }
+}
+
+/// Whether the severity of a directive is none.
+pub(crate) fn severity_failed(label: Label, parts: &Stack<Part>) -> Option<Check>
+    ensures { result ≡ failures.severity_failed label parts.now }
+{
+    match label {
+        Label::Directive(DirectiveLabel::Diagnostic) => severity_of(parts.top()),
+        _ => None,
+    }
+}
+
+/// The first of two checks that fail, at this place.
+pub(crate) fn failure_at(place: Span, first: Option<Check>, other: Option<Check>) -> Option<Failure>
+    ensures { result ≡ failures.failure_at place (failures.first_check first other) }
+{
+    let check = match first {
+        Some(check) => check,
+        None => other?,
+    };
+    Some(Failure { check, span: place })
+}

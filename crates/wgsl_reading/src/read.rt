@@ -1,0 +1,76 @@
+//! Tokens read from a start.
+
+ghost use Rattle.std.specs.Prelude.{◌≡◌};
+ghost use Rattle.wgsl_stack.specs.Tops.{first};
+ghost use Rattle.wgsl_reading.specs.Readings.{Reads, first_failed, passing, stopping};
+
+use crate::driver::{Reader, Start};
+use std::alloc::Global;
+use wgsl_items::Items;
+use wgsl_parts::Part;
+use wgsl_phrases::{Failure, Phrase, first_failure};
+use wgsl_shift_reduce::{Entry, Stopped, run};
+use wgsl_stack::Stack;
+use wgsl_template_spec::SpannedTemplateToken;
+
+/// Why nothing was read.
+#[derive(Drop)]
+pub enum Unread {
+    /// Memory was refused, or trees are nested too deep.
+    OutOfMemory,
+    /// A check of arguments fails.
+    Failed(Failure),
+    /// No phrase goes on with this token, or ends at the end where it is none.
+    Unexpected(Option<SpannedTemplateToken>),
+}
+
+/// The first check that fails in the trees of a stack.
+fn failure_on<P: Drop>(stack: Stack<Entry<Phrase<P>>>) -> Option<Failure>
+    ensures { result ≡ first_failed stack }
+{
+    let mut stack = stack;
+    let mut failure = None;
+    while let Some(Entry { value, .. }) = stack.pop() {
+        failure = first_failure(value.failure, failure);
+    }
+    failure
+}
+
+/// What a phrase stands for, unless a check fails in it.
+fn passed<P: Drop>(phrase: Phrase<P>) -> Result<P, Unread>
+    ensures { result ≡ passing phrase.failure phrase.part }
+{
+    let Phrase { part, failure, .. } = phrase;
+    match failure {
+        None => Ok(part),
+        Some(failure) => Err(Unread::Failed(failure)),
+    }
+}
+
+/// Why a parser stopped: a check that fails in what was read, or the next token.
+fn stopped<P: Drop>(stack: Stack<Entry<Phrase<P>>>, tokens: Stack<SpannedTemplateToken>) -> Unread
+    ensures { result ≡ stopping (first_failed stack) (first tokens) }
+{
+    let mut tokens = tokens;
+    match failure_on(stack) {
+        Some(failure) => Unread::Failed(failure),
+        None => Unread::Unexpected(tokens.pop()),
+    }
+}
+
+/// Reads tokens as a phrase.
+pub fn read(
+    alloc: Global,
+    start: Start,
+    tokens: Items<SpannedTemplateToken>,
+) -> Result<Part, Unread>
+    ensures { Reads start tokens result }
+{
+    let reader = Reader { alloc, start };
+    let tokens = Stack::from_vec(tokens.into_vec());
+    match run(&reader, alloc, start.number(), tokens) {
+        Ok(phrase) => passed(phrase),
+        Err(Stopped::OutOfMemory) => Err(Unread::OutOfMemory),
+        Err(Stopped::Unexpected(stack, tokens)) => Err(stopped(stack, tokens)),
+    }
+}
