@@ -6,8 +6,8 @@ use Rattle.wgsl_template_spec.specs.declared.token.TemplateToken.TheVariants.{Pl
 use Rattle.wgsl_template_spec.specs.declared.token.SpannedTemplateToken.{SpannedTemplateToken}
 use Rattle.wgsl_phrases.specs.declared.phrase.Check.{Check}
 use Rattle.wgsl_phrases.specs.declared.phrase.Check.TheVariants as check
-use Rattle.wgsl_reading.specs.declared.read.Unread.{Unread}
-use Rattle.wgsl_reading.specs.declared.read.Unread.TheVariants.{OutOfMemory, Failed, Unexpected}
+use Rattle.wgsl_reading.specs.declared.answer.Unread.{Unread}
+use Rattle.wgsl_reading.specs.declared.answer.Unread.TheVariants.{OutOfMemory, Failed, Unexpected}
 use Rattle.wgsl_parser.specs.declared.error.ErrorKind.{ErrorKind}
 use Rattle.wgsl_parser.specs.declared.error.ErrorKind.TheVariants as kind
 use Rattle.wgsl_parser.specs.declared.error.Error.{Error}

@@ -7,7 +7,7 @@ use Rattle.wgsl_parts.specs.declared.part.Part.{Part}
 use Rattle.wgsl_parts.specs.declared.part.Part.TheVariants as part
 use Rattle.wgsl_reading.specs.declared.driver.Start.{Start}
 use Rattle.wgsl_reading.specs.declared.driver.Start.TheVariants.{Module}
-use Rattle.wgsl_reading.specs.declared.read.Unread.{Unread}
+use Rattle.wgsl_reading.specs.declared.answer.Unread.{Unread}
 use Rattle.wgsl_reading.specs.Readings.{Reads, IsPart}
 use Rattle.wgsl_parser.specs.declared.error.Error.{Error}
 use Rattle.wgsl_parser.specs.Errors.{out_of_memory, error_of}

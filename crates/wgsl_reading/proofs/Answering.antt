@@ -19,6 +19,7 @@ use Rattle.wgsl_phrases.specs.declared.phrase.Phrase.{Phrase}
 use Rattle.wgsl_phrases.specs.declared.phrase.Failure.{Failure}
 use Rattle.wgsl_reading.specs.declared.driver.Start.{Start as From}
 use Rattle.wgsl_reading.specs.declared.driver.Start.TheVariants.{Module, Expression, Statement, Declaration, Directive, Import}
+use Rattle.wgsl_reading.specs.declared.answer.Unread.{Unread}
 use Rattle.wgsl_reading.specs.Phrases.{grammar, number, tables_of}
 use Rattle.wgsl_reading.specs.Readings.{goal_of, first_failed, passing, stopping, Reads, IsFailed, in_tree, in_front, IsUnexpected, IsPart}
 
@@ -58,3 +59,18 @@ stopped_by s tokens left stack h (Some f) e = in_front stack left h e
 pub stopped_is : (s : From) (tokens left : List SpannedTemplateToken) (stack : List (Entry (Phrase Part))) → Comes grammar (tables_of s) (number s) [] tokens (stops stack) left
     → Reads s tokens (Err (stopping (first_failed stack) (first left)))
 stopped_is s tokens left stack c = stopped_by s tokens left stack (answers s tokens left (stops stack) c) (first_failed stack) refl
+
+-- ---- the same for tokens and a state that are said to be these
+
+pub read_said : (s : From) (tokens given : List SpannedTemplateToken) (from : ℕ) (x : Phrase Part) (r : Result Part Unread) → given ≡ tokens → from ≡ number s
+    → (left : List SpannedTemplateToken) × Comes grammar (tables_of s) from [] given (read x) left → r ≡ passing x.failure x.part → Reads s tokens r
+read_said s tokens given from x r same begin c e =
+    subst (λ r. Reads s tokens r) (sym e)
+    (read_is s tokens c.0 x (subst (λ n. Comes grammar (tables_of s) n [] tokens (read x) c.0) begin (subst (λ l. Comes grammar (tables_of s) from [] l (read x) c.0) same c.1)))
+
+pub stopped_said : (s : From) (tokens given left : List SpannedTemplateToken) (from : ℕ) (stack : List (Entry (Phrase Part))) (r : Unread) → given ≡ tokens → from ≡ number s
+    → Comes grammar (tables_of s) from [] given (stops stack) left → r ≡ stopping (first_failed stack) (first left) → Reads s tokens (Err r)
+stopped_said s tokens given left from stack r same begin c e =
+    subst (λ r. Reads s tokens (Err r)) (sym e)
+    (stopped_is s tokens left stack
+    (subst (λ n. Comes grammar (tables_of s) n [] tokens (stops stack) left) begin (subst (λ l. Comes grammar (tables_of s) from [] l (stops stack) left) same c)))

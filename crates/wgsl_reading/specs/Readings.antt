@@ -10,8 +10,8 @@ use Rattle.wgsl_phrases.specs.declared.phrase.Failure.{Failure}
 use Rattle.wgsl_phrases.specs.Gathering.{either}
 use Rattle.wgsl_grammar_tables.specs.Starts.{start}
 use Rattle.wgsl_reading.specs.declared.driver.Start.{Start as From}
-use Rattle.wgsl_reading.specs.declared.read.Unread.{Unread}
-use Rattle.wgsl_reading.specs.declared.read.Unread.TheVariants.{OutOfMemory, Failed, Unexpected}
+use Rattle.wgsl_reading.specs.declared.answer.Unread.{Unread}
+use Rattle.wgsl_reading.specs.declared.answer.Unread.TheVariants.{OutOfMemory, Failed, Unexpected}
 use Rattle.wgsl_reading.specs.Phrases.{grammar, number}
 
 -- The nonterminal of what is read.

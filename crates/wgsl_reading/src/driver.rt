@@ -4,7 +4,7 @@ ghost use Rattle.std.specs.Prelude.{◌≡◌, ◌<◌, ◌+◌, Some, None, if�
 ghost use Rattle.wgsl_phrases.specs.declared.phrase.Phrase as declared_phrase;
 ghost use Rattle.std.specs.Option.{option_copied};
 ghost use Rattle.wgsl_shift_reduce.specs.Machine.{ahead_of};
-ghost use Rattle.wgsl_reading.specs.Phrases.{grammar, leaf, made, nests, number, tables_of};
+ghost use Rattle.wgsl_reading.specs.Phrases.{grammar, made, make, nests, number};
 
 use crate::failure::{failure_at, made_failed, severity_failed};
 use std::alloc::{AllocError, Global};
@@ -54,6 +54,16 @@ impl Start {
 pub struct Reader {
     pub alloc: Global,
     pub start: Start,
+}
+
+/// What stands ahead: 0 for the end, or the next token's class and one.
+fn ahead(next: Option<&SpannedTemplateToken>) -> u16
+    ensures { result ≡ ahead_of grammar (option_copied next.entry) }
+{
+    match next {
+        Some(token) => class_of(&token.token) + 1,
+        None => 0,
+    }
 }
 
 fn nests(label: Label) -> bool
@@ -121,11 +131,7 @@ impl Driver for Reader {
     }
 
     fn action(&self, state: u16, next: Option<&SpannedTemplateToken>) -> Action {
-        let ahead = match next {
-            Some(token) => class_of(&token.token) + 1,
-            None => 0,
-        };
-        drive::action(self.start.number(), state, ahead)
+        drive::action(self.start.number(), state, ahead(next))
     }
 
     fn state_behind(&self, state: u16, nonterminal: u16) -> Option<u16> {
@@ -136,7 +142,9 @@ impl Driver for Reader {
         drive::shape(rule)
     }
 
-    fn make(&self, rule: u16, parts: Stack<Phrase<Part>>) -> Result<Phrase<Part>, AllocError> {
+    fn make(&self, rule: u16, parts: Stack<Phrase<Part>>) -> Result<Phrase<Part>, AllocError>
+        ensures { IfOk result (λ x. x ≡ make rule parts) }
+    {
         let (extent, parts) = gathered(self.alloc, rule_pattern(rule), parts)?;
         made(self.alloc, rule_label(rule), extent, parts)
     }

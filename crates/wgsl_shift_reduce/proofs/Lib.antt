@@ -2,5 +2,5 @@ mod Stacks
 mod Replays
 mod Exact
 mod Sound
-mod Whole
+pub mod Whole
 mod Moves

@@ -25,6 +25,7 @@ pub enum Unread {
 }
 
 /// The first check that fails in the trees of a stack.
+#[tactic(auto, using(crate::proofs::Failing::either_either, crate::proofs::Failing::either_none))]
 fn failure_on<P: Drop>(stack: Stack<Entry<Phrase<P>>>) -> Option<Failure>
     ensures { result ≡ first_failed stack }
 {

@@ -1,2 +1,0 @@
-pub mod Operators
-pub mod Marks
