@@ -1,5 +1,7 @@
 -- The fault of a text, by why its tokens were not read.
 use Rattle.std.specs.Prelude.{ℕ, Option, Some, None}
+use Rattle.wgsl_token.specs.declared.token.Fixed.{Fixed}
+use Rattle.wgsl_token.specs.declared.token.Fixed.TheVariants as f
 use Rattle.wgsl_token.specs.declared.token.Token.TheVariants as t
 use Rattle.wgsl_template_spec.specs.declared.token.TemplateToken.{TemplateToken}
 use Rattle.wgsl_template_spec.specs.declared.token.TemplateToken.TheVariants.{Plain}
@@ -20,9 +22,18 @@ kind_of_check check.Attribute = kind.Attribute
 kind_of_check check.DiagnosticSeverity = kind.DiagnosticSeverity
 kind_of_check check.VarTemplate = kind.VarTemplate
 
+-- The words of imports are reserved where the grammar doesn't name them.
+abbrev pub kind_of_fixed : Fixed → ErrorKind
+kind_of_fixed f.Import = kind.ReservedWord
+kind_of_fixed f.Package = kind.ReservedWord
+kind_of_fixed f.Super = kind.ReservedWord
+kind_of_fixed f.As = kind.ReservedWord
+kind_of_fixed _ = kind.UnexpectedToken
+
 abbrev pub kind_of_token : TemplateToken → ErrorKind
 kind_of_token (Plain t.Invalid) = kind.InvalidToken
 kind_of_token (Plain (t.Reserved word)) = kind.ReservedWord
+kind_of_token (Plain (t.Fixed k)) = kind_of_fixed k
 kind_of_token _ = kind.UnexpectedToken
 
 -- at the next token, or at the end of a text of this length

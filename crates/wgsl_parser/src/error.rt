@@ -8,7 +8,7 @@ use wgsl_path::Span;
 use wgsl_phrases::Check;
 use wgsl_reading::Unread;
 use wgsl_template_spec::{SpannedTemplateToken, TemplateToken};
-use wgsl_token::Token;
+use wgsl_token::{Fixed, Token};
 
 /// What kind of fault a text has.
 #[derive(Clone, Copy, Debug, PartialEq, Eq, Message)]
@@ -67,12 +67,23 @@ fn kind_of_check(check: Check) -> ErrorKind
     }
 }
 
+/// The words of imports are reserved where the grammar doesn't name them.
+fn kind_of_fixed(kind: Fixed) -> ErrorKind
+    ensures { result ≡ errors.kind_of_fixed kind }
+{
+    match kind {
+        Fixed::Import | Fixed::Package | Fixed::Super | Fixed::As => ErrorKind::ReservedWord,
+        _ => ErrorKind::UnexpectedToken,
+    }
+}
+
 fn kind_of_token(token: &TemplateToken) -> ErrorKind
     ensures { result ≡ errors.kind_of_token token.now }
 {
     match token {
         TemplateToken::Plain(Token::Invalid) => ErrorKind::InvalidToken,
         TemplateToken::Plain(Token::Reserved(_)) => ErrorKind::ReservedWord,
+        TemplateToken::Plain(Token::Fixed(kind)) => kind_of_fixed(*kind),
         _ => ErrorKind::UnexpectedToken,
     }
 }

@@ -1,4 +1,5 @@
-//! What each call answers: the tree's text, with `\n` for each line's end, or the error's kind and place.
+//! What each call answers: the tree's text, with `\n` for each line's end, or the error's kind and place. A fault's call
+//! answers `none` in place of the tree's text.
 
 use std::alloc::{AllocError, Global};
 use std::fmt::{Display, Write};
@@ -22,7 +23,29 @@ pub fn answer(alloc: Global, case: &str) -> Result<String, AllocError> {
         "declaration" => shown(alloc, parse_declaration(alloc, text)),
         "directive" => shown(alloc, parse_directive(alloc, text)),
         "import" => shown(alloc, parse_import(alloc, text)),
+        "fault" => fault(alloc, text),
         _ => String::from_str(alloc, "no such call"),
+    }
+}
+
+/// The fault of the text behind the first tab, read from what the text before it names.
+fn fault(alloc: Global, case: &str) -> Result<String, AllocError> {
+    let (start, text) = cut(case);
+    match start {
+        "module" => fault_of(alloc, parse_str(alloc, text)),
+        "expression" => fault_of(alloc, parse_expression(alloc, text)),
+        "statement" => fault_of(alloc, parse_statement(alloc, text)),
+        "declaration" => fault_of(alloc, parse_declaration(alloc, text)),
+        "directive" => fault_of(alloc, parse_directive(alloc, text)),
+        "import" => fault_of(alloc, parse_import(alloc, text)),
+        _ => String::from_str(alloc, "no such start"),
+    }
+}
+
+fn fault_of<T: Drop>(alloc: Global, tree: Result<T, Error>) -> Result<String, AllocError> {
+    match tree {
+        Ok(_) => String::from_str(alloc, "none"),
+        Err(error) => told(alloc, error),
     }
 }
 

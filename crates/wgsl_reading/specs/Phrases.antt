@@ -13,6 +13,10 @@ use Rattle.wgsl_parts.specs.declared.part.Part.{Part}
 use Rattle.wgsl_parts.specs.declared.part.Part.TheVariants.{Absent}
 use Rattle.wgsl_parts.specs.declared.label.Label.{Label}
 use Rattle.wgsl_parts.specs.declared.label.Label.TheVariants as l
+use Rattle.wgsl_parts.specs.declared.label.NameLabel.{NameLabel}
+use Rattle.wgsl_parts.specs.declared.label.NameLabel.TheVariants as name
+use Rattle.wgsl_parts.specs.declared.label.ImportLabel.{ImportLabel}
+use Rattle.wgsl_parts.specs.declared.label.ImportLabel.TheVariants as imports
 use Rattle.wgsl_leaves.specs.Leaves as leaves
 use Rattle.wgsl_phrases.specs.declared.phrase.Phrase.{Phrase}
 use Rattle.wgsl_phrases.specs.declared.phrase.Failure.{Failure}
@@ -27,11 +31,25 @@ use Rattle.wgsl_reading.specs.Failures.{failure_in}
 abbrev pub leaf : SpannedTemplateToken → Phrase Part
 leaf k = record { part = leaves.leaf k.token; span = k.span; last = k.span; failure = None; depth = 0 }
 
--- Productions that make nothing new, and lists, nest no deeper than their parts.
+-- Names and their paths nest nothing, but for templates and arguments.
+abbrev pub name_nests : NameLabel → Bool
+name_nests name.Templated = true
+name_nests name.Call = true
+name_nests _ = false
+
+abbrev pub import_nests : ImportLabel → Bool
+import_nests imports.Collection = true
+import_nests imports.Tree = true
+import_nests imports.Import = true
+import_nests _ = false
+
+-- Nor do lists, and productions that make nothing new.
 abbrev pub nests : Label → Bool
 nests l.Pass = false
 nests l.First = false
 nests l.More = false
+nests (l.Name k) = name_nests k
+nests (l.Import k) = import_nests k
 nests _ = true
 
 -- what a production makes of some phrases, with this extent and these parts; of none it makes nothing

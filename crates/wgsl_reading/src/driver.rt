@@ -4,7 +4,7 @@ ghost use Rattle.std.specs.Prelude.{◌≡◌, ◌<◌, ◌+◌, Some, None, if�
 ghost use Rattle.wgsl_phrases.specs.declared.phrase.Phrase as declared_phrase;
 ghost use Rattle.std.specs.Option.{option_copied};
 ghost use Rattle.wgsl_shift_reduce.specs.Machine.{ahead_of};
-ghost use Rattle.wgsl_reading.specs.Phrases.{grammar, made, make, nests, number};
+ghost use Rattle.wgsl_reading.specs.Phrases.{grammar, import_nests, made, make, name_nests, nests, number};
 
 use crate::failure::{failure_at, made_failed, severity_failed};
 use std::alloc::{AllocError, Global};
@@ -12,7 +12,7 @@ use wgsl_grammar_tables::class::class_of;
 use wgsl_grammar_tables::{drive, rule_label, rule_pattern};
 use wgsl_leaves::leaf;
 use wgsl_make::make;
-use wgsl_parts::{Label, Part};
+use wgsl_parts::{ImportLabel, Label, NameLabel, Part};
 use wgsl_phrases::{Extent, Phrase, first_failure, gathered};
 use wgsl_shift_reduce::{Action, Driver, Shape};
 use wgsl_stack::Stack;
@@ -66,10 +66,31 @@ fn ahead(next: Option<&SpannedTemplateToken>) -> u16
     }
 }
 
+/// Names and their paths nest nothing, but for templates and arguments.
+fn name_nests(label: NameLabel) -> bool
+    ensures { result ≡ name_nests label }
+{
+    matches!(label, NameLabel::Templated | NameLabel::Call)
+}
+
+fn import_nests(label: ImportLabel) -> bool
+    ensures { result ≡ import_nests label }
+{
+    matches!(
+        label,
+        ImportLabel::Collection | ImportLabel::Tree | ImportLabel::Import
+    )
+}
+
 fn nests(label: Label) -> bool
     ensures { result ≡ nests label }
 {
-    !matches!(label, Label::Pass | Label::First | Label::More)
+    match label {
+        Label::Pass | Label::First | Label::More => false,
+        Label::Name(label) => name_nests(label),
+        Label::Import(label) => import_nests(label),
+        _ => true,
+    }
 }
 
 /// How deep trees are nested in what a production makes.
