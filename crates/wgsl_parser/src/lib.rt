@@ -4,8 +4,10 @@
 mod error;
 mod parse;
 mod take;
+mod text;
 
 pub use error::{Error, ErrorKind};
 pub use parse::{
     parse_declaration, parse_directive, parse_expression, parse_import, parse_statement, parse_str,
 };
+pub use text::FromText;

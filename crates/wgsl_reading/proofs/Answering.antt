@@ -1,11 +1,10 @@
 -- What the parser's answers say of tokens.
-use Rattle.std.proofs.Common.{◌≡◌, refl, sym, subst, ℕ, nat_lt, true, List, [], Option, Some, None, Result, Ok, Err}
+use Rattle.std.proofs.Common.{◌≡◌, refl, sym, subst, ℕ, nat_lt, true, List, [], Option, Some, None, Result, Err}
 use Rattle.wgsl_path.specs.declared.span.Span.{Span}
 use Rattle.wgsl_template_spec.specs.declared.token.SpannedTemplateToken.{SpannedTemplateToken}
 use Rattle.wgsl_stack.specs.Tops.{first}
 use Rattle.wgsl_shift_reduce.specs.declared.machine.Entry.{Entry}
 use Rattle.wgsl_shift_reduce.specs.Machine.{Outcome, read, stops, Comes}
-use Rattle.wgsl_shift_reduce.specs.Fit.{IsFit}
 use Rattle.wgsl_shift_reduce.specs.Laws.{IsRead, IsStopped, Answers}
 use Rattle.wgsl_shift_reduce.proofs.Whole.{answers_are_exact}
 use Rattle.wgsl_tables.specs.Listed.{account}
@@ -21,7 +20,7 @@ use Rattle.wgsl_reading.specs.declared.driver.Start.{Start as From}
 use Rattle.wgsl_reading.specs.declared.driver.Start.TheVariants.{Module, Expression, Statement, Declaration, Directive, Import}
 use Rattle.wgsl_reading.specs.declared.answer.Unread.{Unread}
 use Rattle.wgsl_reading.specs.Phrases.{grammar, number, tables_of}
-use Rattle.wgsl_reading.specs.Readings.{goal_of, first_failed, passing, stopping, Reads, IsFailed, in_tree, in_front, IsUnexpected, IsPart}
+use Rattle.wgsl_reading.specs.Readings.{goal_of, first_failed, passing, stopping, Reads, in_tree, in_front}
 
 number_below : (s : From) → nat_lt (number s) 6 ≡ true
 number_below Module = refl

@@ -1,5 +1,5 @@
 -- Which checks fail: of the arguments of an attribute, of the template of `var`, and of the severity of a diagnostic.
-use Rattle.std.specs.Prelude.{ℕ, List, [], ◌∷◌, Option, Some, None}
+use Rattle.std.specs.Prelude.{List, ◌∷◌, Option, Some, None}
 use Rattle.std.specs.Option.{option_map}
 use Rattle.wgsl_stack.specs.Tops.{first}
 use Rattle.wgsl_path.specs.declared.span.Span.{Span}

@@ -1,6 +1,5 @@
 -- The grammar: its rules, and what tokens and phrases stand for.
 use Rattle.std.specs.Prelude.{ℕ, suc, Bool, true, false, if◌then◌else◌, List, Option, Some, None}
-use Rattle.wgsl_path.specs.declared.span.Span.{Span}
 use Rattle.wgsl_template_spec.specs.declared.token.SpannedTemplateToken.{SpannedTemplateToken}
 use Rattle.wgsl_shift_reduce.specs.Grammars.{Grammar}
 use Rattle.wgsl_shift_reduce.specs.Machine.{Tables}
@@ -19,7 +18,6 @@ use Rattle.wgsl_parts.specs.declared.label.ImportLabel.{ImportLabel}
 use Rattle.wgsl_parts.specs.declared.label.ImportLabel.TheVariants as imports
 use Rattle.wgsl_leaves.specs.Leaves as leaves
 use Rattle.wgsl_phrases.specs.declared.phrase.Phrase.{Phrase}
-use Rattle.wgsl_phrases.specs.declared.phrase.Failure.{Failure}
 use Rattle.wgsl_phrases.specs.declared.gather.Extent.{Extent}
 use Rattle.wgsl_phrases.specs.Gathering.{either, extent_from, chosen}
 use Rattle.wgsl_reading.specs.declared.driver.Start.{Start}
