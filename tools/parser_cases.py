@@ -292,7 +292,7 @@ SPACES, MODES = set("function private workgroup uniform storage".split()), {"rea
 
 
 class Unclear(Exception):
-    """Two checks fail at once, and the papers don't say which of them is told."""
+    """Two checks fail at once, and no rule says which of them is told."""
 
 
 def arguments(tokens, opening):
