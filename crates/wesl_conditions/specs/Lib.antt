@@ -1,0 +1,4 @@
+pub mod Absorbed
+pub mod Told
+pub mod Values
+pub mod Laws
