@@ -56,8 +56,8 @@ def choices(piece):
     kind, _, name = piece.partition(" ")
     if kind in TOKENS_OF:
         return [([kind], kind not in ("opens", "closes"))]
-    if kind in ("mark", "truth", "may_mark"):
-        return ([([], False)] if kind == "may_mark" else []) + [([name], kind == "truth")]
+    if kind in ("mark", "truth", "kind", "may_mark"):
+        return ([([], False)] if kind == "may_mark" else []) + [([name], kind in ("truth", "kind"))]
     form, may_be_absent = FORMS[kind]
     return ([([], True)] if may_be_absent else []) + [([(name[2:], form)], True)]
 

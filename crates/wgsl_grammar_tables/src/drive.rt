@@ -35,7 +35,7 @@ fn action_before(state: u16, ahead: u16) -> Action
 
 /// What is done at the end.
 fn action_at_end(begin: u16, state: u16) -> Action
-    requires { begin < 6 }
+    requires { begin < 7 }
     ensures { result ≡ (if state == (start begin).last then Accept else reducing (reduction_at listed state zero)) }
 {
     if state == last_state(begin) {
@@ -47,7 +47,7 @@ fn action_at_end(begin: u16, state: u16) -> Action
 
 /// What is done in a state before what is ahead, by a parser with this start.
 pub fn action(begin: u16, state: u16, ahead: u16) -> Action
-    requires { begin < 6 }
+    requires { begin < 7 }
     ensures { result ≡ action (tables listed (start begin)) state ahead }
 {
     if ahead == 0 {

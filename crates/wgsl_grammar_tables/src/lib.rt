@@ -101,7 +101,7 @@ pub fn rule_pattern(rule: u16) -> &'static [u16]
 /// The state that a start ends in; it begins in the state of its own number.
 #[tactic(auto, using(crate::proofs::Read::last_is))]
 pub fn last_state(begin: u16) -> u16
-    requires { begin < 6 }
+    requires { begin < 7 }
     ensures { result ≡ (start begin).last }
 {
     LAST[usize::from(begin)]
