@@ -8,8 +8,8 @@ ghost use Rattle.wgsl_tables.specs.Listed.{reduction_at, rule_at, step_at, table
 ghost use Rattle.wgsl_grammar_tables.specs.Decoded.{listed};
 ghost use Rattle.wgsl_grammar_tables.specs.Starts.{start};
 
-use crate::table::RULE_COUNT;
 use crate::{last_state, reduction, rule_left, rule_length, step};
+use wgsl_parser_table::table::RULE_COUNT;
 use wgsl_shift_reduce::{Action, Shape};
 
 /// The reduction of a state before what is ahead, if there is one.

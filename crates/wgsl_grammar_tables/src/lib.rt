@@ -11,10 +11,9 @@ ghost use Rattle.wgsl_tables.specs.Listed.{beside, first_before, reduction_at, s
 pub mod class;
 pub mod drive;
 mod rows;
-pub mod table;
 
 use crate::rows::{contains, row, target, wide_row};
-use crate::table::{
+use wgsl_parser_table::table::{
     FINALS, FINALS_STARTS, FOLLOW, FOLLOW_STARTS, LABELS, LAST, LEFT, PATTERNS, PATTERNS_STARTS,
     RIGHT, RIGHT_STARTS, RULE_COUNT, STEPS, STEPS_STARTS,
 };
