@@ -46,13 +46,13 @@ abbrev stands : Symbol → Bool → Choice
 stands x is_part = record { symbols = x ∷ []; is_part = is_part }
 
 abbrev fixed : Fixed → Symbol
-fixed kind = token (fixed_class kind)
+fixed which = token (fixed_class which)
 
 abbrev pub choices : Piece → List Choice
-choices (mark kind) = stands (fixed kind) false ∷ []
-choices (truth mark) = stands (fixed mark) true ∷ []
-choices (kind mark) = stands (fixed mark) true ∷ []
-choices (may_mark kind) = absent false ∷ stands (fixed kind) false ∷ []
+choices (mark which) = stands (fixed which) false ∷ []
+choices (truth which) = stands (fixed which) true ∷ []
+choices (kind which) = stands (fixed which) true ∷ []
+choices (may_mark which) = absent false ∷ stands (fixed which) false ∷ []
 choices word = stands (token (class_of (Plain (t.Identifier [])))) true ∷ []
 choices literal = stands (token (class_of (Plain (t.F32 [])))) true ∷ []
 choices reserved = stands (token (class_of (Plain (t.Reserved [])))) true ∷ []
