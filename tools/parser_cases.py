@@ -41,6 +41,7 @@ statement: ';' | block | A 'if' expr block {'else' 'if' expr block} ['else' bloc
 clause: 'case' L('default' | expr) [':'] block | 'default' [':'] block
 continuing: 'continuing' A '{' {statement} ['break' 'if' expr ';'] '}'
 local: 'var' [template] typed ['=' expr] | 'let' typed '=' expr | 'const' typed '=' expr
+kind: 'const' | 'override' | 'let' | 'var' [template]
 init: local | update
 update: call | place op expr | '_' '=' expr | place '++' | place '--'
 op: '=' | '+=' | '-=' | '*=' | '/=' | '%=' | '&=' | '|=' | '^=' | '>>=' | '<<='
@@ -59,7 +60,7 @@ A: {attribute}
 attribute: '@' word ['(' [L(expr)] ')']
 """
 STARTS = {"module": "module", "expression": "expr", "statement": "statement", "declaration": "item", "directive": "directive",
-          "import": "import"}
+          "import": "import", "kind": "kind"}
 SPECIAL = ("id", "word", "literal")
 
 
@@ -442,6 +443,13 @@ statement: a [ b < c ] -- ;
 statement: a -= b ;
 statement: a >>= b ;
 statement: a ^= b [ c ] . d ;
+kind: const
+kind: override
+kind: let
+kind: var
+kind: var < storage >
+kind: var < storage , read_write , >
+kind: var < workgroup , >
 expression: a + b * c - d / - e % f
 expression: a && b < c && ! d
 expression: a || ( b && c ) || d == e

@@ -1,9 +1,9 @@
 #!/usr/bin/env python3
-"""Writes the tables of the parser, crates/wgsl_grammar_tables/src/table.rt, from the grammar in specs/Grammar.antt of that crate.
+"""Writes the tables of the parser, crates/wgsl_parser_table/src/table.rt, from the grammar in crates/wgsl_grammar_tables/specs/Grammar.antt.
 
 The tool writes each line of the grammar out without pieces that may be absent or stand any number of times, builds the SLR(1) automaton
 of these rules, and stops where two actions clash. Nothing is taken on trust from here: that the tables are those of the grammar's rules,
-and that they fit them, is proved in the crate. `rt fmt` lays the file out.
+and that they fit them, is proved in crates/wgsl_grammar_tables. `rt fmt` lays the file out.
 
 usage: tools/parser_tables.py"""
 import itertools
@@ -13,7 +13,7 @@ import re
 REPOSITORY = pathlib.Path(__file__).resolve().parent.parent
 TOKENS = REPOSITORY / "crates/wgsl_token/src/token.rt"
 SPECS = REPOSITORY / "crates/wgsl_grammar_tables/specs"
-TABLE = REPOSITORY / "crates/wgsl_grammar_tables/src/table.rt"
+TABLE = REPOSITORY / "crates/wgsl_parser_table/src/table.rt"
 
 # Classes of tokens beside the fixed ones, in their order behind these.
 CLASSES = ["word", "literal", "reserved", "opens", "closes", "invalid"]
@@ -56,8 +56,8 @@ def choices(piece):
     kind, _, name = piece.partition(" ")
     if kind in TOKENS_OF:
         return [([kind], kind not in ("opens", "closes"))]
-    if kind in ("mark", "truth", "may_mark"):
-        return ([([], False)] if kind == "may_mark" else []) + [([name], kind == "truth")]
+    if kind in ("mark", "truth", "kind", "may_mark"):
+        return ([([], False)] if kind == "may_mark" else []) + [([name], kind in ("truth", "kind"))]
     form, may_be_absent = FORMS[kind]
     return ([([], True)] if may_be_absent else []) + [([(name[2:], form)], True)]
 

@@ -7,7 +7,7 @@ use Rattle.wgsl_shift_reduce.specs.Grammars.{Symbol, Rule}
 use Rattle.wgsl_tables.specs.Listed.{code, member, rule_at, steps_at, finals_at, first_before, reduction_by}
 use Rattle.wgsl_tables.specs.Tests.{all_below}
 use Rattle.wgsl_tables.proofs.Facts.{given, each_below, pair_is, code_is}
-use Rattle.wgsl_grammar_tables.specs.declared.table.TheConstants.{LAST, PATTERNS, PATTERNS_STARTS, RULE_COUNT, STATE_COUNT, NONTERMINAL_COUNT, STEPS, STEPS_STARTS, FINALS, FINALS_STARTS, FOLLOW, FOLLOW_STARTS, LEFT, RIGHT, RIGHT_STARTS}
+use Rattle.wgsl_parser_table.specs.declared.table.TheConstants.{LAST, PATTERNS, PATTERNS_STARTS, RULE_COUNT, STATE_COUNT, NONTERMINAL_COUNT, STEPS, STEPS_STARTS, FINALS, FINALS_STARTS, FOLLOW, FOLLOW_STARTS, LEFT, RIGHT, RIGHT_STARTS}
 use Rattle.wgsl_grammar_tables.specs.Rows.{AreStarts, row_between}
 use Rattle.wgsl_grammar_tables.specs.Starts.{start}
 use Rattle.wgsl_grammar_tables.specs.Decoded.{nth, listed, step_of, symbol_of, groups, number_at}

@@ -7,7 +7,7 @@ use Rattle.wgsl_tables.specs.Listed.{rule_at, tables, account}
 use Rattle.wgsl_tables.specs.Tests.{all_below}
 use Rattle.wgsl_tables.proofs.Facts.{each_below}
 use Rattle.wgsl_parts.specs.declared.label.Label.TheVariants.{Pass}
-use Rattle.wgsl_grammar_tables.specs.declared.table.TheConstants.{RULE_COUNT, LABELS, GOAL, SENTENCE}
+use Rattle.wgsl_parser_table.specs.declared.table.TheConstants.{RULE_COUNT, LABELS, GOAL, SENTENCE}
 use Rattle.wgsl_grammar_tables.specs.Decoded.{listed, nth}
 use Rattle.wgsl_grammar_tables.specs.Starts.{start}
 use Rattle.wgsl_grammar_tables.specs.Grammar.{begun}
@@ -106,6 +106,6 @@ sentence_is i = ap (λ l. nth l i) sentences_are
 -- ---- a grammar that has the rules of the lines, and a token of each class
 
 module _ {T V : Type 0} (g : Grammar T V) (rules : (p : ℕ) → g.rule p ≡ rule_in made_rules p) (classes : (c : ℕ) → nat_lt c listed.class_count ≡ true → (k : T) × (g.class_of k ≡ c)) where
-  pub written_fit : (i : ℕ) → nat_lt i 6 ≡ true
+  pub written_fit : (i : ℕ) → nat_lt i 7 ≡ true
       → IsFit g (tables listed (start i)) (account listed (start i)) (start i).from (start i).rule (start i).sentence (start i).goal
   written_fit i lt = tables_fit g (λ p. rules p ∙ sym (rules_are p)) classes i lt

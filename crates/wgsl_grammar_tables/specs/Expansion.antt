@@ -9,7 +9,7 @@ use Rattle.wgsl_parts.specs.declared.label.Label.{Label}
 use Rattle.wgsl_parts.specs.declared.label.Label.TheVariants as l
 use Rattle.wgsl_grammar_tables.specs.Classes.{class_of, fixed_class}
 use Rattle.wgsl_grammar_tables.specs.Nonterminals.{Nonterminal, number}
-use Rattle.wgsl_grammar_tables.specs.Grammar.{Piece, mark, truth, may_mark, word, literal, reserved, opens, closes, one, may, some, any, listed, any_listed, Line, repeated, separated, begun, lines}
+use Rattle.wgsl_grammar_tables.specs.Grammar.{Piece, mark, truth, kind, may_mark, word, literal, reserved, opens, closes, one, may, some, any, listed, any_listed, Line, repeated, separated, begun, lines}
 
 -- A rule, what it makes, and the pattern of its parts: 0 for one that is absent, 1 for a symbol that is none, 2 for one that is.
 pub record Made : Type 0 where
@@ -46,12 +46,13 @@ abbrev stands : Symbol → Bool → Choice
 stands x is_part = record { symbols = x ∷ []; is_part = is_part }
 
 abbrev fixed : Fixed → Symbol
-fixed kind = token (fixed_class kind)
+fixed which = token (fixed_class which)
 
 abbrev pub choices : Piece → List Choice
-choices (mark kind) = stands (fixed kind) false ∷ []
-choices (truth kind) = stands (fixed kind) true ∷ []
-choices (may_mark kind) = absent false ∷ stands (fixed kind) false ∷ []
+choices (mark which) = stands (fixed which) false ∷ []
+choices (truth which) = stands (fixed which) true ∷ []
+choices (kind which) = stands (fixed which) true ∷ []
+choices (may_mark which) = absent false ∷ stands (fixed which) false ∷ []
 choices word = stands (token (class_of (Plain (t.Identifier [])))) true ∷ []
 choices literal = stands (token (class_of (Plain (t.F32 [])))) true ∷ []
 choices reserved = stands (token (class_of (Plain (t.Reserved [])))) true ∷ []

@@ -20,11 +20,12 @@ use Rattle.wgsl_parts.specs.declared.label.DeclarationLabel.TheVariants as decl
 use Rattle.wgsl_grammar_tables.specs.Nonterminals as n
 use Rattle.wgsl_grammar_tables.specs.Nonterminals.{Nonterminal}
 
--- A token: a mark that stands there, one that is a literal, one that may be absent, a word, a literal, a reserved word, or what opens and closes a template list.
+-- A token: a mark that stands there, one that is a literal, one that is a kind of declaration, one that may be absent, a word, a literal, a reserved word, or what opens and closes a template list.
 -- Or phrases: one, one or none, some in a row, those or none, a list with commas, one that may be absent.
 pub data Piece : Type 0 where
   mark : Fixed → Piece
   truth : Fixed → Piece
+  kind : Fixed → Piece
   may_mark : Fixed → Piece
   word : Piece
   literal : Piece
@@ -56,7 +57,7 @@ separated = n.Item ∷ n.Expression ∷ n.Selector ∷ n.Tree ∷ n.Extension �
 
 -- what a parser can begin with
 abbrev pub begun : List Nonterminal
-begun = n.Module ∷ n.Expression ∷ n.Statement ∷ n.Declaration ∷ n.Directive ∷ n.Import ∷ []
+begun = n.Module ∷ n.Expression ∷ n.Statement ∷ n.Declaration ∷ n.Directive ∷ n.Import ∷ n.Kind ∷ []
 
 abbrev pub lines : List Line
 lines =
@@ -261,4 +262,9 @@ lines =
     row (l.Declaration decl.Parameter) n.Parameter (any n.Attribute ∷ word ∷ mark f.Colon ∷ one n.TypeExpression ∷ []) ∷
     row (l.Declaration decl.Result) n.Result (mark f.Arrow ∷ any n.Attribute ∷ one n.TypeExpression ∷ []) ∷
     row (l.Declaration decl.Module) n.Module (any n.Import ∷ any n.Directive ∷ any n.Declaration ∷ []) ∷
+    -- kinds of declarations, alone
+    row l.Pass n.Kind (kind f.Const ∷ []) ∷
+    row l.Pass n.Kind (kind f.Override ∷ []) ∷
+    row l.Pass n.Kind (kind f.Let ∷ []) ∷
+    row l.Pass n.Kind (one n.VarHead ∷ []) ∷
     []

@@ -2,7 +2,7 @@
 use Rattle.std.specs.Prelude.{ℕ, List, get_or}
 use Rattle.wgsl_parts.specs.declared.label.Label.{Label}
 use Rattle.wgsl_parts.specs.declared.label.Label.TheVariants.{Pass}
-use Rattle.wgsl_grammar_tables.specs.declared.table.TheConstants.{LABELS, PATTERNS, PATTERNS_STARTS}
+use Rattle.wgsl_parser_table.specs.declared.table.TheConstants.{LABELS, PATTERNS, PATTERNS_STARTS}
 use Rattle.wgsl_grammar_tables.specs.Rows.{row_between}
 
 abbrev pub label_at : ℕ → Label

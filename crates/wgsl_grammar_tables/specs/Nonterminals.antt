@@ -64,6 +64,7 @@ pub data Nonterminal : Type 0 where
   Parameter : Nonterminal
   Result : Nonterminal
   Module : Nonterminal
+  Kind : Nonterminal
 
 abbrev pub number : Nonterminal → ℕ
 number Name = 0
@@ -128,3 +129,4 @@ number Member = 58
 number Parameter = 59
 number Result = 60
 number Module = 61
+number Kind = 62

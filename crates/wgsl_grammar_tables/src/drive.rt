@@ -8,8 +8,8 @@ ghost use Rattle.wgsl_tables.specs.Listed.{reduction_at, rule_at, step_at, table
 ghost use Rattle.wgsl_grammar_tables.specs.Decoded.{listed};
 ghost use Rattle.wgsl_grammar_tables.specs.Starts.{start};
 
-use crate::table::RULE_COUNT;
 use crate::{last_state, reduction, rule_left, rule_length, step};
+use wgsl_parser_table::table::RULE_COUNT;
 use wgsl_shift_reduce::{Action, Shape};
 
 /// The reduction of a state before what is ahead, if there is one.
@@ -35,7 +35,7 @@ fn action_before(state: u16, ahead: u16) -> Action
 
 /// What is done at the end.
 fn action_at_end(begin: u16, state: u16) -> Action
-    requires { begin < 6 }
+    requires { begin < 7 }
     ensures { result ≡ (if state == (start begin).last then Accept else reducing (reduction_at listed state zero)) }
 {
     if state == last_state(begin) {
@@ -47,7 +47,7 @@ fn action_at_end(begin: u16, state: u16) -> Action
 
 /// What is done in a state before what is ahead, by a parser with this start.
 pub fn action(begin: u16, state: u16, ahead: u16) -> Action
-    requires { begin < 6 }
+    requires { begin < 7 }
     ensures { result ≡ action (tables listed (start begin)) state ahead }
 {
     if ahead == 0 {

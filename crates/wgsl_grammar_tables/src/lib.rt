@@ -11,10 +11,9 @@ ghost use Rattle.wgsl_tables.specs.Listed.{beside, first_before, reduction_at, s
 pub mod class;
 pub mod drive;
 mod rows;
-pub mod table;
 
 use crate::rows::{contains, row, target, wide_row};
-use crate::table::{
+use wgsl_parser_table::table::{
     FINALS, FINALS_STARTS, FOLLOW, FOLLOW_STARTS, LABELS, LAST, LEFT, PATTERNS, PATTERNS_STARTS,
     RIGHT, RIGHT_STARTS, RULE_COUNT, STEPS, STEPS_STARTS,
 };
@@ -101,7 +100,7 @@ pub fn rule_pattern(rule: u16) -> &'static [u16]
 /// The state that a start ends in; it begins in the state of its own number.
 #[tactic(auto, using(crate::proofs::Read::last_is))]
 pub fn last_state(begin: u16) -> u16
-    requires { begin < 6 }
+    requires { begin < 7 }
     ensures { result ≡ (start begin).last }
 {
     LAST[usize::from(begin)]

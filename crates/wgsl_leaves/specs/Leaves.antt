@@ -8,16 +8,20 @@ use Rattle.wgsl_token.specs.declared.token.Token.TheVariants as token
 use Rattle.wgsl_template_spec.specs.declared.token.TemplateToken.{TemplateToken}
 use Rattle.wgsl_template_spec.specs.declared.token.TemplateToken.TheVariants.{Plain}
 use Rattle.wgsl_expressions.specs.declared.expression.LiteralExpression.TheVariants as literal
+use Rattle.wgsl_simple_statements.specs.declared.declaration.DeclarationKind.TheVariants as kind
 use Rattle.wgsl_parts.specs.declared.part.Part.{Part}
 use Rattle.wgsl_parts.specs.declared.part.Part.TheVariants as part
 
 abbrev pub fixed_leaf : Fixed → Part
 fixed_leaf fixed.True = part.Literal (literal.Bool true)
 fixed_leaf fixed.False = part.Literal (literal.Bool false)
+fixed_leaf fixed.Const = part.Kind kind.Const
+fixed_leaf fixed.Override = part.Kind kind.Override
+fixed_leaf fixed.Let = part.Kind kind.Let
 fixed_leaf _ = part.Mark
 
 abbrev pub plain_leaf : Token → Part
-plain_leaf (token.Fixed kind) = fixed_leaf kind
+plain_leaf (token.Fixed mark) = fixed_leaf mark
 plain_leaf (token.Identifier name) = part.Ident (ident_of name)
 plain_leaf (token.Reserved word) = part.Reserved word
 plain_leaf (token.AbstractInt n) = part.Literal (literal.AbstractInt n)
@@ -28,7 +32,7 @@ plain_leaf (token.F32 spelled) = part.Literal (literal.F32 spelled)
 plain_leaf (token.F16 spelled) = part.Literal (literal.F16 spelled)
 plain_leaf token.Invalid = part.Mark
 
--- a name, a reserved word or a literal; of any other token no more than that it is there
+-- a name, a reserved word, a literal or a kind of declaration; of any other token no more than that it is there
 abbrev pub leaf : TemplateToken → Part
 leaf (Plain k) = plain_leaf k
 leaf _ = part.Mark

@@ -7,6 +7,7 @@ ghost use Rattle.wgsl_leaves.specs.Leaves as leaves;
 use wgsl_expressions::LiteralExpression;
 use wgsl_parts::Part;
 use wgsl_path::Ident;
+use wgsl_simple_statements::DeclarationKind;
 use wgsl_template_spec::TemplateToken;
 use wgsl_token::{Fixed, Token};
 
@@ -16,6 +17,9 @@ fn fixed_leaf(kind: Fixed) -> Part
     match kind {
         Fixed::True => Part::Literal(LiteralExpression::Bool(true)),
         Fixed::False => Part::Literal(LiteralExpression::Bool(false)),
+        Fixed::Const => Part::Kind(DeclarationKind::Const),
+        Fixed::Override => Part::Kind(DeclarationKind::Override),
+        Fixed::Let => Part::Kind(DeclarationKind::Let),
         _ => Part::Mark,
     }
 }
@@ -39,7 +43,7 @@ fn plain_leaf(token: Token) -> Part
     }
 }
 
-/// What a token stands for: a name, a reserved word or a literal. Of any other token it says no more than that it is there.
+/// What a token stands for: a name, a reserved word, a literal or a kind of declaration. Of any other token it says no more than that it is there.
 pub fn leaf(token: TemplateToken) -> Part
     ensures { result ≡ leaves.leaf token }
 {

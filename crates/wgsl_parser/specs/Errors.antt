@@ -1,5 +1,6 @@
 -- The fault of a text, by why its tokens were not read.
-use Rattle.std.specs.Prelude.{ℕ, Option, Some, None}
+use Rattle.std.specs.Prelude.{ℕ, List, ◌++◌, Option, Some, None, codes}
+use Rattle.std.specs.Fmt.{decimal}
 use Rattle.wgsl_token.specs.declared.token.Fixed.{Fixed}
 use Rattle.wgsl_token.specs.declared.token.Fixed.TheVariants as f
 use Rattle.wgsl_token.specs.declared.token.Token.TheVariants as t
@@ -45,3 +46,18 @@ abbrev pub error_of : ℕ → Unread → Error
 error_of length OutOfMemory = out_of_memory
 error_of length (Failed f) = record { kind = kind_of_check f.check; span = f.span }
 error_of length (Unexpected next) = unexpected length next
+
+-- what is told of a fault of a kind
+abbrev pub message : ErrorKind → List ℕ
+message kind.InvalidToken = codes "invalid token"
+message kind.ReservedWord = codes "reserved word"
+message kind.UnexpectedToken = codes "unexpected token"
+message kind.UnexpectedEof = codes "unexpected end of the text"
+message kind.DiagnosticSeverity = codes "invalid severity of a diagnostic"
+message kind.Attribute = codes "invalid arguments of an attribute"
+message kind.VarTemplate = codes "invalid template of `var`"
+message kind.OutOfMemory = codes "out of memory"
+
+-- and where it is
+abbrev pub error_text : Error → List ℕ
+error_text e = message e.kind ++ codes " at " ++ decimal e.span.start ++ codes ".." ++ decimal e.span.end

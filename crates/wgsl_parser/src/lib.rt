@@ -8,6 +8,7 @@ mod text;
 
 pub use error::{Error, ErrorKind};
 pub use parse::{
-    parse_declaration, parse_directive, parse_expression, parse_import, parse_statement, parse_str,
+    parse_declaration, parse_declaration_kind, parse_directive, parse_expression, parse_import,
+    parse_statement, parse_str,
 };
 pub use text::FromText;

@@ -6,7 +6,7 @@ ghost use Rattle.wgsl_reading.specs.declared.driver.Start.TheVariants as from;
 ghost use Rattle.wgsl_parser.specs.Texts.{Parses, ParsesModule, ParsesTokens, TellsModule};
 
 use crate::error::{Error, error_of, out_of_memory};
-use crate::take::{declaration, directive, import, module, statement};
+use crate::take::{declaration, directive, import, kind, module, statement};
 use std::alloc::{AllocError, Global};
 use wgsl_declarations::{GlobalDeclarationNode, TranslationUnit};
 use wgsl_expressions::ExpressionNode;
@@ -15,6 +15,7 @@ use wgsl_items::Items;
 use wgsl_parts::Part;
 use wgsl_parts::take::expression;
 use wgsl_reading::{Start, read};
+use wgsl_simple_statements::DeclarationKind;
 use wgsl_statements::StatementNode;
 use wgsl_template_lexer::lexer::lex;
 use wgsl_template_spec::SpannedTemplateToken;
@@ -102,6 +103,19 @@ pub fn parse_import(alloc: Global, text: &str) -> Result<ImportStatement, Error>
 {
     match parse(alloc, Start::Import, text) {
         Ok(part) => match import(part) {
+            Ok(tree) => Ok(tree),
+            Err(AllocError) => Err(out_of_memory()),
+        },
+        Err(error) => Err(error),
+    }
+}
+
+/// The text as a kind of declaration: `const`, `override`, `let`, or `var` with its template or without.
+pub fn parse_declaration_kind(alloc: Global, text: &str) -> Result<DeclarationKind, Error>
+    ensures { Parses from.Kind as_part.Kind text.now result }
+{
+    match parse(alloc, Start::Kind, text) {
+        Ok(part) => match kind(part) {
             Ok(tree) => Ok(tree),
             Err(AllocError) => Err(out_of_memory()),
         },

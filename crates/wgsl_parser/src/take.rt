@@ -7,6 +7,7 @@ use wgsl_declarations::{GlobalDeclarationNode, TranslationUnit};
 use wgsl_imports::{GlobalDirective, ImportStatement};
 use wgsl_parts::Part;
 use wgsl_parts::take::misfit;
+use wgsl_simple_statements::DeclarationKind;
 use wgsl_statements::StatementNode;
 
 pub(crate) fn statement(part: Part) -> Result<StatementNode, AllocError>
@@ -50,6 +51,15 @@ pub(crate) fn module(part: Part) -> Result<TranslationUnit, AllocError>
 {
     match part {
         Part::Module(x) => Ok(x.into_inner()),
+        other => misfit(other),
+    }
+}
+
+pub(crate) fn kind(part: Part) -> Result<DeclarationKind, AllocError>
+    ensures { IfOk result (λ x. part ≡ Part.Kind x) }
+{
+    match part {
+        Part::Kind(x) => Ok(x),
         other => misfit(other),
     }
 }

@@ -4,12 +4,14 @@ ghost use Rattle.std.specs.Prelude.{ℕ, List, Result};
 
 use crate::error::Error;
 use crate::parse::{
-    parse_declaration, parse_directive, parse_expression, parse_import, parse_statement, parse_str,
+    parse_declaration, parse_declaration_kind, parse_directive, parse_expression, parse_import,
+    parse_statement, parse_str,
 };
 use std::alloc::Global;
 use wgsl_declarations::{GlobalDeclarationNode, TranslationUnit};
 use wgsl_expressions::ExpressionNode;
 use wgsl_imports::{GlobalDirective, ImportStatement};
+use wgsl_simple_statements::DeclarationKind;
 use wgsl_statements::StatementNode;
 
 /// A tree that texts are read as.
@@ -91,5 +93,17 @@ impl FromText for ImportStatement {
 
     fn from_str(alloc: Global, text: &str) -> Result<ImportStatement, Error> {
         parse_import(alloc, text)
+    }
+}
+
+impl FromText for DeclarationKind {
+    ghost use Rattle.wgsl_parts.specs.declared.part.Part.TheVariants as as_part;
+    ghost use Rattle.wgsl_reading.specs.declared.driver.Start.TheVariants as from;
+    ghost use Rattle.wgsl_parser.specs.Texts.{Parses};
+
+    ghost answers = { Parses from.Kind as_part.Kind };
+
+    fn from_str(alloc: Global, text: &str) -> Result<DeclarationKind, Error> {
+        parse_declaration_kind(alloc, text)
     }
 }

@@ -4,8 +4,8 @@
 use std::alloc::{AllocError, Global};
 use std::fmt::{Display, Write};
 use wgsl_parser::{
-    Error, parse_declaration, parse_directive, parse_expression, parse_import, parse_statement,
-    parse_str,
+    Error, parse_declaration, parse_declaration_kind, parse_directive, parse_expression,
+    parse_import, parse_statement, parse_str,
 };
 
 /// The text before the first tab, and the text behind it.
@@ -23,6 +23,7 @@ pub fn answer(alloc: Global, case: &str) -> Result<String, AllocError> {
         "declaration" => shown(alloc, parse_declaration(alloc, text)),
         "directive" => shown(alloc, parse_directive(alloc, text)),
         "import" => shown(alloc, parse_import(alloc, text)),
+        "kind" => shown(alloc, parse_declaration_kind(alloc, text)),
         "fault" => fault(alloc, text),
         _ => String::from_str(alloc, "no such call"),
     }
@@ -38,6 +39,7 @@ fn fault(alloc: Global, case: &str) -> Result<String, AllocError> {
         "declaration" => fault_of(alloc, parse_declaration(alloc, text)),
         "directive" => fault_of(alloc, parse_directive(alloc, text)),
         "import" => fault_of(alloc, parse_import(alloc, text)),
+        "kind" => fault_of(alloc, parse_declaration_kind(alloc, text)),
         _ => String::from_str(alloc, "no such start"),
     }
 }

@@ -17,18 +17,19 @@ use Rattle.wgsl_parts.specs.declared.part.Part.{Part}
 use Rattle.wgsl_phrases.specs.declared.phrase.Phrase.{Phrase}
 use Rattle.wgsl_phrases.specs.declared.phrase.Failure.{Failure}
 use Rattle.wgsl_reading.specs.declared.driver.Start.{Start as From}
-use Rattle.wgsl_reading.specs.declared.driver.Start.TheVariants.{Module, Expression, Statement, Declaration, Directive, Import}
+use Rattle.wgsl_reading.specs.declared.driver.Start.TheVariants.{Module, Expression, Statement, Declaration, Directive, Import, Kind}
 use Rattle.wgsl_reading.specs.declared.answer.Unread.{Unread}
 use Rattle.wgsl_reading.specs.Phrases.{grammar, number, tables_of}
 use Rattle.wgsl_reading.specs.Readings.{goal_of, first_failed, passing, stopping, Reads, in_tree, in_front}
 
-number_below : (s : From) → nat_lt (number s) 6 ≡ true
+number_below : (s : From) → nat_lt (number s) 7 ≡ true
 number_below Module = refl
 number_below Expression = refl
 number_below Statement = refl
 number_below Declaration = refl
 number_below Directive = refl
 number_below Import = refl
+number_below Kind = refl
 
 a_place : Span
 a_place = record { start = 0; end = 0 }

@@ -21,7 +21,7 @@ use Rattle.wgsl_phrases.specs.declared.phrase.Phrase.{Phrase}
 use Rattle.wgsl_phrases.specs.declared.gather.Extent.{Extent}
 use Rattle.wgsl_phrases.specs.Gathering.{either, extent_from, chosen}
 use Rattle.wgsl_reading.specs.declared.driver.Start.{Start}
-use Rattle.wgsl_reading.specs.declared.driver.Start.TheVariants.{Module, Expression, Statement, Declaration, Directive, Import}
+use Rattle.wgsl_reading.specs.declared.driver.Start.TheVariants.{Module, Expression, Statement, Declaration, Directive, Import, Kind}
 use Rattle.wgsl_make.specs.Making as making
 use Rattle.wgsl_reading.specs.Failures.{failure_in}
 
@@ -76,6 +76,7 @@ number Statement = 2
 number Declaration = 3
 number Directive = 4
 number Import = 5
+number Kind = 6
 
 abbrev pub tables_of : Start → Tables
 tables_of s = tables listed (start (number s))

@@ -30,13 +30,15 @@ pub enum Start {
     Declaration,
     Directive,
     Import,
+    /// A kind of declaration.
+    Kind,
 }
 
 impl Start {
     /// The state that the parser begins in.
     pub fn number(self) -> u16
         ensures is { result ≡ number self }
-        ensures below { result < 6 }
+        ensures below { result < 7 }
     {
         match self {
             Start::Module => 0,
@@ -45,6 +47,7 @@ impl Start {
             Start::Declaration => 3,
             Start::Directive => 4,
             Start::Import => 5,
+            Start::Kind => 6,
         }
     }
 }

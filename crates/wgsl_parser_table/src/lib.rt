@@ -1,0 +1,4 @@
+//! The tables of the parser of WGSL and of the grammar of imports, as `tools/parser_tables.py` writes them.
+#![tactic(auto)]
+
+pub mod table;
