@@ -19,7 +19,7 @@ abbrev mutual
   statement_fault features (simple s) = None
   statement_fault features (compound_statement b) = block_fault features b
   statement_fault features (if_statement attributes x b more) = option_or (block_fault features b) (elses_fault features more)
-  statement_fault features (switch_statement attributes x inner clauses) = clauses_fault features clauses
+  statement_fault features (switch_statement attributes x inner cs) = clauses_fault features cs
   statement_fault features (loop_statement attributes b last) = option_or (block_fault features b) (continuing_fault features last)
   statement_fault features (for_statement attributes first condition update b) =
       option_or (part_fault features first) (option_or (part_fault features update) (block_fault features b))

@@ -47,7 +47,7 @@ abbrev pub statement_attributes : Stm → List Attr
 statement_attributes (simple s) = simple_attributes s
 statement_attributes (compound_statement b) = block_attributes b
 statement_attributes (if_statement attributes x b more) = attributes
-statement_attributes (switch_statement attributes x inner clauses) = attributes
+statement_attributes (switch_statement attributes x inner cs) = attributes
 statement_attributes (loop_statement attributes b last) = attributes
 statement_attributes (for_statement attributes first condition update b) = attributes
 statement_attributes (while_statement attributes x b) = attributes
@@ -56,7 +56,7 @@ abbrev pub statement_with : List Attr → Stm → Stm
 statement_with new (simple s) = simple (simple_with new s)
 statement_with new (compound_statement b) = compound_statement (block_with new b)
 statement_with new (if_statement attributes x b more) = if_statement new x b more
-statement_with new (switch_statement attributes x inner clauses) = switch_statement new x inner clauses
+statement_with new (switch_statement attributes x inner cs) = switch_statement new x inner cs
 statement_with new (loop_statement attributes b last) = loop_statement new b last
 statement_with new (for_statement attributes first condition update b) = for_statement new first condition update b
 statement_with new (while_statement attributes x b) = while_statement new x b
@@ -119,7 +119,7 @@ module _ (rewriting : Rewriting) where
     in_statement (simple s) = simple s
     in_statement (compound_statement b) = compound_statement (in_block b)
     in_statement (if_statement attributes x b more) = if_statement attributes x (in_block b) (in_elses more)
-    in_statement (switch_statement attributes x inner clauses) = switch_statement attributes x inner (in_clauses clauses)
+    in_statement (switch_statement attributes x inner cs) = switch_statement attributes x inner (in_clauses cs)
     in_statement (loop_statement attributes b last) = loop_statement attributes (in_block b) (in_continuing last)
     in_statement (for_statement attributes first condition update b) = for_statement attributes (in_part first) condition (in_part update) (in_block b)
     in_statement (while_statement attributes x b) = while_statement attributes x (in_block b)
