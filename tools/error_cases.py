@@ -5,10 +5,10 @@ usage: tools/error_cases.py        It writes crates/wgsl_error_cases/data/places
 
 The plain program shares nothing with the crates: it finds line breaks by a regular expression and cuts a place by the bits of its byte.
 Of a module's fault the message and the place stand below, worked out by hand."""
-import os
 import re
 
-CRATE = os.path.join(os.path.dirname(os.path.abspath(__file__)), "..", "crates", "wgsl_error_cases")
+from cases import escaped, write
+
 BREAK = re.compile("\r\n|[\n\v\f\r\x85\u2028\u2029]")
 
 # ---- What is told of a part of a text.
@@ -87,12 +87,6 @@ FAULTLESS = ["", "fn f() {}\n"]
 # ---- Writing.
 
 
-def escaped(text):
-    for character, name in (("\\", "\\\\"), ("\n", "\\n"), ("\r", "\\r"), ("\t", "\\t")):
-        text = text.replace(character, name)
-    return text
-
-
 def lines():
     yield "# Places in texts, and what is told of an unexpected token there"
     for text, places in PLACES.items():
@@ -106,13 +100,7 @@ def lines():
 
 
 def main():
-    written = list(lines())
-    with open(os.path.join(CRATE, "data", "places.txt"), "w", encoding="utf-8", newline="") as file:
-        file.write("\n".join(written) + "\n")
-    count = sum("\t" in line for line in written)
-    with open(os.path.join(CRATE, "stdout"), "w", encoding="utf-8") as file:
-        file.write(f"places.txt: {count} cases\n")
-    print(f"{count} cases")
+    print(f"{write('wgsl_error_cases', 'places.txt', list(lines()))} cases")
 
 
 if __name__ == "__main__":

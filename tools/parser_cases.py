@@ -11,10 +11,12 @@ same algorithm, which reads the whole text behind each `<`.
 """
 
 import functools
-import os
 import re
 
-CRATE = os.path.join(os.path.dirname(os.path.abspath(__file__)), "..", "crates", "wgsl_parser_cases")
+from cases import path, write
+
+CRATE = "wgsl_parser_cases"
+NAME = "texts.txt"
 MARK = "# By tools/parser_cases.py"
 MOST = 2900
 
@@ -524,15 +526,10 @@ def made_lines():
 
 
 def main():
-    path = os.path.join(CRATE, "data", "texts.txt")
-    with open(path, encoding="utf-8") as file:
+    with open(path(CRATE, NAME), encoding="utf-8") as file:
         kept = file.read().split(MARK)[0].rstrip("\n").split("\n")
     lines = kept + [MARK] + made_lines()
-    with open(path, "w", encoding="utf-8") as file:
-        file.write("\n".join(lines) + "\n")
-    count = sum("\t" in line for line in lines)
-    with open(os.path.join(CRATE, "stdout"), "w", encoding="utf-8") as file:
-        file.write(f"texts.txt: {count} cases\n")
+    count = write(CRATE, NAME, lines)
     print(f"{count} cases, {len(lines)} lines, longest {max(map(len, lines))}")
 
 

@@ -15,7 +15,7 @@ use Rattle.wesl_cond_spec.specs.Conditions.{Choice, Admits, known, truth, holds,
 
 module _ (features : Features) (choice : Choice) (admits : Admits features choice) where
   -- a known truth value is the condition's
-  known_holds : (x : Exp) (v : Bool) → known x ≡ Some v → holds choice x ≡ v
+  pub known_holds : (x : Exp) (v : Bool) → known x ≡ Some v → holds choice x ≡ v
   known_holds (literal (l.Bool w)) v is = let same : w ≡ v = cc in same
   known_holds (literal (l.AbstractInt n)) v is = absurd (cc)
   known_holds (literal (l.AbstractFloat n)) v is = absurd (cc)

@@ -1,1 +1,11 @@
+pub mod Parts
+pub mod ExpressionTest
 pub mod Expressions
+pub mod Attributes
+pub mod Imports
+pub mod SimpleStatements
+pub mod Statements
+pub mod StatementTest
+pub mod WithoutEmptyItems
+pub mod Declarations
+pub mod Modules

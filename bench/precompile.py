@@ -1,0 +1,61 @@
+#!/usr/bin/env python3
+"""Times `precompile` on text that looks like shaders with conditions, beside parsing the same text alone.
+
+usage: bench/precompile.py PRECOMPILE PARSE    the built programs crates/weslc_precompile_cases/out/weslc_precompile_cases and
+                                               crates/wgsl_parser_cases/out/wgsl_parser_cases
+
+Both read one case from `texts.txt` in an empty folder: a module of so many declarations on one line. The first parses it, fixes its flags, prints
+what is left, and parses that; it writes the answer, since the case names none. The second tells whether the text has a fault."""
+import resource
+import subprocess
+import sys
+import tempfile
+import time
+import pathlib
+
+FOUR = """@if(fast && !debug) @compute @workgroup_size(8, 8, 1) fn main_%d(@builtin(global_invocation_id) id: vec3<u32>, @if(debug) @location(0) w: f32) {
+ var sum = vec4<f32>(0.0, 0.0, 0.0, 1.0); let width = params.size.x * 2u + 1u;
+ for (var i = 0u; i < width; i++) { @if(fast) if (i & 3u) == 0u { continue; } @elif(slow) { work(i); } @else while i > 100u { break; } sum = sum * scale; }
+ @if(kept || debug) switch mode { case 0u, 1u: { sum.x *= 2.0; } default: { @if(kept) loop { sum.w -= 0.125; } @else { discard; } } }
+ return; }
+@else fn main_%d() {}
+struct Params_%d { @size(16) size: vec2<u32>, @if(debug) extra: u32, @elif(kept) inner: array<mat4x4<f32>, 16>, @else @align(4) more: f32 }
+@group(0) @binding(%d) @if(kept) var<storage, read_write> values_%d: array<u32>;
+"""
+
+
+def module(declarations):
+    parts = []
+    for n in range((declarations + 3) // 4):
+        parts.append((FOUR % ((n,) * 5)).replace("\n", " "))
+    return "".join(parts)
+
+
+def timed(program, line):
+    with tempfile.TemporaryDirectory() as folder:
+        pathlib.Path(folder, "texts.txt").write_text(line + "\n", encoding="utf-8")
+        best, peak = None, 0
+        for _ in range(3):
+            started = time.perf_counter()
+            done = subprocess.run([program], cwd=folder, stdout=subprocess.PIPE, check=False)
+            took = time.perf_counter() - started
+            best = took if best is None else min(best, took)
+            peak = resource.getrusage(resource.RUSAGE_CHILDREN).ru_maxrss * 1024
+        return best, peak, done.stdout
+
+
+def main():
+    precompile, parse = sys.argv[1:]
+    print("| declarations | bytes | precompiled, s | parsed, s | ratio | peak, times the text |")
+    print("|---|---|---|---|---|---|")
+    for declarations in (10, 100, 1000, 10000):
+        text = module(declarations)
+        took, peak, out = timed(precompile, f"disable\tfast=enable kept=keep\t{text}\t-")
+        alone, _, _ = timed(parse, f"fault\tmodule\t{text}\tnone")
+        if b"fn main_0" not in out:
+            print(out[:300], file=sys.stderr)
+        print(f"| {declarations} | {len(text)} | {took:.4f} | {alone:.4f} | {took / alone:.1f} | {peak / len(text):.1f} |", flush=True)
+
+
+if __name__ == "__main__":
+    main()

@@ -1,0 +1,10 @@
+//! Conditions (WESL, "Conditional Translation"): feature flags fixed ahead in a whole module.
+#![tactic(auto)]
+
+mod check;
+mod list;
+mod settle;
+mod unit;
+
+pub use unit::run;
+pub use wesl_features::{CondCompError, Feature, Features};

@@ -1,0 +1,9 @@
+pub mod Remarking
+pub mod Simplifying
+pub mod Standings
+pub mod Choosing
+pub mod Keeping
+pub mod Again
+pub mod Faultless
+pub mod Trees
+pub mod Modules

@@ -1,0 +1,4 @@
+pub mod Changing
+pub mod Lists
+pub mod Clauses
+pub mod Passing

@@ -1,0 +1,30 @@
+//! Why a text is not precompiled.
+
+use std::alloc::AllocError;
+use wesl_cond::CondCompError;
+use wgsl_items::Text;
+use wgsl_parser::Error;
+
+/// Why a text is not precompiled.
+#[derive(Debug, Drop, PartialEq)]
+pub enum PrecompileError {
+    /// Memory was refused. This says nothing of the text.
+    OutOfMemory,
+    /// The fault of the text.
+    Syntax(Error),
+    /// The first error of its conditions.
+    Condition(CondCompError),
+    /// What is left is printed as a text that doesn't say it. The name is that of the first structure without members, if there is one.
+    Unprintable(Option<Text>),
+}
+
+impl From<AllocError> for PrecompileError {
+    ghost use Rattle.std.specs.Prelude.{◌≡◌};
+    ghost use Rattle.weslc_precompile.specs.declared.error.PrecompileError.TheVariants.{OutOfMemory};
+
+    ghost from_gives = { λ _ error. error ≡ OutOfMemory };
+
+    fn from(_error: AllocError) -> PrecompileError {
+        PrecompileError::OutOfMemory
+    }
+}

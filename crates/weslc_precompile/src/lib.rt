@@ -1,0 +1,9 @@
+//! Feature flags fixed ahead in the text of a module (WESL, "Conditional Translation").
+#![tactic(auto)]
+
+mod error;
+mod print;
+mod text;
+
+pub use error::PrecompileError;
+pub use text::precompile;

@@ -1,0 +1,67 @@
+//! The text that is left of a module's text.
+
+ghost use Rattle.std.specs.Prelude.{◌≡◌};
+ghost use Rattle.wgsl_declarations.specs.View.{unit_tree};
+ghost use Rattle.weslc_precompile.specs.Precompiling.{Says, Precompiles, Fixes, refused_as};
+
+use crate::error::PrecompileError;
+use crate::print::print_back;
+use std::alloc::Global;
+use wesl_cond::{CondCompError, Features, run};
+use wgsl_declarations::TranslationUnit;
+use wgsl_parser::{Error, ErrorKind, parse_str};
+
+/// Fixes the flags of a module.
+#[tactic(auto, using(crate::proofs::Steps::condition_told))]
+fn fix(
+    alloc: Global,
+    unit: &mut TranslationUnit,
+    features: &Features,
+) -> Result<(), PrecompileError>
+    ensures { Fixes features.now (unit_tree unit.old) result (unit_tree unit.new) }
+{
+    match run(alloc, unit, features) {
+        Ok(()) => Ok(()),
+        Err(CondCompError::OutOfMemory) => Err(PrecompileError::OutOfMemory),
+        Err(error) => Err(PrecompileError::Condition(error)),
+    }
+}
+
+/// The text of what is left of a module.
+#[tactic(auto, using(crate::proofs::Steps::fix_refused, crate::proofs::Steps::fixed_printed))]
+fn left_text(
+    alloc: Global,
+    unit: TranslationUnit,
+    features: &Features,
+    text: &str,
+) -> Result<String, PrecompileError>
+    requires { Says text.now unit }
+    ensures { Precompiles features.now text.now result }
+{
+    let mut unit = unit;
+    fix(alloc, &mut unit, features)?;
+    print_back(alloc, unit)
+}
+
+fn refusal(error: Error) -> PrecompileError
+    ensures { result ≡ refused_as error }
+{
+    match error.kind {
+        ErrorKind::OutOfMemory => PrecompileError::OutOfMemory,
+        _ => PrecompileError::Syntax(error),
+    }
+}
+
+/// Fixes feature flags ahead in the text of a module, and prints what is left (WESL, "Conditional Translation"). What is printed says what is left:
+/// it is parsed again to see that.
+///
+/// An error is the fault of the text, the first error of its conditions, or that what is left has no text; or memory was refused.
+#[tactic(auto, using(crate::proofs::Steps::fault_told))]
+pub fn precompile(alloc: Global, text: &str, features: &Features) -> Result<String, PrecompileError>
+    ensures { Precompiles features.now text.now result }
+{
+    match parse_str(alloc, text) {
+        Ok(unit) => left_text(alloc, unit, features, text),
+        Err(error) => Err(refusal(error)),
+    }
+}

@@ -1,0 +1,45 @@
+//! Precompiles the texts of the cases in `data/`, prints each case whose answer differs, and how many cases there were.
+//! A case is a line with tabs between its parts: what a flag is set to that isn't listed, the flags with what they are set to, a text,
+//! and the answer. In texts `\n`, `\r`, `\t` and `\\` stand for a line feed, a carriage return, a tab and a backslash.
+#![tactic(auto)]
+
+mod answers;
+mod escapes;
+mod flags;
+
+use std::alloc::{AllocError, Global};
+use std::fmt::Write;
+use std::{fs, io};
+
+/// Tells of a case whose answer differs from the one that it names.
+fn check(alloc: Global, report: &mut String, line: &str) -> Result<(), AllocError> {
+    let (case, wanted) = line.rsplit_once('\t').unwrap_or(("", ""));
+    let found = answers::answer(alloc, case)?;
+    tell(report, line, found.as_str(), wanted)
+}
+
+fn tell(report: &mut String, line: &str, found: &str, wanted: &str) -> Result<(), AllocError> {
+    if found != wanted {
+        writeln!(report, "{line}\n    answers {found}")?;
+    }
+    Ok(())
+}
+
+/// Tells of the cases of a text that differ. How many cases there are.
+fn check_all(alloc: Global, report: &mut String, text: &str) -> Result<u64, AllocError> {
+    let mut count: u64 = 0;
+    for line in text.lines() {
+        if line.contains('\t') {
+            check(alloc, report, line)?;
+            count = count.saturating_add(1);
+        }
+    }
+    Ok(count)
+}
+
+fn main(rt: HostRuntime) -> io::Result<()> {
+    let text = fs::read_to_string(&rt, "texts.txt")?;
+    let mut report = String::new(rt.alloc());
+    let count = check_all(rt.alloc(), &mut report, text.as_str())?;
+    println!(rt; "{report}texts.txt: {count} cases")
+}

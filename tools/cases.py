@@ -1,0 +1,25 @@
+"""What the tools that write cases of programs share: how a text stands in a case, and the files of a program's crate."""
+import os
+
+CRATES = os.path.join(os.path.dirname(os.path.abspath(__file__)), "..", "crates")
+
+
+def escaped(text):
+    for character, name in (("\\", "\\\\"), ("\n", "\\n"), ("\r", "\\r"), ("\t", "\\t")):
+        text = text.replace(character, name)
+    return text
+
+
+def path(crate, name):
+    """Where a file of cases stands."""
+    return os.path.join(CRATES, crate, "data", name)
+
+
+def write(crate, name, lines):
+    """Writes a file of cases, and into the crate's stdout how many there are: a line with a tab is a case. How many there are."""
+    with open(path(crate, name), "w", encoding="utf-8", newline="") as file:
+        file.write("\n".join(lines) + "\n")
+    count = sum("\t" in line for line in lines)
+    with open(os.path.join(CRATES, crate, "stdout"), "w", encoding="utf-8") as file:
+        file.write(f"{name}: {count} cases\n")
+    return count
