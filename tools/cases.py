@@ -16,10 +16,14 @@ def path(crate, name):
 
 
 def write(crate, name, lines):
-    """Writes a file of cases, and into the crate's stdout how many there are: a line with a tab is a case. How many there are."""
+    """Writes a file of cases, and into its line of the crate's stdout how many there are: a line with a tab is a case. How many there are."""
     with open(path(crate, name), "w", encoding="utf-8", newline="") as file:
         file.write("\n".join(lines) + "\n")
     count = sum("\t" in line for line in lines)
-    with open(os.path.join(CRATES, crate, "stdout"), "w", encoding="utf-8") as file:
-        file.write(f"{name}: {count} cases\n")
+    stdout = os.path.join(CRATES, crate, "stdout")
+    with open(stdout, encoding="utf-8") as file:
+        counted = file.read().splitlines()
+    with open(stdout, "w", encoding="utf-8") as file:
+        for line in counted:
+            file.write(f"{name}: {count} cases\n" if line.startswith(f"{name}: ") else line + "\n")
     return count

@@ -1,7 +1,7 @@
 #!/usr/bin/env python3
-"""Writes the cases of the program `wgsl_error_cases`: places in texts and faults of modules, with what a plain slow program tells of them.
+"""Writes cases of the program `wgsl_parser_cases`: places in texts and faults of modules, with what a plain slow program tells of them.
 
-usage: tools/error_cases.py        It writes crates/wgsl_error_cases/data/places.txt, and the count of cases into its stdout.
+usage: tools/error_cases.py        It writes crates/wgsl_parser_cases/data/places.txt, and the count of cases into the crate's stdout.
 
 The plain program shares nothing with the crates: it finds line breaks by a regular expression and cuts a place by the bits of its byte.
 Of a module's fault the message and the place stand below, worked out by hand."""
@@ -94,13 +94,13 @@ def lines():
             yield f"told\t{start}\t{end}\t{escaped(text)}\t{escaped(told('unexpected token', text, start, end))}"
     yield "# Faults of modules"
     for text, message, start, end in MODULES:
-        yield f"module\t{escaped(text)}\t{escaped(told(message, text, start, end))}"
+        yield f"source\t{escaped(text)}\t{escaped(told(message, text, start, end))}"
     for text in FAULTLESS:
-        yield f"module\t{escaped(text)}\tnone"
+        yield f"source\t{escaped(text)}\tnone"
 
 
 def main():
-    print(f"{write('wgsl_error_cases', 'places.txt', list(lines()))} cases")
+    print(f"{write('wgsl_parser_cases', 'places.txt', list(lines()))} cases")
 
 
 if __name__ == "__main__":

@@ -1,17 +1,18 @@
 #!/usr/bin/env python3
-"""Writes the cases of the program `weslc_precompile_cases`: modules with conditions on feature flags, and what `precompile` makes of them.
+"""Writes the cases of the program `weslc_cases` for the command `precompile`: modules with conditions on feature flags, and what is left of them.
 
-usage: tools/precompile_cases.py        It writes crates/weslc_precompile_cases/data/texts.txt, and the count of cases into its stdout.
+usage: tools/precompile_cases.py        It writes crates/weslc_cases/data/precompiled.json.
 
 The plain program shares nothing with the crates. A module is three lists of items; an item is its attributes and its parts, each a text
 or a list of items again. Which items are one chain is searched for each item anew, and conditions are rewritten until no rule applies.
 What is left of a module without errors is also compared with the module itself under every choice of its flags, and is not changed by
 the same features again. Of the cases by hand the answer stands below."""
 import itertools
+import json
 import random
 from dataclasses import dataclass, replace
 
-from cases import escaped, write
+from cases import path
 
 # ---- Modules. A condition is a truth value, a flag's name, ("!", x), ("()", x), ("&&", x, y), ("||", x, y), or ("?", text, error), which
 # is none.
@@ -290,7 +291,7 @@ def answer(setting, flags, module):
         return "Condition." + error
     left = in_module(lambda items: what_is_left(setting, items), module)
     check(setting, flags, module, left)
-    return "Unprintable " + emptied(left)[0] if emptied(left) else escaped(module_text(left))
+    return "Unprintable " + emptied(left)[0] if emptied(left) else module_text(left)
 
 
 # ---- Cases by hand: what flags are set to where none is listed, what flags are set to, a text, and the answer.
@@ -650,12 +651,12 @@ def from_seeds():
         module, (default, flags) = making.module(), making.setting()
         if len(set(all_errors(reading(default, flags), module))) == 1:
             continue
-        line = case(default, flags, making.flags, module, making.happens(0.5))
-        answered = line.rpartition("\t")[2]
-        kind = next(kind for kind in counts if answered.startswith(kind))
-        if counts[kind] and any(word in line for word in ("@if", "@elif", "@else")) and len(line) <= LONGEST:
+        found = case(default, flags, making.flags, module, making.happens(0.5))
+        line, text = found.get("line", ""), found["bundle"]["modules"][0]["text"]
+        kind = next(kind for kind in counts if kind in line)
+        if counts[kind] and any(word in text for word in ("@if", "@elif", "@else")) and len(text) <= LONGEST:
             counts[kind] -= 1
-            yield line
+            yield found
         if not any(counts.values()):
             return
 
@@ -669,31 +670,45 @@ def reading(default, flags):
     return lambda flag: listed.get(flag, default)
 
 
+def printed(found):
+    """What the program prints for an answer: a text, or a line about an error."""
+    kind, _, about = found.partition(" ")
+    if kind.startswith("Syntax."):
+        return {"line": f"error: {kind} - - {about} -\n", "status": 1}
+    if kind.startswith("Condition.") or kind == "Unprintable":
+        return {"line": f"error: {kind} - - - {about or '-'}\n", "status": 1}
+    return {"text": found}
+
+
+def bundle_case(default, flags, text, found):
+    bundle = {"command": "precompile", "root": "package", "modules": [{"path": "package", "text": text}]}
+    bundle["features"] = dict(flag.split("=") for flag in flags.split())
+    return {"name": f"{text} [{default} {flags}]", "bundle": {**bundle, "default_feature": default}, **printed(found)}
+
+
 def case(default, flags, names, module, on_one_line=True):
     text = module_text(module)
     found = answer(reading(default, flags), names, module)
-    return f"{default}\t{flags}\t{escaped(' '.join(text.split()) if on_one_line else text)}\t{found}"
+    return bundle_case(default, flags, " ".join(text.split()) if on_one_line else text, found)
 
 
-def lines():
-    for heading, cases in BY_HAND.items():
-        yield "# " + heading
-        for default, flags, text, found in cases:
-            yield f"{default}\t{flags}\t{escaped(text)}\t{escaped(found)}"
-    yield "# Every chain of one to three conditions, with and without `@else`"
+def cases():
+    for by_hand in BY_HAND.values():
+        yield from (bundle_case(*it) for it in by_hand)
+    # every chain of one to three conditions, with and without `@else`
     yield from (case(*FLAGS, "fdk", in_list(at % 5, found)) for at, found in enumerate(every_chain()))
-    yield "# Three neighbours"
+    # three neighbours
     yield from (case(*FLAGS, "k", in_list((at + at // 5) % 5, found)) for at, found in enumerate(every_three()))
-    yield "# Every pair of operands"
+    # every pair of operands
     yield from (case(*FLAGS, "fdk", module) for module in every_pair())
-    yield "# Modules from seeds"
     yield from from_seeds()
 
 
 def main():
-    written = list(dict.fromkeys(lines()))
-    count = write("weslc_precompile_cases", "texts.txt", written)
-    print(f"{count} cases, {sum(len(line.encode()) + 1 for line in written)} bytes, longest {max(map(len, written))}")
+    written = list(dict.fromkeys(json.dumps(it, ensure_ascii=False) for it in cases()))
+    with open(path("weslc_cases", "precompiled.json"), "w", encoding="utf-8") as file:
+        file.write("[\n" + ",\n".join(written) + "\n]\n")
+    print(f"{len(written)} cases, {sum(len(line.encode()) + 2 for line in written)} bytes, longest {max(map(len, written))}")
 
 
 if __name__ == "__main__":

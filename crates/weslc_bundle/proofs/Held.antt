@@ -1,5 +1,6 @@
 -- Modules that are added one after another, what a resolver then holds, and what the calls answer of it.
-use Rattle.std.proofs.Common.{◌≡◌, refl, sym, ap, ◌∙◌, subst, ℕ, suc, arith, ◌<◌, length, get_or, List, [], ◌∷◌, Bool, true, false, if◌then◌else◌, Option, Some, None, bytes_eq, inl, inr}
+use Rattle.std.proofs.Common.{◌≡◌, refl, sym, ap, ◌∙◌, subst, ℕ, suc, arith, ◌<◌, length, get_or, List, [], ◌∷◌, Bool, true, false, if◌then◌else◌, Option, Some, None, Result, Ok, Err, bytes_eq, String, Global, string_bytes}
+use Rattle.std.specs.Prelude.{IfOk, IfErr}
 use Rattle.std.proofs.Math.Path.{fun_ext}
 use Rattle.std.specs.Option.{option_map, option_or}
 use Rattle.std.specs.List.{find}
@@ -7,18 +8,19 @@ use Rattle.std.proofs.lemmas.Bool.{false_from_ne_true}
 use Rattle.std.proofs.lemmas.Slice.Eq.{bytes_eq-Decides}
 use Rattle.wgsl_path.specs.Paths.{path_text}
 use Rattle.wgsl_path.specs.declared.path.ModulePath.{ModulePath}
-use Rattle.weslc_api.specs.Stored.{text_at, found_in, IsAdded}
+use Rattle.weslc_api.specs.Stored.{text_at, IsAdded}
 use Rattle.weslc_api.specs.declared.resolver.VirtualResolver.{VirtualResolver}
 use Rattle.weslc_api.specs.declared.options.Options.{Options}
-use Rattle.weslc_api.specs.declared.error.CompileError.{CompileError}
 use Rattle.weslc_bundle.specs.declared.request.Command.{Command}
 use Rattle.weslc_bundle.specs.declared.request.Module.{Module}
 use Rattle.weslc_bundle.specs.declared.request.Request.{Request}
 use Rattle.weslc_bundle.specs.declared.bundle.Bundle.{Bundle}
-use Rattle.weslc_bundle.specs.declared.serve.ServeError.{ServeError}
+use Rattle.weslc_bundle.specs.declared.features.FeatureSettings.{FeatureSettings}
+use Rattle.weslc_bundle.specs.declared.error.ServeError.{ServeError}
+use Rattle.weslc_bundle.specs.declared.error.ServeError.TheVariants as serve
 use Rattle.weslc_bundle.specs.Bundles.{IsApart, IsBundle, HandsOver}
-use Rattle.weslc_bundle.specs.Held.{text_in}
-use Rattle.weslc_bundle.specs.Served.{AreRead, IsTextOf, IsRefusalOf, IsAnswer, IsRefused, Answered, Refused, RefusesCall}
+use Rattle.weslc_bundle.specs.Held.{Texts, text_in}
+use Rattle.weslc_bundle.specs.Served.{AreRead, IsTextOf, IsRefusalOf, IsAnswer, IsRefused, IsTextFor, IsRefusalFor, Answered, Refused}
 
 -- ---- what is held
 
@@ -63,40 +65,44 @@ only_one (m ∷ ms) apart p =
 
 -- ---- what is answered of what a resolver holds is answered of the modules
 
-abbrev Texts : Type 0
-Texts = List ℕ → Option (List ℕ)
-
-module _ (texts : Texts) (command : Command) (root : ModulePath) (options : Options) where
-  abbrev pub IsTextFrom : List ℕ → Type 0
-  IsTextFrom text = IsTextOf command (λ p a. found_in (texts p) a) (path_text root) options.keep options.max_modules options.max_steps text
-
-  abbrev pub IsRefusalFrom : CompileError → Type 0
-  IsRefusalFrom e = IsRefusalOf command (λ p a. found_in (texts p) a) (path_text root) options.keep options.max_modules options.max_steps e
-
-moved : (request : Request) (bundle : Bundle) → HandsOver request bundle → (P : Texts → Command → ModulePath → Options → Type 0)
-    → P (text_at bundle.resolver) bundle.command bundle.root bundle.options → P (text_in request.modules) request.command request.root request.options
+moved : (request : Request) (bundle : Bundle) → HandsOver request bundle → (P : Command → Texts → ModulePath → FeatureSettings → Options → Type 0)
+    → P bundle.command (text_at bundle.resolver) bundle.root bundle.features bundle.options → P request.command (text_in request.modules) request.root request.features request.options
 moved request bundle over P is =
-    subst {A = Texts} (λ texts. P texts request.command request.root request.options) (fun_ext over.2)
-    (subst {A = Command} (λ command. P (text_at bundle.resolver) command request.root request.options) over.0
-    (subst {A = ModulePath} (λ root. P (text_at bundle.resolver) bundle.command root request.options) over.1
-    (subst {A = Options} (λ options. P (text_at bundle.resolver) bundle.command bundle.root options) over.3 is)))
+    subst {A = Texts} (λ texts. P request.command texts request.root request.features request.options) (fun_ext over.2)
+    (subst {A = Command} (λ command. P command (text_at bundle.resolver) request.root request.features request.options) over.0
+    (subst {A = ModulePath} (λ root. P bundle.command (text_at bundle.resolver) root request.features request.options) over.1
+    (subst {A = FeatureSettings} (λ features. P bundle.command (text_at bundle.resolver) bundle.root features request.options) over.3
+    (subst {A = Options} (λ options. P bundle.command (text_at bundle.resolver) bundle.root bundle.features options) over.4 is))))
 
-pub answer_moved : (request : Request) (bundle : Bundle) (text : List ℕ) → HandsOver request bundle
-    → IsTextFrom (text_at bundle.resolver) bundle.command bundle.root bundle.options text → IsAnswer request text
-answer_moved request bundle text over is = moved request bundle over (λ texts command root options. IsTextFrom texts command root options text) is
+answer_moved : (request : Request) (bundle : Bundle) (text : List ℕ) → HandsOver request bundle → IsTextFor bundle.command bundle text → IsAnswer request text
+answer_moved request bundle text over is =
+    moved request bundle over (λ command texts root features options. IsTextOf command texts (path_text root) features options text) is
 
-pub refusal_moved : (request : Request) (bundle : Bundle) (e : CompileError) → HandsOver request bundle
-    → IsRefusalFrom (text_at bundle.resolver) bundle.command bundle.root bundle.options e → IsRefused request e
-refusal_moved request bundle e over is = moved request bundle over (λ texts command root options. IsRefusalFrom texts command root options e) is
+refusal_moved : (request : Request) (bundle : Bundle) (refusal : ServeError) → HandsOver request bundle → IsRefusalFor bundle.command bundle refusal → IsRefused request refusal
+refusal_moved request bundle refusal over is =
+    moved request bundle over (λ command texts root features options. IsRefusalOf command texts (path_text root) features options refusal) is
 
 -- ---- the program's answer
 
 module _ (left : Option (List ℕ)) (bytes : List ℕ) (read : AreRead left bytes) (bundle : Bundle) where
-  pub text_answered : (text : List ℕ) → (request : Request) × IsBundle bytes request × HandsOver request bundle
-      → IsTextFrom (text_at bundle.resolver) bundle.command bundle.root bundle.options text → Answered left text
+  pub text_answered : (text : List ℕ) → (request : Request) × IsBundle bytes request × HandsOver request bundle → IsTextFor bundle.command bundle text → Answered left text
   text_answered text (request, whole, over) is = (bytes, request, read, whole, answer_moved request bundle text over is)
 
-  pub call_refused : (e : CompileError) (refusal : ServeError) → (request : Request) × IsBundle bytes request × HandsOver request bundle
-      → IsRefusalFrom (text_at bundle.resolver) bundle.command bundle.root bundle.options e → RefusesCall e refusal → Refused left refusal
-  call_refused e refusal (request, whole, over) is (inl same) = subst (Refused left) (sym same) (bytes, request, read, whole, refusal_moved request bundle e over is)
-  call_refused e refusal of is (inr memory) = subst (Refused left) (sym memory.1) tt
+  pub call_refused : (refusal : ServeError) → (request : Request) × IsBundle bytes request × HandsOver request bundle → IsRefusalFor bundle.command bundle refusal → Refused left refusal
+  call_refused (serve.Compile e) (request, whole, over) is = (bytes, request, read, whole, refusal_moved request bundle (serve.Compile e) over is)
+  call_refused serve.NoRoot (request, whole, over) is = (bytes, request, read, whole, refusal_moved request bundle serve.NoRoot over is)
+  call_refused (serve.Precompile e) (request, whole, over) is = (bytes, request, read, whole, refusal_moved request bundle (serve.Precompile e) over is)
+  call_refused serve.OutOfMemory handed is = tt
+  call_refused serve.Read handed is = absurd is
+  call_refused serve.TooLong handed is = absurd is
+  call_refused (serve.Bundle fault) handed is = absurd is
+
+  pub texts_answered : (r : Result (String Global) ServeError) → (request : Request) × IsBundle bytes request × HandsOver request bundle
+      → IfOk r (λ text. IsTextFor bundle.command bundle (string_bytes text)) → IfOk r (λ text. Answered left (string_bytes text))
+  texts_answered (Ok text) handed is = text_answered (string_bytes text) handed is
+  texts_answered (Err refusal) handed is = tt
+
+  pub calls_refused : (r : Result (String Global) ServeError) → (request : Request) × IsBundle bytes request × HandsOver request bundle
+      → IfErr r (λ refusal. IsRefusalFor bundle.command bundle refusal) → IfErr r (λ refusal. Refused left refusal)
+  calls_refused (Ok text) handed is = tt
+  calls_refused (Err refusal) handed is = call_refused refusal handed is

@@ -1,4 +1,6 @@
 pub mod Answered
+pub mod Calls
+pub mod Flags
 pub mod Held
 pub mod Keys
 pub mod Lists

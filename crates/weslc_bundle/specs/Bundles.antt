@@ -9,8 +9,14 @@ use Rattle.wgsl_path.specs.Reading.{PathResult, parts, path_of}
 use Rattle.wgsl_path.specs.declared.path.PathOrigin.{PathOrigin}
 use Rattle.wgsl_path.specs.declared.path.PathOrigin.TheVariants.{Absolute, Relative, Package}
 use Rattle.wgsl_path.specs.declared.path.ModulePath.{ModulePath}
+use Rattle.wesl_features.specs.declared.feature.Feature.{Feature}
+use Rattle.wesl_features.specs.declared.feature.Feature.TheVariants.{Enable, Disable, Keep, Error}
+use Rattle.wesl_features.specs.declared.feature.Features.{Features}
+use Rattle.wesl_features.specs.Settings.{setting}
+use Rattle.weslc_bundle.specs.declared.features.Flag.{Flag}
+use Rattle.weslc_bundle.specs.declared.features.FeatureSettings.{FeatureSettings}
 use Rattle.weslc_bundle.specs.declared.request.Command.{Command}
-use Rattle.weslc_bundle.specs.declared.request.Command.TheVariants.{Link, Compile}
+use Rattle.weslc_bundle.specs.declared.request.Command.TheVariants.{Link, Compile, Precompile}
 use Rattle.weslc_bundle.specs.declared.request.Key.{Key}
 use Rattle.weslc_bundle.specs.declared.request.Key.TheVariants as key
 use Rattle.weslc_bundle.specs.declared.request.Module.{Module}
@@ -57,7 +63,8 @@ abbrev pub text_at : List ℕ → Data → Option (List ℕ)
 text_at name d = option_and_then as_str (get name d)
 
 abbrev pub command_of : List ℕ → Option Command
-command_of name = if bytes_eq name (codes "link") then Some Link else if bytes_eq name (codes "compile") then Some Compile else None
+command_of name =
+    if bytes_eq name (codes "link") then Some Link else if bytes_eq name (codes "compile") then Some Compile else if bytes_eq name (codes "precompile") then Some Precompile else None
 
 abbrev pub if_absolute : PathOrigin → ModulePath → Option ModulePath
 if_absolute Absolute path = Some path
@@ -100,12 +107,47 @@ if_u32 n = if nat_lt n (2 ^ 32) then Some n else None
 abbrev pub u32_of : Data → Option ℕ
 u32_of d = option_and_then if_u32 (u64_of d)
 
+-- ---- feature flags
+
+-- what a flag is set to, by its word
+abbrev pub feature_named : List ℕ → Option Feature
+feature_named word =
+    if bytes_eq word (codes "enable") then Some Enable else if bytes_eq word (codes "disable") then Some Disable else if bytes_eq word (codes "keep") then Some Keep else if bytes_eq word (codes "error") then Some Error else None
+
+abbrev pub feature_of : Data → Option Feature
+feature_of d = option_and_then feature_named (as_str d)
+
+abbrev pub flag_at : List ℕ → Feature → Flag
+flag_at name feature = record { name = name; feature = feature }
+
+-- Each member of an object is a flag.
+abbrev pub flags_in : Members → Option (List Flag)
+flags_in no_members = Some []
+flags_in (member name d ms) = option_and_then (λ feature. option_map (λ flags. flag_at name feature ∷ flags) (flags_in ms)) (feature_of d)
+
+abbrev pub flags_of : Data → Option (List Flag)
+flags_of d = option_and_then flags_in (as_object d)
+
+abbrev pub settings_of : List Flag → Feature → FeatureSettings
+settings_of flags default = record { flags = flags; default = default }
+
+-- what a flag is set to: as the last of its name is, else as the default says
+abbrev pub set_to : List Flag → Feature → List ℕ → Feature
+set_to [] default name = default
+set_to (flag ∷ flags) default name = set_to flags (if bytes_eq name flag.name then flag.feature else default) name
+
+-- Each flag is set so.
+abbrev pub AreSet : FeatureSettings → Features → Type 0
+AreSet settings features = (name : List ℕ) → setting features name ≡ set_to settings.flags settings.default name
+
 -- ---- keys
 
 abbrev pub key_name : Key → List ℕ
 key_name key.Command = codes "command"
 key_name key.Root = codes "root"
 key_name key.Modules = codes "modules"
+key_name key.Features = codes "features"
+key_name key.DefaultFeature = codes "default_feature"
 key_name key.Keep = codes "keep"
 key_name key.MaxModules = codes "max_modules"
 key_name key.MaxSteps = codes "max_steps"
@@ -113,7 +155,7 @@ key_name key.MaxSteps = codes "max_steps"
 abbrev pub is_key : List ℕ → Bool
 is_key name =
     bytes_eq name (codes "command") || bytes_eq name (codes "root") || bytes_eq name (codes "modules")
-    || bytes_eq name (codes "keep") || bytes_eq name (codes "max_modules") || bytes_eq name (codes "max_steps")
+    || bytes_eq name (codes "features") || bytes_eq name (codes "default_feature") || bytes_eq name (codes "keep") || bytes_eq name (codes "max_modules") || bytes_eq name (codes "max_steps")
 
 -- the first key that is none; the members of an object stand in the byte order of their keys
 abbrev pub unknown : Members → Option (List ℕ)
@@ -137,6 +179,18 @@ root_at d = required (Value key.Root) (option_and_then path_in (text_at (codes "
 abbrev pub modules_at : Data → Asked (List Module)
 modules_at d = required (Value key.Modules) (option_and_then modules_of (get (codes "modules") d))
 
+abbrev pub flags_at : Data → Asked (List Flag)
+flags_at d = optional key.Features [] flags_of (get (codes "features") d)
+
+abbrev pub default_feature_at : Data → Asked Feature
+default_feature_at d = optional key.DefaultFeature Disable feature_of (get (codes "default_feature") d)
+
+unfoldable pub features_at : Data → Asked FeatureSettings
+features_at d = do
+  flags ← flags_at d
+  default ← default_feature_at d
+  Ok (settings_of flags default)
+
 abbrev pub keep_at : Data → Asked (List (List ℕ))
 keep_at d = optional key.Keep [] names_of (get (codes "keep") d)
 
@@ -155,10 +209,11 @@ request_in d = do
   command ← command_at d
   root ← root_at d
   modules ← modules_at d
+  features ← features_at d
   keep ← keep_at d
   max_modules ← max_modules_at d
   max_steps ← max_steps_at d
-  Ok (record { command = command; root = root; modules = modules; options = record { keep = keep; max_modules = max_modules; max_steps = max_steps } })
+  Ok (record { command = command; root = root; modules = modules; features = features; options = record { keep = keep; max_modules = max_modules; max_steps = max_steps } })
 
 -- the value that bytes are, if they are UTF-8 and JSON
 abbrev pub value_of : List ℕ → Option Data
@@ -192,7 +247,7 @@ IsBundle bytes request = (request_of bytes ≡ Ok request) × IsApart request.mo
 abbrev pub HandsOver : Request → Bundle → Type 0
 HandsOver request bundle =
     (bundle.command ≡ request.command) × (bundle.root ≡ request.root) × Holds bundle.resolver request.modules
-    × (bundle.options ≡ request.options)
+    × (bundle.features ≡ request.features) × (bundle.options ≡ request.options)
 
 -- The bytes have this fault; a path that is there twice comes last.
 abbrev pub IsFault : List ℕ → BundleError → Type 0

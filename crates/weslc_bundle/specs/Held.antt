@@ -16,6 +16,10 @@ text_in modules p = option_map (λ m. m.text) (find (λ m. bytes_eq (path_text m
 abbrev pub Holds : VirtualResolver → List Module → Type 0
 Holds resolver modules = (p : List ℕ) → text_at resolver p ≡ text_in modules p
 
+-- the text at each printed path, if a module is there
+abbrev pub Texts : Type 0
+Texts = List ℕ → Option (List ℕ)
+
 -- what is found at a printed path: nothing where no module is, else the unit that its text derives, or its fault
-abbrev pub found_among : List Module → List ℕ → Answer → Type 0
-found_among modules p a = found_in (text_in modules p) a
+abbrev pub found_by : Texts → List ℕ → Answer → Type 0
+found_by texts p a = found_in (texts p) a

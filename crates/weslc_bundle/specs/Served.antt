@@ -1,10 +1,15 @@
 -- What the program answers.
-use Rattle.std.specs.Prelude.{◌≡◌, ◌⊎◌, ◌<◌, ◌≤◌, ◌+◌, ⊤, ℕ, List, length, Option, IfSome}
+use Rattle.std.specs.Prelude.{◌≡◌, ◌⊎◌, ◌<◌, ◌≤◌, ◌+◌, ⊤, ⊥, ℕ, List, length, Option, Some, None, IfSome}
 use Rattle.std.specs.Io.KnownBytes.{Consumes}
 use Rattle.wgsl_path.specs.Paths.{path_text}
-use Rattle.wesl_link_spec.specs.Occurrences.{Name}
 use Rattle.wesl_link_spec.specs.Modules.{Path}
 use Rattle.wesl_link_spec.specs.Rounds.{Sources}
+use Rattle.wesl_features.specs.declared.feature.Features.{Features}
+use Rattle.weslc_precompile.specs.declared.error.PrecompileError.{PrecompileError}
+use Rattle.weslc_precompile.specs.declared.error.PrecompileError.TheVariants as precompiling
+use Rattle.weslc_precompile.specs.Precompiling.{IsPrecompiledText, RefusesPrecompiling}
+use Rattle.weslc_api.specs.Stored.{text_at}
+use Rattle.weslc_api.specs.declared.options.Options.{Options}
 use Rattle.weslc_api.specs.Answers.{IsLinkedText, IsCompiledText, RefusesLinking, IsUnprintable, IsRefusedUnit}
 use Rattle.weslc_api.specs.declared.error.CompileError.{CompileError}
 use Rattle.weslc_api.specs.declared.error.CompileError.TheVariants as calls
@@ -12,14 +17,16 @@ use Rattle.weslc_bundle.specs.declared.input.TheConstants.{MAX_BUNDLE_LEN}
 use Rattle.weslc_bundle.specs.declared.input.InputError.{InputError}
 use Rattle.weslc_bundle.specs.declared.input.InputError.TheVariants as input
 use Rattle.weslc_bundle.specs.declared.request.Command.{Command}
-use Rattle.weslc_bundle.specs.declared.request.Command.TheVariants.{Link, Compile}
+use Rattle.weslc_bundle.specs.declared.request.Command.TheVariants.{Link, Compile, Precompile}
+use Rattle.weslc_bundle.specs.declared.features.FeatureSettings.{FeatureSettings}
 use Rattle.weslc_bundle.specs.declared.request.Request.{Request}
 use Rattle.weslc_bundle.specs.declared.request.BundleError.{BundleError}
 use Rattle.weslc_bundle.specs.declared.request.BundleError.TheVariants as bundle
-use Rattle.weslc_bundle.specs.declared.serve.ServeError.{ServeError}
-use Rattle.weslc_bundle.specs.declared.serve.ServeError.TheVariants as of
-use Rattle.weslc_bundle.specs.Held.{found_among}
-use Rattle.weslc_bundle.specs.Bundles.{IsBundle, IsFault}
+use Rattle.weslc_bundle.specs.declared.bundle.Bundle.{Bundle}
+use Rattle.weslc_bundle.specs.declared.error.ServeError.{ServeError}
+use Rattle.weslc_bundle.specs.declared.error.ServeError.TheVariants as of
+use Rattle.weslc_bundle.specs.Held.{Texts, text_in, found_by}
+use Rattle.weslc_bundle.specs.Bundles.{AreSet, IsBundle, IsFault}
 use Rattle.weslc_bundle.specs.Output.{AppendsBeginning}
 
 -- ---- bytes
@@ -42,25 +49,46 @@ TakesFew before after = (taken : List ℕ) × Consumes before after taken × (le
 
 -- ---- calls
 
--- the command's call answers this text
-abbrev pub IsTextOf : Command → Sources → Path → List Name → ℕ → ℕ → List ℕ → Type 0
-IsTextOf Link found root asked max steps text = IsLinkedText found root asked max text
-IsTextOf Compile found root asked max steps text = IsCompiledText found root asked max steps text
+-- memory aside, modules are not linked or compiled, and this is why
+abbrev pub RefusesModules : Command → Sources → Path → Options → CompileError → Type 0
+RefusesModules Link found root options e = RefusesLinking found root options.keep options.max_modules e ⊎ IsUnprintable found root options.keep options.max_modules e
+RefusesModules Compile found root options e =
+    RefusesLinking found root options.keep options.max_modules e ⊎ IsRefusedUnit found root options.keep options.max_modules options.max_steps e
+RefusesModules Precompile found root options e = ⊥
+
+-- of these texts by their printed paths, the command's call answers this text
+abbrev pub IsTextOf : Command → Texts → Path → FeatureSettings → Options → List ℕ → Type 0
+IsTextOf Link texts root settings options text = IsLinkedText (found_by texts) root options.keep options.max_modules text
+IsTextOf Compile texts root settings options text = IsCompiledText (found_by texts) root options.keep options.max_modules options.max_steps text
+IsTextOf Precompile texts root settings options text =
+    (source : List ℕ) × (features : Features) × (texts root ≡ Some source) × AreSet settings features × IsPrecompiledText features source text
 
 -- memory aside, the command's call is refused so
-abbrev pub IsRefusalOf : Command → Sources → Path → List Name → ℕ → ℕ → CompileError → Type 0
-IsRefusalOf Link found root asked max steps e = RefusesLinking found root asked max e ⊎ IsUnprintable found root asked max e
-IsRefusalOf Compile found root asked max steps e = RefusesLinking found root asked max e ⊎ IsRefusedUnit found root asked max steps e
+abbrev pub IsRefusalOf : Command → Texts → Path → FeatureSettings → Options → ServeError → Type 0
+IsRefusalOf command texts root settings options (of.Compile e) = RefusesModules command (found_by texts) root options e
+IsRefusalOf command texts root settings options of.NoRoot = (command ≡ Precompile) × (texts root ≡ None)
+IsRefusalOf command texts root settings options (of.Precompile e) =
+    (command ≡ Precompile)
+    × ((source : List ℕ) × (features : Features) × (texts root ≡ Some source) × AreSet settings features × RefusesPrecompiling features source e)
+IsRefusalOf command texts root settings options of.OutOfMemory = ⊤
+IsRefusalOf command texts root settings options of.Read = ⊥
+IsRefusalOf command texts root settings options of.TooLong = ⊥
+IsRefusalOf command texts root settings options (of.Bundle fault) = ⊥
 
--- the command's call answers this text of the request's modules
+-- the request's call answers this text of its modules
 abbrev pub IsAnswer : Request → List ℕ → Type 0
-IsAnswer request text =
-    IsTextOf request.command (found_among request.modules) (path_text request.root) request.options.keep request.options.max_modules request.options.max_steps text
+IsAnswer request text = IsTextOf request.command (text_in request.modules) (path_text request.root) request.features request.options text
 
--- memory aside, it refuses them so
-abbrev pub IsRefused : Request → CompileError → Type 0
-IsRefused request e =
-    IsRefusalOf request.command (found_among request.modules) (path_text request.root) request.options.keep request.options.max_modules request.options.max_steps e
+-- memory aside, it is refused so
+abbrev pub IsRefused : Request → ServeError → Type 0
+IsRefused request refusal = IsRefusalOf request.command (text_in request.modules) (path_text request.root) request.features request.options refusal
+
+-- the same of a bundle, of what its resolver holds
+abbrev pub IsTextFor : Command → Bundle → List ℕ → Type 0
+IsTextFor command bundle text = IsTextOf command (text_at bundle.resolver) (path_text bundle.root) bundle.features bundle.options text
+
+abbrev pub IsRefusalFor : Command → Bundle → ServeError → Type 0
+IsRefusalFor command bundle refusal = IsRefusalOf command (text_at bundle.resolver) (path_text bundle.root) bundle.features bundle.options refusal
 
 -- ---- the program
 
@@ -68,12 +96,18 @@ IsRefused request e =
 abbrev pub Answered : Option (List ℕ) → List ℕ → Type 0
 Answered left text = (bytes : List ℕ) × (request : Request) × AreRead left bytes × IsBundle bytes request × IsAnswer request text
 
+-- What was left is a bundle, and its call is refused so.
+abbrev pub IsRefusedCall : Option (List ℕ) → ServeError → Type 0
+IsRefusedCall left refusal = (bytes : List ℕ) × (request : Request) × AreRead left bytes × IsBundle bytes request × IsRefused request refusal
+
 -- why there is no text: a read failed, what was left is too long or is no bundle, the call is refused, or memory was refused
 abbrev pub Refused : Option (List ℕ) → ServeError → Type 0
 Refused left of.Read = ⊤
 Refused left of.TooLong = AreTooMany left
 Refused left (of.Bundle fault) = (bytes : List ℕ) × AreRead left bytes × IsFault bytes fault
-Refused left (of.Compile e) = (bytes : List ℕ) × (request : Request) × AreRead left bytes × IsBundle bytes request × IsRefused request e
+Refused left (of.Compile e) = IsRefusedCall left (of.Compile e)
+Refused left of.NoRoot = IsRefusedCall left of.NoRoot
+Refused left (of.Precompile e) = IsRefusedCall left (of.Precompile e)
 Refused left of.OutOfMemory = ⊤
 
 -- There is no text, for such a reason.
@@ -84,12 +118,14 @@ HasRefusal left = (refusal : ServeError) × Refused left refusal
 abbrev pub IsCutShort : Option (List ℕ) → Option (List ℕ) → Option (List ℕ) → Type 0
 IsCutShort left old new = (text : List ℕ) × Answered left text × AppendsBeginning old new text
 
--- 1 for a refused call and for memory, 2 for what is no bundle and for a read that fails
+-- 1 for a refused call and for memory; 2 for what is no bundle, for a root to precompile that is not there, and for a read that fails
 abbrev pub status_of : ServeError → ℕ
 status_of of.Read = 2
 status_of of.TooLong = 2
 status_of (of.Bundle fault) = 2
+status_of of.NoRoot = 2
 status_of (of.Compile e) = 1
+status_of (of.Precompile e) = 1
 status_of of.OutOfMemory = 1
 
 -- ---- one error as another
@@ -109,3 +145,9 @@ refused_bundle bundle.OutOfMemory = of.OutOfMemory
 -- a refusal of a call, or that memory was refused
 abbrev pub RefusesCall : CompileError → ServeError → Type 0
 RefusesCall e refusal = (refusal ≡ of.Compile e) ⊎ ((e ≡ calls.OutOfMemory) × (refusal ≡ of.OutOfMemory))
+
+abbrev pub refused_precompiling : PrecompileError → ServeError
+refused_precompiling (precompiling.Syntax e) = of.Precompile (precompiling.Syntax e)
+refused_precompiling (precompiling.Condition e) = of.Precompile (precompiling.Condition e)
+refused_precompiling (precompiling.Unprintable name) = of.Precompile (precompiling.Unprintable name)
+refused_precompiling precompiling.OutOfMemory = of.OutOfMemory

@@ -4,6 +4,7 @@ ghost use Rattle.std.specs.Prelude.{◌≡◌, ◌⊎◌, IfOk, IfErr, OnOk};
 ghost use Rattle.weslc_bundle.specs.Bundles.{IsApart, IsFirstTwice, IsBundle, HandsOver, IsFault};
 ghost use Rattle.weslc_bundle.specs.Held.{Holds};
 
+use crate::features::FeatureSettings;
 use crate::request::{BundleError, Command, Module, Request, read_request};
 use std::alloc::{AllocError, Global};
 use std::collections::BTreeSet;
@@ -17,6 +18,7 @@ pub struct Bundle {
     pub command: Command,
     pub root: ModulePath,
     pub resolver: VirtualResolver,
+    pub features: FeatureSettings,
     pub options: Options,
 }
 
@@ -30,6 +32,7 @@ pub fn read_bundle(alloc: Global, bytes: &[u8]) -> Result<Bundle, BundleError>
         command,
         root,
         modules,
+        features,
         options,
     } = read_request(alloc, bytes)?;
     check_paths(alloc, modules.as_slice())?;
@@ -38,6 +41,7 @@ pub fn read_bundle(alloc: Global, bytes: &[u8]) -> Result<Bundle, BundleError>
         command,
         root,
         resolver,
+        features,
         options,
     })
 }

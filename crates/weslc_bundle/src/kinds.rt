@@ -1,6 +1,8 @@
 //! The words by which a line tells the kind of an inner fault.
 
 use weslc_api::{ErrorKind, Fault, NameFault, ValidateError};
+use wesl_features::CondCompError;
+use wgsl_parser::ErrorKind as ModuleErrorKind;
 use wgsl_shader_type::Error;
 
 pub(crate) fn syntax_kind(kind: ErrorKind) -> &'static str {
@@ -10,6 +12,31 @@ pub(crate) fn syntax_kind(kind: ErrorKind) -> &'static str {
         ErrorKind::UnexpectedToken => "UnexpectedToken",
         ErrorKind::UnexpectedEof => "UnexpectedEof",
         ErrorKind::OutOfMemory => "OutOfMemory",
+    }
+}
+
+/// The kind of a fault of a text in the whole language.
+pub(crate) fn module_fault_kind(kind: ModuleErrorKind) -> &'static str {
+    match kind {
+        ModuleErrorKind::InvalidToken => "InvalidToken",
+        ModuleErrorKind::ReservedWord => "ReservedWord",
+        ModuleErrorKind::UnexpectedToken => "UnexpectedToken",
+        ModuleErrorKind::UnexpectedEof => "UnexpectedEof",
+        ModuleErrorKind::DiagnosticSeverity => "DiagnosticSeverity",
+        ModuleErrorKind::Attribute => "Attribute",
+        ModuleErrorKind::VarTemplate => "VarTemplate",
+        ModuleErrorKind::OutOfMemory => "OutOfMemory",
+    }
+}
+
+pub(crate) fn condition_kind(error: &CondCompError) -> &'static str {
+    match error {
+        CondCompError::InvalidFeatureFlag(_) => "InvalidFeatureFlag",
+        CondCompError::UnexpectedFeatureFlag(_) => "UnexpectedFeatureFlag",
+        CondCompError::InvalidExpression => "InvalidExpression",
+        CondCompError::NoPrecedingIf => "NoPrecedingIf",
+        CondCompError::DuplicateIf => "DuplicateIf",
+        CondCompError::OutOfMemory => "OutOfMemory",
     }
 }
 

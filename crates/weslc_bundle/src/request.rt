@@ -5,6 +5,7 @@ ghost use Rattle.serde_json.specs.View.{view, items_view, members_view};
 ghost use Rattle.serde_json.specs.Find.{as_object, as_str};
 ghost use Rattle.weslc_bundle.specs.Bundles.{Answers, is_key, unknown, keys_known, value_of, request_in, request_of, command_at, root_at, required, text_at, path_in, modules_at, has_two, each, module_of, keep_at, max_modules_at, max_steps_at};
 
+use crate::features::{FeatureSettings, read_features};
 use serde_json::{Map, Value};
 use std::alloc::{AllocError, AllocFailed, Global};
 use std::fmt;
@@ -17,6 +18,7 @@ use wgsl_path::{ModulePath, ModulePathParseError, PathOrigin};
 pub enum Command {
     Link,
     Compile,
+    Precompile,
 }
 
 /// A key of a bundle.
@@ -25,6 +27,8 @@ pub enum Key {
     Command,
     Root,
     Modules,
+    Features,
+    DefaultFeature,
     Keep,
     MaxModules,
     MaxSteps,
@@ -43,6 +47,7 @@ pub struct Request {
     pub command: Command,
     pub root: ModulePath,
     pub modules: Items<Module>,
+    pub features: FeatureSettings,
     pub options: Options,
 }
 
@@ -94,6 +99,8 @@ impl fmt::Display for Key {
             Key::Command => f.write_str("command"),
             Key::Root => f.write_str("root"),
             Key::Modules => f.write_str("modules"),
+            Key::Features => f.write_str("features"),
+            Key::DefaultFeature => f.write_str("default_feature"),
             Key::Keep => f.write_str("keep"),
             Key::MaxModules => f.write_str("max_modules"),
             Key::MaxSteps => f.write_str("max_steps"),
@@ -102,7 +109,7 @@ impl fmt::Display for Key {
 }
 
 /// Reads what a JSON object asks for. Its keys are tested in a fixed order: unknown ones first, then `command`, `root`,
-/// `modules`, `keep`, `max_modules` and `max_steps`.
+/// `modules`, `features`, `default_feature`, `keep`, `max_modules` and `max_steps`.
 pub fn read_request(alloc: Global, bytes: &[u8]) -> Result<Request, BundleError>
     ensures { Answers Request result (request_of bytes.now) }
 {
@@ -131,6 +138,7 @@ fn read_members(alloc: Global, value: &Value) -> Result<Request, BundleError>
     let command = read_command(value)?;
     let root = read_root(alloc, value)?;
     let modules = read_modules(alloc, value)?;
+    let features = read_features(alloc, value)?;
     let options = Options {
         keep: read_keep(alloc, value)?,
         max_modules: read_max_modules(value)?,
@@ -140,6 +148,7 @@ fn read_members(alloc: Global, value: &Value) -> Result<Request, BundleError>
         command,
         root,
         modules,
+        features,
         options,
     })
 }
@@ -173,7 +182,14 @@ fn is_key(key: &str) -> bool
 {
     matches!(
         key,
-        "command" | "root" | "modules" | "keep" | "max_modules" | "max_steps"
+        "command"
+            | "root"
+            | "modules"
+            | "features"
+            | "default_feature"
+            | "keep"
+            | "max_modules"
+            | "max_steps"
     )
 }
 
@@ -183,6 +199,7 @@ fn read_command(value: &Value) -> Result<Command, BundleError>
     match text_at(value, "command") {
         Some("link") => Ok(Command::Link),
         Some("compile") => Ok(Command::Compile),
+        Some("precompile") => Ok(Command::Precompile),
         _ => Err(BundleError::Value(Key::Command)),
     }
 }

@@ -4,68 +4,22 @@ ghost use Rattle.std.specs.Prelude.{◌≡◌, ◌⊎◌, ◌≤◌, List, ℕ, 
 ghost use Rattle.std.specs.Io.KnownBytes.{Appends};
 ghost use Rattle.weslc_bundle.specs.Served.{Answered, Refused, HasRefusal, IsCutShort, status_of};
 
+use crate::answer::answer;
 use crate::bundle::read_bundle;
+use crate::error::ServeError;
 use crate::field::Field;
-use crate::input::{InputError, read_input};
-use crate::kinds::{eval_kind, syntax_kind, validate_kind};
+use crate::input::read_input;
+use crate::kinds::{condition_kind, eval_kind, module_fault_kind, syntax_kind, validate_kind};
 use crate::output::write_text;
-use crate::request::{BundleError, Command};
+use crate::request::BundleError;
 use std::alloc::Global;
 use std::io;
 use std::io::{Read, Write};
-use weslc_api::{CompileError, ErrorContext, compile, link};
+use weslc_api::{CompileError, ErrorContext};
+use weslc_precompile::PrecompileError;
+use wesl_features::CondCompError;
 use wgsl_items::Text;
 use wgsl_path::{ModulePath, Span};
-
-/// Why the program writes no text.
-#[derive(Debug, Drop)]
-enum ServeError {
-    Read,
-    TooLong,
-    Bundle(BundleError),
-    Compile(CompileError),
-    OutOfMemory,
-}
-
-impl From<InputError> for ServeError {
-    ghost use Rattle.weslc_bundle.specs.Served.{refused_input};
-
-    ghost from_gives = { λ e refusal. refusal ≡ refused_input e };
-
-    fn from(error: InputError) -> ServeError {
-        match error {
-            InputError::Read => ServeError::Read,
-            InputError::TooLong => ServeError::TooLong,
-            InputError::OutOfMemory => ServeError::OutOfMemory,
-        }
-    }
-}
-
-impl From<BundleError> for ServeError {
-    ghost use Rattle.weslc_bundle.specs.Served.{refused_bundle};
-
-    ghost from_gives = { λ e refusal. refusal ≡ refused_bundle e };
-
-    fn from(error: BundleError) -> ServeError {
-        match error {
-            BundleError::OutOfMemory => ServeError::OutOfMemory,
-            error => ServeError::Bundle(error),
-        }
-    }
-}
-
-impl From<CompileError> for ServeError {
-    ghost use Rattle.weslc_bundle.specs.Served.{RefusesCall};
-
-    ghost from_gives = { RefusesCall };
-
-    fn from(error: CompileError) -> ServeError {
-        match error {
-            CompileError::OutOfMemory => ServeError::OutOfMemory,
-            error => ServeError::Compile(error),
-        }
-    }
-}
 
 /// Reads a bundle, and writes the text that it asks for, or one line about its first fault. It gives the program's status: 0
 /// for a text, 1 for a refused call or a write that fails, 2 for what is no bundle or a read that fails. Where a text could
@@ -99,21 +53,17 @@ fn run_bundle<R: Read>(alloc: Global, reader: &mut R) -> Result<String, ServeErr
     ensures refusal { IfErr result (λ refusal. Refused (R.remaining reader.old) refusal) }
 {
     let bytes = read_input(alloc, reader)?;
-    let mut bundle = read_bundle(alloc, bytes.as_slice())?;
+    let bundle = read_bundle(alloc, bytes.as_slice())?;
     drop(bytes);
-    let (text, _) = match bundle.command {
-        Command::Link => link(alloc, &mut bundle.resolver, &bundle.root, &bundle.options)?,
-        Command::Compile => compile(alloc, &mut bundle.resolver, &bundle.root, &bundle.options)?,
-    };
-    Ok(text)
+    answer(alloc, bundle)
 }
 
 fn status(refusal: &ServeError) -> u8
     ensures { result ≡ status_of refusal.now }
 {
     match refusal {
-        ServeError::Read | ServeError::TooLong | ServeError::Bundle(_) => 2,
-        ServeError::Compile(_) | ServeError::OutOfMemory => 1,
+        ServeError::Read | ServeError::TooLong | ServeError::Bundle(_) | ServeError::NoRoot => 2,
+        ServeError::Compile(_) | ServeError::Precompile(_) | ServeError::OutOfMemory => 1,
     }
 }
 
@@ -123,8 +73,10 @@ fn write_refusal<E: Write>(errors: &mut E, refusal: &ServeError) -> io::Result<(
         ServeError::Read => errors.write_all(b"error: Read - - - -\n"),
         ServeError::TooLong => errors.write_all(b"error: Bundle - - - size\n"),
         ServeError::OutOfMemory => errors.write_all(b"error: OutOfMemory - - - -\n"),
+        ServeError::NoRoot => errors.write_all(b"error: Bundle - - - root\n"),
         ServeError::Bundle(error) => write_bundle_error(errors, error),
         ServeError::Compile(error) => write_compile_error(errors, error),
+        ServeError::Precompile(error) => write_precompile_error(errors, error),
     }?;
     errors.flush()
 }
@@ -187,6 +139,41 @@ fn write_compile_error<E: Write>(errors: &mut E, error: &CompileError) -> io::Re
             write_context(errors, context, None)
         }
         CompileError::OutOfMemory => errors.write_all(b"error: OutOfMemory - - - -\n"),
+    }
+}
+
+fn write_precompile_error<E: Write>(errors: &mut E, error: &PrecompileError) -> io::Result<()> {
+    match error {
+        PrecompileError::Syntax(error) => {
+            let kind = module_fault_kind(error.kind);
+            let (start, end) = (error.span.start, error.span.end);
+            writeln!(errors, "error: Syntax.{kind} - - {start}..{end} -")
+        }
+        PrecompileError::Condition(error) => write_condition_error(errors, error),
+        PrecompileError::Unprintable(name) => {
+            let name = Field(name.as_ref());
+            writeln!(errors, "error: Unprintable - - - {name}")
+        }
+        PrecompileError::OutOfMemory => errors.write_all(b"error: OutOfMemory - - - -\n"),
+    }
+}
+
+fn write_condition_error<E: Write>(errors: &mut E, error: &CondCompError) -> io::Result<()> {
+    let kind = condition_kind(error);
+    let flag = Field(flag_of(error));
+    writeln!(errors, "error: Condition.{kind} - - - {flag}")
+}
+
+/// The flag that an error is about.
+fn flag_of(error: &CondCompError) -> Option<&Text> {
+    match error {
+        CondCompError::InvalidFeatureFlag(flag) | CondCompError::UnexpectedFeatureFlag(flag) => {
+            Some(flag)
+        }
+        CondCompError::InvalidExpression
+        | CondCompError::NoPrecedingIf
+        | CondCompError::DuplicateIf
+        | CondCompError::OutOfMemory => None,
     }
 }
 

@@ -13,7 +13,7 @@ use stream::{Sink, Source};
 use weslc_bundle::serve_bundle;
 
 /// The files of cases, each a list.
-const FILES: [&str; 7] = [
+const FILES: [&str; 8] = [
     "bundles.json",
     "fields.json",
     "texts.json",
@@ -21,6 +21,7 @@ const FILES: [&str; 7] = [
     "compiled.json",
     "examples.json",
     "linking.json",
+    "precompiled.json",
 ];
 
 fn main(rt: HostRuntime) -> io::Result<()> {

@@ -49,16 +49,24 @@ abbrev pub first_bare : List Decl → Option (List ℕ)
 first_bare [] = None
 first_bare (d ∷ ds) = option_or (bare d) (first_bare ds)
 
--- The answer is the text of what features leave of the text's module, and it says that. Else it is the fault of the text; the first error of
--- its conditions; or what is left is printed as a text that doesn't say it, which is told by the first structure without members.
-abbrev pub Precompiles : Features → List ℕ → Result (String Global) PrecompileError → Type 0
-Precompiles features text (Ok printed) =
-    (left : UnitTree) × IsFixed features text left × (string_bytes printed ≡ unit_text left) × SaysTree (string_bytes printed) left
-Precompiles features text (Err (refusal.Syntax e)) = IsFault Module text e
-Precompiles features text (Err (refusal.Condition e)) = (unit : TranslationUnit) × Says text unit × (unit_fault features (unit_tree unit) ≡ Some e)
-Precompiles features text (Err (refusal.Unprintable name)) =
+-- This is the text of what features leave of the text's module, and it says that.
+abbrev pub IsPrecompiledText : Features → List ℕ → List ℕ → Type 0
+IsPrecompiledText features text printed =
+    (left : UnitTree) × IsFixed features text left × (printed ≡ unit_text left) × SaysTree printed left
+
+-- There is none: this is the fault of the text; the first error of its conditions; or what is left is printed as a text that doesn't say it,
+-- which is told by the first structure without members.
+abbrev pub RefusesPrecompiling : Features → List ℕ → PrecompileError → Type 0
+RefusesPrecompiling features text (refusal.Syntax e) = IsFault Module text e
+RefusesPrecompiling features text (refusal.Condition e) = (unit : TranslationUnit) × Says text unit × (unit_fault features (unit_tree unit) ≡ Some e)
+RefusesPrecompiling features text (refusal.Unprintable name) =
     (left : UnitTree) × IsFixed features text left × SaysNot (unit_text left) left × (name ≡ first_bare left.declarations)
-Precompiles features text (Err refusal.OutOfMemory) = Unit
+RefusesPrecompiling features text refusal.OutOfMemory = Unit
+
+-- what an answer says of a text
+abbrev pub Precompiles : Features → List ℕ → Result (String Global) PrecompileError → Type 0
+Precompiles features text (Ok printed) = IsPrecompiledText features text (string_bytes printed)
+Precompiles features text (Err e) = RefusesPrecompiling features text e
 
 -- ---- steps
 

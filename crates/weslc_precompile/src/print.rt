@@ -48,7 +48,7 @@ fn reads_back(
 }
 
 /// The name of a structure, where it has no members.
-#[tactic(auto, using(crate::proofs::Steps::bare_empty, crate::proofs::Steps::bare_full))]
+#[tactic(auto, using(crate::proofs::Steps::bare_empty))]
 fn bare_structure(x: &Struct) -> Option<&str>
     ensures { option_copied result ≡ bare (structure_tree x.now) }
 {

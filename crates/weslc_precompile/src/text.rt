@@ -28,7 +28,7 @@ fn fix(
 }
 
 /// The text of what is left of a module.
-#[tactic(auto, using(crate::proofs::Steps::fix_refused, crate::proofs::Steps::fixed_printed))]
+#[tactic(auto, using(crate::proofs::Steps::fix_refused))]
 fn left_text(
     alloc: Global,
     unit: TranslationUnit,

@@ -1,6 +1,7 @@
 //! What each call answers: the tree's text, with `\n` for each line's end, or the error's kind and place. A fault's call
 //! answers `none` in place of the tree's text.
 
+use crate::places;
 use std::alloc::{AllocError, Global};
 use std::fmt::{Display, Write};
 use wgsl_parser::{
@@ -9,7 +10,7 @@ use wgsl_parser::{
 };
 
 /// The text before the first tab, and the text behind it.
-fn cut(text: &str) -> (&str, &str) {
+pub fn cut(text: &str) -> (&str, &str) {
     text.split_once('\t').unwrap_or((text, ""))
 }
 
@@ -25,6 +26,8 @@ pub fn answer(alloc: Global, case: &str) -> Result<String, AllocError> {
         "import" => shown(alloc, parse_import(alloc, text)),
         "kind" => shown(alloc, parse_declaration_kind(alloc, text)),
         "fault" => fault(alloc, text),
+        "told" => places::told(alloc, text),
+        "source" => places::with_source(alloc, text),
         _ => String::from_str(alloc, "no such call"),
     }
 }

@@ -3,9 +3,12 @@
 #![tactic(auto)]
 
 mod answers;
+mod escapes;
+mod places;
 
 use std::alloc::{AllocError, Global};
 use std::fmt::Write;
+use std::rt::Files;
 use std::{fs, io};
 
 /// Tells of a case whose answer differs from the one that it names.
@@ -34,9 +37,15 @@ fn check_all(alloc: Global, report: &mut String, text: &str) -> Result<u64, Allo
     Ok(count)
 }
 
-fn main(rt: HostRuntime) -> io::Result<()> {
-    let text = fs::read_to_string(&rt, "texts.txt")?;
+/// Tells of the cases of a file that differ, and how many there were.
+fn report<R: Files + Print + AllocGlobal>(rt: &R, path: &str) -> io::Result<()> {
+    let text = fs::read_to_string(rt, path)?;
     let mut report = String::new(rt.alloc());
     let count = check_all(rt.alloc(), &mut report, text.as_str())?;
-    println!(rt; "{report}texts.txt: {count} cases")
+    println!(rt; "{report}{path}: {count} cases")
+}
+
+fn main(rt: HostRuntime) -> io::Result<()> {
+    report(&rt, "texts.txt")?;
+    report(&rt, "places.txt")
 }

@@ -1,0 +1,35 @@
+-- Refused calls, as the program tells them.
+use Rattle.std.proofs.Common.{◌≡◌, refl, sym, subst, ℕ, List, ◌⊎◌, inl, inr, Some, None}
+use Rattle.wgsl_path.specs.Paths.{path_text}
+use Rattle.weslc_api.specs.Stored.{text_at}
+use Rattle.weslc_api.specs.declared.error.CompileError.{CompileError}
+use Rattle.wesl_features.specs.declared.feature.Features.{Features}
+use Rattle.weslc_precompile.specs.declared.error.PrecompileError.{PrecompileError}
+use Rattle.weslc_precompile.specs.declared.error.PrecompileError.TheVariants as precompiling
+use Rattle.weslc_precompile.specs.Precompiling.{RefusesPrecompiling}
+use Rattle.weslc_bundle.specs.declared.request.Command.{Command}
+use Rattle.weslc_bundle.specs.declared.request.Command.TheVariants.{Link, Compile, Precompile}
+use Rattle.weslc_bundle.specs.declared.bundle.Bundle.{Bundle}
+use Rattle.weslc_bundle.specs.declared.error.ServeError.{ServeError}
+use Rattle.weslc_bundle.specs.declared.error.ServeError.TheVariants as serve
+use Rattle.weslc_bundle.specs.Bundles.{AreSet}
+use Rattle.weslc_bundle.specs.Held.{found_by}
+use Rattle.weslc_bundle.specs.Served.{RefusesModules, IsRefusalFor, RefusesCall, refused_precompiling}
+
+pub modules_refused : (command : Command) (bundle : Bundle) (e : CompileError) (refusal : ServeError)
+    → RefusesModules command (found_by (text_at bundle.resolver)) (path_text bundle.root) bundle.options e → RefusesCall e refusal → IsRefusalFor command bundle refusal
+modules_refused command bundle e refusal h (inl same) = subst (IsRefusalFor command bundle) (sym same) h
+modules_refused command bundle e refusal h (inr memory) = subst (IsRefusalFor command bundle) (sym memory.1) tt
+
+pub precompile_refused : (bundle : Bundle) (source : List ℕ) (features : Features) (e : PrecompileError)
+    → text_at bundle.resolver (path_text bundle.root) ≡ Some source → AreSet bundle.features features → RefusesPrecompiling features source e
+    → IsRefusalFor Precompile bundle (refused_precompiling e)
+precompile_refused bundle source features (precompiling.Syntax e) found set h = (refl, source, features, found, set, h)
+precompile_refused bundle source features (precompiling.Condition e) found set h = (refl, source, features, found, set, h)
+precompile_refused bundle source features (precompiling.Unprintable name) found set h = (refl, source, features, found, set, h)
+precompile_refused bundle source features precompiling.OutOfMemory found set h = tt
+
+pub root_refused : (bundle : Bundle) (refusal : ServeError)
+    → (refusal ≡ serve.OutOfMemory) ⊎ ((refusal ≡ serve.NoRoot) × (text_at bundle.resolver (path_text bundle.root) ≡ None)) → IsRefusalFor Precompile bundle refusal
+root_refused bundle refusal (inl memory) = subst (IsRefusalFor Precompile bundle) (sym memory) tt
+root_refused bundle refusal (inr none) = subst (IsRefusalFor Precompile bundle) (sym none.0) (refl, none.1)

@@ -1,0 +1,71 @@
+//! What the call of a bundle answers.
+
+ghost use Rattle.std.specs.Prelude.{◌≡◌, ◌⊎◌, IfOk, IfErr, Some, None, string_bytes};
+ghost use Rattle.wgsl_path.specs.Paths.{path_text};
+ghost use Rattle.weslc_api.specs.Stored.{text_at};
+ghost use Rattle.weslc_bundle.specs.declared.error.ServeError.TheVariants.{NoRoot, OutOfMemory};
+ghost use Rattle.weslc_bundle.specs.declared.request.Command.TheVariants.{Link, Compile, Precompile};
+ghost use Rattle.weslc_bundle.specs.Served.{IsTextFor, IsRefusalFor};
+
+use crate::bundle::Bundle;
+use crate::error::ServeError;
+use crate::features::set_features;
+use crate::request::Command;
+use std::alloc::Global;
+use weslc_api::{ResolveError, compile, link};
+use weslc_precompile::precompile;
+
+/// The text that the call of a bundle answers, or why there is none.
+pub(crate) fn answer(alloc: Global, bundle: Bundle) -> Result<String, ServeError>
+    ensures text { IfOk result (λ text. IsTextFor bundle.command bundle (string_bytes text)) }
+    ensures refusal { IfErr result (λ refusal. IsRefusalFor bundle.command bundle refusal) }
+{
+    match bundle.command {
+        Command::Link => link_modules(alloc, bundle),
+        Command::Compile => compile_modules(alloc, bundle),
+        Command::Precompile => precompile_root(alloc, &bundle),
+    }
+}
+
+#[tactic(auto, using(crate::proofs::Calls::modules_refused))]
+fn link_modules(alloc: Global, bundle: Bundle) -> Result<String, ServeError>
+    ensures text { IfOk result (λ text. IsTextFor Link bundle (string_bytes text)) }
+    ensures refusal { IfErr result (λ refusal. IsRefusalFor Link bundle refusal) }
+{
+    let mut bundle = bundle;
+    let (text, _) = link(alloc, &mut bundle.resolver, &bundle.root, &bundle.options)?;
+    Ok(text)
+}
+
+#[tactic(auto, using(crate::proofs::Calls::modules_refused))]
+fn compile_modules(alloc: Global, bundle: Bundle) -> Result<String, ServeError>
+    ensures text { IfOk result (λ text. IsTextFor Compile bundle (string_bytes text)) }
+    ensures refusal { IfErr result (λ refusal. IsRefusalFor Compile bundle refusal) }
+{
+    let mut bundle = bundle;
+    let (text, _) = compile(alloc, &mut bundle.resolver, &bundle.root, &bundle.options)?;
+    Ok(text)
+}
+
+/// The text of the root's module, its feature flags fixed.
+#[tactic(auto, using(crate::proofs::Calls::precompile_refused, crate::proofs::Calls::root_refused))]
+fn precompile_root(alloc: Global, bundle: &Bundle) -> Result<String, ServeError>
+    ensures text { IfOk result (λ text. IsTextFor Precompile bundle.now (string_bytes text)) }
+    ensures refusal { IfErr result (λ refusal. IsRefusalFor Precompile bundle.now refusal) }
+{
+    let features = set_features(alloc, &bundle.features)?;
+    let source = root_text(bundle)?;
+    let text = precompile(alloc, source, &features)?;
+    Ok(text)
+}
+
+fn root_text(bundle: &Bundle) -> Result<&str, ServeError>
+    ensures text { IfOk result (λ text. text_at bundle.now.resolver (path_text bundle.now.root) ≡ Some text.now) }
+    ensures none { IfErr result (λ refusal. (refusal ≡ OutOfMemory) ⊎ ((refusal ≡ NoRoot) × (text_at bundle.now.resolver (path_text bundle.now.root) ≡ None))) }
+{
+    match bundle.resolver.get_module(&bundle.root) {
+        Ok(text) => Ok(text),
+        Err(ResolveError::ModuleNotFound(_)) => Err(ServeError::NoRoot),
+        Err(_) => Err(ServeError::OutOfMemory),
+    }
+}
