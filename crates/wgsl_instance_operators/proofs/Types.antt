@@ -14,11 +14,11 @@ use Rattle.wgsl_shader_type.specs.declared.tree.ShaderType.{ShaderType}
 use Rattle.wgsl_shader_type.specs.declared.tree.ShaderType as tree
 use Rattle.wgsl_shader_type.specs.declared.tree.ShaderType.TheVariants as type
 use Rattle.wgsl_shader_type.specs.Class.{is_scalar}
-use Rattle.wgsl_shader_type.specs.Operator.{is_arithmetic, is_logical, unary_takes, IsBinaryResult, HasNoBinaryCandidate, IsUnaryResult, HasNoUnaryCandidate}
-use Rattle.wgsl_shader_type.specs.ResultOf.{component, in_vector, binary_result, unary_shape, unary_result}
-use Rattle.wgsl_shader_type.proofs.Shapes.{IsNoVector, binary_of_vectors, binary_of_vector_left, binary_of_vector_right, binary_of_no_vectors}
-use Rattle.wgsl_shader_type.proofs.Candidates.{binary_found}
-use Rattle.wgsl_shader_type.proofs.UnaryCandidates as unary
+use Rattle.wgsl_type_operators.specs.Operator.{is_arithmetic, is_logical, unary_takes, IsBinaryResult, HasNoBinaryCandidate, IsUnaryResult, HasNoUnaryCandidate}
+use Rattle.wgsl_type_operators.specs.ResultOf.{component, in_vector, binary_result, unary_shape, unary_result}
+use Rattle.wgsl_type_operators.proofs.Shapes.{IsNoVector, binary_of_vectors, binary_of_vector_left, binary_of_vector_right, binary_of_no_vectors}
+use Rattle.wgsl_type_operators.proofs.Candidates.{binary_found}
+use Rattle.wgsl_type_operators.proofs.UnaryCandidates as unary
 use Rattle.wgsl_scalar.specs.declared.scalar.ScalarType.{ScalarType}
 use Rattle.wgsl_scalar.specs.declared.scalar.ScalarType.TheVariants.{Bool as Truth, Integer}
 use Rattle.wgsl_scalar.specs.declared.scalar.IntegerType.TheVariants.{AbstractInt, I32, U32}

@@ -4,7 +4,7 @@ use Rattle.wgsl_operators.specs.declared.UnaryOperator.{UnaryOperator}
 use Rattle.wgsl_operators.specs.declared.BinaryOperator.{BinaryOperator}
 use Rattle.wgsl_enumerations.specs.declared.words.ShaderStage.{ShaderStage}
 use Rattle.wgsl_shader_type.specs.declared.tree.ShaderType.{ShaderType}
-use Rattle.wgsl_shader_type.specs.Operator.{IsBinaryResult, IsUnaryResult}
+use Rattle.wgsl_type_operators.specs.Operator.{IsBinaryResult, IsUnaryResult}
 use Rattle.wgsl_instance.specs.declared.tree.Instance.{Instance}
 use Rattle.wgsl_instance.specs.Typed.{type_of, HasType, IsWellFormed}
 use Rattle.wgsl_instance_operators.specs.Operators.{combined, each_component}

@@ -12,7 +12,8 @@ use wgsl_instance::{Instance, VecInstance};
 use wgsl_items::Items;
 use wgsl_operators::BinaryOperator;
 use wgsl_scalar::{ScalarType, binary_scalar_op};
-use wgsl_shader_type::{Error, LiteralInstance, Type, type_binary_op};
+use wgsl_shader_type::{Error, LiteralInstance, Type};
+use wgsl_type_operators::type_binary_op;
 
 /// The type of the first scalar of a list that has one.
 fn first_type(components: &[LiteralInstance]) -> ScalarType

@@ -12,7 +12,8 @@ use wgsl_instance::Instance;
 use wgsl_items::Items;
 use wgsl_operators::UnaryOperator;
 use wgsl_scalar::unary_scalar_op;
-use wgsl_shader_type::{Error, LiteralInstance, type_unary_op};
+use wgsl_shader_type::{Error, LiteralInstance};
+use wgsl_type_operators::type_unary_op;
 
 fn of_components(
     alloc: Global,

@@ -18,8 +18,8 @@ use Rattle.wgsl_shader_type.specs.Alike as types
 use Rattle.wgsl_shader_type.specs.Class.{loaded_type}
 use Rattle.wgsl_shader_type.specs.Equality.{same_out}
 use Rattle.wgsl_shader_type.specs.Rank.{rank_of, rank_layer, converts}
-use Rattle.wgsl_shader_type.specs.ResultOf.{binary_result}
-use Rattle.wgsl_shader_type.proofs.Candidates.{none_found}
+use Rattle.wgsl_type_operators.specs.ResultOf.{binary_result}
+use Rattle.wgsl_type_operators.proofs.Candidates.{none_found}
 use Rattle.wgsl_shader_type.proofs.Classes.{loaded_of_bool, loaded_of_abstract_int, loaded_of_i32, loaded_of_u32}
 use Rattle.wgsl_shader_type.proofs.Ranks.{rank_out}
 use Rattle.wgsl_scalar.specs.declared.scalar.ScalarType.{ScalarType}

@@ -25,14 +25,14 @@ use Rattle.wgsl_shader_type.specs.declared.tree.ShaderType as tree
 use Rattle.wgsl_shader_type.specs.declared.tree.ShaderType.TheOpen.{ShaderType-F}
 use Rattle.wgsl_shader_type.specs.declared.tree.ShaderType.TheVariants as type
 use Rattle.wgsl_shader_type.specs.Class.{is_bool, bool_layer, is_handle, loaded_type}
-use Rattle.wgsl_shader_type.specs.Operator.{takes, gives, is_arithmetic, is_logical, is_shift, ScalarSignature, Signature}
+use Rattle.wgsl_type_operators.specs.Operator.{takes, gives, is_arithmetic, is_logical, is_shift, ScalarSignature, Signature}
 use Rattle.wgsl_shader_type.specs.Rank.{converts}
-use Rattle.wgsl_shader_type.specs.ResultOf.{unary_result, unary_fault, binary_result}
+use Rattle.wgsl_type_operators.specs.ResultOf.{unary_result, unary_fault, binary_result}
 use Rattle.wgsl_shader_type.specs.Alike.{same}
 use Rattle.wgsl_shader_type.specs.Equality.{equal_if_same}
 use Rattle.wgsl_shader_type.specs.Trees.{induction}
-use Rattle.wgsl_shader_type.proofs.Candidates.{result_found}
-use Rattle.wgsl_shader_type.proofs.UnaryCandidates as unary_candidates
+use Rattle.wgsl_type_operators.proofs.Candidates.{result_found}
+use Rattle.wgsl_type_operators.proofs.UnaryCandidates as unary_candidates
 use Rattle.wgsl_shader_type.proofs.Classes.{loaded_of_bool, loaded_of_abstract_int, loaded_of_abstract_float, loaded_of_i32, loaded_of_u32, loaded_of_f32, loaded_of_f16, loaded_of_struct, loaded_of_array, loaded_of_vector, loaded_of_pointer}
 use Rattle.wgsl_scalar.specs.declared.scalar.ScalarType.{ScalarType}
 use Rattle.wgsl_scalar.specs.declared.scalar.ScalarType.TheVariants.{Bool as Truth, Integer}

@@ -13,7 +13,7 @@ use Rattle.wgsl_shader_type.specs.declared.literal.LiteralInstance.TheVariants a
 use Rattle.wgsl_shader_type.specs.declared.tree.ShaderType.{ShaderType}
 use Rattle.wgsl_shader_type.specs.Class.{loaded_type}
 use Rattle.wgsl_shader_type.specs.Rank.{converts}
-use Rattle.wgsl_shader_type.specs.ResultOf.{unary_result, unary_fault, binary_result}
+use Rattle.wgsl_type_operators.specs.ResultOf.{unary_result, unary_fault, binary_result}
 use Rattle.wgsl_instance.specs.declared.tree.Instance.{Instance, out-Instance}
 use Rattle.wgsl_instance.specs.declared.tree.Instance.TheVariants as v
 use Rattle.wgsl_instance.specs.declared.tree.Instance.TheOpen.{Instance-F}

@@ -14,12 +14,12 @@ use Rattle.wgsl_shader_type.specs.declared.error.Error.TheVariants.{SubOverflow,
 use Rattle.wgsl_shader_type.specs.declared.literal.LiteralInstance.{LiteralInstance}
 use Rattle.wgsl_shader_type.specs.declared.literal.LiteralInstance.TheVariants as literal
 use Rattle.wgsl_shader_type.specs.Conversion.{Converts}
-use Rattle.wgsl_shader_type.specs.Operator.{IsBinaryResult, HasNoBinaryCandidate, IsUnaryResult, HasNoUnaryCandidate}
-use Rattle.wgsl_shader_type.specs.ResultOf.{binary_result, unary_result}
+use Rattle.wgsl_type_operators.specs.Operator.{IsBinaryResult, HasNoBinaryCandidate, IsUnaryResult, HasNoUnaryCandidate}
+use Rattle.wgsl_type_operators.specs.ResultOf.{binary_result, unary_result}
 use Rattle.wgsl_shader_type.specs.Rank.{rank_of, converts as converts_type}
 use Rattle.wgsl_shader_type.proofs.Ranks.{rank_out, rank_is_least}
-use Rattle.wgsl_shader_type.proofs.Candidates.{result_found, none_found}
-use Rattle.wgsl_shader_type.proofs.UnaryCandidates as unary
+use Rattle.wgsl_type_operators.proofs.Candidates.{result_found, none_found}
+use Rattle.wgsl_type_operators.proofs.UnaryCandidates as unary
 use Rattle.wgsl_scalar.specs.declared.scalar.ScalarType.{ScalarType}
 use Rattle.wgsl_scalar.specs.declared.scalar.ScalarType.TheVariants.{Bool as Truth, Integer}
 use Rattle.wgsl_scalar.specs.declared.scalar.IntegerType.TheVariants.{AbstractInt, I32, U32}

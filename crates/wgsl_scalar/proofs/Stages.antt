@@ -8,7 +8,7 @@ use Rattle.wgsl_enumerations.specs.declared.words.ShaderStage.TheVariants.{Const
 use Rattle.wgsl_shader_type.specs.declared.error.Error.{Error}
 use Rattle.wgsl_shader_type.specs.declared.literal.LiteralInstance.{LiteralInstance}
 use Rattle.wgsl_shader_type.specs.declared.literal.LiteralInstance.TheVariants as literal
-use Rattle.wgsl_shader_type.specs.Operator.{is_shift}
+use Rattle.wgsl_type_operators.specs.Operator.{is_shift}
 use Rattle.wgsl_scalar.specs.declared.scalar.ScalarType.{ScalarType}
 use Rattle.wgsl_scalar.specs.declared.scalar.ScalarType.TheVariants.{Bool as Truth, Integer}
 use Rattle.wgsl_scalar.specs.declared.scalar.IntegerType.{IntegerType}

@@ -11,13 +11,13 @@ use Rattle.wgsl_shader_type.specs.declared.tree.ShaderType.TheVariants as type
 use Rattle.wgsl_shader_type.specs.declared.error.Error.{Error}
 use Rattle.wgsl_shader_type.specs.declared.literal.LiteralInstance.{LiteralInstance}
 use Rattle.wgsl_shader_type.specs.declared.literal.LiteralInstance.TheVariants as literal
-use Rattle.wgsl_shader_type.specs.Operator.{takes as takes_type, gives, given_type, is_shift, is_comparison, IsBinaryResult, HasNoBinaryCandidate}
-use Rattle.wgsl_shader_type.specs.ResultOf.{if_taken, component, binary_result}
+use Rattle.wgsl_type_operators.specs.Operator.{takes as takes_type, gives, given_type, is_shift, is_comparison, IsBinaryResult, HasNoBinaryCandidate}
+use Rattle.wgsl_type_operators.specs.ResultOf.{if_taken, component, binary_result}
 use Rattle.wgsl_shader_type.specs.Class.{is_integer}
 use Rattle.wgsl_shader_type.specs.Alike.{same}
 use Rattle.wgsl_shader_type.specs.Rank.{rank_of, rank_layer, converts, common_of}
 use Rattle.wgsl_shader_type.proofs.Ranks.{rank_out}
-use Rattle.wgsl_shader_type.proofs.Candidates.{result_found}
+use Rattle.wgsl_type_operators.proofs.Candidates.{result_found}
 use Rattle.wgsl_scalar.specs.declared.scalar.ScalarType.{ScalarType}
 use Rattle.wgsl_scalar.specs.declared.scalar.ScalarType.TheVariants.{Bool as Truth, Integer}
 use Rattle.wgsl_scalar.specs.declared.scalar.IntegerType.{IntegerType}

@@ -6,7 +6,7 @@ use Rattle.wgsl_enumerations.specs.declared.words.ShaderStage.TheVariants.{Const
 use Rattle.wgsl_shader_type.specs.declared.tree.ShaderType.{ShaderType}
 use Rattle.wgsl_shader_type.specs.declared.error.Error.TheVariants.{Binary}
 use Rattle.wgsl_shader_type.specs.declared.literal.LiteralInstance.{LiteralInstance}
-use Rattle.wgsl_shader_type.specs.Operator.{IsBinaryResult, HasNoBinaryCandidate}
+use Rattle.wgsl_type_operators.specs.Operator.{IsBinaryResult, HasNoBinaryCandidate}
 use Rattle.wgsl_scalar.specs.Scalars.{scalar_type, type_of}
 use Rattle.wgsl_scalar.specs.Operators.{binary_value}
 

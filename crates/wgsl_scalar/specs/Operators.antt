@@ -16,7 +16,7 @@ use Rattle.wgsl_shader_type.specs.declared.literal.LiteralInstance.TheVariants a
 use Rattle.wgsl_scalar.specs.declared.scalar.ScalarType.{ScalarType}
 use Rattle.wgsl_scalar.specs.declared.scalar.IntegerType.{IntegerType}
 use Rattle.wgsl_scalar.specs.declared.scalar.IntegerType.TheVariants.{AbstractInt, I32, U32}
-use Rattle.wgsl_shader_type.specs.Operator.{is_shift}
+use Rattle.wgsl_type_operators.specs.Operator.{is_shift}
 use Rattle.wgsl_scalar.specs.declared.scalar.ScalarType.TheVariants.{Bool as Truth, Integer}
 use Rattle.wgsl_scalar.specs.Scalars.{scalar_type, integer_type, type_of, number, width, fits, value_at, wrapped}
 use Rattle.wgsl_scalar.specs.Conversions.{Checked, then_value, converted, to_integer}

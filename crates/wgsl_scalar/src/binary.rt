@@ -2,7 +2,7 @@
 
 ghost use Rattle.std.specs.Prelude.{◌≡◌, FitsSigned};
 ghost use Rattle.std.specs.Int.{w32, w64};
-ghost use Rattle.wgsl_shader_type.specs.Operator.{is_shift as shifts};
+ghost use Rattle.wgsl_type_operators.specs.Operator.{is_shift as shifts};
 ghost use Rattle.wgsl_scalar.specs.Operators as spec;
 
 use crate::conversion::{convert_scalar, to_integer};

@@ -1,7 +1,7 @@
 //! The types of operators on scalars (WGSL, "Overload Resolution").
 
 ghost use Rattle.std.specs.Prelude.{◌≡◌};
-ghost use Rattle.wgsl_shader_type.specs.Operator.{is_comparison as compares};
+ghost use Rattle.wgsl_type_operators.specs.Operator.{is_comparison as compares};
 ghost use Rattle.wgsl_scalar.specs.OperatorTypes as spec;
 
 use crate::binary::{common, is_amount, is_shift, takes};

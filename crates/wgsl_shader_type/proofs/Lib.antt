@@ -1,9 +1,6 @@
-pub mod Candidates
 pub mod Classes
 pub mod Commons
 pub mod LayoutSteps
 pub mod Layouts
 pub mod Ranks
 pub mod Rounding
-pub mod Shapes
-pub mod UnaryCandidates

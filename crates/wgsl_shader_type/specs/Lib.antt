@@ -1,13 +1,10 @@
 pub mod Alike
-pub mod Answer
 pub mod Class
 pub mod Conversion
 pub mod Equality
 pub mod Layout
 pub mod LayoutOf
 pub mod Literal
-pub mod Operator
 pub mod Rank
-pub mod ResultOf
 pub mod Text
 pub mod Trees

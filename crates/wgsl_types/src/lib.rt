@@ -21,5 +21,5 @@ pub use wgsl_operators::{BinaryOperator, UnaryOperator};
 pub use wgsl_shader_type::{
     CallSignature, Error, LiteralInstance, ShaderType, StructMemberType, StructMemberTypeOf,
     StructType, StructTypeOf, TpltParam, Type, conversion_rank, convert_all_ty, convert_ty,
-    type_binary_op, type_unary_op,
 };
+pub use wgsl_type_operators::{TypeOperators, type_binary_op, type_unary_op};

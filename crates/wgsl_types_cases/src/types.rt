@@ -8,8 +8,8 @@ use wgsl_builtin::is_builtin_name;
 use wgsl_items::CloneIn;
 use wgsl_types::{
     AddressSpace, ArrayTemplate, AssignmentOperator, BinaryOperator, BuiltinValue, Convert,
-    Enumerant, Error, LiteralInstance, PtrTemplate, TpltParam, Ty, Type, UnaryOperator,
-    VecTemplate, array_t, builtin_type, conversion_rank, convert, convert_all,
+    Enumerant, Error, LiteralInstance, PtrTemplate, TpltParam, Ty, Type, TypeOperators,
+    UnaryOperator, VecTemplate, array_t, builtin_type, conversion_rank, convert, convert_all,
     convert_all_inner_to, convert_all_to, convert_all_ty, convert_inner, convert_ty, is_ctor,
     type_ctor, type_unary_op, typecheck_struct_ctor, vec_t,
 };

@@ -5,8 +5,8 @@ use Rattle.wgsl_operators.specs.declared.BinaryOperator.{BinaryOperator}
 use Rattle.wgsl_shader_type.specs.declared.tree.ShaderType.{ShaderType}
 use Rattle.wgsl_shader_type.specs.declared.error.Error.{Error}
 use Rattle.wgsl_shader_type.specs.declared.error.Error.TheVariants.{OutOfMemory, Binary}
-use Rattle.wgsl_shader_type.specs.Operator.{IsBinaryResult, HasNoBinaryCandidate, IsUnaryResult, HasNoUnaryCandidate}
-use Rattle.wgsl_shader_type.specs.ResultOf.{unary_fault}
+use Rattle.wgsl_type_operators.specs.Operator.{IsBinaryResult, HasNoBinaryCandidate, IsUnaryResult, HasNoUnaryCandidate}
+use Rattle.wgsl_type_operators.specs.ResultOf.{unary_fault}
 
 abbrev pub AnswersBinary : BinaryOperator → ShaderType → ShaderType → Result ShaderType Error → Type 0
 AnswersBinary operator left right answer = MatchResult answer (IsBinaryResult operator left right)

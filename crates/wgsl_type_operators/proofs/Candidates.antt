@@ -11,9 +11,9 @@ use Rattle.wgsl_shader_type.specs.Conversion.{Path, Converts}
 use Rattle.wgsl_shader_type.specs.Class.{is_bool, is_integer, is_float, is_numeric, is_scalar, integer_layer}
 use Rattle.wgsl_shader_type.proofs.Ranks.{joined, in_some, path_if_rank, rank_if_path, rank_if_some, rank_if_least, rank_self, rank_of_vectors}
 use Rattle.wgsl_shader_type.proofs.Commons.{equal_if_zero}
-use Rattle.wgsl_shader_type.specs.Operator.{is_arithmetic, is_shift, is_logical, takes, gives, ScalarSignature, Signature, IsCandidate, IsResult, HasNoCandidate, IsBinaryResult, HasNoBinaryCandidate}
-use Rattle.wgsl_shader_type.specs.ResultOf.{if_taken, component, in_vector, binary_result}
-use Rattle.wgsl_shader_type.proofs.Shapes.{IsNoVector, Vectored, vector_or, from_vector, to_vector, GoesDown, goes_down, bool_goes, integer_goes, numeric_goes, scalar_goes, comparable, binary_of_vectors, binary_of_vector_left, binary_of_vector_right, binary_of_no_vectors}
+use Rattle.wgsl_type_operators.specs.Operator.{is_arithmetic, is_shift, is_logical, takes, gives, ScalarSignature, Signature, IsCandidate, IsResult, HasNoCandidate, IsBinaryResult, HasNoBinaryCandidate}
+use Rattle.wgsl_type_operators.specs.ResultOf.{if_taken, component, in_vector, binary_result}
+use Rattle.wgsl_type_operators.proofs.Shapes.{IsNoVector, Vectored, vector_or, from_vector, to_vector, GoesDown, goes_down, bool_goes, integer_goes, numeric_goes, scalar_goes, comparable, binary_of_vectors, binary_of_vector_left, binary_of_vector_right, binary_of_no_vectors}
 use Rattle.wgsl_items.proofs.Bools.{or_cases, or_right, or_left}
 
 or_step : (a b c d : Bool) → (a ≡ true → c ≡ true) → (b ≡ true → d ≡ true) → (a || b) ≡ true → (c || d) ≡ true

@@ -1,17 +1,15 @@
 //! The types that operators give.
 
 ghost use Rattle.std.specs.Prelude.{◌≡◌, IfOk};
-ghost use Rattle.wgsl_shader_type.specs.Answer.{AnswersBinary, AnswersUnary};
-ghost use Rattle.wgsl_shader_type.specs.Operator as spec;
-ghost use Rattle.wgsl_shader_type.specs.ResultOf as plain;
+ghost use Rattle.wgsl_type_operators.specs.Answer.{AnswersBinary, AnswersUnary};
+ghost use Rattle.wgsl_type_operators.specs.Operator as spec;
+ghost use Rattle.wgsl_type_operators.specs.ResultOf as plain;
 
-use crate::conversion::convert_ty;
-use crate::error::Error;
-use crate::tree::Type;
 use std::alloc::{AllocError, Global};
 use wgsl_enumerations::{AccessMode, AddressSpace};
 use wgsl_items::Boxed;
 use wgsl_operators::{BinaryOperator, UnaryOperator};
+use wgsl_shader_type::{Error, Type, convert_ty};
 
 fn is_arithmetic(operator: BinaryOperator) -> bool
     ensures { result ≡ spec.is_arithmetic operator }

@@ -13,9 +13,9 @@ use Rattle.wgsl_shader_type.specs.Conversion.{Step, Path}
 use Rattle.wgsl_shader_type.specs.Class.{is_numeric, bool_layer, integer_layer, float_layer, vector_layer, handle_layer, is_handle, is_vector}
 use Rattle.wgsl_shader_type.proofs.Ranks.{path_if_rank, rank_if_path, rank_if_some, rank_self}
 use Rattle.wgsl_shader_type.proofs.Commons.{equal_if_zero}
-use Rattle.wgsl_shader_type.specs.Operator.{is_unsigned, unsigned_layer, unary_takes, UnarySignature, IsUnaryResult, HasNoUnaryCandidate}
-use Rattle.wgsl_shader_type.specs.ResultOf.{referenced, pointed, unary_shape, unary_result}
-use Rattle.wgsl_shader_type.proofs.Shapes.{to_vector, flat_if_not, GoesDown, goes_down, bool_goes, integer_goes}
+use Rattle.wgsl_type_operators.specs.Operator.{is_unsigned, unsigned_layer, unary_takes, UnarySignature, IsUnaryResult, HasNoUnaryCandidate}
+use Rattle.wgsl_type_operators.specs.ResultOf.{referenced, pointed, unary_shape, unary_result}
+use Rattle.wgsl_type_operators.proofs.Shapes.{to_vector, flat_if_not, GoesDown, goes_down, bool_goes, integer_goes}
 
 second_of : (a b : Bool) → (a && b) ≡ true → b ≡ true
 second_of true b h = h

@@ -10,8 +10,8 @@ use Rattle.wgsl_shader_type.specs.Rank.{rank_of, rank_layer}
 use Rattle.wgsl_shader_type.specs.Conversion.{Step, Path, Converts}
 use Rattle.wgsl_shader_type.specs.Class.{bool_layer, integer_layer, float_layer, is_bool, is_integer, is_numeric, is_scalar, vector_layer, is_vector}
 use Rattle.wgsl_shader_type.proofs.Ranks.{rank_out}
-use Rattle.wgsl_shader_type.specs.Operator.{is_arithmetic, is_logical}
-use Rattle.wgsl_shader_type.specs.ResultOf.{component, in_vector, by_shape, binary_result}
+use Rattle.wgsl_type_operators.specs.Operator.{is_arithmetic, is_logical}
+use Rattle.wgsl_type_operators.specs.ResultOf.{component, in_vector, by_shape, binary_result}
 
 abbrev pub IsNoVector : ShaderType → Type 0
 IsNoVector t = (n : ℕ) (c : ShaderType) → t ≡ v.Vec n c → ⊥

@@ -13,7 +13,7 @@ use Rattle.wgsl_shader_type.specs.declared.error.Error.{Error}
 use Rattle.wgsl_shader_type.specs.declared.error.Error.TheVariants as error
 use Rattle.wgsl_shader_type.specs.Class.{is_integer}
 use Rattle.wgsl_shader_type.specs.Rank.{converts, common_of}
-use Rattle.wgsl_shader_type.specs.Operator.{takes, gives, is_shift, is_arithmetic, is_logical, unary_takes}
+use Rattle.wgsl_type_operators.specs.Operator.{takes, gives, is_shift, is_arithmetic, is_logical, unary_takes}
 
 abbrev pub if_taken : BinaryOperator → ShaderType → Option ShaderType
 if_taken operator t = if takes operator t then Some (gives operator t) else None

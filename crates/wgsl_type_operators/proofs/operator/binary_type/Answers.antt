@@ -1,7 +1,7 @@
 use Rattle.std.proofs.Common.{◌≡◌, sym, ap, ◌∙◌, subst, IfOk, cond, None}
-use Rattle.wgsl_shader_type.specs.ResultOf.{component, in_vector, binary_result}
-use Rattle.wgsl_shader_type.proofs.Shapes.{binary_of_vector_left}
-use Rattle.wgsl_shader_type.proofs.operator.binary_type.Goals as goal
+use Rattle.wgsl_type_operators.specs.ResultOf.{component, in_vector, binary_result}
+use Rattle.wgsl_type_operators.proofs.Shapes.{binary_of_vector_left}
+use Rattle.wgsl_type_operators.proofs.operator.binary_type.Goals as goal
 
 pub returns-in_ok-found-in_default-right : goal.returns-in_ok-found-in_default-right
 returns-in_ok-found-in_default-right c =

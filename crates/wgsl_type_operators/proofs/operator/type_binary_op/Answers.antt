@@ -1,7 +1,7 @@
 use Rattle.std.proofs.Common.{sym, ◌∙◌, inr}
 use Rattle.wgsl_shader_type.specs.declared.error.Error.TheVariants.{Binary}
-use Rattle.wgsl_shader_type.proofs.Candidates.{none_found}
-use Rattle.wgsl_shader_type.proofs.operator.type_binary_op.Goals as goal
+use Rattle.wgsl_type_operators.proofs.Candidates.{none_found}
+use Rattle.wgsl_type_operators.proofs.operator.type_binary_op.Goals as goal
 
 pub returns-in_ok-right-in-None : goal.returns-in_ok-right-in-None
 returns-in_ok-right-in-None c = inr (

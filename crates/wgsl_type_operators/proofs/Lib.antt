@@ -1,0 +1,3 @@
+pub mod Candidates
+pub mod Shapes
+pub mod UnaryCandidates
