@@ -46,10 +46,7 @@ fn read_flags(alloc: Global, value: &Value) -> Result<Items<Flag>, BundleError>
 }
 
 /// An object in which each member is a flag.
-fn read_each_flag(
-    alloc: Global,
-    members: &Map<String, Value>,
-) -> Result<Items<Flag>, BundleError>
+fn read_each_flag(alloc: Global, members: &Map<String, Value>) -> Result<Items<Flag>, BundleError>
     ensures { Answers (List Flag) result (required (BundleError.Value Key.Features) (flags_in (members_view members.now.entries))) }
 {
     let mut flags = Items::new(alloc);

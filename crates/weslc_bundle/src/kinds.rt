@@ -1,7 +1,7 @@
 //! The words by which a line tells the kind of an inner fault.
 
-use weslc_api::{ErrorKind, Fault, NameFault, ValidateError};
 use wesl_features::CondCompError;
+use weslc_api::{ErrorKind, Fault, NameFault, ValidateError};
 use wgsl_parser::ErrorKind as ModuleErrorKind;
 use wgsl_shader_type::Error;
 

@@ -15,9 +15,9 @@ use crate::request::BundleError;
 use std::alloc::Global;
 use std::io;
 use std::io::{Read, Write};
+use wesl_features::CondCompError;
 use weslc_api::{CompileError, ErrorContext};
 use weslc_precompile::PrecompileError;
-use wesl_features::CondCompError;
 use wgsl_items::Text;
 use wgsl_path::{ModulePath, Span};
 

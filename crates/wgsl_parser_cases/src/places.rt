@@ -1,6 +1,7 @@
 //! What is told of an error with its text. In texts `\n`, `\r`, `\t` and `\\` stand for a line feed, a carriage return, a tab and a backslash.
 
-use crate::{answers::cut, escapes};
+use crate::answers::cut;
+use crate::escapes;
 use std::alloc::{AllocError, Global};
 use std::fmt::{Display, Write};
 use wgsl_parser::{Error, ErrorKind, parse_str};
