@@ -1,11 +1,12 @@
 #!/usr/bin/env python3
 """Times `precompile` on text that looks like shaders with conditions, beside parsing the same text alone.
 
-usage: bench/precompile.py PRECOMPILE PARSE    the built programs crates/weslc_precompile_cases/out/weslc_precompile_cases and
-                                               crates/wgsl_parser_cases/out/wgsl_parser_cases
+usage: bench/precompile.py WESLC PARSE         the built programs crates/weslc/out/weslc and crates/wgsl_parser_cases/out/wgsl_parser_cases
 
-Both read one case from `texts.txt` in an empty folder: a module of so many declarations on one line. The first parses it, fixes its flags, prints
-what is left, and parses that; it writes the answer, since the case names none. The second tells whether the text has a fault."""
+The first reads a bundle with one module of so many declarations: it parses the module, fixes its flags, prints what is left, and parses that.
+The second reads one case from `texts.txt` in an empty folder, and tells whether the same text has a fault."""
+import json
+import os
 import resource
 import subprocess
 import sys
@@ -31,13 +32,20 @@ def module(declarations):
     return "".join(parts)
 
 
-def timed(program, line):
+def bundle(text):
+    asked = {"command": "precompile", "root": "package", "modules": [{"path": "package", "text": text}]}
+    return json.dumps({**asked, "features": {"fast": "enable", "kept": "keep"}})
+
+
+def timed(program, given="", case=""):
+    """The least time of three runs, the peak of memory in bytes, and what is written."""
     with tempfile.TemporaryDirectory() as folder:
-        pathlib.Path(folder, "texts.txt").write_text(line + "\n", encoding="utf-8")
+        pathlib.Path(folder, "texts.txt").write_text(case + "\n", encoding="utf-8")
+        pathlib.Path(folder, "places.txt").write_text("", encoding="utf-8")
         best, peak = None, 0
         for _ in range(3):
             started = time.perf_counter()
-            done = subprocess.run([program], cwd=folder, stdout=subprocess.PIPE, check=False)
+            done = subprocess.run([program], input=given.encode(), cwd=folder, stdout=subprocess.PIPE, check=False)
             took = time.perf_counter() - started
             best = took if best is None else min(best, took)
             peak = resource.getrusage(resource.RUSAGE_CHILDREN).ru_maxrss * 1024
@@ -45,13 +53,13 @@ def timed(program, line):
 
 
 def main():
-    precompile, parse = sys.argv[1:]
+    weslc, parse = map(os.path.abspath, sys.argv[1:])
     print("| declarations | bytes | precompiled, s | parsed, s | ratio | peak, times the text |")
     print("|---|---|---|---|---|---|")
     for declarations in (10, 100, 1000, 10000):
         text = module(declarations)
-        took, peak, out = timed(precompile, f"disable\tfast=enable kept=keep\t{text}\t-")
-        alone, _, _ = timed(parse, f"fault\tmodule\t{text}\tnone")
+        took, peak, out = timed(weslc, given=bundle(text))
+        alone, _, _ = timed(parse, case=f"fault\tmodule\t{text}\tnone")
         if b"fn main_0" not in out:
             print(out[:300], file=sys.stderr)
         print(f"| {declarations} | {len(text)} | {took:.4f} | {alone:.4f} | {took / alone:.1f} | {peak / len(text):.1f} |", flush=True)
