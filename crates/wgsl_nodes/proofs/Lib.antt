@@ -1,0 +1,2 @@
+mod Statements
+mod Turns

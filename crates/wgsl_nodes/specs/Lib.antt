@@ -1,0 +1,4 @@
+pub mod Attributes
+pub mod Declarations
+pub mod Directives
+pub mod Statements
