@@ -24,9 +24,9 @@ modules_refused command bundle e refusal h (inr memory) = subst (IsRefusalFor co
 pub precompile_refused : (bundle : Bundle) (source : List ℕ) (features : Features) (e : PrecompileError)
     → text_at bundle.resolver (path_text bundle.root) ≡ Some source → AreSet bundle.features features → RefusesPrecompiling features source e
     → IsRefusalFor Precompile bundle (refused_precompiling e)
-precompile_refused bundle source features (precompiling.Syntax e) found set h = (refl, source, features, found, set, h)
-precompile_refused bundle source features (precompiling.Condition e) found set h = (refl, source, features, found, set, h)
-precompile_refused bundle source features (precompiling.Unprintable name) found set h = (refl, source, features, found, set, h)
+precompile_refused bundle source features (precompiling.Syntax e) found set h = (refl, (source, features, found, set, h))
+precompile_refused bundle source features (precompiling.Condition e) found set h = (refl, (source, features, found, set, h))
+precompile_refused bundle source features (precompiling.Unprintable name) found set h = (refl, (source, features, found, set, h))
 precompile_refused bundle source features precompiling.OutOfMemory found set h = tt
 
 pub root_refused : (bundle : Bundle) (refusal : ServeError)
