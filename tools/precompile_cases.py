@@ -670,13 +670,18 @@ def reading(default, flags):
     return lambda flag: listed.get(flag, default)
 
 
+def field(text):
+    """A name as a field of an error line: one word."""
+    return text.replace(" ", "\\u{20}") or "-"
+
+
 def printed(found):
     """What the program prints for an answer: a text, or a line about an error."""
     kind, _, about = found.partition(" ")
     if kind.startswith("Syntax."):
         return {"line": f"error: {kind} - - {about} -\n", "status": 1}
     if kind.startswith("Condition.") or kind == "Unprintable":
-        return {"line": f"error: {kind} - - - {about or '-'}\n", "status": 1}
+        return {"line": f"error: {kind} - - - {field(about)}\n", "status": 1}
     return {"text": found}
 
 
