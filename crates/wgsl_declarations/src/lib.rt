@@ -3,6 +3,7 @@
 
 mod copy;
 mod declaration;
+mod making;
 mod print;
 mod print_unit;
 mod unit;

@@ -4,6 +4,7 @@
 mod copy;
 mod expression;
 mod layout;
+mod making;
 mod print;
 
 pub use expression::{

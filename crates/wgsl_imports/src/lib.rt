@@ -4,6 +4,7 @@
 mod copy;
 mod directive;
 mod import;
+mod making;
 mod print;
 mod print_directives;
 

@@ -4,6 +4,7 @@
 
 mod copy;
 mod declaration;
+mod making;
 mod print;
 mod print_declarations;
 mod statement;

@@ -3,6 +3,7 @@
 
 mod copy;
 mod display;
+mod making;
 mod print;
 mod statement;
 
