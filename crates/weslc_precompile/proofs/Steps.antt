@@ -11,10 +11,10 @@ use Rattle.wgsl_declarations.specs.Tree.{Decl, structure, UnitTree}
 use Rattle.wgsl_declarations.specs.View.{members_tree, unit_tree}
 use Rattle.wgsl_declarations.specs.Print.{unit_text}
 use Rattle.wgsl_reading.specs.declared.driver.Start.TheVariants.{Module}
-use Rattle.wgsl_parser.specs.declared.error.ErrorKind.{ErrorKind}
-use Rattle.wgsl_parser.specs.declared.error.ErrorKind.TheVariants as kind
-use Rattle.wgsl_parser.specs.declared.error.Error.{Error}
-use Rattle.wgsl_parser.specs.Errors.{out_of_memory}
+use Rattle.wgsl_error.specs.declared.error.ErrorKind.{ErrorKind}
+use Rattle.wgsl_error.specs.declared.error.ErrorKind.TheVariants as kind
+use Rattle.wgsl_error.specs.declared.error.Error.{Error}
+use Rattle.wgsl_error.specs.Errors.{out_of_memory}
 use Rattle.wgsl_parser.specs.Texts.{IsFault}
 use Rattle.wesl_features.specs.declared.feature.Features.{Features}
 use Rattle.wesl_features.specs.declared.error.CondCompError.{CondCompError}

@@ -1,6 +1,5 @@
 -- The fault of a text, by why its tokens were not read.
-use Rattle.std.specs.Prelude.{ℕ, List, ◌++◌, Option, Some, None, codes}
-use Rattle.std.specs.Fmt.{decimal}
+use Rattle.std.specs.Prelude.{ℕ, Option, Some, None}
 use Rattle.wgsl_token.specs.declared.token.Fixed.{Fixed}
 use Rattle.wgsl_token.specs.declared.token.Fixed.TheVariants as f
 use Rattle.wgsl_token.specs.declared.token.Token.TheVariants as t
@@ -11,12 +10,10 @@ use Rattle.wgsl_phrases.specs.declared.phrase.Check.{Check}
 use Rattle.wgsl_phrases.specs.declared.phrase.Check.TheVariants as check
 use Rattle.wgsl_reading.specs.declared.answer.Unread.{Unread}
 use Rattle.wgsl_reading.specs.declared.answer.Unread.TheVariants.{OutOfMemory, Failed, Unexpected}
-use Rattle.wgsl_parser.specs.declared.error.ErrorKind.{ErrorKind}
-use Rattle.wgsl_parser.specs.declared.error.ErrorKind.TheVariants as kind
-use Rattle.wgsl_parser.specs.declared.error.Error.{Error}
-
-abbrev pub out_of_memory : Error
-out_of_memory = record { kind = kind.OutOfMemory; span = record { start = 0; end = 0 } }
+use Rattle.wgsl_error.specs.declared.error.ErrorKind.{ErrorKind}
+use Rattle.wgsl_error.specs.declared.error.ErrorKind.TheVariants as kind
+use Rattle.wgsl_error.specs.declared.error.Error.{Error}
+use Rattle.wgsl_error.specs.Errors.{out_of_memory}
 
 abbrev pub kind_of_check : Check → ErrorKind
 kind_of_check check.Attribute = kind.Attribute
@@ -46,18 +43,3 @@ abbrev pub error_of : ℕ → Unread → Error
 error_of length OutOfMemory = out_of_memory
 error_of length (Failed f) = record { kind = kind_of_check f.check; span = f.span }
 error_of length (Unexpected next) = unexpected length next
-
--- what is told of a fault of a kind
-abbrev pub message : ErrorKind → List ℕ
-message kind.InvalidToken = codes "invalid token"
-message kind.ReservedWord = codes "reserved word"
-message kind.UnexpectedToken = codes "unexpected token"
-message kind.UnexpectedEof = codes "unexpected end of the text"
-message kind.DiagnosticSeverity = codes "invalid severity of a diagnostic"
-message kind.Attribute = codes "invalid arguments of an attribute"
-message kind.VarTemplate = codes "invalid template of `var`"
-message kind.OutOfMemory = codes "out of memory"
-
--- and where it is
-abbrev pub error_text : Error → List ℕ
-error_text e = message e.kind ++ codes " at " ++ decimal e.span.start ++ codes ".." ++ decimal e.span.end

@@ -9,8 +9,9 @@ use Rattle.wgsl_reading.specs.declared.driver.Start.{Start}
 use Rattle.wgsl_reading.specs.declared.driver.Start.TheVariants.{Module}
 use Rattle.wgsl_reading.specs.declared.answer.Unread.{Unread}
 use Rattle.wgsl_reading.specs.Readings.{Reads, IsPart}
-use Rattle.wgsl_parser.specs.declared.error.Error.{Error}
-use Rattle.wgsl_parser.specs.Errors.{out_of_memory, error_of}
+use Rattle.wgsl_error.specs.declared.error.Error.{Error}
+use Rattle.wgsl_error.specs.Errors.{out_of_memory}
+use Rattle.wgsl_parser.specs.Errors.{error_of}
 
 -- The tokens of the text derive this part alone, from this start, and no check fails in it.
 pub record IsParsed (s : Start) (text : List ℕ) (x : Part) : Type 0 where

@@ -6,9 +6,9 @@ mod parse;
 mod take;
 mod text;
 
-pub use error::{Error, ErrorKind};
 pub use parse::{
     parse_declaration, parse_declaration_kind, parse_directive, parse_expression, parse_import,
     parse_statement, parse_str,
 };
 pub use text::FromText;
+pub use wgsl_error::{Error, ErrorKind};

@@ -5,10 +5,11 @@ ghost use Rattle.wgsl_parts.specs.declared.part.Part.TheVariants as as_part;
 ghost use Rattle.wgsl_reading.specs.declared.driver.Start.TheVariants as from;
 ghost use Rattle.wgsl_parser.specs.Texts.{Parses, ParsesModule, ParsesTokens, TellsModule};
 
-use crate::error::{Error, error_of, out_of_memory};
+use crate::error::error_of;
 use crate::take::{declaration, directive, import, kind, module, statement};
 use std::alloc::{AllocError, Global};
 use wgsl_declarations::{GlobalDeclarationNode, TranslationUnit};
+use wgsl_error::Error;
 use wgsl_expressions::ExpressionNode;
 use wgsl_imports::{GlobalDirective, ImportStatement};
 use wgsl_items::Items;
@@ -41,7 +42,7 @@ fn parse(alloc: Global, start: Start, text: &str) -> Result<Part, Error>
 {
     match lex(alloc, text) {
         Ok(tokens) => part_of(alloc, start, text.len(), tokens),
-        Err(AllocError) => Err(out_of_memory()),
+        Err(AllocError) => Err(Error::out_of_memory()),
     }
 }
 
@@ -52,7 +53,7 @@ pub fn parse_expression(alloc: Global, text: &str) -> Result<ExpressionNode, Err
     match parse(alloc, Start::Expression, text) {
         Ok(part) => match expression(part) {
             Ok(tree) => Ok(tree),
-            Err(AllocError) => Err(out_of_memory()),
+            Err(AllocError) => Err(Error::out_of_memory()),
         },
         Err(error) => Err(error),
     }
@@ -65,7 +66,7 @@ pub fn parse_statement(alloc: Global, text: &str) -> Result<StatementNode, Error
     match parse(alloc, Start::Statement, text) {
         Ok(part) => match statement(part) {
             Ok(tree) => Ok(tree),
-            Err(AllocError) => Err(out_of_memory()),
+            Err(AllocError) => Err(Error::out_of_memory()),
         },
         Err(error) => Err(error),
     }
@@ -78,7 +79,7 @@ pub fn parse_declaration(alloc: Global, text: &str) -> Result<GlobalDeclarationN
     match parse(alloc, Start::Declaration, text) {
         Ok(part) => match declaration(part) {
             Ok(tree) => Ok(tree),
-            Err(AllocError) => Err(out_of_memory()),
+            Err(AllocError) => Err(Error::out_of_memory()),
         },
         Err(error) => Err(error),
     }
@@ -91,7 +92,7 @@ pub fn parse_directive(alloc: Global, text: &str) -> Result<GlobalDirective, Err
     match parse(alloc, Start::Directive, text) {
         Ok(part) => match directive(part) {
             Ok(tree) => Ok(tree),
-            Err(AllocError) => Err(out_of_memory()),
+            Err(AllocError) => Err(Error::out_of_memory()),
         },
         Err(error) => Err(error),
     }
@@ -104,7 +105,7 @@ pub fn parse_import(alloc: Global, text: &str) -> Result<ImportStatement, Error>
     match parse(alloc, Start::Import, text) {
         Ok(part) => match import(part) {
             Ok(tree) => Ok(tree),
-            Err(AllocError) => Err(out_of_memory()),
+            Err(AllocError) => Err(Error::out_of_memory()),
         },
         Err(error) => Err(error),
     }
@@ -117,7 +118,7 @@ pub fn parse_declaration_kind(alloc: Global, text: &str) -> Result<DeclarationKi
     match parse(alloc, Start::Kind, text) {
         Ok(part) => match kind(part) {
             Ok(tree) => Ok(tree),
-            Err(AllocError) => Err(out_of_memory()),
+            Err(AllocError) => Err(Error::out_of_memory()),
         },
         Err(error) => Err(error),
     }
@@ -140,7 +141,7 @@ fn module_of(
     match part_of(alloc, Start::Module, length, tokens) {
         Ok(part) => match module(part) {
             Ok(unit) => Ok(unit),
-            Err(AllocError) => Err(out_of_memory()),
+            Err(AllocError) => Err(Error::out_of_memory()),
         },
         Err(error) => Err(error),
     }
@@ -152,6 +153,6 @@ pub fn parse_str(alloc: Global, text: &str) -> Result<TranslationUnit, Error>
 {
     match lex(alloc, text) {
         Ok(tokens) => module_of(alloc, text.len(), tokens),
-        Err(AllocError) => Err(out_of_memory()),
+        Err(AllocError) => Err(Error::out_of_memory()),
     }
 }

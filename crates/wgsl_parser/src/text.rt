@@ -2,13 +2,13 @@
 
 ghost use Rattle.std.specs.Prelude.{ℕ, List, Result};
 
-use crate::error::Error;
 use crate::parse::{
     parse_declaration, parse_declaration_kind, parse_directive, parse_expression, parse_import,
     parse_statement, parse_str,
 };
 use std::alloc::Global;
 use wgsl_declarations::{GlobalDeclarationNode, TranslationUnit};
+use wgsl_error::Error;
 use wgsl_expressions::ExpressionNode;
 use wgsl_imports::{GlobalDirective, ImportStatement};
 use wgsl_simple_statements::DeclarationKind;
@@ -16,7 +16,7 @@ use wgsl_statements::StatementNode;
 
 /// A tree that texts are read as.
 pub trait FromText: Drop {
-    ghost use Rattle.wgsl_parser.specs.declared.error.Error.{Error};
+    ghost use Rattle.wgsl_error.specs.declared.error.Error.{Error};
 
     /// What an answer says of a text.
     ghost answers: { List ℕ → Result Self Error → Type 0 };

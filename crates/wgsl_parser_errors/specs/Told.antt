@@ -1,7 +1,7 @@
 -- Errors with the text that they are about.
 use Rattle.std.specs.Prelude.{ℕ, List, ◌++◌, codes}
-use Rattle.wgsl_parser.specs.declared.error.Error.{Error}
-use Rattle.wgsl_parser.specs.Errors.{error_text}
+use Rattle.wgsl_error.specs.declared.error.Error.{Error}
+use Rattle.wgsl_error.specs.Errors.{error_text}
 use Rattle.wgsl_snippet.specs.Snippets.{snippet_text}
 use Rattle.wgsl_parser_errors.specs.declared.ErrorWithSource.{ErrorWithSource}
 

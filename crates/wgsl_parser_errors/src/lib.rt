@@ -71,7 +71,7 @@ impl std::error::Error for ErrorWithSource {}
 /// What can be told with the text that it is about.
 pub trait WithSource: Sized {
     ghost use Rattle.std.specs.Prelude.{◌≡◌, IfOk};
-    ghost use Rattle.wgsl_parser.specs.declared.error.Error.{Error};
+    ghost use Rattle.wgsl_error.specs.declared.error.Error.{Error};
     ghost use Rattle.wgsl_parser_errors.specs.Told as told;
 
     /// The error that it is.
