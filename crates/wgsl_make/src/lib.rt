@@ -5,13 +5,12 @@ ghost use Rattle.std.specs.Prelude.{◌≡◌, IfOk};
 ghost use Rattle.wgsl_make.specs.Making as making;
 
 use std::alloc::{AllocError, Global};
-use wgsl_make_attributes::make_attribute;
-use wgsl_make_declarations::make_declaration;
-use wgsl_make_expressions::{make_expression, make_name};
-use wgsl_make_imports::{make_directive, make_import};
-use wgsl_make_lists::{make_first, make_more, pass};
-use wgsl_make_statements::{make_clause, make_statement};
-use wgsl_make_values::{make_plain, make_value};
+use wgsl_make_declarations::{
+    make_attribute, make_clause, make_declaration, make_directive, make_import, make_statement,
+};
+use wgsl_make_expressions::{
+    make_expression, make_first, make_more, make_name, make_plain, make_value, pass,
+};
 use wgsl_parts::{Label, Part, Stack};
 use wgsl_path::Span;
 

@@ -1,2 +1,5 @@
 pub mod Reading
-pub mod Making
+pub mod Attributes
+pub mod Statements
+pub mod Imports
+pub mod Declarations

@@ -1,7 +1,7 @@
 //! Declarations of a module, and modules.
 
 ghost use Rattle.std.specs.Prelude.{◌≡◌, IfOk};
-ghost use Rattle.wgsl_make_declarations.specs.Making as making;
+ghost use Rattle.wgsl_make_declarations.specs.Declarations as making;
 
 use crate::take::{directives, globals, imports, members, parameters, returned};
 use std::alloc::{AllocError, Global};
@@ -10,7 +10,9 @@ use wgsl_declarations::{
     FormalParameter, Function, GlobalDeclaration, Struct, StructMember, TranslationUnit, TypeAlias,
 };
 use wgsl_items::{Boxed, Items};
-use wgsl_parts::take::{assertion, attributes, block, declaration, end, first, ident, ty};
+use wgsl_parts::take::{
+    assertion, attributes, block, both, declaration, end, ended, ident, three, ty,
+};
 use wgsl_parts::{DeclarationLabel, FunctionResult, Part, Stack};
 use wgsl_path::{Span, Spanned};
 use wgsl_simple_statements::Declaration;
@@ -50,9 +52,9 @@ fn void_declaration(alloc: Global, span: Span, parts: &mut Stack<Part>) -> Resul
 fn global(alloc: Global, span: Span, parts: &mut Stack<Part>) -> Result<Part, AllocError>
     ensures { IfOk result (λ part. part ≡ making.global span parts.old) }
 {
-    let attributes = attributes(alloc, first(parts)?)?;
-    let declaration = declaration(first(parts)?)?;
-    end(parts)?;
+    let attributes = attributes(alloc, parts);
+    let declaration = declaration(parts);
+    let (attributes, declaration) = ended(both(attributes, declaration), parts)?;
     let declaration = with_attributes(attributes, declaration.into_inner());
     node(alloc, span, GlobalDeclaration::Declaration(declaration))
 }
@@ -60,8 +62,7 @@ fn global(alloc: Global, span: Span, parts: &mut Stack<Part>) -> Result<Part, Al
 fn global_const(alloc: Global, span: Span, parts: &mut Stack<Part>) -> Result<Part, AllocError>
     ensures { IfOk result (λ part. part ≡ making.global_const span parts.old) }
 {
-    let declaration = declaration(first(parts)?)?;
-    end(parts)?;
+    let declaration = ended(declaration(parts), parts)?;
     node(
         alloc,
         span,
@@ -72,9 +73,9 @@ fn global_const(alloc: Global, span: Span, parts: &mut Stack<Part>) -> Result<Pa
 fn alias(alloc: Global, span: Span, parts: &mut Stack<Part>) -> Result<Part, AllocError>
     ensures { IfOk result (λ part. part ≡ making.alias span parts.old) }
 {
-    let ident = ident(first(parts)?)?;
-    let ty = ty(first(parts)?)?;
-    end(parts)?;
+    let ident = ident(parts);
+    let ty = ty(parts);
+    let (ident, ty) = ended(both(ident, ty), parts)?;
     let alias = TypeAlias {
         attributes: Items::new(alloc),
         ident,
@@ -86,17 +87,16 @@ fn alias(alloc: Global, span: Span, parts: &mut Stack<Part>) -> Result<Part, All
 fn global_assertion(alloc: Global, span: Span, parts: &mut Stack<Part>) -> Result<Part, AllocError>
     ensures { IfOk result (λ part. part ≡ making.global_assertion span parts.old) }
 {
-    let assertion = assertion(first(parts)?)?;
-    end(parts)?;
+    let assertion = ended(assertion(parts), parts)?;
     node(alloc, span, GlobalDeclaration::ConstAssert(assertion))
 }
 
 fn structure(alloc: Global, span: Span, parts: &mut Stack<Part>) -> Result<Part, AllocError>
     ensures { IfOk result (λ part. part ≡ making.structure span parts.old) }
 {
-    let ident = ident(first(parts)?)?;
-    let members = members(first(parts)?)?;
-    end(parts)?;
+    let ident = ident(parts);
+    let members = members(parts);
+    let (ident, members) = ended(both(ident, members), parts)?;
     let structure = Struct {
         attributes: Items::new(alloc),
         ident,
@@ -108,10 +108,10 @@ fn structure(alloc: Global, span: Span, parts: &mut Stack<Part>) -> Result<Part,
 fn member(alloc: Global, span: Span, parts: &mut Stack<Part>) -> Result<Part, AllocError>
     ensures { IfOk result (λ part. part ≡ making.member span parts.old) }
 {
-    let attributes = attributes(alloc, first(parts)?)?;
-    let ident = ident(first(parts)?)?;
-    let ty = ty(first(parts)?)?;
-    end(parts)?;
+    let attributes = attributes(alloc, parts);
+    let ident = ident(parts);
+    let ty = ty(parts);
+    let (attributes, ident, ty) = ended(three(attributes, ident, ty), parts)?;
     let member = StructMember {
         attributes,
         ident,
@@ -123,12 +123,15 @@ fn member(alloc: Global, span: Span, parts: &mut Stack<Part>) -> Result<Part, Al
 fn function(alloc: Global, span: Span, parts: &mut Stack<Part>) -> Result<Part, AllocError>
     ensures { IfOk result (λ part. part ≡ making.function span parts.old) }
 {
-    let attributes = attributes(alloc, first(parts)?)?;
-    let ident = ident(first(parts)?)?;
-    let parameters = parameters(alloc, first(parts)?)?;
-    let (return_attributes, return_type) = returned(alloc, first(parts)?)?;
-    let body = block(first(parts)?)?;
-    end(parts)?;
+    let attributes = attributes(alloc, parts);
+    let ident = ident(parts);
+    let parameters = parameters(alloc, parts);
+    let result = returned(alloc, parts);
+    let body = block(parts);
+    let ((attributes, ident), (parameters, (return_attributes, return_type), body)) = ended(
+        both(both(attributes, ident), three(parameters, result, body)),
+        parts,
+    )?;
     let function = Function {
         attributes,
         ident,
@@ -143,10 +146,10 @@ fn function(alloc: Global, span: Span, parts: &mut Stack<Part>) -> Result<Part, 
 fn parameter(alloc: Global, parts: &mut Stack<Part>) -> Result<Part, AllocError>
     ensures { IfOk result (λ part. part ≡ making.parameter parts.old) }
 {
-    let attributes = attributes(alloc, first(parts)?)?;
-    let ident = ident(first(parts)?)?;
-    let ty = ty(first(parts)?)?;
-    end(parts)?;
+    let attributes = attributes(alloc, parts);
+    let ident = ident(parts);
+    let ty = ty(parts);
+    let (attributes, ident, ty) = ended(three(attributes, ident, ty), parts)?;
     let parameter = FormalParameter {
         attributes,
         ident,
@@ -158,9 +161,9 @@ fn parameter(alloc: Global, parts: &mut Stack<Part>) -> Result<Part, AllocError>
 fn function_result(alloc: Global, parts: &mut Stack<Part>) -> Result<Part, AllocError>
     ensures { IfOk result (λ part. part ≡ making.function_result parts.old) }
 {
-    let attributes = attributes(alloc, first(parts)?)?;
-    let ty = ty(first(parts)?)?;
-    end(parts)?;
+    let attributes = attributes(alloc, parts);
+    let ty = ty(parts);
+    let (attributes, ty) = ended(both(attributes, ty), parts)?;
     let result = FunctionResult { attributes, ty };
     Ok(Part::Result(Boxed::new(alloc, result)?))
 }
@@ -168,10 +171,13 @@ fn function_result(alloc: Global, parts: &mut Stack<Part>) -> Result<Part, Alloc
 fn whole_module(alloc: Global, parts: &mut Stack<Part>) -> Result<Part, AllocError>
     ensures { IfOk result (λ part. part ≡ making.whole_module parts.old) }
 {
-    let imports = imports(alloc, first(parts)?)?;
-    let global_directives = directives(alloc, first(parts)?)?;
-    let global_declarations = globals(alloc, first(parts)?)?;
-    end(parts)?;
+    let imports = imports(alloc, parts);
+    let global_directives = directives(alloc, parts);
+    let global_declarations = globals(alloc, parts);
+    let (imports, global_directives, global_declarations) = ended(
+        three(imports, global_directives, global_declarations),
+        parts,
+    )?;
     let unit = TranslationUnit {
         imports,
         global_directives,

@@ -10,7 +10,7 @@ use wgsl_expressions::{
     ParenthesizedExpression, TypeExpression, UnaryExpression, UnaryOperator,
 };
 use wgsl_items::{Boxed, Text};
-use wgsl_parts::take::{call, end, expression, first, ident, ty};
+use wgsl_parts::take::{both, call, end, ended, expression, ident, ty};
 use wgsl_parts::{ExpressionLabel, Part, QualifiedName, Stack};
 use wgsl_path::{Ident, Span, Spanned};
 
@@ -24,24 +24,21 @@ fn node(alloc: Global, span: Span, expression: Expression) -> Result<Part, Alloc
 fn a_literal(alloc: Global, span: Span, parts: &mut Stack<Part>) -> Result<Part, AllocError>
     ensures { IfOk result (λ part. part ≡ making.a_literal span parts.old) }
 {
-    let literal = literal(first(parts)?)?;
-    end(parts)?;
+    let literal = ended(literal(parts), parts)?;
     node(alloc, span, Expression::Literal(literal))
 }
 
 fn named(alloc: Global, span: Span, parts: &mut Stack<Part>) -> Result<Part, AllocError>
     ensures { IfOk result (λ part. part ≡ making.named span parts.old) }
 {
-    let ty = ty(first(parts)?)?;
-    end(parts)?;
+    let ty = ended(ty(parts), parts)?;
     node(alloc, span, Expression::TypeOrIdentifier(ty))
 }
 
 fn called(alloc: Global, span: Span, parts: &mut Stack<Part>) -> Result<Part, AllocError>
     ensures { IfOk result (λ part. part ≡ making.called span parts.old) }
 {
-    let call = call(first(parts)?)?;
-    end(parts)?;
+    let call = ended(call(parts), parts)?;
     let call = Boxed::new(alloc, call)?;
     node(alloc, span, Expression::FunctionCall(call))
 }
@@ -49,8 +46,7 @@ fn called(alloc: Global, span: Span, parts: &mut Stack<Part>) -> Result<Part, Al
 fn parenthesized(alloc: Global, span: Span, parts: &mut Stack<Part>) -> Result<Part, AllocError>
     ensures { IfOk result (λ part. part ≡ making.parenthesized span parts.old) }
 {
-    let expression = expression(first(parts)?)?;
-    end(parts)?;
+    let expression = ended(expression(parts), parts)?;
     let parenthesized = ParenthesizedExpression { expression };
     node(alloc, span, Expression::Parenthesized(parenthesized))
 }
@@ -58,9 +54,9 @@ fn parenthesized(alloc: Global, span: Span, parts: &mut Stack<Part>) -> Result<P
 fn component(alloc: Global, span: Span, parts: &mut Stack<Part>) -> Result<Part, AllocError>
     ensures { IfOk result (λ part. part ≡ making.component span parts.old) }
 {
-    let base = expression(first(parts)?)?;
-    let component = ident(first(parts)?)?;
-    end(parts)?;
+    let base = expression(parts);
+    let component = ident(parts);
+    let (base, component) = ended(both(base, component), parts)?;
     let named = NamedComponentExpression { base, component };
     node(alloc, span, Expression::NamedComponent(named))
 }
@@ -68,9 +64,9 @@ fn component(alloc: Global, span: Span, parts: &mut Stack<Part>) -> Result<Part,
 fn indexed(alloc: Global, span: Span, parts: &mut Stack<Part>) -> Result<Part, AllocError>
     ensures { IfOk result (λ part. part ≡ making.indexed span parts.old) }
 {
-    let base = expression(first(parts)?)?;
-    let index = expression(first(parts)?)?;
-    end(parts)?;
+    let base = expression(parts);
+    let index = expression(parts);
+    let (base, index) = ended(both(base, index), parts)?;
     node(
         alloc,
         span,
@@ -86,8 +82,7 @@ fn unary(
 ) -> Result<Part, AllocError>
     ensures { IfOk result (λ part. part ≡ making.unary operator span parts.old) }
 {
-    let operand = expression(first(parts)?)?;
-    end(parts)?;
+    let operand = ended(expression(parts), parts)?;
     node(
         alloc,
         span,
@@ -103,9 +98,9 @@ fn binary(
 ) -> Result<Part, AllocError>
     ensures { IfOk result (λ part. part ≡ making.binary operator span parts.old) }
 {
-    let left = expression(first(parts)?)?;
-    let right = expression(first(parts)?)?;
-    end(parts)?;
+    let left = expression(parts);
+    let right = expression(parts);
+    let (left, right) = ended(both(left, right), parts)?;
     let binary = BinaryExpression {
         operator,
         left,
@@ -117,8 +112,7 @@ fn binary(
 fn place_name(alloc: Global, span: Span, parts: &mut Stack<Part>) -> Result<Part, AllocError>
     ensures { IfOk result (λ part. part ≡ making.place_name span parts.old) }
 {
-    let QualifiedName { path, ident } = path(first(parts)?)?;
-    end(parts)?;
+    let QualifiedName { path, ident } = ended(path(parts), parts)?;
     let name = TypeExpression {
         path,
         ident,

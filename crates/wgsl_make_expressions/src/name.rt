@@ -8,15 +8,14 @@ use crate::take::{list, path};
 use std::alloc::{AllocError, Global};
 use wgsl_expressions::{FunctionCall, TypeExpression};
 use wgsl_items::{Boxed, Items};
-use wgsl_parts::take::{end, expressions, first, ident, ty, ups};
+use wgsl_parts::take::{both, end, ended, expressions, ident, ty, ups};
 use wgsl_parts::{NameLabel, Part, QualifiedName, Stack};
 use wgsl_path::{Ident, ModulePath, PathOrigin};
 
 fn name_alone(parts: &mut Stack<Part>) -> Result<Part, AllocError>
     ensures { IfOk result (λ part. part ≡ making.name_alone parts.old) }
 {
-    let ident = ident(first(parts)?)?;
-    end(parts)?;
+    let ident = ended(ident(parts), parts)?;
     Ok(Part::Path(QualifiedName { path: None, ident }))
 }
 
@@ -31,9 +30,9 @@ fn behind(alloc: Global, path: ModulePath, ident: Ident) -> Result<Part, AllocEr
 fn name_above(alloc: Global, parts: &mut Stack<Part>) -> Result<Part, AllocError>
     ensures { IfOk result (λ part. part ≡ making.name_above parts.old) }
 {
-    let levels = ups(first(parts)?)?;
-    let ident = ident(first(parts)?)?;
-    end(parts)?;
+    let levels = ups(parts);
+    let ident = ident(parts);
+    let (levels, ident) = ended(both(levels, ident), parts)?;
     let path = ModulePath {
         origin: PathOrigin::Relative(levels),
         components: Items::new(alloc),
@@ -44,17 +43,16 @@ fn name_above(alloc: Global, parts: &mut Stack<Part>) -> Result<Part, AllocError
 fn name_in_package(alloc: Global, parts: &mut Stack<Part>) -> Result<Part, AllocError>
     ensures { IfOk result (λ part. part ≡ making.name_in_package parts.old) }
 {
-    let ident = ident(first(parts)?)?;
-    end(parts)?;
+    let ident = ended(ident(parts), parts)?;
     behind(alloc, ModulePath::new_root(alloc), ident)
 }
 
 fn name_within(alloc: Global, parts: &mut Stack<Part>) -> Result<Part, AllocError>
     ensures { IfOk result (λ part. part ≡ making.name_within parts.old) }
 {
-    let outer = path(first(parts)?)?;
-    let ident = ident(first(parts)?)?;
-    end(parts)?;
+    let outer = path(parts);
+    let ident = ident(parts);
+    let (outer, ident) = ended(both(outer, ident), parts)?;
     behind(alloc, within(alloc, outer)?, ident)
 }
 
@@ -68,8 +66,7 @@ fn one_up(parts: &mut Stack<Part>) -> Result<Part, AllocError>
 fn further_up(parts: &mut Stack<Part>) -> Result<Part, AllocError>
     ensures { IfOk result (λ part. part ≡ making.further_up parts.old) }
 {
-    let levels = ups(first(parts)?)?;
-    end(parts)?;
+    let levels = ended(ups(parts), parts)?;
     match levels.checked_add(1) {
         Some(levels) => Ok(Part::Ups(levels)),
         None => Err(AllocError),
@@ -79,8 +76,7 @@ fn further_up(parts: &mut Stack<Part>) -> Result<Part, AllocError>
 fn simple(parts: &mut Stack<Part>) -> Result<Part, AllocError>
     ensures { IfOk result (λ part. part ≡ making.simple parts.old) }
 {
-    let QualifiedName { path, ident } = path(first(parts)?)?;
-    end(parts)?;
+    let QualifiedName { path, ident } = ended(path(parts), parts)?;
     Ok(Part::Type(TypeExpression {
         path,
         ident,
@@ -91,9 +87,9 @@ fn simple(parts: &mut Stack<Part>) -> Result<Part, AllocError>
 fn templated(alloc: Global, parts: &mut Stack<Part>) -> Result<Part, AllocError>
     ensures { IfOk result (λ part. part ≡ making.templated parts.old) }
 {
-    let QualifiedName { path, ident } = path(first(parts)?)?;
-    let arguments = list(first(parts)?)?;
-    end(parts)?;
+    let name = path(parts);
+    let arguments = list(parts);
+    let (QualifiedName { path, ident }, arguments) = ended(both(name, arguments), parts)?;
     let template_args = Some(Boxed::new(alloc, template(alloc, arguments)?)?);
     Ok(Part::Type(TypeExpression {
         path,
@@ -105,9 +101,9 @@ fn templated(alloc: Global, parts: &mut Stack<Part>) -> Result<Part, AllocError>
 fn call(alloc: Global, parts: &mut Stack<Part>) -> Result<Part, AllocError>
     ensures { IfOk result (λ part. part ≡ making.call parts.old) }
 {
-    let ty = ty(first(parts)?)?;
-    let arguments = expressions(alloc, first(parts)?)?;
-    end(parts)?;
+    let ty = ty(parts);
+    let arguments = expressions(alloc, parts);
+    let (ty, arguments) = ended(both(ty, arguments), parts)?;
     Ok(Part::Call(FunctionCall { ty, arguments }))
 }
 

@@ -6,7 +6,7 @@ ghost use Rattle.wgsl_reading.specs.declared.driver.Start.TheVariants as from;
 ghost use Rattle.wgsl_parser.specs.Texts.{Parses, ParsesModule, ParsesTokens, TellsModule};
 
 use crate::error::error_of;
-use crate::take::{declaration, directive, import, kind, module, statement};
+use crate::take::{declaration, directive, expression, import, kind, module, statement};
 use std::alloc::{AllocError, Global};
 use wgsl_declarations::{GlobalDeclarationNode, TranslationUnit};
 use wgsl_error::Error;
@@ -14,7 +14,6 @@ use wgsl_expressions::ExpressionNode;
 use wgsl_imports::{GlobalDirective, ImportStatement};
 use wgsl_items::Items;
 use wgsl_parts::Part;
-use wgsl_parts::take::expression;
 use wgsl_reading::{Start, read};
 use wgsl_simple_statements::DeclarationKind;
 use wgsl_statements::StatementNode;

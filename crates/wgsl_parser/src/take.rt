@@ -4,11 +4,21 @@ ghost use Rattle.std.specs.Prelude.{◌≡◌, IfOk};
 
 use std::alloc::AllocError;
 use wgsl_declarations::{GlobalDeclarationNode, TranslationUnit};
+use wgsl_expressions::ExpressionNode;
 use wgsl_imports::{GlobalDirective, ImportStatement};
 use wgsl_parts::Part;
 use wgsl_parts::take::misfit;
 use wgsl_simple_statements::DeclarationKind;
 use wgsl_statements::StatementNode;
+
+pub(crate) fn expression(part: Part) -> Result<ExpressionNode, AllocError>
+    ensures { IfOk result (λ x. part ≡ Part.Expression x) }
+{
+    match part {
+        Part::Expression(x) => Ok(x),
+        other => misfit(other),
+    }
+}
 
 pub(crate) fn statement(part: Part) -> Result<StatementNode, AllocError>
     ensures { IfOk result (λ x. part ≡ Part.Statement x) }

@@ -1,7 +1,8 @@
-//! Parts that are taken from those of a phrase, the first first. A part that does not fit is answered by an error.
+//! Parts that are taken from those of a phrase, the first first. A part that does not fit is answered by an error. What was taken is held
+//! as a `Result` until no part is left, so that a caller has one early return, with nothing of its own to drop.
 
-ghost use Rattle.std.specs.Prelude.{◌≡◌, ◌∷◌, [], IfOk};
-ghost use Rattle.wgsl_parts.specs.Reading.{expression_in, expressions_of, attributes_of};
+ghost use Rattle.std.specs.Prelude.{◌≡◌, ◌∷◌, [], IfOk, Ok};
+ghost use Rattle.wgsl_parts.specs.Reading.{TakesAs, expression_in, expressions_of, attributes_of};
 
 use crate::part::Part;
 use std::alloc::{AllocError, Global};
@@ -40,83 +41,121 @@ pub fn misfit<T>(_part: Part) -> Result<T, AllocError>
     Err(AllocError)
 }
 
-pub fn ident(part: Part) -> Result<Ident, AllocError>
-    ensures { IfOk result (λ x. part ≡ Part.Ident x) }
+/// Both of what was taken.
+pub fn both<A: Drop, B: Drop>(
+    a: Result<A, AllocError>,
+    b: Result<B, AllocError>,
+) -> Result<(A, B), AllocError>
+    ensures { IfOk result (λ pair. (a ≡ Ok pair.0) × (b ≡ Ok pair.1)) }
 {
-    match part {
+    let a = a?;
+    let b = b?;
+    Ok((a, b))
+}
+
+/// All three.
+pub fn three<A: Drop, B: Drop, C: Drop>(
+    a: Result<A, AllocError>,
+    b: Result<B, AllocError>,
+    c: Result<C, AllocError>,
+) -> Result<(A, B, C), AllocError>
+    ensures { IfOk result (λ taken. (a ≡ Ok taken.0) × (b ≡ Ok taken.1) × (c ≡ Ok taken.2)) }
+{
+    let a = a?;
+    let b = b?;
+    let c = c?;
+    Ok((a, b, c))
+}
+
+/// What was taken, if no part is left.
+pub fn ended<T: Drop>(
+    taken: Result<T, AllocError>,
+    parts: &mut Stack<Part>,
+) -> Result<T, AllocError>
+    ensures { IfOk result (λ x. (taken ≡ Ok x) × (parts.old ≡ [])) }
+{
+    let taken = taken?;
+    end(parts)?;
+    Ok(taken)
+}
+
+pub fn ident(parts: &mut Stack<Part>) -> Result<Ident, AllocError>
+    ensures { IfOk result (λ x. parts.old ≡ Part.Ident x ∷ parts.new) }
+{
+    match first(parts)? {
         Part::Ident(x) => Ok(x),
         other => misfit(other),
     }
 }
 
-pub fn ups(part: Part) -> Result<usize, AllocError>
-    ensures { IfOk result (λ n. part ≡ Part.Ups n) }
+pub fn ups(parts: &mut Stack<Part>) -> Result<usize, AllocError>
+    ensures { IfOk result (λ n. parts.old ≡ Part.Ups n ∷ parts.new) }
 {
-    match part {
+    match first(parts)? {
         Part::Ups(n) => Ok(n),
         other => misfit(other),
     }
 }
 
-pub fn ty(part: Part) -> Result<TypeExpression, AllocError>
-    ensures { IfOk result (λ x. part ≡ Part.Type x) }
+pub fn ty(parts: &mut Stack<Part>) -> Result<TypeExpression, AllocError>
+    ensures { IfOk result (λ x. parts.old ≡ Part.Type x ∷ parts.new) }
 {
-    match part {
+    match first(parts)? {
         Part::Type(x) => Ok(x),
         other => misfit(other),
     }
 }
 
-pub fn call(part: Part) -> Result<FunctionCall, AllocError>
-    ensures { IfOk result (λ x. part ≡ Part.Call x) }
+pub fn call(parts: &mut Stack<Part>) -> Result<FunctionCall, AllocError>
+    ensures { IfOk result (λ x. parts.old ≡ Part.Call x ∷ parts.new) }
 {
-    match part {
+    match first(parts)? {
         Part::Call(x) => Ok(x),
         other => misfit(other),
     }
 }
 
-pub fn expression(part: Part) -> Result<ExpressionNode, AllocError>
-    ensures { IfOk result (λ x. part ≡ Part.Expression x) }
+pub fn expression(parts: &mut Stack<Part>) -> Result<ExpressionNode, AllocError>
+    ensures { IfOk result (λ x. parts.old ≡ Part.Expression x ∷ parts.new) }
 {
-    match part {
+    match first(parts)? {
         Part::Expression(x) => Ok(x),
         other => misfit(other),
     }
 }
 
-pub fn declaration(part: Part) -> Result<Boxed<Declaration>, AllocError>
-    ensures { IfOk result (λ x. part ≡ Part.Declaration x) }
+pub fn declaration(parts: &mut Stack<Part>) -> Result<Boxed<Declaration>, AllocError>
+    ensures { IfOk result (λ x. parts.old ≡ Part.Declaration x ∷ parts.new) }
 {
-    match part {
+    match first(parts)? {
         Part::Declaration(x) => Ok(x),
         other => misfit(other),
     }
 }
 
-pub fn assertion(part: Part) -> Result<ConstAssert, AllocError>
-    ensures { IfOk result (λ x. part ≡ Part.Assertion x) }
+pub fn assertion(parts: &mut Stack<Part>) -> Result<ConstAssert, AllocError>
+    ensures { IfOk result (λ x. parts.old ≡ Part.Assertion x ∷ parts.new) }
 {
-    match part {
+    match first(parts)? {
         Part::Assertion(x) => Ok(x),
         other => misfit(other),
     }
 }
 
-pub fn block(part: Part) -> Result<CompoundStatement, AllocError>
-    ensures { IfOk result (λ x. part ≡ Part.Block x) }
+pub fn block(parts: &mut Stack<Part>) -> Result<CompoundStatement, AllocError>
+    ensures { IfOk result (λ x. parts.old ≡ Part.Block x ∷ parts.new) }
 {
-    match part {
+    match first(parts)? {
         Part::Block(x) => Ok(x),
         other => misfit(other),
     }
 }
 
 /// An expression that may be absent.
-pub fn optional_expression(part: Part) -> Result<Option<ExpressionNode>, AllocError>
-    ensures { IfOk result (λ x. x ≡ expression_in part) }
+pub fn optional_expression(parts: &mut Stack<Part>) -> Result<Option<ExpressionNode>, AllocError>
+    ensures { IfOk result (λ x. TakesAs expression_in parts.old x parts.new) }
 {
-    match part {
+    match first(parts)? {
         Part::Absent => Ok(None),
         Part::Expression(x) => Ok(Some(x)),
         other => misfit(other),
@@ -124,10 +163,13 @@ pub fn optional_expression(part: Part) -> Result<Option<ExpressionNode>, AllocEr
 }
 
 /// Expressions that may be absent.
-pub fn expressions(alloc: Global, part: Part) -> Result<Items<ExpressionNode>, AllocError>
-    ensures { IfOk result (λ xs. xs ≡ expressions_of part) }
+pub fn expressions(
+    alloc: Global,
+    parts: &mut Stack<Part>,
+) -> Result<Items<ExpressionNode>, AllocError>
+    ensures { IfOk result (λ xs. TakesAs expressions_of parts.old xs parts.new) }
 {
-    match part {
+    match first(parts)? {
         Part::Absent => Ok(Items::new(alloc)),
         Part::Expressions(xs) => Ok(xs),
         other => misfit(other),
@@ -135,10 +177,10 @@ pub fn expressions(alloc: Global, part: Part) -> Result<Items<ExpressionNode>, A
 }
 
 /// Attributes that may be absent.
-pub fn attributes(alloc: Global, part: Part) -> Result<Attributes, AllocError>
-    ensures { IfOk result (λ xs. xs ≡ attributes_of part) }
+pub fn attributes(alloc: Global, parts: &mut Stack<Part>) -> Result<Attributes, AllocError>
+    ensures { IfOk result (λ xs. TakesAs attributes_of parts.old xs parts.new) }
 {
-    match part {
+    match first(parts)? {
         Part::Absent => Ok(Items::new(alloc)),
         Part::Attributes(xs) => Ok(xs),
         other => misfit(other),

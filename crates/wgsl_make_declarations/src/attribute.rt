@@ -1,7 +1,7 @@
 //! Attributes, and what `var` says of a variable.
 
 ghost use Rattle.std.specs.Prelude.{◌≡◌, IfOk};
-ghost use Rattle.wgsl_make_attributes.specs.Making as making;
+ghost use Rattle.wgsl_make_declarations.specs.Attributes as making;
 
 use crate::take::{arguments, list, reserved, word};
 use std::alloc::{AllocError, Global};
@@ -9,7 +9,7 @@ use wgsl_attribute_words::{attribute_of, template_of};
 use wgsl_attributes::{Attribute, CustomAttribute};
 use wgsl_expressions::ExpressionNode;
 use wgsl_items::{Boxed, Items, Text};
-use wgsl_parts::take::{end, expressions, first, ident};
+use wgsl_parts::take::{both, end, ended, expressions, ident};
 use wgsl_parts::{AttributeLabel, Part, Stack};
 use wgsl_path::{Ident, Span, Spanned};
 use wgsl_simple_statements::DeclarationKind;
@@ -18,16 +18,14 @@ use wgsl_token::Fixed;
 fn name_word(parts: &mut Stack<Part>) -> Result<Part, AllocError>
     ensures { IfOk result (λ part. part ≡ making.name_word parts.old) }
 {
-    let Ident { name } = ident(first(parts)?)?;
-    end(parts)?;
+    let Ident { name } = ended(ident(parts), parts)?;
     Ok(Part::Word(name))
 }
 
 fn reserved_word(parts: &mut Stack<Part>) -> Result<Part, AllocError>
     ensures { IfOk result (λ part. part ≡ making.reserved_word parts.old) }
 {
-    let word = reserved(first(parts)?)?;
-    end(parts)?;
+    let word = ended(reserved(parts), parts)?;
     Ok(Part::Word(word))
 }
 
@@ -40,8 +38,7 @@ fn keyword(alloc: Global, kind: Fixed) -> Result<Part, AllocError>
 fn all_arguments(alloc: Global, parts: &mut Stack<Part>) -> Result<Part, AllocError>
     ensures { IfOk result (λ part. part ≡ making.all_arguments parts.old) }
 {
-    let arguments = expressions(alloc, first(parts)?)?;
-    end(parts)?;
+    let arguments = ended(expressions(alloc, parts), parts)?;
     Ok(Part::Arguments(arguments))
 }
 
@@ -68,9 +65,9 @@ fn checked(
 fn whole_attribute(alloc: Global, span: Span, parts: &mut Stack<Part>) -> Result<Part, AllocError>
     ensures { IfOk result (λ part. part ≡ making.whole_attribute span parts.old) }
 {
-    let word = word(first(parts)?)?;
-    let arguments = arguments(first(parts)?)?;
-    end(parts)?;
+    let word = word(parts);
+    let arguments = arguments(parts);
+    let (word, arguments) = ended(both(word, arguments), parts)?;
     let attribute = checked(alloc, word, arguments)?;
     Ok(Part::Attribute(Spanned::new(alloc, attribute, span)?))
 }
@@ -85,8 +82,7 @@ fn var_kind(parts: &mut Stack<Part>) -> Result<Part, AllocError>
 fn var_in(parts: &mut Stack<Part>) -> Result<Part, AllocError>
     ensures { IfOk result (λ part. part ≡ making.var_in parts.old) }
 {
-    let arguments = list(first(parts)?)?;
-    end(parts)?;
+    let arguments = ended(list(parts), parts)?;
     Ok(Part::Kind(DeclarationKind::Var(template_of(arguments.as_slice()))))
 }
 

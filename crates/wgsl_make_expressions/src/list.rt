@@ -1,7 +1,7 @@
 //! Parts that are passed on, and lists.
 
 ghost use Rattle.std.specs.Prelude.{◌≡◌, ◌∷◌, [], IfOk};
-ghost use Rattle.wgsl_make_lists.specs.Making as making;
+ghost use Rattle.wgsl_make_expressions.specs.Lists as making;
 
 use crate::more::joined;
 use std::alloc::{AllocError, Global};

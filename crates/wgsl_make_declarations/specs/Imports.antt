@@ -15,7 +15,7 @@ use Rattle.wgsl_parts.specs.declared.label.ImportLabel.TheVariants as label
 use Rattle.wgsl_parts.specs.declared.label.DirectiveLabel.{DirectiveLabel}
 use Rattle.wgsl_parts.specs.declared.label.DirectiveLabel.TheVariants as labels
 use Rattle.wgsl_parts.specs.Reading.{attributes_of}
-use Rattle.wgsl_make_imports.specs.Reading.{path_in, names_of}
+use Rattle.wgsl_make_declarations.specs.Reading.{path_in, names_of}
 
 -- ---- imports
 

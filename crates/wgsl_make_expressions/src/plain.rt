@@ -1,12 +1,14 @@
 //! Statements that hold no other statement, without their `;`.
 
 ghost use Rattle.std.specs.Prelude.{◌≡◌, IfOk};
-ghost use Rattle.wgsl_make_values.specs.Making as making;
+ghost use Rattle.wgsl_make_expressions.specs.Values as making;
 
 use std::alloc::{AllocError, Global};
 use wgsl_enumerations::AssignmentOperator;
 use wgsl_items::{Boxed, Items};
-use wgsl_parts::take::{assertion, call, declaration, end, expression, first, optional_expression};
+use wgsl_parts::take::{
+    assertion, both, call, declaration, end, ended, expression, optional_expression,
+};
 use wgsl_parts::{Part, PlainLabel, Stack};
 use wgsl_simple_statements::{
     AssignmentStatement, BreakStatement, ContinueStatement, DecrementStatement, DiscardStatement,
@@ -23,8 +25,7 @@ fn plain(alloc: Global, statement: Statement) -> Result<Part, AllocError>
 fn called_statement(alloc: Global, parts: &mut Stack<Part>) -> Result<Part, AllocError>
     ensures { IfOk result (λ part. part ≡ making.called_statement parts.old) }
 {
-    let call = call(first(parts)?)?;
-    end(parts)?;
+    let call = ended(call(parts), parts)?;
     let statement = FunctionCallStatement {
         attributes: Items::new(alloc),
         call,
@@ -40,9 +41,9 @@ fn assignment(
 ) -> Result<Part, AllocError>
     ensures { IfOk result (λ part. part ≡ making.assignment operator parts.old) }
 {
-    let lhs = expression(first(parts)?)?;
-    let rhs = expression(first(parts)?)?;
-    end(parts)?;
+    let lhs = expression(parts);
+    let rhs = expression(parts);
+    let (lhs, rhs) = ended(both(lhs, rhs), parts)?;
     let statement = AssignmentStatement {
         attributes: Items::new(alloc),
         operator,
@@ -55,8 +56,7 @@ fn assignment(
 fn increment(alloc: Global, parts: &mut Stack<Part>) -> Result<Part, AllocError>
     ensures { IfOk result (λ part. part ≡ making.increment parts.old) }
 {
-    let expression = expression(first(parts)?)?;
-    end(parts)?;
+    let expression = ended(expression(parts), parts)?;
     let statement = IncrementStatement {
         attributes: Items::new(alloc),
         expression,
@@ -67,8 +67,7 @@ fn increment(alloc: Global, parts: &mut Stack<Part>) -> Result<Part, AllocError>
 fn decrement(alloc: Global, parts: &mut Stack<Part>) -> Result<Part, AllocError>
     ensures { IfOk result (λ part. part ≡ making.decrement parts.old) }
 {
-    let expression = expression(first(parts)?)?;
-    end(parts)?;
+    let expression = ended(expression(parts), parts)?;
     let statement = DecrementStatement {
         attributes: Items::new(alloc),
         expression,
@@ -103,8 +102,7 @@ fn discard(alloc: Global, parts: &mut Stack<Part>) -> Result<Part, AllocError>
 fn return_value(alloc: Global, parts: &mut Stack<Part>) -> Result<Part, AllocError>
     ensures { IfOk result (λ part. part ≡ making.return_value parts.old) }
 {
-    let expression = optional_expression(first(parts)?)?;
-    end(parts)?;
+    let expression = ended(optional_expression(parts), parts)?;
     let statement = ReturnStatement {
         attributes: Items::new(alloc),
         expression,
@@ -115,16 +113,14 @@ fn return_value(alloc: Global, parts: &mut Stack<Part>) -> Result<Part, AllocErr
 fn local(alloc: Global, parts: &mut Stack<Part>) -> Result<Part, AllocError>
     ensures { IfOk result (λ part. part ≡ making.local parts.old) }
 {
-    let declaration = declaration(first(parts)?)?;
-    end(parts)?;
+    let declaration = ended(declaration(parts), parts)?;
     plain(alloc, Statement::Declaration(declaration))
 }
 
 fn asserted(alloc: Global, parts: &mut Stack<Part>) -> Result<Part, AllocError>
     ensures { IfOk result (λ part. part ≡ making.asserted parts.old) }
 {
-    let assertion = assertion(first(parts)?)?;
-    end(parts)?;
+    let assertion = ended(assertion(parts), parts)?;
     plain(alloc, Statement::ConstAssert(assertion))
 }
 

@@ -1,12 +1,14 @@
 //! Statements, at the extent of their phrase.
 
 ghost use Rattle.std.specs.Prelude.{◌≡◌, IfOk};
-ghost use Rattle.wgsl_make_statements.specs.Making as making;
+ghost use Rattle.wgsl_make_declarations.specs.Statements as making;
 
 use crate::take::{clauses, continuing, else_ifs, otherwise, plain, statement, statements};
 use std::alloc::{AllocError, Global};
 use wgsl_items::Boxed;
-use wgsl_parts::take::{attributes, block, end, expression, first, optional_expression};
+use wgsl_parts::take::{
+    attributes, block, both, end, ended, expression, optional_expression, three,
+};
 use wgsl_parts::{Part, Stack, StatementLabel};
 use wgsl_path::{Span, Spanned};
 use wgsl_statements::{
@@ -24,8 +26,7 @@ fn node(alloc: Global, span: Span, statement: Statement) -> Result<Part, AllocEr
 fn placed(span: Span, parts: &mut Stack<Part>) -> Result<Part, AllocError>
     ensures { IfOk result (λ part. part ≡ making.placed span parts.old) }
 {
-    let statement = plain(first(parts)?)?;
-    end(parts)?;
+    let statement = ended(plain(parts), parts)?;
     Ok(Part::Statement(Spanned::new_boxed(statement, span)))
 }
 
@@ -39,20 +40,25 @@ fn void_statement(alloc: Global, span: Span, parts: &mut Stack<Part>) -> Result<
 fn compound(alloc: Global, span: Span, parts: &mut Stack<Part>) -> Result<Part, AllocError>
     ensures { IfOk result (λ part. part ≡ making.compound span parts.old) }
 {
-    let block = block(first(parts)?)?;
-    end(parts)?;
+    let block = ended(block(parts), parts)?;
     node(alloc, span, Statement::Compound(block))
 }
 
 fn if_statement(alloc: Global, span: Span, parts: &mut Stack<Part>) -> Result<Part, AllocError>
     ensures { IfOk result (λ part. part ≡ making.if_statement span parts.old) }
 {
-    let attributes = attributes(alloc, first(parts)?)?;
-    let expression = expression(first(parts)?)?;
-    let body = block(first(parts)?)?;
-    let else_if_clauses = else_ifs(alloc, first(parts)?)?;
-    let else_clause = otherwise(first(parts)?)?;
-    end(parts)?;
+    let attributes = attributes(alloc, parts);
+    let expression = expression(parts);
+    let body = block(parts);
+    let else_if_clauses = else_ifs(alloc, parts);
+    let else_clause = otherwise(parts);
+    let ((attributes, expression), (body, else_if_clauses, else_clause)) = ended(
+        both(
+            both(attributes, expression),
+            three(body, else_if_clauses, else_clause),
+        ),
+        parts,
+    )?;
     let statement = IfStatement {
         attributes,
         if_clause: IfClause { expression, body },
@@ -66,11 +72,14 @@ fn if_statement(alloc: Global, span: Span, parts: &mut Stack<Part>) -> Result<Pa
 fn switch_statement(alloc: Global, span: Span, parts: &mut Stack<Part>) -> Result<Part, AllocError>
     ensures { IfOk result (λ part. part ≡ making.switch_statement span parts.old) }
 {
-    let outer = attributes(alloc, first(parts)?)?;
-    let expression = expression(first(parts)?)?;
-    let inner = attributes(alloc, first(parts)?)?;
-    let clauses = clauses(first(parts)?)?;
-    end(parts)?;
+    let outer = attributes(alloc, parts);
+    let expression = expression(parts);
+    let inner = attributes(alloc, parts);
+    let clauses = clauses(parts);
+    let ((outer, expression), (inner, clauses)) = ended(
+        both(both(outer, expression), both(inner, clauses)),
+        parts,
+    )?;
     let statement = SwitchStatement {
         attributes: outer,
         expression,
@@ -84,11 +93,14 @@ fn switch_statement(alloc: Global, span: Span, parts: &mut Stack<Part>) -> Resul
 fn loop_statement(alloc: Global, span: Span, parts: &mut Stack<Part>) -> Result<Part, AllocError>
     ensures { IfOk result (λ part. part ≡ making.loop_statement span parts.old) }
 {
-    let outer = attributes(alloc, first(parts)?)?;
-    let inner = attributes(alloc, first(parts)?)?;
-    let statements = statements(alloc, first(parts)?)?;
-    let continuing = continuing(first(parts)?)?;
-    end(parts)?;
+    let outer = attributes(alloc, parts);
+    let inner = attributes(alloc, parts);
+    let statements = statements(alloc, parts);
+    let continuing = continuing(parts);
+    let ((outer, inner), (statements, continuing)) = ended(
+        both(both(outer, inner), both(statements, continuing)),
+        parts,
+    )?;
     let statement = LoopStatement {
         attributes: outer,
         body: CompoundStatement {
@@ -104,12 +116,18 @@ fn loop_statement(alloc: Global, span: Span, parts: &mut Stack<Part>) -> Result<
 fn for_statement(alloc: Global, span: Span, parts: &mut Stack<Part>) -> Result<Part, AllocError>
     ensures { IfOk result (λ part. part ≡ making.for_statement span parts.old) }
 {
-    let attributes = attributes(alloc, first(parts)?)?;
-    let initializer = statement(first(parts)?)?;
-    let condition = optional_expression(first(parts)?)?;
-    let update = statement(first(parts)?)?;
-    let body = block(first(parts)?)?;
-    end(parts)?;
+    let attributes = attributes(alloc, parts);
+    let initializer = statement(parts);
+    let condition = optional_expression(parts);
+    let update = statement(parts);
+    let body = block(parts);
+    let ((attributes, initializer), (condition, update, body)) = ended(
+        both(
+            both(attributes, initializer),
+            three(condition, update, body),
+        ),
+        parts,
+    )?;
     let statement = ForStatement {
         attributes,
         initializer,
@@ -124,10 +142,10 @@ fn for_statement(alloc: Global, span: Span, parts: &mut Stack<Part>) -> Result<P
 fn while_statement(alloc: Global, span: Span, parts: &mut Stack<Part>) -> Result<Part, AllocError>
     ensures { IfOk result (λ part. part ≡ making.while_statement span parts.old) }
 {
-    let attributes = attributes(alloc, first(parts)?)?;
-    let condition = expression(first(parts)?)?;
-    let body = block(first(parts)?)?;
-    end(parts)?;
+    let attributes = attributes(alloc, parts);
+    let condition = expression(parts);
+    let body = block(parts);
+    let (attributes, condition, body) = ended(three(attributes, condition, body), parts)?;
     let statement = WhileStatement {
         attributes,
         condition,

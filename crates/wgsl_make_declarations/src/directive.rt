@@ -1,7 +1,7 @@
 //! Directives.
 
 ghost use Rattle.std.specs.Prelude.{◌≡◌, IfOk};
-ghost use Rattle.wgsl_make_imports.specs.Making as making;
+ghost use Rattle.wgsl_make_declarations.specs.Imports as making;
 
 use crate::take::{text, texts};
 use std::alloc::{AllocError, Global};
@@ -9,7 +9,7 @@ use wgsl_choices::severity;
 use wgsl_enumerations::DiagnosticSeverity;
 use wgsl_imports::{DiagnosticDirective, EnableDirective, GlobalDirective, RequiresDirective};
 use wgsl_items::{Boxed, Items};
-use wgsl_parts::take::{end, first, ident};
+use wgsl_parts::take::{both, ended, ident};
 use wgsl_parts::{DirectiveLabel, Part, Stack};
 use wgsl_path::Ident;
 
@@ -23,17 +23,16 @@ fn directive(alloc: Global, directive: GlobalDirective) -> Result<Part, AllocErr
 fn name(parts: &mut Stack<Part>) -> Result<Part, AllocError>
     ensures { IfOk result (λ part. part ≡ making.name parts.old) }
 {
-    let Ident { name } = ident(first(parts)?)?;
-    end(parts)?;
+    let Ident { name } = ended(ident(parts), parts)?;
     Ok(Part::Text(name))
 }
 
 fn rule_of(parts: &mut Stack<Part>) -> Result<Part, AllocError>
     ensures { IfOk result (λ part. part ≡ making.rule_of parts.old) }
 {
-    let Ident { name } = ident(first(parts)?)?;
-    let rule = ident(first(parts)?)?;
-    end(parts)?;
+    let name = ident(parts);
+    let rule = ident(parts);
+    let (Ident { name }, rule) = ended(both(name, rule), parts)?;
     let mut whole = name;
     whole.push_str(".")?;
     whole.push_str(rule.as_str())?;
@@ -52,9 +51,9 @@ fn severity_or_off(word: &str) -> DiagnosticSeverity
 fn diagnostic(alloc: Global, parts: &mut Stack<Part>) -> Result<Part, AllocError>
     ensures { IfOk result (λ part. part ≡ making.diagnostic parts.old) }
 {
-    let word = ident(first(parts)?)?;
-    let rule_name = text(first(parts)?)?;
-    end(parts)?;
+    let word = ident(parts);
+    let rule_name = text(parts);
+    let (word, rule_name) = ended(both(word, rule_name), parts)?;
     let diagnostic = DiagnosticDirective {
         attributes: Items::new(alloc),
         severity: severity_or_off(word.as_str()),
@@ -66,8 +65,7 @@ fn diagnostic(alloc: Global, parts: &mut Stack<Part>) -> Result<Part, AllocError
 fn enable(alloc: Global, parts: &mut Stack<Part>) -> Result<Part, AllocError>
     ensures { IfOk result (λ part. part ≡ making.enable parts.old) }
 {
-    let extensions = texts(first(parts)?)?;
-    end(parts)?;
+    let extensions = ended(texts(parts), parts)?;
     let names = EnableDirective {
         attributes: Items::new(alloc),
         extensions,
@@ -78,8 +76,7 @@ fn enable(alloc: Global, parts: &mut Stack<Part>) -> Result<Part, AllocError>
 fn requires_extensions(alloc: Global, parts: &mut Stack<Part>) -> Result<Part, AllocError>
     ensures { IfOk result (λ part. part ≡ making.requires_extensions parts.old) }
 {
-    let extensions = texts(first(parts)?)?;
-    end(parts)?;
+    let extensions = ended(texts(parts), parts)?;
     let names = RequiresDirective {
         attributes: Items::new(alloc),
         extensions,

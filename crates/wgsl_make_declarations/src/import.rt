@@ -1,22 +1,21 @@
 //! Imports.
 
 ghost use Rattle.std.specs.Prelude.{◌≡◌, IfOk};
-ghost use Rattle.wgsl_make_imports.specs.Making as making;
+ghost use Rattle.wgsl_make_declarations.specs.Imports as making;
 
 use crate::take::{content, names, path, source, texts, trees};
 use std::alloc::{AllocError, Global};
 use wgsl_imports::{Import, ImportContent, ImportItem, ImportStatement};
 use wgsl_items::{Boxed, Items};
 use wgsl_make_expressions::longer;
-use wgsl_parts::take::{attributes, end, first, ident, ups};
+use wgsl_parts::take::{attributes, both, end, ended, ident, three, ups};
 use wgsl_parts::{ImportLabel, Part, Stack};
 use wgsl_path::{Ident, ModulePath, PathOrigin};
 
 fn from_package(alloc: Global, parts: &mut Stack<Part>) -> Result<Part, AllocError>
     ensures { IfOk result (λ part. part ≡ making.from_package parts.old) }
 {
-    let Ident { name } = ident(first(parts)?)?;
-    end(parts)?;
+    let Ident { name } = ended(ident(parts), parts)?;
     Ok(Part::ModulePath(ModulePath {
         origin: PathOrigin::Package(name),
         components: Items::new(alloc),
@@ -33,8 +32,7 @@ fn from_own(alloc: Global, parts: &mut Stack<Part>) -> Result<Part, AllocError>
 fn from_above(alloc: Global, parts: &mut Stack<Part>) -> Result<Part, AllocError>
     ensures { IfOk result (λ part. part ≡ making.from_above parts.old) }
 {
-    let levels = ups(first(parts)?)?;
-    end(parts)?;
+    let levels = ended(ups(parts), parts)?;
     Ok(Part::ModulePath(ModulePath {
         origin: PathOrigin::Relative(levels),
         components: Items::new(alloc),
@@ -44,17 +42,16 @@ fn from_above(alloc: Global, parts: &mut Stack<Part>) -> Result<Part, AllocError
 fn from_within(parts: &mut Stack<Part>) -> Result<Part, AllocError>
     ensures { IfOk result (λ part. part ≡ making.from_within parts.old) }
 {
-    let outer = source(first(parts)?)?;
-    let Ident { name } = ident(first(parts)?)?;
-    end(parts)?;
+    let outer = source(parts);
+    let name = ident(parts);
+    let (outer, Ident { name }) = ended(both(outer, name), parts)?;
     Ok(Part::ModulePath(longer(outer, name)?))
 }
 
 fn first_step(alloc: Global, parts: &mut Stack<Part>) -> Result<Part, AllocError>
     ensures { IfOk result (λ part. part ≡ making.first_step parts.old) }
 {
-    let Ident { name } = ident(first(parts)?)?;
-    end(parts)?;
+    let Ident { name } = ended(ident(parts), parts)?;
     let mut steps = Items::new(alloc);
     steps.push(name)?;
     Ok(Part::Texts(steps))
@@ -63,9 +60,9 @@ fn first_step(alloc: Global, parts: &mut Stack<Part>) -> Result<Part, AllocError
 fn next_step(parts: &mut Stack<Part>) -> Result<Part, AllocError>
     ensures { IfOk result (λ part. part ≡ making.next_step parts.old) }
 {
-    let mut steps = texts(first(parts)?)?;
-    let Ident { name } = ident(first(parts)?)?;
-    end(parts)?;
+    let steps = texts(parts);
+    let name = ident(parts);
+    let (mut steps, Ident { name }) = ended(both(steps, name), parts)?;
     steps.push(name)?;
     Ok(Part::Texts(steps))
 }
@@ -73,8 +70,7 @@ fn next_step(parts: &mut Stack<Part>) -> Result<Part, AllocError>
 fn item(parts: &mut Stack<Part>) -> Result<Part, AllocError>
     ensures { IfOk result (λ part. part ≡ making.item parts.old) }
 {
-    let ident = ident(first(parts)?)?;
-    end(parts)?;
+    let ident = ended(ident(parts), parts)?;
     let item = ImportItem {
         ident,
         rename: None,
@@ -85,9 +81,10 @@ fn item(parts: &mut Stack<Part>) -> Result<Part, AllocError>
 fn renamed(parts: &mut Stack<Part>) -> Result<Part, AllocError>
     ensures { IfOk result (λ part. part ≡ making.renamed parts.old) }
 {
-    let name = ident(first(parts)?)?;
-    let rename = Some(ident(first(parts)?)?);
-    end(parts)?;
+    let name = ident(parts);
+    let rename = ident(parts);
+    let (name, rename) = ended(both(name, rename), parts)?;
+    let rename = Some(rename);
     let item = ImportItem {
         ident: name,
         rename,
@@ -98,17 +95,16 @@ fn renamed(parts: &mut Stack<Part>) -> Result<Part, AllocError>
 fn collection(parts: &mut Stack<Part>) -> Result<Part, AllocError>
     ensures { IfOk result (λ part. part ≡ making.collection parts.old) }
 {
-    let trees = trees(first(parts)?)?;
-    end(parts)?;
+    let trees = ended(trees(parts), parts)?;
     Ok(Part::Content(ImportContent::Collection(trees)))
 }
 
 fn tree(alloc: Global, parts: &mut Stack<Part>) -> Result<Part, AllocError>
     ensures { IfOk result (λ part. part ≡ making.tree parts.old) }
 {
-    let path = names(alloc, first(parts)?)?;
-    let content = content(first(parts)?)?;
-    end(parts)?;
+    let path = names(alloc, parts);
+    let content = content(parts);
+    let (path, content) = ended(both(path, content), parts)?;
     let tree = Import { path, content };
     Ok(Part::Tree(Boxed::new(alloc, tree)?))
 }
@@ -116,10 +112,10 @@ fn tree(alloc: Global, parts: &mut Stack<Part>) -> Result<Part, AllocError>
 fn whole_import(alloc: Global, parts: &mut Stack<Part>) -> Result<Part, AllocError>
     ensures { IfOk result (λ part. part ≡ making.whole_import parts.old) }
 {
-    let attributes = attributes(alloc, first(parts)?)?;
-    let path = path(alloc, first(parts)?)?;
-    let content = content(first(parts)?)?;
-    end(parts)?;
+    let attributes = attributes(alloc, parts);
+    let path = path(alloc, parts);
+    let content = content(parts);
+    let (attributes, path, content) = ended(three(attributes, path, content), parts)?;
     let import = ImportStatement {
         attributes,
         path,

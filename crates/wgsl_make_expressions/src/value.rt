@@ -1,30 +1,30 @@
 //! Declarations of values, and assertions.
 
 ghost use Rattle.std.specs.Prelude.{◌≡◌, IfOk};
-ghost use Rattle.wgsl_make_values.specs.Making as making;
+ghost use Rattle.wgsl_make_expressions.specs.Values as making;
 
 use crate::take::{kind, typed_name};
 use std::alloc::{AllocError, Global};
 use wgsl_expressions::ExpressionNode;
 use wgsl_items::{Boxed, Items};
-use wgsl_parts::take::{end, expression, first, ident, ty};
+use wgsl_parts::take::{both, ended, expression, ident, three, ty};
 use wgsl_parts::{Part, Stack, TypedName, ValueLabel};
 use wgsl_simple_statements::{ConstAssert, Declaration, DeclarationKind};
 
 fn typed(parts: &mut Stack<Part>) -> Result<Part, AllocError>
     ensures { IfOk result (λ part. part ≡ making.typed parts.old) }
 {
-    let ident = ident(first(parts)?)?;
-    end(parts)?;
+    let ident = ended(ident(parts), parts)?;
     Ok(Part::Typed(TypedName { ident, ty: None }))
 }
 
 fn typed_as(parts: &mut Stack<Part>) -> Result<Part, AllocError>
     ensures { IfOk result (λ part. part ≡ making.typed_as parts.old) }
 {
-    let ident = ident(first(parts)?)?;
-    let ty = Some(ty(first(parts)?)?);
-    end(parts)?;
+    let ident = ident(parts);
+    let ty = ty(parts);
+    let (ident, ty) = ended(both(ident, ty), parts)?;
+    let ty = Some(ty);
     Ok(Part::Typed(TypedName { ident, ty }))
 }
 
@@ -50,19 +50,19 @@ fn declared(
 fn var(alloc: Global, parts: &mut Stack<Part>) -> Result<Part, AllocError>
     ensures { IfOk result (λ part. part ≡ making.var parts.old) }
 {
-    let kind = kind(first(parts)?)?;
-    let name = typed_name(first(parts)?)?;
-    end(parts)?;
+    let kind = kind(parts);
+    let name = typed_name(parts);
+    let (kind, name) = ended(both(kind, name), parts)?;
     declared(alloc, kind, name, None)
 }
 
 fn var_set(alloc: Global, parts: &mut Stack<Part>) -> Result<Part, AllocError>
     ensures { IfOk result (λ part. part ≡ making.var_set parts.old) }
 {
-    let kind = kind(first(parts)?)?;
-    let name = typed_name(first(parts)?)?;
-    let value = expression(first(parts)?)?;
-    end(parts)?;
+    let kind = kind(parts);
+    let name = typed_name(parts);
+    let value = expression(parts);
+    let (kind, name, value) = ended(three(kind, name, value), parts)?;
     declared(alloc, kind, name, Some(value))
 }
 
@@ -74,25 +74,23 @@ fn value_set(
 ) -> Result<Part, AllocError>
     ensures { IfOk result (λ part. part ≡ making.value_set kind parts.old) }
 {
-    let name = typed_name(first(parts)?)?;
-    let value = expression(first(parts)?)?;
-    end(parts)?;
+    let name = typed_name(parts);
+    let value = expression(parts);
+    let (name, value) = ended(both(name, value), parts)?;
     declared(alloc, kind, name, Some(value))
 }
 
 fn override_alone(alloc: Global, parts: &mut Stack<Part>) -> Result<Part, AllocError>
     ensures { IfOk result (λ part. part ≡ making.override_alone parts.old) }
 {
-    let name = typed_name(first(parts)?)?;
-    end(parts)?;
+    let name = ended(typed_name(parts), parts)?;
     declared(alloc, DeclarationKind::Override, name, None)
 }
 
 fn assertion(alloc: Global, parts: &mut Stack<Part>) -> Result<Part, AllocError>
     ensures { IfOk result (λ part. part ≡ making.assertion parts.old) }
 {
-    let expression = expression(first(parts)?)?;
-    end(parts)?;
+    let expression = ended(expression(parts), parts)?;
     Ok(Part::Assertion(ConstAssert {
         attributes: Items::new(alloc),
         expression,

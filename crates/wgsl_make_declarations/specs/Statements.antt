@@ -12,7 +12,7 @@ use Rattle.wgsl_parts.specs.declared.label.StatementLabel.TheVariants as label
 use Rattle.wgsl_parts.specs.declared.label.ClauseLabel.{ClauseLabel}
 use Rattle.wgsl_parts.specs.declared.label.ClauseLabel.TheVariants as clause
 use Rattle.wgsl_parts.specs.Reading.{expression_in, attributes_of}
-use Rattle.wgsl_make_statements.specs.Reading.{statement_in, else_in, continuing_in, break_if_in, statements_of, else_ifs_of}
+use Rattle.wgsl_make_declarations.specs.Reading.{statement_in, else_in, continuing_in, break_if_in, statements_of, else_ifs_of}
 
 -- ---- statements, at the extent of their phrase
 

@@ -1,12 +1,12 @@
 //! What statements consist of.
 
 ghost use Rattle.std.specs.Prelude.{◌≡◌, IfOk};
-ghost use Rattle.wgsl_make_statements.specs.Making as making;
+ghost use Rattle.wgsl_make_declarations.specs.Statements as making;
 
 use crate::take::{break_if, selectors, statements};
 use std::alloc::{AllocError, Global};
 use wgsl_items::{Boxed, Items};
-use wgsl_parts::take::{attributes, block, end, expression, first};
+use wgsl_parts::take::{attributes, block, both, end, ended, expression, three};
 use wgsl_parts::{ClauseLabel, Part, Stack};
 use wgsl_simple_statements::{BreakIfStatement, CaseSelector};
 use wgsl_statements::{CompoundStatement, ContinuingStatement, ElseIfClause, SwitchClause};
@@ -14,9 +14,9 @@ use wgsl_statements::{CompoundStatement, ContinuingStatement, ElseIfClause, Swit
 fn braces(alloc: Global, parts: &mut Stack<Part>) -> Result<Part, AllocError>
     ensures { IfOk result (λ part. part ≡ making.braces parts.old) }
 {
-    let attributes = attributes(alloc, first(parts)?)?;
-    let statements = statements(alloc, first(parts)?)?;
-    end(parts)?;
+    let attributes = attributes(alloc, parts);
+    let statements = statements(alloc, parts);
+    let (attributes, statements) = ended(both(attributes, statements), parts)?;
     Ok(Part::Block(CompoundStatement {
         attributes,
         statements,
@@ -26,9 +26,9 @@ fn braces(alloc: Global, parts: &mut Stack<Part>) -> Result<Part, AllocError>
 fn else_if(parts: &mut Stack<Part>) -> Result<Part, AllocError>
     ensures { IfOk result (λ part. part ≡ making.else_if parts.old) }
 {
-    let expression = expression(first(parts)?)?;
-    let body = block(first(parts)?)?;
-    end(parts)?;
+    let expression = expression(parts);
+    let body = block(parts);
+    let (expression, body) = ended(both(expression, body), parts)?;
     Ok(Part::ElseIf(ElseIfClause { expression, body }))
 }
 
@@ -42,17 +42,16 @@ fn default_selector(parts: &mut Stack<Part>) -> Result<Part, AllocError>
 fn selector(parts: &mut Stack<Part>) -> Result<Part, AllocError>
     ensures { IfOk result (λ part. part ≡ making.selector parts.old) }
 {
-    let expression = expression(first(parts)?)?;
-    end(parts)?;
+    let expression = ended(expression(parts), parts)?;
     Ok(Part::Selector(CaseSelector::Expression(expression)))
 }
 
 fn case_clause(parts: &mut Stack<Part>) -> Result<Part, AllocError>
     ensures { IfOk result (λ part. part ≡ making.case_clause parts.old) }
 {
-    let case_selectors = selectors(first(parts)?)?;
-    let body = block(first(parts)?)?;
-    end(parts)?;
+    let case_selectors = selectors(parts);
+    let body = block(parts);
+    let (case_selectors, body) = ended(both(case_selectors, body), parts)?;
     Ok(Part::Clause(SwitchClause {
         case_selectors,
         body,
@@ -62,8 +61,7 @@ fn case_clause(parts: &mut Stack<Part>) -> Result<Part, AllocError>
 fn default_clause(alloc: Global, parts: &mut Stack<Part>) -> Result<Part, AllocError>
     ensures { IfOk result (λ part. part ≡ making.default_clause parts.old) }
 {
-    let body = block(first(parts)?)?;
-    end(parts)?;
+    let body = ended(block(parts), parts)?;
     let mut case_selectors = Items::new(alloc);
     case_selectors.push(CaseSelector::Default)?;
     Ok(Part::Clause(SwitchClause {
@@ -75,10 +73,10 @@ fn default_clause(alloc: Global, parts: &mut Stack<Part>) -> Result<Part, AllocE
 fn continuing_block(alloc: Global, parts: &mut Stack<Part>) -> Result<Part, AllocError>
     ensures { IfOk result (λ part. part ≡ making.continuing_block parts.old) }
 {
-    let attributes = attributes(alloc, first(parts)?)?;
-    let statements = statements(alloc, first(parts)?)?;
-    let break_if = break_if(first(parts)?)?;
-    end(parts)?;
+    let attributes = attributes(alloc, parts);
+    let statements = statements(alloc, parts);
+    let break_if = break_if(parts);
+    let (attributes, statements, break_if) = ended(three(attributes, statements, break_if), parts)?;
     let continuing = ContinuingStatement {
         attributes: Items::new(alloc),
         body: CompoundStatement {
@@ -93,8 +91,7 @@ fn continuing_block(alloc: Global, parts: &mut Stack<Part>) -> Result<Part, Allo
 fn break_where(alloc: Global, parts: &mut Stack<Part>) -> Result<Part, AllocError>
     ensures { IfOk result (λ part. part ≡ making.break_where parts.old) }
 {
-    let expression = expression(first(parts)?)?;
-    end(parts)?;
+    let expression = ended(expression(parts), parts)?;
     Ok(Part::BreakIf(BreakIfStatement {
         attributes: Items::new(alloc),
         expression,

@@ -1,7 +1,7 @@
 //! Lists with one more item.
 
 ghost use Rattle.std.specs.Prelude.{◌≡◌, ◌∷◌, ◌++◌, [], IfOk};
-ghost use Rattle.wgsl_make_lists.specs.Making as making;
+ghost use Rattle.wgsl_make_expressions.specs.Lists as making;
 
 use std::alloc::AllocError;
 use wgsl_attributes::AttributeNode;
@@ -140,10 +140,13 @@ fn parameters(list: Items<FormalParameter>, part: Part) -> Result<Part, AllocErr
 }
 
 /// Two parts that do not fit.
-fn misfits(_list: Part, part: Part) -> Result<Part, AllocError>
+fn misfits(list: Part, part: Part) -> Result<Part, AllocError>
     ensures { IfOk result (λ _. ⊥) }
 {
-    misfit(part)
+    match misfit(list) {
+        Ok(()) => misfit(part),
+        Err(AllocError) => misfit(part),
+    }
 }
 
 /// A list, and one more.

@@ -13,6 +13,7 @@ use Rattle.wgsl_parts.specs.declared.part.Part.TheVariants as part
 use Rattle.wgsl_parts.specs.declared.label.AttributeLabel.{AttributeLabel}
 use Rattle.wgsl_parts.specs.declared.label.AttributeLabel.TheVariants as label
 use Rattle.wgsl_parts.specs.Reading.{expressions_of}
+use Rattle.wgsl_make_declarations.specs.Reading.{arguments_in}
 
 -- ---- the name of an attribute: any word, also a reserved one or a keyword
 
@@ -32,11 +33,6 @@ keyword kind = part.Word (spelling kind)
 abbrev pub all_arguments : List Part → Part
 all_arguments (arguments ∷ []) = part.Arguments (expressions_of arguments)
 all_arguments _ = part.Absent
-
--- the arguments of an attribute, which has parentheses or has none
-abbrev pub arguments_in : Part → Option (List (Spanned Expression))
-arguments_in (part.Arguments xs) = Some xs
-arguments_in _ = None
 
 abbrev pub or_else : Option Attribute → Attribute → Attribute
 or_else (Some x) y = x
