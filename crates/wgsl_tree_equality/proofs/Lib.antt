@@ -1,4 +1,5 @@
 pub mod Parts
+pub mod Contained
 pub mod ExpressionTest
 pub mod Expressions
 pub mod Attributes

@@ -1,6 +1,8 @@
 -- What `==` of syntax trees says of the trees without places that they stand for.
-use Rattle.std.specs.Prelude.{◌≡◌, ℕ, Bool, true, false}
+use Rattle.std.specs.Prelude.{◌≡◌, ℕ, Bool, true, false, List, map}
 use Rattle.std.specs.Bool.{Decides}
+use Rattle.std.specs.List.{list_any, Contains}
+use Rattle.wgsl_path.specs.declared.span.Spanned.{Spanned}
 
 -- The test is true of two of them exactly where they stand for the same tree.
 abbrev pub TellsTrees : {A T : Type 0} → (A → A → Bool) → (A → T) → Type 0
@@ -21,3 +23,7 @@ TellsTreesAfter {A} change test tree = (a b : A) → Decides (test (change a) (c
 -- Some two stand for the same tree, and the test is false of them.
 abbrev pub MissesSome : {A T : Type 0} → (A → A → Bool) → (A → T) → Type 0
 MissesSome {A} test tree = (a : A) × (b : A) × (tree a ≡ tree b) × (test a b ≡ false)
+
+-- The test is true of one of some placed nodes exactly where the tree is among theirs.
+abbrev pub TellsContained : {A T : Type 0} → (A → A → Bool) → (A → T) → Type 0
+TellsContained {A} test tree = (a : A) (xs : List (Spanned A)) → Decides (list_any (λ n. test n.node a) xs) (Contains (map (λ n. tree n.node) xs) (tree a))

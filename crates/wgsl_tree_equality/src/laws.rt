@@ -8,7 +8,7 @@ ghost use Rattle.wgsl_expressions.specs.View.{tree, type_tree};
 ghost use Rattle.wgsl_attributes.specs.View.{attribute_tree};
 ghost use Rattle.wgsl_imports.specs.View.{content_tree, importing_tree, directive_tree};
 ghost use Rattle.wgsl_tree_equality.specs.Expressions.{same_layer};
-ghost use Rattle.wgsl_tree_equality.specs.Laws.{TellsTrees};
+ghost use Rattle.wgsl_tree_equality.specs.Laws.{TellsTrees, TellsContained};
 
 use wgsl_attributes::Attribute;
 use wgsl_expressions::{Expression, LiteralExpression, TypeExpression};
@@ -33,6 +33,11 @@ pub fn expressions_are_equal_where_their_trees_are()
 /// `==` of attributes tells whether they stand for the same tree.
 pub fn attributes_are_equal_where_their_trees_are()
     ensures { TellsTrees ⟦<Attribute as PartialEq>⟧.eq attribute_tree }
+{}
+
+/// An attribute equals one of a node's (`contains_attribute`) exactly where its tree is among theirs, wherever they stand.
+pub fn attributes_are_contained_where_their_trees_are()
+    ensures { TellsContained ⟦<Attribute as PartialEq>⟧.eq attribute_tree }
 {}
 
 /// `==` of what imports take, of import statements and of directives tells whether they stand for the same tree.
