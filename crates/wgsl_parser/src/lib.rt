@@ -2,12 +2,13 @@
 #![tactic(auto)]
 
 mod error;
+pub mod laws;
 mod parse;
 mod take;
 mod text;
 
 pub use parse::{
-    parse_declaration, parse_declaration_kind, parse_directive, parse_expression, parse_import,
+    check_str, parse_declaration, parse_declaration_kind, parse_directive, parse_expression, parse_import,
     parse_statement, parse_str,
 };
 pub use text::FromText;
