@@ -15,12 +15,12 @@ use Rattle.wgsl_reading.proofs.Answering.{derived_comes}
 use Rattle.wgsl_reading.proofs.Deterministic.{comes_once}
 
 -- why no part is told of a tree, and nothing but memory where no check fails in it
-failing : Option Failure → Unread
+abbrev failing : Option Failure → Unread
 failing None = OutOfMemory
 failing (Some f) = Failed f
 
 -- why no part is told of what comes of tokens
-reason_of : Outcome (Phrase Part) → List SpannedTemplateToken → Unread
+abbrev reason_of : Outcome (Phrase Part) → List SpannedTemplateToken → Unread
 reason_of (read x) left = failing x.failure
 reason_of (stops stack) left = stopping (first_failed stack) (first left)
 reason_of no_memory left = OutOfMemory
