@@ -1,5 +1,5 @@
 -- A text that is no module has one fault, and a module has none.
-use Rattle.std.proofs.Common.{◌≡◌, ◌∙◌, refl, sym, ap, subst, ℕ, List, [], length, ◌⊎◌, inl, inr, Ok, Err}
+use Rattle.std.proofs.Common.{◌≡◌, ◌∙◌, sym, ap, subst, ℕ, List, length, inl, inr, Ok, Err}
 use Rattle.wgsl_template_spec.specs.declared.token.SpannedTemplateToken.{SpannedTemplateToken}
 use Rattle.wgsl_template_spec.proofs.Once.{lexed_once}
 use Rattle.wgsl_declarations.specs.declared.unit.TranslationUnit.{TranslationUnit}
@@ -9,11 +9,9 @@ use Rattle.wgsl_reading.specs.declared.answer.Unread.{Unread}
 use Rattle.wgsl_reading.specs.declared.answer.Unread.TheVariants.{OutOfMemory}
 use Rattle.wgsl_reading.specs.Readings.{Reads}
 use Rattle.wgsl_reading.proofs.Once.{unread_once, read_apart}
-use Rattle.wgsl_error.specs.declared.error.ErrorKind.TheVariants as kind
 use Rattle.wgsl_error.specs.declared.error.Error.{Error}
-use Rattle.wgsl_error.specs.Errors.{out_of_memory}
 use Rattle.wgsl_parser.specs.Errors.{error_of}
-use Rattle.wgsl_parser.specs.Texts.{IsParsed, IsBlank, empty_unit, IsModuleFault, ParsesModule}
+use Rattle.wgsl_parser.specs.Texts.{IsParsed, IsModuleFault, ParsesModule}
 
 -- A fault has a reason in the text.
 reason_told : (text : List ℕ) (e : Error) (h : IsModuleFault text e) → h.fault.reason ≡ OutOfMemory → ⊥

@@ -1,5 +1,5 @@
 -- Faults are told of texts that are not blank, and no fault is that memory was refused.
-use Rattle.std.proofs.Common.{◌≡◌, ◌∙◌, refl, sym, ap, subst, ℕ, List, [], length, inl, inr, Option, Some, None, Result, Ok, Err}
+use Rattle.std.proofs.Common.{◌≡◌, ◌∙◌, refl, sym, ap, subst, ℕ, List, [], length, inl, inr, Some, None, Result, Ok, Err}
 use Rattle.wgsl_token.specs.declared.token.Fixed.{Fixed}
 use Rattle.wgsl_token.specs.declared.token.Fixed.TheVariants as f
 use Rattle.wgsl_token.specs.declared.token.Token.TheVariants as t
@@ -17,9 +17,8 @@ use Rattle.wgsl_reading.specs.declared.answer.Unread.TheVariants.{OutOfMemory, F
 use Rattle.wgsl_reading.specs.Readings.{Reads}
 use Rattle.wgsl_error.specs.declared.error.ErrorKind.TheVariants as kind
 use Rattle.wgsl_error.specs.declared.error.Error.{Error}
-use Rattle.wgsl_error.specs.Errors.{out_of_memory}
 use Rattle.wgsl_parser.specs.Errors.{kind_of_check, kind_of_fixed, kind_of_token, error_of}
-use Rattle.wgsl_parser.specs.Texts.{IsTokensFault, ParsesTokens, ParsesModule, TellsModule}
+use Rattle.wgsl_parser.specs.Texts.{ParsesTokens, ParsesModule, TellsModule}
 
 check_told : (c : Check) → kind_of_check c ≡ kind.OutOfMemory → ⊥
 check_told check.Attribute h = cc

@@ -8,8 +8,8 @@ mod take;
 mod text;
 
 pub use parse::{
-    check_str, parse_declaration, parse_declaration_kind, parse_directive, parse_expression, parse_import,
-    parse_statement, parse_str,
+    check_str, parse_declaration, parse_declaration_kind, parse_directive, parse_expression,
+    parse_import, parse_statement, parse_str,
 };
 pub use text::FromText;
 pub use wgsl_error::{Error, ErrorKind};

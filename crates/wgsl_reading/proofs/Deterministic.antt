@@ -55,7 +55,7 @@ module _ {T V : Type 0} (g : Grammar T V) (a : Tables) (from : ℕ) where
   reduced_same {es = es} {fs = fs} {below = below} {under = under} {xs = xs} {ys = ys} {p = p} {m = m} {t = t} {s = s} {rule = rule} {other = other} stack number is are pop popping step stepping =
       let rules : rule ≡ other = some_same is are (ap g.rule number) in
       let parts : (below, xs) ≡ (under, ys) =
-          sym pop ∙ ap (λ r. popped (length r.right) es []) rules ∙ ap (λ l. popped (length other.right) l []) stack ∙ popping in
+      sym pop ∙ ap (λ r. popped (length r.right) es []) rules ∙ ap (λ l. popped (length other.right) l []) stack ∙ popping in
       let left : below ≡ under = ap (λ x. x.0) parts in
       let values : xs ≡ ys = ap (λ x. x.1) parts in
       let state : t ≡ s = some_same step stepping (ap (λ l. a.step (top from l) (phrase rule.left)) left ∙ ap (λ r. a.step (top from under) (phrase r.left)) rules) in
@@ -70,8 +70,8 @@ module _ {T V : Type 0} (g : Grammar T V) (a : Tables) (from : ℕ) where
       let token : k ≡ l = head_same tokens in
       let state : t ≡ s = shift_same (does_same (shifted k t act c) (shifted l s did d) stack tokens first other) in
       let put : record { state = t; value = g.leaf k } ∷ es ≡ record { state = s; value = g.leaf l } ∷ fs =
-          ap (λ n. record { state = n; value = g.leaf k } ∷ es) state ∙ ap (λ j. record { state = s; value = g.leaf j } ∷ es) token
-          ∙ ap (λ z. record { state = s; value = g.leaf l } ∷ z) stack in
+      ap (λ n. record { state = n; value = g.leaf k } ∷ es) state ∙ ap (λ j. record { state = s; value = g.leaf j } ∷ es) token
+      ∙ ap (λ z. record { state = s; value = g.leaf l } ∷ z) stack in
       comes_once c d put (tail_same tokens) first other
   comes_once (reduced p t rule below xs act is pop step c) (reduced m s rules under ys did are popping stepping d) stack tokens first other =
       let number : p ≡ m = reduce_same (does_same (reduced p t rule below xs act is pop step c) (reduced m s rules under ys did are popping stepping d) stack tokens first other) in
