@@ -10,12 +10,11 @@ use Rattle.wgsl_declarations.specs.declared.declaration.StructMember.{StructMemb
 use Rattle.wgsl_declarations.specs.Tree.{Decl, structure, UnitTree}
 use Rattle.wgsl_declarations.specs.View.{members_tree, unit_tree}
 use Rattle.wgsl_declarations.specs.Print.{unit_text}
-use Rattle.wgsl_reading.specs.declared.driver.Start.TheVariants.{Module}
 use Rattle.wgsl_error.specs.declared.error.ErrorKind.{ErrorKind}
 use Rattle.wgsl_error.specs.declared.error.ErrorKind.TheVariants as kind
 use Rattle.wgsl_error.specs.declared.error.Error.{Error}
 use Rattle.wgsl_error.specs.Errors.{out_of_memory}
-use Rattle.wgsl_parser.specs.Texts.{IsFault}
+use Rattle.wgsl_parser.specs.Texts.{IsModuleFault}
 use Rattle.wesl_features.specs.declared.feature.Features.{Features}
 use Rattle.wesl_features.specs.declared.error.CondCompError.{CondCompError}
 use Rattle.wesl_features.specs.declared.error.CondCompError.TheVariants as cond_error
@@ -32,7 +31,7 @@ says_tree text u other b says test is = record { unit = other; says = says; tree
 pub says_another : (text : List ℕ) (u : UnitTree) (other : TranslationUnit) (b : Bool) → Says text other → Decides b (u ≡ unit_tree other) → (b ≡ true → ⊥) → SaysNot text u
 says_another text u other b says test is = inr (other, says, λ same. is (test.1 (sym same)))
 
-pub says_none : (text : List ℕ) (u : UnitTree) (e : Error) → IsFault Module text e ⊎ (e ≡ out_of_memory) → (e.kind ≡ kind.OutOfMemory → ⊥) → SaysNot text u
+pub says_none : (text : List ℕ) (u : UnitTree) (e : Error) → IsModuleFault text e ⊎ (e ≡ out_of_memory) → (e.kind ≡ kind.OutOfMemory → ⊥) → SaysNot text u
 says_none text u e (inl fault) other = inl (e, fault)
 says_none text u e (inr memory) other = absurd (other (ap (λ x. x.kind) memory))
 
@@ -67,7 +66,7 @@ pub not_said : (u w : UnitTree) (printed : List ℕ) (name : Option (List ℕ)) 
 not_said u w printed name same h kept is = (subst (λ t. SaysNot t u) same h, is ∙ ap (λ z. first_bare z.declarations) kept)
 
 -- the fault of a text
-by_kind : (features : Features) (text : List ℕ) (e : Error) (k : ErrorKind) → e.kind ≡ k → IsFault Module text e ⊎ (e ≡ out_of_memory) → Precompiles features text (Err (refused_by k e))
+by_kind : (features : Features) (text : List ℕ) (e : Error) (k : ErrorKind) → e.kind ≡ k → IsModuleFault text e ⊎ (e ≡ out_of_memory) → Precompiles features text (Err (refused_by k e))
 by_kind features text e kind.OutOfMemory is h = tt
 by_kind features text e kind.InvalidToken is (inl fault) = fault
 by_kind features text e kind.InvalidToken is (inr memory) = let wrong : kind.OutOfMemory ≡ kind.InvalidToken = sym (ap (λ x. x.kind) memory) ∙ is in absurd (cc)
@@ -84,7 +83,7 @@ by_kind features text e kind.Attribute is (inr memory) = let wrong : kind.OutOfM
 by_kind features text e kind.VarTemplate is (inl fault) = fault
 by_kind features text e kind.VarTemplate is (inr memory) = let wrong : kind.OutOfMemory ≡ kind.VarTemplate = sym (ap (λ x. x.kind) memory) ∙ is in absurd (cc)
 
-pub fault_told : (features : Features) (text : List ℕ) (e : Error) → IsFault Module text e ⊎ (e ≡ out_of_memory) → Precompiles features text (Err (refused_as e))
+pub fault_told : (features : Features) (text : List ℕ) (e : Error) → IsModuleFault text e ⊎ (e ≡ out_of_memory) → Precompiles features text (Err (refused_as e))
 fault_told features text e h = by_kind features text e e.kind refl h
 
 -- ---- the first structure without members

@@ -6,11 +6,10 @@ use Rattle.wgsl_declarations.specs.declared.unit.TranslationUnit.{TranslationUni
 use Rattle.wgsl_declarations.specs.Tree.{Decl, structure, UnitTree}
 use Rattle.wgsl_declarations.specs.View.{unit_tree}
 use Rattle.wgsl_declarations.specs.Print.{unit_text}
-use Rattle.wgsl_reading.specs.declared.driver.Start.TheVariants.{Module}
 use Rattle.wgsl_error.specs.declared.error.ErrorKind.{ErrorKind}
 use Rattle.wgsl_error.specs.declared.error.ErrorKind.TheVariants as kind
 use Rattle.wgsl_error.specs.declared.error.Error.{Error}
-use Rattle.wgsl_parser.specs.Texts.{IsFault, ParsesModule}
+use Rattle.wgsl_parser.specs.Texts.{IsModuleFault, ParsesModule}
 use Rattle.wesl_features.specs.declared.feature.Features.{Features}
 use Rattle.wesl_features.specs.declared.error.CondCompError.{CondCompError}
 use Rattle.wesl_cond_spec.specs.Trees.{unit_left}
@@ -30,7 +29,7 @@ pub record SaysTree (text : List ℕ) (u : UnitTree) : Type 0 where
 
 -- A text is no module, or it is another than this.
 abbrev pub SaysNot : List ℕ → UnitTree → Type 0
-SaysNot text u = ((e : Error) × IsFault Module text e) ⊎ ((unit : TranslationUnit) × Says text unit × (unit_tree unit ≡ u → ⊥))
+SaysNot text u = ((e : Error) × IsModuleFault text e) ⊎ ((unit : TranslationUnit) × Says text unit × (unit_tree unit ≡ u → ⊥))
 
 -- The text says a module whose conditions have no error.
 pub record IsFixed (features : Features) (text : List ℕ) (left : UnitTree) : Type 0 where
@@ -57,7 +56,7 @@ IsPrecompiledText features text printed =
 -- There is none: this is the fault of the text; the first error of its conditions; or what is left is printed as a text that doesn't say it,
 -- which is told by the first structure without members.
 abbrev pub RefusesPrecompiling : Features → List ℕ → PrecompileError → Type 0
-RefusesPrecompiling features text (refusal.Syntax e) = IsFault Module text e
+RefusesPrecompiling features text (refusal.Syntax e) = IsModuleFault text e
 RefusesPrecompiling features text (refusal.Condition e) = (unit : TranslationUnit) × Says text unit × (unit_fault features (unit_tree unit) ≡ Some e)
 RefusesPrecompiling features text (refusal.Unprintable name) =
     (left : UnitTree) × IsFixed features text left × SaysNot (unit_text left) left × (name ≡ first_bare left.declarations)

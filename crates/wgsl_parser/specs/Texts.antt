@@ -9,6 +9,7 @@ use Rattle.wgsl_reading.specs.declared.driver.Start.{Start}
 use Rattle.wgsl_reading.specs.declared.driver.Start.TheVariants.{Module}
 use Rattle.wgsl_reading.specs.declared.answer.Unread.{Unread}
 use Rattle.wgsl_reading.specs.Readings.{Reads, IsPart}
+use Rattle.wgsl_error.specs.declared.error.ErrorKind.TheVariants as kind
 use Rattle.wgsl_error.specs.declared.error.Error.{Error}
 use Rattle.wgsl_error.specs.Errors.{out_of_memory}
 use Rattle.wgsl_parser.specs.Errors.{error_of}
@@ -44,11 +45,25 @@ empty_unit = record { imports = []; global_directives = []; global_declarations 
 abbrev pub IsBlank : List ℕ → Type 0
 IsBlank text = IsLexed text []
 
+-- The text is no module, and this is its fault; a text without tokens is an empty module.
+pub record IsModuleFault (text : List ℕ) (e : Error) : Type 0 where
+  pub fault : IsFault Module text e
+  pub some : IsBlank text → ⊥
+  pub told : e.kind ≡ kind.OutOfMemory → ⊥
+
 -- of a module, which may have no tokens
 abbrev pub ParsesModule : List ℕ → Result TranslationUnit Error → Type 0
 ParsesModule text (Ok unit) = IsParsed Module text (part.Module unit) ⊎ (IsBlank text × (unit ≡ empty_unit))
-ParsesModule text (Err e) = IsFault Module text e ⊎ (e ≡ out_of_memory)
+ParsesModule text (Err e) = IsModuleFault text e ⊎ (e ≡ out_of_memory)
+
+-- some tokens of a text of this length are no module, and this is its fault
+pub record IsTokensFault (n : ℕ) (tokens : List SpannedTemplateToken) (e : Error) : Type 0 where
+  pub some : tokens ≡ [] → ⊥
+  pub reason : Unread
+  pub unread : Reads Module tokens (Err reason)
+  pub same : e ≡ error_of n reason
+  pub told : e.kind ≡ kind.OutOfMemory → ⊥
 
 abbrev pub TellsModule : ℕ → List SpannedTemplateToken → Result TranslationUnit Error → Type 0
 TellsModule n tokens (Ok unit) = IsPart Module tokens (part.Module unit) ⊎ ((tokens ≡ []) × (unit ≡ empty_unit))
-TellsModule n tokens (Err e) = ((reason : Unread) × Reads Module tokens (Err reason) × (e ≡ error_of n reason)) ⊎ (e ≡ out_of_memory)
+TellsModule n tokens (Err e) = IsTokensFault n tokens e ⊎ (e ≡ out_of_memory)

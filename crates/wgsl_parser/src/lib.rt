@@ -2,13 +2,14 @@
 #![tactic(auto)]
 
 mod error;
+pub mod laws;
 mod parse;
 mod take;
 mod text;
 
 pub use parse::{
-    parse_declaration, parse_declaration_kind, parse_directive, parse_expression, parse_import,
-    parse_statement, parse_str,
+    check_str, parse_declaration, parse_declaration_kind, parse_directive, parse_expression,
+    parse_import, parse_statement, parse_str,
 };
 pub use text::FromText;
 pub use wgsl_error::{Error, ErrorKind};

@@ -1,6 +1,6 @@
 //! Texts.
 
-ghost use Rattle.std.specs.Prelude.{◌≡◌};
+ghost use Rattle.std.specs.Prelude.{◌≡◌, Ok, Err, OnOk, IfErr};
 ghost use Rattle.wgsl_parts.specs.declared.part.Part.TheVariants as as_part;
 ghost use Rattle.wgsl_reading.specs.declared.driver.Start.TheVariants as from;
 ghost use Rattle.wgsl_parser.specs.Texts.{Parses, ParsesModule, ParsesTokens, TellsModule};
@@ -123,6 +123,7 @@ pub fn parse_declaration_kind(alloc: Global, text: &str) -> Result<DeclarationKi
     }
 }
 
+#[tactic(auto, using(crate::proofs::Told::fault_said))]
 fn module_of(
     alloc: Global,
     length: usize,
@@ -147,6 +148,7 @@ fn module_of(
 }
 
 /// The text as a module.
+#[tactic(auto, using(crate::proofs::Told::module_said))]
 pub fn parse_str(alloc: Global, text: &str) -> Result<TranslationUnit, Error>
     ensures { ParsesModule text.now result }
 {
@@ -154,4 +156,13 @@ pub fn parse_str(alloc: Global, text: &str) -> Result<TranslationUnit, Error>
         Ok(tokens) => module_of(alloc, text.len(), tokens),
         Err(AllocError) => Err(Error::out_of_memory()),
     }
+}
+
+/// Whether a text is a module; if not, its fault. The tree is let go.
+pub fn check_str(alloc: Global, text: &str) -> Result<(), Error>
+    ensures module { OnOk result ((unit : TranslationUnit) × ParsesModule text.now (Ok unit)) }
+    ensures fault { IfErr result (λ e. ParsesModule text.now (Err e)) }
+{
+    let _unit = parse_str(alloc, text)?;
+    Ok(())
 }

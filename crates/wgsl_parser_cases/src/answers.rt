@@ -5,7 +5,7 @@ use crate::places;
 use std::alloc::{AllocError, Global};
 use std::fmt::{Display, Write};
 use wgsl_parser::{
-    Error, parse_declaration, parse_declaration_kind, parse_directive, parse_expression,
+    Error, check_str, parse_declaration, parse_declaration_kind, parse_directive, parse_expression,
     parse_import, parse_statement, parse_str,
 };
 
@@ -37,6 +37,7 @@ fn fault(alloc: Global, case: &str) -> Result<String, AllocError> {
     let (start, text) = cut(case);
     match start {
         "module" => fault_of(alloc, parse_str(alloc, text)),
+        "check" => fault_of(alloc, check_str(alloc, text)),
         "expression" => fault_of(alloc, parse_expression(alloc, text)),
         "statement" => fault_of(alloc, parse_statement(alloc, text)),
         "declaration" => fault_of(alloc, parse_declaration(alloc, text)),

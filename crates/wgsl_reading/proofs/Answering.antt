@@ -6,7 +6,7 @@ use Rattle.wgsl_stack.specs.Tops.{first}
 use Rattle.wgsl_shift_reduce.specs.declared.machine.Entry.{Entry}
 use Rattle.wgsl_shift_reduce.specs.Machine.{Outcome, read, stops, Comes}
 use Rattle.wgsl_shift_reduce.specs.Laws.{IsRead, IsStopped, Answers}
-use Rattle.wgsl_shift_reduce.proofs.Whole.{answers_are_exact}
+use Rattle.wgsl_shift_reduce.proofs.Whole.{answers_are_exact, sentences_are_answered}
 use Rattle.wgsl_tables.specs.Listed.{account}
 use Rattle.wgsl_grammar_tables.specs.Decoded.{listed}
 use Rattle.wgsl_grammar_tables.specs.Starts.{start}
@@ -20,7 +20,7 @@ use Rattle.wgsl_reading.specs.declared.driver.Start.{Start as From}
 use Rattle.wgsl_reading.specs.declared.driver.Start.TheVariants.{Module, Expression, Statement, Declaration, Directive, Import, Kind}
 use Rattle.wgsl_reading.specs.declared.answer.Unread.{Unread}
 use Rattle.wgsl_reading.specs.Phrases.{grammar, number, tables_of}
-use Rattle.wgsl_reading.specs.Readings.{goal_of, first_failed, passing, stopping, Reads, in_tree, in_front}
+use Rattle.wgsl_reading.specs.Readings.{goal_of, first_failed, passing, stopping, StopsAt, Derived, Reads, in_tree, in_front}
 
 number_below : (s : From) → nat_lt (number s) 7 ≡ true
 number_below Module = refl
@@ -44,6 +44,13 @@ answers s tokens left r c =
     answers_are_exact grammar (tables_of s) (account listed b) b.from b.rule b.sentence b.goal (tables_fit grammar (λ p. refl) token_of (number s) (number_below s)) tokens left r
     (subst (λ n. Comes grammar (tables_of s) n [] tokens r left) (sym (from_is (number s))) c)
 
+-- What tokens derive comes of them.
+pub derived_comes : (s : From) (tokens : List SpannedTemplateToken) (x : Phrase Part) → Derived s tokens x → Comes grammar (tables_of s) (number s) [] tokens (read x) []
+derived_comes s tokens x h =
+    let b = start (number s) in
+    subst (λ n. Comes grammar (tables_of s) n [] tokens (read x) []) (from_is (number s))
+    (sentences_are_answered grammar (tables_of s) (account listed b) b.from b.rule b.sentence b.goal (tables_fit grammar (λ p. refl) token_of (number s) (number_below s)) tokens x h.derives)
+
 read_by : (s : From) (tokens : List SpannedTemplateToken) (x : Phrase Part) → IsRead grammar (goal_of s) tokens x → (o : Option Failure) → x.failure ≡ o → Reads s tokens (passing o x.part)
 read_by s tokens x h None e = record { phrase = x; derived = h; passed = e; same = refl }
 read_by s tokens x h (Some f) e = in_tree x h e
@@ -51,14 +58,14 @@ read_by s tokens x h (Some f) e = in_tree x h e
 pub read_is : (s : From) (tokens left : List SpannedTemplateToken) (x : Phrase Part) → Comes grammar (tables_of s) (number s) [] tokens (read x) left → Reads s tokens (passing x.failure x.part)
 read_is s tokens left x c = let a = answers s tokens left (read x) c in read_by s tokens x a.0 x.failure refl
 
-stopped_by : (s : From) (tokens left : List SpannedTemplateToken) (stack : List (Entry (Phrase Part))) → IsStopped grammar (goal_of s) tokens stack left → (o : Option Failure) → first_failed stack ≡ o
-    → Reads s tokens (Err (stopping o (first left)))
-stopped_by s tokens left stack h None e = record { stack = stack; left = left; stopped = h; passed = e; first_left = refl }
-stopped_by s tokens left stack h (Some f) e = in_front stack left h e
+stopped_by : (s : From) (tokens left : List SpannedTemplateToken) (stack : List (Entry (Phrase Part))) → IsStopped grammar (goal_of s) tokens stack left → StopsAt s tokens stack left → (o : Option Failure)
+    → first_failed stack ≡ o → Reads s tokens (Err (stopping o (first left)))
+stopped_by s tokens left stack h c None e = record { stack = stack; left = left; stopped = h; comes = c; passed = e; first_left = refl }
+stopped_by s tokens left stack h c (Some f) e = in_front stack left h c e
 
 pub stopped_is : (s : From) (tokens left : List SpannedTemplateToken) (stack : List (Entry (Phrase Part))) → Comes grammar (tables_of s) (number s) [] tokens (stops stack) left
     → Reads s tokens (Err (stopping (first_failed stack) (first left)))
-stopped_is s tokens left stack c = stopped_by s tokens left stack (answers s tokens left (stops stack) c) (first_failed stack) refl
+stopped_is s tokens left stack c = stopped_by s tokens left stack (answers s tokens left (stops stack) c) c (first_failed stack) refl
 
 -- ---- the same for tokens and a state that are said to be these
 

@@ -1,2 +1,4 @@
 pub mod Answering
+pub mod Deterministic
 pub mod Failing
+pub mod Once

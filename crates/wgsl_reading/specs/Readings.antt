@@ -3,6 +3,7 @@ use Rattle.std.specs.Prelude.{◌≡◌, ℕ, List, [], ◌∷◌, Option, Some,
 use Rattle.wgsl_template_spec.specs.declared.token.SpannedTemplateToken.{SpannedTemplateToken}
 use Rattle.wgsl_stack.specs.Tops.{first}
 use Rattle.wgsl_shift_reduce.specs.declared.machine.Entry.{Entry}
+use Rattle.wgsl_shift_reduce.specs.Machine.{stops, Comes}
 use Rattle.wgsl_shift_reduce.specs.Laws.{IsRead, IsStopped}
 use Rattle.wgsl_parts.specs.declared.part.Part.{Part}
 use Rattle.wgsl_phrases.specs.declared.phrase.Phrase.{Phrase}
@@ -12,7 +13,7 @@ use Rattle.wgsl_grammar_tables.specs.Starts.{start}
 use Rattle.wgsl_reading.specs.declared.driver.Start.{Start as From}
 use Rattle.wgsl_reading.specs.declared.answer.Unread.{Unread}
 use Rattle.wgsl_reading.specs.declared.answer.Unread.TheVariants.{OutOfMemory, Failed, Unexpected}
-use Rattle.wgsl_reading.specs.Phrases.{grammar, number}
+use Rattle.wgsl_reading.specs.Phrases.{grammar, number, tables_of}
 
 -- The nonterminal of what is read.
 abbrev pub goal_of : From → ℕ
@@ -37,16 +38,22 @@ stopping None next = Unexpected next
 abbrev pub Derived : From → List SpannedTemplateToken → Phrase Part → Type 0
 Derived s tokens x = IsRead grammar (goal_of s) tokens x
 
+-- The parser by the grammar's tables stops with this stack and these tokens left; it stops in one way alone.
+abbrev pub StopsAt : From → List SpannedTemplateToken → List (Entry (Phrase Part)) → List SpannedTemplateToken → Type 0
+StopsAt s tokens stack left = Comes grammar (tables_of s) (number s) [] tokens (stops stack) left
+
 -- A check fails: in the tree that the tokens derive, or in what was read of tokens that derive none.
 pub data IsFailed (s : From) (tokens : List SpannedTemplateToken) (f : Failure) : Type 0 where
   in_tree : (x : Phrase Part) → Derived s tokens x → x.failure ≡ Some f → IsFailed s tokens f
-  in_front : (stack : List (Entry (Phrase Part))) (left : List SpannedTemplateToken) → IsStopped grammar (goal_of s) tokens stack left → first_failed stack ≡ Some f → IsFailed s tokens f
+  in_front : (stack : List (Entry (Phrase Part))) (left : List SpannedTemplateToken) → IsStopped grammar (goal_of s) tokens stack left → StopsAt s tokens stack left → first_failed stack ≡ Some f
+      → IsFailed s tokens f
 
 -- No phrase goes on with this token, or ends at the end; and no check fails in what was read before.
 pub record IsUnexpected (s : From) (tokens : List SpannedTemplateToken) (next : Option SpannedTemplateToken) : Type 0 where
   pub stack : List (Entry (Phrase Part))
   pub left : List SpannedTemplateToken
   pub stopped : IsStopped grammar (goal_of s) tokens stack left
+  pub comes : StopsAt s tokens stack left
   pub passed : first_failed stack ≡ None
   pub first_left : next ≡ first left
 

@@ -1,0 +1,35 @@
+-- A text that is no module has one fault, and a module has none.
+use Rattle.std.proofs.Common.{◌≡◌, ◌∙◌, sym, ap, subst, ℕ, List, length, inl, inr, Ok, Err}
+use Rattle.wgsl_template_spec.specs.declared.token.SpannedTemplateToken.{SpannedTemplateToken}
+use Rattle.wgsl_template_spec.proofs.Once.{lexed_once}
+use Rattle.wgsl_declarations.specs.declared.unit.TranslationUnit.{TranslationUnit}
+use Rattle.wgsl_parts.specs.declared.part.Part.TheVariants as part
+use Rattle.wgsl_reading.specs.declared.driver.Start.TheVariants.{Module}
+use Rattle.wgsl_reading.specs.declared.answer.Unread.{Unread}
+use Rattle.wgsl_reading.specs.declared.answer.Unread.TheVariants.{OutOfMemory}
+use Rattle.wgsl_reading.specs.Readings.{Reads}
+use Rattle.wgsl_reading.proofs.Once.{unread_once, read_apart}
+use Rattle.wgsl_error.specs.declared.error.Error.{Error}
+use Rattle.wgsl_parser.specs.Errors.{error_of}
+use Rattle.wgsl_parser.specs.Texts.{IsParsed, IsModuleFault, ParsesModule}
+
+-- A fault has a reason in the text.
+reason_told : (text : List ℕ) (e : Error) (h : IsModuleFault text e) → h.fault.reason ≡ OutOfMemory → ⊥
+reason_told text e h r = h.told (ap (λ x. x.kind) (h.fault.same ∙ ap (error_of (length text)) r))
+
+pub module_fault_once : (text : List ℕ) (e f : Error) → IsModuleFault text e → IsModuleFault text f → f ≡ e
+module_fault_once text e f h k =
+    let tokens : k.fault.tokens ≡ h.fault.tokens = lexed_once text k.fault.tokens h.fault.tokens k.fault.lexed h.fault.lexed in
+    let unread : Reads Module h.fault.tokens (Err k.fault.reason) = subst (λ l. Reads Module l (Err k.fault.reason)) tokens k.fault.unread in
+    let reason : k.fault.reason ≡ h.fault.reason = unread_once Module h.fault.tokens h.fault.reason k.fault.reason h.fault.unread unread (reason_told text e h) (reason_told text f k) in
+    k.fault.same ∙ ap (error_of (length text)) reason ∙ sym h.fault.same
+
+parsed_apart : (text : List ℕ) (unit : TranslationUnit) → IsParsed Module text (part.Module unit) → (e : Error) → IsModuleFault text e → ⊥
+parsed_apart text unit p e h =
+    let tokens : h.fault.tokens ≡ p.tokens = lexed_once text h.fault.tokens p.tokens h.fault.lexed p.lexed in
+    let unread : Reads Module p.tokens (Err h.fault.reason) = subst (λ l. Reads Module l (Err h.fault.reason)) tokens h.fault.unread in
+    read_apart Module p.tokens (part.Module unit) h.fault.reason p.part unread (reason_told text e h)
+
+pub module_apart : (text : List ℕ) (unit : TranslationUnit) → ParsesModule text (Ok unit) → (e : Error) → IsModuleFault text e → ⊥
+module_apart text unit (inl parsed) e h = parsed_apart text unit parsed e h
+module_apart text unit (inr empty) e h = h.some empty.0
