@@ -13,7 +13,11 @@ use wgsl_path::ModulePath;
 /// Why the module at a path, with such a text, is refused: the fault that the whole grammar finds in the text, else that it uses what is
 /// not supported yet.
 #[tactic(auto, using(crate::proofs::Said::whole_fault))]
-pub(crate) fn refusal(alloc: Global, path: &ModulePath, text: &str) -> Result<ResolveError, AllocError>
+pub(crate) fn refusal(
+    alloc: Global,
+    path: &ModulePath,
+    text: &str,
+) -> Result<ResolveError, AllocError>
     ensures { IfOk result (λ e. TellsBeyond text.now path.now e) }
 {
     match check_str(alloc, text) {

@@ -274,9 +274,9 @@ impl From<ResolveError> for CompileError {
                 ErrorContext::of_module(module),
                 error,
             ),
-            ResolveError::Unsupported(module) => CompileError::Unsupported(
-                ErrorContext::of_module(module),
-            ),
+            ResolveError::Unsupported(module) => CompileError::Unsupported(ErrorContext::of_module(
+                module,
+            )),
             ResolveError::OutOfMemory => CompileError::OutOfMemory,
         }
     }
