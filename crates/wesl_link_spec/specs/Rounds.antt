@@ -6,10 +6,10 @@ use Rattle.std.specs.Cmp.Lexicographic.{slice_cmp}
 use Rattle.std.specs.declared.cmp.Ordering.TheVariants.{Less}
 use Rattle.wgsl_path.specs.declared.path.ModulePath.{ModulePath}
 use Rattle.wgsl_path.specs.Paths.{path_text}
-use Rattle.wgsl_token.specs.declared.error.Error.{Error}
+use Rattle.wgsl_error.specs.declared.error.Error.{Error}
 use Rattle.wgsl_syntax.specs.Tree.{Decl, UnitTree}
 use Rattle.wgsl_syntax.specs.Names.{declared_name}
-use Rattle.wesl_resolve.specs.Found.{Answer, unit_of, not_found, faulty}
+use Rattle.wesl_resolve.specs.Found.{Answer, unit_of, not_found, faulty, unsupported}
 use Rattle.wesl_link_spec.specs.Occurrences.{Name, occurrences}
 use Rattle.wesl_link_spec.specs.Modules.{Path, Symbol, Modules, Declares, local_name, IsModule, IsMissing, IsPrivate, Reached, IsAsked}
 
@@ -22,6 +22,7 @@ pub data LoadError : Type 0 where
   too_many_modules : Path → LoadError
   module_not_found : Path → LoadError
   syntax : Path → Error → LoadError
+  module_unsupported : Path → LoadError
   duplicate_symbol : Path → Name → LoadError
   missing_decl : Path → Name → LoadError
   private : Path → Name → LoadError
@@ -44,13 +45,14 @@ pub record IsFirstAgain (names : List Name) (x : Name) : Type 0 where
   pub again : Contains before x
 
 -- Modules that are tested one after another, so many being loaded already: each may be one too many, not be found, have a
--- fault, or have one name twice.
+-- fault, use what is not supported yet, or have one name twice.
 module _ (sources : Sources) (max : ℕ) where
   pub data Loads : ℕ → List Path → Result Modules LoadError → Type 0 where
     all_loaded : {n : ℕ} → Loads n [] (Ok [])
     one_too_many : {n : ℕ} {p : Path} {ps : List Path} → max ≤ n → Loads n (p ∷ ps) (Err (too_many_modules p))
     is_not_found : {n : ℕ} {p : Path} {ps : List Path} → n < max → sources p not_found → Loads n (p ∷ ps) (Err (module_not_found p))
     is_faulty : {n : ℕ} {p : Path} {ps : List Path} {e : Error} → n < max → sources p (faulty e) → Loads n (p ∷ ps) (Err (syntax p e))
+    is_unsupported : {n : ℕ} {p : Path} {ps : List Path} → n < max → sources p unsupported → Loads n (p ∷ ps) (Err (module_unsupported p))
     has_a_name_twice : {n : ℕ} {p : Path} {ps : List Path} {u : UnitTree} {x : Name} → n < max → sources p (unit_of u)
         → IsFirstAgain (scope_names u) x → Loads n (p ∷ ps) (Err (duplicate_symbol p x))
     loaded_then_refused : {n : ℕ} {p : Path} {ps : List Path} {u : UnitTree} {r : LoadError} → n < max → sources p (unit_of u)

@@ -5,7 +5,7 @@ use Rattle.wgsl_syntax.specs.Tree.{UnitTree}
 use Rattle.wesl_resolve.specs.Found.{Answer, unit_of}
 use Rattle.wesl_link_spec.specs.Occurrences.{Name}
 use Rattle.wesl_link_spec.specs.Modules.{Path, Modules}
-use Rattle.wesl_link_spec.specs.Rounds.{Sources, LoadError, Loads, all_loaded, one_too_many, is_not_found, is_faulty, has_a_name_twice, loaded_then_refused, loaded, LoadsRounds, an_occurrence_refused, nothing_asked, a_module_refused, a_round, IsFirstUnkept, IsLoadingResult, root_refused, kept_name_missing, goes_on}
+use Rattle.wesl_link_spec.specs.Rounds.{Sources, LoadError, Loads, all_loaded, one_too_many, is_not_found, is_faulty, is_unsupported, has_a_name_twice, loaded_then_refused, loaded, LoadsRounds, an_occurrence_refused, nothing_asked, a_module_refused, a_round, IsFirstUnkept, IsLoadingResult, root_refused, kept_name_missing, goes_on}
 use Rattle.wesl_link_spec.specs.Asks.{AsksAmong, asks_first, asks_next, AsksFrom, in_this_round, in_a_later_round, Asks, for_the_root, onward}
 use Rattle.wesl_meaning.specs.Asked.{OnlyWhatIsAskedCounts}
 use Rattle.wesl_meaning.specs.Agreement.{OnlyAskedUnitsCount}
@@ -17,6 +17,7 @@ module _ (found other : Sources) (max : ℕ) where
   loads_too n (p ∷ ps) _ agree (one_too_many l) = one_too_many l
   loads_too n (p ∷ ps) _ agree (is_not_found l f) = is_not_found l ((agree p (asks_first l) _).0 f)
   loads_too n (p ∷ ps) _ agree (is_faulty l f) = is_faulty l ((agree p (asks_first l) _).0 f)
+  loads_too n (p ∷ ps) _ agree (is_unsupported l f) = is_unsupported l ((agree p (asks_first l) _).0 f)
   loads_too n (p ∷ ps) _ agree (has_a_name_twice l f a) = has_a_name_twice l ((agree p (asks_first l) _).0 f) a
   loads_too n (p ∷ ps) _ agree (loaded_then_refused {r = r} l f d rest) =
       loaded_then_refused l ((agree p (asks_first l) _).0 f) d (loads_too (n + 1) ps (Err r) (λ q a. agree q (asks_next l f d a)) rest)

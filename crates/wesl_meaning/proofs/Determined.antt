@@ -3,12 +3,12 @@ use Rattle.std.proofs.Common.{◌≡◌, ℕ, ◌+◌, ◌<◌, ◌≤◌, ◌�
 use Rattle.std.proofs.lemmas.List.Elements.{Contains-append_right}
 use Rattle.wgsl_path.specs.declared.path.ModulePath.{ModulePath}
 use Rattle.wgsl_path.specs.Paths.{path_text}
-use Rattle.wgsl_token.specs.declared.error.Error.{Error}
+use Rattle.wgsl_error.specs.declared.error.Error.{Error}
 use Rattle.wgsl_syntax.specs.Tree.{UnitTree}
 use Rattle.wesl_link_spec.specs.Occurrences.{Name}
 use Rattle.wesl_link_spec.specs.Modules.{Path, Modules, Declares}
-use Rattle.wesl_resolve.specs.Found.{unit_of, not_found, faulty}
-use Rattle.wesl_link_spec.specs.Rounds.{Sources, LoadError, too_many_modules, module_not_found, syntax, duplicate_symbol, missing_decl, scope_names, AreDistinct, IsFirstAgain, Loads, all_loaded, one_too_many, is_not_found, is_faulty, has_a_name_twice, loaded_then_refused, loaded, IsNextRound, NoneRefused, IsFirstRefused, LoadsRounds, an_occurrence_refused, nothing_asked, a_module_refused, a_round, IsFirstUnkept, IsLoadingResult, root_refused, kept_name_missing, goes_on}
+use Rattle.wesl_resolve.specs.Found.{unit_of, not_found, faulty, unsupported}
+use Rattle.wesl_link_spec.specs.Rounds.{Sources, LoadError, too_many_modules, module_not_found, syntax, module_unsupported, duplicate_symbol, missing_decl, scope_names, AreDistinct, IsFirstAgain, Loads, all_loaded, one_too_many, is_not_found, is_faulty, is_unsupported, has_a_name_twice, loaded_then_refused, loaded, IsNextRound, NoneRefused, IsFirstRefused, LoadsRounds, an_occurrence_refused, nothing_asked, a_module_refused, a_round, IsFirstUnkept, IsLoadingResult, root_refused, kept_name_missing, goes_on}
 use Rattle.wesl_meaning.specs.Determined.{listed, IsFunctional, SameOutcome, LoadingComesToOne}
 use Rattle.wgsl_items.proofs.Members.{first_in, in_cases, in_none}
 use Rattle.wesl_meaning.proofs.Members.{length_map}
@@ -31,6 +31,7 @@ module _ (found : Sources) (functional : IsFunctional found) (max : ℕ) where
     too_many : max ≤ n → o ≡ Err (too_many_modules p) → Step n p ps o
     missing : n < max → found p not_found → o ≡ Err (module_not_found p) → Step n p ps o
     bad : (e : Error) → n < max → found p (faulty e) → o ≡ Err (syntax p e) → Step n p ps o
+    beyond : n < max → found p unsupported → o ≡ Err (module_unsupported p) → Step n p ps o
     twice : (u : UnitTree) (x : Name) → n < max → found p (unit_of u) → IsFirstAgain (scope_names u) x → o ≡ Err (duplicate_symbol p x) → Step n p ps o
     then_refused : (u : UnitTree) (r : LoadError) → n < max → found p (unit_of u) → AreDistinct (scope_names u) → Loads found max (n + 1) ps (Err r) → o ≡ Err r → Step n p ps o
     then_loaded : (u : UnitTree) (path : ModulePath) (ms : Modules) → n < max → found p (unit_of u) → AreDistinct (scope_names u) → path_text path ≡ p → Loads found max (n + 1) ps (Ok ms) → o ≡ Ok ((path, u) ∷ ms) → Step n p ps o
@@ -39,6 +40,7 @@ module _ (found : Sources) (functional : IsFunctional found) (max : ℕ) where
   step_of n p ps _ (one_too_many l) = too_many l refl
   step_of n p ps _ (is_not_found l f) = missing l f refl
   step_of n p ps _ (is_faulty {e = e} l f) = bad e l f refl
+  step_of n p ps _ (is_unsupported l f) = beyond l f refl
   step_of n p ps _ (has_a_name_twice {u = u} {x = x} l f a) = twice u x l f a refl
   step_of n p ps _ (loaded_then_refused {u = u} {r = r} l f d rest) = then_refused u r l f d rest refl
   step_of n p ps _ (loaded {u = u} {path = path} {modules = ms} l f d t rest) = then_loaded u path ms l f d t rest refl
@@ -53,36 +55,49 @@ module _ (found : Sources) (functional : IsFunctional found) (max : ℕ) where
   steps_same n p ps o q more (too_many l e) (too_many k f) = same_refusal o q _ _ e f refl
   steps_same n p ps o q more (too_many l e) (missing k g f) = absurd (omega arith)
   steps_same n p ps o q more (too_many l e) (bad x k g f) = absurd (omega arith)
+  steps_same n p ps o q more (too_many l e) (beyond k g f) = absurd (omega arith)
   steps_same n p ps o q more (too_many l e) (twice u x k g a f) = absurd (omega arith)
   steps_same n p ps o q more (too_many l e) (then_refused u r k g d z f) = absurd (omega arith)
   steps_same n p ps o q more (too_many l e) (then_loaded u path ms k g d t z f) = absurd (omega arith)
   steps_same n p ps o q more (missing l h e) (too_many k f) = absurd (omega arith)
   steps_same n p ps o q more (missing l h e) (missing k g f) = same_refusal o q _ _ e f refl
   steps_same n p ps o q more (missing l h e) (bad x k g f) = absurd (cc (functional p _ _ h g))
+  steps_same n p ps o q more (missing l h e) (beyond k g f) = absurd (cc (functional p _ _ h g))
   steps_same n p ps o q more (missing l h e) (twice u x k g a f) = absurd (cc (functional p _ _ h g))
   steps_same n p ps o q more (missing l h e) (then_refused u r k g d z f) = absurd (cc (functional p _ _ h g))
   steps_same n p ps o q more (missing l h e) (then_loaded u path ms k g d t z f) = absurd (cc (functional p _ _ h g))
   steps_same n p ps o q more (bad y l h e) (too_many k f) = absurd (omega arith)
   steps_same n p ps o q more (bad y l h e) (missing k g f) = absurd (cc (functional p _ _ h g))
   steps_same n p ps o q more (bad y l h e) (bad x k g f) = let s : faulty y ≡ faulty x = functional p _ _ h g in let t : y ≡ x = cc in same_refusal o q _ _ e f (ap (syntax p) t)
+  steps_same n p ps o q more (bad y l h e) (beyond k g f) = absurd (cc (functional p _ _ h g))
   steps_same n p ps o q more (bad y l h e) (twice u x k g a f) = absurd (cc (functional p _ _ h g))
   steps_same n p ps o q more (bad y l h e) (then_refused u r k g d z f) = absurd (cc (functional p _ _ h g))
   steps_same n p ps o q more (bad y l h e) (then_loaded u path ms k g d t z f) = absurd (cc (functional p _ _ h g))
+  steps_same n p ps o q more (beyond l h e) (too_many k f) = absurd (omega arith)
+  steps_same n p ps o q more (beyond l h e) (missing k g f) = absurd (cc (functional p _ _ h g))
+  steps_same n p ps o q more (beyond l h e) (bad x k g f) = absurd (cc (functional p _ _ h g))
+  steps_same n p ps o q more (beyond l h e) (beyond k g f) = same_refusal o q _ _ e f refl
+  steps_same n p ps o q more (beyond l h e) (twice u x k g a f) = absurd (cc (functional p _ _ h g))
+  steps_same n p ps o q more (beyond l h e) (then_refused u r k g d z f) = absurd (cc (functional p _ _ h g))
+  steps_same n p ps o q more (beyond l h e) (then_loaded u path ms k g d t z f) = absurd (cc (functional p _ _ h g))
   steps_same n p ps o q more (twice v y l h b e) (too_many k f) = absurd (omega arith)
   steps_same n p ps o q more (twice v y l h b e) (missing k g f) = absurd (cc (functional p _ _ h g))
   steps_same n p ps o q more (twice v y l h b e) (bad x k g f) = absurd (cc (functional p _ _ h g))
+  steps_same n p ps o q more (twice v y l h b e) (beyond k g f) = absurd (cc (functional p _ _ h g))
   steps_same n p ps o q more (twice v y l h b e) (twice u x k g a f) = same_refusal o q _ _ e f (ap (duplicate_symbol p) (again_once (scope_names u) y x (subst (λ w. IsFirstAgain (scope_names w) y) (units_same p v u h g) b) a))
   steps_same n p ps o q more (twice v y l h b e) (then_refused u r k g d z f) = absurd (again_not_distinct (scope_names u) y (subst (λ w. IsFirstAgain (scope_names w) y) (units_same p v u h g) b) d)
   steps_same n p ps o q more (twice v y l h b e) (then_loaded u path ms k g d t z f) = absurd (again_not_distinct (scope_names u) y (subst (λ w. IsFirstAgain (scope_names w) y) (units_same p v u h g) b) d)
   steps_same n p ps o q more (then_refused v s l h b w e) (too_many k f) = absurd (omega arith)
   steps_same n p ps o q more (then_refused v s l h b w e) (missing k g f) = absurd (cc (functional p _ _ h g))
   steps_same n p ps o q more (then_refused v s l h b w e) (bad x k g f) = absurd (cc (functional p _ _ h g))
+  steps_same n p ps o q more (then_refused v s l h b w e) (beyond k g f) = absurd (cc (functional p _ _ h g))
   steps_same n p ps o q more (then_refused v s l h b w e) (twice u x k g a f) = absurd (again_not_distinct (scope_names v) x (subst (λ z. IsFirstAgain (scope_names z) x) (units_same p u v g h) a) b)
   steps_same n p ps o q more (then_refused v s l h b w e) (then_refused u r k g d z f) = same_refusal o q s r e f (more (Err s) (Err r) w z)
   steps_same n p ps o q more (then_refused v s l h b w e) (then_loaded u path ms k g d t z f) = absurd (more (Err s) (Ok ms) w z)
   steps_same n p ps o q more (then_loaded v path ms l h b t w e) (too_many k f) = absurd (omega arith)
   steps_same n p ps o q more (then_loaded v path ms l h b t w e) (missing k g f) = absurd (cc (functional p _ _ h g))
   steps_same n p ps o q more (then_loaded v path ms l h b t w e) (bad x k g f) = absurd (cc (functional p _ _ h g))
+  steps_same n p ps o q more (then_loaded v path ms l h b t w e) (beyond k g f) = absurd (cc (functional p _ _ h g))
   steps_same n p ps o q more (then_loaded v path ms l h b t w e) (twice u x k g a f) = absurd (again_not_distinct (scope_names v) x (subst (λ z. IsFirstAgain (scope_names z) x) (units_same p u v g h) a) b)
   steps_same n p ps o q more (then_loaded v path ms l h b t w e) (then_refused u r k g d z f) = absurd (more (Ok ms) (Err r) w z)
   steps_same n p ps o q more (then_loaded v path ms l h b t w e) (then_loaded u road ns k g d s z f) =

@@ -24,9 +24,9 @@ use Rattle.wgsl_syntax.specs.declared.unit.TranslationUnit.{TranslationUnit}
 use Rattle.wgsl_syntax.specs.View.{unit_tree}
 use Rattle.wesl_resolve.specs.declared.error.ResolveError.{ResolveError}
 use Rattle.wesl_resolve.specs.declared.error.ResolveError.TheVariants as resolve
-use Rattle.wesl_resolve.specs.Found.{unit_of, not_found, faulty, TellsUnit, SameAnswers}
+use Rattle.wesl_resolve.specs.Found.{unit_of, not_found, faulty, unsupported, TellsUnit, SameAnswers}
 use Rattle.wesl_link_spec.specs.Modules.{Path, Modules}
-use Rattle.wesl_link_spec.specs.Rounds.{Sources, LoadError, too_many_modules, module_not_found, syntax, duplicate_symbol, scope_names, AreDistinct, Loads, all_loaded, one_too_many, is_not_found, is_faulty, has_a_name_twice, loaded_then_refused, loaded}
+use Rattle.wesl_link_spec.specs.Rounds.{Sources, LoadError, too_many_modules, module_not_found, syntax, module_unsupported, duplicate_symbol, scope_names, AreDistinct, Loads, all_loaded, one_too_many, is_not_found, is_faulty, is_unsupported, has_a_name_twice, loaded_then_refused, loaded}
 use Rattle.wesl_scopes.specs.declared.error.ImportError.{ImportError}
 use Rattle.wesl_scopes.specs.declared.error.ImportError.TheVariants as import
 use Rattle.wesl_scopes.specs.declared.module.Module.{Module}
@@ -59,6 +59,9 @@ module _ (sources : Sources) (max n : ℕ) (path : ModulePath) (p : Path) (is : 
   unit_refused (resolve.Syntax q f) e less t g =
       let same : path_text q ≡ p = ap path_text t.0 ∙ is in
       told e (Some (syntax p f)) (ap refusal_of g ∙ ap (λ x. Some (syntax x f)) same) (λ ps. is_faulty less (subst (λ x. sources x (faulty f)) is t.1))
+  unit_refused (resolve.Unsupported q) e less t g =
+      let same : path_text q ≡ p = ap path_text t.0 ∙ is in
+      told e (Some (module_unsupported p)) (ap refusal_of g ∙ ap (λ x. Some (module_unsupported x)) same) (λ ps. is_unsupported less (subst (λ x. sources x unsupported) is t.1))
 
   pub module_refused : (unit : TranslationUnit) (e : ImportError) → n < max → sources (path_text path) (unit_of (unit_tree unit)) → Opens path unit (Err e)
       → (ps : List Path) → RefusesLoading sources max n (p ∷ ps) (refusal_of e)
@@ -215,6 +218,7 @@ same_loads a b max n ps o same (all_loaded) = all_loaded
 same_loads a b max n ps o same (one_too_many full) = one_too_many full
 same_loads a b max n ps o same (is_not_found {p = p} less s) = is_not_found less ((same p not_found).1 s)
 same_loads a b max n ps o same (is_faulty {p = p} {e = e} less s) = is_faulty less ((same p (faulty e)).1 s)
+same_loads a b max n ps o same (is_unsupported {p = p} less s) = is_unsupported less ((same p unsupported).1 s)
 same_loads a b max n ps o same (has_a_name_twice {p = p} {u = u} less s twice) = has_a_name_twice less ((same p (unit_of u)).1 s) twice
 same_loads a b max n ps o same (loaded_then_refused {n = k} {p = p} {ps = qs} {u = u} {r = r} less s d l) = loaded_then_refused less ((same p (unit_of u)).1 s) d (same_loads a b max (k + 1) qs (Err r) same l)
 same_loads a b max n ps o same (loaded {n = k} {p = p} {ps = qs} {u = u} {modules = m} less s d is l) = loaded less ((same p (unit_of u)).1 s) d is (same_loads a b max (k + 1) qs (Ok m) same l)

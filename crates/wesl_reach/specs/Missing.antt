@@ -9,7 +9,7 @@ use Rattle.wgsl_syntax.specs.Tree.{Decl, UnitTree}
 use Rattle.wesl_resolve.specs.declared.error.ResolveError.TheVariants as resolve
 use Rattle.wesl_link_spec.specs.Occurrences.{Name, occurrences}
 use Rattle.wesl_link_spec.specs.Modules.{Path}
-use Rattle.wesl_link_spec.specs.Rounds.{LoadError, too_many_modules, module_not_found, syntax, duplicate_symbol, missing_decl, private as is_private, StandsBefore}
+use Rattle.wesl_link_spec.specs.Rounds.{LoadError, too_many_modules, module_not_found, syntax, module_unsupported, duplicate_symbol, missing_decl, private as is_private, StandsBefore}
 use Rattle.wesl_scopes.specs.declared.error.ImportError.{ImportError}
 use Rattle.wesl_scopes.specs.declared.error.ImportError.TheVariants as import
 use Rattle.wesl_scopes.specs.Outcomes.{Outcome, symbol_at, unloaded, missing, private, free, Loaded, outcome}
@@ -20,6 +20,7 @@ abbrev pub refusal_of : ImportError → Option LoadError
 refusal_of (import.TooManyModules p) = Some (too_many_modules (path_text p))
 refusal_of (import.Resolve (resolve.ModuleNotFound p)) = Some (module_not_found (path_text p))
 refusal_of (import.Resolve (resolve.Syntax p e)) = Some (syntax (path_text p) e)
+refusal_of (import.Resolve (resolve.Unsupported p)) = Some (module_unsupported (path_text p))
 refusal_of (import.Resolve resolve.OutOfMemory) = None
 refusal_of (import.DuplicateSymbol p x) = Some (duplicate_symbol (path_text p) x)
 refusal_of (import.MissingDecl p x) = Some (missing_decl (path_text p) x)

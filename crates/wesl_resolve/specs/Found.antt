@@ -2,24 +2,26 @@
 use Rattle.std.specs.Prelude.{◌≡◌, ⊤, ◌↔◌, ◌⊎◌, List, [], ◌∷◌, ◌++◌, ℕ, Option, Result, Ok, Err}
 use Rattle.std.specs.Option.{option_map}
 use Rattle.wgsl_path.specs.declared.path.ModulePath.{ModulePath}
-use Rattle.wgsl_token.specs.declared.error.Error.{Error}
+use Rattle.wgsl_error.specs.declared.error.Error.{Error}
 use Rattle.wgsl_syntax.specs.Tree.{UnitTree}
 use Rattle.wgsl_syntax.specs.declared.unit.TranslationUnit.{TranslationUnit}
 use Rattle.wgsl_syntax.specs.View.{unit_tree}
 use Rattle.wesl_resolve.specs.declared.error.ResolveError.{ResolveError}
-use Rattle.wesl_resolve.specs.declared.error.ResolveError.TheVariants.{ModuleNotFound, Syntax, OutOfMemory}
+use Rattle.wesl_resolve.specs.declared.error.ResolveError.TheVariants.{ModuleNotFound, Syntax, Unsupported, OutOfMemory}
 
--- a module's unit, that there is none, or what is wrong with its text
+-- a module's unit, that there is none, what is wrong with its text, or that it uses what is not supported yet
 pub data Answer : Type 0 where
   unit_of : UnitTree → Answer
   not_found : Answer
   faulty : Error → Answer
+  unsupported : Answer
 
 -- memory aside, a call that asks for the module at a path tells what is found there
 abbrev pub TellsUnit : (Answer → Type 0) → ModulePath → Result TranslationUnit ResolveError → Type 0
 TellsUnit found path (Ok unit) = found (unit_of (unit_tree unit))
 TellsUnit found path (Err (ModuleNotFound p)) = (p ≡ path) × found not_found
 TellsUnit found path (Err (Syntax p e)) = (p ≡ path) × found (faulty e)
+TellsUnit found path (Err (Unsupported p)) = (p ≡ path) × found unsupported
 TellsUnit found path (Err OutOfMemory) = ⊤
 
 -- likewise for its text
@@ -27,6 +29,7 @@ abbrev pub TellsText : (Answer → Type 0) → (List ℕ → Type 0) → ModuleP
 TellsText found texts path (Ok text) = texts text
 TellsText found texts path (Err (ModuleNotFound p)) = (p ≡ path) × found not_found
 TellsText found texts path (Err (Syntax p e)) = ⊥
+TellsText found texts path (Err (Unsupported p)) = ⊥
 TellsText found texts path (Err OutOfMemory) = ⊤
 
 -- nothing is found otherwise

@@ -2,8 +2,8 @@
 
 use std::alloc::AllocError;
 use thiserror::Error as Message;
+use wgsl_error::Error;
 use wgsl_path::ModulePath;
-use wgsl_token::Error;
 
 /// Why a resolver gives no module for a path.
 #[derive(Debug, Drop, Message)]
@@ -12,6 +12,9 @@ pub enum ResolveError {
     ModuleNotFound(ModulePath),
     #[error("in {0}: {1}")]
     Syntax(ModulePath, Error),
+    /// The module uses what is not supported yet.
+    #[error("{0} uses what is not supported yet")]
+    Unsupported(ModulePath),
     /// Memory was refused. This says nothing of the module.
     #[error("out of memory")]
     OutOfMemory,

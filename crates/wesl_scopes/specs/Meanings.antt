@@ -89,3 +89,4 @@ abbrev pub GivesError : ResolveError → ImportError → Type 0
 GivesError resolve.OutOfMemory e = e ≡ OutOfMemory
 GivesError (resolve.ModuleNotFound p) e = e ≡ Resolve (resolve.ModuleNotFound p)
 GivesError (resolve.Syntax p f) e = e ≡ Resolve (resolve.Syntax p f)
+GivesError (resolve.Unsupported p) e = e ≡ Resolve (resolve.Unsupported p)

@@ -27,7 +27,7 @@ use Rattle.weslc_api.specs.Told.{about_name, Tells}
 use Rattle.weslc_api.specs.declared.error.ResolveKind.TheVariants.{ModuleNotFound}
 use Rattle.weslc_api.specs.declared.error.ImportKind.TheVariants.{DuplicateSymbol, MissingDecl, Private}
 use Rattle.weslc_api.specs.declared.error.CompileError.{CompileError}
-use Rattle.weslc_api.specs.declared.error.CompileError.TheVariants.{TooManyModules, Resolve, Syntax, Import, NameClash, Validate, UnclearName, Eval, Unprintable, OutOfMemory}
+use Rattle.weslc_api.specs.declared.error.CompileError.TheVariants.{TooManyModules, Resolve, Syntax, Unsupported, Import, NameClash, Validate, UnclearName, Eval, Unprintable, OutOfMemory}
 use Rattle.weslc_agreement.specs.Asked.{AgreesOnAsked, HasAskedUnits}
 use Rattle.weslc_agreement.specs.Answers.{SameAnswer, TellTheSame, IsCompiledAnswer, IsLinkedAnswer, CompiledAlike, LinkedAlike}
 use Rattle.weslc_agreement.proofs.Units.{units_are_one}
@@ -87,6 +87,7 @@ module _ (Of : Saying) (found : Sources) (root : Path) (asked : List Name) (max 
   refused_ends (TooManyModules c) (m, is, refused) = in_loading _ refused (m, ap TooManyModules is, refl)
   refused_ends (Resolve c ModuleNotFound) (m, is, refused) = in_loading _ refused (m, ap (λ d. Resolve d ModuleNotFound) is, refl)
   refused_ends (Syntax c f) (m, is, refused) = in_loading _ refused (m, ap (λ d. Syntax d f) is, refl)
+  refused_ends (Unsupported c) (m, is, refused) = in_loading _ refused (m, ap Unsupported is, refl)
   refused_ends (Import c DuplicateSymbol) (m, x, is, refused) = in_loading _ refused (m, ap (λ d. Import d DuplicateSymbol) is, refl)
   refused_ends (Import c MissingDecl) (m, x, is, refused) = in_loading _ refused (m, ap (λ d. Import d MissingDecl) is, refl)
   refused_ends (Import c Private) (m, x, is, refused) = in_loading _ refused (m, ap (λ d. Import d Private) is, refl)

@@ -7,7 +7,7 @@ use Rattle.wesl_link_spec.specs.Occurrences.{Name}
 use Rattle.wesl_link_spec.specs.Modules.{Path, Modules}
 use Rattle.wesl_link_spec.specs.Named.{ImportsAreApart}
 use Rattle.wesl_link_spec.specs.Kept.{kept_names}
-use Rattle.wesl_link_spec.specs.Rounds.{Sources, LoadError, too_many_modules, Loads, one_too_many, is_not_found, is_faulty, has_a_name_twice, loaded_then_refused, loaded, IsLoadingResult, root_refused, kept_name_missing, goes_on}
+use Rattle.wesl_link_spec.specs.Rounds.{Sources, LoadError, too_many_modules, Loads, one_too_many, is_not_found, is_faulty, is_unsupported, has_a_name_twice, loaded_then_refused, loaded, IsLoadingResult, root_refused, kept_name_missing, goes_on}
 use Rattle.wesl_meaning.specs.Agreement.{AreAlike}
 use Rattle.wesl_link_spec.specs.Asks.{Asks, AsksAmong, asks_first, asks_next, for_the_root, onward}
 use Rattle.wesl_meaning.specs.Determined.{IsFunctional, SameOutcome}
@@ -41,6 +41,7 @@ module _ (found : Sources) (root : Path) (asked : List Name) (max : ℕ) where
   none_loads none _ (one_too_many l) = refl
   none_loads none _ (is_not_found l f) = absurd (none l)
   none_loads none _ (is_faulty l f) = absurd (none l)
+  none_loads none _ (is_unsupported l f) = absurd (none l)
   none_loads none _ (has_a_name_twice l f a) = absurd (none l)
   none_loads none _ (loaded_then_refused l f d rest) = absurd (none l)
   none_loads none _ (loaded l f d t rest) = absurd (none l)

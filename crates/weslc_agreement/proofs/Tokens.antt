@@ -7,7 +7,7 @@ use Rattle.wgsl_round_trip.specs.Printing.{StandsFor}
 use Rattle.wgsl_round_trip.specs.Same.{HaveSameTokens}
 use Rattle.wgsl_round_trip.proofs.Apart.{imports_of_texts_are_apart}
 use Rattle.wgsl_round_trip.proofs.Same.{same_tokens_stand_for_the_same}
-use Rattle.wesl_resolve.specs.Found.{Answer, unit_of, not_found, faulty}
+use Rattle.wesl_resolve.specs.Found.{Answer, unit_of, not_found, faulty, unsupported}
 use Rattle.wesl_link_spec.specs.Occurrences.{Name}
 use Rattle.wesl_link_spec.specs.Modules.{Path}
 use Rattle.wesl_meaning.specs.Determined.{IsFunctional}
@@ -58,7 +58,8 @@ says_too one other same u s = record { says = is; only = only }
     only : (b : Answer) → Says other b → b ≡ unit_of u
     only (unit_of v) it = s.only (unit_of v) (read_too other one (turned one other same) v it)
     only not_found none = absurd none
-    only (faulty e) fault = absurd (parsing.apart (lexed_once other) is.1 fault)
+    only (faulty e) ((f, fault), whole) = absurd (parsing.apart (lexed_once other) is.1 fault)
+    only unsupported ((f, fault), whole) = absurd (parsing.apart (lexed_once other) is.1 fault)
 
 found_too : (o p : Option (List ℕ)) → AreOfSameTokens o p → (u : UnitTree) → found_in o (unit_of u) → found_in p (unit_of u)
 found_too None None same u is = is

@@ -4,7 +4,7 @@ use Rattle.wgsl_path.specs.declared.path.ModulePath.{ModulePath}
 use Rattle.wgsl_path.specs.Paths.{path_text}
 use Rattle.wesl_link_spec.specs.Occurrences.{Name}
 use Rattle.wesl_link_spec.specs.Modules.{Path, Modules, Symbol}
-use Rattle.wesl_link_spec.specs.Rounds.{LoadError, too_many_modules, module_not_found, syntax, duplicate_symbol, missing_decl, private}
+use Rattle.wesl_link_spec.specs.Rounds.{LoadError, too_many_modules, module_not_found, syntax, module_unsupported, duplicate_symbol, missing_decl, private}
 use Rattle.wesl_validate.specs.declared.error.ValidateFault.{ValidateFault}
 use Rattle.wgsl_eval.specs.declared.error.DeclarationFault.{DeclarationFault as Evaluation}
 use Rattle.wesl_meaning.specs.Agreement.{AreAlike}
@@ -18,7 +18,7 @@ use Rattle.weslc_api.specs.Told.{about_module, about_item, about_name, about_dec
 use Rattle.weslc_api.specs.declared.error.ResolveKind.TheVariants.{ModuleNotFound}
 use Rattle.weslc_api.specs.declared.error.ImportKind.TheVariants.{DuplicateSymbol, MissingDecl, Private}
 use Rattle.weslc_api.specs.declared.error.CompileError.{CompileError}
-use Rattle.weslc_api.specs.declared.error.CompileError.TheVariants.{TooManyModules, Resolve, Syntax, Import, NameClash, Validate, UnclearName, Eval, Unprintable, OutOfMemory}
+use Rattle.weslc_api.specs.declared.error.CompileError.TheVariants.{TooManyModules, Resolve, Syntax, Unsupported, Import, NameClash, Validate, UnclearName, Eval, Unprintable, OutOfMemory}
 use Rattle.weslc_agreement.specs.Answers.{SameContext, TellTheSame, SameAnswer}
 
 -- ---- want of memory tells nothing
@@ -27,6 +27,7 @@ pub memory_last : (e : CompileError) → TellTheSame e OutOfMemory
 memory_last (TooManyModules c) = tt
 memory_last (Resolve c k) = tt
 memory_last (Syntax c f) = tt
+memory_last (Unsupported c) = tt
 memory_last (Import c k) = tt
 memory_last (NameClash c) = tt
 memory_last (Validate c k) = tt
@@ -65,6 +66,7 @@ abbrev pub TellsLoading : LoadError → CompileError → Type 0
 TellsLoading (too_many_modules p) e = (m : ModulePath) × (e ≡ TooManyModules (about_module m)) × (path_text m ≡ p)
 TellsLoading (module_not_found p) e = (m : ModulePath) × (e ≡ Resolve (about_module m) ModuleNotFound) × (path_text m ≡ p)
 TellsLoading (syntax p f) e = (m : ModulePath) × (e ≡ Syntax (about_module m) f) × (path_text m ≡ p)
+TellsLoading (module_unsupported p) e = (m : ModulePath) × (e ≡ Unsupported (about_module m)) × (path_text m ≡ p)
 TellsLoading (duplicate_symbol p x) e = (m : ModulePath) × (e ≡ Import (about_item m x) DuplicateSymbol) × (path_text m ≡ p)
 TellsLoading (missing_decl p x) e = (m : ModulePath) × (e ≡ Import (about_item m x) MissingDecl) × (path_text m ≡ p)
 TellsLoading (private p x) e = (m : ModulePath) × (e ≡ Import (about_item m x) Private) × (path_text m ≡ p)
@@ -73,6 +75,7 @@ pub loading_told : (r : LoadError) (e f : CompileError) → TellsLoading r e →
 loading_told (too_many_modules p) e f (m, a, i) (n, b, j) = told_by e f _ _ a b (modules_same m n (i ∙ sym j))
 loading_told (module_not_found p) e f (m, a, i) (n, b, j) = told_by e f _ _ a b (modules_same m n (i ∙ sym j), refl)
 loading_told (syntax p x) e f (m, a, i) (n, b, j) = told_by e f _ _ a b (modules_same m n (i ∙ sym j), refl)
+loading_told (module_unsupported p) e f (m, a, i) (n, b, j) = told_by e f _ _ a b (modules_same m n (i ∙ sym j))
 loading_told (duplicate_symbol p x) e f (m, a, i) (n, b, j) = told_by e f _ _ a b (items_same m n x (i ∙ sym j), refl)
 loading_told (missing_decl p x) e f (m, a, i) (n, b, j) = told_by e f _ _ a b (items_same m n x (i ∙ sym j), refl)
 loading_told (private p x) e f (m, a, i) (n, b, j) = told_by e f _ _ a b (items_same m n x (i ∙ sym j), refl)
@@ -134,6 +137,7 @@ fault_tells tell f OutOfMemory t = inl refl
 fault_tells tell f (TooManyModules c) t = absurd t
 fault_tells tell f (Resolve c k) t = absurd t
 fault_tells tell f (Syntax c k) t = absurd t
+fault_tells tell f (Unsupported c) t = absurd t
 fault_tells tell f (Import c k) t = absurd t
 fault_tells tell f (NameClash c) t = absurd t
 fault_tells tell f (UnclearName c) t = absurd t
@@ -149,6 +153,7 @@ evaluation_tells tell r OutOfMemory t = inl refl
 evaluation_tells tell r (TooManyModules c) t = absurd t
 evaluation_tells tell r (Resolve c k) t = absurd t
 evaluation_tells tell r (Syntax c k) t = absurd t
+evaluation_tells tell r (Unsupported c) t = absurd t
 evaluation_tells tell r (Import c k) t = absurd t
 evaluation_tells tell r (NameClash c) t = absurd t
 evaluation_tells tell r (Validate c k) t = absurd t

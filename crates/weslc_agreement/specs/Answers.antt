@@ -9,7 +9,7 @@ use Rattle.wesl_link_spec.specs.Named.{ImportsAreApart}
 use Rattle.weslc_api.specs.Answers.{IsLinkedText, IsCompiledText, RefusesLinking, IsUnprintable, IsRefusedUnit}
 use Rattle.weslc_api.specs.declared.error.ErrorContext.{ErrorContext}
 use Rattle.weslc_api.specs.declared.error.CompileError.{CompileError}
-use Rattle.weslc_api.specs.declared.error.CompileError.TheVariants.{TooManyModules, Resolve, Syntax, Import, NameClash, Validate, UnclearName, Eval, Unprintable, OutOfMemory}
+use Rattle.weslc_api.specs.declared.error.CompileError.TheVariants.{TooManyModules, Resolve, Syntax, Unsupported, Import, NameClash, Validate, UnclearName, Eval, Unprintable, OutOfMemory}
 use Rattle.weslc_agreement.specs.Asked.{AgreesOnAsked}
 
 -- ---- errors
@@ -34,6 +34,7 @@ TellTheSame e OutOfMemory = ⊤
 TellTheSame (TooManyModules c) (TooManyModules d) = SameContext c d
 TellTheSame (Resolve c k) (Resolve d l) = SameContext c d × (k ≡ l)
 TellTheSame (Syntax c f) (Syntax d g) = SameContext c d × (f ≡ g)
+TellTheSame (Unsupported c) (Unsupported d) = SameContext c d
 TellTheSame (Import c k) (Import d l) = SameContext c d × (k ≡ l)
 TellTheSame (NameClash c) (NameClash d) = SameContext c d
 TellTheSame (Validate c k) (Validate d l) = SameContext c d × (k ≡ l)

@@ -8,14 +8,14 @@ use Rattle.weslc_api.specs.Mapped.{IsFound, AreFound, Texts, HasText, HaveTexts,
 use Rattle.wesl_resolve.specs.declared.source_map.BasicSourceMap.{BasicSourceMap}
 use Rattle.wgsl_path.specs.declared.path.ModulePath.{ModulePath}
 use Rattle.wgsl_path.specs.Paths.{path_text}
-use Rattle.wgsl_token.specs.declared.error.Error.{Error}
+use Rattle.wgsl_error.specs.declared.error.Error.{Error}
 use Rattle.wgsl_syntax.specs.Tree.{UnitTree as Module}
-use Rattle.wesl_resolve.specs.Found.{unit_of, not_found, faulty, TellsUnit, SameAnswers}
+use Rattle.wesl_resolve.specs.Found.{unit_of, not_found, faulty, unsupported, TellsUnit, SameAnswers}
 use Rattle.wesl_resolve.specs.declared.error.ResolveError.{ResolveError}
 use Rattle.wesl_resolve.specs.declared.error.ResolveError.TheVariants as resolve
 use Rattle.wesl_link_spec.specs.Occurrences.{Name}
 use Rattle.wesl_link_spec.specs.Modules.{Path, Modules, IsModule}
-use Rattle.wesl_link_spec.specs.Rounds.{Sources, LoadError, module_not_found, syntax, Loads, all_loaded, one_too_many, is_not_found, is_faulty, has_a_name_twice, loaded_then_refused, loaded, LoadsRounds, an_occurrence_refused, nothing_asked, a_module_refused, a_round, IsLoadingResult, root_refused, kept_name_missing, goes_on}
+use Rattle.wesl_link_spec.specs.Rounds.{Sources, LoadError, module_not_found, syntax, module_unsupported, Loads, all_loaded, one_too_many, is_not_found, is_faulty, is_unsupported, has_a_name_twice, loaded_then_refused, loaded, LoadsRounds, an_occurrence_refused, nothing_asked, a_module_refused, a_round, IsLoadingResult, root_refused, kept_name_missing, goes_on}
 use Rattle.wesl_link_spec.specs.Asks.{AsksAmong, asks_first, asks_next, AsksFrom, in_this_round, in_a_later_round, Asks, for_the_root, onward}
 use Rattle.wesl_link_spec.specs.Kept.{kept_names}
 use Rattle.wesl_link_spec.specs.Linked.{IsLinked}
@@ -55,6 +55,7 @@ module _ (found other : Sources) (same : SameAnswers found other) (max : ℕ) wh
   loads_moves (one_too_many m) = one_too_many m
   loads_moves (is_not_found {p = p} m f) = is_not_found m ((same p not_found).0 f)
   loads_moves (is_faulty {p = p} {e = e} m f) = is_faulty m ((same p (faulty e)).0 f)
+  loads_moves (is_unsupported {p = p} m f) = is_unsupported m ((same p unsupported).0 f)
   loads_moves (has_a_name_twice {p = p} {u = u} m f again) = has_a_name_twice m ((same p (unit_of u)).0 f) again
   loads_moves (loaded_then_refused {p = p} {u = u} m f d more) = loaded_then_refused m ((same p (unit_of u)).0 f) d (loads_moves more)
   loads_moves (loaded {p = p} {u = u} m f d t more) = loaded m ((same p (unit_of u)).0 f) d t (loads_moves more)
@@ -91,16 +92,20 @@ turned found other same p a = ((same p a).1, (same p a).0)
 -- ---- the error that tells a refusal
 
 module _ (found : Sources) (root : Path) (asked : List Name) (max : ℕ) where
-  -- the root is not found, or its text is at fault
+  -- the root is not found, its text is at fault, or it uses what is not supported yet
   root_not_found : 0 < max → (path m : ModulePath) → path_text path ≡ root → m ≡ path → found root not_found → IsRefusedLoading found root asked max (module_not_found (path_text m))
   root_not_found some path m is same f = rw same (rw is (of_the_root (is_not_found some f)))
 
   root_faulty : 0 < max → (path m : ModulePath) (e : Error) → path_text path ≡ root → m ≡ path → found root (faulty e) → IsRefusedLoading found root asked max (syntax (path_text m) e)
   root_faulty some path m e is same f = rw same (rw is (of_the_root (is_faulty some f)))
 
+  root_unsupported : 0 < max → (path m : ModulePath) → path_text path ≡ root → m ≡ path → found root unsupported → IsRefusedLoading found root asked max (module_unsupported (path_text m))
+  root_unsupported some path m is same f = rw same (rw is (of_the_root (is_unsupported some f)))
+
   pub root_told : 0 < max → (path : ModulePath) → path_text path ≡ root → (e : ResolveError) → TellsUnit (found root) path (Err e) → RefusesLinking found root asked max (of_resolving e)
   root_told some path is (resolve.ModuleNotFound m) t = (m, refl, root_not_found some path m is t.0 t.1)
   root_told some path is (resolve.Syntax m f) t = (m, refl, root_faulty some path m f is t.0 t.1)
+  root_told some path is (resolve.Unsupported m) t = (m, refl, root_unsupported some path m is t.0 t.1)
   root_told some path is resolve.OutOfMemory t = tt
 
   -- something behind the root is refused, in what is found after the root was asked for
@@ -113,6 +118,7 @@ module _ (found : Sources) (root : Path) (asked : List Name) (max : ℕ) where
   loading_told after same unit is (import.TooManyModules m) r = (m, refl, behind after same unit is _ r)
   loading_told after same unit is (import.Resolve (resolve.ModuleNotFound m)) r = (m, refl, behind after same unit is _ r)
   loading_told after same unit is (import.Resolve (resolve.Syntax m f)) r = (m, refl, behind after same unit is _ r)
+  loading_told after same unit is (import.Resolve (resolve.Unsupported m)) r = (m, refl, behind after same unit is _ r)
   loading_told after same unit is (import.Resolve resolve.OutOfMemory) r = tt
   loading_told after same unit is (import.DuplicateSymbol m x) r = (m, x, refl, behind after same unit is _ r)
   loading_told after same unit is (import.MissingDecl m x) r = (m, x, refl, behind after same unit is _ r)

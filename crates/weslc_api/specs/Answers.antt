@@ -8,7 +8,7 @@ use Rattle.wesl_resolve.specs.Found.{unit_of}
 use Rattle.wesl_link_spec.specs.Occurrences.{Name}
 use Rattle.wesl_link_spec.specs.Modules.{Path, Modules, IsModule}
 use Rattle.wesl_link_spec.specs.Named.{AreNamedByImports}
-use Rattle.wesl_link_spec.specs.Rounds.{Sources, LoadError, too_many_modules, module_not_found, syntax, duplicate_symbol, missing_decl, private, Loads, IsLoadingResult}
+use Rattle.wesl_link_spec.specs.Rounds.{Sources, LoadError, too_many_modules, module_not_found, syntax, module_unsupported, duplicate_symbol, missing_decl, private, Loads, IsLoadingResult}
 use Rattle.wesl_link_spec.specs.Kept.{kept_names}
 use Rattle.wesl_link_spec.specs.Loaded.{IsClashFree}
 use Rattle.wesl_link_spec.specs.Clashing.{IsFirstClash}
@@ -31,7 +31,7 @@ use Rattle.weslc_api.specs.Told.{about_module, about_item, about_name, Tells}
 use Rattle.weslc_api.specs.declared.error.ResolveKind.TheVariants.{ModuleNotFound}
 use Rattle.weslc_api.specs.declared.error.ImportKind.TheVariants.{DuplicateSymbol, MissingDecl, Private}
 use Rattle.weslc_api.specs.declared.error.CompileError.{CompileError}
-use Rattle.weslc_api.specs.declared.error.CompileError.TheVariants.{TooManyModules, Resolve, Syntax, Import, NameClash, Validate, UnclearName, Eval, Unprintable, OutOfMemory}
+use Rattle.weslc_api.specs.declared.error.CompileError.TheVariants.{TooManyModules, Resolve, Syntax, Unsupported, Import, NameClash, Validate, UnclearName, Eval, Unprintable, OutOfMemory}
 
 -- what the map tells of the names of the linked unit: what is held in these tables
 abbrev pub TellsTables : Resolutions → BasicSourceMap → Type 0
@@ -91,6 +91,7 @@ module _ (found : Sources) (root : Path) (asked : List Name) (max : ℕ) where
   RefusesLinking (TooManyModules c) = (m : ModulePath) × (c ≡ about_module m) × IsRefusedLoading (too_many_modules (path_text m))
   RefusesLinking (Resolve c ModuleNotFound) = (m : ModulePath) × (c ≡ about_module m) × IsRefusedLoading (module_not_found (path_text m))
   RefusesLinking (Syntax c f) = (m : ModulePath) × (c ≡ about_module m) × IsRefusedLoading (syntax (path_text m) f)
+  RefusesLinking (Unsupported c) = (m : ModulePath) × (c ≡ about_module m) × IsRefusedLoading (module_unsupported (path_text m))
   RefusesLinking (Import c DuplicateSymbol) = (m : ModulePath) × (x : Name) × (c ≡ about_item m x) × IsRefusedLoading (duplicate_symbol (path_text m) x)
   RefusesLinking (Import c MissingDecl) = (m : ModulePath) × (x : Name) × (c ≡ about_item m x) × IsRefusedLoading (missing_decl (path_text m) x)
   RefusesLinking (Import c Private) = (m : ModulePath) × (x : Name) × (c ≡ about_item m x) × IsRefusedLoading (private (path_text m) x)

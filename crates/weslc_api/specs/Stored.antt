@@ -6,11 +6,14 @@ use Rattle.std.specs.Str.{bytes_eq}
 use Rattle.std.specs.HashMap.{values}
 use Rattle.wgsl_path.specs.Paths.{path_text}
 use Rattle.wgsl_path.specs.declared.path.ModulePath.{ModulePath}
+use Rattle.wgsl_token.specs.declared.error.Error.{Error as PartError}
 use Rattle.wgsl_parse.specs.Texts.{IsFaultOf}
+use Rattle.wgsl_declarations.specs.declared.unit.TranslationUnit.{TranslationUnit as WholeUnit}
+use Rattle.wgsl_parser.specs.Texts.{ParsesModule, IsModuleFault}
 use Rattle.wgsl_syntax.specs.Tree.{UnitTree}
-use Rattle.wesl_resolve.specs.Found.{Answer, unit_of, not_found, faulty}
+use Rattle.wesl_resolve.specs.Found.{Answer, unit_of, not_found, faulty, unsupported}
 use Rattle.wesl_resolve.specs.declared.error.ResolveError.{ResolveError}
-use Rattle.wesl_resolve.specs.declared.error.ResolveError.TheVariants.{ModuleNotFound, Syntax, OutOfMemory}
+use Rattle.wesl_resolve.specs.declared.error.ResolveError.TheVariants.{ModuleNotFound, Syntax, Unsupported, OutOfMemory}
 use Rattle.weslc_unit.specs.Compiled.{IsTextOf}
 use Rattle.weslc_api.specs.declared.resolver.VirtualModule.{VirtualModule}
 use Rattle.weslc_api.specs.declared.resolver.VirtualResolver.{VirtualResolver}
@@ -41,18 +44,28 @@ text_among (m ∷ ms) p = if bytes_eq (path_text m.0) p then Some m.1 else text_
 abbrev pub text_at : VirtualResolver → List ℕ → Option (List ℕ)
 text_at r p = text_among (texts_added r) p
 
--- a text says what it derives: a unit, or its fault
+-- The part of the language that is linked has no module with this text: the part's grammar has a fault there.
+abbrev pub IsBeyondPart : List ℕ → Type 0
+IsBeyondPart text = (f : PartError) × IsFaultOf text f
+
+-- The text is a module of the whole language.
+abbrev pub IsWholeModule : List ℕ → Type 0
+IsWholeModule text = (unit : WholeUnit) × ParsesModule text (Ok unit)
+
+-- What a text says. A module of the part is a unit. Any other text is no module of the whole language, and has the fault that the
+-- whole grammar finds; or it is one, and uses what is not supported yet.
 abbrev pub Says : List ℕ → Answer → Type 0
 Says text (unit_of u) = IsTextOf u text
 Says text not_found = ⊥
-Says text (faulty e) = IsFaultOf text e
+Says text (faulty e) = IsBeyondPart text × IsModuleFault text e
+Says text unsupported = IsBeyondPart text × IsWholeModule text
 
 -- this, and nothing else
 pub record SaysOnly (text : List ℕ) (a : Answer) : Type 0 where
   pub says : Says text a
   pub only : (b : Answer) → Says text b → b ≡ a
 
--- what is found where this text, or none, was added: the one unit that the text derives, or its one fault
+-- what is found where this text, or none, was added: the one thing that the text says
 abbrev pub found_in : Option (List ℕ) → Answer → Type 0
 found_in None a = a ≡ not_found
 found_in (Some text) a = SaysOnly text a
@@ -61,6 +74,7 @@ abbrev is_unit : Answer → Type 0
 is_unit (unit_of u) = ⊤
 is_unit not_found = ⊥
 is_unit (faulty e) = ⊥
+is_unit unsupported = ⊥
 
 -- where a unit is found there is a text
 pub text_of_found : (o : Option (List ℕ)) (u : UnitTree) → found_in o (unit_of u) → (text : List ℕ) × (o ≡ Some text)
@@ -76,4 +90,13 @@ abbrev pub TellsStored : VirtualResolver → ModulePath → Result (Bor (List �
 TellsStored r path (Ok text) = text_at r (path_text path) ≡ Some text.now
 TellsStored r path (Err (ModuleNotFound p)) = (p ≡ path) × (text_at r (path_text path) ≡ None)
 TellsStored r path (Err (Syntax p e)) = ⊥
+TellsStored r path (Err (Unsupported p)) = ⊥
 TellsStored r path (Err OutOfMemory) = ⊤
+
+-- memory aside, what is told of a text that is no module of the part: its fault in the whole language, or that it uses what is not
+-- supported yet
+abbrev pub TellsBeyond : List ℕ → ModulePath → ResolveError → Type 0
+TellsBeyond text path (Syntax p e) = (p ≡ path) × IsModuleFault text e
+TellsBeyond text path (Unsupported p) = (p ≡ path) × IsWholeModule text
+TellsBeyond text path OutOfMemory = ⊤
+TellsBeyond text path (ModuleNotFound p) = ⊥

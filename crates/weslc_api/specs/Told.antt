@@ -19,7 +19,7 @@ use Rattle.weslc_api.specs.declared.error.ImportKind.{ImportKind}
 use Rattle.weslc_api.specs.declared.error.ResolveKind.TheVariants.{ModuleNotFound}
 use Rattle.weslc_api.specs.declared.error.ImportKind.TheVariants.{DuplicateSymbol, MissingDecl, Private}
 use Rattle.weslc_api.specs.declared.error.CompileError.{CompileError}
-use Rattle.weslc_api.specs.declared.error.CompileError.TheVariants.{TooManyModules, Resolve, Syntax, Import, NameClash, Validate, UnclearName, Eval, Unprintable, OutOfMemory}
+use Rattle.weslc_api.specs.declared.error.CompileError.TheVariants.{TooManyModules, Resolve, Syntax, Unsupported, Import, NameClash, Validate, UnclearName, Eval, Unprintable, OutOfMemory}
 
 -- ---- what an error is about
 
@@ -43,6 +43,7 @@ abbrev pub context_of : CompileError → Option ErrorContext
 context_of (TooManyModules c) = Some c
 context_of (Resolve c kind) = Some c
 context_of (Syntax c fault) = Some c
+context_of (Unsupported c) = Some c
 context_of (Import c kind) = Some c
 context_of (NameClash c) = Some c
 context_of (Validate c kind) = Some c
@@ -65,6 +66,7 @@ import_text Private = codes "Private"
 abbrev pub of_resolving : ResolveError → CompileError
 of_resolving (resolve.ModuleNotFound m) = Resolve (about_module m) ModuleNotFound
 of_resolving (resolve.Syntax m f) = Syntax (about_module m) f
+of_resolving (resolve.Unsupported m) = Unsupported (about_module m)
 of_resolving resolve.OutOfMemory = OutOfMemory
 
 abbrev pub of_loading : ImportError → CompileError

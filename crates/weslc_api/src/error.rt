@@ -10,8 +10,8 @@ use std::fmt;
 use thiserror::Error as Message;
 use wesl_link::{BasicSourceMap, ImportError, ResolveError, SourceMap};
 use weslc_unit::{DeclarationFault, Fault, UnitRefusal, ValidateError, ValidateFault};
+use wgsl_error::Error;
 use wgsl_items::{CloneIn, Text};
-use wgsl_parse::Error;
 use wgsl_path::ModulePath;
 
 /// What a refusal is about.
@@ -46,6 +46,8 @@ pub enum CompileError {
     Resolve(ErrorContext, ResolveKind),
     #[error("a module's text is no module: {1}")]
     Syntax(ErrorContext, Error),
+    #[error("a module uses what is not supported yet")]
+    Unsupported(ErrorContext),
     #[error("a name is declared twice, missing or private")]
     Import(ErrorContext, ImportKind),
     #[error("a name of the linked unit is read otherwise than meant")]
@@ -223,6 +225,7 @@ impl CompileError {
             CompileError::TooManyModules(context) => Some(context),
             CompileError::Resolve(context, _) => Some(context),
             CompileError::Syntax(context, _) => Some(context),
+            CompileError::Unsupported(context) => Some(context),
             CompileError::Import(context, _) => Some(context),
             CompileError::NameClash(context) => Some(context),
             CompileError::Validate(context, _) => Some(context),
@@ -271,6 +274,9 @@ impl From<ResolveError> for CompileError {
                 ErrorContext::of_module(module),
                 error,
             ),
+            ResolveError::Unsupported(module) => CompileError::Unsupported(ErrorContext::of_module(
+                module,
+            )),
             ResolveError::OutOfMemory => CompileError::OutOfMemory,
         }
     }

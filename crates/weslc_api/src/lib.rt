@@ -1,6 +1,7 @@
 //! The calls of `weslc`.
 #![tactic(auto)]
 
+mod beyond;
 mod calls;
 mod error;
 mod options;
@@ -16,4 +17,4 @@ pub use wesl_link::{
     BasicSourceMap, EscapeMangler, ImportError, ResolveError, Resolver, SourceMap,
 };
 pub use weslc_unit::{Fault, NameFault, ValidateError};
-pub use wgsl_parse::{Error, ErrorKind};
+pub use wgsl_error::{Error, ErrorKind};

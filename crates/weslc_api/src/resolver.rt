@@ -2,6 +2,7 @@
 
 ghost use Rattle.weslc_api.specs.Keyed.{AreKeyed};
 
+use crate::beyond::refusal;
 use indexmap::IndexMap;
 use std::alloc::{AllocError, Global};
 use wesl_link::{ResolveError, Resolver};
@@ -102,11 +103,12 @@ impl Resolver for VirtualResolver {
         alloc: Global,
         path: &ModulePath,
     ) -> Result<TranslationUnit, ResolveError> {
-        match parse_str(alloc, self.get_module(path)?) {
+        let text = self.get_module(path)?;
+        match parse_str(alloc, text) {
             Ok(unit) => Ok(unit),
             Err(error) => match error.kind {
                 ErrorKind::OutOfMemory => Err(ResolveError::OutOfMemory),
-                _ => Err(ResolveError::Syntax(path.clone_in(alloc)?, error)),
+                _ => Err(refusal(alloc, path, text)?),
             },
         }
     }

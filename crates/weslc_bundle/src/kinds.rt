@@ -1,8 +1,8 @@
 //! The words by which a line tells the kind of an inner fault.
 
 use wesl_features::CondCompError;
-use weslc_api::{ErrorKind, Fault, NameFault, ValidateError};
-use wgsl_parser::ErrorKind as ModuleErrorKind;
+use weslc_api::{Fault, NameFault, ValidateError};
+use wgsl_error::ErrorKind;
 use wgsl_shader_type::Error;
 
 pub(crate) fn syntax_kind(kind: ErrorKind) -> &'static str {
@@ -11,21 +11,10 @@ pub(crate) fn syntax_kind(kind: ErrorKind) -> &'static str {
         ErrorKind::ReservedWord => "ReservedWord",
         ErrorKind::UnexpectedToken => "UnexpectedToken",
         ErrorKind::UnexpectedEof => "UnexpectedEof",
+        ErrorKind::DiagnosticSeverity => "DiagnosticSeverity",
+        ErrorKind::Attribute => "Attribute",
+        ErrorKind::VarTemplate => "VarTemplate",
         ErrorKind::OutOfMemory => "OutOfMemory",
-    }
-}
-
-/// The kind of a fault of a text in the whole language.
-pub(crate) fn module_fault_kind(kind: ModuleErrorKind) -> &'static str {
-    match kind {
-        ModuleErrorKind::InvalidToken => "InvalidToken",
-        ModuleErrorKind::ReservedWord => "ReservedWord",
-        ModuleErrorKind::UnexpectedToken => "UnexpectedToken",
-        ModuleErrorKind::UnexpectedEof => "UnexpectedEof",
-        ModuleErrorKind::DiagnosticSeverity => "DiagnosticSeverity",
-        ModuleErrorKind::Attribute => "Attribute",
-        ModuleErrorKind::VarTemplate => "VarTemplate",
-        ModuleErrorKind::OutOfMemory => "OutOfMemory",
     }
 }
 

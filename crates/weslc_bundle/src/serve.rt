@@ -9,7 +9,7 @@ use crate::bundle::read_bundle;
 use crate::error::ServeError;
 use crate::field::Field;
 use crate::input::read_input;
-use crate::kinds::{condition_kind, eval_kind, module_fault_kind, syntax_kind, validate_kind};
+use crate::kinds::{condition_kind, eval_kind, syntax_kind, validate_kind};
 use crate::output::write_text;
 use crate::request::BundleError;
 use std::alloc::Global;
@@ -112,6 +112,10 @@ fn write_compile_error<E: Write>(errors: &mut E, error: &CompileError) -> io::Re
             write!(errors, "error: Syntax.{kind}")?;
             write_context(errors, context, Some(error.span))
         }
+        CompileError::Unsupported(context) => {
+            errors.write_all(b"error: Unsupported")?;
+            write_context(errors, context, None)
+        }
         CompileError::Import(context, kind) => {
             write!(errors, "error: Import.{kind}")?;
             write_context(errors, context, None)
@@ -145,7 +149,7 @@ fn write_compile_error<E: Write>(errors: &mut E, error: &CompileError) -> io::Re
 fn write_precompile_error<E: Write>(errors: &mut E, error: &PrecompileError) -> io::Result<()> {
     match error {
         PrecompileError::Syntax(error) => {
-            let kind = module_fault_kind(error.kind);
+            let kind = syntax_kind(error.kind);
             let (start, end) = (error.span.start, error.span.end);
             writeln!(errors, "error: Syntax.{kind} - - {start}..{end} -")
         }

@@ -1,5 +1,5 @@
 -- What is answered the text says, and nothing else.
-use Rattle.weslc_api.proofs.Said.{says_unit, says_fault, found_there}
+use Rattle.weslc_api.proofs.Said.{says_unit, found_there, refused_there}
 use Rattle.weslc_api.proofs.resolver.VirtualResolverResolver.resolve_module.Goals as goal
 
 pub returns-in-Ok-clause-unit : goal.returns-in-Ok-clause-unit
@@ -8,10 +8,9 @@ returns-in-Ok-clause-unit c =
     let said = c.in-Ok.ensures in
     found_there _ text _ c.in_ok-get_module.ensures (says_unit text said.apart c.in-Ok.unit said.tree said.only)
 
-pub returns-in_ok-clone_in-in_default-clause-unit : goal.returns-in_ok-clone_in-in_default-clause-unit
-returns-in_ok-clone_in-in_default-clause-unit c =
+pub returns-in_ok-refusal-in_default-clause-unit : goal.returns-in_ok-refusal-in_default-clause-unit
+returns-in_ok-refusal-in_default-clause-unit c =
     let text = c.in_ok-get_module.field-0.now in
     let said = c.in-Err.ensures in
     let error = c.in-Err.error in
-    let told = c.in_default.not-OutOfMemory in
-    (c.in_ok-clone_in-in_default.ensures, found_there _ text _ c.in_ok-get_module.ensures (says_fault text said.apart error told (said.fault told) said.faulty))
+    refused_there text said.apart _ c.in_ok-get_module.ensures (error, said.fault c.in_default.not-OutOfMemory) _ _ c.in_ok-refusal-in_default.ensures
