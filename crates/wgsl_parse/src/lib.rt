@@ -6,6 +6,7 @@ mod cursor;
 mod declaration;
 mod expression;
 mod import;
+mod nesting;
 mod text;
 mod unit;
 

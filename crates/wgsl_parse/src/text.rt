@@ -6,6 +6,7 @@ ghost use Rattle.wgsl_grammar.specs.Declarations.{IsUnit};
 ghost use Rattle.wgsl_parse.specs.Texts as spec;
 ghost use Rattle.wgsl_parse.specs.Texts.{Derives, IsFaultIn, IsFaultOf};
 
+use crate::nesting::may_nest_too_deep;
 use crate::unit::{ParseError, parse_tokens};
 use std::alloc::Global;
 use wgsl_lex::lex;
@@ -84,7 +85,8 @@ fn parse_lexed(
 /// The syntax tree of a module's text, or the fault of the text.
 ///
 /// A text with faults has the one that ends first: the first token with which no module goes on, or the end of the text,
-/// as an empty place there. Where memory is refused the error says nothing of the text, and its place is empty too.
+/// as an empty place there. Where memory is refused the error says nothing of the text, and its place is empty too; the call stack
+/// is memory, so trees that could be nested deeper than it holds are refused likewise.
 pub fn parse_str(alloc: Global, text: &str) -> Result<TranslationUnit, Error>
     ensures tree { IfOk result (Derives text.now) }
     ensures only { IfOk result (λ unit. (other : _) → Derives text.now other → other ≡ unit) }
@@ -97,5 +99,8 @@ pub fn parse_str(alloc: Global, text: &str) -> Result<TranslationUnit, Error>
     let Ok(tokens) = lex(alloc, text) else {
         return Err(out_of_memory());
     };
+    if may_nest_too_deep(tokens.as_slice()) {
+        return Err(out_of_memory());
+    }
     parse_lexed(alloc, text.len(), tokens.as_slice())
 }
