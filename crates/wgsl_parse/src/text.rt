@@ -2,13 +2,15 @@
 
 ghost use Rattle.std.specs.Prelude.{◌≡◌, ◌≢◌, ◌⊎◌, ◌<◌, Some, IfOk, IfErr, Ok, Err, length, slice_get};
 ghost use Rattle.wgsl_token.specs.declared.error.ErrorKind.TheVariants as kind;
+ghost use Rattle.wgsl_lex.specs.Tokens.{IsLexed};
 ghost use Rattle.wgsl_grammar.specs.Declarations.{IsUnit};
 ghost use Rattle.wgsl_parse.specs.Texts as spec;
 ghost use Rattle.wgsl_parse.specs.Texts.{Derives, IsFaultIn, IsFaultOf};
 
 use crate::nesting::may_nest_too_deep;
 use crate::unit::{ParseError, parse_tokens};
-use std::alloc::Global;
+use std::alloc::{AllocError, Global};
+use wgsl_items::Items;
 use wgsl_lex::lex;
 use wgsl_path::Span;
 use wgsl_syntax::TranslationUnit;
@@ -82,6 +84,17 @@ fn parse_lexed(
     }
 }
 
+/// The tokens of a text, unless its trees could be nested too deep.
+fn shallow_tokens(alloc: Global, text: &str) -> Result<Items<SpannedToken>, AllocError>
+    ensures { IfOk result (IsLexed text.now) }
+{
+    let tokens = lex(alloc, text)?;
+    if may_nest_too_deep(tokens.as_slice()) {
+        return Err(AllocError);
+    }
+    Ok(tokens)
+}
+
 /// The syntax tree of a module's text, or the fault of the text.
 ///
 /// A text with faults has the one that ends first: the first token with which no module goes on, or the end of the text,
@@ -96,11 +109,8 @@ pub fn parse_str(alloc: Global, text: &str) -> Result<TranslationUnit, Error>
     ensures memory { IfErr result (λ e. e.kind ≡ kind.OutOfMemory → e ≡ spec.out_of_memory) }
     ensures apart { (unit : _) → Derives text.now unit → (e : _) → IsFaultOf text.now e → ⊥ }
 {
-    let Ok(tokens) = lex(alloc, text) else {
+    let Ok(tokens) = shallow_tokens(alloc, text) else {
         return Err(out_of_memory());
     };
-    if may_nest_too_deep(tokens.as_slice()) {
-        return Err(out_of_memory());
-    }
     parse_lexed(alloc, text.len(), tokens.as_slice())
 }
