@@ -13,7 +13,7 @@ use stream::{Sink, Source};
 use weslc_bundle::serve_bundle;
 
 /// The files of cases, each a list.
-const FILES: [&str; 8] = [
+const FILES: [&str; 9] = [
     "bundles.json",
     "fields.json",
     "texts.json",
@@ -22,6 +22,7 @@ const FILES: [&str; 8] = [
     "examples.json",
     "linking.json",
     "precompiled.json",
+    "nesting.json",
 ];
 
 fn main(rt: HostRuntime) -> io::Result<()> {
