@@ -41,10 +41,15 @@ pub fn serve_bundle<R: Read, W: Write, E: Write>(
             Ok(()) => 0,
             Err(_) => 1,
         },
-        Err(refusal) => match write_refusal(errors, &refusal) {
-            Ok(()) => status(&refusal),
-            Err(_) => 1,
-        },
+        Err(refusal) => {
+            let written = write_refusal(errors, &refusal);
+            let status = status(&refusal);
+            drop(refusal);
+            match written {
+                Ok(()) => status,
+                Err(_) => 1,
+            }
+        }
     }
 }
 
