@@ -11,15 +11,15 @@ use wgsl_expressions::ExpressionNode;
 use wgsl_items::{Boxed, Items, Text};
 use wgsl_parts::take::{both, end, ended, expressions, ident};
 use wgsl_parts::{AttributeLabel, Part, Stack};
-use wgsl_path::{Ident, Span, Spanned};
+use wgsl_path::{Span, Spanned};
 use wgsl_simple_statements::DeclarationKind;
 use wgsl_token::Fixed;
 
 fn name_word(parts: &mut Stack<Part>) -> Result<Part, AllocError>
     ensures { IfOk result (λ part. part ≡ making.name_word parts.old) }
 {
-    let Ident { name } = ended(ident(parts), parts)?;
-    Ok(Part::Word(name))
+    let name = ended(ident(parts), parts)?;
+    Ok(Part::Word(name.into_name()))
 }
 
 fn reserved_word(parts: &mut Stack<Part>) -> Result<Part, AllocError>

@@ -11,7 +11,6 @@ use wgsl_imports::{DiagnosticDirective, EnableDirective, GlobalDirective, Requir
 use wgsl_items::{Boxed, Items};
 use wgsl_parts::take::{both, ended, ident};
 use wgsl_parts::{DirectiveLabel, Part, Stack};
-use wgsl_path::Ident;
 
 fn directive(alloc: Global, directive: GlobalDirective) -> Result<Part, AllocError>
     ensures { IfOk result (λ part. part ≡ Part.Directive directive) }
@@ -23,8 +22,8 @@ fn directive(alloc: Global, directive: GlobalDirective) -> Result<Part, AllocErr
 fn name(parts: &mut Stack<Part>) -> Result<Part, AllocError>
     ensures { IfOk result (λ part. part ≡ making.name parts.old) }
 {
-    let Ident { name } = ended(ident(parts), parts)?;
-    Ok(Part::Text(name))
+    let name = ended(ident(parts), parts)?;
+    Ok(Part::Text(name.into_name()))
 }
 
 fn rule_of(parts: &mut Stack<Part>) -> Result<Part, AllocError>
@@ -32,8 +31,8 @@ fn rule_of(parts: &mut Stack<Part>) -> Result<Part, AllocError>
 {
     let name = ident(parts);
     let rule = ident(parts);
-    let (Ident { name }, rule) = ended(both(name, rule), parts)?;
-    let mut whole = name;
+    let (name, rule) = ended(both(name, rule), parts)?;
+    let mut whole = name.into_name();
     whole.push_str(".")?;
     whole.push_str(rule.as_str())?;
     Ok(Part::Text(whole))

@@ -10,14 +10,14 @@ use wgsl_items::{Boxed, Items};
 use wgsl_make_expressions::longer;
 use wgsl_parts::take::{attributes, both, end, ended, ident, three, ups};
 use wgsl_parts::{ImportLabel, Part, Stack};
-use wgsl_path::{Ident, ModulePath, PathOrigin};
+use wgsl_path::{ModulePath, PathOrigin};
 
 fn from_package(alloc: Global, parts: &mut Stack<Part>) -> Result<Part, AllocError>
     ensures { IfOk result (λ part. part ≡ making.from_package parts.old) }
 {
-    let Ident { name } = ended(ident(parts), parts)?;
+    let name = ended(ident(parts), parts)?;
     Ok(Part::ModulePath(ModulePath {
-        origin: PathOrigin::Package(name),
+        origin: PathOrigin::Package(name.into_name()),
         components: Items::new(alloc),
     }))
 }
@@ -44,16 +44,16 @@ fn from_within(parts: &mut Stack<Part>) -> Result<Part, AllocError>
 {
     let outer = source(parts);
     let name = ident(parts);
-    let (outer, Ident { name }) = ended(both(outer, name), parts)?;
-    Ok(Part::ModulePath(longer(outer, name)?))
+    let (outer, name) = ended(both(outer, name), parts)?;
+    Ok(Part::ModulePath(longer(outer, name.into_name())?))
 }
 
 fn first_step(alloc: Global, parts: &mut Stack<Part>) -> Result<Part, AllocError>
     ensures { IfOk result (λ part. part ≡ making.first_step parts.old) }
 {
-    let Ident { name } = ended(ident(parts), parts)?;
+    let name = ended(ident(parts), parts)?;
     let mut steps = Items::new(alloc);
-    steps.push(name)?;
+    steps.push(name.into_name())?;
     Ok(Part::Texts(steps))
 }
 
@@ -62,8 +62,8 @@ fn next_step(parts: &mut Stack<Part>) -> Result<Part, AllocError>
 {
     let steps = texts(parts);
     let name = ident(parts);
-    let (mut steps, Ident { name }) = ended(both(steps, name), parts)?;
-    steps.push(name)?;
+    let (mut steps, name) = ended(both(steps, name), parts)?;
+    steps.push(name.into_name())?;
     Ok(Part::Texts(steps))
 }
 

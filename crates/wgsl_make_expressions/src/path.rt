@@ -8,7 +8,7 @@ use std::alloc::{AllocError, Global};
 use wgsl_expressions::{ExpressionNode, TemplateArg};
 use wgsl_items::{Items, Text};
 use wgsl_parts::QualifiedName;
-use wgsl_path::{Ident, ModulePath, PathOrigin};
+use wgsl_path::{ModulePath, PathOrigin};
 
 /// A path, and a name behind it.
 pub fn longer(path: ModulePath, name: Text) -> Result<ModulePath, AllocError>
@@ -27,7 +27,7 @@ pub(crate) fn within(alloc: Global, name: QualifiedName) -> Result<ModulePath, A
     ensures { IfOk result (λ path. path ≡ path_within name.path name.ident.name) }
 {
     let QualifiedName { path, ident } = name;
-    let Ident { name } = ident;
+    let name = ident.into_name();
     match path {
         None => Ok(ModulePath {
             origin: PathOrigin::Package(name),

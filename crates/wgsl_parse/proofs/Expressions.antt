@@ -174,7 +174,7 @@ parses_number {tokens = tokens} {s1 = s1} {k = k} is op = parses_as numeric_is (
 -- behind id
 
 named_is : (u : List SpannedToken) (x : Spanned Expression) → Then IsWord Named u x → IsPrimary u x
-named_is u x (next {x = w} (taken {k = k} is done) (left done)) = subst (λ k. IsPrimary (k ∷ []) (node (e.TypeOrIdentifier (type_named w.ident.name)) w.span)) (sym is) name
+named_is u x (next {x = w} (taken {k = k} is done) (left done)) = subst (λ k. IsPrimary (k ∷ []) (node (e.TypeOrIdentifier (type_named w.name)) w.span)) (sym is) name
 named_is u x (next {x = w} (taken {k = k} is done) (right (taken {k = j} {o = p} opens (next {u = a} {x = xs} h (taken {k = i} {o = q} closes d))))) =
     at_end d (λ b y. IsPrimary (k ∷ j ∷ a ++ i ∷ b) y) (rw (is, opens, closes) (call q h))
 
@@ -185,8 +185,8 @@ named_out tokens u v k x is named (number {n = n} {s = s} {l = l} h) f = absurd 
     no_name : (n : Token) → literal_of n ≡ Some l → name_of n ≡ None
     no_name (t.Identifier id) h = cc
     no_name _ h = refl
-named_out tokens u v k x is named (name {id = id} {s = s}) f = next (taken {o = record { ident = record { name = id }; span = s }} refl done) (left done)
-named_out tokens u v k x is named (call {id = id} {s = s} q h) f = next (taken {o = record { ident = record { name = id }; span = s }} refl done) (right (taken refl (next h (taken refl done))))
+named_out tokens u v k x is named (name {id = id} {s = s}) f = next (taken {o = record { name = id; span = s }} refl done) (left done)
+named_out tokens u v k x is named (call {id = id} {s = s} q h) f = next (taken {o = record { name = id; span = s }} refl done) (right (taken refl (next h (taken refl done))))
 named_out tokens u v k x is named (paren {p = p} q h) f = absurd (named (ap (λ (k : SpannedToken). name_of k.token) (sym (some_injective (f ∙ is)))))
 
 pub parses_named : {F : Option SpannedToken → Bool} {tokens s1 : List SpannedToken} {k : SpannedToken} {r : Result (Spanned Expression) ParseFailure} → first tokens ≡ Some k → name_of k.token ≢ None

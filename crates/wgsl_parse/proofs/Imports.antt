@@ -2,7 +2,6 @@
 use Rattle.std.proofs.Common.{ℕ, ◌≡◌, ◌≢◌, ◌∙◌, sym, ap, subst, refl, List, [], ◌∷◌, ◌++◌, append_assoc, append-nil, Option, Some, Bool, false, IsTrue, Result, Ok}
 use Rattle.wgsl_path.specs.declared.span.Span.{Span}
 use Rattle.wgsl_path.specs.declared.ident.Ident.{Ident}
-use Rattle.wgsl_path.specs.Paths.{ident_of}
 use Rattle.wgsl_token.specs.declared.token.Fixed.TheVariants as f
 use Rattle.wgsl_token.specs.declared.token.SpannedToken.{SpannedToken}
 use Rattle.wgsl_syntax.specs.declared.import.ImportStatement.{ImportStatement}
@@ -22,7 +21,7 @@ use Rattle.wgsl_parse.proofs.Marks.{origin, parses_mark}
 -- paths
 
 path_of : List (List ℕ) → List ℕ → ItemPath
-path_of components id = record { components = components; ident = ident_of id }
+path_of components id = record { components = components; name = id }
 
 separator_behind : (k : SpannedToken) (s : Span) → k ≡ fixed f.PathSeparator s → IsTrue (ends_path (Some k)) → ⊥
 separator_behind k s is may = let e : IsTrue (ends_path (Some (fixed f.PathSeparator s))) = subst (λ k. IsTrue (ends_path (Some k))) is may in cc
@@ -42,7 +41,7 @@ lone : (id : List ℕ) (s : Span) → IsLone (word id s ∷ []) (path_of [] id)
 unfolding path_of
 lone id s = next ident done
 
-pub parses_lone : {s s1 : List SpannedToken} {x : Ident} → Parses IsIdent anything s (Ok x) s1 → Parses IsLone anything s (Ok (record { components = []; ident = x })) s1
+pub parses_lone : {s s1 : List SpannedToken} {x : Ident} → Parses IsIdent anything s (Ok x) s1 → Parses IsLone anything s (Ok (record { components = []; name = x.name })) s1
 parses_lone p = search (outcomes, p)
 
 -- from components and an item, and back
@@ -67,12 +66,12 @@ record Split (first_id : List ℕ) (place : Span) (before : List (List ℕ)) (be
   pub tokens : word first_id place ∷ behind ≡ front ++ word id last ∷ []
   pub value : path ≡ path_of (before ++ ids) id
 
-split_tail : {l z : ItemPath} {b : List SpannedToken} → Tail l b z → (place : Span) → Split l.ident.name place l.components b z
+split_tail : {l z : ItemPath} {b : List SpannedToken} → Tail l b z → (place : Span) → Split l.name place l.components b z
 unfolding path_of
 split_tail {l = l} chain_end place = record {
   front = [];
   ids = [];
-  id = l.ident.name;
+  id = l.name;
   last = place;
   components = no_components;
   tokens = refl;
@@ -80,13 +79,13 @@ split_tail {l = l} chain_end place = record {
 }
 split_tail {l = l} (link {k = k} {o = q} {b = b} is (next (ident {id = i} {s = r}) done) c) place =
     let rest = split_tail c r in record {
-      front = word l.ident.name place ∷ fixed f.PathSeparator q ∷ rest.front;
-      ids = l.ident.name ∷ rest.ids;
+      front = word l.name place ∷ fixed f.PathSeparator q ∷ rest.front;
+      ids = l.name ∷ rest.ids;
       id = rest.id;
       last = rest.last;
       components = component rest.components;
-      tokens = rw is (ap (λ t. word l.ident.name place ∷ fixed f.PathSeparator q ∷ t) rest.tokens);
-      value = rest.value ∙ ap (λ ids. path_of ids rest.id) (append_assoc l.components (l.ident.name ∷ []) rest.ids);
+      tokens = rw is (ap (λ t. word l.name place ∷ fixed f.PathSeparator q ∷ t) rest.tokens);
+      value = rest.value ∙ ap (λ ids. path_of ids rest.id) (append_assoc l.components (l.name ∷ []) rest.ids);
     }
 
 record Whole (tokens : List SpannedToken) (path : ItemPath) : Type 0 where
@@ -106,7 +105,7 @@ split_path (next (next (ident {id = i} {s = r}) done) c) =
 -- imports
 
 made : (i p c z : Span) (w : List SpannedToken) (path : ItemPath) → Whole w path
-    → IsImport (fixed f.Import i ∷ fixed f.Package p ∷ fixed f.PathSeparator c ∷ w ⌢ fixed f.Semicolon z ∷ []) (import_of path.components path.ident.name)
+    → IsImport (fixed f.Import i ∷ fixed f.Package p ∷ fixed f.PathSeparator c ∷ w ⌢ fixed f.Semicolon z ∷ []) (import_of path.components path.name)
 unfolding path_of
 made i p c z w path h =
     rw (h.split, h.value, append_assoc h.front (word h.id h.last ∷ []) (fixed f.Semicolon z ∷ [])) (importing h.last z h.components)
@@ -118,7 +117,7 @@ import_is u x (taken {k = a} {o = i} begins (taken {k = b} {o = p} of_package (t
 import_out : (u : List SpannedToken) (x : ImportStatement) → IsImport u x → Mark f.Import (λ i. ImportRest) u x
 unfolding path_of
 import_out u x (importing {u = a} {components = components} {id = id} s z h) =
-    let n : Then IsItemPath (λ x. Mark f.Semicolon (λ z. Done (import_of x.components x.ident.name))) ((a ++ word id s ∷ []) ++ fixed f.Semicolon z ∷ []) (import_of components id) =
+    let n : Then IsItemPath (λ x. Mark f.Semicolon (λ z. Done (import_of x.components x.name))) ((a ++ word id s ∷ []) ++ fixed f.Semicolon z ∷ []) (import_of components id) =
     next (path_from h id s) (taken refl done) in
     taken refl (taken refl (taken refl (rw (append_assoc a (word id s ∷ []) (fixed f.Semicolon z ∷ [])) at n)))
 

@@ -58,20 +58,20 @@ single_this = record { same = λ k o p a b. ap (λ (t : SpannedToken). t.span) (
 -- identifiers
 
 made : List ℕ → Span → Word
-made name s = record { ident = ident_of name; span = s }
+made name s = record { name = name; span = s }
 
-name_one : (v w : Word) → word v.ident.name v.span ≡ word w.ident.name w.span → v ≡ w
+name_one : (v w : Word) → word v.name v.span ≡ word w.name w.span → v ≡ w
 unfolding made
 name_one v w e =
-    let names : t.Identifier v.ident.name ≡ t.Identifier w.ident.name = ap (λ (k : SpannedToken). k.token) e in
-    let name : v.ident.name ≡ w.ident.name = cc in
-    ap (λ n. made n v.span) name ∙ ap (λ s. made w.ident.name s) (ap (λ (k : SpannedToken). k.span) e)
+    let names : t.Identifier v.name ≡ t.Identifier w.name = ap (λ (k : SpannedToken). k.token) e in
+    let name : v.name ≡ w.name = cc in
+    ap (λ n. made n v.span) name ∙ ap (λ s. made w.name s) (ap (λ (k : SpannedToken). k.span) e)
 
 pub single_name : IsSingle IsName
 single_name = record { same = λ k o p a b. name_one o p (sym a ∙ b) }
 
 pub inhabited_word : Inhabited IsWord
-inhabited_word = inhabited_taking (word [] origin) (record { ident = ident_of []; span = origin }) refl (record { tokens = []; value = _; stands = done })
+inhabited_word = inhabited_taking (word [] origin) (record { name = []; span = origin }) refl (record { tokens = []; value = _; stands = done })
 
 token_named : (k : Token) (name : List ℕ) → name_of k ≡ Some name → k ≡ t.Identifier name
 token_named (t.Identifier n) name e = cc
@@ -81,19 +81,19 @@ pub named_word : {k : SpannedToken} {name : List ℕ} → name_of k.token ≡ So
 named_word {k = k} {name = name} e = ap (λ t. record { token = t; span = k.span }) (token_named k.token name e)
 
 pub parses_word : {s s1 : List SpannedToken} {k : SpannedToken} {name : List ℕ} → s ≡ k ∷ s1 → name_of k.token ≡ Some name
-    → Parses IsWord anything s (Ok (record { ident = ident_of name; span = k.span })) s1
+    → Parses IsWord anything s (Ok (record { name = name; span = k.span })) s1
 parses_word is e = parses_taking _ is (named_word e) parses_done single_name
 
 pub no_word_at : {s : List SpannedToken} → ((k : SpannedToken) → first s ≡ Some k → name_of k.token ≡ None) → Parses IsWord anything s (Err Unexpected) s
 no_word_at differs = refuses_taking refl refl (λ k w is f. let e = differs k f in let n = ap (λ (k : SpannedToken). name_of k.token) is in cc) inhabited_word
 
-ident_is : (u : List SpannedToken) (x : Ident) → Then IsWord (λ w. Done w.ident) u x → IsIdent u x
+ident_is : (u : List SpannedToken) (x : Ident) → Then IsWord (λ w. Done (ident_of w.name)) u x → IsIdent u x
 ident_is u x (next {x = w} (taken {k = k} is done) d) =
-    at_end d (λ b y. IsIdent (k ∷ b) y) (subst (λ k. IsIdent (k ∷ []) w.ident) (sym is) (ident {id = w.ident.name} {s = w.span}))
+    at_end d (λ b y. IsIdent (k ∷ b) y) (subst (λ k. IsIdent (k ∷ []) (ident_of w.name)) (sym is) (ident {id = w.name} {s = w.span}))
 
-ident_out : (u : List SpannedToken) (x : Ident) → IsIdent u x → Then IsWord (λ w. Done w.ident) u x
-ident_out u x (ident {id = id} {s = s}) = next (taken {o = record { ident = ident_of id; span = s }} refl done) done
+ident_out : (u : List SpannedToken) (x : Ident) → IsIdent u x → Then IsWord (λ w. Done (ident_of w.name)) u x
+ident_out u x (ident {id = id} {s = s}) = next (taken {o = record { name = id; span = s }} refl done) done
 
-pub parses_ident : {F : Option SpannedToken → Bool} {s s1 : List SpannedToken} {r : Result Ident ParseFailure} → Parses (Then IsWord (λ w. Done w.ident)) F s r s1
+pub parses_ident : {F : Option SpannedToken → Bool} {s s1 : List SpannedToken} {r : Result Ident ParseFailure} → Parses (Then IsWord (λ w. Done (ident_of w.name))) F s r s1
     → Parses IsIdent F s r s1
 parses_ident p = parses_as ident_is (λ u v x h may f. ident_out u x h) p

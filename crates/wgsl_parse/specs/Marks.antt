@@ -50,7 +50,7 @@ IsNumber k n = (literal_of k.token ≡ Some n.literal) × (k.span ≡ n.span)
 
 -- an identifier, at its place
 abbrev pub IsName : SpannedToken → Word → Type 0
-IsName k w = k ≡ word w.ident.name w.span
+IsName k w = k ≡ word w.name w.span
 
 abbrev pub IsWord : List SpannedToken → Word → Type 0
 IsWord = Taking IsName (λ w. Done w)

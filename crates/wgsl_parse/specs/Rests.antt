@@ -34,11 +34,11 @@ Parenthesized p = Then IsSum (λ x. Mark f.ParenRight (λ q. Done (node (e.Paren
 
 -- behind id `(`
 abbrev pub Called : Word → List SpannedToken → Spanned Expression → Type 0
-Called w = Then IsArguments (λ xs. Mark f.ParenRight (λ q. Done (node (e.FunctionCall (record { ty = type_named w.ident.name; arguments = xs })) (across w.span q))))
+Called w = Then IsArguments (λ xs. Mark f.ParenRight (λ q. Done (node (e.FunctionCall (record { ty = type_named w.name; arguments = xs })) (across w.span q))))
 
 -- behind id
 abbrev pub Named : Word → List SpannedToken → Spanned Expression → Type 0
-Named w = Either (Done (node (e.TypeOrIdentifier (type_named w.ident.name)) w.span)) (Mark f.ParenLeft (λ p. Called w))
+Named w = Either (Done (node (e.TypeOrIdentifier (type_named w.name)) w.span)) (Mark f.ParenLeft (λ p. Called w))
 
 -- behind `-`
 abbrev pub Negated : Span → List SpannedToken → Spanned Expression → Type 0
@@ -102,11 +102,11 @@ FunctionRest attributes n = Then IsIdent (λ name. Mark f.ParenLeft (λ p. Then 
 
 -- id, as the path of an item
 abbrev pub IsLone : List SpannedToken → ItemPath → Type 0
-IsLone = Then IsIdent (λ x. Done (record { components = []; ident = x }))
+IsLone = Then IsIdent (λ x. Done (record { components = []; name = x.name }))
 
 -- the path of an item in the module that another path names
 abbrev pub within : Span → ItemPath → ItemPath → ItemPath
-within s l r = record { components = l.components ++ l.ident.name ∷ []; ident = r.ident }
+within s l r = record { components = l.components ++ l.name ∷ []; name = r.name }
 
 -- id {`::` id}
 abbrev pub IsItemPath : List SpannedToken → ItemPath → Type 0
@@ -114,4 +114,4 @@ IsItemPath = Then IsLone (Chain IsLone (IsFixed f.PathSeparator) within)
 
 -- behind `import`
 abbrev pub ImportRest : List SpannedToken → ImportStatement → Type 0
-ImportRest = Mark f.Package (λ p. Mark f.PathSeparator (λ c. Then IsItemPath (λ x. Mark f.Semicolon (λ z. Done (import_of x.components x.ident.name)))))
+ImportRest = Mark f.Package (λ p. Mark f.PathSeparator (λ c. Then IsItemPath (λ x. Mark f.Semicolon (λ z. Done (import_of x.components x.name)))))

@@ -36,7 +36,7 @@ impl<'a> Model for Cursor<'a> {
 /// An identifier and its place.
 #[derive(Drop)]
 pub struct Word {
-    pub ident: Ident,
+    pub name: Text,
     pub span: Span,
 }
 
@@ -273,7 +273,7 @@ impl<'a> Cursor<'a> {
         let name = Text::from_str(self.alloc, name)?;
         self.bump();
         Ok(Word {
-            ident: Ident::new(name),
+            name,
             span: next.span,
         })
     }
@@ -283,7 +283,7 @@ impl<'a> Cursor<'a> {
         ensures parses { Parses IsIdent anything self.old result self.new }
         ensures shrinks { length self.new ≤ length self.old }
     {
-        let Word { ident, span: _ } = self.word()?;
-        Ok(ident)
+        let Word { name, span: _ } = self.word()?;
+        Ok(Ident::new(name))
     }
 }

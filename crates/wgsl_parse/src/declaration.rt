@@ -71,7 +71,7 @@ fn type_expression(cursor: &mut Cursor<'_>) -> Result<TypeExpression, ParseFailu
     ensures shrinks { length cursor.new ≤ length cursor.old }
 {
     let ident = cursor.ident()?;
-    Ok(type_named(ident))
+    Ok(type_named(ident.into_name()))
 }
 
 /// A name, `:` and its type.

@@ -8,7 +8,7 @@ ghost use Rattle.wgsl_parse.specs.Follow.{ends_primary, ends_product, ends_sum, 
 ghost use Rattle.wgsl_parse.specs.Rests.{Parenthesized, Named};
 
 use crate::cursor::{Cursor, Word};
-use wgsl_items::{Boxed, Items};
+use wgsl_items::{Boxed, Items, Text};
 use wgsl_parser_spec::ParseFailure;
 use wgsl_path::{Ident, Span, Spanned};
 use wgsl_syntax::{
@@ -18,12 +18,12 @@ use wgsl_syntax::{
 use wgsl_token::Fixed;
 
 /// A name without path and template.
-pub fn type_named(ident: Ident) -> TypeExpression
-    ensures { result ≡ terminal.type_named ident.name }
+pub fn type_named(name: Text) -> TypeExpression
+    ensures { result ≡ terminal.type_named name }
 {
     TypeExpression {
         path: None,
-        ident,
+        ident: Ident::new(name),
         template_args: None,
     }
 }
@@ -46,8 +46,8 @@ fn named(cursor: &mut Cursor<'_>, word: Word) -> Result<ExpressionNode, ParseFai
     ensures parses { Parses (Named word) ends_primary cursor.old result cursor.new }
     ensures shrinks { length cursor.new ≤ length cursor.old }
 {
-    let Word { ident, span } = word;
-    let ty = type_named(ident);
+    let Word { name, span } = word;
+    let ty = type_named(name);
     let Some(_opening) = cursor.eat(Fixed::ParenLeft) else {
         return Ok(Spanned::new(cursor.alloc(), Expression::TypeOrIdentifier(ty), span)?);
     };

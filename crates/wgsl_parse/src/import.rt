@@ -18,7 +18,7 @@ use wgsl_token::Fixed;
 #[derive(Drop)]
 pub struct ItemPath {
     pub components: Items<Text>,
-    pub ident: Ident,
+    pub name: Text,
 }
 
 /// Names with `::` between.
@@ -27,14 +27,14 @@ fn item_path(cursor: &mut Cursor<'_>) -> Result<ItemPath, ParseFailure>
     ensures shrinks { length cursor.new ≤ length cursor.old }
 {
     let mut components = Items::new(cursor.alloc());
-    let mut ident = cursor.ident()?;
+    let ident = cursor.ident()?;
+    let mut name = ident.into_name();
     while let Some(_separator) = cursor.eat(Fixed::PathSeparator) {
         let next = cursor.ident()?;
-        let Ident { name } = ident;
         components.push(name)?;
-        ident = next;
+        name = next.into_name();
     }
-    Ok(ItemPath { components, ident })
+    Ok(ItemPath { components, name })
 }
 
 /// Behind `import`.
@@ -46,7 +46,8 @@ fn import(cursor: &mut Cursor<'_>) -> Result<ImportStatement, ParseFailure>
     cursor.expect(Fixed::PathSeparator)?;
     let path = item_path(cursor)?;
     cursor.expect(Fixed::Semicolon)?;
-    let ItemPath { components, ident } = path;
+    let ItemPath { components, name } = path;
+    let ident = Ident::new(name);
     let module_path = Boxed::new(
         cursor.alloc(),
         ModulePath::new(PathOrigin::Absolute, components),

@@ -12,8 +12,9 @@ use Rattle.wgsl_path.specs.declared.path.ModulePath.{ModulePath}
 abbrev pub across : Span → Span → Span
 across first last = record { start = first.start; end = last.end }
 
+-- the identifier of a name, without a symbol number
 abbrev pub ident_of : List ℕ → Ident
-ident_of name = record { name = name }
+ident_of name = record { name = name; symbol = None }
 
 -- `::super` so many times
 abbrev pub supers : ℕ → List ℕ

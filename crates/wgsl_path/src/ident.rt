@@ -8,18 +8,22 @@ use std::fmt;
 use std::hash::{Hash, Hasher};
 use wgsl_items::{CloneIn, Text};
 
-/// The name that stands at a place of a tree.
-#[derive(Debug, Drop, PartialEq, Eq)]
+/// The name that stands at a place of a tree, and the number of its symbol: an owned name and symbol number, set later by the linker's
+/// `retarget_idents`. Equality and hash are by the name alone.
+#[derive(Debug, Drop)]
+#[derive_where(PartialEq, Eq)]
 pub struct Ident {
     pub name: Text,
+    #[derive_where(skip(EqHashOrd))]
+    pub symbol: Option<u32>,
 }
 
 impl Ident {
-    /// An identifier of this name. It needs no memory.
+    /// An identifier of this name, without a symbol number. It needs no memory.
     pub fn new(name: Text) -> Ident
         ensures { result ≡ ident_of name }
     {
-        Ident { name }
+        Ident { name, symbol: None }
     }
 
     pub fn as_str(&self) -> &str
@@ -35,11 +39,26 @@ impl Ident {
         self.as_str()
     }
 
-    /// Another name for this one identifier. It needs no memory.
+    /// The number of the symbol that the identifier stands for, once the linker gave it one.
+    pub fn symbol(&self) -> Option<u32>
+        ensures { result ≡ self.now.symbol }
+    {
+        self.symbol
+    }
+
+    /// Another name for this one identifier, which keeps its symbol number. It needs no memory.
     pub fn rename(&mut self, name: Text)
-        ensures { self.new ≡ ident_of name }
+        ensures { self.new ≡ record { name = name; symbol = self.old.symbol } }
     {
         self.name = name;
+    }
+
+    /// The name itself. It needs no memory.
+    pub fn into_name(self) -> Text
+        ensures { result ≡ self.name }
+    {
+        let Ident { name, symbol: _ } = self;
+        name
     }
 }
 
@@ -72,6 +91,7 @@ impl CloneIn for Ident {
     fn clone_in(&self, alloc: Global) -> Result<Ident, AllocError> {
         Ok(Ident {
             name: self.name.clone_in(alloc)?,
+            symbol: self.symbol,
         })
     }
 }

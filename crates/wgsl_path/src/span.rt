@@ -8,7 +8,7 @@ ghost use Rattle.wgsl_path.specs.contracts.span.Spanned.{the_row};
 use std::alloc::{AllocError, Global};
 use std::fmt;
 use std::ops::Range;
-use wgsl_items::{Boxed, CloneIn};
+use wgsl_items::{Boxed, CloneIn, FromIn};
 
 /// A place in a text, in bytes: where it starts, and where it ends.
 #[derive(Clone, Copy, Debug, PartialEq, Eq)]
@@ -103,6 +103,17 @@ impl<T: Drop> Spanned<T> {
             node: Boxed::new(alloc, node)?,
             span,
         })
+    }
+}
+
+/// A value without a place in a text: its place is the empty one, `0..0`.
+impl<T: Drop> FromIn<T> for Spanned<T> {
+    ghost use Rattle.std.specs.Prelude.{◌≡◌};
+
+    ghost from_in_gives = { λ node made. made ≡ record { node = node; span = record { start = 0; end = 0 } } };
+
+    fn from_in(alloc: Global, node: T) -> Result<Spanned<T>, AllocError> {
+        Spanned::new(alloc, node, Span::new(0..0))
     }
 }
 

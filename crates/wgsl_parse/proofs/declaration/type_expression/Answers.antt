@@ -8,5 +8,5 @@ returns-in_err-ident-clause-parses c = passes c.from_residual.ensures.1
     (parses_type (search (outcomes, marks, inhabited, c.in_err-ident.ensures) depth 20))
 
 pub returns-clause-parses : goal.returns-clause-parses
-returns-clause-parses c = rw (c.type_named.ensures)
+returns-clause-parses c = rw (c.type_named.ensures, c.into_name.ensures)
     (parses_type (search (outcomes, marks, inhabited, c.in_ok-ident.ensures) depth 20))

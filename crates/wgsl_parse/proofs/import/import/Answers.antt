@@ -23,5 +23,5 @@ pub returns-in_err-module_path-clause-parses : goal.returns-in_err-module_path-c
 returns-in_err-module_path-clause-parses c = exhausts c.from_residual-in_err-module_path.ensures.1
 
 pub returns-clause-parses : goal.returns-clause-parses
-returns-clause-parses c = rw (c.in_ok-module_path.ensures, c.new.ensures, c.new-3.ensures)
+returns-clause-parses c = rw (c.in_ok-module_path.ensures, c.new.ensures, c.new-ident.ensures, c.new-3.ensures)
     (search (outcomes, marks, c.in_ok-expect.ensures, c.in_ok-expect-2.ensures, c.in_ok-path.ensures, c.in_ok-expect-3.ensures) depth 20)

@@ -10,7 +10,7 @@ returns-in_err-ident-clause-parses c =
 pub loop-separator-init : goal.loop-separator-init
 loop-separator-init c = record {
   shorter = c.in_ok-ident.ensures.shrinks;
-  goes_on = λ r rest p. parses_chained separators (λ u x h. h) (λ u x h. h) (parses_lone c.in_ok-ident.ensures.parses) (rw c.new-components.ensures at p);
+  goes_on = λ r rest p. parses_chained separators (λ u x h. h) (λ u x h. h) (parses_lone c.in_ok-ident.ensures.parses) (rw (c.new-components.ensures, c.into_name-name.ensures) at p);
 }
 
 pub returns-in_err-next-clause-parses : goal.returns-in_err-next-clause-parses
@@ -25,7 +25,7 @@ pub loop-separator-preserved : goal.loop-separator-preserved
 loop-separator-preserved c = record {
   shorter = omega (arith, ap length c.in-Some.ensures, c.in_ok-next.ensures.shrinks);
   goes_on = λ r rest p. c.loop-separator.invariant.goes_on r rest
-      (parses_link separators c.in-Some.ensures refl (parses_lone c.in_ok-next.ensures.parses) (rw c.in_ok-push.ensures.ok at p));
+      (parses_link separators c.in-Some.ensures refl (parses_lone c.in_ok-next.ensures.parses) (rw (c.in_ok-push.ensures.ok, c.into_name-name.ensures) at p));
 }
 
 pub returns-clause-parses : goal.returns-clause-parses

@@ -15,7 +15,7 @@ abbrev pub invariant-loop-separator : goal.invariant-loop-separator
 invariant-loop-separator l = record {
   shorter : length l.cursor ≤ length l.fn.cursor;
   goes_on : (r : Result ItemPath ParseFailure) (rest : List SpannedToken)
-      → Parses (Chain IsLone (IsFixed f.PathSeparator) within (record { components = l.components; ident = l.ident })) ends_path l.cursor r rest
+      → Parses (Chain IsLone (IsFixed f.PathSeparator) within (record { components = l.components; name = l.name })) ends_path l.cursor r rest
       → Parses IsItemPath ends_path l.fn.cursor r rest;
 }
 

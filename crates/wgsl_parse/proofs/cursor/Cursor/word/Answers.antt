@@ -17,4 +17,4 @@ pub returns-in_err-name-clause-parses : goal.returns-in_err-name-clause-parses
 returns-in_err-name-clause-parses c = exhausts c.from_residual.ensures.1
 
 pub returns-clause-parses : goal.returns-clause-parses
-returns-clause-parses c = rw (c.new.ensures, c.in_ok-name.ensures) (parses_word (c.bump.ensures _ (sym c.in-Some.ensures)) (sym c.in-Some-name.ensures))
+returns-clause-parses c = rw c.in_ok-name.ensures (parses_word (c.bump.ensures _ (sym c.in-Some.ensures)) (sym c.in-Some-name.ensures))
