@@ -8,8 +8,8 @@ use std::fmt;
 use std::hash::{Hash, Hasher};
 use wgsl_items::{CloneIn, Text};
 
-/// The name that stands at a place of a tree, and the number of its symbol: an owned name and symbol number, set later by the linker's
-/// `retarget_idents`. Equality and hash are by the name alone.
+/// What names something at a place of a tree: an owned name, and the number of the symbol that it stands for, which is set later by the
+/// linker's `retarget_idents`. Equality and hash look at the name alone.
 #[derive(Debug, Drop)]
 #[derive_where(PartialEq, Eq)]
 pub struct Ident {
