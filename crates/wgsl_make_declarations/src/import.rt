@@ -7,7 +7,6 @@ use crate::take::{content, names, path, source, texts, trees};
 use std::alloc::{AllocError, Global};
 use wgsl_imports::{Import, ImportContent, ImportItem, ImportStatement};
 use wgsl_items::{Boxed, Items};
-use wgsl_make_expressions::longer;
 use wgsl_parts::take::{attributes, both, end, ended, ident, three, ups};
 use wgsl_parts::{ImportLabel, Part, Stack};
 use wgsl_path::{ModulePath, PathOrigin};
@@ -45,7 +44,7 @@ fn from_within(parts: &mut Stack<Part>) -> Result<Part, AllocError>
     let outer = source(parts);
     let name = ident(parts);
     let (outer, name) = ended(both(outer, name), parts)?;
-    Ok(Part::ModulePath(longer(outer, name.into_name())?))
+    Ok(Part::ModulePath(outer.with_name(name.into_name())?))
 }
 
 fn first_step(alloc: Global, parts: &mut Stack<Part>) -> Result<Part, AllocError>

@@ -14,6 +14,5 @@ mod value;
 pub use expression::make_expression;
 pub use list::{make_first, make_more, pass};
 pub use name::make_name;
-pub use path::longer;
 pub use plain::make_plain;
 pub use value::make_value;

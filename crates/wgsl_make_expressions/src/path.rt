@@ -1,26 +1,13 @@
 //! Paths that go on.
 
-ghost use Rattle.std.specs.Prelude.{◌≡◌, ◌∷◌, [], IfOk};
-ghost use Rattle.wgsl_path.specs.Joining.{with_names};
+ghost use Rattle.std.specs.Prelude.{◌≡◌, IfOk};
 ghost use Rattle.wgsl_make_expressions.specs.Making.{path_within, template_of};
 
 use std::alloc::{AllocError, Global};
 use wgsl_expressions::{ExpressionNode, TemplateArg};
-use wgsl_items::{Items, Text};
+use wgsl_items::Items;
 use wgsl_parts::QualifiedName;
 use wgsl_path::{ModulePath, PathOrigin};
-
-/// A path, and a name behind it.
-pub fn longer(path: ModulePath, name: Text) -> Result<ModulePath, AllocError>
-    ensures { IfOk result (λ longer. longer ≡ with_names path (name ∷ [])) }
-{
-    let ModulePath {
-        origin,
-        mut components,
-    } = path;
-    components.push(name)?;
-    Ok(ModulePath { origin, components })
-}
 
 /// The path of what stands within the module of this name.
 pub(crate) fn within(alloc: Global, name: QualifiedName) -> Result<ModulePath, AllocError>
@@ -33,7 +20,7 @@ pub(crate) fn within(alloc: Global, name: QualifiedName) -> Result<ModulePath, A
             origin: PathOrigin::Package(name),
             components: Items::new(alloc),
         }),
-        Some(path) => longer(path.into_inner(), name),
+        Some(path) => path.into_inner().with_name(name),
     }
 }
 

@@ -58,6 +58,18 @@ impl ModulePath {
         self.components.push(name)
     }
 
+    /// This path, and this name behind it.
+    pub fn with_name(self, name: Text) -> Result<ModulePath, AllocError>
+        ensures { IfOk result (λ path. path ≡ with_names self (name ∷ [])) }
+    {
+        let ModulePath {
+            origin,
+            mut components,
+        } = self;
+        components.push(name)?;
+        Ok(ModulePath { origin, components })
+    }
+
     /// This path, and names behind it.
     pub fn join(self, suffix: Items<Text>) -> Result<ModulePath, AllocError>
         ensures { IfOk result (λ path. path ≡ with_names self suffix) }
