@@ -18,7 +18,7 @@ use Rattle.wesl_cond_spec.specs.Trees.{of_members, of_parameters, of_imports, of
 use Rattle.wesl_cond_spec.specs.Seen.{list_fault}
 use Rattle.wesl_cond_spec.specs.Faults.{flat_fault}
 use Rattle.wesl_conditions.specs.Told.{TellsFault}
-use Rattle.wesl_cond_statements.specs.Passing.{see}
+use Rattle.wesl_cond.specs.Passing.{see}
 use Rattle.wesl_cond.specs.Declarations.{declaration_left}
 
 pub all_some : {X A : Type 0} (f : X → A) (xs : List X) → filter_map (λ x. Some (f x)) xs ≡ map f xs

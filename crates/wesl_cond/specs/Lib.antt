@@ -1,2 +1,4 @@
 pub mod Declarations
 pub mod Laws
+pub mod Leaving
+pub mod Passing

@@ -10,8 +10,8 @@ ghost use Rattle.wesl_conditions.specs.Told.{TellsFault};
 ghost use Rattle.wesl_cond.specs.Declarations.{inside_declaration};
 
 use crate::list::check_list;
+use crate::statements::check_block;
 use std::alloc::Global;
-use wesl_cond_statements::check_block;
 use wesl_features::{CondCompError, Features};
 use wgsl_declarations::{Function, GlobalDeclaration, Struct, TranslationUnit};
 

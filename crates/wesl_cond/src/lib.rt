@@ -4,6 +4,7 @@
 mod check;
 mod list;
 mod settle;
+mod statements;
 mod unit;
 
 pub use unit::run;

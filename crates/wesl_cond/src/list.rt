@@ -5,7 +5,7 @@ ghost use Rattle.std.specs.Option.{option_map};
 ghost use Rattle.wgsl_attributes.specs.View.{attributes_tree};
 ghost use Rattle.wesl_cond_spec.specs.Seen.{list_fault};
 ghost use Rattle.wesl_conditions.specs.Told.{TellsFault};
-ghost use Rattle.wesl_cond_statements.specs.Passing.{Passes, see};
+ghost use Rattle.wesl_cond.specs.Passing.{Passes, see};
 
 use crate::check::check_declaration;
 use std::alloc::Global;
@@ -57,7 +57,7 @@ impl CheckedItem for GlobalDeclarationNode {
 }
 
 /// Passes one item.
-#[tactic(auto, using(wesl_cond_statements::proofs::Passing::nothing))]
+#[tactic(auto, using(crate::proofs::Passing::nothing))]
 fn check_item<T: CheckedItem>(
     alloc: Global,
     item: &T,
@@ -73,7 +73,7 @@ fn check_item<T: CheckedItem>(
 }
 
 /// Passes one item, which has these attributes.
-#[tactic(auto, using(wesl_cond_statements::proofs::Passing::passed, wesl_cond_statements::proofs::Passing::refused_before, wesl_cond_statements::proofs::Passing::entered, wesl_cond_statements::proofs::Passing::memory))]
+#[tactic(auto, using(crate::proofs::Passing::passed, crate::proofs::Passing::refused_before, crate::proofs::Passing::entered, crate::proofs::Passing::memory))]
 fn enter<T: CheckedItem>(
     alloc: Global,
     attributes: &Attributes,
@@ -91,7 +91,7 @@ fn enter<T: CheckedItem>(
 }
 
 /// The first error of a list.
-#[tactic(auto, using(wesl_cond_statements::proofs::Passing::begins))]
+#[tactic(auto, using(crate::proofs::Passing::begins))]
 pub fn check_list<T: CheckedItem>(
     alloc: Global,
     items: &[T],

@@ -6,8 +6,8 @@ ghost use Rattle.wgsl_declarations.specs.View.{declaration_tree, structure_tree,
 ghost use Rattle.wesl_cond_spec.specs.Trees.{unit_left};
 ghost use Rattle.wesl_cond.specs.Declarations.{declaration_left};
 
+use crate::statements::settle_block;
 use wesl_cond_items::settle_list;
-use wesl_cond_statements::settle_block;
 use wesl_features::Features;
 use wgsl_declarations::{
     Function, GlobalDeclaration, GlobalDeclarationNode, Struct, TranslationUnit,

@@ -1,7 +1,7 @@
 use Rattle.std.proofs.Common.{rules, sym, ap, ◌∙◌, ◌∷◌, drop, ◌+◌, drop_of_length-le}
 use Rattle.std.proofs.lemmas.List.{drop_more}
-use Rattle.wesl_cond_statements.specs.Passing.{see}
-use Rattle.wesl_cond_statements.proofs.Passing.{refused_list, ended_list}
+use Rattle.wesl_cond.specs.Passing.{see}
+use Rattle.wesl_cond.proofs.Passing.{refused_list, ended_list}
 use Rattle.wesl_cond.proofs.list.check_list.Goals as goal
 
 pub returns-in_err-check_item : goal.returns-in_err-check_item

@@ -1,7 +1,7 @@
 use Rattle.std.proofs.Common.{rules}
 use Rattle.std.specs.Option.{option_map}
 use Rattle.wgsl_declarations.specs.View.{declaration_tree}
-use Rattle.wesl_cond_statements.proofs.Changing.{changed_more}
+use Rattle.wesl_cond.proofs.Changing.{changed_more}
 use Rattle.wesl_cond.specs.Declarations.{declaration_left}
 use Rattle.wesl_cond.proofs.settle.settle_each.Goals as goal
 

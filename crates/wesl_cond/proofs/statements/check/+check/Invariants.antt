@@ -3,8 +3,8 @@ use Rattle.wgsl_statements.specs.View.{statement_tree, block_tree, clauses_layer
 use Rattle.wesl_cond_spec.specs.Seen.{list_fault}
 use Rattle.wesl_cond_spec.specs.Walks.{checked}
 use Rattle.wesl_cond_spec.specs.Faults.{block_fault, clauses_fault}
-use Rattle.wesl_cond_statements.specs.Passing.{see_node, first_of}
-use Rattle.wesl_cond_statements.proofs.check.+check.Given as goal
+use Rattle.wesl_cond.specs.Passing.{see_node, first_of}
+use Rattle.wesl_cond.proofs.statements.check.+check.Given as goal
 
 abbrev pub decreases-check_statement : goal.decreases-check_statement
 decreases-check_statement l = 8 * goal.size-check_statement l

@@ -16,8 +16,8 @@ use Rattle.wgsl_statements.specs.View.{statement_tree, block_tree, else_layer, e
 use Rattle.wesl_features.specs.declared.feature.Features.{Features}
 use Rattle.wesl_features.specs.declared.error.CondCompError.{CondCompError}
 use Rattle.wesl_cond_spec.specs.Faults.{statement_fault, block_fault, elses_fault, clauses_fault, part_fault}
-use Rattle.wesl_cond_statements.specs.Leaving.{statement_left, block_left, elses_left, clauses_left, part_left, else_if_pair, switch_pair, pair_left}
-use Rattle.wesl_cond_statements.specs.Passing.{inside_statement, first_of}
+use Rattle.wesl_cond.specs.Leaving.{statement_left, block_left, elses_left, clauses_left, part_left, else_if_pair, switch_pair, pair_left}
+use Rattle.wesl_cond.specs.Passing.{inside_statement, first_of}
 
 or_assoc : (a b c : Option CondCompError) → option_or (option_or a b) c ≡ option_or a (option_or b c)
 or_assoc None b c = refl

@@ -5,8 +5,8 @@ use Rattle.wesl_features.specs.declared.error.CondCompError.TheVariants.{OutOfMe
 use Rattle.wesl_conditions.specs.Told.{TellsFault}
 use Rattle.wesl_cond_spec.specs.Seen.{list_fault}
 use Rattle.wesl_cond_spec.specs.Faults.{seen_statements}
-use Rattle.wesl_cond_statements.proofs.Passing.{refused_block, ended_block}
-use Rattle.wesl_cond_statements.proofs.check.+check.Goals as goal
+use Rattle.wesl_cond.proofs.Passing.{refused_block, ended_block}
+use Rattle.wesl_cond.proofs.statements.check.+check.Goals as goal
 
 pub check_block-returns-in_err-check_node : goal.check_block-returns-in_err-check_node
 check_block-returns-in_err-check_node t c =

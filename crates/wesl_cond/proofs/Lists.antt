@@ -13,8 +13,8 @@ use Rattle.wesl_cond_spec.specs.Chains.{left}
 use Rattle.wesl_cond_spec.specs.Seen.{Seen}
 use Rattle.wesl_cond_spec.specs.Trees.{of_statements, from_list, in_each}
 use Rattle.wesl_cond_spec.specs.Faults.{statement_fault, seen_statements}
-use Rattle.wesl_cond_statements.specs.Leaving.{statement_left, block_left}
-use Rattle.wesl_cond_statements.specs.Passing.{see, see_node}
+use Rattle.wesl_cond.specs.Leaving.{statement_left, block_left}
+use Rattle.wesl_cond.specs.Passing.{see, see_node}
 
 abbrev node_stm : Spanned Statement → Option Stm
 node_stm n = statement_tree n.node

@@ -7,7 +7,7 @@ ghost use Rattle.wgsl_statements.specs.View.{statement_tree, block_tree, elses_l
 ghost use Rattle.wesl_cond_spec.specs.Trees.{statement_attributes};
 ghost use Rattle.wesl_cond_spec.specs.Faults.{block_fault, elses_fault, clauses_fault, continuing_fault, part_fault};
 ghost use Rattle.wesl_conditions.specs.Told.{TellsFault};
-ghost use Rattle.wesl_cond_statements.specs.Passing.{Passes, see_statement, see_node, inside_statement, first_of};
+ghost use Rattle.wesl_cond.specs.Passing.{Passes, see_statement, see_node, inside_statement, first_of};
 
 use std::alloc::Global;
 use wesl_cond_attributes::Check;

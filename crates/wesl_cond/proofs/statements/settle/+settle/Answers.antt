@@ -3,10 +3,10 @@ use Rattle.std.specs.Option.{option_map}
 use Rattle.wgsl_expressions.specs.View.{node_tree}
 use Rattle.wgsl_attributes.specs.View.{attributes_tree}
 use Rattle.wgsl_statements.specs.View.{statement_tree, block_tree}
-use Rattle.wesl_cond_statements.specs.Leaving.{statement_left, else_if_pair, switch_pair, pair_left}
-use Rattle.wesl_cond_statements.proofs.Changing.{changed_more, later_same}
-use Rattle.wesl_cond_statements.proofs.Clauses.{if_left}
-use Rattle.wesl_cond_statements.proofs.settle.+settle.Goals as goal
+use Rattle.wesl_cond.specs.Leaving.{statement_left, else_if_pair, switch_pair, pair_left}
+use Rattle.wesl_cond.proofs.Changing.{changed_more, later_same}
+use Rattle.wesl_cond.proofs.Clauses.{if_left}
+use Rattle.wesl_cond.proofs.statements.settle.+settle.Goals as goal
 
 pub settle_each-loop-i-preserved : goal.settle_each-loop-i-preserved
 settle_each-loop-i-preserved t c = (

@@ -18,8 +18,8 @@ use Rattle.wesl_cond_spec.proofs.Checking.{checked_is_fault}
 use Rattle.wesl_conditions.specs.Told.{TellsFault}
 use Rattle.wesl_cond_attributes.specs.declared.check.Check.{Check}
 use Rattle.wesl_cond_attributes.specs.Entering.{seen, Enters}
-use Rattle.wesl_cond_statements.specs.Passing.{Passes, see, see_node}
-use Rattle.wesl_cond_statements.proofs.Lists.{seen_nodes, seen_items}
+use Rattle.wesl_cond.specs.Passing.{Passes, see, see_node}
+use Rattle.wesl_cond.proofs.Lists.{seen_nodes, seen_items}
 
 or_none : (a : Option CondCompError) → option_or a None ≡ a
 or_none None = refl

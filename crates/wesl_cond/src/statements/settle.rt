@@ -4,7 +4,7 @@ ghost use Rattle.std.specs.Prelude.{◌≡◌, map};
 ghost use Rattle.std.specs.Option.{option_map};
 ghost use Rattle.wgsl_expressions.specs.View.{node_tree};
 ghost use Rattle.wgsl_statements.specs.View.{statement_tree, block_tree, else_layer, if_layer, switch_layer, clauses_layer, continuing_layer, loop_layer, part_layer, for_layer, while_layer};
-ghost use Rattle.wesl_cond_statements.specs.Leaving.{statement_left, block_left, elses_left, clauses_left, continuing_left, part_left, else_if_pair, else_block, switch_pair, pair_left};
+ghost use Rattle.wesl_cond.specs.Leaving.{statement_left, block_left, elses_left, clauses_left, continuing_left, part_left, else_if_pair, else_block, switch_pair, pair_left};
 
 use wesl_cond_items::settle_list;
 use wesl_features::Features;

@@ -5,8 +5,8 @@ use Rattle.wgsl_statements.specs.declared.statement.Statement.{Statement}
 use Rattle.wgsl_statements.specs.declared.statement.ElseIfClauseOf.{ElseIfClauseOf}
 use Rattle.wgsl_statements.specs.declared.statement.SwitchClauseOf.{SwitchClauseOf}
 use Rattle.wgsl_statements.specs.View.{statement_tree}
-use Rattle.wesl_cond_statements.specs.Leaving.{statement_left, else_if_pair, switch_pair, pair_left}
-use Rattle.wesl_cond_statements.proofs.settle.+settle.Given as goal
+use Rattle.wesl_cond.specs.Leaving.{statement_left, else_if_pair, switch_pair, pair_left}
+use Rattle.wesl_cond.proofs.statements.settle.+settle.Given as goal
 
 abbrev pub decreases-settle_statement : goal.decreases-settle_statement
 decreases-settle_statement l = 8 * goal.size-settle_statement l

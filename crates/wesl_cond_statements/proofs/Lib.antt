@@ -1,4 +1,0 @@
-pub mod Changing
-pub mod Lists
-pub mod Clauses
-pub mod Passing
