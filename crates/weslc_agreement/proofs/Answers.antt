@@ -21,13 +21,13 @@ use Rattle.weslc_unit.specs.declared.error.UnitRefusal.{UnitRefusal}
 use Rattle.weslc_unit.specs.declared.error.UnitRefusal.TheVariants as of
 use Rattle.weslc_unit.proofs.Once.{compiled_once, refused_once, compiled_or_refused, told_once}
 use Rattle.weslc_laws.specs.Headline.{IsLinkedFrom}
-use Rattle.weslc_api.specs.Answers.{AreLoadedFrom, IsRefusedLoading, IsFirstClashFrom, RefusesLinking}
-use Rattle.weslc_api.specs.Mapped.{TellsHeld}
-use Rattle.weslc_api.specs.Told.{about_name, Tells}
-use Rattle.weslc_api.specs.declared.error.ResolveKind.TheVariants.{ModuleNotFound}
-use Rattle.weslc_api.specs.declared.error.ImportKind.TheVariants.{DuplicateSymbol, MissingDecl, Private}
-use Rattle.weslc_api.specs.declared.error.CompileError.{CompileError}
-use Rattle.weslc_api.specs.declared.error.CompileError.TheVariants.{TooManyModules, Resolve, Syntax, Unsupported, Import, NameClash, Validate, UnclearName, Eval, Unprintable, OutOfMemory}
+use Rattle.weslc_linking.specs.Answers.{AreLoadedFrom, IsRefusedLoading, IsFirstClashFrom, RefusesLinking}
+use Rattle.weslc_linking.specs.Mapped.{TellsHeld}
+use Rattle.weslc_linking.specs.Told.{about_name, Tells}
+use Rattle.weslc_linking.specs.declared.error.ResolveKind.TheVariants.{ModuleNotFound}
+use Rattle.weslc_linking.specs.declared.error.ImportKind.TheVariants.{DuplicateSymbol, MissingDecl, Private}
+use Rattle.weslc_linking.specs.declared.error.CompileError.{CompileError}
+use Rattle.weslc_linking.specs.declared.error.CompileError.TheVariants.{TooManyModules, Resolve, Syntax, Unsupported, Import, NameClash, Validate, UnclearName, Eval, Unprintable, OutOfMemory}
 use Rattle.weslc_agreement.specs.Asked.{AgreesOnAsked, HasAskedUnits}
 use Rattle.weslc_agreement.specs.Answers.{SameAnswer, TellTheSame, IsCompiledAnswer, IsLinkedAnswer, CompiledAlike, LinkedAlike}
 use Rattle.weslc_agreement.proofs.Units.{units_are_one}

@@ -12,8 +12,8 @@ use Rattle.wesl_link_spec.specs.Occurrences.{Name}
 use Rattle.wesl_link_spec.specs.Modules.{Path}
 use Rattle.wesl_meaning.specs.Determined.{IsFunctional}
 use Rattle.weslc_unit.specs.Compiled.{IsTextOf}
-use Rattle.weslc_api.specs.Stored.{text_at, Says, SaysOnly, found_in}
-use Rattle.weslc_api.specs.declared.resolver.VirtualResolver.{VirtualResolver}
+use Rattle.weslc_linking.specs.Stored.{text_at, Says, SaysOnly, found_in}
+use Rattle.weslc_linking.specs.declared.resolver.VirtualResolver.{VirtualResolver}
 use Rattle.weslc_agreement.specs.Asked.{HasAskedUnits}
 use Rattle.weslc_agreement.specs.Texts.{added, AreOfSameTokens, HaveTheSameTokens, AddedImportsAreApart, SameTokensCompileAlike, SameTokensLinkAlike}
 use Rattle.weslc_agreement.proofs.Texts.{compiled_texts_are_one, linked_texts_are_one}

@@ -13,12 +13,12 @@ use Rattle.wesl_link.specs.Recording.{Source, Telling, source_symbol, IsHeldAs}
 use Rattle.weslc_unit.specs.Once.{SameRefusal}
 use Rattle.weslc_unit.specs.declared.error.UnitRefusal.{UnitRefusal}
 use Rattle.weslc_unit.specs.declared.error.UnitRefusal.TheVariants as of
-use Rattle.weslc_api.specs.Mapped.{IsTold, TellsHeld}
-use Rattle.weslc_api.specs.Told.{about_module, about_item, about_name, about_declaration, fault_name, TellsOfFault, TellsOfEvaluation, Tells}
-use Rattle.weslc_api.specs.declared.error.ResolveKind.TheVariants.{ModuleNotFound}
-use Rattle.weslc_api.specs.declared.error.ImportKind.TheVariants.{DuplicateSymbol, MissingDecl, Private}
-use Rattle.weslc_api.specs.declared.error.CompileError.{CompileError}
-use Rattle.weslc_api.specs.declared.error.CompileError.TheVariants.{TooManyModules, Resolve, Syntax, Unsupported, Import, NameClash, Validate, UnclearName, Eval, Unprintable, OutOfMemory}
+use Rattle.weslc_linking.specs.Mapped.{IsTold, TellsHeld}
+use Rattle.weslc_linking.specs.Told.{about_module, about_item, about_name, about_declaration, fault_name, TellsOfFault, TellsOfEvaluation, Tells}
+use Rattle.weslc_linking.specs.declared.error.ResolveKind.TheVariants.{ModuleNotFound}
+use Rattle.weslc_linking.specs.declared.error.ImportKind.TheVariants.{DuplicateSymbol, MissingDecl, Private}
+use Rattle.weslc_linking.specs.declared.error.CompileError.{CompileError}
+use Rattle.weslc_linking.specs.declared.error.CompileError.TheVariants.{TooManyModules, Resolve, Syntax, Unsupported, Import, NameClash, Validate, UnclearName, Eval, Unprintable, OutOfMemory}
 use Rattle.weslc_agreement.specs.Answers.{SameContext, TellTheSame, SameAnswer}
 
 -- ---- want of memory tells nothing

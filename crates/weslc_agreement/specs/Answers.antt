@@ -6,10 +6,10 @@ use Rattle.wesl_link_spec.specs.Occurrences.{Name}
 use Rattle.wesl_link_spec.specs.Modules.{Path}
 use Rattle.wesl_link_spec.specs.Rounds.{Sources}
 use Rattle.wesl_link_spec.specs.Named.{ImportsAreApart}
-use Rattle.weslc_api.specs.Answers.{IsLinkedText, IsCompiledText, RefusesLinking, IsUnprintable, IsRefusedUnit}
-use Rattle.weslc_api.specs.declared.error.ErrorContext.{ErrorContext}
-use Rattle.weslc_api.specs.declared.error.CompileError.{CompileError}
-use Rattle.weslc_api.specs.declared.error.CompileError.TheVariants.{TooManyModules, Resolve, Syntax, Unsupported, Import, NameClash, Validate, UnclearName, Eval, Unprintable, OutOfMemory}
+use Rattle.weslc_linking.specs.Answers.{IsLinkedText, IsCompiledText, RefusesLinking, IsUnprintable, IsRefusedUnit}
+use Rattle.weslc_linking.specs.declared.error.ErrorContext.{ErrorContext}
+use Rattle.weslc_linking.specs.declared.error.CompileError.{CompileError}
+use Rattle.weslc_linking.specs.declared.error.CompileError.TheVariants.{TooManyModules, Resolve, Syntax, Unsupported, Import, NameClash, Validate, UnclearName, Eval, Unprintable, OutOfMemory}
 use Rattle.weslc_agreement.specs.Asked.{AgreesOnAsked}
 
 -- ---- errors

@@ -5,7 +5,7 @@ use Rattle.wesl_resolve.specs.Found.{Answer, unit_of}
 use Rattle.wesl_link_spec.specs.Occurrences.{Name}
 use Rattle.wesl_link_spec.specs.Modules.{Path}
 use Rattle.wesl_link_spec.specs.Rounds.{Sources}
-use Rattle.weslc_api.specs.Asked.{IsAskedOf}
+use Rattle.weslc_linking.specs.Asked.{IsAskedOf}
 
 -- What is found at each path, the root's path, the names that are asked for, and how many modules may be loaded.
 module _ (found : Sources) (root : Path) (asked : List Name) (max : ℕ) where

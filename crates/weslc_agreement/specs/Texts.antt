@@ -5,10 +5,10 @@ use Rattle.wesl_link_spec.specs.Occurrences.{Name}
 use Rattle.wesl_link_spec.specs.Modules.{Path}
 use Rattle.wesl_link_spec.specs.Rounds.{Sources}
 use Rattle.wesl_link_spec.specs.Named.{ImportsAreApart}
-use Rattle.weslc_api.specs.Answers.{IsLinkedText, IsCompiledText}
-use Rattle.weslc_api.specs.Stored.{text_at, found_in}
-use Rattle.weslc_api.specs.declared.resolver.VirtualResolver.{VirtualResolver}
-use Rattle.weslc_api.specs.Asked.{IsAskedOf}
+use Rattle.weslc_linking.specs.Answers.{IsLinkedText, IsCompiledText}
+use Rattle.weslc_linking.specs.Stored.{text_at, found_in}
+use Rattle.weslc_linking.specs.declared.resolver.VirtualResolver.{VirtualResolver}
+use Rattle.weslc_linking.specs.Asked.{IsAskedOf}
 use Rattle.weslc_agreement.specs.Asked.{HasAskedUnits}
 
 -- Where other sources have each unit that is asked of one, one text is answered.

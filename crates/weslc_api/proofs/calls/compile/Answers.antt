@@ -3,8 +3,8 @@ use Rattle.std.specs.Prelude.{string_bytes}
 use Rattle.std.proofs.Common.{inr}
 use Rattle.wgsl_path.specs.Paths.{path_text}
 use Rattle.wgsl_syntax.specs.View.{unit_tree}
-use Rattle.weslc_api.proofs.Located.{refused_unit}
-use Rattle.weslc_api.proofs.Texts.{compiled_text}
+use Rattle.weslc_linking.proofs.Located.{refused_unit}
+use Rattle.weslc_linking.proofs.Texts.{compiled_text}
 use Rattle.weslc_api.proofs.calls.compile.Goals as goal
 
 pub returns-in-Ok-clause-text : goal.returns-in-Ok-clause-text

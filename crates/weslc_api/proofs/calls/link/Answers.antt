@@ -5,8 +5,8 @@ use Rattle.wgsl_path.specs.Paths.{path_text}
 use Rattle.wgsl_syntax.specs.Print.{unit_text}
 use Rattle.wesl_link.specs.Assembling.{linked_of}
 use Rattle.weslc_unit.specs.Compiled.{IsTextOf, IsUnprintable, TellsOf}
-use Rattle.weslc_api.proofs.Loading.{linked}
-use Rattle.weslc_api.proofs.Texts.{linked_text}
+use Rattle.weslc_linking.proofs.Loading.{linked}
+use Rattle.weslc_linking.proofs.Texts.{linked_text}
 use Rattle.weslc_api.proofs.calls.link.Goals as goal
 
 pub returns-in-Ok-clause-text : goal.returns-in-Ok-clause-text

@@ -1,0 +1,20 @@
+//! What the calls of `weslc` are made of: errors, options, resolvers over texts in memory, and modules that are loaded, mapped and linked.
+#![tactic(auto)]
+
+mod beyond;
+mod error;
+mod linking;
+mod options;
+mod recording;
+mod resolver;
+
+pub use error::{CompileError, ErrorContext, ImportKind, ResolveKind};
+pub use linking::{Linked, linked_unit, load_and_map, print_held};
+pub use options::Options;
+pub use recording::RecordingResolver;
+pub use resolver::VirtualResolver;
+pub use wesl_link::{
+    BasicSourceMap, EscapeMangler, ImportError, ResolveError, Resolver, SourceMap,
+};
+pub use weslc_unit::{Fault, NameFault, ValidateError};
+pub use wgsl_error::{Error, ErrorKind};
