@@ -18,7 +18,8 @@ use Rattle.wesl_link_spec.specs.Clashing.{IsFirst, Mention, occurs, declares, me
 use Rattle.wesl_scopes.specs.Outcomes.{loaded, home_of, outcome, meant_as}
 use Rattle.wesl_scopes.specs.Tells.{IsFinder, StandsAt}
 use Rattle.wesl_reach.specs.Closing.{HeldNames, held_at}
-use Rattle.wesl_link.specs.Assembling.{printed_of, without}
+use Rattle.wesl_names.specs.Naming.{printed_of}
+use Rattle.wesl_link.specs.Assembling.{without}
 use Rattle.wesl_reach.specs.Resolved.{LoadedModules, modules_of, IsResolved}
 use Rattle.wesl_link.specs.Clashing.{or_else, first_some, Sharing, sharing_in, held_names, is_shared, name_clash, own_clash, names_clash, declaration_clash, held_clash, clash_among, module_clash, clash_at, others_clash, unit_clash}
 use Rattle.wesl_scopes.proofs.ScopeLemmas.{map_get, append_left, append_right, append_cases, value_means}

@@ -13,7 +13,8 @@ use Rattle.wesl_scopes.specs.Meanings.{Known, declared, imported, bare, known}
 use Rattle.wesl_scopes.specs.Outcomes.{Outcome, symbol_at, unloaded, missing, private, free, Loaded, meant_as, outcome}
 use Rattle.wesl_scopes.specs.Tells.{IsFinder, StandsAt, Tells}
 use Rattle.wesl_reach.specs.Reach.{Holding, Settled, IsSettled, KeepsAll, IsRooted}
-use Rattle.wesl_link.specs.Assembling.{printed_of, named_or, naming, held_among, linked_module}
+use Rattle.wesl_names.specs.Naming.{printed_of, named_or, naming}
+use Rattle.wesl_link.specs.Assembling.{held_among, linked_module}
 use Rattle.wesl_reach.specs.Resolved.{NamesHeld, HoldsReached}
 use Rattle.wesl_scopes.proofs.ScopeLemmas.{same_name, self_name, value_means}
 use Rattle.wesl_scopes.proofs.TellLemmas.{has_declared, has_imported, tells}

@@ -25,7 +25,7 @@ use Rattle.wesl_scopes.specs.Outcomes.{Outcome, symbol_at, unloaded, missing, pr
 use Rattle.wesl_scopes.specs.Tells.{IsFinder, StandsAt, Tells}
 use Rattle.wesl_reach.specs.Reach.{Settled}
 use Rattle.wesl_reach.specs.Closing.{HeldNames, held_at}
-use Rattle.wesl_link.specs.Assembling.{printed_of}
+use Rattle.wesl_names.specs.Naming.{printed_of}
 use Rattle.wesl_reach.specs.Resolved.{LoadedModules, modules_of, IsResolved}
 use Rattle.wesl_link.specs.Clashing.{is_twice, sharing_in, held_names, is_shared, name_clash}
 use Rattle.wesl_scopes.proofs.ScopeLemmas.{map_get, self_name}

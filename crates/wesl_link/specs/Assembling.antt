@@ -12,27 +12,12 @@ use Rattle.wesl_link_spec.specs.Occurrences.{Name}
 use Rattle.wesl_link_spec.specs.Modules.{Path}
 use Rattle.wesl_link_spec.specs.Linked.{renamed_declaration}
 use Rattle.wesl_scopes.specs.declared.module.Module.{Module}
-use Rattle.wesl_scopes.specs.Outcomes.{Outcome, symbol_at, unloaded, missing, private, free, Loaded, outcome, loaded, home_of}
+use Rattle.wesl_scopes.specs.Outcomes.{Loaded, loaded, home_of}
 use Rattle.wesl_reach.specs.Reach.{Holding}
 use Rattle.wesl_reach.specs.Closing.{HeldNames, held_at}
 use Rattle.wesl_reach.specs.Resolved.{LoadedModules}
+use Rattle.wesl_names.specs.Naming.{naming}
 use Rattle.wesl_link.specs.declared.assemble.HeldDeclaration.{HeldDeclaration}
-
--- the printed name of what an outcome denotes, where it is held
-abbrev pub printed_of : Holding → Outcome → Option Name
-printed_of held (symbol_at m place) = held m place
-printed_of held (unloaded s) = None
-printed_of held (missing s) = None
-printed_of held (private s) = None
-printed_of held free = None
-
-abbrev pub named_or : Option Name → Name → Name
-named_or (Some y) x = y
-named_or None x = x
-
--- the new name of a name of a module
-abbrev pub naming : Loaded → Holding → Path × UnitTree → Name → Name
-naming find held m x = named_or (printed_of held (outcome find m x)) x
 
 -- the declarations at places that are held, where the first stands at this place
 abbrev pub held_among : (ℕ → Bool) → ℕ → List Decl → List Decl

@@ -14,7 +14,7 @@ use Rattle.wesl_scopes.specs.declared.module.Module.{Module}
 use Rattle.wesl_scopes.specs.Outcomes.{Loaded, outcome, loaded, home_of}
 use Rattle.wesl_reach.specs.Reach.{Holding}
 use Rattle.wesl_reach.specs.Closing.{HeldNames, held_at}
-use Rattle.wesl_link.specs.Assembling.{printed_of}
+use Rattle.wesl_names.specs.Naming.{printed_of}
 use Rattle.wesl_reach.specs.Resolved.{LoadedModules}
 
 -- ---- the first

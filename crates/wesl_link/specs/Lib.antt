@@ -1,5 +1,4 @@
 pub mod Assembling
-pub mod Printed
 pub mod Clashing
 pub mod Answers
 pub mod Recording

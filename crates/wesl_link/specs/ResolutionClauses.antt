@@ -15,9 +15,10 @@ use Rattle.wesl_scopes.specs.declared.denote.Symbol.{Symbol}
 use Rattle.wesl_scopes.specs.Outcomes.{loaded, home_of}
 use Rattle.wesl_reach.specs.Closing.{held_at}
 use Rattle.wesl_reach.specs.Resolved.{modules_of, IsResolved}
-use Rattle.wesl_link.specs.Assembling.{naming, linked_module, linked_trees, linked_at}
+use Rattle.wesl_names.specs.Naming.{naming}
+use Rattle.wesl_link.specs.Assembling.{linked_module, linked_trees, linked_at}
 use Rattle.wesl_link.specs.Clashing.{Sharing, module_clash, held_clash, or_else}
-use Rattle.wesl_link.specs.Printed.{printed_in}
+use Rattle.wesl_names.specs.Naming.{printed_in}
 use Rattle.wesl_link.specs.Recording.{Source, record_of}
 use Rattle.wesl_link.specs.declared.assemble.HeldDeclaration.{HeldDeclaration}
 use Rattle.wesl_link.specs.declared.rounds.Resolutions.{Resolutions}

@@ -11,9 +11,9 @@ ghost use Rattle.wesl_link.specs.Assembling.{declaration_trees, linked_tree, lin
 ghost use Rattle.wesl_resolve.specs.SourceMaps.{decl_at};
 ghost use Rattle.wesl_link.specs.Recording.{records_in, records_of, AreRecorded, AreTold};
 
-use crate::naming::{ModuleNaming, held_name};
 use crate::rounds::Resolutions;
 use std::alloc::{AllocError, Global};
+use wesl_names::{ModuleNaming, held_name};
 use wesl_reach::is_held;
 use wesl_rename::renamed_declaration;
 use wesl_resolve::BasicSourceMap;
@@ -67,7 +67,8 @@ impl Resolutions {
         ensures { IfOk result (λ declaration. declaration_tree declaration ≡ linked_tree self.now.modules self.now.held held.entry) }
     {
         let naming = ModuleNaming {
-            resolutions: self,
+            modules: &self.modules,
+            held: &self.held,
             module: held.module,
         };
         renamed_declaration(alloc, naming, held.node.node())

@@ -12,10 +12,10 @@ ghost use Rattle.wesl_scopes.specs.Outcomes.{loaded, home_of};
 ghost use Rattle.wesl_link.specs.ResolutionClauses.{FindsClash, FindsFirstClash, printed_names, clash_beside, clash_of_symbol};
 ghost use Rattle.wesl_rename.specs.Scopes.{texts};
 
-use crate::naming::{held_name, printed};
 use crate::rounds::Resolutions;
 use std::alloc::{AllocError, Global};
 use std::collections::HashMap;
+use wesl_names::{held_name, printed};
 use wesl_rename::{Scope, names_before, names_behind, names_in_body};
 use wesl_scopes::{Module, Symbol};
 use wgsl_items::Text;
@@ -226,7 +226,7 @@ impl Resolutions {
     ) -> Result<Option<Text>, AllocError>
         ensures { IfOk result (λ clash. clash ≡ spec.name_clash (sharing_at sharing.now) scope.now (printed_names self.now «module».now occurring.now) occurring.now) }
     {
-        match printed(self, module, occurring) {
+        match printed(&self.modules, &self.held, module, occurring) {
             Some(name) => {
                 if is_shared(sharing, name) || scope.hides(name) {
                     return Ok(Some(Text::from_str(alloc, name)?));

@@ -3,7 +3,6 @@
 
 mod assemble;
 mod clash;
-mod naming;
 mod rounds;
 
 pub use assemble::HeldDeclaration;

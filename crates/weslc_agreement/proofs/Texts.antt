@@ -2,7 +2,7 @@
 use Rattle.std.proofs.Common.{◌≡◌, ℕ, List, Ok, sym, ap, ◌∙◌, subst}
 use Rattle.wgsl_syntax.specs.Tree.{UnitTree}
 use Rattle.wgsl_syntax.specs.Print.{unit_text}
-use Rattle.wgsl_lower.specs.Lowered.{Lowers}
+use Rattle.wgsl_lower_expressions.specs.Lowered.{Lowers}
 use Rattle.wgsl_lower.proofs.Once.{lowered_once}
 use Rattle.wesl_link_spec.specs.Rounds.{Sources}
 use Rattle.wesl_meaning.specs.Determined.{IsFunctional}

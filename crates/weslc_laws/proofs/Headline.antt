@@ -7,7 +7,7 @@ use Rattle.wgsl_syntax.specs.View.{unit_tree}
 use Rattle.wgsl_lex.specs.Tokens.{IsLexed}
 use Rattle.wgsl_grammar.specs.Declarations.{IsUnit}
 use Rattle.wgsl_round_trip.specs.Printing.{StandsFor}
-use Rattle.wgsl_lower.specs.Lowered.{Lowers}
+use Rattle.wgsl_lower_expressions.specs.Lowered.{Lowers}
 use Rattle.wgsl_lower.specs.Keeps.{AreClear}
 use Rattle.wesl_resolve.specs.Found.{unit_of}
 use Rattle.wesl_link_spec.specs.Occurrences.{Name}

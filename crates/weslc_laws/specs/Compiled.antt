@@ -17,7 +17,7 @@ use Rattle.wgsl_programs.specs.Programs.{Program, here}
 use Rattle.wgsl_programs.specs.Runs.{Handed, EndsWell, program_of}
 use Rattle.wesl_meaning.specs.Runs.{AreLinkedWell}
 use Rattle.wesl_meaning.specs.Executions.{IsProgramIn}
-use Rattle.wgsl_lower.specs.Lowered.{Lowers}
+use Rattle.wgsl_lower_expressions.specs.Lowered.{Lowers}
 use Rattle.wgsl_lower.specs.Keeps.{AreClear}
 
 -- the symbol of a name of the root

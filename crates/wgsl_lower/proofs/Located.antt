@@ -14,7 +14,7 @@ use Rattle.wgsl_meaning.specs.Meaning.{const_in}
 use Rattle.wgsl_meaning.specs.ConstStage.{Consts, Scope, stage, module_scope}
 use Rattle.wgsl_eval.specs.declared.error.DeclarationFault.{DeclarationFault}
 use Rattle.wgsl_eval.specs.Start.{refused, added, valued, valued_at, then_more, all_valued, consts_of}
-use Rattle.wgsl_lower.specs.Computed.{lowered_function, refusing, lowered_declarations}
+use Rattle.wgsl_lower_expressions.specs.Computed.{lowered_function, refusing, lowered_declarations}
 use Rattle.wgsl_lower.specs.Located.{RefusalsAreInDeclarations}
 use Rattle.wgsl_lower.proofs.Same.{computed_same}
 

@@ -51,7 +51,7 @@ use Rattle.wgsl_programs.proofs.Itself.{local_same, constructed_same}
 use Rattle.wgsl_programs.proofs.Agreeing.{KnownAgree, LocalsAgree, better_by_const}
 use Rattle.wgsl_programs.proofs.Converting.{IsConcrete, better_returned}
 use Rattle.wgsl_programs.proofs.Scalars.{used_literal, built_of_scalar}
-use Rattle.wgsl_lower.specs.Computed.{lowered, callee_here as scope_callee, all_lowered}
+use Rattle.wgsl_lower_expressions.specs.Computed.{lowered, callee_here as scope_callee, all_lowered}
 use Rattle.wgsl_lower.proofs.Steps.{then_ok}
 use Rattle.wgsl_lower.proofs.Units.{parts_of, after_done}
 use Rattle.wgsl_lower.proofs.Computes.{computed_done}

@@ -3,7 +3,7 @@ use Rattle.std.proofs.Common.{◌≡◌, sym, ap, ◌∙◌}
 use Rattle.wesl_validate.specs.Rings.{Chain}
 use Rattle.wesl_order.specs.Units.{rows_of, values_from}
 use Rattle.wesl_order.proofs.Once.{orders_are_one}
-use Rattle.wgsl_lower.specs.Lowered.{lowered_after}
+use Rattle.wgsl_lower_expressions.specs.Lowered.{lowered_after}
 use Rattle.wgsl_lower.specs.Once.{LoweredOnce}
 
 pub lowered_once : LoweredOnce

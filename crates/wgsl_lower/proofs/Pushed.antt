@@ -4,7 +4,7 @@ use Rattle.wgsl_syntax.specs.Tree.{Decl, variable, function}
 use Rattle.wgsl_meaning.specs.ConstStage.{Scope}
 use Rattle.wgsl_eval.specs.declared.error.DeclarationFault.{DeclarationFault}
 use Rattle.wgsl_eval.specs.Start.{then_more}
-use Rattle.wgsl_lower.specs.Computed.{refusing, lowered_function, lowered_declarations, all_pushed}
+use Rattle.wgsl_lower_expressions.specs.Computed.{refusing, lowered_function, lowered_declarations, all_pushed}
 
 abbrev before : List Decl → Result (List Decl) DeclarationFault → Result (List Decl) DeclarationFault
 before done (Ok ds) = Ok (done ++ ds)

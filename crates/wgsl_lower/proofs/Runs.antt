@@ -31,7 +31,7 @@ use Rattle.wgsl_programs.proofs.Agreeing.{KnownAgree}
 use Rattle.wgsl_programs.proofs.Cells.{IsLeft, Leaves, start_leaves}
 use Rattle.wesl_order.specs.Order.{IsStartOrder, none_left}
 use Rattle.wgsl_eval.specs.Start.{then_more, added, valued, valued_at, all_valued, consts_of}
-use Rattle.wgsl_lower.specs.Computed.{parameter_types, lowered_declarations, lowered_after}
+use Rattle.wgsl_lower_expressions.specs.Computed.{parameter_types, lowered_declarations, lowered_after}
 use Rattle.wgsl_lower.specs.Keeps.{is_clear, ClearParameters, AreClear, Keeps}
 use Rattle.wgsl_lower.proofs.Units.{then_more_ok, gone_too, found_too, only_functions, clear_declaration, clear_found, clear_types}
 use Rattle.wgsl_lower.proofs.Worlds.{same_decl, known_of}

@@ -36,9 +36,9 @@ use Rattle.wgsl_programs.specs.Runs.{find_decl, here_if}
 use Rattle.wgsl_programs.proofs.Scalars.{converted_scalar, IsInRange}
 use Rattle.wgsl_eval.specs.declared.error.DeclarationFault.{DeclarationFault}
 use Rattle.wgsl_eval.specs.Start.{then_more, added, valued, valued_at, all_valued, consts_of}
-use Rattle.wgsl_lower.specs.Lowered.{given, written_layer, unless_const, constructed_by, constructed_type, constructor_call, in_declaration, unit_world, started_const, started_at, started_consts}
-use Rattle.wgsl_lower.specs.Lowered as means
-use Rattle.wgsl_lower.specs.Computed as code
+use Rattle.wgsl_lower_expressions.specs.Lowered.{given, written_layer, unless_const, constructed_by, constructed_type, constructor_call, in_declaration, unit_world, started_const, started_at, started_consts}
+use Rattle.wgsl_lower_expressions.specs.Lowered as means
+use Rattle.wgsl_lower_expressions.specs.Computed as code
 use Rattle.wgsl_lower.proofs.Computes.{as_value, lift, lift_after, lift_bind, lift_used, lift_computed}
 use Rattle.wgsl_lower.proofs.Worlds.{same_decl, hidden_locals, if_hidden, known_of, typed_or, built_is, type_written_is, AreDeclared, told_in, local_is, scope_means, scope_types}
 use Rattle.wgsl_lower.proofs.Differs.{type_is}

@@ -37,7 +37,7 @@ use Rattle.wgsl_programs.proofs.Agreeing.{KnownAgree, const_answer}
 use Rattle.wgsl_programs.proofs.Known.{or_if, find_behind}
 use Rattle.wgsl_programs.proofs.Scalars.{used_literal, IsInRange, converted_scalar}
 use Rattle.wgsl_programs.proofs.Converting.{IsConcrete}
-use Rattle.wgsl_lower.specs.Computed.{type_here}
+use Rattle.wgsl_lower_expressions.specs.Computed.{type_here}
 use Rattle.wgsl_lower.proofs.Units.{parts_of}
 use Rattle.wgsl_lower.proofs.Computes.{computed_done}
 use Rattle.wgsl_lower.proofs.Worlds.{same_decl, if_root, known_of, known_found, type_means, denotes_none, AreDeclared, scope_computes}

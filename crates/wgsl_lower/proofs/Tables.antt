@@ -10,7 +10,7 @@ use Rattle.wgsl_eval.specs.Scopes.{Declares, outside}
 use Rattle.wgsl_eval.specs.Start.{then_more, consts_of}
 use Rattle.wgsl_eval.specs.Starts.{HoldsThese}
 use Rattle.wgsl_eval.proofs.Tables.{scope_is}
-use Rattle.wgsl_lower.specs.Computed.{lowered_after, lowered_under}
+use Rattle.wgsl_lower_expressions.specs.Computed.{lowered_after, lowered_under}
 
 pub lowered_with_tables : {S U : Type 0} (u : Module) (order : List ℕ) (declarations : HashMap (Bor (List ℕ)) (Bor GlobalDeclaration) S) (consts : HashMap (Bor (List ℕ)) LiteralInstance U)
     → Declares declarations u.declarations → HoldsThese consts (consts_of u.declarations order) → lowered_under (outside declarations consts) u.declarations ≡ lowered_after order u

@@ -15,7 +15,7 @@ use Rattle.wgsl_programs.specs.Programs.{is_value}
 use Rattle.wgsl_meaning.specs.ConstStage.{Scope}
 use Rattle.wgsl_eval.specs.declared.error.DeclarationFault.{DeclarationFault}
 use Rattle.wgsl_eval.specs.Start.{then_more}
-use Rattle.wgsl_lower.specs.Computed.{type_here, lowered_attributes, lowered_parameters, parameter_types, checked_type, lowered_statements, with_parameters, lowered_body, lowered_rest, lowered_function, refusing, lowered_declarations}
+use Rattle.wgsl_lower_expressions.specs.Computed.{type_here, lowered_attributes, lowered_parameters, parameter_types, checked_type, lowered_statements, with_parameters, lowered_body, lowered_rest, lowered_function, refusing, lowered_declarations}
 use Rattle.wgsl_lower.specs.Keeps.{is_clear, ClearParameters, AreClear}
 use Rattle.wgsl_lower.proofs.Steps.{then_ok}
 

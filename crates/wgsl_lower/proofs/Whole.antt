@@ -6,8 +6,8 @@ use Rattle.wgsl_items.specs.declared.error.OrOutOfMemory.TheVariants.{Error, Out
 use Rattle.wesl_order.specs.Units.{IsStartOrderOf}
 use Rattle.wgsl_eval.specs.declared.error.DeclarationFault.{DeclarationFault}
 use Rattle.wgsl_eval.specs.Refusals.{Answers}
-use Rattle.wgsl_lower.specs.Lowered.{IsLowering}
-use Rattle.wgsl_lower.specs.Computed.{lowered_after}
+use Rattle.wgsl_lower_expressions.specs.Lowered.{IsLowering}
+use Rattle.wgsl_lower_expressions.specs.Computed.{lowered_after}
 use Rattle.wgsl_lower.specs.Keeps.{AreClear, Keeps}
 use Rattle.wgsl_lower.proofs.Runs.{lowered_so}
 use Rattle.wgsl_lower.proofs.Same.{computed_same}

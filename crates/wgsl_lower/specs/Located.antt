@@ -4,7 +4,7 @@ use Rattle.std.specs.List.{Contains}
 use Rattle.wgsl_syntax.specs.Tree.{UnitTree as Module}
 use Rattle.wgsl_syntax.specs.Names.{declared_name}
 use Rattle.wgsl_eval.specs.declared.error.DeclarationFault.{DeclarationFault}
-use Rattle.wgsl_lower.specs.Lowered.{Lowers}
+use Rattle.wgsl_lower_expressions.specs.Lowered.{Lowers}
 
 -- the declaration that lowering is refused for is one that the unit declares
 abbrev pub RefusalsAreInDeclarations : Type 0

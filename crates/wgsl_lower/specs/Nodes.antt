@@ -10,7 +10,7 @@ use Rattle.wgsl_syntax.specs.declared.declaration.Function.{Function}
 use Rattle.wgsl_meaning.specs.Values.{Checked}
 use Rattle.wgsl_meaning.specs.Meaning.{Types}
 use Rattle.wgsl_meaning.specs.ConstStage.{Scope}
-use Rattle.wgsl_lower.specs.Computed.{lowered_rest}
+use Rattle.wgsl_lower_expressions.specs.Computed.{lowered_rest}
 
 -- a function with these attributes and parameters, and what is left of it lowered
 abbrev pub lowered_with : Scope → List (Spanned Attribute) → List FormalParameter → Types → Function → Checked Decl

@@ -2,7 +2,7 @@
 use Rattle.std.specs.Prelude.{◌≡◌, ℕ, Result}
 use Rattle.wgsl_syntax.specs.Tree.{UnitTree as Module}
 use Rattle.wgsl_eval.specs.declared.error.DeclarationFault.{DeclarationFault}
-use Rattle.wgsl_lower.specs.Lowered.{Lowers}
+use Rattle.wgsl_lower_expressions.specs.Lowered.{Lowers}
 
 -- it is lowered to one unit, or has one refusal
 abbrev pub LoweredOnce : Type 0

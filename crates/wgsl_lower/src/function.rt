@@ -8,13 +8,13 @@ ghost use Rattle.wgsl_syntax.specs.declared.declaration.GlobalDeclaration.TheVar
 ghost use Rattle.wgsl_meaning.specs.Values.{and_then};
 ghost use Rattle.wgsl_eval.specs.Ends.{Ends, Gives};
 ghost use Rattle.wgsl_eval.specs.Scopes.{scope_of};
-ghost use Rattle.wgsl_lower.specs.Computed as spec;
+ghost use Rattle.wgsl_lower_expressions.specs.Computed as spec;
 ghost use Rattle.wgsl_lower.specs.Nodes.{lowered_with};
 
-use crate::expression::lowered;
 use std::alloc::Global;
 use wgsl_eval::{EvalError, Scope, eval_ty, ty_eval_ty};
 use wgsl_items::{Boxed, CloneIn, Items, Text};
+use wgsl_lower_expressions::lowered;
 use wgsl_scalar::{IntegerType, ScalarType};
 use wgsl_syntax::{
     Attribute, AttributeNode, Attributes, CompoundStatement, Expression, ExpressionNode,

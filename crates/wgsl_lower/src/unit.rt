@@ -4,8 +4,8 @@ ghost use Rattle.std.specs.Prelude.{◌≡◌, [], map, IfOk};
 ghost use Rattle.wgsl_syntax.specs.View.{unit_tree, declaration_tree};
 ghost use Rattle.wgsl_eval.specs.Refusals.{Answers};
 ghost use Rattle.wgsl_eval.specs.Scopes.{decls, outside, scope_of};
-ghost use Rattle.wgsl_lower.specs.Computed as spec;
-ghost use Rattle.wgsl_lower.specs.Lowered.{IsLowering};
+ghost use Rattle.wgsl_lower_expressions.specs.Computed as spec;
+ghost use Rattle.wgsl_lower_expressions.specs.Lowered.{IsLowering};
 ghost use Rattle.wgsl_lower.specs.Keeps.{AreClear, Keeps};
 
 use crate::function::lowered_function;

@@ -51,8 +51,5 @@ pub(crate) fn or_error(
 ) -> Result<LiteralInstance, Error>
     ensures { result ≡ spec.or_error value error }
 {
-    match value {
-        Some(value) => Ok(value),
-        None => Err(error),
-    }
+    value.ok_or(error)
 }

@@ -1,6 +1,6 @@
 use Rattle.std.proofs.Common.{◌∙◌, ap, sym, Ok}
 use Rattle.wgsl_syntax.specs.declared.expression.Expression.TheVariants.{FunctionCall}
-use Rattle.wgsl_lower.proofs.Parts.{constructor_is}
+use Rattle.wgsl_lower_expressions.proofs.Parts.{constructor_is}
 use Rattle.wgsl_lower.proofs.function.constructor_call.Goals as goal
 
 pub returns : goal.returns

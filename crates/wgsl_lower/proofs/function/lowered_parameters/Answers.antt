@@ -4,7 +4,7 @@ use Rattle.wgsl_syntax.specs.Tree.{Param}
 use Rattle.wgsl_syntax.specs.View.{parameter_tree}
 use Rattle.wgsl_meaning.specs.Values.{Checked, and_then}
 use Rattle.wgsl_eval.specs.Scopes.{scope_of}
-use Rattle.wgsl_lower.specs.Computed.{prepended, lowered_parameters}
+use Rattle.wgsl_lower_expressions.specs.Computed.{prepended, lowered_parameters}
 use Rattle.wgsl_lower.proofs.function.lowered_parameters.Goals as goal
 
 one_more : (xs : List Param) (y : Param) (r : Checked (List Param)) → prepended (xs ++ y ∷ []) r ≡ prepended xs (and_then r (λ ys. Ok (y ∷ ys)))

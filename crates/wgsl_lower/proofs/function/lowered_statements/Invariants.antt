@@ -2,7 +2,7 @@ use Rattle.std.proofs.Common.{◌≡◌, drop, map}
 use Rattle.std.specs.Option.{option_map}
 use Rattle.wgsl_syntax.specs.View.{statement_tree, type_tree}
 use Rattle.wgsl_eval.specs.Scopes.{scope_of}
-use Rattle.wgsl_lower.specs.Computed as spec
+use Rattle.wgsl_lower_expressions.specs.Computed as spec
 use Rattle.wgsl_lower.proofs.function.lowered_statements.Given as goal
 
 abbrev pub invariant-loop-node : goal.invariant-loop-node

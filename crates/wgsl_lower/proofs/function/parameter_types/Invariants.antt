@@ -1,7 +1,7 @@
 use Rattle.std.proofs.Common.{◌≡◌, drop, map}
 use Rattle.wgsl_syntax.specs.View.{parameter_tree}
 use Rattle.wgsl_eval.specs.Scopes.{scope_of}
-use Rattle.wgsl_lower.specs.Computed as spec
+use Rattle.wgsl_lower_expressions.specs.Computed as spec
 use Rattle.wgsl_lower.proofs.function.parameter_types.Given as goal
 
 abbrev pub invariant-loop-parameter : goal.invariant-loop-parameter

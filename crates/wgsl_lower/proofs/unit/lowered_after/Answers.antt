@@ -4,7 +4,7 @@ use Rattle.wgsl_eval.specs.Refusals.{Answers}
 use Rattle.wgsl_eval.specs.Scopes.{decls, outside, Declares}
 use Rattle.wgsl_eval.specs.Start.{consts_of}
 use Rattle.wgsl_eval.specs.Starts.{HoldsThese}
-use Rattle.wgsl_lower.specs.Computed.{lowered_under}
+use Rattle.wgsl_lower_expressions.specs.Computed.{lowered_under}
 use Rattle.wgsl_lower.proofs.Tables.{lowered_with_tables}
 use Rattle.wgsl_lower.proofs.unit.lowered_after.Goals as goal
 

@@ -1,6 +1,6 @@
 use Rattle.std.proofs.Common.{◌≡◌, drop, []}
 use Rattle.wgsl_eval.specs.Scopes.{decls, scope_of}
-use Rattle.wgsl_lower.specs.Computed as spec
+use Rattle.wgsl_lower_expressions.specs.Computed as spec
 use Rattle.wgsl_lower.proofs.unit.lowered_in_turn.Given as goal
 
 abbrev pub invariant-loop-node : goal.invariant-loop-node

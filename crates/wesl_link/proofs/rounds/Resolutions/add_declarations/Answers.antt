@@ -4,7 +4,7 @@ use Rattle.wgsl_syntax.specs.Tree.{Decl}
 use Rattle.wesl_link_spec.specs.Linked.{renamed_declaration}
 use Rattle.wesl_scopes.specs.Outcomes.{loaded, home_of}
 use Rattle.wesl_reach.specs.Closing.{held_at}
-use Rattle.wesl_link.specs.Assembling.{naming}
+use Rattle.wesl_names.specs.Naming.{naming}
 use Rattle.wesl_link.specs.Assembling.{linked_trees}
 use Rattle.wesl_link.proofs.AssembleLemmas.{held_step, held_end}
 use Rattle.wesl_link.proofs.rounds.Resolutions.add_declarations.Goals as goal

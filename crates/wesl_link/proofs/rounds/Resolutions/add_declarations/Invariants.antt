@@ -3,7 +3,8 @@ use Rattle.std.specs.Prelude.{is_some, string_bytes}
 use Rattle.wesl_link_spec.specs.Linked.{renamed_declaration}
 use Rattle.wesl_scopes.specs.Outcomes.{loaded, home_of}
 use Rattle.wesl_reach.specs.Closing.{held_at}
-use Rattle.wesl_link.specs.Assembling.{naming, held_among}
+use Rattle.wesl_names.specs.Naming.{naming}
+use Rattle.wesl_link.specs.Assembling.{held_among}
 use Rattle.wesl_link.specs.Assembling.{declaration_trees, linked_trees}
 use Rattle.wesl_link.proofs.rounds.Resolutions.add_declarations.Given as goal
 

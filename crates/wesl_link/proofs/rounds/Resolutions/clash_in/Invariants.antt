@@ -2,7 +2,7 @@ use Rattle.std.proofs.Common.{◌≡◌, drop}
 use Rattle.std.specs.Prelude.{string_bytes}
 use Rattle.wesl_link.specs.Clashing.{clash_among, sharing_at}
 use Rattle.wesl_reach.specs.Closing.{held_at}
-use Rattle.wesl_link.specs.Printed.{printed_in}
+use Rattle.wesl_names.specs.Naming.{printed_in}
 use Rattle.wesl_link.specs.Assembling.{declaration_trees}
 use Rattle.wesl_link.proofs.rounds.Resolutions.clash_in.Given as goal
 

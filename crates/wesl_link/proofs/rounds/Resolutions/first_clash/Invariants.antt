@@ -1,6 +1,6 @@
 use Rattle.std.proofs.Common.{◌≡◌, drop}
 use Rattle.wesl_link.specs.Clashing.{names_clash, sharing_at}
-use Rattle.wesl_link.specs.Printed.{printed_in}
+use Rattle.wesl_names.specs.Naming.{printed_in}
 use Rattle.wesl_rename.specs.Scopes.{texts}
 use Rattle.wesl_link.proofs.rounds.Resolutions.first_clash.Given as goal
 
