@@ -1,5 +1,5 @@
 -- The names of the linked unit for the names that occur.
-use Rattle.std.specs.Prelude.{◌×◌, Option, Some, None}
+use Rattle.std.specs.Prelude.{Option, Some, None}
 use Rattle.std.specs.BTreeMap.{BTreeMap}
 use Rattle.std.specs.declared.string.String.{String}
 use Rattle.std.specs.declared.alloc.Global.{Global}

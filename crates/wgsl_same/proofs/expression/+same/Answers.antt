@@ -13,7 +13,7 @@ is_same-returns-in-TypeOrIdentifier-b l c = names_same _ _ _ _ _ c.in-TypeOrIden
 
 pub is_same_type_in-returns-in-Some-template_args-2 : goal.is_same_type_in-returns-in-Some-template_args-2
 is_same_type_in-returns-in-Some-template_args-2 l c =
-    types_templated _ _ _ _ _ _ _ c.in-Some.is c.in-Some-template_args-2.is (c.is_same_name.ensures.0 (is_true _ c.if-not-is_same_name.false))
+    types_templated c.args.a.now c.args.b.now _ _ _ _ _ c.in-Some.is c.in-Some-template_args-2.is (c.is_same_name.ensures.0 (is_true _ c.if-not-is_same_name.false))
     (c.as_slice.ensures ∙ c.get.ensures) (c.as_slice-in-Some-template_args-2.ensures ∙ c.get-in-Some-template_args-2.ensures) c.is_same_arguments.ensures
 
 pub is_same_nodes-returns-then-not-is_same_node : goal.is_same_nodes-returns-then-not-is_same_node
