@@ -15,9 +15,9 @@ use Rattle.wgsl_meaning.specs.Names.{Name, plain_name}
 use Rattle.wgsl_meaning.specs.Meaning.{value, values}
 use Rattle.wgsl_meaning.specs.ConstStage.{Scope, stage, callee_of}
 use Rattle.wgsl_meaning.specs.Written.{written}
-use Rattle.wgsl_lower.specs.declared.expression.Reduced.{Reduced as CodeReduced}
-use Rattle.wgsl_lower.specs.declared.expression.Reduced.TheVariants.{Value, Parts}
-use Rattle.wgsl_lower.specs.declared.expression.Arguments.{Arguments}
+use Rattle.wgsl_lower_expressions.specs.declared.expression.Reduced.{Reduced as CodeReduced}
+use Rattle.wgsl_lower_expressions.specs.declared.expression.Reduced.TheVariants.{Value, Parts}
+use Rattle.wgsl_lower_expressions.specs.declared.expression.Arguments.{Arguments}
 use Rattle.wgsl_lower_expressions.specs.Computed.{const_value, lowered, all_lowered}
 
 pub record Reduced : Type 0 where
