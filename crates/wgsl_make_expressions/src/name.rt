@@ -1,6 +1,6 @@
 //! Names, types and calls.
 
-ghost use Rattle.std.specs.Prelude.{◌≡◌, IfOk, Some};
+ghost use Rattle.std.specs.Prelude.{◌≡◌, IfOk};
 ghost use Rattle.wgsl_make_expressions.specs.Making as making;
 
 use crate::path::{template, within};
@@ -10,13 +10,21 @@ use wgsl_expressions::{FunctionCall, TypeExpression};
 use wgsl_items::{Boxed, Items};
 use wgsl_parts::take::{both, end, ended, expressions, ident, ty, ups};
 use wgsl_parts::{NameLabel, Part, QualifiedName, Stack};
-use wgsl_path::{ModulePath, PathOrigin};
+use wgsl_path::{Ident, ModulePath, PathOrigin};
 
-/// Names behind paths. The other labels are answered as if memory were refused.
-fn make_behind(alloc: Global, label: NameLabel, parts: &mut Stack<Part>) -> Result<Part, AllocError>
+/// A name behind a path.
+fn behind(alloc: Global, path: ModulePath, ident: Ident) -> Result<QualifiedName, AllocError>
+    ensures { IfOk result (λ name. Part.Path name ≡ making.behind path ident) }
+{
+    let path = Some(Boxed::new(alloc, path)?);
+    Ok(QualifiedName { path, ident })
+}
+
+/// Names behind paths, and levels above. The other labels are answered as if memory were refused.
+fn make_path(alloc: Global, label: NameLabel, parts: &mut Stack<Part>) -> Result<Part, AllocError>
     ensures { IfOk result (λ part. part ≡ making.make_name label parts.old) }
 {
-    let (path, ident) = match label {
+    match label {
         NameLabel::NameAbove => {
             let levels = ups(parts);
             let ident = ident(parts);
@@ -25,22 +33,31 @@ fn make_behind(alloc: Global, label: NameLabel, parts: &mut Stack<Part>) -> Resu
                 origin: PathOrigin::Relative(levels),
                 components: Items::new(alloc),
             };
-            (path, ident)
+            Ok(Part::Path(behind(alloc, path, ident)?))
         }
         NameLabel::NameInPackage => {
             let ident = ended(ident(parts), parts)?;
-            (ModulePath::new_root(alloc), ident)
+            let path = ModulePath::new_root(alloc);
+            Ok(Part::Path(behind(alloc, path, ident)?))
         }
         NameLabel::NameWithin => {
             let outer = path(parts);
             let ident = ident(parts);
             let (outer, ident) = ended(both(outer, ident), parts)?;
-            (within(alloc, outer)?, ident)
+            let path = within(alloc, outer)?;
+            Ok(Part::Path(behind(alloc, path, ident)?))
         }
-        _ => return Err(AllocError),
-    };
-    let path = Some(Boxed::new(alloc, path)?);
-    Ok(Part::Path(QualifiedName { path, ident }))
+        NameLabel::OneUp => {
+            end(parts)?;
+            Ok(Part::Ups(1))
+        }
+        NameLabel::FurtherUp => {
+            let levels = ended(ups(parts), parts)?;
+            let levels = levels.checked_add(1).ok_or(AllocError)?;
+            Ok(Part::Ups(levels))
+        }
+        _ => Err(AllocError),
+    }
 }
 
 /// What the production of this label makes of its parts. Parts that do not fit, and more levels than a `usize` counts, are answered as if
@@ -56,15 +73,6 @@ pub fn make_name(
         NameLabel::NameAlone => {
             let ident = ended(ident(parts), parts)?;
             Ok(Part::Path(QualifiedName { path: None, ident }))
-        }
-        NameLabel::OneUp => {
-            end(parts)?;
-            Ok(Part::Ups(1))
-        }
-        NameLabel::FurtherUp => {
-            let levels = ended(ups(parts), parts)?;
-            let levels = levels.checked_add(1).ok_or(AllocError)?;
-            Ok(Part::Ups(levels))
         }
         NameLabel::Simple => {
             let QualifiedName { path, ident } = ended(path(parts), parts)?;
@@ -92,6 +100,6 @@ pub fn make_name(
             let (ty, arguments) = ended(both(ty, arguments), parts)?;
             Ok(Part::Call(FunctionCall { ty, arguments }))
         }
-        rest => make_behind(alloc, rest, parts),
+        rest => make_path(alloc, rest, parts),
     }
 }
