@@ -9,21 +9,15 @@ use wgsl_items::Items;
 use wgsl_parts::take::{end, first, misfit};
 use wgsl_parts::{Part, Stack};
 
-/// A part, if it was the last.
-fn last(part: Part, parts: &mut Stack<Part>) -> Result<Part, AllocError>
-    ensures { IfOk result (λ last. (last ≡ part) × (parts.old ≡ [])) }
-{
-    match end(parts) {
-        Ok(()) => Ok(part),
-        Err(AllocError) => misfit(part),
-    }
-}
-
 /// The one part.
 pub fn pass(parts: &mut Stack<Part>) -> Result<Part, AllocError>
     ensures { IfOk result (λ part. part ≡ making.pass parts.old) }
 {
-    last(first(parts)?, parts)
+    let part = first(parts)?;
+    match end(parts) {
+        Ok(()) => Ok(part),
+        Err(AllocError) => misfit(part),
+    }
 }
 
 fn one<T: Drop>(alloc: Global, item: T) -> Result<Items<T>, AllocError>
@@ -34,11 +28,11 @@ fn one<T: Drop>(alloc: Global, item: T) -> Result<Items<T>, AllocError>
     Ok(items)
 }
 
-/// A list of one.
-fn started(alloc: Global, part: Part) -> Result<Part, AllocError>
-    ensures { IfOk result (λ list. list ≡ making.started part) }
+/// A list of the one part.
+pub fn make_first(alloc: Global, parts: &mut Stack<Part>) -> Result<Part, AllocError>
+    ensures { IfOk result (λ part. part ≡ making.make_first parts.old) }
 {
-    match part {
+    match pass(parts)? {
         Part::Expression(x) => Ok(Part::Expressions(one(alloc, x)?)),
         Part::Attribute(x) => Ok(Part::Attributes(one(alloc, x)?)),
         Part::Statement(x) => Ok(Part::Statements(one(alloc, x)?)),
@@ -56,26 +50,13 @@ fn started(alloc: Global, part: Part) -> Result<Part, AllocError>
     }
 }
 
-/// A list of the one part.
-pub fn make_first(alloc: Global, parts: &mut Stack<Part>) -> Result<Part, AllocError>
-    ensures { IfOk result (λ part. part ≡ making.make_first parts.old) }
-{
-    started(alloc, pass(parts)?)
-}
-
-/// A list and the part behind it.
-fn longer(list: Part, parts: &mut Stack<Part>) -> Result<Part, AllocError>
-    ensures { IfOk result (λ part. part ≡ making.longer list parts.old) }
-{
-    match pass(parts) {
-        Ok(part) => joined(list, part),
-        Err(AllocError) => misfit(list),
-    }
-}
-
 /// A list, and one more.
 pub fn make_more(parts: &mut Stack<Part>) -> Result<Part, AllocError>
     ensures { IfOk result (λ part. part ≡ making.make_more parts.old) }
 {
-    longer(first(parts)?, parts)
+    let list = first(parts)?;
+    match pass(parts) {
+        Ok(part) => joined(list, part),
+        Err(AllocError) => misfit(list),
+    }
 }

@@ -4,7 +4,6 @@ ghost use Rattle.std.specs.Prelude.{◌≡◌, IfOk};
 ghost use Rattle.wgsl_make_expressions.specs.Values as making;
 
 use std::alloc::{AllocError, Global};
-use wgsl_enumerations::AssignmentOperator;
 use wgsl_items::{Boxed, Items};
 use wgsl_parts::take::{
     assertion, both, call, declaration, end, ended, expression, optional_expression,
@@ -16,112 +15,42 @@ use wgsl_simple_statements::{
 };
 use wgsl_statements::Statement;
 
-fn plain(alloc: Global, statement: Statement) -> Result<Part, AllocError>
-    ensures { IfOk result (λ part. part ≡ Part.Plain statement) }
-{
-    Ok(Part::Plain(Boxed::new(alloc, statement)?))
-}
-
-fn called_statement(alloc: Global, parts: &mut Stack<Part>) -> Result<Part, AllocError>
-    ensures { IfOk result (λ part. part ≡ making.called_statement parts.old) }
-{
-    let call = ended(call(parts), parts)?;
-    let statement = FunctionCallStatement {
-        attributes: Items::new(alloc),
-        call,
-    };
-    let statement = Boxed::new(alloc, statement)?;
-    plain(alloc, Statement::FunctionCall(statement))
-}
-
-fn assignment(
+/// Statements of a keyword, and declarations. The other labels are answered as if memory were refused.
+fn make_keyword(
     alloc: Global,
-    operator: AssignmentOperator,
+    label: PlainLabel,
     parts: &mut Stack<Part>,
 ) -> Result<Part, AllocError>
-    ensures { IfOk result (λ part. part ≡ making.assignment operator parts.old) }
+    ensures { IfOk result (λ part. part ≡ making.make_plain label parts.old) }
 {
-    let lhs = expression(parts);
-    let rhs = expression(parts);
-    let (lhs, rhs) = ended(both(lhs, rhs), parts)?;
-    let statement = AssignmentStatement {
-        attributes: Items::new(alloc),
-        operator,
-        lhs,
-        rhs,
+    let statement = match label {
+        PlainLabel::Break => {
+            end(parts)?;
+            let attributes = Items::new(alloc);
+            Statement::Break(BreakStatement { attributes })
+        }
+        PlainLabel::Continue => {
+            end(parts)?;
+            let attributes = Items::new(alloc);
+            Statement::Continue(ContinueStatement { attributes })
+        }
+        PlainLabel::Discard => {
+            end(parts)?;
+            let attributes = Items::new(alloc);
+            Statement::Discard(DiscardStatement { attributes })
+        }
+        PlainLabel::Return => {
+            let expression = ended(optional_expression(parts), parts)?;
+            Statement::Return(ReturnStatement {
+                attributes: Items::new(alloc),
+                expression,
+            })
+        }
+        PlainLabel::Local => Statement::Declaration(ended(declaration(parts), parts)?),
+        PlainLabel::Asserted => Statement::ConstAssert(ended(assertion(parts), parts)?),
+        _ => return Err(AllocError),
     };
-    plain(alloc, Statement::Assignment(statement))
-}
-
-fn increment(alloc: Global, parts: &mut Stack<Part>) -> Result<Part, AllocError>
-    ensures { IfOk result (λ part. part ≡ making.increment parts.old) }
-{
-    let expression = ended(expression(parts), parts)?;
-    let statement = IncrementStatement {
-        attributes: Items::new(alloc),
-        expression,
-    };
-    plain(alloc, Statement::Increment(statement))
-}
-
-fn decrement(alloc: Global, parts: &mut Stack<Part>) -> Result<Part, AllocError>
-    ensures { IfOk result (λ part. part ≡ making.decrement parts.old) }
-{
-    let expression = ended(expression(parts), parts)?;
-    let statement = DecrementStatement {
-        attributes: Items::new(alloc),
-        expression,
-    };
-    plain(alloc, Statement::Decrement(statement))
-}
-
-fn break_alone(alloc: Global, parts: &mut Stack<Part>) -> Result<Part, AllocError>
-    ensures { IfOk result (λ part. part ≡ making.break_alone parts.old) }
-{
-    end(parts)?;
-    let attributes = Items::new(alloc);
-    plain(alloc, Statement::Break(BreakStatement { attributes }))
-}
-
-fn continue_alone(alloc: Global, parts: &mut Stack<Part>) -> Result<Part, AllocError>
-    ensures { IfOk result (λ part. part ≡ making.continue_alone parts.old) }
-{
-    end(parts)?;
-    let attributes = Items::new(alloc);
-    plain(alloc, Statement::Continue(ContinueStatement { attributes }))
-}
-
-fn discard(alloc: Global, parts: &mut Stack<Part>) -> Result<Part, AllocError>
-    ensures { IfOk result (λ part. part ≡ making.discard parts.old) }
-{
-    end(parts)?;
-    let attributes = Items::new(alloc);
-    plain(alloc, Statement::Discard(DiscardStatement { attributes }))
-}
-
-fn return_value(alloc: Global, parts: &mut Stack<Part>) -> Result<Part, AllocError>
-    ensures { IfOk result (λ part. part ≡ making.return_value parts.old) }
-{
-    let expression = ended(optional_expression(parts), parts)?;
-    let statement = ReturnStatement {
-        attributes: Items::new(alloc),
-        expression,
-    };
-    plain(alloc, Statement::Return(statement))
-}
-
-fn local(alloc: Global, parts: &mut Stack<Part>) -> Result<Part, AllocError>
-    ensures { IfOk result (λ part. part ≡ making.local parts.old) }
-{
-    let declaration = ended(declaration(parts), parts)?;
-    plain(alloc, Statement::Declaration(declaration))
-}
-
-fn asserted(alloc: Global, parts: &mut Stack<Part>) -> Result<Part, AllocError>
-    ensures { IfOk result (λ part. part ≡ making.asserted parts.old) }
-{
-    let assertion = ended(assertion(parts), parts)?;
-    plain(alloc, Statement::ConstAssert(assertion))
+    Ok(Part::Plain(Boxed::new(alloc, statement)?))
 }
 
 /// What the production of this label makes of its parts. Parts that do not fit are answered as if memory were refused.
@@ -132,16 +61,38 @@ pub fn make_plain(
 ) -> Result<Part, AllocError>
     ensures { IfOk result (λ part. part ≡ making.make_plain label parts.old) }
 {
-    match label {
-        PlainLabel::CalledStatement => called_statement(alloc, parts),
-        PlainLabel::Assignment(operator) => assignment(alloc, operator, parts),
-        PlainLabel::Increment => increment(alloc, parts),
-        PlainLabel::Decrement => decrement(alloc, parts),
-        PlainLabel::Break => break_alone(alloc, parts),
-        PlainLabel::Continue => continue_alone(alloc, parts),
-        PlainLabel::Return => return_value(alloc, parts),
-        PlainLabel::Discard => discard(alloc, parts),
-        PlainLabel::Local => local(alloc, parts),
-        PlainLabel::Asserted => asserted(alloc, parts),
-    }
+    let statement = match label {
+        PlainLabel::CalledStatement => {
+            let call = ended(call(parts), parts)?;
+            let attributes = Items::new(alloc);
+            Statement::FunctionCall(Boxed::new(alloc, FunctionCallStatement { attributes, call })?)
+        }
+        PlainLabel::Assignment(operator) => {
+            let lhs = expression(parts);
+            let rhs = expression(parts);
+            let (lhs, rhs) = ended(both(lhs, rhs), parts)?;
+            Statement::Assignment(AssignmentStatement {
+                attributes: Items::new(alloc),
+                operator,
+                lhs,
+                rhs,
+            })
+        }
+        PlainLabel::Increment => {
+            let expression = ended(expression(parts), parts)?;
+            Statement::Increment(IncrementStatement {
+                attributes: Items::new(alloc),
+                expression,
+            })
+        }
+        PlainLabel::Decrement => {
+            let expression = ended(expression(parts), parts)?;
+            Statement::Decrement(DecrementStatement {
+                attributes: Items::new(alloc),
+                expression,
+            })
+        }
+        rest => return make_keyword(alloc, rest, parts),
+    };
+    Ok(Part::Plain(Boxed::new(alloc, statement)?))
 }

@@ -11,30 +11,13 @@ use wgsl_parts::take::{both, ended, expression, ident, three, ty};
 use wgsl_parts::{Part, Stack, TypedName, ValueLabel};
 use wgsl_simple_statements::{ConstAssert, Declaration, DeclarationKind};
 
-fn typed(parts: &mut Stack<Part>) -> Result<Part, AllocError>
-    ensures { IfOk result (λ part. part ≡ making.typed parts.old) }
-{
-    let ident = ended(ident(parts), parts)?;
-    Ok(Part::Typed(TypedName { ident, ty: None }))
-}
-
-fn typed_as(parts: &mut Stack<Part>) -> Result<Part, AllocError>
-    ensures { IfOk result (λ part. part ≡ making.typed_as parts.old) }
-{
-    let ident = ident(parts);
-    let ty = ty(parts);
-    let (ident, ty) = ended(both(ident, ty), parts)?;
-    let ty = Some(ty);
-    Ok(Part::Typed(TypedName { ident, ty }))
-}
-
 fn declared(
     alloc: Global,
     kind: DeclarationKind,
     name: TypedName,
     initializer: Option<ExpressionNode>,
-) -> Result<Part, AllocError>
-    ensures { IfOk result (λ part. part ≡ making.declared kind name initializer) }
+) -> Result<Boxed<Declaration>, AllocError>
+    ensures { IfOk result (λ x. Part.Declaration x ≡ making.declared kind name initializer) }
 {
     let TypedName { ident, ty } = name;
     let declaration = Declaration {
@@ -44,57 +27,49 @@ fn declared(
         ty,
         initializer,
     };
-    Ok(Part::Declaration(Boxed::new(alloc, declaration)?))
+    Boxed::new(alloc, declaration)
 }
 
-fn var(alloc: Global, parts: &mut Stack<Part>) -> Result<Part, AllocError>
-    ensures { IfOk result (λ part. part ≡ making.var parts.old) }
-{
-    let kind = kind(parts);
-    let name = typed_name(parts);
-    let (kind, name) = ended(both(kind, name), parts)?;
-    declared(alloc, kind, name, None)
-}
-
-fn var_set(alloc: Global, parts: &mut Stack<Part>) -> Result<Part, AllocError>
-    ensures { IfOk result (λ part. part ≡ making.var_set parts.old) }
-{
-    let kind = kind(parts);
-    let name = typed_name(parts);
-    let value = expression(parts);
-    let (kind, name, value) = ended(three(kind, name, value), parts)?;
-    declared(alloc, kind, name, Some(value))
-}
-
-/// A value that is no variable: its name, and what it is.
-fn value_set(
+/// Declarations. The other labels are answered as if memory were refused.
+fn make_declaration(
     alloc: Global,
-    kind: DeclarationKind,
+    label: ValueLabel,
     parts: &mut Stack<Part>,
 ) -> Result<Part, AllocError>
-    ensures { IfOk result (λ part. part ≡ making.value_set kind parts.old) }
+    ensures { IfOk result (λ part. part ≡ making.make_value label parts.old) }
 {
-    let name = typed_name(parts);
-    let value = expression(parts);
-    let (name, value) = ended(both(name, value), parts)?;
-    declared(alloc, kind, name, Some(value))
-}
-
-fn override_alone(alloc: Global, parts: &mut Stack<Part>) -> Result<Part, AllocError>
-    ensures { IfOk result (λ part. part ≡ making.override_alone parts.old) }
-{
-    let name = ended(typed_name(parts), parts)?;
-    declared(alloc, DeclarationKind::Override, name, None)
-}
-
-fn assertion(alloc: Global, parts: &mut Stack<Part>) -> Result<Part, AllocError>
-    ensures { IfOk result (λ part. part ≡ making.assertion parts.old) }
-{
-    let expression = ended(expression(parts), parts)?;
-    Ok(Part::Assertion(ConstAssert {
-        attributes: Items::new(alloc),
-        expression,
-    }))
+    let (kind, name, initializer) = match label {
+        ValueLabel::Var => {
+            let kind = kind(parts);
+            let name = typed_name(parts);
+            let (kind, name) = ended(both(kind, name), parts)?;
+            (kind, name, None)
+        }
+        ValueLabel::VarSet => {
+            let kind = kind(parts);
+            let name = typed_name(parts);
+            let value = expression(parts);
+            let (kind, name, value) = ended(three(kind, name, value), parts)?;
+            (kind, name, Some(value))
+        }
+        ValueLabel::Override => {
+            let name = ended(typed_name(parts), parts)?;
+            (DeclarationKind::Override, name, None)
+        }
+        rest => {
+            let kind = match rest {
+                ValueLabel::Const => DeclarationKind::Const,
+                ValueLabel::Let => DeclarationKind::Let,
+                ValueLabel::OverrideSet => DeclarationKind::Override,
+                _ => return Err(AllocError),
+            };
+            let name = typed_name(parts);
+            let value = expression(parts);
+            let (name, value) = ended(both(name, value), parts)?;
+            (kind, name, Some(value))
+        }
+    };
+    Ok(Part::Declaration(declared(alloc, kind, name, initializer)?))
 }
 
 /// What the production of this label makes of its parts. Parts that do not fit are answered as if memory were refused.
@@ -106,14 +81,24 @@ pub fn make_value(
     ensures { IfOk result (λ part. part ≡ making.make_value label parts.old) }
 {
     match label {
-        ValueLabel::Typed => typed(parts),
-        ValueLabel::TypedAs => typed_as(parts),
-        ValueLabel::Var => var(alloc, parts),
-        ValueLabel::VarSet => var_set(alloc, parts),
-        ValueLabel::Const => value_set(alloc, DeclarationKind::Const, parts),
-        ValueLabel::Let => value_set(alloc, DeclarationKind::Let, parts),
-        ValueLabel::Override => override_alone(alloc, parts),
-        ValueLabel::OverrideSet => value_set(alloc, DeclarationKind::Override, parts),
-        ValueLabel::Assertion => assertion(alloc, parts),
+        ValueLabel::Typed => {
+            let ident = ended(ident(parts), parts)?;
+            Ok(Part::Typed(TypedName { ident, ty: None }))
+        }
+        ValueLabel::TypedAs => {
+            let ident = ident(parts);
+            let ty = ty(parts);
+            let (ident, ty) = ended(both(ident, ty), parts)?;
+            let ty = Some(ty);
+            Ok(Part::Typed(TypedName { ident, ty }))
+        }
+        ValueLabel::Assertion => {
+            let expression = ended(expression(parts), parts)?;
+            Ok(Part::Assertion(ConstAssert {
+                attributes: Items::new(alloc),
+                expression,
+            }))
+        }
+        rest => make_declaration(alloc, rest, parts),
     }
 }
