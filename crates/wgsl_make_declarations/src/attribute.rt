@@ -13,34 +13,6 @@ use wgsl_parts::take::{both, end, ended, expressions, ident};
 use wgsl_parts::{AttributeLabel, Part, Stack};
 use wgsl_path::{Span, Spanned};
 use wgsl_simple_statements::DeclarationKind;
-use wgsl_token::Fixed;
-
-fn name_word(parts: &mut Stack<Part>) -> Result<Part, AllocError>
-    ensures { IfOk result (λ part. part ≡ making.name_word parts.old) }
-{
-    let name = ended(ident(parts), parts)?;
-    Ok(Part::Word(name.into_name()))
-}
-
-fn reserved_word(parts: &mut Stack<Part>) -> Result<Part, AllocError>
-    ensures { IfOk result (λ part. part ≡ making.reserved_word parts.old) }
-{
-    let word = ended(reserved(parts), parts)?;
-    Ok(Part::Word(word))
-}
-
-fn keyword(alloc: Global, kind: Fixed) -> Result<Part, AllocError>
-    ensures { IfOk result (λ part. part ≡ making.keyword kind) }
-{
-    Ok(Part::Word(Text::from_str(alloc, kind.as_str())?))
-}
-
-fn all_arguments(alloc: Global, parts: &mut Stack<Part>) -> Result<Part, AllocError>
-    ensures { IfOk result (λ part. part ≡ making.all_arguments parts.old) }
-{
-    let arguments = ended(expressions(alloc, parts), parts)?;
-    Ok(Part::Arguments(arguments))
-}
 
 /// The attribute of a word and arguments. Where they fail its check it is custom.
 fn checked(
@@ -62,30 +34,6 @@ fn checked(
     }
 }
 
-fn whole_attribute(alloc: Global, span: Span, parts: &mut Stack<Part>) -> Result<Part, AllocError>
-    ensures { IfOk result (λ part. part ≡ making.whole_attribute span parts.old) }
-{
-    let word = word(parts);
-    let arguments = arguments(parts);
-    let (word, arguments) = ended(both(word, arguments), parts)?;
-    let attribute = checked(alloc, word, arguments)?;
-    Ok(Part::Attribute(Spanned::new(alloc, attribute, span)?))
-}
-
-fn var_kind(parts: &mut Stack<Part>) -> Result<Part, AllocError>
-    ensures { IfOk result (λ part. part ≡ making.var_kind parts.old) }
-{
-    end(parts)?;
-    Ok(Part::Kind(DeclarationKind::Var(None)))
-}
-
-fn var_in(parts: &mut Stack<Part>) -> Result<Part, AllocError>
-    ensures { IfOk result (λ part. part ≡ making.var_in parts.old) }
-{
-    let arguments = ended(list(parts), parts)?;
-    Ok(Part::Kind(DeclarationKind::Var(template_of(arguments.as_slice()))))
-}
-
 /// What the production of this label makes of its parts. Parts that do not fit are answered as if memory were refused.
 pub fn make_attribute(
     alloc: Global,
@@ -96,12 +44,30 @@ pub fn make_attribute(
     ensures { IfOk result (λ part. part ≡ making.make_attribute label span parts.old) }
 {
     match label {
-        AttributeLabel::Word => name_word(parts),
-        AttributeLabel::ReservedWord => reserved_word(parts),
-        AttributeLabel::Keyword(kind) => keyword(alloc, kind),
-        AttributeLabel::Arguments => all_arguments(alloc, parts),
-        AttributeLabel::Attribute => whole_attribute(alloc, span, parts),
-        AttributeLabel::VarKind => var_kind(parts),
-        AttributeLabel::VarIn => var_in(parts),
+        AttributeLabel::Word => {
+            let name = ended(ident(parts), parts)?;
+            Ok(Part::Word(name.into_name()))
+        }
+        AttributeLabel::ReservedWord => Ok(Part::Word(ended(reserved(parts), parts)?)),
+        AttributeLabel::Keyword(kind) => Ok(Part::Word(Text::from_str(alloc, kind.as_str())?)),
+        AttributeLabel::Arguments => {
+            let arguments = ended(expressions(alloc, parts), parts)?;
+            Ok(Part::Arguments(arguments))
+        }
+        AttributeLabel::Attribute => {
+            let word = word(parts);
+            let arguments = arguments(parts);
+            let (word, arguments) = ended(both(word, arguments), parts)?;
+            let attribute = checked(alloc, word, arguments)?;
+            Ok(Part::Attribute(Spanned::new(alloc, attribute, span)?))
+        }
+        AttributeLabel::VarKind => {
+            end(parts)?;
+            Ok(Part::Kind(DeclarationKind::Var(None)))
+        }
+        AttributeLabel::VarIn => {
+            let arguments = ended(list(parts), parts)?;
+            Ok(Part::Kind(DeclarationKind::Var(template_of(arguments.as_slice()))))
+        }
     }
 }

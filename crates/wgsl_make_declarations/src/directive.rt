@@ -12,32 +12,6 @@ use wgsl_items::{Boxed, Items};
 use wgsl_parts::take::{both, ended, ident};
 use wgsl_parts::{DirectiveLabel, Part, Stack};
 
-fn directive(alloc: Global, directive: GlobalDirective) -> Result<Part, AllocError>
-    ensures { IfOk result (λ part. part ≡ Part.Directive directive) }
-{
-    Ok(Part::Directive(Boxed::new(alloc, directive)?))
-}
-
-/// A rule or an extension of one name.
-fn name(parts: &mut Stack<Part>) -> Result<Part, AllocError>
-    ensures { IfOk result (λ part. part ≡ making.name parts.old) }
-{
-    let name = ended(ident(parts), parts)?;
-    Ok(Part::Text(name.into_name()))
-}
-
-fn rule_of(parts: &mut Stack<Part>) -> Result<Part, AllocError>
-    ensures { IfOk result (λ part. part ≡ making.rule_of parts.old) }
-{
-    let name = ident(parts);
-    let rule = ident(parts);
-    let (name, rule) = ended(both(name, rule), parts)?;
-    let mut whole = name.into_name();
-    whole.push_str(".")?;
-    whole.push_str(rule.as_str())?;
-    Ok(Part::Text(whole))
-}
-
 fn severity_or_off(word: &str) -> DiagnosticSeverity
     ensures { result ≡ making.severity_or_off word.now }
 {
@@ -45,42 +19,6 @@ fn severity_or_off(word: &str) -> DiagnosticSeverity
         Some(severity) => severity,
         None => DiagnosticSeverity::Off,
     }
-}
-
-fn diagnostic(alloc: Global, parts: &mut Stack<Part>) -> Result<Part, AllocError>
-    ensures { IfOk result (λ part. part ≡ making.diagnostic parts.old) }
-{
-    let word = ident(parts);
-    let rule_name = text(parts);
-    let (word, rule_name) = ended(both(word, rule_name), parts)?;
-    let diagnostic = DiagnosticDirective {
-        attributes: Items::new(alloc),
-        severity: severity_or_off(word.as_str()),
-        rule_name,
-    };
-    directive(alloc, GlobalDirective::Diagnostic(diagnostic))
-}
-
-fn enable(alloc: Global, parts: &mut Stack<Part>) -> Result<Part, AllocError>
-    ensures { IfOk result (λ part. part ≡ making.enable parts.old) }
-{
-    let extensions = ended(texts(parts), parts)?;
-    let names = EnableDirective {
-        attributes: Items::new(alloc),
-        extensions,
-    };
-    directive(alloc, GlobalDirective::Enable(names))
-}
-
-fn requires_extensions(alloc: Global, parts: &mut Stack<Part>) -> Result<Part, AllocError>
-    ensures { IfOk result (λ part. part ≡ making.requires_extensions parts.old) }
-{
-    let extensions = ended(texts(parts), parts)?;
-    let names = RequiresDirective {
-        attributes: Items::new(alloc),
-        extensions,
-    };
-    directive(alloc, GlobalDirective::Requires(names))
 }
 
 /// What the production of this label makes of its parts. Parts that do not fit are answered as if memory were refused.
@@ -92,11 +30,45 @@ pub fn make_directive(
     ensures { IfOk result (λ part. part ≡ making.make_directive label parts.old) }
 {
     match label {
-        DirectiveLabel::Rule => name(parts),
-        DirectiveLabel::RuleOf => rule_of(parts),
-        DirectiveLabel::Diagnostic => diagnostic(alloc, parts),
-        DirectiveLabel::Extension => name(parts),
-        DirectiveLabel::Enable => enable(alloc, parts),
-        DirectiveLabel::Requires => requires_extensions(alloc, parts),
+        DirectiveLabel::Rule | DirectiveLabel::Extension => {
+            let name = ended(ident(parts), parts)?;
+            Ok(Part::Text(name.into_name()))
+        }
+        DirectiveLabel::RuleOf => {
+            let name = ident(parts);
+            let rule = ident(parts);
+            let (name, rule) = ended(both(name, rule), parts)?;
+            let mut whole = name.into_name();
+            whole.push_str(".")?;
+            whole.push_str(rule.as_str())?;
+            Ok(Part::Text(whole))
+        }
+        DirectiveLabel::Diagnostic => {
+            let word = ident(parts);
+            let rule_name = text(parts);
+            let (word, rule_name) = ended(both(word, rule_name), parts)?;
+            let diagnostic = GlobalDirective::Diagnostic(DiagnosticDirective {
+                attributes: Items::new(alloc),
+                severity: severity_or_off(word.as_str()),
+                rule_name,
+            });
+            Ok(Part::Directive(Boxed::new(alloc, diagnostic)?))
+        }
+        DirectiveLabel::Enable => {
+            let extensions = ended(texts(parts), parts)?;
+            let names = GlobalDirective::Enable(EnableDirective {
+                attributes: Items::new(alloc),
+                extensions,
+            });
+            Ok(Part::Directive(Boxed::new(alloc, names)?))
+        }
+        DirectiveLabel::Requires => {
+            let extensions = ended(texts(parts), parts)?;
+            let names = GlobalDirective::Requires(RequiresDirective {
+                attributes: Items::new(alloc),
+                extensions,
+            });
+            Ok(Part::Directive(Boxed::new(alloc, names)?))
+        }
     }
 }

@@ -16,143 +16,101 @@ use wgsl_statements::{
     SwitchStatement, WhileStatement,
 };
 
-fn node(alloc: Global, span: Span, statement: Statement) -> Result<Part, AllocError>
-    ensures { IfOk result (λ part. part ≡ making.statement_at span statement) }
+/// What the productions of `if` and `switch` make of their parts.
+fn make_branching(
+    alloc: Global,
+    label: StatementLabel,
+    span: Span,
+    parts: &mut Stack<Part>,
+) -> Result<Part, AllocError>
+    ensures { IfOk result (λ part. part ≡ making.make_statement label span parts.old) }
 {
-    Ok(Part::Statement(Spanned::new(alloc, statement, span)?))
+    match label {
+        StatementLabel::If => {
+            let attributes = attributes(alloc, parts);
+            let expression = expression(parts);
+            let body = block(parts);
+            let more = else_ifs(alloc, parts);
+            let last = otherwise(parts);
+            let taken = both(both(attributes, expression), three(body, more, last));
+            let ((attributes, expression), (body, more, last)) = ended(taken, parts)?;
+            let statement = IfStatement {
+                attributes,
+                if_clause: IfClause { expression, body },
+                else_if_clauses: more,
+                else_clause: last,
+            };
+            let statement = Statement::If(Boxed::new(alloc, statement)?);
+            Ok(Part::Statement(Spanned::new(alloc, statement, span)?))
+        }
+        StatementLabel::Switch => {
+            let outer = attributes(alloc, parts);
+            let expression = expression(parts);
+            let inner = attributes(alloc, parts);
+            let clauses = clauses(parts);
+            let taken = both(both(outer, expression), both(inner, clauses));
+            let ((outer, expression), (inner, clauses)) = ended(taken, parts)?;
+            let statement = SwitchStatement {
+                attributes: outer,
+                expression,
+                body_attributes: inner,
+                clauses,
+            };
+            let statement = Statement::Switch(Boxed::new(alloc, statement)?);
+            Ok(Part::Statement(Spanned::new(alloc, statement, span)?))
+        }
+        _ => Err(AllocError),
+    }
 }
 
-/// A statement whose place was not known.
-fn placed(span: Span, parts: &mut Stack<Part>) -> Result<Part, AllocError>
-    ensures { IfOk result (λ part. part ≡ making.placed span parts.old) }
+/// What the productions of `loop` and `for` make of their parts.
+fn make_loop(
+    alloc: Global,
+    label: StatementLabel,
+    span: Span,
+    parts: &mut Stack<Part>,
+) -> Result<Part, AllocError>
+    ensures { IfOk result (λ part. part ≡ making.make_statement label span parts.old) }
 {
-    let statement = ended(plain(parts), parts)?;
-    Ok(Part::Statement(Spanned::new_boxed(statement, span)))
-}
-
-fn void_statement(alloc: Global, span: Span, parts: &mut Stack<Part>) -> Result<Part, AllocError>
-    ensures { IfOk result (λ part. part ≡ making.void_statement span parts.old) }
-{
-    end(parts)?;
-    node(alloc, span, Statement::Void)
-}
-
-fn compound(alloc: Global, span: Span, parts: &mut Stack<Part>) -> Result<Part, AllocError>
-    ensures { IfOk result (λ part. part ≡ making.compound span parts.old) }
-{
-    let block = ended(block(parts), parts)?;
-    node(alloc, span, Statement::Compound(block))
-}
-
-fn if_statement(alloc: Global, span: Span, parts: &mut Stack<Part>) -> Result<Part, AllocError>
-    ensures { IfOk result (λ part. part ≡ making.if_statement span parts.old) }
-{
-    let attributes = attributes(alloc, parts);
-    let expression = expression(parts);
-    let body = block(parts);
-    let else_if_clauses = else_ifs(alloc, parts);
-    let else_clause = otherwise(parts);
-    let ((attributes, expression), (body, else_if_clauses, else_clause)) = ended(
-        both(
-            both(attributes, expression),
-            three(body, else_if_clauses, else_clause),
-        ),
-        parts,
-    )?;
-    let statement = IfStatement {
-        attributes,
-        if_clause: IfClause { expression, body },
-        else_if_clauses,
-        else_clause,
-    };
-    let statement = Boxed::new(alloc, statement)?;
-    node(alloc, span, Statement::If(statement))
-}
-
-fn switch_statement(alloc: Global, span: Span, parts: &mut Stack<Part>) -> Result<Part, AllocError>
-    ensures { IfOk result (λ part. part ≡ making.switch_statement span parts.old) }
-{
-    let outer = attributes(alloc, parts);
-    let expression = expression(parts);
-    let inner = attributes(alloc, parts);
-    let clauses = clauses(parts);
-    let ((outer, expression), (inner, clauses)) = ended(
-        both(both(outer, expression), both(inner, clauses)),
-        parts,
-    )?;
-    let statement = SwitchStatement {
-        attributes: outer,
-        expression,
-        body_attributes: inner,
-        clauses,
-    };
-    let statement = Boxed::new(alloc, statement)?;
-    node(alloc, span, Statement::Switch(statement))
-}
-
-fn loop_statement(alloc: Global, span: Span, parts: &mut Stack<Part>) -> Result<Part, AllocError>
-    ensures { IfOk result (λ part. part ≡ making.loop_statement span parts.old) }
-{
-    let outer = attributes(alloc, parts);
-    let inner = attributes(alloc, parts);
-    let statements = statements(alloc, parts);
-    let continuing = continuing(parts);
-    let ((outer, inner), (statements, continuing)) = ended(
-        both(both(outer, inner), both(statements, continuing)),
-        parts,
-    )?;
-    let statement = LoopStatement {
-        attributes: outer,
-        body: CompoundStatement {
-            attributes: inner,
-            statements,
-        },
-        continuing,
-    };
-    let statement = Boxed::new(alloc, statement)?;
-    node(alloc, span, Statement::Loop(statement))
-}
-
-fn for_statement(alloc: Global, span: Span, parts: &mut Stack<Part>) -> Result<Part, AllocError>
-    ensures { IfOk result (λ part. part ≡ making.for_statement span parts.old) }
-{
-    let attributes = attributes(alloc, parts);
-    let initializer = statement(parts);
-    let condition = optional_expression(parts);
-    let update = statement(parts);
-    let body = block(parts);
-    let ((attributes, initializer), (condition, update, body)) = ended(
-        both(
-            both(attributes, initializer),
-            three(condition, update, body),
-        ),
-        parts,
-    )?;
-    let statement = ForStatement {
-        attributes,
-        initializer,
-        condition,
-        update,
-        body,
-    };
-    let statement = Boxed::new(alloc, statement)?;
-    node(alloc, span, Statement::For(statement))
-}
-
-fn while_statement(alloc: Global, span: Span, parts: &mut Stack<Part>) -> Result<Part, AllocError>
-    ensures { IfOk result (λ part. part ≡ making.while_statement span parts.old) }
-{
-    let attributes = attributes(alloc, parts);
-    let condition = expression(parts);
-    let body = block(parts);
-    let (attributes, condition, body) = ended(three(attributes, condition, body), parts)?;
-    let statement = WhileStatement {
-        attributes,
-        condition,
-        body,
-    };
-    let statement = Boxed::new(alloc, statement)?;
-    node(alloc, span, Statement::While(statement))
+    match label {
+        StatementLabel::Loop => {
+            let outer = attributes(alloc, parts);
+            let inner = attributes(alloc, parts);
+            let statements = statements(alloc, parts);
+            let continuing = continuing(parts);
+            let taken = both(both(outer, inner), both(statements, continuing));
+            let ((outer, inner), (statements, continuing)) = ended(taken, parts)?;
+            let statement = LoopStatement {
+                attributes: outer,
+                body: CompoundStatement {
+                    attributes: inner,
+                    statements,
+                },
+                continuing,
+            };
+            let statement = Statement::Loop(Boxed::new(alloc, statement)?);
+            Ok(Part::Statement(Spanned::new(alloc, statement, span)?))
+        }
+        StatementLabel::For => {
+            let attributes = attributes(alloc, parts);
+            let start = statement(parts);
+            let condition = optional_expression(parts);
+            let update = statement(parts);
+            let body = block(parts);
+            let taken = both(both(attributes, start), three(condition, update, body));
+            let ((attributes, initializer), (condition, update, body)) = ended(taken, parts)?;
+            let statement = ForStatement {
+                attributes,
+                initializer,
+                condition,
+                update,
+                body,
+            };
+            let statement = Statement::For(Boxed::new(alloc, statement)?);
+            Ok(Part::Statement(Spanned::new(alloc, statement, span)?))
+        }
+        _ => Err(AllocError),
+    }
 }
 
 /// What the production of this label makes of its parts. Parts that do not fit are answered as if memory were refused.
@@ -165,14 +123,32 @@ pub fn make_statement(
     ensures { IfOk result (λ part. part ≡ making.make_statement label span parts.old) }
 {
     match label {
-        StatementLabel::Header => placed(span, parts),
-        StatementLabel::VoidStatement => void_statement(alloc, span, parts),
-        StatementLabel::PlainStatement => placed(span, parts),
-        StatementLabel::Compound => compound(alloc, span, parts),
-        StatementLabel::If => if_statement(alloc, span, parts),
-        StatementLabel::Switch => switch_statement(alloc, span, parts),
-        StatementLabel::Loop => loop_statement(alloc, span, parts),
-        StatementLabel::For => for_statement(alloc, span, parts),
-        StatementLabel::While => while_statement(alloc, span, parts),
+        StatementLabel::Header | StatementLabel::PlainStatement => {
+            let statement = ended(plain(parts), parts)?;
+            Ok(Part::Statement(Spanned::new_boxed(statement, span)))
+        }
+        StatementLabel::VoidStatement => {
+            end(parts)?;
+            Ok(Part::Statement(Spanned::new(alloc, Statement::Void, span)?))
+        }
+        StatementLabel::Compound => {
+            let block = Statement::Compound(ended(block(parts), parts)?);
+            Ok(Part::Statement(Spanned::new(alloc, block, span)?))
+        }
+        StatementLabel::While => {
+            let attributes = attributes(alloc, parts);
+            let condition = expression(parts);
+            let body = block(parts);
+            let (attributes, condition, body) = ended(three(attributes, condition, body), parts)?;
+            let statement = WhileStatement {
+                attributes,
+                condition,
+                body,
+            };
+            let statement = Statement::While(Boxed::new(alloc, statement)?);
+            Ok(Part::Statement(Spanned::new(alloc, statement, span)?))
+        }
+        StatementLabel::If | StatementLabel::Switch => make_branching(alloc, label, span, parts),
+        StatementLabel::Loop | StatementLabel::For => make_loop(alloc, label, span, parts),
     }
 }
