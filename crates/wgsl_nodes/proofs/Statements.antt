@@ -2,6 +2,7 @@
 use Rattle.std.proofs.Common.{◌≡◌, ap, Some}
 use Rattle.wgsl_statements.specs.declared.statement.IfStatementOf.{IfStatementOf}
 use Rattle.wgsl_statements.specs.declared.statement.SwitchStatementOf.{SwitchStatementOf}
+use Rattle.wgsl_statements.specs.declared.statement.LoopStatementOf.{LoopStatementOf}
 use Rattle.wgsl_statements.specs.declared.statement.ForStatementOf.{ForStatementOf}
 use Rattle.wgsl_simple_statements.specs.declared.statement.FunctionCallStatement.{FunctionCallStatement}
 use Rattle.wgsl_simple_statements.specs.declared.declaration.Declaration.{Declaration}
@@ -20,6 +21,12 @@ own_of_switch x = ap attributes_in (code.outs-Switch x)
 
 pub with_of_switch : (x : SwitchStatementOf Statement) → statement_with (code.Switch x) ≡ (λ attributes. code.Switch (record x { attributes = attributes }))
 with_of_switch x = ap with_in (code.outs-Switch x)
+
+pub own_of_loop : (x : LoopStatementOf Statement) → statement_attributes (code.Loop x) ≡ Some (x.attributes)
+own_of_loop x = ap attributes_in (code.outs-Loop x)
+
+pub with_of_loop : (x : LoopStatementOf Statement) → statement_with (code.Loop x) ≡ (λ attributes. code.Loop (record x { attributes = attributes }))
+with_of_loop x = ap with_in (code.outs-Loop x)
 
 pub own_of_for : (x : ForStatementOf Statement) → statement_attributes (code.For x) ≡ Some (x.attributes)
 own_of_for x = ap attributes_in (code.outs-For x)

@@ -1,5 +1,5 @@
 use Rattle.std.proofs.Common.{rules}
-use Rattle.wgsl_nodes.proofs.Statements.{own_of_if, with_of_if, with_of_switch, with_of_for, own_of_call, with_of_call, with_of_value}
+use Rattle.wgsl_nodes.proofs.Statements.{own_of_if, with_of_if, with_of_switch, own_of_loop, with_of_loop, with_of_for, own_of_call, with_of_call, with_of_value}
 use Rattle.wgsl_nodes.proofs.statement.StatementSyntaxNode.attributes_mut.Goals as goal
 
 pub returns-in-If : goal.returns-in-If
@@ -9,7 +9,7 @@ pub returns-in-Switch : goal.returns-in-Switch
 returns-in-Switch c = (rw c.in-Switch.is (search (rules, with_of_switch) depth 12 fits 20000), record { writes_back = tt; value = search rules depth 12 fits 20000 })
 
 pub returns-in-Loop : goal.returns-in-Loop
-returns-in-Loop c = search rules depth 12 fits 20000
+returns-in-Loop c = (rw c.in-Loop.is (search (rules, with_of_loop) depth 12 fits 20000), record { writes_back = tt; value = rw c.in-Loop.is (search (rules, own_of_loop) depth 12 fits 20000) })
 
 pub returns-in-For : goal.returns-in-For
 returns-in-For c = (rw c.in-For.is (search (rules, with_of_for) depth 12 fits 20000), record { writes_back = tt; value = search rules depth 12 fits 20000 })
