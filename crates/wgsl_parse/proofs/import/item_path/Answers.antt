@@ -25,7 +25,7 @@ pub loop-separator-preserved : goal.loop-separator-preserved
 loop-separator-preserved c = record {
   shorter = omega (arith, ap length c.in-Some.ensures, c.in_ok-next.ensures.shrinks);
   goes_on = λ r rest p. c.loop-separator.invariant.goes_on r rest
-      (parses_link separators c.in-Some.ensures refl (parses_lone c.in_ok-next.ensures.parses) (rw (c.in_ok-push.ensures.ok, c.into_name-name.ensures) at p));
+      (parses_link separators c.in-Some.ensures refl (parses_lone c.in_ok-next.ensures.parses) (rw (c.in_ok-push.ensures.ok, c.into_name-name-in-Some.ensures) at p));
 }
 
 pub returns-clause-parses : goal.returns-clause-parses
