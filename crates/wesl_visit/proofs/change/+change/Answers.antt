@@ -63,7 +63,7 @@ change_nodes-loop-i-preserved g t c = (
 )
 
 pub change_nodes-returns-in_err-change_node-clause-changed : goal.change_nodes-returns-in_err-change_node-clause-changed
-change_nodes-returns-in_err-change_node-clause-changed g t c = 
+change_nodes-returns-in_err-change_node-clause-changed g t c =
     let same : c.from_residual.result ≡ Err c.in_err-change_node.field-0.0 = search rules in
     rw same (simp singles at (changed_refusal_at (inside_by c.args.deep) (around_by c.args.deep) (CalledAtMut g.F.FnMut) (λ n. n ∷ []) c.args.f.now c.loop-i.f c.change_node.new.f c.in_err-change_node.field-0.0 c.args.nodes.now c.loop-i.nodes c.loop-i.i c.get_mut.result.now c.change_node.new.node (search rules) c.loop-i.invariant.3 c.get_mut.ensures.value c.loop-i.invariant.4 c.loop-i.invariant.1 c.in_err-change_node.ensures.changed))
 
@@ -83,7 +83,7 @@ change_else_ifs-loop-i-preserved g t c = (
 )
 
 pub change_else_ifs-returns-in_err-change_else_if-clause-changed : goal.change_else_ifs-returns-in_err-change_else_if-clause-changed
-change_else_ifs-returns-in_err-change_else_if-clause-changed g t c = 
+change_else_ifs-returns-in_err-change_else_if-clause-changed g t c =
     let same : c.from_residual.result ≡ Err c.in_err-change_else_if.field-0.0 = search rules in
     rw same (changed_refusal_at (inside_by c.args.deep) (around_by c.args.deep) (CalledAtMut g.F.FnMut) in_else_if c.args.f.now c.loop-i.f c.change_else_if.new.f c.in_err-change_else_if.field-0.0 c.args.clauses.now c.loop-i.clauses c.loop-i.i c.get_mut.result.now c.change_else_if.new.clause (search rules) c.loop-i.invariant.3 c.get_mut.ensures.value c.loop-i.invariant.4 c.loop-i.invariant.1 c.in_err-change_else_if.ensures.changed)
 
@@ -103,7 +103,7 @@ change_clauses-loop-i-preserved g t c = (
 )
 
 pub change_clauses-returns-in_err-change_clause-clause-changed : goal.change_clauses-returns-in_err-change_clause-clause-changed
-change_clauses-returns-in_err-change_clause-clause-changed g t c = 
+change_clauses-returns-in_err-change_clause-clause-changed g t c =
     let same : c.from_residual.result ≡ Err c.in_err-change_clause.field-0.0 = search rules in
     rw same (changed_refusal_at (inside_by c.args.deep) (around_by c.args.deep) (CalledAtMut g.F.FnMut) in_clause c.args.f.now c.loop-i.f c.change_clause.new.f c.in_err-change_clause.field-0.0 c.args.clauses.now c.loop-i.clauses c.loop-i.i c.get_mut.result.now c.change_clause.new.clause (search rules) c.loop-i.invariant.3 c.get_mut.ensures.value c.loop-i.invariant.4 c.loop-i.invariant.1 c.in_err-change_clause.ensures.changed)
 
@@ -114,12 +114,12 @@ pub change_nodes-returns-clause-changed : goal.change_nodes-returns-clause-chang
 change_nodes-returns-clause-changed g t c = simp singles at (changed_all (inside_by c.args.deep) (around_by c.args.deep) (CalledAtMut g.F.FnMut) (λ n. n ∷ []) c.args.f.now c.loop-i.f c.args.nodes.now c.loop-i.nodes c.loop-i.i (search rules) c.loop-i.invariant.3 c.loop-i.invariant.1)
 
 pub change_if-returns-in_err-change_block-clause-changed : goal.change_if-returns-in_err-change_block-clause-changed
-change_if-returns-in_err-change_block-clause-changed g t c = 
+change_if-returns-in_err-change_block-clause-changed g t c =
     let same : c.from_residual.result ≡ Err c.in_err-change_block.field-0.0 = search rules in
     rw same (changed_refusal_first (inside_by c.args.deep) (around_by c.args.deep) (CalledAtMut g.F.FnMut) _ c.in_err-change_block.ensures.changed)
 
 pub change_if-returns-in_err-change_else_ifs-clause-changed : goal.change_if-returns-in_err-change_else_ifs-clause-changed
-change_if-returns-in_err-change_else_ifs-clause-changed g t c = 
+change_if-returns-in_err-change_else_ifs-clause-changed g t c =
     let same : c.from_residual-in_err-change_else_ifs.result ≡ Err c.in_err-change_else_ifs.field-0.0 = search rules in
     rw same (changed_both (inside_by c.args.deep) (around_by c.args.deep) (CalledAtMut g.F.FnMut) c.in_ok-change_block.ensures.changed (changed_refusal_first (inside_by c.args.deep) (around_by c.args.deep) (CalledAtMut g.F.FnMut) _ c.in_err-change_else_ifs.ensures.changed))
 
@@ -127,7 +127,7 @@ pub change_if-returns-clause-changed : goal.change_if-returns-clause-changed
 change_if-returns-clause-changed g t c = changed_both (inside_by c.args.deep) (around_by c.args.deep) (CalledAtMut g.F.FnMut) c.in_ok-change_block.ensures.changed (changed_both (inside_by c.args.deep) (around_by c.args.deep) (CalledAtMut g.F.FnMut) c.in_ok-change_else_ifs.ensures.changed c.change_else.ensures.changed)
 
 pub change_loop-returns-in_err-change_block-clause-changed : goal.change_loop-returns-in_err-change_block-clause-changed
-change_loop-returns-in_err-change_block-clause-changed g t c = 
+change_loop-returns-in_err-change_block-clause-changed g t c =
     let same : c.from_residual.result ≡ Err c.in_err-change_block.field-0.0 = search rules in
     rw same (changed_refusal_first (inside_by c.args.deep) (around_by c.args.deep) (CalledAtMut g.F.FnMut) _ c.in_err-change_block.ensures.changed)
 
@@ -135,12 +135,12 @@ pub change_loop-returns-clause-changed : goal.change_loop-returns-clause-changed
 change_loop-returns-clause-changed g t c = changed_both (inside_by c.args.deep) (around_by c.args.deep) (CalledAtMut g.F.FnMut) c.in_ok-change_block.ensures.changed c.change_continuing.ensures.changed
 
 pub change_for-returns-in_err-change_part-clause-changed : goal.change_for-returns-in_err-change_part-clause-changed
-change_for-returns-in_err-change_part-clause-changed g t c = 
+change_for-returns-in_err-change_part-clause-changed g t c =
     let same : c.from_residual.result ≡ Err c.in_err-change_part.field-0.0 = search rules in
     rw same (changed_refusal_first (inside_by c.args.deep) (around_by c.args.deep) (CalledAtMut g.F.FnMut) _ c.in_err-change_part.ensures.changed)
 
 pub change_for-returns-in_err-change_part-2-clause-changed : goal.change_for-returns-in_err-change_part-2-clause-changed
-change_for-returns-in_err-change_part-2-clause-changed g t c = 
+change_for-returns-in_err-change_part-2-clause-changed g t c =
     let same : c.from_residual-in_err-change_part-2.result ≡ Err c.in_err-change_part-2.field-0.0 = search rules in
     rw same (changed_both (inside_by c.args.deep) (around_by c.args.deep) (CalledAtMut g.F.FnMut) c.in_ok-change_part.ensures.changed (changed_refusal_first (inside_by c.args.deep) (around_by c.args.deep) (CalledAtMut g.F.FnMut) _ c.in_err-change_part-2.ensures.changed))
 

@@ -57,7 +57,7 @@ pub meet_nodes-loop-node-preserved : goal.meet_nodes-loop-node-preserved
 meet_nodes-loop-node-preserved g t c = (c.in_ok-meet_node.ensures.callable, met_more statements_inside (CalledAt g.F.FnMut) (λ n. n ∷ []) c.args.f.now c.loop-node.f c.meet_node.new.f c.args.nodes.now c.loop-node.node-index c.node-item.result c.loop-node-test.true c.node-item.is c.loop-node.invariant.1 c.in_ok-meet_node.ensures.met)
 
 pub meet_nodes-returns-in_err-meet_node-clause-met : goal.meet_nodes-returns-in_err-meet_node-clause-met
-meet_nodes-returns-in_err-meet_node-clause-met g t c = 
+meet_nodes-returns-in_err-meet_node-clause-met g t c =
     let same : c.from_residual.result ≡ Err c.in_err-meet_node.field-0.0 = search rules in
     rw same (rw singles at (met_refusal_at statements_inside (CalledAt g.F.FnMut) (λ n. n ∷ []) c.args.f.now c.loop-node.f c.meet_node.new.f c.in_err-meet_node.field-0.0 c.args.nodes.now c.loop-node.node-index c.node-item.result c.loop-node-test.true c.node-item.is c.loop-node.invariant.1 c.in_err-meet_node.ensures.met))
 
@@ -68,7 +68,7 @@ pub meet_else_ifs-loop-clause-preserved : goal.meet_else_ifs-loop-clause-preserv
 meet_else_ifs-loop-clause-preserved g t c = (c.in_ok-meet_else_if.ensures.callable, met_more statements_inside (CalledAt g.F.FnMut) in_else_if c.args.f.now c.loop-clause.f c.meet_else_if.new.f c.args.clauses.now c.loop-clause.clause-index c.clause-item.result c.loop-clause-test.true c.clause-item.is c.loop-clause.invariant.1 c.in_ok-meet_else_if.ensures.met)
 
 pub meet_else_ifs-returns-in_err-meet_else_if-clause-met : goal.meet_else_ifs-returns-in_err-meet_else_if-clause-met
-meet_else_ifs-returns-in_err-meet_else_if-clause-met g t c = 
+meet_else_ifs-returns-in_err-meet_else_if-clause-met g t c =
     let same : c.from_residual.result ≡ Err c.in_err-meet_else_if.field-0.0 = search rules in
     rw same (met_refusal_at statements_inside (CalledAt g.F.FnMut) in_else_if c.args.f.now c.loop-clause.f c.meet_else_if.new.f c.in_err-meet_else_if.field-0.0 c.args.clauses.now c.loop-clause.clause-index c.clause-item.result c.loop-clause-test.true c.clause-item.is c.loop-clause.invariant.1 c.in_err-meet_else_if.ensures.met)
 
@@ -79,7 +79,7 @@ pub meet_clauses-loop-clause-preserved : goal.meet_clauses-loop-clause-preserved
 meet_clauses-loop-clause-preserved g t c = (c.in_ok-meet_clause.ensures.callable, met_more statements_inside (CalledAt g.F.FnMut) in_clause c.args.f.now c.loop-clause.f c.meet_clause.new.f c.args.clauses.now c.loop-clause.clause-index c.clause-item.result c.loop-clause-test.true c.clause-item.is c.loop-clause.invariant.1 c.in_ok-meet_clause.ensures.met)
 
 pub meet_clauses-returns-in_err-meet_clause-clause-met : goal.meet_clauses-returns-in_err-meet_clause-clause-met
-meet_clauses-returns-in_err-meet_clause-clause-met g t c = 
+meet_clauses-returns-in_err-meet_clause-clause-met g t c =
     let same : c.from_residual.result ≡ Err c.in_err-meet_clause.field-0.0 = search rules in
     rw same (met_refusal_at statements_inside (CalledAt g.F.FnMut) in_clause c.args.f.now c.loop-clause.f c.meet_clause.new.f c.in_err-meet_clause.field-0.0 c.args.clauses.now c.loop-clause.clause-index c.clause-item.result c.loop-clause-test.true c.clause-item.is c.loop-clause.invariant.1 c.in_err-meet_clause.ensures.met)
 
@@ -87,12 +87,12 @@ pub meet_nodes-returns-clause-met : goal.meet_nodes-returns-clause-met
 meet_nodes-returns-clause-met g t c = rw singles at (met_all statements_inside (CalledAt g.F.FnMut) (λ n. n ∷ []) c.args.f.now c.loop-node.f c.args.nodes.now c.loop-node.node-index c.loop-node-test.false c.loop-node.invariant.1)
 
 pub meet_if-returns-in_err-meet_block-clause-met : goal.meet_if-returns-in_err-meet_block-clause-met
-meet_if-returns-in_err-meet_block-clause-met g t c = 
+meet_if-returns-in_err-meet_block-clause-met g t c =
     let same : c.from_residual.result ≡ Err c.in_err-meet_block.field-0.0 = search rules in
     rw same (met_refusal_first statements_inside (CalledAt g.F.FnMut) _ c.in_err-meet_block.ensures.met)
 
 pub meet_if-returns-in_err-meet_else_ifs-clause-met : goal.meet_if-returns-in_err-meet_else_ifs-clause-met
-meet_if-returns-in_err-meet_else_ifs-clause-met g t c = 
+meet_if-returns-in_err-meet_else_ifs-clause-met g t c =
     let same : c.from_residual-in_err-meet_else_ifs.result ≡ Err c.in_err-meet_else_ifs.field-0.0 = search rules in
     rw same (met_both statements_inside (CalledAt g.F.FnMut) c.in_ok-meet_block.ensures.met (met_refusal_first statements_inside (CalledAt g.F.FnMut) _ (rw c.as_slice.ensures at c.in_err-meet_else_ifs.ensures.met)))
 
@@ -100,7 +100,7 @@ pub meet_if-returns-clause-met : goal.meet_if-returns-clause-met
 meet_if-returns-clause-met g t c = met_both statements_inside (CalledAt g.F.FnMut) c.in_ok-meet_block.ensures.met (met_both statements_inside (CalledAt g.F.FnMut) (rw c.as_slice.ensures at c.in_ok-meet_else_ifs.ensures.met) c.meet_else.ensures.met)
 
 pub meet_loop-returns-in_err-meet_block-clause-met : goal.meet_loop-returns-in_err-meet_block-clause-met
-meet_loop-returns-in_err-meet_block-clause-met g t c = 
+meet_loop-returns-in_err-meet_block-clause-met g t c =
     let same : c.from_residual.result ≡ Err c.in_err-meet_block.field-0.0 = search rules in
     rw same (met_refusal_first statements_inside (CalledAt g.F.FnMut) _ c.in_err-meet_block.ensures.met)
 
@@ -108,12 +108,12 @@ pub meet_loop-returns-clause-met : goal.meet_loop-returns-clause-met
 meet_loop-returns-clause-met g t c = met_both statements_inside (CalledAt g.F.FnMut) c.in_ok-meet_block.ensures.met c.meet_continuing.ensures.met
 
 pub meet_for-returns-in_err-meet_part-clause-met : goal.meet_for-returns-in_err-meet_part-clause-met
-meet_for-returns-in_err-meet_part-clause-met g t c = 
+meet_for-returns-in_err-meet_part-clause-met g t c =
     let same : c.from_residual.result ≡ Err c.in_err-meet_part.field-0.0 = search rules in
     rw same (met_refusal_first statements_inside (CalledAt g.F.FnMut) _ c.in_err-meet_part.ensures.met)
 
 pub meet_for-returns-in_err-meet_part-2-clause-met : goal.meet_for-returns-in_err-meet_part-2-clause-met
-meet_for-returns-in_err-meet_part-2-clause-met g t c = 
+meet_for-returns-in_err-meet_part-2-clause-met g t c =
     let same : c.from_residual-in_err-meet_part-2.result ≡ Err c.in_err-meet_part-2.field-0.0 = search rules in
     rw same (met_both statements_inside (CalledAt g.F.FnMut) c.in_ok-meet_part.ensures.met (met_refusal_first statements_inside (CalledAt g.F.FnMut) _ c.in_err-meet_part-2.ensures.met))
 
@@ -121,7 +121,7 @@ pub meet_for-returns-clause-met : goal.meet_for-returns-clause-met
 meet_for-returns-clause-met g t c = met_both statements_inside (CalledAt g.F.FnMut) c.in_ok-meet_part.ensures.met (met_both statements_inside (CalledAt g.F.FnMut) c.in_ok-meet_part-2.ensures.met c.meet_block.ensures.met)
 
 pub meet_node-returns-in_err-f-clause-met : goal.meet_node-returns-in_err-f-clause-met
-meet_node-returns-in_err-f-clause-met g t c = 
+meet_node-returns-in_err-f-clause-met g t c =
     let same : c.from_residual.result ≡ Err c.in_err-f.field-0.0 = search rules in
     rw same (deep_refusal (record { shown = c.args.node; shows = refl; called = c.in_err-f.ensures }))
 

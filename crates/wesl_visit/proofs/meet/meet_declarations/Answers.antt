@@ -12,6 +12,6 @@ pub loop-declaration-preserved : goal.loop-declaration-preserved
 loop-declaration-preserved g c = (c.in_ok-meet_declaration_node.ensures.callable, met_more statements_inside (CalledAt g.F.FnMut) in_declaration_node c.args.f.now c.loop-declaration.f c.meet_declaration_node.new.f c.args.declarations.now c.loop-declaration.declaration-index c.declaration-item.result c.loop-declaration-test.true c.declaration-item.is c.loop-declaration.invariant.1 c.in_ok-meet_declaration_node.ensures.met)
 
 pub returns-in_err-meet_declaration_node-clause-met : goal.returns-in_err-meet_declaration_node-clause-met
-returns-in_err-meet_declaration_node-clause-met g c = 
+returns-in_err-meet_declaration_node-clause-met g c =
     let same : c.from_residual.result ≡ Err c.in_err-meet_declaration_node.field-0.0 = search rules in
     rw same (met_refusal_at statements_inside (CalledAt g.F.FnMut) in_declaration_node c.args.f.now c.loop-declaration.f c.meet_declaration_node.new.f c.in_err-meet_declaration_node.field-0.0 c.args.declarations.now c.loop-declaration.declaration-index c.declaration-item.result c.loop-declaration-test.true c.declaration-item.is c.loop-declaration.invariant.1 c.in_err-meet_declaration_node.ensures.met)
