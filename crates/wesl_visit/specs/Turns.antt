@@ -6,12 +6,6 @@ use Rattle.std.specs.Borrow.{Bor}
 abbrev pub pointed : {X : Type 0} → List (Bor X) → List X
 pointed refs = map (λ x. x.now) refs
 
--- at each value
-pub data CalledInTurn {S X E : Type 0} (step : S → X → Result Unit E → S → Type 0) : S → List X → Result Unit E → S → Type 0 where
-  met_none : {s : S} → CalledInTurn step s [] (Ok tt) s
-  met_refusal : {s t : S} {x : X} {xs : List X} {e : E} → step s x (Err e) t → CalledInTurn step s (x ∷ xs) (Err e) t
-  met_one : {s t u : S} {x : X} {xs : List X} {r : Result Unit E} → step s x (Ok tt) t → CalledInTurn step t xs r u → CalledInTurn step s (x ∷ xs) r u
-
 -- at each value, which it may change; the last list has the values as they then are
 pub data ChangedInTurn {S X E : Type 0} (step : S → X → Result Unit E → S → X → Type 0) : S → List X → Result Unit E → S → List X → Type 0 where
   changed_none : {s : S} → ChangedInTurn step s [] (Ok tt) s []
