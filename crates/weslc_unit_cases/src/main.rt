@@ -1,9 +1,10 @@
 //! Makes the calls of the cases in `data/`, prints each case whose answer differs, and how many cases there were.
-//! A case is a line with tabs between its parts: a call, its arguments, and the text that it answers; `¶` is a line break.
+//! A case is a line with tabs between its parts: a call, its arguments, and the text that it answers; `¶` is a line break. A line
+//! of operators on scalars has a result for each operand.
 #![tactic(auto)]
 
-mod numbers;
 mod parsing;
+mod scalars;
 mod units;
 
 use std::alloc::{AllocError, Global};
@@ -28,7 +29,7 @@ fn answer(alloc: Global, case: &str) -> Result<String, AllocError> {
     match call {
         "lex" => parsing::tokens(alloc, with),
         "is_blankspace" | "is_line_break" => parsing::told(alloc, call, with),
-        "number" => numbers::answer(alloc, with),
+        "number" => scalars::one_answer(alloc, with),
         call => units::answer(alloc, call, with),
     }
 }
@@ -81,7 +82,15 @@ fn check_file(rt: &HostRuntime, file: &str) -> io::Result<()> {
     println!(rt; "{report}{file}: {count} cases")
 }
 
+fn check_scalars(rt: &HostRuntime, file: &str) -> io::Result<()> {
+    let text = fs::read_to_string(rt, file)?;
+    let mut report = String::new(rt.alloc());
+    let count = scalars::compare_all(rt.alloc(), &mut report, text.as_str())?;
+    println!(rt; "{report}{file}: {count} results")
+}
+
 fn main(rt: HostRuntime) -> io::Result<()> {
     check_file(&rt, "texts.txt")?;
-    check_file(&rt, "units.txt")
+    check_file(&rt, "units.txt")?;
+    check_scalars(&rt, "scalars.txt")
 }

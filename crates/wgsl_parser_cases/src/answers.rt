@@ -1,7 +1,7 @@
 //! What each call answers: the tree's text, with `\n` for each line's end, or the error's kind and place. A fault's call
-//! answers `none` in place of the tree's text.
+//! answers `none` in place of the tree's text. Tokens and template lists have calls of their own.
 
-use crate::places;
+use crate::{lists, places};
 use std::alloc::{AllocError, Global};
 use std::fmt::{Display, Write};
 use wgsl_parser::{
@@ -28,7 +28,7 @@ pub fn answer(alloc: Global, case: &str) -> Result<String, AllocError> {
         "fault" => fault(alloc, text),
         "told" => places::told(alloc, text),
         "source" => places::with_source(alloc, text),
-        _ => String::from_str(alloc, "no such call"),
+        call => lists::answer(alloc, call, text),
     }
 }
 

@@ -4,6 +4,7 @@
 
 mod answers;
 mod escapes;
+mod lists;
 mod places;
 
 use std::alloc::{AllocError, Global};
@@ -47,5 +48,6 @@ fn report<R: Files + Print + AllocGlobal>(rt: &R, path: &str) -> io::Result<()> 
 
 fn main(rt: HostRuntime) -> io::Result<()> {
     report(&rt, "texts.txt")?;
-    report(&rt, "places.txt")
+    report(&rt, "places.txt")?;
+    report(&rt, "lists.txt")
 }

@@ -1,11 +1,10 @@
-//! Compares the operators on scalars with the results in `data/scalars.txt`, which `tools/scalar_cases.py` computes in another
-//! way. A line is a call, its stage, operator and left operand, where it has them, and the result for each of the operands that
-//! the first line lists: a value, or the letter of an error. A line comes for each that differs, and at last their count.
-#![tactic(auto)]
+//! Operators on scalars. A line of `data/scalars.txt`, which `tools/scalar_cases.py` computes in another way, is a call, its stage,
+//! operator and left operand, where it has them, and the result for each of the operands that the first line lists: a value, or the
+//! letter of an error.
 
+use crate::cut;
 use std::alloc::{AllocError, Global};
-use std::fmt::{Display, Write};
-use std::{fs, io};
+use std::fmt::{Debug, Display, Write};
 use wgsl_operators::{BinaryOperator, UnaryOperator};
 use wgsl_scalar::{
     IntegerType, ScalarType, ShaderStage, binary_scalar_op, construct_scalar, convert_scalar,
@@ -13,62 +12,45 @@ use wgsl_scalar::{
 };
 use wgsl_shader_type::{Error, LiteralInstance};
 
-/// How many results there were, and what is told of those that differ.
-#[derive(Drop)]
-struct Report {
-    count: u64,
-    text: String,
-}
-
-fn main(rt: HostRuntime) -> io::Result<()> {
-    let cases = fs::read_to_string(&rt, "scalars.txt")?;
-    let report = compare_all(rt.alloc(), cases.as_str())?;
-    println!(rt; "{}{} results", report.text, report.count)
-}
-
-fn compare_all(alloc: Global, cases: &str) -> Result<Report, AllocError> {
-    let mut report = Report {
-        count: 0,
-        text: String::new(alloc),
-    };
+/// Tells of the results of a text that differ. How many results there are.
+pub fn compare_all(alloc: Global, report: &mut String, cases: &str) -> Result<u64, AllocError> {
+    let mut count: u64 = 0;
     let (operands, rows) = cases.split_once('\n').unwrap_or((cases, ""));
     for line in rows.lines() {
         if let Some((call, results)) = line.rsplit_once('\t') {
-            compare_row(alloc, &mut report, call, operands, results)?;
+            count = count.saturating_add(compare_row(alloc, report, call, operands, results)?);
         }
     }
-    Ok(report)
+    Ok(count)
 }
 
-/// Compares what a call gives for each operand.
+/// Compares what a call gives for each operand. How many there are.
 fn compare_row(
     alloc: Global,
-    report: &mut Report,
+    report: &mut String,
     call: &str,
     operands: &str,
     results: &str,
-) -> Result<(), AllocError> {
+) -> Result<u64, AllocError> {
+    let mut count: u64 = 0;
     let mut operands = operands.split(' ');
     for wanted in results.split(' ') {
         compare(alloc, report, call, operands.next().unwrap_or(""), wanted)?;
+        count = count.saturating_add(1);
     }
-    Ok(())
+    Ok(count)
 }
 
 fn compare(
     alloc: Global,
-    report: &mut Report,
+    report: &mut String,
     call: &str,
     operand: &str,
     wanted: &str,
 ) -> Result<(), AllocError> {
-    report.count = report.count.saturating_add(1);
     let given = told(alloc, answer(call, literal_of(operand)))?;
     if given.as_str() != wanted {
-        writeln!(
-            report.text,
-            "{call} {operand}: wanted {wanted}, given {given}"
-        )?;
+        writeln!(report, "{call} {operand}: wanted {wanted}, given {given}")?;
     }
     Ok(())
 }
@@ -91,9 +73,9 @@ fn told<T: Display + Drop, E: Letter + Drop>(
 
 /// What a call gives for an operand.
 fn answer(call: &str, operand: LiteralInstance) -> Result<LiteralInstance, Error> {
-    let (kind, rest) = call.split_once('\t').unwrap_or((call, ""));
-    let (first, rest) = rest.split_once('\t').unwrap_or((rest, ""));
-    let (operator, left) = rest.split_once('\t').unwrap_or((rest, ""));
+    let (kind, rest) = cut(call);
+    let (first, rest) = cut(rest);
+    let (operator, left) = cut(rest);
     match kind {
         "unary" => unary(first, operator, operand),
         "binary" => binary(first, operator, literal_of(left), operand),
@@ -166,4 +148,24 @@ impl Letter for Error {
             _ => "?",
         }
     }
+}
+
+fn result_of(call: &str, left: &str, right: &str) -> Result<LiteralInstance, Error> {
+    match call.split_once(' ') {
+        Some(("construct", ty)) => construct_scalar(type_of(ty), literal_of(left)),
+        Some(("convert_to", ty)) => convert_scalar(type_of(ty), literal_of(left)),
+        Some((stage, sign)) => binary(stage, sign, literal_of(left), literal_of(right)),
+        None => unary("const", "-", literal_of(left)),
+    }
+}
+
+fn shown<T: Debug + Drop>(alloc: Global, given: T) -> Result<String, AllocError> {
+    format!(in alloc; "{given:?}")
+}
+
+/// What an operator gives at one operand or two, in the form of `Debug`.
+pub fn one_answer(alloc: Global, with: &str) -> Result<String, AllocError> {
+    let (call, operands) = cut(with);
+    let (left, right) = cut(operands);
+    shown(alloc, result_of(call, left, right))
 }

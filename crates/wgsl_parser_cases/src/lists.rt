@@ -1,19 +1,14 @@
-//! What each call answers.
+//! Calls on tokens and template lists: which `<` open a list.
 
+use crate::answers::cut;
 use std::alloc::{AllocError, Global};
 use std::fmt::{Display, Write};
 use wgsl_template_lexer::{lexer, parser};
 use wgsl_template_spec::{SpannedTemplateToken, TemplateToken};
 use wgsl_token::Token;
 
-/// The text before the first tab, and the text behind it.
-fn cut(text: &str) -> (&str, &str) {
-    text.split_once('\t').unwrap_or((text, ""))
-}
-
 /// The answer to a call.
-pub fn answer(alloc: Global, case: &str) -> Result<String, AllocError> {
-    let (call, with) = cut(case);
+pub fn answer(alloc: Global, call: &str, with: &str) -> Result<String, AllocError> {
     match call {
         "lex" => shown(alloc, with),
         "recognize" => told(alloc, lexer::recognize_template_list(alloc, with)?),
