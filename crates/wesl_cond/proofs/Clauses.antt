@@ -1,21 +1,19 @@
 -- Clauses of `if` and `switch`, and parts of `for`.
 use Rattle.std.proofs.Common.{◌≡◌, refl, sym, ap, ◌∙◌, List, [], ◌∷◌, map, Option, Some, None}
 use Rattle.std.specs.Option.{option_map, option_or}
-use Rattle.wgsl_path.specs.declared.span.Spanned.{Spanned}
 use Rattle.wgsl_expressions.specs.Tree.{Exp}
 use Rattle.wgsl_expressions.specs.View.{node_tree}
 use Rattle.wgsl_attributes.specs.Tree.{Attr}
 use Rattle.wgsl_simple_statements.specs.Tree.{Selector}
 use Rattle.wgsl_statements.specs.declared.statement.Statement.{Statement}
-use Rattle.wgsl_statements.specs.declared.statement.IfStatementOf.{IfStatementOf}
 use Rattle.wgsl_statements.specs.declared.statement.ElseIfClauseOf.{ElseIfClauseOf}
 use Rattle.wgsl_statements.specs.declared.statement.ElseClauseOf.{ElseClauseOf}
 use Rattle.wgsl_statements.specs.declared.statement.SwitchClauseOf.{SwitchClauseOf}
-use Rattle.wgsl_statements.specs.Tree.{Stm, if_statement, Block, Elses, else_if_clause, Clauses, no_clauses, switch_clause, Part, absent, present}
+use Rattle.wgsl_statements.specs.Tree.{Stm, if_statement, Block, Elses, else_if_clause, Clauses, no_clauses, switch_clause}
 use Rattle.wgsl_statements.specs.View.{statement_tree, block_tree, else_layer, elses_layer, clauses_layer, part}
 use Rattle.wesl_features.specs.declared.feature.Features.{Features}
 use Rattle.wesl_features.specs.declared.error.CondCompError.{CondCompError}
-use Rattle.wesl_cond_spec.specs.Faults.{statement_fault, block_fault, elses_fault, clauses_fault, part_fault}
+use Rattle.wesl_cond_spec.specs.Faults.{block_fault, elses_fault, part_fault}
 use Rattle.wesl_cond.specs.Leaving.{statement_left, block_left, elses_left, clauses_left, part_left, else_if_pair, switch_pair, pair_left}
 use Rattle.wesl_cond.specs.Passing.{inside_statement, first_of}
 

@@ -6,7 +6,7 @@ use Rattle.wgsl_path.specs.declared.span.Spanned.{Spanned}
 use Rattle.wgsl_attributes.specs.declared.attribute.Attribute.{Attribute}
 use Rattle.wgsl_attributes.specs.View.{attributes_tree}
 use Rattle.wgsl_statements.specs.declared.statement.Statement.{Statement}
-use Rattle.wgsl_statements.specs.Tree.{Stm, Stms, nil, cons, Block, block}
+use Rattle.wgsl_statements.specs.Tree.{Stm, cons, block}
 use Rattle.wgsl_statements.specs.View.{stms, statement_tree, statements_tree}
 use Rattle.wesl_features.specs.declared.feature.Features.{Features}
 use Rattle.wesl_cond_spec.specs.Chains.{left}

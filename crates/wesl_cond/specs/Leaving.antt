@@ -1,6 +1,5 @@
 -- What features leave inside statements.
-use Rattle.std.specs.Prelude.{List, map, Option}
-use Rattle.std.specs.Option.{option_map}
+use Rattle.std.specs.Prelude.{List, map}
 use Rattle.wgsl_expressions.specs.Tree.{Exp}
 use Rattle.wgsl_expressions.specs.View.{node_tree}
 use Rattle.wgsl_simple_statements.specs.Tree.{Selector}

@@ -8,7 +8,7 @@ use Rattle.weslc_precompile.specs.declared.error.PrecompileError.{PrecompileErro
 use Rattle.weslc_precompile.specs.declared.error.PrecompileError.TheVariants as precompiling
 use Rattle.weslc_precompile.specs.Precompiling.{RefusesPrecompiling}
 use Rattle.weslc_bundle.specs.declared.request.Command.{Command}
-use Rattle.weslc_bundle.specs.declared.request.Command.TheVariants.{Link, Compile, Precompile}
+use Rattle.weslc_bundle.specs.declared.request.Command.TheVariants.{Precompile}
 use Rattle.weslc_bundle.specs.declared.bundle.Bundle.{Bundle}
 use Rattle.weslc_bundle.specs.declared.error.ServeError.{ServeError}
 use Rattle.weslc_bundle.specs.declared.error.ServeError.TheVariants as serve

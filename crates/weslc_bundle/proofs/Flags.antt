@@ -1,8 +1,7 @@
 -- Feature flags, one after another.
-use Rattle.std.proofs.Common.{◌≡◌, refl, sym, ap, ◌∙◌, ℕ, List, [], ◌∷◌, ◌++◌, ◌+◌, ◌<◌, length, drop, get_or, Option, Some, None, option_map, option_and_then, append_assoc, bytes_eq, if◌then◌else◌, String, Global, string_bytes}
+use Rattle.std.proofs.Common.{◌≡◌, refl, sym, ap, ◌∙◌, ℕ, List, [], ◌∷◌, ◌++◌, ◌+◌, ◌<◌, length, drop, get_or, Option, Some, None, option_map, append_assoc, bytes_eq, if◌then◌else◌, string_bytes}
 use Rattle.std.proofs.lemmas.List.{append-nil, at_drop_more}
 use Rattle.serde_json.specs.View.{view, members_view}
-use Rattle.serde_json.specs.declared.value.Value.{Value}
 use Rattle.wesl_features.specs.declared.feature.Feature.{Feature}
 use Rattle.wesl_features.specs.declared.feature.Features.{Features}
 use Rattle.wesl_features.specs.Settings.{setting}

@@ -22,8 +22,8 @@ use wgsl_items::Text;
 use wgsl_path::{ModulePath, Span};
 
 /// Reads a bundle, and writes the text that it asks for, or one line about its first fault. It gives the program's status: 0
-/// for a text, 1 for a refused call or a write that fails, 2 for what is no bundle or a read that fails. Where a text could
-/// not be written, the writer has got a beginning of it, and all of it where only flushing failed.
+/// for a text, 1 for a refused call or a write that fails, 2 for what is no bundle, one that has no root to precompile, or a read
+/// that fails. Where a text could not be written, the writer has got a beginning of it, and all of it where only flushing failed.
 pub fn serve_bundle<R: Read, W: Write, E: Write>(
     alloc: Global,
     reader: &mut R,

@@ -1,5 +1,5 @@
 -- What a call asks for: the root, and what loading asks for behind it.
-use Rattle.std.proofs.Common.{◌≡◌, ℕ, ◌<◌, ◌⊎◌, ⊎_elim, List, [], ◌∷◌, Contains, refl, sym, subst}
+use Rattle.std.proofs.Common.{ℕ, ◌<◌, ◌⊎◌, ⊎_elim, List, [], ◌∷◌, refl, sym, subst}
 use Rattle.wgsl_syntax.specs.Tree.{UnitTree as Module}
 use Rattle.wesl_resolve.specs.Found.{unit_of, Asked, HasAsked, SameAnswers}
 use Rattle.wesl_link_spec.specs.Occurrences.{Name}

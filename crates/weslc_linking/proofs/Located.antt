@@ -1,5 +1,5 @@
 -- The declaration that a refusal of the linked unit names is a held symbol's, which the map tells.
-use Rattle.std.proofs.Common.{◌≡◌, ℕ, List, [], ◌∷◌, map, Some, refl, subst, Contains}
+use Rattle.std.proofs.Common.{◌≡◌, ℕ, List, [], ◌∷◌, map, refl, subst, Contains}
 use Rattle.wgsl_syntax.specs.Tree.{Decl, variable, function, UnitTree}
 use Rattle.wesl_resolve.specs.SourceMaps.{decl_at}
 use Rattle.wesl_resolve.specs.declared.source_map.BasicSourceMap.{BasicSourceMap}
@@ -12,7 +12,6 @@ use Rattle.wesl_meaning.proofs.Declared.{linked_units_declare_what_is_held}
 use Rattle.wesl_validate.specs.Scopes.{name_of, names}
 use Rattle.weslc_unit.specs.declared.error.UnitRefusal.{UnitRefusal}
 use Rattle.weslc_unit.specs.Compiled.{Refuses}
-use Rattle.weslc_unit.specs.Located.{declaration_of}
 use Rattle.weslc_unit.proofs.Located.{refusals_are_in_declarations}
 use Rattle.weslc_linking.specs.Mapped.{TellsHeld, IsLocated}
 use Rattle.weslc_linking.specs.Told.{Tells}

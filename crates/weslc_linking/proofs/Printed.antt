@@ -5,7 +5,7 @@ use Rattle.std.specs.List.{flat_map}
 use Rattle.std.proofs.lemmas.List.{append-nil, drop_all, get_or-map, length-map}
 use Rattle.std.proofs.lemmas.List.Elements.{All-nil, All-cons, All-get_or}
 use Rattle.wgsl_syntax.specs.Tree.{Decl}
-use Rattle.wgsl_syntax.specs.Print.{decl_text, unit_text}
+use Rattle.wgsl_syntax.specs.Print.{decl_text}
 use Rattle.wgsl_round_trip.specs.Printing.{alone}
 use Rattle.weslc_unit.specs.declared.error.PrintError.{PrintError}
 use Rattle.weslc_unit.specs.declared.error.PrintError.TheVariants.{Unprintable, OutOfMemory}

@@ -1,5 +1,5 @@
 -- What the steps say of the whole.
-use Rattle.std.proofs.Common.{◌≡◌, refl, sym, ap, ◌∙◌, subst, ℕ, List, [], ◌∷◌, Bool, true, false, ◌⊎◌, inl, inr, Option, Some, None, Result, Ok, Err, String, string_bytes, Decides}
+use Rattle.std.proofs.Common.{◌≡◌, refl, sym, ap, ◌∙◌, subst, ℕ, List, [], ◌∷◌, Bool, true, false, ◌⊎◌, inl, inr, Option, Some, None, Result, Ok, Err, String, Decides}
 use Rattle.std.specs.declared.alloc.Global.{Global}
 use Rattle.wgsl_declarations.specs.declared.unit.TranslationUnit.{TranslationUnit}
 use Rattle.std.specs.List.{cons_option}
@@ -22,7 +22,7 @@ use Rattle.wesl_cond_spec.specs.Trees.{unit_left}
 use Rattle.wesl_cond_spec.specs.Faults.{unit_fault}
 use Rattle.weslc_precompile.specs.declared.error.PrecompileError.{PrecompileError}
 use Rattle.weslc_precompile.specs.declared.error.PrecompileError.TheVariants as refusal
-use Rattle.weslc_precompile.specs.Precompiling.{Says, SaysTree, SaysNot, IsFixed, bare, first_bare, Precompiles, PrintsBack, Fixes, refused_by, refused_as}
+use Rattle.weslc_precompile.specs.Precompiling.{Says, SaysTree, SaysNot, bare, first_bare, Precompiles, PrintsBack, Fixes, refused_by, refused_as}
 
 -- a text that was read, where the test of trees says so
 pub says_tree : (text : List ℕ) (u : UnitTree) (other : TranslationUnit) (b : Bool) → Says text other → Decides b (u ≡ unit_tree other) → b ≡ true → SaysTree text u

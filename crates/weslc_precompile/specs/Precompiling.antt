@@ -11,7 +11,6 @@ use Rattle.wgsl_error.specs.declared.error.ErrorKind.TheVariants as kind
 use Rattle.wgsl_error.specs.declared.error.Error.{Error}
 use Rattle.wgsl_parser.specs.Texts.{IsModuleFault, ParsesModule}
 use Rattle.wesl_features.specs.declared.feature.Features.{Features}
-use Rattle.wesl_features.specs.declared.error.CondCompError.{CondCompError}
 use Rattle.wesl_cond_spec.specs.Trees.{unit_left}
 use Rattle.wesl_cond_spec.specs.Faults.{unit_fault}
 use Rattle.weslc_precompile.specs.declared.error.PrecompileError.{PrecompileError}

@@ -1,7 +1,6 @@
 -- What the productions of statements make of their parts. Where parts do not fit, it is nothing.
 use Rattle.std.specs.Prelude.{List, [], ◌∷◌}
 use Rattle.wgsl_path.specs.declared.span.Span.{Span}
-use Rattle.wgsl_path.specs.declared.span.Spanned.{Spanned}
 use Rattle.wgsl_simple_statements.specs.declared.statement.CaseSelector.TheVariants as selectors
 use Rattle.wgsl_statements.specs.declared.statement.Statement.{Statement}
 use Rattle.wgsl_statements.specs.declared.statement.Statement.TheVariants as statement

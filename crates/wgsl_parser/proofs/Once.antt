@@ -1,11 +1,9 @@
 -- A text that is no module has one fault, and a module has none.
 use Rattle.std.proofs.Common.{◌≡◌, ◌∙◌, sym, ap, subst, ℕ, List, length, inl, inr, Ok, Err}
-use Rattle.wgsl_template_spec.specs.declared.token.SpannedTemplateToken.{SpannedTemplateToken}
 use Rattle.wgsl_template_spec.proofs.Once.{lexed_once}
 use Rattle.wgsl_declarations.specs.declared.unit.TranslationUnit.{TranslationUnit}
 use Rattle.wgsl_parts.specs.declared.part.Part.TheVariants as part
 use Rattle.wgsl_reading.specs.declared.driver.Start.TheVariants.{Module}
-use Rattle.wgsl_reading.specs.declared.answer.Unread.{Unread}
 use Rattle.wgsl_reading.specs.declared.answer.Unread.TheVariants.{OutOfMemory}
 use Rattle.wgsl_reading.specs.Readings.{Reads}
 use Rattle.wgsl_reading.proofs.Once.{unread_once, read_apart}

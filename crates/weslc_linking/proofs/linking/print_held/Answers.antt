@@ -5,7 +5,7 @@ use Rattle.std.specs.List.{flat_map}
 use Rattle.std.proofs.lemmas.Result.{err_from_is_err_and}
 use Rattle.wgsl_syntax.specs.View.{declaration_tree}
 use Rattle.wgsl_syntax.specs.Print.{decl_text}
-use Rattle.weslc_unit.specs.Compiled.{IsTextOf, IsUnprintable}
+use Rattle.weslc_unit.specs.Compiled.{IsTextOf}
 use Rattle.weslc_unit.proofs.ByDeclarations.{read_by_declarations}
 use Rattle.wesl_link.specs.Assembling.{linked_tree, linked_trees, linked_of}
 use Rattle.weslc_linking.proofs.Printed.{read_alone, unit_unread, text_more, read_more, told_more, told_here, each_read, text_all, read_all}

@@ -2,7 +2,6 @@
 use Rattle.std.proofs.Common.{rules, refl, sym, subst, ◌≡◌, ◌∙◌, Err, string_bytes, true≢false}
 use Rattle.wgsl_declarations.specs.View.{unit_tree}
 use Rattle.wgsl_declarations.specs.Print.{unit_text}
-use Rattle.weslc_precompile.specs.Precompiling as precompiling
 use Rattle.weslc_precompile.specs.Precompiling.{SaysNot, PrintsBack}
 use Rattle.weslc_precompile.proofs.Steps.{not_said}
 use Rattle.weslc_precompile.proofs.print.print_back.Goals as goal

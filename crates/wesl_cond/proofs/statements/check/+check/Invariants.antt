@@ -1,4 +1,4 @@
-use Rattle.std.proofs.Common.{◌≡◌, ◌+◌, ◌*◌, ◌++◌, take, drop, map, filter_map}
+use Rattle.std.proofs.Common.{◌≡◌, ◌+◌, ◌*◌, drop, map, filter_map}
 use Rattle.wgsl_statements.specs.View.{statement_tree, block_tree, clauses_layer}
 use Rattle.wesl_cond_spec.specs.Seen.{list_fault}
 use Rattle.wesl_cond_spec.specs.Walks.{checked}
