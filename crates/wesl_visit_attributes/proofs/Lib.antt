@@ -1,0 +1,4 @@
+pub mod Layers
+pub mod Cases
+pub mod Turns
+pub mod Loops

@@ -1,0 +1,16 @@
+use Rattle.std.proofs.Common.{◌≡◌, ◌≤◌, ℕ, length, get_or, map, take, Ok}
+use Rattle.std.specs.List.{flat_map}
+use Rattle.std.specs.Fn.{CalledAtMut}
+use Rattle.wgsl_path.specs.declared.span.Spanned.{Spanned}
+use Rattle.wgsl_declarations.specs.declared.declaration.GlobalDeclaration.{GlobalDeclaration}
+use Rattle.wesl_visit.specs.Turns.{ChangedInTurn}
+use Rattle.wesl_visit_attributes.specs.Attributes.{in_declaration_node}
+use Rattle.wesl_visit_attributes.specs.Around.{around_declaration_node}
+use Rattle.wesl_visit_attributes.proofs.change.change_declarations.Given as goal
+
+abbrev pub invariant-loop-i : goal.invariant-loop-i
+invariant-loop-i g l =
+    goal.F-IsAlwaysCallable g l.f
+    × ChangedInTurn (CalledAtMut g.F.FnMut) l.initial.f (flat_map in_declaration_node (take l.i l.initial.declarations)) (Ok tt) l.f (flat_map in_declaration_node (take l.i l.declarations))
+    × (map around_declaration_node l.declarations ≡ map around_declaration_node l.initial.declarations) × (length l.declarations ≡ length l.initial.declarations)
+    × ((k : ℕ) (d : Spanned GlobalDeclaration) → l.i ≤ k → get_or l.declarations k d ≡ get_or l.initial.declarations k d)
