@@ -10,7 +10,11 @@ ghost use Rattle.std.specs.List.{flat_map};
 ghost use Rattle.std.specs.Option.{option_map};
 
 use wgsl_attributes::{Attribute, AttributeNode, CustomAttribute, WorkgroupSizeAttribute};
-use wgsl_expressions::{BinaryExpression, Expression, ExpressionNode, FunctionCall, IndexingExpression, NamedComponentExpression, ParenthesizedExpression, TemplateArg, TypeExpression, UnaryExpression};
+use wgsl_expressions::{
+    BinaryExpression, Expression, ExpressionNode, FunctionCall, IndexingExpression,
+    NamedComponentExpression, ParenthesizedExpression, TemplateArg, TypeExpression,
+    UnaryExpression,
+};
 use wgsl_items::Items;
 
 /// Meets the expressions in an expression.

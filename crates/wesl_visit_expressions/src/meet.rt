@@ -8,7 +8,10 @@ ghost use Rattle.std.specs.Fn.{CalledAt};
 ghost use Rattle.std.specs.List.{flat_map};
 
 use wgsl_attributes::{Attribute, AttributeNode, CustomAttribute, WorkgroupSizeAttribute};
-use wgsl_expressions::{BinaryExpression, Expression, ExpressionNode, FunctionCall, IndexingExpression, TemplateArg, TypeExpression};
+use wgsl_expressions::{
+    BinaryExpression, Expression, ExpressionNode, FunctionCall, IndexingExpression, TemplateArg,
+    TypeExpression,
+};
 
 /// Meets the expressions in an expression.
 #[cycle(meet)]

@@ -10,11 +10,18 @@ ghost use Rattle.std.specs.List.{flat_map};
 ghost use Rattle.wesl_visit_expressions_in_modules.specs.Modules.{in_typed, in_alias, in_member, in_member_node, in_struct, in_parameter, in_function, expressions_in_declaration, in_declaration_node, in_import, in_diagnostic, in_enable, in_requires, in_directive, expressions_in_unit, around_alias, around_member, around_member_node, around_struct, around_parameter, around_function, around_expressions_in_declaration, around_declaration_node, around_import, around_diagnostic, around_enable, around_requires, around_directive, around_expressions_in_unit};
 
 use wesl_visit_expressions::change::{change_attributes, change_optional_type, change_type};
-use wesl_visit_expressions_in_statements::change::{change_block, change_const_assert, change_declared};
+use wesl_visit_expressions_in_statements::change::{
+    change_block, change_const_assert, change_declared,
+};
 use wgsl_attributes::AttributeNode;
-use wgsl_declarations::{FormalParameter, Function, GlobalDeclaration, GlobalDeclarationNode, Struct, StructMember, StructMemberNode, TranslationUnit, TypeAlias};
+use wgsl_declarations::{
+    FormalParameter, Function, GlobalDeclaration, GlobalDeclarationNode, Struct, StructMember,
+    StructMemberNode, TranslationUnit, TypeAlias,
+};
 use wgsl_expressions::{ExpressionNode, TypeExpression};
-use wgsl_imports::{DiagnosticDirective, EnableDirective, GlobalDirective, ImportStatement, RequiresDirective};
+use wgsl_imports::{
+    DiagnosticDirective, EnableDirective, GlobalDirective, ImportStatement, RequiresDirective,
+};
 use wgsl_items::Items;
 
 /// Meets the expressions in attributes and in the type behind them.

@@ -9,7 +9,10 @@ use std::alloc::AllocError;
 use wesl_visit_expressions::find::{find_attributes, find_optional_type, find_type};
 use wesl_visit_expressions_in_statements::find::{find_block, find_const_assert, find_declared};
 use wgsl_attributes::AttributeNode;
-use wgsl_declarations::{FormalParameter, Function, GlobalDeclaration, GlobalDeclarationNode, Struct, StructMember, StructMemberNode, TranslationUnit, TypeAlias};
+use wgsl_declarations::{
+    FormalParameter, Function, GlobalDeclaration, GlobalDeclarationNode, Struct, StructMember,
+    StructMemberNode, TranslationUnit, TypeAlias,
+};
 use wgsl_expressions::{ExpressionNode, TypeExpression};
 use wgsl_imports::{GlobalDirective, ImportStatement};
 
@@ -26,10 +29,7 @@ fn find_typed<'a>(
 }
 
 /// Lists the expressions in `alias`.
-fn find_alias<'a>(
-    x: &'a TypeAlias,
-    found: &mut Vec<&'a ExpressionNode>,
-) -> Result<(), AllocError>
+fn find_alias<'a>(x: &'a TypeAlias, found: &mut Vec<&'a ExpressionNode>) -> Result<(), AllocError>
     ensures { OnOk result (pointed found.new.items ≡ pointed found.old.items ++ (in_alias x.now)) }
 {
     find_typed(&x.attributes.as_slice(), &x.ty, found)
@@ -59,10 +59,7 @@ fn find_members<'a>(
 }
 
 /// Lists the expressions in a structure.
-fn find_struct<'a>(
-    x: &'a Struct,
-    found: &mut Vec<&'a ExpressionNode>,
-) -> Result<(), AllocError>
+fn find_struct<'a>(x: &'a Struct, found: &mut Vec<&'a ExpressionNode>) -> Result<(), AllocError>
     ensures { OnOk result (pointed found.new.items ≡ pointed found.old.items ++ (in_struct x.now)) }
 {
     find_attributes(&x.attributes.as_slice(), found)?;
@@ -93,10 +90,7 @@ fn find_parameters<'a>(
 }
 
 /// Lists the expressions in a function.
-fn find_function<'a>(
-    x: &'a Function,
-    found: &mut Vec<&'a ExpressionNode>,
-) -> Result<(), AllocError>
+fn find_function<'a>(x: &'a Function, found: &mut Vec<&'a ExpressionNode>) -> Result<(), AllocError>
     ensures { OnOk result (pointed found.new.items ≡ pointed found.old.items ++ (in_function x.now)) }
 {
     find_attributes(&x.attributes.as_slice(), found)?;

@@ -9,7 +9,10 @@ ghost use Rattle.wesl_visit_expressions_in_modules.specs.Modules.{in_typed, in_a
 use wesl_visit_expressions::meet::{meet_attributes, meet_optional_type, meet_type};
 use wesl_visit_expressions_in_statements::meet::{meet_block, meet_const_assert, meet_declared};
 use wgsl_attributes::AttributeNode;
-use wgsl_declarations::{FormalParameter, Function, GlobalDeclaration, GlobalDeclarationNode, Struct, StructMember, StructMemberNode, TranslationUnit, TypeAlias};
+use wgsl_declarations::{
+    FormalParameter, Function, GlobalDeclaration, GlobalDeclarationNode, Struct, StructMember,
+    StructMemberNode, TranslationUnit, TypeAlias,
+};
 use wgsl_expressions::{ExpressionNode, TypeExpression};
 use wgsl_imports::{GlobalDirective, ImportStatement};
 

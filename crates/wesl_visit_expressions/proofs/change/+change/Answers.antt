@@ -25,7 +25,7 @@ change_nodes-loop-i-preserved g t c = (
 )
 
 pub change_nodes-returns-in_err-change_node-clause-changed : goal.change_nodes-returns-in_err-change_node-clause-changed
-change_nodes-returns-in_err-change_node-clause-changed g t c = 
+change_nodes-returns-in_err-change_node-clause-changed g t c =
     let same : c.from_residual.result ≡ Err c.in_err-change_node.field-0.0 = search rules in
     rw same (simp singles at (changed_refusal_at (inside_by c.args.deep) (around_by c.args.deep) (CalledAtMut g.F.FnMut) (λ n. n ∷ []) c.args.f.now c.loop-i.f c.change_node.new.f c.in_err-change_node.field-0.0 c.args.nodes.now c.loop-i.nodes c.loop-i.i c.get_mut.result.now c.change_node.new.node (search rules) c.loop-i.invariant.3 c.get_mut.ensures.value c.loop-i.invariant.4 c.loop-i.invariant.1 c.in_err-change_node.ensures.changed))
 
@@ -36,7 +36,7 @@ pub change_nodes-returns-clause-changed : goal.change_nodes-returns-clause-chang
 change_nodes-returns-clause-changed g t c = simp singles at (changed_all (inside_by c.args.deep) (around_by c.args.deep) (CalledAtMut g.F.FnMut) (λ n. n ∷ []) c.args.f.now c.loop-i.f c.args.nodes.now c.loop-i.nodes c.loop-i.i (search rules) c.loop-i.invariant.3 c.loop-i.invariant.1)
 
 pub change_indexing-returns-in_err-change_node-clause-changed : goal.change_indexing-returns-in_err-change_node-clause-changed
-change_indexing-returns-in_err-change_node-clause-changed g t c = 
+change_indexing-returns-in_err-change_node-clause-changed g t c =
     let same : c.from_residual.result ≡ Err c.in_err-change_node.field-0.0 = search rules in
     rw same (changed_refusal_first (inside_by c.args.deep) (around_by c.args.deep) (CalledAtMut g.F.FnMut) _ c.in_err-change_node.ensures.changed)
 
@@ -44,7 +44,7 @@ pub change_indexing-returns-clause-changed : goal.change_indexing-returns-clause
 change_indexing-returns-clause-changed g t c = changed_both (inside_by c.args.deep) (around_by c.args.deep) (CalledAtMut g.F.FnMut) c.in_ok-change_node.ensures.changed (c.change_node-2.ensures.changed)
 
 pub change_binary-returns-in_err-change_node-clause-changed : goal.change_binary-returns-in_err-change_node-clause-changed
-change_binary-returns-in_err-change_node-clause-changed g t c = 
+change_binary-returns-in_err-change_node-clause-changed g t c =
     let same : c.from_residual.result ≡ Err c.in_err-change_node.field-0.0 = search rules in
     rw same (changed_refusal_first (inside_by c.args.deep) (around_by c.args.deep) (CalledAtMut g.F.FnMut) _ c.in_err-change_node.ensures.changed)
 
@@ -52,7 +52,7 @@ pub change_binary-returns-clause-changed : goal.change_binary-returns-clause-cha
 change_binary-returns-clause-changed g t c = changed_both (inside_by c.args.deep) (around_by c.args.deep) (CalledAtMut g.F.FnMut) c.in_ok-change_node.ensures.changed (c.change_node-2.ensures.changed)
 
 pub change_call-returns-in_err-change_type-clause-changed : goal.change_call-returns-in_err-change_type-clause-changed
-change_call-returns-in_err-change_type-clause-changed g t c = 
+change_call-returns-in_err-change_type-clause-changed g t c =
     let same : c.from_residual.result ≡ Err c.in_err-change_type.field-0.0 = search rules in
     rw same (changed_refusal_first (inside_by c.args.deep) (around_by c.args.deep) (CalledAtMut g.F.FnMut) _ c.in_err-change_type.ensures.changed)
 
@@ -75,7 +75,7 @@ change_arguments-loop-i-preserved g t c = (
 )
 
 pub change_arguments-returns-in_err-change_node-clause-changed : goal.change_arguments-returns-in_err-change_node-clause-changed
-change_arguments-returns-in_err-change_node-clause-changed g t c = 
+change_arguments-returns-in_err-change_node-clause-changed g t c =
     let same : c.from_residual.result ≡ Err c.in_err-change_node.field-0.0 = search rules in
     rw same (changed_refusal_at (inside_by c.args.deep) (around_by c.args.deep) (CalledAtMut g.F.FnMut) in_argument c.args.f.now c.loop-i.f c.change_node.new.f c.in_err-change_node.field-0.0 c.args.arguments.now c.loop-i.arguments c.loop-i.i c.get_mut.result.now (record { expression = c.change_node.new.node }) (search rules) c.loop-i.invariant.3 c.get_mut.ensures.value c.loop-i.invariant.4 c.loop-i.invariant.1 c.in_err-change_node.ensures.changed)
 

@@ -20,7 +20,7 @@ loop-i-preserved g c = (
 )
 
 pub returns-in_err-change_attribute-clause-changed : goal.returns-in_err-change_attribute-clause-changed
-returns-in_err-change_attribute-clause-changed g c = 
+returns-in_err-change_attribute-clause-changed g c =
     let same : c.from_residual.result ≡ Err c.in_err-change_attribute.field-0.0 = search rules in
     rw same (changed_refusal_at (inside_by c.args.deep) (around_by c.args.deep) (CalledAtMut g.F.FnMut) in_attribute_node c.args.f.now c.loop-i.f c.change_attribute.new.f c.in_err-change_attribute.field-0.0 c.args.attributes.now c.loop-i.attributes c.loop-i.i c.get_mut.result.now (record { node = c.change_attribute.new.attribute; span = c.get_mut.result.now.span }) (search rules) c.loop-i.invariant.3 c.get_mut.ensures.value c.loop-i.invariant.4 c.loop-i.invariant.1 (rw c.node_mut.ensures.value at c.in_err-change_attribute.ensures.changed))
 

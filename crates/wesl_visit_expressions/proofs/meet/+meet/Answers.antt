@@ -18,7 +18,7 @@ pub meet_nodes-loop-node-preserved : goal.meet_nodes-loop-node-preserved
 meet_nodes-loop-node-preserved g t c = (c.in_ok-meet_node.ensures.callable, met_more expressions_inside (CalledAt g.F.FnMut) (λ n. n ∷ []) c.args.f.now c.loop-node.f c.meet_node.new.f c.args.nodes.now c.loop-node.node-index c.node-item.result c.loop-node-test.true c.node-item.is c.loop-node.invariant.1 c.in_ok-meet_node.ensures.met)
 
 pub meet_nodes-returns-in_err-meet_node-clause-met : goal.meet_nodes-returns-in_err-meet_node-clause-met
-meet_nodes-returns-in_err-meet_node-clause-met g t c = 
+meet_nodes-returns-in_err-meet_node-clause-met g t c =
     let same : c.from_residual.result ≡ Err c.in_err-meet_node.field-0.0 = search rules in
     rw same (rw singles at (met_refusal_at expressions_inside (CalledAt g.F.FnMut) (λ n. n ∷ []) c.args.f.now c.loop-node.f c.meet_node.new.f c.in_err-meet_node.field-0.0 c.args.nodes.now c.loop-node.node-index c.node-item.result c.loop-node-test.true c.node-item.is c.loop-node.invariant.1 c.in_err-meet_node.ensures.met))
 
@@ -26,7 +26,7 @@ pub meet_nodes-returns-clause-met : goal.meet_nodes-returns-clause-met
 meet_nodes-returns-clause-met g t c = rw singles at (met_all expressions_inside (CalledAt g.F.FnMut) (λ n. n ∷ []) c.args.f.now c.loop-node.f c.args.nodes.now c.loop-node.node-index c.loop-node-test.false c.loop-node.invariant.1)
 
 pub meet_indexing-returns-in_err-meet_node-clause-met : goal.meet_indexing-returns-in_err-meet_node-clause-met
-meet_indexing-returns-in_err-meet_node-clause-met g t c = 
+meet_indexing-returns-in_err-meet_node-clause-met g t c =
     let same : c.from_residual.result ≡ Err c.in_err-meet_node.field-0.0 = search rules in
     rw same (met_refusal_first expressions_inside (CalledAt g.F.FnMut) _ c.in_err-meet_node.ensures.met)
 
@@ -34,7 +34,7 @@ pub meet_indexing-returns-clause-met : goal.meet_indexing-returns-clause-met
 meet_indexing-returns-clause-met g t c = met_both expressions_inside (CalledAt g.F.FnMut) c.in_ok-meet_node.ensures.met (c.meet_node-2.ensures.met)
 
 pub meet_binary-returns-in_err-meet_node-clause-met : goal.meet_binary-returns-in_err-meet_node-clause-met
-meet_binary-returns-in_err-meet_node-clause-met g t c = 
+meet_binary-returns-in_err-meet_node-clause-met g t c =
     let same : c.from_residual.result ≡ Err c.in_err-meet_node.field-0.0 = search rules in
     rw same (met_refusal_first expressions_inside (CalledAt g.F.FnMut) _ c.in_err-meet_node.ensures.met)
 
@@ -42,7 +42,7 @@ pub meet_binary-returns-clause-met : goal.meet_binary-returns-clause-met
 meet_binary-returns-clause-met g t c = met_both expressions_inside (CalledAt g.F.FnMut) c.in_ok-meet_node.ensures.met (c.meet_node-2.ensures.met)
 
 pub meet_call-returns-in_err-meet_type-clause-met : goal.meet_call-returns-in_err-meet_type-clause-met
-meet_call-returns-in_err-meet_type-clause-met g t c = 
+meet_call-returns-in_err-meet_type-clause-met g t c =
     let same : c.from_residual.result ≡ Err c.in_err-meet_type.field-0.0 = search rules in
     rw same (met_refusal_first expressions_inside (CalledAt g.F.FnMut) _ c.in_err-meet_type.ensures.met)
 
@@ -59,7 +59,7 @@ pub meet_arguments-loop-argument-preserved : goal.meet_arguments-loop-argument-p
 meet_arguments-loop-argument-preserved g t c = (c.in_ok-meet_node.ensures.callable, met_more expressions_inside (CalledAt g.F.FnMut) in_argument c.args.f.now c.loop-argument.f c.meet_node.new.f c.args.arguments.now c.loop-argument.argument-index c.argument-item.result c.loop-argument-test.true c.argument-item.is c.loop-argument.invariant.1 c.in_ok-meet_node.ensures.met)
 
 pub meet_arguments-returns-in_err-meet_node-clause-met : goal.meet_arguments-returns-in_err-meet_node-clause-met
-meet_arguments-returns-in_err-meet_node-clause-met g t c = 
+meet_arguments-returns-in_err-meet_node-clause-met g t c =
     let same : c.from_residual.result ≡ Err c.in_err-meet_node.field-0.0 = search rules in
     rw same (met_refusal_at expressions_inside (CalledAt g.F.FnMut) in_argument c.args.f.now c.loop-argument.f c.meet_node.new.f c.in_err-meet_node.field-0.0 c.args.arguments.now c.loop-argument.argument-index c.argument-item.result c.loop-argument-test.true c.argument-item.is c.loop-argument.invariant.1 c.in_err-meet_node.ensures.met)
 

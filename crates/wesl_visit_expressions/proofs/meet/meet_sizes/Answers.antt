@@ -5,12 +5,12 @@ use Rattle.std.specs.Fn.{CalledAt}
 use Rattle.wesl_visit_expressions.proofs.meet.meet_sizes.Goals as goal
 
 pub returns-in_err-meet_node-clause-met : goal.returns-in_err-meet_node-clause-met
-returns-in_err-meet_node-clause-met g c = 
+returns-in_err-meet_node-clause-met g c =
     let same : c.from_residual.result ≡ Err c.in_err-meet_node.field-0.0 = search rules in
     rw same (met_refusal_first expressions_inside (CalledAt g.F.FnMut) _ c.in_err-meet_node.ensures.met)
 
 pub returns-in_err-meet_option-clause-met : goal.returns-in_err-meet_option-clause-met
-returns-in_err-meet_option-clause-met g c = 
+returns-in_err-meet_option-clause-met g c =
     let same : c.from_residual-in_err-meet_option.result ≡ Err c.in_err-meet_option.field-0.0 = search rules in
     rw same (met_both expressions_inside (CalledAt g.F.FnMut) c.in_ok-meet_node.ensures.met (met_refusal_first expressions_inside (CalledAt g.F.FnMut) _ c.in_err-meet_option.ensures.met))
 

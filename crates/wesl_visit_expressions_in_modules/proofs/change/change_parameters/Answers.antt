@@ -20,7 +20,7 @@ loop-i-preserved g c = (
 )
 
 pub returns-in_err-change_parameter-clause-changed : goal.returns-in_err-change_parameter-clause-changed
-returns-in_err-change_parameter-clause-changed g c = 
+returns-in_err-change_parameter-clause-changed g c =
     let same : c.from_residual.result ≡ Err c.in_err-change_parameter.field-0.0 = search rules in
     rw same (changed_refusal_at (inside_by c.args.deep) (around_by c.args.deep) (CalledAtMut g.F.FnMut) in_parameter c.args.f.now c.loop-i.f c.change_parameter.new.f c.in_err-change_parameter.field-0.0 c.args.parameters.now c.loop-i.parameters c.loop-i.i c.get_mut.result.now c.change_parameter.new.x (search rules) c.loop-i.invariant.3 c.get_mut.ensures.value c.loop-i.invariant.4 c.loop-i.invariant.1 c.in_err-change_parameter.ensures.changed)
 

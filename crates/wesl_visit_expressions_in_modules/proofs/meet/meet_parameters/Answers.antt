@@ -13,6 +13,6 @@ pub loop-parameter-preserved : goal.loop-parameter-preserved
 loop-parameter-preserved g c = (c.in_ok-meet_parameter.ensures.callable, met_more expressions_inside (CalledAt g.F.FnMut) in_parameter c.args.f.now c.loop-parameter.f c.meet_parameter.new.f c.args.parameters.now c.loop-parameter.parameter-index c.parameter-item.result c.loop-parameter-test.true c.parameter-item.is c.loop-parameter.invariant.1 c.in_ok-meet_parameter.ensures.met)
 
 pub returns-in_err-meet_parameter-clause-met : goal.returns-in_err-meet_parameter-clause-met
-returns-in_err-meet_parameter-clause-met g c = 
+returns-in_err-meet_parameter-clause-met g c =
     let same : c.from_residual.result ≡ Err c.in_err-meet_parameter.field-0.0 = search rules in
     rw same (met_refusal_at expressions_inside (CalledAt g.F.FnMut) in_parameter c.args.f.now c.loop-parameter.f c.meet_parameter.new.f c.in_err-meet_parameter.field-0.0 c.args.parameters.now c.loop-parameter.parameter-index c.parameter-item.result c.loop-parameter-test.true c.parameter-item.is c.loop-parameter.invariant.1 c.in_err-meet_parameter.ensures.met)
