@@ -1,10 +1,10 @@
 -- A visit that is deep or not, at one expression.
-use Rattle.std.proofs.Common.{◌≡◌, sym, subst, Bool, true, false, List, [], ◌∷◌, Result, Ok, Err}
+use Rattle.std.proofs.Common.{◌≡◌, sym, subst, Bool, true, false, List, Result, Ok}
 use Rattle.wgsl_path.specs.declared.span.Spanned.{Spanned}
 use Rattle.wgsl_expressions.specs.declared.expression.Expression.{Expression}
 use Rattle.wesl_visit.specs.Turns.{ChangedInTurn, changed_none, changed_refusal, changed_one, ChangedDeep, remade_none, remade_refusal_inside, remade_refusal, remade_one}
 use Rattle.wesl_visit.proofs.Turns.{nothing_changes}
-use Rattle.wesl_visit_expressions.specs.Expressions.{inside_by, around_by, expressions_in, around_expressions}
+use Rattle.wesl_visit_expressions.specs.Expressions.{inside_by, around_by, around_expressions}
 
 moved : {S N E : Type 0} (step : S → N → Result Unit E → S → N → Type 0) (s t u : S) (n m k : N) (r : Result Unit E) → s ≡ t → m ≡ n → step t m r u k → step s n r u k
 moved step s t u n m k r p q h = subst (λ x. step x n r u k) (sym p) (subst (λ x. step t x r u k) q h)

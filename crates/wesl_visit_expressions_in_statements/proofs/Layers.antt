@@ -17,7 +17,7 @@ use Rattle.wgsl_statements.specs.declared.statement.Statement.TheOpen.{Statement
 use Rattle.wgsl_statements.specs.declared.statement.Statement.TheVariants as code
 use Rattle.wesl_visit_expressions.specs.Expressions.{in_option, blank, around_node}
 use Rattle.wesl_visit_expressions.specs.Attributes.{in_attributes, around_attributes}
-use Rattle.wesl_visit_expressions_in_statements.specs.Statements.{in_marked, in_break_if, in_selector, in_node, in_block, in_else_if, in_clause, in_layer, around_break_if, around_selector, around_statement_node, around_block, around_else_if, around_else, around_clause, around_continuing, around_layer}
+use Rattle.wesl_visit_expressions_in_statements.specs.Statements.{in_marked, in_break_if, in_selector, in_node, in_block, in_else_if, in_clause, in_layer, around_break_if, around_selector, around_statement_node, around_block, around_else_if, around_clause, around_layer}
 
 map-map : {A B C : Type 0} (f : B → C) (h : A → B) (xs : List A) → map f (map h xs) ≡ map (λ x. f (h x)) xs
 map-map f h [] = refl

@@ -10,12 +10,21 @@ ghost use Rattle.std.specs.List.{flat_map};
 ghost use Rattle.std.specs.Option.{option_map};
 ghost use Rattle.wesl_visit_expressions_in_statements.specs.Statements.{in_marked, in_assignment, in_increment, in_decrement, in_break, in_continue, in_return, in_discard, in_call_statement, in_const_assert, in_declared, in_break_if, in_selector, in_node, in_block, in_else_if, in_else, in_if, in_clause, in_switch, in_continuing, in_optional_continuing, in_loop, in_part, in_for, in_while, expressions_in_statement, around_assignment, around_increment, around_decrement, around_break, around_continue, around_return, around_discard, around_call_statement, around_const_assert, around_declared, around_break_if, around_selector, around_statement_node, around_block, around_else_if, around_else, around_if, around_clause, around_switch, around_continuing, around_loop, around_for, around_while, around_expressions_in_statement};
 
-use wesl_visit_expressions::change::{change_attributes, change_call, change_node, change_option, change_optional_type};
+use wesl_visit_expressions::change::{
+    change_attributes, change_call, change_node, change_option, change_optional_type,
+};
 use wgsl_attributes::AttributeNode;
 use wgsl_expressions::ExpressionNode;
 use wgsl_items::Items;
-use wgsl_simple_statements::{AssignmentStatement, BreakIfStatement, BreakStatement, CaseSelector, ConstAssert, ContinueStatement, Declaration, DecrementStatement, DiscardStatement, FunctionCallStatement, IncrementStatement, ReturnStatement};
-use wgsl_statements::{CompoundStatement, ContinuingStatement, ElseClause, ElseIfClause, ForStatement, IfStatement, LoopStatement, Statement, StatementNode, SwitchClause, SwitchStatement, WhileStatement};
+use wgsl_simple_statements::{
+    AssignmentStatement, BreakIfStatement, BreakStatement, CaseSelector, ConstAssert,
+    ContinueStatement, Declaration, DecrementStatement, DiscardStatement, FunctionCallStatement,
+    IncrementStatement, ReturnStatement,
+};
+use wgsl_statements::{
+    CompoundStatement, ContinuingStatement, ElseClause, ElseIfClause, ForStatement, IfStatement,
+    LoopStatement, Statement, StatementNode, SwitchClause, SwitchStatement, WhileStatement,
+};
 
 /// Meets the expressions in attributes, and the one behind them.
 pub fn change_marked<E, F: FnMut(&mut ExpressionNode) -> Result<(), E>>(

@@ -6,11 +6,19 @@ ghost use Rattle.std.specs.List.{flat_map};
 ghost use Rattle.wesl_visit_expressions_in_statements.specs.Statements.{in_marked, in_assignment, in_return, in_call_statement, in_const_assert, in_declared, in_break_if, in_selector, in_node, in_block, in_else_if, in_else, in_if, in_clause, in_switch, in_continuing, in_optional_continuing, in_loop, in_part, in_for, in_while, expressions_in_statement};
 
 use std::alloc::AllocError;
-use wesl_visit_expressions::find::{find_attributes, find_call, find_node, find_option, find_optional_type};
+use wesl_visit_expressions::find::{
+    find_attributes, find_call, find_node, find_option, find_optional_type,
+};
 use wgsl_attributes::AttributeNode;
 use wgsl_expressions::ExpressionNode;
-use wgsl_simple_statements::{AssignmentStatement, BreakIfStatement, CaseSelector, ConstAssert, Declaration, FunctionCallStatement, ReturnStatement};
-use wgsl_statements::{CompoundStatement, ContinuingStatement, ElseClause, ElseIfClause, ForStatement, IfStatement, LoopStatement, Statement, StatementNode, SwitchClause, SwitchStatement, WhileStatement};
+use wgsl_simple_statements::{
+    AssignmentStatement, BreakIfStatement, CaseSelector, ConstAssert, Declaration,
+    FunctionCallStatement, ReturnStatement,
+};
+use wgsl_statements::{
+    CompoundStatement, ContinuingStatement, ElseClause, ElseIfClause, ForStatement, IfStatement,
+    LoopStatement, Statement, StatementNode, SwitchClause, SwitchStatement, WhileStatement,
+};
 
 /// Lists the expressions in attributes, and the one behind them.
 pub fn find_marked<'a>(
@@ -177,10 +185,7 @@ pub fn find_block<'a>(
 
 /// Lists the expressions in `if`.
 #[cycle(find)]
-fn find_if<'a>(
-    x: &'a IfStatement,
-    found: &mut Vec<&'a ExpressionNode>,
-) -> Result<(), AllocError>
+fn find_if<'a>(x: &'a IfStatement, found: &mut Vec<&'a ExpressionNode>) -> Result<(), AllocError>
     ensures { OnOk result (pointed found.new.items ≡ pointed found.old.items ++ (in_if expressions_in_statement x.now)) }
 {
     find_marked(&x.attributes.as_slice(), &x.if_clause.expression, found)?;
@@ -310,10 +315,7 @@ fn find_continuing<'a>(
 
 /// Lists the expressions in `for`.
 #[cycle(find)]
-fn find_for<'a>(
-    x: &'a ForStatement,
-    found: &mut Vec<&'a ExpressionNode>,
-) -> Result<(), AllocError>
+fn find_for<'a>(x: &'a ForStatement, found: &mut Vec<&'a ExpressionNode>) -> Result<(), AllocError>
     ensures { OnOk result (pointed found.new.items ≡ pointed found.old.items ++ (in_for expressions_in_statement x.now)) }
 {
     find_attributes(&x.attributes.as_slice(), found)?;

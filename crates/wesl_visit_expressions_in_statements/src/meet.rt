@@ -6,11 +6,19 @@ ghost use Rattle.std.specs.Fn.{CalledAt};
 ghost use Rattle.std.specs.List.{flat_map};
 ghost use Rattle.wesl_visit_expressions_in_statements.specs.Statements.{in_marked, in_assignment, in_return, in_call_statement, in_const_assert, in_declared, in_break_if, in_selector, in_node, in_block, in_else_if, in_else, in_if, in_clause, in_switch, in_continuing, in_optional_continuing, in_loop, in_part, in_for, in_while, expressions_in_statement};
 
-use wesl_visit_expressions::meet::{meet_attributes, meet_call, meet_node, meet_option, meet_optional_type};
+use wesl_visit_expressions::meet::{
+    meet_attributes, meet_call, meet_node, meet_option, meet_optional_type,
+};
 use wgsl_attributes::AttributeNode;
 use wgsl_expressions::ExpressionNode;
-use wgsl_simple_statements::{AssignmentStatement, BreakIfStatement, CaseSelector, ConstAssert, Declaration, FunctionCallStatement, ReturnStatement};
-use wgsl_statements::{CompoundStatement, ContinuingStatement, ElseClause, ElseIfClause, ForStatement, IfStatement, LoopStatement, Statement, StatementNode, SwitchClause, SwitchStatement, WhileStatement};
+use wgsl_simple_statements::{
+    AssignmentStatement, BreakIfStatement, CaseSelector, ConstAssert, Declaration,
+    FunctionCallStatement, ReturnStatement,
+};
+use wgsl_statements::{
+    CompoundStatement, ContinuingStatement, ElseClause, ElseIfClause, ForStatement, IfStatement,
+    LoopStatement, Statement, StatementNode, SwitchClause, SwitchStatement, WhileStatement,
+};
 
 /// Meets the expressions in attributes, and the one behind them.
 pub fn meet_marked<E, F: FnMut(&ExpressionNode) -> Result<(), E>>(

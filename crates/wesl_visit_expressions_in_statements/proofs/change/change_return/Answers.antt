@@ -5,7 +5,7 @@ use Rattle.std.specs.Fn.{CalledAtMut}
 use Rattle.wesl_visit_expressions_in_statements.proofs.change.change_return.Goals as goal
 
 pub returns-in_err-change_attributes-clause-changed : goal.returns-in_err-change_attributes-clause-changed
-returns-in_err-change_attributes-clause-changed g c = 
+returns-in_err-change_attributes-clause-changed g c =
     let same : c.from_residual.result ≡ Err c.in_err-change_attributes.field-0.0 = search rules in
     rw same (changed_refusal_first (inside_by c.args.deep) (around_by c.args.deep) (CalledAtMut g.F.FnMut) _ c.in_err-change_attributes.ensures.changed)
 

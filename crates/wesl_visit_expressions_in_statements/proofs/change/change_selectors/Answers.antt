@@ -20,7 +20,7 @@ loop-i-preserved g c = (
 )
 
 pub returns-in_err-change_selector-clause-changed : goal.returns-in_err-change_selector-clause-changed
-returns-in_err-change_selector-clause-changed g c = 
+returns-in_err-change_selector-clause-changed g c =
     let same : c.from_residual.result ≡ Err c.in_err-change_selector.field-0.0 = search rules in
     rw same (changed_refusal_at (inside_by c.args.deep) (around_by c.args.deep) (CalledAtMut g.F.FnMut) in_selector c.args.f.now c.loop-i.f c.change_selector.new.f c.in_err-change_selector.field-0.0 c.args.selectors.now c.loop-i.selectors c.loop-i.i c.get_mut.result.now c.change_selector.new.selector (search rules) c.loop-i.invariant.3 c.get_mut.ensures.value c.loop-i.invariant.4 c.loop-i.invariant.1 c.in_err-change_selector.ensures.changed)
 
