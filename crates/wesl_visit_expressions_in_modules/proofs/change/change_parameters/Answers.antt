@@ -1,0 +1,28 @@
+use Rattle.std.proofs.Common.{◌≡◌, ◌∙◌, rules, refl, Err, length-set}
+use Rattle.wesl_visit_expressions.specs.Expressions.{inside_by, around_by}
+use Rattle.wesl_visit.specs.Turns.{remade_none}
+use Rattle.wesl_visit.proofs.Lists.{map_stays, later_same}
+use Rattle.wesl_visit.proofs.Loops.{changed_more, changed_refusal_at}
+use Rattle.std.specs.Fn.{CalledAtMut}
+use Rattle.wesl_visit_expressions_in_modules.specs.Modules.{in_parameter, around_parameter}
+use Rattle.wesl_visit_expressions_in_modules.proofs.change.change_parameters.Goals as goal
+
+pub loop-i-init : goal.loop-i-init
+loop-i-init g c = (search rules, remade_none, refl, refl, λ k d le. refl)
+
+pub loop-i-preserved : goal.loop-i-preserved
+loop-i-preserved g c = (
+  c.in_ok-change_parameter.ensures.callable,
+  changed_more (inside_by c.args.deep) (around_by c.args.deep) (CalledAtMut g.F.FnMut) in_parameter c.args.f.now c.loop-i.f c.change_parameter.new.f c.args.parameters.now c.loop-i.parameters c.loop-i.i c.get_mut.result.now c.change_parameter.new.x (search rules) c.loop-i.invariant.3 c.get_mut.ensures.value c.loop-i.invariant.4 c.loop-i.invariant.1 c.in_ok-change_parameter.ensures.changed,
+  map_stays around_parameter c.loop-i.parameters c.loop-i.i c.get_mut.result.now c.change_parameter.new.x (search rules) c.get_mut.ensures.value (c.in_ok-change_parameter.ensures.rest) ∙ c.loop-i.invariant.2,
+  length-set c.loop-i.parameters c.loop-i.i c.change_parameter.new.x ∙ c.loop-i.invariant.3,
+  later_same c.args.parameters.now c.loop-i.parameters c.loop-i.i c.change_parameter.new.x c.loop-i.invariant.4,
+)
+
+pub returns-in_err-change_parameter-clause-changed : goal.returns-in_err-change_parameter-clause-changed
+returns-in_err-change_parameter-clause-changed g c =
+    let same : c.from_residual.result ≡ Err c.in_err-change_parameter.field-0.0 = search rules in
+    rw same (changed_refusal_at (inside_by c.args.deep) (around_by c.args.deep) (CalledAtMut g.F.FnMut) in_parameter c.args.f.now c.loop-i.f c.change_parameter.new.f c.in_err-change_parameter.field-0.0 c.args.parameters.now c.loop-i.parameters c.loop-i.i c.get_mut.result.now c.change_parameter.new.x (search rules) c.loop-i.invariant.3 c.get_mut.ensures.value c.loop-i.invariant.4 c.loop-i.invariant.1 c.in_err-change_parameter.ensures.changed)
+
+pub returns-in_err-change_parameter-clause-rest : goal.returns-in_err-change_parameter-clause-rest
+returns-in_err-change_parameter-clause-rest g c = map_stays around_parameter c.loop-i.parameters c.loop-i.i c.get_mut.result.now c.change_parameter.new.x (search rules) c.get_mut.ensures.value (c.in_err-change_parameter.ensures.rest) ∙ c.loop-i.invariant.2

@@ -1,0 +1,18 @@
+use Rattle.std.proofs.Common.{◌≡◌, rules, Err}
+use Rattle.wesl_visit_expressions.specs.Expressions.{inside_by, around_by}
+use Rattle.wesl_visit.proofs.Turns.{changed_both, changed_refusal_first}
+use Rattle.std.specs.Fn.{CalledAtMut}
+use Rattle.wesl_visit_expressions_in_modules.proofs.change.change_unit.Goals as goal
+
+pub returns-in_err-change_imports-clause-changed : goal.returns-in_err-change_imports-clause-changed
+returns-in_err-change_imports-clause-changed g c =
+    let same : c.from_residual.result ≡ Err c.in_err-change_imports.field-0.0 = search rules in
+    rw same (changed_refusal_first (inside_by c.args.deep) (around_by c.args.deep) (CalledAtMut g.F.FnMut) _ c.in_err-change_imports.ensures.changed)
+
+pub returns-in_err-change_directives-clause-changed : goal.returns-in_err-change_directives-clause-changed
+returns-in_err-change_directives-clause-changed g c =
+    let same : c.from_residual-in_err-change_directives.result ≡ Err c.in_err-change_directives.field-0.0 = search rules in
+    rw same (changed_both (inside_by c.args.deep) (around_by c.args.deep) (CalledAtMut g.F.FnMut) c.in_ok-change_imports.ensures.changed (changed_refusal_first (inside_by c.args.deep) (around_by c.args.deep) (CalledAtMut g.F.FnMut) _ c.in_err-change_directives.ensures.changed))
+
+pub returns-clause-changed : goal.returns-clause-changed
+returns-clause-changed g c = changed_both (inside_by c.args.deep) (around_by c.args.deep) (CalledAtMut g.F.FnMut) c.in_ok-change_imports.ensures.changed (changed_both (inside_by c.args.deep) (around_by c.args.deep) (CalledAtMut g.F.FnMut) c.in_ok-change_directives.ensures.changed c.change_declarations.ensures.changed)

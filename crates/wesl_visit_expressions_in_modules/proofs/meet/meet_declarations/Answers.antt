@@ -1,0 +1,18 @@
+use Rattle.std.proofs.Common.{◌≡◌, rules, Err}
+use Rattle.wesl_visit_expressions.specs.Expressions.{expressions_inside}
+use Rattle.wesl_visit.specs.Turns.{deep_none}
+use Rattle.wesl_visit.proofs.Loops.{met_more, met_refusal_at}
+use Rattle.std.specs.Fn.{CalledAt}
+use Rattle.wesl_visit_expressions_in_modules.specs.Modules.{in_declaration_node}
+use Rattle.wesl_visit_expressions_in_modules.proofs.meet.meet_declarations.Goals as goal
+
+pub loop-declaration-init : goal.loop-declaration-init
+loop-declaration-init g c = (search rules, deep_none)
+
+pub loop-declaration-preserved : goal.loop-declaration-preserved
+loop-declaration-preserved g c = (c.in_ok-meet_declaration.ensures.callable, met_more expressions_inside (CalledAt g.F.FnMut) in_declaration_node c.args.f.now c.loop-declaration.f c.meet_declaration.new.f c.args.declarations.now c.loop-declaration.declaration-index c.declaration-item.result c.loop-declaration-test.true c.declaration-item.is c.loop-declaration.invariant.1 (rw c.node.ensures at c.in_ok-meet_declaration.ensures.met))
+
+pub returns-in_err-meet_declaration-clause-met : goal.returns-in_err-meet_declaration-clause-met
+returns-in_err-meet_declaration-clause-met g c =
+    let same : c.from_residual.result ≡ Err c.in_err-meet_declaration.field-0.0 = search rules in
+    rw same (met_refusal_at expressions_inside (CalledAt g.F.FnMut) in_declaration_node c.args.f.now c.loop-declaration.f c.meet_declaration.new.f c.in_err-meet_declaration.field-0.0 c.args.declarations.now c.loop-declaration.declaration-index c.declaration-item.result c.loop-declaration-test.true c.declaration-item.is c.loop-declaration.invariant.1 (rw c.node.ensures at c.in_err-meet_declaration.ensures.met))

@@ -1,0 +1,13 @@
+use Rattle.std.proofs.Common.{◌≡◌, rules, Err}
+use Rattle.wesl_visit_expressions.specs.Expressions.{expressions_inside}
+use Rattle.wesl_visit.proofs.Turns.{met_both, met_refusal_first}
+use Rattle.std.specs.Fn.{CalledAt}
+use Rattle.wesl_visit_expressions_in_modules.proofs.meet.meet_typed.Goals as goal
+
+pub returns-in_err-meet_attributes-clause-met : goal.returns-in_err-meet_attributes-clause-met
+returns-in_err-meet_attributes-clause-met g c =
+    let same : c.from_residual.result ≡ Err c.in_err-meet_attributes.field-0.0 = search rules in
+    rw same (met_refusal_first expressions_inside (CalledAt g.F.FnMut) _ c.in_err-meet_attributes.ensures.met)
+
+pub returns-clause-met : goal.returns-clause-met
+returns-clause-met g c = met_both expressions_inside (CalledAt g.F.FnMut) c.in_ok-meet_attributes.ensures.met c.meet_type.ensures.met

@@ -1,0 +1,18 @@
+use Rattle.std.proofs.Common.{◌≡◌, rules, Err}
+use Rattle.wesl_visit_expressions.specs.Expressions.{expressions_inside}
+use Rattle.wesl_visit.proofs.Turns.{met_both, met_refusal_first}
+use Rattle.std.specs.Fn.{CalledAt}
+use Rattle.wesl_visit_expressions_in_statements.proofs.meet.meet_assignment.Goals as goal
+
+pub returns-in_err-meet_attributes-clause-met : goal.returns-in_err-meet_attributes-clause-met
+returns-in_err-meet_attributes-clause-met g c =
+    let same : c.from_residual.result ≡ Err c.in_err-meet_attributes.field-0.0 = search rules in
+    rw same (met_refusal_first expressions_inside (CalledAt g.F.FnMut) _ (rw c.as_slice.ensures at c.in_err-meet_attributes.ensures.met))
+
+pub returns-in_err-meet_node-clause-met : goal.returns-in_err-meet_node-clause-met
+returns-in_err-meet_node-clause-met g c =
+    let same : c.from_residual-in_err-meet_node.result ≡ Err c.in_err-meet_node.field-0.0 = search rules in
+    rw same (met_both expressions_inside (CalledAt g.F.FnMut) (rw c.as_slice.ensures at c.in_ok-meet_attributes.ensures.met) (met_refusal_first expressions_inside (CalledAt g.F.FnMut) _ c.in_err-meet_node.ensures.met))
+
+pub returns-clause-met : goal.returns-clause-met
+returns-clause-met g c = met_both expressions_inside (CalledAt g.F.FnMut) (rw c.as_slice.ensures at c.in_ok-meet_attributes.ensures.met) (met_both expressions_inside (CalledAt g.F.FnMut) c.in_ok-meet_node.ensures.met (c.meet_node-2.ensures.met))
