@@ -35,7 +35,7 @@ use Rattle.wgsl_statements.specs.declared.statement.Statement.{Statement}
 use Rattle.wgsl_statements.specs.declared.statement.Statement.TheVariants.{Void, Compound, Assignment, Increment, Decrement, If, Switch, Loop, For, While, Break, Continue, Return, Discard, FunctionCall, ConstAssert as Assert, Declaration as Value}
 use Rattle.wgsl_statements.specs.Tree.{Stm, simple, compound_statement, if_statement, switch_statement, loop_statement, for_statement, while_statement}
 use Rattle.wgsl_statements.specs.View.{stms, part, nodes_layer, else_layer, elses_layer, if_layer, clauses_layer, switch_layer, continuing_layer, loop_layer, for_layer, while_layer, statement_tree, statements_tree, block_tree}
-use Rattle.wgsl_statements.specs.Print.{braced, opening, closing, and_more, head_text, break_line, end_text, behind_text, bare_text, stms_text, block_text, extended_text, elses_text, clauses_text, continuing_text, part_text, lines_text}
+use Rattle.wgsl_statements.specs.Print.{braced, opening, closing, head_text, condition_text, header_text, break_line, end_text, behind_text, bare_text, stms_text, block_text, extended_text, elses_text, clauses_text, continuing_text, part_text, lines_text}
 use Rattle.wgsl_statements.proofs.Trees.{tree_of_void, tree_of_compound, tree_of_assignment, tree_of_increment, tree_of_decrement, tree_of_if, tree_of_switch, tree_of_loop, tree_of_for, tree_of_while, tree_of_break, tree_of_continue, tree_of_return, tree_of_discard, tree_of_call, tree_of_assertion, tree_of_value}
 
 pub text_of_void : (level : ℕ) → part_text level (part (statement_tree Void)) ≡ []
@@ -217,57 +217,123 @@ pieces level lines b e = of_lines lines ∙ ap (λ b. opening b ++ lines ++ clos
     of_lines [] = refl
     of_lines (c ∷ cs) = append_assoc (codes "{\n" ++ (c ∷ cs)) (indent level) (codes "}")
 
-pub block_pieces : (level : ℕ) (ns : List (Spanned Statement)) (b : Bool) → b ≡ list_any (λ n. is_some (statement_tree n.node)) ns
-    → braced level (stms_text (level + 1) (statements_tree ns)) ≡ opening b ++ flat_map (λ n. lines_text (level + 1) (statement_tree n.node)) ns ++ closing level b
-block_pieces level ns b e =
-    pieces level (stms_text (level + 1) (statements_tree ns)) b (filled_statements (level + 1) statement_tree ns ∙ sym e)
-    ∙ ap (λ t. opening b ++ t ++ closing level b) (stms_flat (level + 1) statement_tree ns)
+-- pieces one behind the other
+left : (xs ys zs : List ℕ) → xs ++ (ys ++ zs) ≡ xs ++ ys ++ zs
+left xs ys zs = sym (append_assoc xs ys zs)
 
-extended : (level : ℕ) (ns : List (Spanned Statement)) (more : List ℕ) (b c : Bool) → is_filled more ≡ b
-    → c ≡ (list_any (λ n. is_some (statement_tree n.node)) ns || b)
-    → braced level (stms_text (level + 1) (statements_tree ns) ++ more)
-    ≡ opening c ++ and_more (flat_map (λ n. lines_text (level + 1) (statement_tree n.node)) ns) more ++ closing level c
-unfolding and_more
-extended level ns more b c e same =
+left_of_three : (xs as bs cs : List ℕ) → xs ++ (as ++ bs ++ cs) ≡ xs ++ as ++ bs ++ cs
+left_of_three xs as bs cs = left xs (as ++ bs) cs ∙ ap (λ t. t ++ cs) (left xs as bs)
+
+left_of_four : (xs as bs cs ds : List ℕ) → xs ++ (as ++ bs ++ cs ++ ds) ≡ xs ++ as ++ bs ++ cs ++ ds
+left_of_four xs as bs cs ds = left xs (as ++ bs ++ cs) ds ∙ ap (λ t. t ++ ds) (left_of_three xs as bs cs)
+
+pub block_whole : (level : ℕ) (x : CompoundStatementOf Statement)
+    → block_text level (block_tree x)
+    ≡ attrs_text (attributes_tree x.attributes) ++ opening (list_any (λ n. is_some (statement_tree n.node)) x.statements)
+    ++ flat_map (λ n. lines_text (level + 1) (statement_tree n.node)) x.statements ++ closing level (list_any (λ n. is_some (statement_tree n.node)) x.statements)
+block_whole level x =
+    let attributes = attrs_text (attributes_tree x.attributes) in
+    let b = list_any (λ n. is_some (statement_tree n.node)) x.statements in
+    let lines = stms_text (level + 1) (statements_tree x.statements) in
+    ap (λ t. attributes ++ t) (pieces level lines b (filled_statements (level + 1) statement_tree x.statements))
+    ∙ ap (λ t. attributes ++ (opening b ++ t ++ closing level b)) (stms_flat (level + 1) statement_tree x.statements)
+    ∙ left_of_three attributes (opening b) (flat_map (λ n. lines_text (level + 1) (statement_tree n.node)) x.statements) (closing level b)
+
+extended : (level : ℕ) (ns : List (Spanned Statement)) (more : List ℕ) (b : Bool) → is_filled more ≡ b
+    → let c = list_any (λ n. is_some (statement_tree n.node)) ns || b in
+    braced level (stms_text (level + 1) (statements_tree ns) ++ more)
+    ≡ opening c ++ flat_map (λ n. lines_text (level + 1) (statement_tree n.node)) ns ++ more ++ closing level c
+extended level ns more b e =
     let lines = stms_text (level + 1) (statements_tree ns) in
-    pieces level (lines ++ more) c (filled_more lines more ∙ (λ k. filled_statements (level + 1) statement_tree ns k || e k) ∙ sym same)
+    let c = list_any (λ n. is_some (statement_tree n.node)) ns || b in
+    pieces level (lines ++ more) c (filled_more lines more ∙ (λ k. filled_statements (level + 1) statement_tree ns k || e k))
     ∙ ap (λ t. opening c ++ (t ++ more) ++ closing level c) (stms_flat (level + 1) statement_tree ns)
+    ∙ ap (λ t. t ++ closing level c) (left (opening c) (flat_map (λ n. lines_text (level + 1) (statement_tree n.node)) ns) more)
 
-pub loop_pieces : (level : ℕ) (x : LoopStatementOf Statement) (b : Bool) → b ≡ (list_any (λ n. is_some (statement_tree n.node)) x.body.statements || is_some x.continuing)
-    → let more = continuing_text (level + 1) (continuing_layer statement_tree x.continuing) in
-    braced level (stms_text (level + 1) (statements_tree x.body.statements) ++ more)
-    ≡ opening b ++ and_more (flat_map (λ n. lines_text (level + 1) (statement_tree n.node)) x.body.statements) more ++ closing level b
-loop_pieces level x b e =
-    extended level x.body.statements (continuing_text (level + 1) (continuing_layer statement_tree x.continuing)) (is_some x.continuing) b
-    (filled_continuing (level + 1) x.continuing) e
+pub loop_whole : (level : ℕ) (x : LoopStatementOf Statement)
+    → let b = list_any (λ n. is_some (statement_tree n.node)) x.body.statements || is_some x.continuing in
+    bare_text level (loop_layer statement_tree x)
+    ≡ attrs_text (attributes_tree x.attributes) ++ codes "loop " ++ attrs_text (attributes_tree x.body.attributes) ++ opening b
+    ++ flat_map (λ n. lines_text (level + 1) (statement_tree n.node)) x.body.statements
+    ++ continuing_text (level + 1) (continuing_layer statement_tree x.continuing) ++ closing level b
+loop_whole level x =
+    let b = list_any (λ n. is_some (statement_tree n.node)) x.body.statements || is_some x.continuing in
+    let front = attrs_text (attributes_tree x.attributes) ++ codes "loop " in
+    let attributes = attrs_text (attributes_tree x.body.attributes) in
+    let more = continuing_text (level + 1) (continuing_layer statement_tree x.continuing) in
+    ap (λ t. front ++ (attributes ++ t)) (extended level x.body.statements more (is_some x.continuing) (filled_continuing (level + 1) x.continuing))
+    ∙ left front attributes (opening b ++ flat_map (λ n. lines_text (level + 1) (statement_tree n.node)) x.body.statements ++ more ++ closing level b)
+    ∙ left_of_four (front ++ attributes) (opening b) (flat_map (λ n. lines_text (level + 1) (statement_tree n.node)) x.body.statements) more (closing level b)
 
-pub continuing_pieces : (level : ℕ) (x : ContinuingStatementOf Statement) (b : Bool) → b ≡ (list_any (λ n. is_some (statement_tree n.node)) x.body.statements || is_some x.break_if)
-    → let more = break_line (level + 1) (option_map break_if_tree x.break_if) in
-    braced level (stms_text (level + 1) (statements_tree x.body.statements) ++ more)
-    ≡ opening b ++ and_more (flat_map (λ n. lines_text (level + 1) (statement_tree n.node)) x.body.statements) more ++ closing level b
-continuing_pieces level x b e =
-    extended level x.body.statements (break_line (level + 1) (option_map break_if_tree x.break_if)) (is_some x.break_if) b
-    (filled_break (level + 1) x.break_if) e
+pub continuing_whole : (level : ℕ) (x : ContinuingStatementOf Statement)
+    → let b = list_any (λ n. is_some (statement_tree n.node)) x.body.statements || is_some x.break_if in
+    continuing_text level (continuing_layer statement_tree (Some x))
+    ≡ indent level ++ attrs_text (attributes_tree x.attributes) ++ codes "continuing " ++ attrs_text (attributes_tree x.body.attributes) ++ opening b
+    ++ flat_map (λ n. lines_text (level + 1) (statement_tree n.node)) x.body.statements
+    ++ break_line (level + 1) (option_map break_if_tree x.break_if) ++ closing level b ++ codes "\n"
+continuing_whole level x =
+    let b = list_any (λ n. is_some (statement_tree n.node)) x.body.statements || is_some x.break_if in
+    let front = attrs_text (attributes_tree x.attributes) in
+    let word = codes "continuing " in
+    let attributes = attrs_text (attributes_tree x.body.attributes) in
+    let more = break_line (level + 1) (option_map break_if_tree x.break_if) in
+    let lines = flat_map (λ n. lines_text (level + 1) (statement_tree n.node)) x.body.statements in
+    let inner = opening b ++ lines ++ more ++ closing level b in
+    ap (λ t. indent level ++ (front ++ (word ++ (attributes ++ t))) ++ codes "\n") (extended level x.body.statements more (is_some x.break_if) (filled_break (level + 1) x.break_if))
+    ∙ ap (λ t. t ++ codes "\n")
+        (left (indent level) front (word ++ (attributes ++ inner)) ∙ left (indent level ++ front) word (attributes ++ inner)
+        ∙ left (indent level ++ front ++ word) attributes inner
+        ∙ left_of_four (indent level ++ front ++ word ++ attributes) (opening b) lines more (closing level b))
 
-pub clauses_pieces : (level : ℕ) (cs : List (SwitchClauseOf Statement)) (b : Bool) → b ≡ not (length cs == 0)
-    → braced level (clauses_text (level + 1) (clauses_layer statement_tree cs))
-    ≡ opening b ++ flat_map (λ c. indent (level + 1) ++ (case_head (map selector_tree c.case_selectors) ++ codes ": " ++ block_text (level + 1) (block_tree c.body)) ++ codes "\n") cs ++ closing level b
-clauses_pieces level cs b e =
-    pieces level (clauses_text (level + 1) (clauses_layer statement_tree cs)) b (filled_clauses (level + 1) cs ∙ sym e)
-    ∙ ap (λ t. opening b ++ t ++ closing level b) (flat (level + 1) cs)
+pub switch_whole : (level : ℕ) (x : SwitchStatementOf Statement)
+    → let b = not (length x.clauses == 0) in
+    bare_text level (switch_layer statement_tree x)
+    ≡ attrs_text (attributes_tree x.attributes) ++ head_text (codes "switch ") (node_tree x.expression) ++ attrs_text (attributes_tree x.body_attributes) ++ opening b
+    ++ flat_map (λ c. indent (level + 1) ++ case_head (map selector_tree c.case_selectors) ++ codes ": " ++ block_text (level + 1) (block_tree c.body) ++ codes "\n") x.clauses ++ closing level b
+switch_whole level x =
+    let b = not (length x.clauses == 0) in
+    let front = attrs_text (attributes_tree x.attributes) ++ head_text (codes "switch ") (node_tree x.expression) ++ attrs_text (attributes_tree x.body_attributes) in
+    ap (λ t. front ++ t) (pieces level (clauses_text (level + 1) (clauses_layer statement_tree x.clauses)) b (filled_clauses (level + 1) x.clauses))
+    ∙ ap (λ t. front ++ (opening b ++ t ++ closing level b)) (flat (level + 1) x.clauses)
+    ∙ left_of_three front (opening b) (flat_map (λ c. one (level + 1) c) x.clauses) (closing level b)
   where
-    flat : (level : ℕ) (cs : List (SwitchClauseOf Statement))
-        → clauses_text level (clauses_layer statement_tree cs)
-        ≡ flat_map (λ c. indent level ++ (case_head (map selector_tree c.case_selectors) ++ codes ": " ++ block_text level (block_tree c.body)) ++ codes "\n") cs
+    one : ℕ → SwitchClauseOf Statement → List ℕ
+    one level c = indent level ++ case_head (map selector_tree c.case_selectors) ++ codes ": " ++ block_text level (block_tree c.body) ++ codes "\n"
+    flat : (level : ℕ) (cs : List (SwitchClauseOf Statement)) → clauses_text level (clauses_layer statement_tree cs) ≡ flat_map (λ c. one level c) cs
     flat level [] = refl
     flat level (c ∷ cs) =
-        ap (λ t. (indent level ++ (case_head (map selector_tree c.case_selectors) ++ codes ": " ++ block_text level (block_tree c.body)) ++ codes "\n") ++ t) (flat level cs)
+        (λ k. (left_of_three (indent level) (case_head (map selector_tree c.case_selectors)) (codes ": ") (block_text level (block_tree c.body)) k ++ codes "\n") ++ flat level cs k)
 
-pub elses_flat : (level : ℕ) (cs : List (ElseIfClauseOf Statement)) (last : Option (ElseClauseOf Statement))
-    → elses_text level (elses_layer statement_tree cs last)
-    ≡ flat_map (λ c. codes " " ++ (head_text (codes "else if ") (node_tree c.expression) ++ block_text level (block_tree c.body))) cs ++ elses_text level (else_layer statement_tree last)
-elses_flat level [] last = refl
-elses_flat level (c ∷ cs) last =
-    let one = codes " " ++ (head_text (codes "else if ") (node_tree c.expression) ++ block_text level (block_tree c.body)) in
-    let more = flat_map (λ c. codes " " ++ (head_text (codes "else if ") (node_tree c.expression) ++ block_text level (block_tree c.body))) cs in
-    ap (λ t. one ++ t) (elses_flat level cs last) ∙ sym (append_assoc one more (elses_text level (else_layer statement_tree last)))
+pub if_whole : (level : ℕ) (x : IfStatementOf Statement)
+    → bare_text level (if_layer statement_tree x)
+    ≡ attrs_text (attributes_tree x.attributes) ++ head_text (codes "if ") (node_tree x.if_clause.expression) ++ block_text level (block_tree x.if_clause.body)
+    ++ flat_map (λ c. codes " " ++ head_text (codes "else if ") (node_tree c.expression) ++ block_text level (block_tree c.body)) x.else_if_clauses
+    ++ elses_text level (else_layer statement_tree x.else_clause)
+if_whole level x =
+    let front = attrs_text (attributes_tree x.attributes) ++ head_text (codes "if ") (node_tree x.if_clause.expression) ++ block_text level (block_tree x.if_clause.body) in
+    ap (λ t. front ++ t) (flat x.else_if_clauses)
+    ∙ left front (flat_map one x.else_if_clauses) (elses_text level (else_layer statement_tree x.else_clause))
+  where
+    one : ElseIfClauseOf Statement → List ℕ
+    one c = codes " " ++ head_text (codes "else if ") (node_tree c.expression) ++ block_text level (block_tree c.body)
+    flat : (cs : List (ElseIfClauseOf Statement)) → elses_text level (elses_layer statement_tree cs x.else_clause) ≡ flat_map one cs ++ elses_text level (else_layer statement_tree x.else_clause)
+    flat [] = refl
+    flat (c ∷ cs) = ap (λ t. one c ++ t) (flat cs) ∙ left (one c) (flat_map one cs) (elses_text level (else_layer statement_tree x.else_clause))
+
+pub for_whole : (level : ℕ) (x : ForStatementOf Statement)
+    → bare_text level (for_layer statement_tree x)
+    ≡ attrs_text (attributes_tree x.attributes) ++ codes "for (" ++ part_text level (part_layer statement_tree x.initializer) ++ codes "; "
+    ++ condition_text (option_map node_tree x.condition) ++ codes "; " ++ part_text level (part_layer statement_tree x.update) ++ codes ") " ++ block_text level (block_tree x.body)
+unfolding header_text
+for_whole level x =
+    let front = attrs_text (attributes_tree x.attributes) in
+    let first = part_text level (part_layer statement_tree x.initializer) in
+    let condition = condition_text (option_map node_tree x.condition) in
+    let update = part_text level (part_layer statement_tree x.update) in
+    ap (λ t. t ++ block_text level (block_tree x.body))
+        (left front (codes "for (" ++ first ++ codes "; " ++ condition ++ codes "; " ++ update) (codes ") ")
+        ∙ ap (λ t. t ++ codes ") ")
+            (left front (codes "for (" ++ first ++ codes "; " ++ condition ++ codes "; ") update
+            ∙ ap (λ t. t ++ update)
+                (left_of_three front (codes "for (" ++ first ++ codes "; ") condition (codes "; ")
+                ∙ ap (λ t. t ++ condition ++ codes "; ") (left_of_three front (codes "for (") first (codes "; ")))))

@@ -20,10 +20,6 @@ opening filled = if filled then codes "{\n" else codes "{"
 abbrev pub closing : ℕ → Bool → List ℕ
 closing level filled = if filled then (indent level ++ codes "}") else codes "}"
 
--- lines, and further lines behind them
-unfoldable pub and_more : List ℕ → List ℕ → List ℕ
-and_more lines more = lines ++ more
-
 -- a word and an expression, up to what is in braces
 unfoldable pub head_text : List ℕ → Exp → List ℕ
 head_text word x = word ++ exp_text x ++ codes " "

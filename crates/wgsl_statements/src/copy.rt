@@ -37,13 +37,6 @@ fn copied(statement: &Statement, alloc: Global) -> Result<Statement, AllocError>
 }
 
 #[cycle(copy)]
-fn copied_node(node: &StatementNode, alloc: Global) -> Result<StatementNode, AllocError>
-    ensures { IfOk result (λ copy. copy ≡ node.now) }
-{
-    Spanned::new(alloc, copied(node.node(), alloc)?, node.span)
-}
-
-#[cycle(copy)]
 fn copied_compound(x: &CompoundStatement, alloc: Global) -> Result<CompoundStatement, AllocError>
     ensures { IfOk result (λ copy. copy ≡ x.now) }
 {
@@ -59,7 +52,8 @@ fn copied_nodes(nodes: &[StatementNode], alloc: Global) -> Result<Items<Statemen
 {
     let mut copies = Items::new(alloc);
     for node in nodes {
-        copies.push(copied_node(node, alloc)?)?;
+        let copy = copied(node.node(), alloc)?;
+        copies.push(Spanned::new(alloc, copy, node.span)?)?;
     }
     Ok(copies)
 }
@@ -70,21 +64,19 @@ fn copied_if(x: &IfStatement, alloc: Global) -> Result<Boxed<IfStatement>, Alloc
 {
     let copy = IfStatement {
         attributes: x.attributes.clone_in(alloc)?,
-        if_clause: copied_if_clause(&x.if_clause, alloc)?,
+        if_clause: IfClause {
+            expression: x.if_clause.expression.clone_in(alloc)?,
+            body: copied_compound(&x.if_clause.body, alloc)?,
+        },
         else_if_clauses: copied_else_ifs(x.else_if_clauses.as_slice(), alloc)?,
-        else_clause: copied_else(&x.else_clause, alloc)?,
+        else_clause: match &x.else_clause {
+            None => None,
+            Some(clause) => Some(ElseClause {
+                body: copied_compound(&clause.body, alloc)?,
+            }),
+        },
     };
     Boxed::new(alloc, copy)
-}
-
-#[cycle(copy)]
-fn copied_if_clause(x: &IfClause, alloc: Global) -> Result<IfClause, AllocError>
-    ensures { IfOk result (λ copy. copy ≡ x.now) }
-{
-    Ok(IfClause {
-        expression: x.expression.clone_in(alloc)?,
-        body: copied_compound(&x.body, alloc)?,
-    })
 }
 
 #[cycle(copy)]
@@ -96,31 +88,12 @@ fn copied_else_ifs(
 {
     let mut copies = Items::new(alloc);
     for clause in clauses {
-        copies.push(copied_else_if(clause, alloc)?)?;
+        copies.push(ElseIfClause {
+            expression: clause.expression.clone_in(alloc)?,
+            body: copied_compound(&clause.body, alloc)?,
+        })?;
     }
     Ok(copies)
-}
-
-#[cycle(copy)]
-fn copied_else_if(x: &ElseIfClause, alloc: Global) -> Result<ElseIfClause, AllocError>
-    ensures { IfOk result (λ copy. copy ≡ x.now) }
-{
-    Ok(ElseIfClause {
-        expression: x.expression.clone_in(alloc)?,
-        body: copied_compound(&x.body, alloc)?,
-    })
-}
-
-#[cycle(copy)]
-fn copied_else(clause: &Option<ElseClause>, alloc: Global) -> Result<Option<ElseClause>, AllocError>
-    ensures { IfOk result (λ copy. copy ≡ clause.now) }
-{
-    match clause {
-        None => Ok(None),
-        Some(clause) => Ok(Some(ElseClause {
-            body: copied_compound(&clause.body, alloc)?,
-        })),
-    }
 }
 
 #[cycle(copy)]
@@ -145,19 +118,12 @@ fn copied_clauses(
 {
     let mut copies = Items::new(alloc);
     for clause in clauses {
-        copies.push(copied_clause(clause, alloc)?)?;
+        copies.push(SwitchClause {
+            case_selectors: clause.case_selectors.clone_in(alloc)?,
+            body: copied_compound(&clause.body, alloc)?,
+        })?;
     }
     Ok(copies)
-}
-
-#[cycle(copy)]
-fn copied_clause(x: &SwitchClause, alloc: Global) -> Result<SwitchClause, AllocError>
-    ensures { IfOk result (λ copy. copy ≡ x.now) }
-{
-    Ok(SwitchClause {
-        case_selectors: x.case_selectors.clone_in(alloc)?,
-        body: copied_compound(&x.body, alloc)?,
-    })
 }
 
 #[cycle(copy)]
@@ -167,36 +133,16 @@ fn copied_loop(x: &LoopStatement, alloc: Global) -> Result<Boxed<LoopStatement>,
     let copy = LoopStatement {
         attributes: x.attributes.clone_in(alloc)?,
         body: copied_compound(&x.body, alloc)?,
-        continuing: copied_continuing(&x.continuing, alloc)?,
+        continuing: match &x.continuing {
+            None => None,
+            Some(continuing) => Some(ContinuingStatement {
+                attributes: continuing.attributes.clone_in(alloc)?,
+                body: copied_compound(&continuing.body, alloc)?,
+                break_if: continuing.break_if.clone_in(alloc)?,
+            }),
+        },
     };
     Boxed::new(alloc, copy)
-}
-
-#[cycle(copy)]
-fn copied_continuing(
-    continuing: &Option<ContinuingStatement>,
-    alloc: Global,
-) -> Result<Option<ContinuingStatement>, AllocError>
-    ensures { IfOk result (λ copy. copy ≡ continuing.now) }
-{
-    match continuing {
-        None => Ok(None),
-        Some(x) => Ok(Some(copied_present_continuing(x, alloc)?)),
-    }
-}
-
-#[cycle(copy)]
-fn copied_present_continuing(
-    x: &ContinuingStatement,
-    alloc: Global,
-) -> Result<ContinuingStatement, AllocError>
-    ensures { IfOk result (λ copy. copy ≡ x.now) }
-{
-    Ok(ContinuingStatement {
-        attributes: x.attributes.clone_in(alloc)?,
-        body: copied_compound(&x.body, alloc)?,
-        break_if: x.break_if.clone_in(alloc)?,
-    })
 }
 
 #[cycle(copy)]
@@ -222,7 +168,10 @@ fn copied_part(
 {
     match statement {
         None => Ok(None),
-        Some(statement) => Ok(Some(copied_node(statement, alloc)?)),
+        Some(node) => {
+            let copy = copied(node.node(), alloc)?;
+            Ok(Some(Spanned::new(alloc, copy, node.span)?))
+        }
     }
 }
 
@@ -252,25 +201,38 @@ impl CloneIn for CompoundStatement {
 
 impl CloneIn for IfClause {
     fn clone_in(&self, alloc: Global) -> Result<IfClause, AllocError> {
-        copied_if_clause(self, alloc)
+        Ok(IfClause {
+            expression: self.expression.clone_in(alloc)?,
+            body: self.body.clone_in(alloc)?,
+        })
     }
 }
 
 impl CloneIn for ElseIfClause {
     fn clone_in(&self, alloc: Global) -> Result<ElseIfClause, AllocError> {
-        copied_else_if(self, alloc)
+        Ok(ElseIfClause {
+            expression: self.expression.clone_in(alloc)?,
+            body: self.body.clone_in(alloc)?,
+        })
     }
 }
 
 impl CloneIn for SwitchClause {
     fn clone_in(&self, alloc: Global) -> Result<SwitchClause, AllocError> {
-        copied_clause(self, alloc)
+        Ok(SwitchClause {
+            case_selectors: self.case_selectors.clone_in(alloc)?,
+            body: self.body.clone_in(alloc)?,
+        })
     }
 }
 
 impl CloneIn for ContinuingStatement {
     fn clone_in(&self, alloc: Global) -> Result<ContinuingStatement, AllocError> {
-        copied_present_continuing(self, alloc)
+        Ok(ContinuingStatement {
+            attributes: self.attributes.clone_in(alloc)?,
+            body: self.body.clone_in(alloc)?,
+            break_if: self.break_if.clone_in(alloc)?,
+        })
     }
 }
 

@@ -9,14 +9,15 @@ ghost use Rattle.wgsl_statements.specs.View.{statement_tree, block_tree, if_laye
 ghost use Rattle.wgsl_statements.specs.Print.{head_text, block_text, continuing_text, stm_text, lines_text};
 
 use crate::print::{
-    write_block, write_clause, write_continuing_lines, write_else_if, write_for, write_head,
-    write_if, write_loop, write_statement, write_switch, write_while,
+    write_block, write_continuing, write_for, write_head, write_if, write_loop, write_statement,
+    write_switch, write_while,
 };
 use crate::statement::{
     CompoundStatement, ContinuingStatement, ElseClause, ElseIfClause, ForStatement, IfClause,
     IfStatement, LoopStatement, Statement, SwitchClause, SwitchStatement, WhileStatement,
 };
 use std::fmt;
+use wgsl_simple_statements::write_case_head;
 
 impl fmt::Display for Statement {
     ghost output = { λ x. Some (lines_text 0 (statement_tree x)) };
@@ -83,7 +84,7 @@ impl fmt::Display for ContinuingStatement {
     ghost output = { λ x. Some (continuing_text 0 (continuing_layer statement_tree (Some x))) };
 
     fn fmt<W: fmt::Write>(&self, f: &mut fmt::Formatter<W>) -> fmt::Result {
-        write_continuing_lines(self, 0, f)
+        write_continuing(self, 0, f)
     }
 }
 
@@ -100,7 +101,8 @@ impl fmt::Display for ElseIfClause {
     ghost output = { λ x. Some (head_text (codes "else if ") (node_tree x.expression) ++ block_text 0 (block_tree x.body)) };
 
     fn fmt<W: fmt::Write>(&self, f: &mut fmt::Formatter<W>) -> fmt::Result {
-        write_else_if(self, 0, f)
+        write_head("else if ", &self.expression, f)?;
+        write_block(&self.body, 0, f)
     }
 }
 
@@ -117,6 +119,8 @@ impl fmt::Display for SwitchClause {
     ghost output = { λ x. Some (case_head (map selector_tree x.case_selectors) ++ codes ": " ++ block_text 0 (block_tree x.body)) };
 
     fn fmt<W: fmt::Write>(&self, f: &mut fmt::Formatter<W>) -> fmt::Result {
-        write_clause(self, 0, f)
+        write_case_head(self.case_selectors.as_slice(), f)?;
+        f.write_str(": ")?;
+        write_block(&self.body, 0, f)
     }
 }

@@ -1,17 +1,14 @@
 //! Statements as text. A level says how deep in blocks a line stands.
 
-ghost use Rattle.std.specs.Prelude.{◌≡◌, ◌++◌, ◌+◌, ◌||◌, ◌==◌, not, length, Some, map, codes, is_some};
-ghost use Rattle.std.specs.Option.{option_map};
+ghost use Rattle.std.specs.Prelude.{◌≡◌, ◌++◌, Some, map, codes, is_some};
 ghost use Rattle.std.specs.List.{flat_map, list_any};
 ghost use Rattle.std.specs.Fmt.{WritesOnOk};
 ghost use Rattle.wgsl_expressions.specs.View.{node_tree};
 ghost use Rattle.wgsl_expressions.specs.Print.{indent};
-ghost use Rattle.wgsl_attributes.specs.View.{attributes_tree};
-ghost use Rattle.wgsl_attributes.specs.Print.{attrs_text};
-ghost use Rattle.wgsl_simple_statements.specs.View.{break_if_tree, selector_tree};
+ghost use Rattle.wgsl_simple_statements.specs.View.{selector_tree};
 ghost use Rattle.wgsl_simple_statements.specs.Print.{case_head};
-ghost use Rattle.wgsl_statements.specs.View.{statement_tree, statements_tree, block_tree, part, part_layer, else_layer, elses_layer, if_layer, clauses_layer, switch_layer, continuing_layer, loop_layer, for_layer, while_layer};
-ghost use Rattle.wgsl_statements.specs.Print.{braced, opening, closing, and_more, head_text, condition_text, header_text, break_line, bare_text, stms_text, block_text, extended_text, elses_text, clauses_text, continuing_text, part_text, stm_text, behind_text, lines_text};
+ghost use Rattle.wgsl_statements.specs.View.{statement_tree, block_tree, part, part_layer, if_layer, switch_layer, continuing_layer, loop_layer, for_layer, while_layer};
+ghost use Rattle.wgsl_statements.specs.Print.{opening, closing, head_text, bare_text, block_text, continuing_text, part_text, behind_text, lines_text};
 
 use crate::statement::{
     CompoundStatement, ContinuingStatement, ElseClause, ElseIfClause, ForStatement, IfStatement,
@@ -21,7 +18,7 @@ use std::fmt;
 use std::fmt::Display;
 use wgsl_attributes::write_attributes;
 use wgsl_expressions::{ExpressionNode, write_indent};
-use wgsl_simple_statements::{BreakIfStatement, write_case_head};
+use wgsl_simple_statements::write_case_head;
 
 /// Is it more than a `;`?
 #[tactic(auto, using(crate::proofs::Trees::tree_of_void, crate::proofs::Trees::tree_of_compound, crate::proofs::Trees::tree_of_assignment, crate::proofs::Trees::tree_of_increment, crate::proofs::Trees::tree_of_decrement, crate::proofs::Trees::tree_of_if, crate::proofs::Trees::tree_of_switch, crate::proofs::Trees::tree_of_loop, crate::proofs::Trees::tree_of_for, crate::proofs::Trees::tree_of_while, crate::proofs::Trees::tree_of_break, crate::proofs::Trees::tree_of_continue, crate::proofs::Trees::tree_of_return, crate::proofs::Trees::tree_of_discard, crate::proofs::Trees::tree_of_call, crate::proofs::Trees::tree_of_assertion, crate::proofs::Trees::tree_of_value))]
@@ -41,33 +38,6 @@ fn has_statement(statements: &[StatementNode]) -> bool
     statements
         .iter()
         .any(|statement| is_statement(statement.node()))
-}
-
-/// Is there a line in its braces?
-fn is_block_filled(compound: &CompoundStatement) -> bool
-    ensures { result ≡ list_any (λ n. is_some (statement_tree n.node)) compound.now.statements }
-{
-    has_statement(compound.statements.as_slice())
-}
-
-/// Is there a line in its braces?
-fn is_loop_filled(x: &LoopStatement) -> bool
-    ensures { result ≡ (list_any (λ n. is_some (statement_tree n.node)) x.now.body.statements || is_some x.now.continuing) }
-{
-    has_statement(x.body.statements.as_slice()) || x.continuing.is_some()
-}
-
-/// Is there a line in its braces?
-fn is_continuing_filled(x: &ContinuingStatement) -> bool
-    ensures { result ≡ (list_any (λ n. is_some (statement_tree n.node)) x.now.body.statements || is_some x.now.break_if) }
-{
-    has_statement(x.body.statements.as_slice()) || x.break_if.is_some()
-}
-
-fn has_clause(clauses: &[SwitchClause]) -> bool
-    ensures { result ≡ not (length clauses.now == 0) }
-{
-    !clauses.is_empty()
 }
 
 /// Writes the first brace, with lines behind it or without.
@@ -101,35 +71,6 @@ pub(crate) fn write_head<W: fmt::Write>(
     f.write_str(word)?;
     expression.node().fmt(f)?;
     f.write_str(" ")
-}
-
-fn write_condition<W: fmt::Write>(
-    condition: &Option<ExpressionNode>,
-    f: &mut fmt::Formatter<W>,
-) -> fmt::Result
-    ensures { WritesOnOk W.write_str_gives f.old result (condition_text (option_map node_tree condition.now)) f.new }
-{
-    match condition {
-        None => Ok(()),
-        Some(condition) => condition.node().fmt(f),
-    }
-}
-
-fn write_break_if<W: fmt::Write>(
-    break_if: &Option<BreakIfStatement>,
-    level: u32,
-    f: &mut fmt::Formatter<W>,
-) -> fmt::Result
-    ensures { WritesOnOk W.write_str_gives f.old result (break_line level (option_map break_if_tree break_if.now)) f.new }
-{
-    match break_if {
-        None => Ok(()),
-        Some(break_if) => {
-            write_indent(level, f)?;
-            break_if.write_bare(f)?;
-            f.write_str(";\n")
-        }
-    }
 }
 
 /// Writes what stands behind a statement in its last line.
@@ -190,21 +131,9 @@ pub fn write_statement<W: fmt::Write>(
 ) -> fmt::Result
     ensures { WritesOnOk W.write_str_gives f.old result (lines_text level (statement_tree statement.now)) f.new }
 {
-    if is_statement(statement) {
-        write_line(statement, level, f)
-    } else {
-        Ok(())
+    if !is_statement(statement) {
+        return Ok(());
     }
-}
-
-#[cycle(display)]
-fn write_line<W: fmt::Write>(
-    statement: &Statement,
-    level: u32,
-    f: &mut fmt::Formatter<W>,
-) -> fmt::Result
-    ensures { WritesOnOk W.write_str_gives f.old result (indent level ++ part_text level (part (statement_tree statement.now)) ++ behind_text (statement_tree statement.now)) f.new }
-{
     write_indent(level, f)?;
     write_bare(statement, level, f)?;
     write_end(statement, f)
@@ -227,6 +156,7 @@ fn write_statements<W: fmt::Write>(
 
 /// Writes a block that begins in a line at a level.
 #[cycle(display)]
+#[tactic(auto, using(crate::proofs::Texts::block_whole))]
 pub fn write_block<W: fmt::Write>(
     compound: &CompoundStatement,
     level: u32,
@@ -234,41 +164,18 @@ pub fn write_block<W: fmt::Write>(
 ) -> fmt::Result
     ensures { WritesOnOk W.write_str_gives f.old result (block_text level (block_tree compound.now)) f.new }
 {
-    write_attributes(compound.attributes.as_slice(), f)?;
-    write_braces(compound, level, f)
-}
-
-/// Writes a block without its attributes.
-#[cycle(display)]
-fn write_braces<W: fmt::Write>(
-    compound: &CompoundStatement,
-    level: u32,
-    f: &mut fmt::Formatter<W>,
-) -> fmt::Result
-    ensures { WritesOnOk W.write_str_gives f.old result (braced level (stms_text (level + 1) (statements_tree compound.now.statements))) f.new }
-{
-    let filled = is_block_filled(compound);
-    write_block_pieces(compound, filled, level, f)
-}
-
-#[cycle(display)]
-fn write_block_pieces<W: fmt::Write>(
-    compound: &CompoundStatement,
-    filled: bool,
-    level: u32,
-    f: &mut fmt::Formatter<W>,
-) -> fmt::Result
-    ensures { WritesOnOk W.write_str_gives f.old result (opening filled ++ flat_map (λ n. lines_text (level + 1) (statement_tree n.node)) compound.now.statements ++ closing level filled) f.new }
-{
     let Some(inner) = level.checked_add(1) else {
         return Err(fmt::Error);
     };
+    let filled = has_statement(compound.statements.as_slice());
+    write_attributes(compound.attributes.as_slice(), f)?;
     write_opening(filled, f)?;
     write_statements(compound.statements.as_slice(), inner, f)?;
     write_closing(level, filled, f)
 }
 
 #[cycle(display)]
+#[tactic(auto, using(crate::proofs::Texts::if_whole))]
 pub(crate) fn write_if<W: fmt::Write>(
     x: &IfStatement,
     level: u32,
@@ -279,65 +186,8 @@ pub(crate) fn write_if<W: fmt::Write>(
     write_attributes(x.attributes.as_slice(), f)?;
     write_head("if ", &x.if_clause.expression, f)?;
     write_block(&x.if_clause.body, level, f)?;
-    write_elses(x, level, f)
-}
-
-/// Writes what stands behind the first clause.
-#[cycle(display)]
-fn write_elses<W: fmt::Write>(x: &IfStatement, level: u32, f: &mut fmt::Formatter<W>) -> fmt::Result
-    ensures { WritesOnOk W.write_str_gives f.old result (elses_text level (elses_layer statement_tree x.now.else_if_clauses x.now.else_clause)) f.new }
-{
-    write_each_else(x, level, f)
-}
-
-#[cycle(display)]
-fn write_each_else<W: fmt::Write>(
-    x: &IfStatement,
-    level: u32,
-    f: &mut fmt::Formatter<W>,
-) -> fmt::Result
-    ensures { WritesOnOk W.write_str_gives f.old result (flat_map (λ c. codes " " ++ (head_text (codes "else if ") (node_tree c.expression) ++ block_text level (block_tree c.body))) x.now.else_if_clauses ++ elses_text level (else_layer statement_tree x.now.else_clause)) f.new }
-{
     write_else_ifs(x.else_if_clauses.as_slice(), level, f)?;
-    write_else(&x.else_clause, level, f)
-}
-
-#[cycle(display)]
-fn write_else_ifs<W: fmt::Write>(
-    clauses: &[ElseIfClause],
-    level: u32,
-    f: &mut fmt::Formatter<W>,
-) -> fmt::Result
-    ensures { WritesOnOk W.write_str_gives f.old result (flat_map (λ c. codes " " ++ (head_text (codes "else if ") (node_tree c.expression) ++ block_text level (block_tree c.body))) clauses.now) f.new }
-{
-    for clause in clauses {
-        f.write_str(" ")?;
-        write_else_if(clause, level, f)?;
-    }
-    Ok(())
-}
-
-#[cycle(display)]
-pub(crate) fn write_else_if<W: fmt::Write>(
-    clause: &ElseIfClause,
-    level: u32,
-    f: &mut fmt::Formatter<W>,
-) -> fmt::Result
-    ensures { WritesOnOk W.write_str_gives f.old result (head_text (codes "else if ") (node_tree clause.now.expression) ++ block_text level (block_tree clause.now.body)) f.new }
-{
-    write_head("else if ", &clause.expression, f)?;
-    write_block(&clause.body, level, f)
-}
-
-#[cycle(display)]
-fn write_else<W: fmt::Write>(
-    clause: &Option<ElseClause>,
-    level: u32,
-    f: &mut fmt::Formatter<W>,
-) -> fmt::Result
-    ensures { WritesOnOk W.write_str_gives f.old result (elses_text level (else_layer statement_tree clause.now)) f.new }
-{
-    match clause {
+    match &x.else_clause {
         None => Ok(()),
         Some(clause) => {
             f.write_str(" else ")?;
@@ -347,6 +197,23 @@ fn write_else<W: fmt::Write>(
 }
 
 #[cycle(display)]
+fn write_else_ifs<W: fmt::Write>(
+    clauses: &[ElseIfClause],
+    level: u32,
+    f: &mut fmt::Formatter<W>,
+) -> fmt::Result
+    ensures { WritesOnOk W.write_str_gives f.old result (flat_map (λ c. codes " " ++ head_text (codes "else if ") (node_tree c.expression) ++ block_text level (block_tree c.body)) clauses.now) f.new }
+{
+    for clause in clauses {
+        f.write_str(" ")?;
+        write_head("else if ", &clause.expression, f)?;
+        write_block(&clause.body, level, f)?;
+    }
+    Ok(())
+}
+
+#[cycle(display)]
+#[tactic(auto, using(crate::proofs::Texts::switch_whole))]
 pub(crate) fn write_switch<W: fmt::Write>(
     x: &SwitchStatement,
     level: u32,
@@ -354,38 +221,15 @@ pub(crate) fn write_switch<W: fmt::Write>(
 ) -> fmt::Result
     ensures { WritesOnOk W.write_str_gives f.old result (bare_text level (switch_layer statement_tree x.now)) f.new }
 {
-    write_attributes(x.attributes.as_slice(), f)?;
-    write_head("switch ", &x.expression, f)?;
-    write_attributes(x.body_attributes.as_slice(), f)?;
-    write_clauses_in_braces(x.clauses.as_slice(), level, f)
-}
-
-#[cycle(display)]
-fn write_clauses_in_braces<W: fmt::Write>(
-    clauses: &[SwitchClause],
-    level: u32,
-    f: &mut fmt::Formatter<W>,
-) -> fmt::Result
-    ensures { WritesOnOk W.write_str_gives f.old result (braced level (clauses_text (level + 1) (clauses_layer statement_tree clauses.now))) f.new }
-{
-    let filled = has_clause(clauses);
-    write_clauses_pieces(clauses, filled, level, f)
-}
-
-#[cycle(display)]
-fn write_clauses_pieces<W: fmt::Write>(
-    clauses: &[SwitchClause],
-    filled: bool,
-    level: u32,
-    f: &mut fmt::Formatter<W>,
-) -> fmt::Result
-    ensures { WritesOnOk W.write_str_gives f.old result (opening filled ++ flat_map (λ c. indent (level + 1) ++ (case_head (map selector_tree c.case_selectors) ++ codes ": " ++ block_text (level + 1) (block_tree c.body)) ++ codes "\n") clauses.now ++ closing level filled) f.new }
-{
     let Some(inner) = level.checked_add(1) else {
         return Err(fmt::Error);
     };
+    let filled = !x.clauses.as_slice().is_empty();
+    write_attributes(x.attributes.as_slice(), f)?;
+    write_head("switch ", &x.expression, f)?;
+    write_attributes(x.body_attributes.as_slice(), f)?;
     write_opening(filled, f)?;
-    write_clauses(clauses, inner, f)?;
+    write_clauses(x.clauses.as_slice(), inner, f)?;
     write_closing(level, filled, f)
 }
 
@@ -396,30 +240,20 @@ fn write_clauses<W: fmt::Write>(
     level: u32,
     f: &mut fmt::Formatter<W>,
 ) -> fmt::Result
-    ensures { WritesOnOk W.write_str_gives f.old result (flat_map (λ c. indent level ++ (case_head (map selector_tree c.case_selectors) ++ codes ": " ++ block_text level (block_tree c.body)) ++ codes "\n") clauses.now) f.new }
+    ensures { WritesOnOk W.write_str_gives f.old result (flat_map (λ c. indent level ++ case_head (map selector_tree c.case_selectors) ++ codes ": " ++ block_text level (block_tree c.body) ++ codes "\n") clauses.now) f.new }
 {
     for clause in clauses {
         write_indent(level, f)?;
-        write_clause(clause, level, f)?;
+        write_case_head(clause.case_selectors.as_slice(), f)?;
+        f.write_str(": ")?;
+        write_block(&clause.body, level, f)?;
         f.write_str("\n")?;
     }
     Ok(())
 }
 
 #[cycle(display)]
-pub(crate) fn write_clause<W: fmt::Write>(
-    clause: &SwitchClause,
-    level: u32,
-    f: &mut fmt::Formatter<W>,
-) -> fmt::Result
-    ensures { WritesOnOk W.write_str_gives f.old result (case_head (map selector_tree clause.now.case_selectors) ++ codes ": " ++ block_text level (block_tree clause.now.body)) f.new }
-{
-    write_case_head(clause.case_selectors.as_slice(), f)?;
-    f.write_str(": ")?;
-    write_block(&clause.body, level, f)
-}
-
-#[cycle(display)]
+#[tactic(auto, using(crate::proofs::Texts::loop_whole))]
 pub(crate) fn write_loop<W: fmt::Write>(
     x: &LoopStatement,
     level: u32,
@@ -427,173 +261,52 @@ pub(crate) fn write_loop<W: fmt::Write>(
 ) -> fmt::Result
     ensures { WritesOnOk W.write_str_gives f.old result (bare_text level (loop_layer statement_tree x.now)) f.new }
 {
-    write_attributes(x.attributes.as_slice(), f)?;
-    f.write_str("loop ")?;
-    write_loop_body(x, level, f)
-}
-
-#[cycle(display)]
-fn write_loop_body<W: fmt::Write>(
-    x: &LoopStatement,
-    level: u32,
-    f: &mut fmt::Formatter<W>,
-) -> fmt::Result
-    ensures { WritesOnOk W.write_str_gives f.old result (extended_text level (block_tree x.now.body) (continuing_text (level + 1) (continuing_layer statement_tree x.now.continuing))) f.new }
-{
-    write_attributes(x.body.attributes.as_slice(), f)?;
-    write_loop_braces(x, level, f)
-}
-
-#[cycle(display)]
-fn write_loop_braces<W: fmt::Write>(
-    x: &LoopStatement,
-    level: u32,
-    f: &mut fmt::Formatter<W>,
-) -> fmt::Result
-    ensures { WritesOnOk W.write_str_gives f.old result (braced level (stms_text (level + 1) (statements_tree x.now.body.statements) ++ continuing_text (level + 1) (continuing_layer statement_tree x.now.continuing))) f.new }
-{
-    let filled = is_loop_filled(x);
-    write_loop_pieces(x, filled, level, f)
-}
-
-#[cycle(display)]
-fn write_loop_pieces<W: fmt::Write>(
-    x: &LoopStatement,
-    filled: bool,
-    level: u32,
-    f: &mut fmt::Formatter<W>,
-) -> fmt::Result
-    ensures { WritesOnOk W.write_str_gives f.old result (opening filled ++ (and_more (flat_map (λ n. lines_text (level + 1) (statement_tree n.node)) x.now.body.statements) (continuing_text (level + 1) (continuing_layer statement_tree x.now.continuing))) ++ closing level filled) f.new }
-{
     let Some(inner) = level.checked_add(1) else {
         return Err(fmt::Error);
     };
+    let filled = has_statement(x.body.statements.as_slice()) || x.continuing.is_some();
+    write_attributes(x.attributes.as_slice(), f)?;
+    f.write_str("loop ")?;
+    write_attributes(x.body.attributes.as_slice(), f)?;
     write_opening(filled, f)?;
-    write_loop_inside(x, inner, f)?;
+    write_statements(x.body.statements.as_slice(), inner, f)?;
+    if let Some(continuing) = &x.continuing {
+        write_continuing(continuing, inner, f)?;
+    }
     write_closing(level, filled, f)
-}
-
-#[cycle(display)]
-#[tactic(auto, unfolding(crate::specs::Print::and_more))]
-fn write_loop_inside<W: fmt::Write>(
-    x: &LoopStatement,
-    level: u32,
-    f: &mut fmt::Formatter<W>,
-) -> fmt::Result
-    ensures { WritesOnOk W.write_str_gives f.old result (and_more (flat_map (λ n. lines_text level (statement_tree n.node)) x.now.body.statements) (continuing_text level (continuing_layer statement_tree x.now.continuing))) f.new }
-{
-    write_statements(x.body.statements.as_slice(), level, f)?;
-    write_continuing(&x.continuing, level, f)
 }
 
 /// Writes `continuing` as lines at a level.
 #[cycle(display)]
-fn write_continuing<W: fmt::Write>(
-    continuing: &Option<ContinuingStatement>,
-    level: u32,
-    f: &mut fmt::Formatter<W>,
-) -> fmt::Result
-    ensures { WritesOnOk W.write_str_gives f.old result (continuing_text level (continuing_layer statement_tree continuing.now)) f.new }
-{
-    match continuing {
-        None => Ok(()),
-        Some(x) => write_continuing_lines(x, level, f),
-    }
-}
-
-#[cycle(display)]
-pub(crate) fn write_continuing_lines<W: fmt::Write>(
+#[tactic(auto, using(crate::proofs::Texts::continuing_whole))]
+pub(crate) fn write_continuing<W: fmt::Write>(
     x: &ContinuingStatement,
     level: u32,
     f: &mut fmt::Formatter<W>,
 ) -> fmt::Result
     ensures { WritesOnOk W.write_str_gives f.old result (continuing_text level (continuing_layer statement_tree (Some x.now))) f.new }
 {
+    let Some(inner) = level.checked_add(1) else {
+        return Err(fmt::Error);
+    };
+    let filled = has_statement(x.body.statements.as_slice()) || x.break_if.is_some();
     write_indent(level, f)?;
-    write_continuing_line(x, level, f)?;
+    write_attributes(x.attributes.as_slice(), f)?;
+    f.write_str("continuing ")?;
+    write_attributes(x.body.attributes.as_slice(), f)?;
+    write_opening(filled, f)?;
+    write_statements(x.body.statements.as_slice(), inner, f)?;
+    if let Some(break_if) = &x.break_if {
+        write_indent(inner, f)?;
+        break_if.write_bare(f)?;
+        f.write_str(";\n")?;
+    }
+    write_closing(level, filled, f)?;
     f.write_str("\n")
 }
 
 #[cycle(display)]
-fn write_continuing_line<W: fmt::Write>(
-    x: &ContinuingStatement,
-    level: u32,
-    f: &mut fmt::Formatter<W>,
-) -> fmt::Result
-    ensures { WritesOnOk W.write_str_gives f.old result (attrs_text (attributes_tree x.now.attributes) ++ (codes "continuing " ++ extended_text level (block_tree x.now.body) (break_line (level + 1) (option_map break_if_tree x.now.break_if)))) f.new }
-{
-    write_attributes(x.attributes.as_slice(), f)?;
-    write_plain_continuing(x, level, f)
-}
-
-/// Writes `continuing` without its attributes.
-#[cycle(display)]
-fn write_plain_continuing<W: fmt::Write>(
-    x: &ContinuingStatement,
-    level: u32,
-    f: &mut fmt::Formatter<W>,
-) -> fmt::Result
-    ensures { WritesOnOk W.write_str_gives f.old result (codes "continuing " ++ extended_text level (block_tree x.now.body) (break_line (level + 1) (option_map break_if_tree x.now.break_if))) f.new }
-{
-    f.write_str("continuing ")?;
-    write_continuing_body(x, level, f)
-}
-
-#[cycle(display)]
-fn write_continuing_body<W: fmt::Write>(
-    x: &ContinuingStatement,
-    level: u32,
-    f: &mut fmt::Formatter<W>,
-) -> fmt::Result
-    ensures { WritesOnOk W.write_str_gives f.old result (extended_text level (block_tree x.now.body) (break_line (level + 1) (option_map break_if_tree x.now.break_if))) f.new }
-{
-    write_attributes(x.body.attributes.as_slice(), f)?;
-    write_continuing_braces(x, level, f)
-}
-
-#[cycle(display)]
-fn write_continuing_braces<W: fmt::Write>(
-    x: &ContinuingStatement,
-    level: u32,
-    f: &mut fmt::Formatter<W>,
-) -> fmt::Result
-    ensures { WritesOnOk W.write_str_gives f.old result (braced level (stms_text (level + 1) (statements_tree x.now.body.statements) ++ break_line (level + 1) (option_map break_if_tree x.now.break_if))) f.new }
-{
-    let filled = is_continuing_filled(x);
-    write_continuing_pieces(x, filled, level, f)
-}
-
-#[cycle(display)]
-fn write_continuing_pieces<W: fmt::Write>(
-    x: &ContinuingStatement,
-    filled: bool,
-    level: u32,
-    f: &mut fmt::Formatter<W>,
-) -> fmt::Result
-    ensures { WritesOnOk W.write_str_gives f.old result (opening filled ++ (and_more (flat_map (λ n. lines_text (level + 1) (statement_tree n.node)) x.now.body.statements) (break_line (level + 1) (option_map break_if_tree x.now.break_if))) ++ closing level filled) f.new }
-{
-    let Some(inner) = level.checked_add(1) else {
-        return Err(fmt::Error);
-    };
-    write_opening(filled, f)?;
-    write_continuing_inside(x, inner, f)?;
-    write_closing(level, filled, f)
-}
-
-#[cycle(display)]
-#[tactic(auto, unfolding(crate::specs::Print::and_more))]
-fn write_continuing_inside<W: fmt::Write>(
-    x: &ContinuingStatement,
-    level: u32,
-    f: &mut fmt::Formatter<W>,
-) -> fmt::Result
-    ensures { WritesOnOk W.write_str_gives f.old result (and_more (flat_map (λ n. lines_text level (statement_tree n.node)) x.now.body.statements) (break_line level (option_map break_if_tree x.now.break_if))) f.new }
-{
-    write_statements(x.body.statements.as_slice(), level, f)?;
-    write_break_if(&x.break_if, level, f)
-}
-
-#[cycle(display)]
+#[tactic(auto, using(crate::proofs::Texts::for_whole))]
 pub(crate) fn write_for<W: fmt::Write>(
     x: &ForStatement,
     level: u32,
@@ -602,37 +315,16 @@ pub(crate) fn write_for<W: fmt::Write>(
     ensures { WritesOnOk W.write_str_gives f.old result (bare_text level (for_layer statement_tree x.now)) f.new }
 {
     write_attributes(x.attributes.as_slice(), f)?;
-    write_header(x, level, f)?;
-    write_block(&x.body, level, f)
-}
-
-#[cycle(display)]
-#[tactic(auto, unfolding(crate::specs::Print::header_text))]
-fn write_header<W: fmt::Write>(
-    x: &ForStatement,
-    level: u32,
-    f: &mut fmt::Formatter<W>,
-) -> fmt::Result
-    ensures { WritesOnOk W.write_str_gives f.old result (header_text (part_text level (part_layer statement_tree x.now.initializer)) (option_map node_tree x.now.condition) (part_text level (part_layer statement_tree x.now.update))) f.new }
-{
-    write_header_front(x, level, f)?;
-    f.write_str("; ")?;
-    write_part(&x.update, level, f)?;
-    f.write_str(") ")
-}
-
-#[cycle(display)]
-fn write_header_front<W: fmt::Write>(
-    x: &ForStatement,
-    level: u32,
-    f: &mut fmt::Formatter<W>,
-) -> fmt::Result
-    ensures { WritesOnOk W.write_str_gives f.old result (codes "for (" ++ part_text level (part_layer statement_tree x.now.initializer) ++ codes "; " ++ condition_text (option_map node_tree x.now.condition)) f.new }
-{
     f.write_str("for (")?;
     write_part(&x.initializer, level, f)?;
     f.write_str("; ")?;
-    write_condition(&x.condition, f)
+    if let Some(condition) = &x.condition {
+        condition.node().fmt(f)?;
+    }
+    f.write_str("; ")?;
+    write_part(&x.update, level, f)?;
+    f.write_str(") ")?;
+    write_block(&x.body, level, f)
 }
 
 #[cycle(display)]

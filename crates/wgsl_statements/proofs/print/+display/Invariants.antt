@@ -10,112 +10,43 @@ use Rattle.wgsl_statements.specs.Print.{head_text, block_text, lines_text}
 use Rattle.wgsl_statements.proofs.print.+display.Given as goal
 
 abbrev pub decreases-write_bare : goal.decreases-write_bare
-decreases-write_bare g l = 32 * goal.size-write_bare g l
-
-abbrev pub decreases-write_line : goal.decreases-write_line
-decreases-write_line g l = 32 * goal.size-write_line g l + 1
+decreases-write_bare g l = 8 * goal.size-write_bare g l
 
 abbrev pub decreases-write_statement : goal.decreases-write_statement
-decreases-write_statement g l = 32 * goal.size-write_statement g l + 2
+decreases-write_statement g l = 8 * goal.size-write_statement g l + 1
 
 abbrev pub decreases-write_part : goal.decreases-write_part
-decreases-write_part g l = 32 * goal.size-write_part g l + 2
+decreases-write_part g l = 8 * goal.size-write_part g l + 1
 
 abbrev pub decreases-write_statements : goal.decreases-write_statements
-decreases-write_statements g l = 32 * goal.size-write_statements g l + 3
-
-abbrev pub decreases-write_block_pieces : goal.decreases-write_block_pieces
-decreases-write_block_pieces g l = 32 * goal.size-write_block_pieces g l + 4
-
-abbrev pub decreases-write_braces : goal.decreases-write_braces
-decreases-write_braces g l = 32 * goal.size-write_braces g l + 5
+decreases-write_statements g l = 8 * goal.size-write_statements g l + 2
 
 abbrev pub decreases-write_block : goal.decreases-write_block
-decreases-write_block g l = 32 * goal.size-write_block g l + 6
-
-abbrev pub decreases-write_continuing_inside : goal.decreases-write_continuing_inside
-decreases-write_continuing_inside g l = 32 * goal.size-write_continuing_inside g l + 4
-
-abbrev pub decreases-write_continuing_pieces : goal.decreases-write_continuing_pieces
-decreases-write_continuing_pieces g l = 32 * goal.size-write_continuing_pieces g l + 5
-
-abbrev pub decreases-write_continuing_braces : goal.decreases-write_continuing_braces
-decreases-write_continuing_braces g l = 32 * goal.size-write_continuing_braces g l + 6
-
-abbrev pub decreases-write_continuing_body : goal.decreases-write_continuing_body
-decreases-write_continuing_body g l = 32 * goal.size-write_continuing_body g l + 7
-
-abbrev pub decreases-write_plain_continuing : goal.decreases-write_plain_continuing
-decreases-write_plain_continuing g l = 32 * goal.size-write_plain_continuing g l + 8
-
-abbrev pub decreases-write_continuing_line : goal.decreases-write_continuing_line
-decreases-write_continuing_line g l = 32 * goal.size-write_continuing_line g l + 9
-
-abbrev pub decreases-write_continuing_lines : goal.decreases-write_continuing_lines
-decreases-write_continuing_lines g l = 32 * goal.size-write_continuing_lines g l + 10
+decreases-write_block g l = 8 * goal.size-write_block g l + 3
 
 abbrev pub decreases-write_continuing : goal.decreases-write_continuing
-decreases-write_continuing g l = 32 * goal.size-write_continuing g l + 11
-
-abbrev pub decreases-write_loop_inside : goal.decreases-write_loop_inside
-decreases-write_loop_inside g l = 32 * goal.size-write_loop_inside g l + 12
-
-abbrev pub decreases-write_loop_pieces : goal.decreases-write_loop_pieces
-decreases-write_loop_pieces g l = 32 * goal.size-write_loop_pieces g l + 13
-
-abbrev pub decreases-write_loop_braces : goal.decreases-write_loop_braces
-decreases-write_loop_braces g l = 32 * goal.size-write_loop_braces g l + 14
-
-abbrev pub decreases-write_loop_body : goal.decreases-write_loop_body
-decreases-write_loop_body g l = 32 * goal.size-write_loop_body g l + 15
+decreases-write_continuing g l = 8 * goal.size-write_continuing g l + 4
 
 abbrev pub decreases-write_loop : goal.decreases-write_loop
-decreases-write_loop g l = 32 * goal.size-write_loop g l + 16
-
-abbrev pub decreases-write_else_if : goal.decreases-write_else_if
-decreases-write_else_if g l = 32 * goal.size-write_else_if g l + 7
+decreases-write_loop g l = 8 * goal.size-write_loop g l + 5
 
 abbrev pub decreases-write_else_ifs : goal.decreases-write_else_ifs
-decreases-write_else_ifs g l = 32 * goal.size-write_else_ifs g l + 8
-
-abbrev pub decreases-write_else : goal.decreases-write_else
-decreases-write_else g l = 32 * goal.size-write_else g l + 7
-
-abbrev pub decreases-write_each_else : goal.decreases-write_each_else
-decreases-write_each_else g l = 32 * goal.size-write_each_else g l + 9
-
-abbrev pub decreases-write_elses : goal.decreases-write_elses
-decreases-write_elses g l = 32 * goal.size-write_elses g l + 10
+decreases-write_else_ifs g l = 8 * goal.size-write_else_ifs g l + 4
 
 abbrev pub decreases-write_if : goal.decreases-write_if
-decreases-write_if g l = 32 * goal.size-write_if g l + 11
-
-abbrev pub decreases-write_clause : goal.decreases-write_clause
-decreases-write_clause g l = 32 * goal.size-write_clause g l + 7
+decreases-write_if g l = 8 * goal.size-write_if g l + 5
 
 abbrev pub decreases-write_clauses : goal.decreases-write_clauses
-decreases-write_clauses g l = 32 * goal.size-write_clauses g l + 8
-
-abbrev pub decreases-write_clauses_pieces : goal.decreases-write_clauses_pieces
-decreases-write_clauses_pieces g l = 32 * goal.size-write_clauses_pieces g l + 9
-
-abbrev pub decreases-write_clauses_in_braces : goal.decreases-write_clauses_in_braces
-decreases-write_clauses_in_braces g l = 32 * goal.size-write_clauses_in_braces g l + 10
+decreases-write_clauses g l = 8 * goal.size-write_clauses g l + 4
 
 abbrev pub decreases-write_switch : goal.decreases-write_switch
-decreases-write_switch g l = 32 * goal.size-write_switch g l + 11
-
-abbrev pub decreases-write_header_front : goal.decreases-write_header_front
-decreases-write_header_front g l = 32 * goal.size-write_header_front g l + 3
-
-abbrev pub decreases-write_header : goal.decreases-write_header
-decreases-write_header g l = 32 * goal.size-write_header g l + 4
+decreases-write_switch g l = 8 * goal.size-write_switch g l + 5
 
 abbrev pub decreases-write_for : goal.decreases-write_for
-decreases-write_for g l = 32 * goal.size-write_for g l + 7
+decreases-write_for g l = 8 * goal.size-write_for g l + 4
 
 abbrev pub decreases-write_while : goal.decreases-write_while
-decreases-write_while g l = 32 * goal.size-write_while g l + 7
+decreases-write_while g l = 8 * goal.size-write_while g l + 4
 
 abbrev pub invariant-write_statements-loop-statement : goal.invariant-write_statements-loop-statement
 invariant-write_statements-loop-statement g l =
@@ -125,9 +56,9 @@ invariant-write_statements-loop-statement g l =
 abbrev pub invariant-write_else_ifs-loop-clause : goal.invariant-write_else_ifs-loop-clause
 invariant-write_else_ifs-loop-clause g l =
     IsPlainFormatter l.initial.f
-    → HasWritten g.W.Write.write_str_gives l.initial.f (flat_map (λ c. codes " " ++ (head_text (codes "else if ") (node_tree c.expression) ++ block_text l.level (block_tree c.body))) (take l.clause-index l.clauses)) l.f
+    → HasWritten g.W.Write.write_str_gives l.initial.f (flat_map (λ c. codes " " ++ head_text (codes "else if ") (node_tree c.expression) ++ block_text l.level (block_tree c.body)) (take l.clause-index l.clauses)) l.f
 
 abbrev pub invariant-write_clauses-loop-clause : goal.invariant-write_clauses-loop-clause
 invariant-write_clauses-loop-clause g l =
     IsPlainFormatter l.initial.f
-    → HasWritten g.W.Write.write_str_gives l.initial.f (flat_map (λ c. indent l.level ++ (case_head (map selector_tree c.case_selectors) ++ codes ": " ++ block_text l.level (block_tree c.body)) ++ codes "\n") (take l.clause-index l.clauses)) l.f
+    → HasWritten g.W.Write.write_str_gives l.initial.f (flat_map (λ c. indent l.level ++ case_head (map selector_tree c.case_selectors) ++ codes ": " ++ block_text l.level (block_tree c.body) ++ codes "\n") (take l.clause-index l.clauses)) l.f

@@ -1,0 +1,5 @@
+pub mod Lists
+pub mod Turns
+pub mod Loops
+pub mod Deep
+pub mod DeepLoops
