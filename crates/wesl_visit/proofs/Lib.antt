@@ -1,4 +1,2 @@
 pub mod Cases
-pub mod Lists
 pub mod Turns
-pub mod Loops

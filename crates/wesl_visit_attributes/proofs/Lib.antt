@@ -1,4 +1,1 @@
-pub mod Layers
-pub mod Cases
-pub mod Turns
-pub mod Loops
+pub mod Meeting

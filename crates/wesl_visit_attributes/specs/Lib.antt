@@ -1,3 +1,2 @@
-pub mod Turns
 pub mod Attributes
-pub mod Around
+pub mod Meeting

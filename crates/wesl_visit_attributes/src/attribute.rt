@@ -1,11 +1,11 @@
 //! Visits of attributes.
 
-ghost use Rattle.std.specs.Prelude.{◌≡◌, IfOk};
-
-use crate::change::{change_declaration, change_statement, change_unit};
-use crate::find::{find_declaration, find_statement, find_unit};
-use crate::meet::{meet_declaration, meet_statement, meet_unit};
+use crate::parts::{Changing, Reading, find_attributes};
 use std::alloc::{AllocError, Global};
+use wesl_parts::{
+    find_declaration, find_statement, find_unit, meet_declaration, meet_statement, meet_unit,
+};
+use wesl_parts_mut::{change_declaration, change_statement, change_unit};
 use wgsl_attributes::AttributeNode;
 use wgsl_declarations::{GlobalDeclaration, TranslationUnit};
 use wgsl_statements::Statement;
@@ -18,8 +18,7 @@ pub trait VisitAttributes {
     ghost use Rattle.std.specs.Fn.{CalledAt, CalledAtMut};
     ghost use Rattle.wgsl_path.specs.declared.span.Spanned.{Spanned};
     ghost use Rattle.wgsl_attributes.specs.declared.attribute.Attribute.{Attribute};
-    ghost use Rattle.wesl_visit.specs.Turns.{pointed, ChangedInTurn};
-    ghost use Rattle.wesl_visit_attributes.specs.Turns.{CalledInTurn};
+    ghost use Rattle.wesl_turns.specs.Turns.{pointed, CalledInTurn, ChangedInTurn};
 
     /// The attributes, in document order.
     ghost nodes: { Self → List (Spanned Attribute) };
@@ -59,16 +58,17 @@ pub trait VisitAttributes {
 }
 
 impl VisitAttributes for Statement {
-    ghost use Rattle.wesl_visit_attributes.specs.Attributes.{attributes_in};
-    ghost use Rattle.wesl_visit_attributes.specs.Around.{around_attributes};
+    ghost use Rattle.wesl_visit_attributes.specs.Attributes.{attributes_in_statement, around_attributes_in_statement};
 
-    ghost nodes = { attributes_in };
+    ghost nodes = { attributes_in_statement };
 
-    ghost around = { around_attributes };
+    ghost around = { around_attributes_in_statement };
 
     fn visit<'a>(&'a self, alloc: Global) -> Result<Vec<&'a AttributeNode>, AllocError> {
+        let mut parts = Vec::new(alloc);
+        find_statement(self, &mut parts)?;
         let mut found = Vec::new(alloc);
-        find_statement(self, &mut found)?;
+        find_attributes(parts.as_slice(), &mut found)?;
         Ok(found)
     }
 
@@ -76,32 +76,33 @@ impl VisitAttributes for Statement {
         &mut self,
         f: &mut F,
     ) -> Result<(), E> {
-        change_statement(self, f)
+        change_statement(self, &mut Changing { f })
     }
 
     fn visit_rec<E, F: FnMut(&AttributeNode) -> Result<(), E>>(&self, f: &mut F) -> Result<(), E> {
-        meet_statement(self, f)
+        meet_statement(self, &mut Reading { f })
     }
 
     fn visit_rec_mut<E, F: FnMut(&mut AttributeNode) -> Result<(), E>>(
         &mut self,
         f: &mut F,
     ) -> Result<(), E> {
-        change_statement(self, f)
+        change_statement(self, &mut Changing { f })
     }
 }
 
 impl VisitAttributes for GlobalDeclaration {
-    ghost use Rattle.wesl_visit_attributes.specs.Attributes.{attributes_in_declaration};
-    ghost use Rattle.wesl_visit_attributes.specs.Around.{around_attributes_in_declaration};
+    ghost use Rattle.wesl_visit_attributes.specs.Attributes.{attributes_in_declaration, around_attributes_in_declaration};
 
     ghost nodes = { attributes_in_declaration };
 
     ghost around = { around_attributes_in_declaration };
 
     fn visit<'a>(&'a self, alloc: Global) -> Result<Vec<&'a AttributeNode>, AllocError> {
+        let mut parts = Vec::new(alloc);
+        find_declaration(self, &mut parts)?;
         let mut found = Vec::new(alloc);
-        find_declaration(self, &mut found)?;
+        find_attributes(parts.as_slice(), &mut found)?;
         Ok(found)
     }
 
@@ -109,32 +110,33 @@ impl VisitAttributes for GlobalDeclaration {
         &mut self,
         f: &mut F,
     ) -> Result<(), E> {
-        change_declaration(self, f)
+        change_declaration(self, &mut Changing { f })
     }
 
     fn visit_rec<E, F: FnMut(&AttributeNode) -> Result<(), E>>(&self, f: &mut F) -> Result<(), E> {
-        meet_declaration(self, f)
+        meet_declaration(self, &mut Reading { f })
     }
 
     fn visit_rec_mut<E, F: FnMut(&mut AttributeNode) -> Result<(), E>>(
         &mut self,
         f: &mut F,
     ) -> Result<(), E> {
-        change_declaration(self, f)
+        change_declaration(self, &mut Changing { f })
     }
 }
 
 impl VisitAttributes for TranslationUnit {
-    ghost use Rattle.wesl_visit_attributes.specs.Attributes.{attributes_in_unit};
-    ghost use Rattle.wesl_visit_attributes.specs.Around.{around_attributes_in_unit};
+    ghost use Rattle.wesl_visit_attributes.specs.Attributes.{attributes_in_unit, around_attributes_in_unit};
 
     ghost nodes = { attributes_in_unit };
 
     ghost around = { around_attributes_in_unit };
 
     fn visit<'a>(&'a self, alloc: Global) -> Result<Vec<&'a AttributeNode>, AllocError> {
+        let mut parts = Vec::new(alloc);
+        find_unit(self, &mut parts)?;
         let mut found = Vec::new(alloc);
-        find_unit(self, &mut found)?;
+        find_attributes(parts.as_slice(), &mut found)?;
         Ok(found)
     }
 
@@ -142,17 +144,17 @@ impl VisitAttributes for TranslationUnit {
         &mut self,
         f: &mut F,
     ) -> Result<(), E> {
-        change_unit(self, f)
+        change_unit(self, &mut Changing { f })
     }
 
     fn visit_rec<E, F: FnMut(&AttributeNode) -> Result<(), E>>(&self, f: &mut F) -> Result<(), E> {
-        meet_unit(self, f)
+        meet_unit(self, &mut Reading { f })
     }
 
     fn visit_rec_mut<E, F: FnMut(&mut AttributeNode) -> Result<(), E>>(
         &mut self,
         f: &mut F,
     ) -> Result<(), E> {
-        change_unit(self, f)
+        change_unit(self, &mut Changing { f })
     }
 }

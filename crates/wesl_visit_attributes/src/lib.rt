@@ -1,9 +1,7 @@
-//! Visits of the attributes in the syntax trees of WGSL.
+//! Visits of the attributes in a syntax tree.
 #![tactic(auto)]
 
 mod attribute;
-mod change;
-mod find;
-mod meet;
+mod parts;
 
 pub use attribute::VisitAttributes;

@@ -4,7 +4,7 @@
 ghost use Rattle.std.specs.Prelude.{◌≡◌, ◌∷◌, [], map};
 ghost use Rattle.wesl_visit_expressions.specs.Expressions.{in_argument, in_type, in_call, in_option, in_optional_type, expressions_in, around_node, around_parenthesized, around_component, around_indexing, around_unary, around_binary, around_argument, around_type, around_call, around_expressions, inside_by, around_by};
 ghost use Rattle.wesl_visit_expressions.specs.Attributes.{in_sizes, in_custom, expressions_in_attribute, in_attributes, around_sizes, around_custom, around_attribute, around_attributes};
-ghost use Rattle.wesl_visit.specs.Turns.{ChangedDeep};
+ghost use Rattle.wesl_turns.specs.Turns.{ChangedDeep};
 ghost use Rattle.std.specs.Fn.{CalledAtMut};
 ghost use Rattle.std.specs.List.{flat_map};
 ghost use Rattle.std.specs.Option.{option_map};

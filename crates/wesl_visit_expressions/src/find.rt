@@ -3,7 +3,7 @@
 ghost use Rattle.std.specs.Prelude.{◌≡◌, ◌∷◌, ◌++◌, [], OnOk};
 ghost use Rattle.wesl_visit_expressions.specs.Expressions.{in_argument, in_type, in_call, in_option, in_optional_type, expressions_in};
 ghost use Rattle.wesl_visit_expressions.specs.Attributes.{in_sizes, in_custom, expressions_in_attribute, in_attributes};
-ghost use Rattle.wesl_visit.specs.Turns.{pointed};
+ghost use Rattle.wesl_turns.specs.Turns.{pointed};
 ghost use Rattle.std.specs.List.{flat_map};
 
 use std::alloc::AllocError;

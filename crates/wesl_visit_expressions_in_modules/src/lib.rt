@@ -1,9 +1,7 @@
-//! Visits of the expressions in the syntax trees of WGSL, in all its parts up to whole modules.
+//! Visits of the expressions in a syntax tree.
 #![tactic(auto)]
 
-mod change;
-mod find;
-mod meet;
+mod parts;
 mod visit;
 
 pub use visit::VisitExpressions;

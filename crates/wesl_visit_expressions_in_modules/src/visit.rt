@@ -2,16 +2,15 @@
 
 ghost use Rattle.std.specs.Prelude.{◌≡◌, IfOk};
 
-use crate::change::{change_declaration, change_unit};
-use crate::find::{find_declaration, find_unit};
-use crate::meet::{meet_declaration, meet_unit};
+use crate::parts::{Changing, Reading, find_expressions};
 use std::alloc::{AllocError, Global};
+use wesl_parts::{
+    find_declaration, find_statement, find_unit, meet_declaration, meet_statement, meet_unit,
+};
+use wesl_parts_mut::{change_declaration, change_statement, change_unit};
 use wesl_visit_expressions::change::{change_attribute, change_expression, change_type};
 use wesl_visit_expressions::find::{find_attribute, find_expression, find_type};
 use wesl_visit_expressions::meet::{meet_attribute, meet_expression, meet_type};
-use wesl_visit_expressions_in_statements::change::change_statement;
-use wesl_visit_expressions_in_statements::find::find_statement;
-use wesl_visit_expressions_in_statements::meet::meet_statement;
 use wgsl_attributes::Attribute;
 use wgsl_declarations::{GlobalDeclaration, TranslationUnit};
 use wgsl_expressions::{Expression, ExpressionNode, TypeExpression};
@@ -24,7 +23,7 @@ pub trait VisitExpressions {
     ghost use Rattle.std.specs.Fn.{CalledAt, CalledAtMut};
     ghost use Rattle.wgsl_path.specs.declared.span.Spanned.{Spanned};
     ghost use Rattle.wgsl_expressions.specs.declared.expression.Expression.{Expression};
-    ghost use Rattle.wesl_visit.specs.Turns.{pointed, CalledDeep, ChangedInTurn, ChangedDeep};
+    ghost use Rattle.wesl_turns.specs.Turns.{pointed, CalledDeep, ChangedInTurn, ChangedDeep};
     ghost use Rattle.wesl_visit_expressions.specs.Expressions.{expressions_inside, around_inside};
 
     /// The outermost expressions, in document order.
@@ -166,35 +165,36 @@ impl VisitExpressions for Attribute {
 }
 
 impl VisitExpressions for Statement {
-    ghost use Rattle.wesl_visit_expressions_in_statements.specs.Statements.{expressions_in_statement, around_expressions_in_statement};
+    ghost use Rattle.wesl_visit_expressions_in_modules.specs.Modules.{expressions_in_statement, around_expressions_in_statement};
 
     ghost nodes = { expressions_in_statement };
 
     ghost around = { around_expressions_in_statement };
 
     fn visit<'a>(&'a self, alloc: Global) -> Result<Vec<&'a ExpressionNode>, AllocError> {
+        let mut listed = Vec::new(alloc);
+        find_statement(self, &mut listed)?;
         let mut found = Vec::new(alloc);
-        find_statement(self, &mut found)?;
+        find_expressions(listed.as_slice(), &mut found)?;
         Ok(found)
     }
 
-    #[tactic(auto, using(wesl_visit_expressions::proofs::Turns::shallow))]
     fn visit_mut<E, F: FnMut(&mut ExpressionNode) -> Result<(), E>>(
         &mut self,
         f: &mut F,
     ) -> Result<(), E> {
-        change_statement(self, false, f)
+        change_statement(self, &mut Changing { f, deep: false })
     }
 
     fn visit_rec<E, F: FnMut(&ExpressionNode) -> Result<(), E>>(&self, f: &mut F) -> Result<(), E> {
-        meet_statement(self, f)
+        meet_statement(self, &mut Reading { f })
     }
 
     fn visit_rec_mut<E, F: FnMut(&mut ExpressionNode) -> Result<(), E>>(
         &mut self,
         f: &mut F,
     ) -> Result<(), E> {
-        change_statement(self, true, f)
+        change_statement(self, &mut Changing { f, deep: true })
     }
 }
 
@@ -206,28 +206,29 @@ impl VisitExpressions for GlobalDeclaration {
     ghost around = { around_expressions_in_declaration };
 
     fn visit<'a>(&'a self, alloc: Global) -> Result<Vec<&'a ExpressionNode>, AllocError> {
+        let mut listed = Vec::new(alloc);
+        find_declaration(self, &mut listed)?;
         let mut found = Vec::new(alloc);
-        find_declaration(self, &mut found)?;
+        find_expressions(listed.as_slice(), &mut found)?;
         Ok(found)
     }
 
-    #[tactic(auto, using(wesl_visit_expressions::proofs::Turns::shallow))]
     fn visit_mut<E, F: FnMut(&mut ExpressionNode) -> Result<(), E>>(
         &mut self,
         f: &mut F,
     ) -> Result<(), E> {
-        change_declaration(self, false, f)
+        change_declaration(self, &mut Changing { f, deep: false })
     }
 
     fn visit_rec<E, F: FnMut(&ExpressionNode) -> Result<(), E>>(&self, f: &mut F) -> Result<(), E> {
-        meet_declaration(self, f)
+        meet_declaration(self, &mut Reading { f })
     }
 
     fn visit_rec_mut<E, F: FnMut(&mut ExpressionNode) -> Result<(), E>>(
         &mut self,
         f: &mut F,
     ) -> Result<(), E> {
-        change_declaration(self, true, f)
+        change_declaration(self, &mut Changing { f, deep: true })
     }
 }
 
@@ -239,27 +240,28 @@ impl VisitExpressions for TranslationUnit {
     ghost around = { around_expressions_in_unit };
 
     fn visit<'a>(&'a self, alloc: Global) -> Result<Vec<&'a ExpressionNode>, AllocError> {
+        let mut listed = Vec::new(alloc);
+        find_unit(self, &mut listed)?;
         let mut found = Vec::new(alloc);
-        find_unit(self, &mut found)?;
+        find_expressions(listed.as_slice(), &mut found)?;
         Ok(found)
     }
 
-    #[tactic(auto, using(wesl_visit_expressions::proofs::Turns::shallow))]
     fn visit_mut<E, F: FnMut(&mut ExpressionNode) -> Result<(), E>>(
         &mut self,
         f: &mut F,
     ) -> Result<(), E> {
-        change_unit(self, false, f)
+        change_unit(self, &mut Changing { f, deep: false })
     }
 
     fn visit_rec<E, F: FnMut(&ExpressionNode) -> Result<(), E>>(&self, f: &mut F) -> Result<(), E> {
-        meet_unit(self, f)
+        meet_unit(self, &mut Reading { f })
     }
 
     fn visit_rec_mut<E, F: FnMut(&mut ExpressionNode) -> Result<(), E>>(
         &mut self,
         f: &mut F,
     ) -> Result<(), E> {
-        change_unit(self, true, f)
+        change_unit(self, &mut Changing { f, deep: true })
     }
 }

@@ -34,7 +34,7 @@ use Rattle.wgsl_simple_statements.specs.Print.{simple_text, break_if_text, case_
 use Rattle.wgsl_statements.specs.declared.statement.Statement.{Statement}
 use Rattle.wgsl_statements.specs.declared.statement.Statement.TheVariants.{Void, Compound, Assignment, Increment, Decrement, If, Switch, Loop, For, While, Break, Continue, Return, Discard, FunctionCall, ConstAssert as Assert, Declaration as Value}
 use Rattle.wgsl_statements.specs.Tree.{Stm, simple, compound_statement, if_statement, switch_statement, loop_statement, for_statement, while_statement}
-use Rattle.wgsl_statements.specs.View.{stms, part, nodes_layer, else_layer, elses_layer, if_layer, clauses_layer, switch_layer, continuing_layer, loop_layer, for_layer, while_layer, statement_tree, statements_tree, block_tree}
+use Rattle.wgsl_statements.specs.View.{stms, part, part_layer, nodes_layer, else_layer, elses_layer, if_layer, clauses_layer, switch_layer, continuing_layer, loop_layer, for_layer, while_layer, statement_tree, statements_tree, block_tree}
 use Rattle.wgsl_statements.specs.Print.{braced, opening, closing, head_text, condition_text, header_text, break_line, end_text, behind_text, bare_text, stms_text, block_text, extended_text, elses_text, clauses_text, continuing_text, part_text, lines_text}
 use Rattle.wgsl_statements.proofs.Trees.{tree_of_void, tree_of_compound, tree_of_assignment, tree_of_increment, tree_of_decrement, tree_of_if, tree_of_switch, tree_of_loop, tree_of_for, tree_of_while, tree_of_break, tree_of_continue, tree_of_return, tree_of_discard, tree_of_call, tree_of_assertion, tree_of_value}
 
@@ -221,84 +221,73 @@ pieces level lines b e = of_lines lines ∙ ap (λ b. opening b ++ lines ++ clos
 left : (xs ys zs : List ℕ) → xs ++ (ys ++ zs) ≡ xs ++ ys ++ zs
 left xs ys zs = sym (append_assoc xs ys zs)
 
-left_of_three : (xs as bs cs : List ℕ) → xs ++ (as ++ bs ++ cs) ≡ xs ++ as ++ bs ++ cs
-left_of_three xs as bs cs = left xs (as ++ bs) cs ∙ ap (λ t. t ++ cs) (left xs as bs)
+left_of_three : (xs us vs ws : List ℕ) → xs ++ (us ++ vs ++ ws) ≡ xs ++ us ++ vs ++ ws
+left_of_three xs us vs ws = left xs (us ++ vs) ws ∙ ap (λ t. t ++ ws) (left xs us vs)
 
-left_of_four : (xs as bs cs ds : List ℕ) → xs ++ (as ++ bs ++ cs ++ ds) ≡ xs ++ as ++ bs ++ cs ++ ds
-left_of_four xs as bs cs ds = left xs (as ++ bs ++ cs) ds ∙ ap (λ t. t ++ ds) (left_of_three xs as bs cs)
+left_of_four : (xs us vs ws zs : List ℕ) → xs ++ (us ++ vs ++ ws ++ zs) ≡ xs ++ us ++ vs ++ ws ++ zs
+left_of_four xs us vs ws zs = left xs (us ++ vs ++ ws) zs ∙ ap (λ t. t ++ zs) (left_of_three xs us vs ws)
 
-pub block_whole : (level : ℕ) (x : CompoundStatementOf Statement)
-    → block_text level (block_tree x)
-    ≡ attrs_text (attributes_tree x.attributes) ++ opening (list_any (λ n. is_some (statement_tree n.node)) x.statements)
-    ++ flat_map (λ n. lines_text (level + 1) (statement_tree n.node)) x.statements ++ closing level (list_any (λ n. is_some (statement_tree n.node)) x.statements)
-block_whole level x =
-    let attributes = attrs_text (attributes_tree x.attributes) in
-    let b = list_any (λ n. is_some (statement_tree n.node)) x.statements in
-    let lines = stms_text (level + 1) (statements_tree x.statements) in
-    ap (λ t. attributes ++ t) (pieces level lines b (filled_statements (level + 1) statement_tree x.statements))
-    ∙ ap (λ t. attributes ++ (opening b ++ t ++ closing level b)) (stms_flat (level + 1) statement_tree x.statements)
-    ∙ left_of_three attributes (opening b) (flat_map (λ n. lines_text (level + 1) (statement_tree n.node)) x.statements) (closing level b)
+pub block_pieces : (level : ℕ) (ns : List (Spanned Statement)) (b : Bool) → b ≡ list_any (λ n. is_some (statement_tree n.node)) ns
+    → braced level (stms_text (level + 1) (statements_tree ns)) ≡ opening b ++ flat_map (λ n. lines_text (level + 1) (statement_tree n.node)) ns ++ closing level b
+block_pieces level ns b e =
+    pieces level (stms_text (level + 1) (statements_tree ns)) b (filled_statements (level + 1) statement_tree ns ∙ sym e)
+    ∙ ap (λ t. opening b ++ t ++ closing level b) (stms_flat (level + 1) statement_tree ns)
 
-extended : (level : ℕ) (ns : List (Spanned Statement)) (more : List ℕ) (b : Bool) → is_filled more ≡ b
-    → let c = list_any (λ n. is_some (statement_tree n.node)) ns || b in
-    braced level (stms_text (level + 1) (statements_tree ns) ++ more)
+extended : (level : ℕ) (ns : List (Spanned Statement)) (more : List ℕ) (b c : Bool) → is_filled more ≡ b
+    → c ≡ (list_any (λ n. is_some (statement_tree n.node)) ns || b)
+    → braced level (stms_text (level + 1) (statements_tree ns) ++ more)
     ≡ opening c ++ flat_map (λ n. lines_text (level + 1) (statement_tree n.node)) ns ++ more ++ closing level c
-extended level ns more b e =
+extended level ns more b c e same =
     let lines = stms_text (level + 1) (statements_tree ns) in
-    let c = list_any (λ n. is_some (statement_tree n.node)) ns || b in
-    pieces level (lines ++ more) c (filled_more lines more ∙ (λ k. filled_statements (level + 1) statement_tree ns k || e k))
+    pieces level (lines ++ more) c (filled_more lines more ∙ (λ k. filled_statements (level + 1) statement_tree ns k || e k) ∙ sym same)
     ∙ ap (λ t. opening c ++ (t ++ more) ++ closing level c) (stms_flat (level + 1) statement_tree ns)
     ∙ ap (λ t. t ++ closing level c) (left (opening c) (flat_map (λ n. lines_text (level + 1) (statement_tree n.node)) ns) more)
 
-pub loop_whole : (level : ℕ) (x : LoopStatementOf Statement)
-    → let b = list_any (λ n. is_some (statement_tree n.node)) x.body.statements || is_some x.continuing in
-    bare_text level (loop_layer statement_tree x)
+pub loop_whole : (level : ℕ) (x : LoopStatementOf Statement) (b : Bool) → b ≡ (list_any (λ n. is_some (statement_tree n.node)) x.body.statements || is_some x.continuing)
+    → bare_text level (loop_layer statement_tree x)
     ≡ attrs_text (attributes_tree x.attributes) ++ codes "loop " ++ attrs_text (attributes_tree x.body.attributes) ++ opening b
     ++ flat_map (λ n. lines_text (level + 1) (statement_tree n.node)) x.body.statements
     ++ continuing_text (level + 1) (continuing_layer statement_tree x.continuing) ++ closing level b
-loop_whole level x =
-    let b = list_any (λ n. is_some (statement_tree n.node)) x.body.statements || is_some x.continuing in
+loop_whole level x b e =
     let front = attrs_text (attributes_tree x.attributes) ++ codes "loop " in
     let attributes = attrs_text (attributes_tree x.body.attributes) in
     let more = continuing_text (level + 1) (continuing_layer statement_tree x.continuing) in
-    ap (λ t. front ++ (attributes ++ t)) (extended level x.body.statements more (is_some x.continuing) (filled_continuing (level + 1) x.continuing))
+    ap (λ t. front ++ (attributes ++ t)) (extended level x.body.statements more (is_some x.continuing) b (filled_continuing (level + 1) x.continuing) e)
     ∙ left front attributes (opening b ++ flat_map (λ n. lines_text (level + 1) (statement_tree n.node)) x.body.statements ++ more ++ closing level b)
     ∙ left_of_four (front ++ attributes) (opening b) (flat_map (λ n. lines_text (level + 1) (statement_tree n.node)) x.body.statements) more (closing level b)
 
-pub continuing_whole : (level : ℕ) (x : ContinuingStatementOf Statement)
-    → let b = list_any (λ n. is_some (statement_tree n.node)) x.body.statements || is_some x.break_if in
-    continuing_text level (continuing_layer statement_tree (Some x))
-    ≡ indent level ++ attrs_text (attributes_tree x.attributes) ++ codes "continuing " ++ attrs_text (attributes_tree x.body.attributes) ++ opening b
+pub continuing_whole : (level : ℕ) (x : ContinuingStatementOf Statement) (b : Bool) → b ≡ (list_any (λ n. is_some (statement_tree n.node)) x.body.statements || is_some x.break_if)
+    → continuing_text level (continuing_layer statement_tree (Some x))
+    ≡ indent level ++ (attrs_text (attributes_tree x.attributes) ++ codes "continuing " ++ attrs_text (attributes_tree x.body.attributes) ++ opening b)
     ++ flat_map (λ n. lines_text (level + 1) (statement_tree n.node)) x.body.statements
-    ++ break_line (level + 1) (option_map break_if_tree x.break_if) ++ closing level b ++ codes "\n"
-continuing_whole level x =
-    let b = list_any (λ n. is_some (statement_tree n.node)) x.body.statements || is_some x.break_if in
+    ++ break_line (level + 1) (option_map break_if_tree x.break_if) ++ (closing level b ++ codes "\n")
+continuing_whole level x b e =
     let front = attrs_text (attributes_tree x.attributes) in
     let word = codes "continuing " in
     let attributes = attrs_text (attributes_tree x.body.attributes) in
     let more = break_line (level + 1) (option_map break_if_tree x.break_if) in
     let lines = flat_map (λ n. lines_text (level + 1) (statement_tree n.node)) x.body.statements in
     let inner = opening b ++ lines ++ more ++ closing level b in
-    ap (λ t. indent level ++ (front ++ (word ++ (attributes ++ t))) ++ codes "\n") (extended level x.body.statements more (is_some x.break_if) (filled_break (level + 1) x.break_if))
+    ap (λ t. indent level ++ (front ++ (word ++ (attributes ++ t))) ++ codes "\n") (extended level x.body.statements more (is_some x.break_if) b (filled_break (level + 1) x.break_if) e)
     ∙ ap (λ t. t ++ codes "\n")
-        (left (indent level) front (word ++ (attributes ++ inner)) ∙ left (indent level ++ front) word (attributes ++ inner)
-        ∙ left (indent level ++ front ++ word) attributes inner
-        ∙ left_of_four (indent level ++ front ++ word ++ attributes) (opening b) lines more (closing level b))
+    (ap (λ t. indent level ++ t) (left front word (attributes ++ inner) ∙ left (front ++ word) attributes inner ∙ left_of_four (front ++ word ++ attributes) (opening b) lines more (closing level b))
+    ∙ left_of_three (indent level) (front ++ word ++ attributes ++ opening b ++ lines) more (closing level b)
+    ∙ ap (λ t. t ++ more ++ closing level b) (left (indent level) (front ++ word ++ attributes ++ opening b) lines))
+    ∙ append_assoc (indent level ++ (front ++ word ++ attributes ++ opening b) ++ lines ++ more) (closing level b) (codes "\n")
 
-pub switch_whole : (level : ℕ) (x : SwitchStatementOf Statement)
-    → let b = not (length x.clauses == 0) in
-    bare_text level (switch_layer statement_tree x)
+pub switch_whole : (level : ℕ) (x : SwitchStatementOf Statement) (b : Bool) → b ≡ not (length x.clauses == 0)
+    → bare_text level (switch_layer statement_tree x)
     ≡ attrs_text (attributes_tree x.attributes) ++ head_text (codes "switch ") (node_tree x.expression) ++ attrs_text (attributes_tree x.body_attributes) ++ opening b
     ++ flat_map (λ c. indent (level + 1) ++ case_head (map selector_tree c.case_selectors) ++ codes ": " ++ block_text (level + 1) (block_tree c.body) ++ codes "\n") x.clauses ++ closing level b
-switch_whole level x =
-    let b = not (length x.clauses == 0) in
+switch_whole level x b e =
     let front = attrs_text (attributes_tree x.attributes) ++ head_text (codes "switch ") (node_tree x.expression) ++ attrs_text (attributes_tree x.body_attributes) in
-    ap (λ t. front ++ t) (pieces level (clauses_text (level + 1) (clauses_layer statement_tree x.clauses)) b (filled_clauses (level + 1) x.clauses))
+    ap (λ t. front ++ t) (pieces level (clauses_text (level + 1) (clauses_layer statement_tree x.clauses)) b (filled_clauses (level + 1) x.clauses ∙ sym e))
     ∙ ap (λ t. front ++ (opening b ++ t ++ closing level b)) (flat (level + 1) x.clauses)
     ∙ left_of_three front (opening b) (flat_map (λ c. one (level + 1) c) x.clauses) (closing level b)
   where
     one : ℕ → SwitchClauseOf Statement → List ℕ
     one level c = indent level ++ case_head (map selector_tree c.case_selectors) ++ codes ": " ++ block_text level (block_tree c.body) ++ codes "\n"
+
     flat : (level : ℕ) (cs : List (SwitchClauseOf Statement)) → clauses_text level (clauses_layer statement_tree cs) ≡ flat_map (λ c. one level c) cs
     flat level [] = refl
     flat level (c ∷ cs) =
@@ -316,14 +305,16 @@ if_whole level x =
   where
     one : ElseIfClauseOf Statement → List ℕ
     one c = codes " " ++ head_text (codes "else if ") (node_tree c.expression) ++ block_text level (block_tree c.body)
+
     flat : (cs : List (ElseIfClauseOf Statement)) → elses_text level (elses_layer statement_tree cs x.else_clause) ≡ flat_map one cs ++ elses_text level (else_layer statement_tree x.else_clause)
     flat [] = refl
     flat (c ∷ cs) = ap (λ t. one c ++ t) (flat cs) ∙ left (one c) (flat_map one cs) (elses_text level (else_layer statement_tree x.else_clause))
 
 pub for_whole : (level : ℕ) (x : ForStatementOf Statement)
     → bare_text level (for_layer statement_tree x)
-    ≡ attrs_text (attributes_tree x.attributes) ++ codes "for (" ++ part_text level (part_layer statement_tree x.initializer) ++ codes "; "
-    ++ condition_text (option_map node_tree x.condition) ++ codes "; " ++ part_text level (part_layer statement_tree x.update) ++ codes ") " ++ block_text level (block_tree x.body)
+    ≡ (attrs_text (attributes_tree x.attributes) ++ codes "for (") ++ part_text level (part_layer statement_tree x.initializer)
+    ++ (codes "; " ++ condition_text (option_map node_tree x.condition) ++ codes "; ")
+    ++ part_text level (part_layer statement_tree x.update) ++ codes ") " ++ block_text level (block_tree x.body)
 unfolding header_text
 for_whole level x =
     let front = attrs_text (attributes_tree x.attributes) in
@@ -331,9 +322,10 @@ for_whole level x =
     let condition = condition_text (option_map node_tree x.condition) in
     let update = part_text level (part_layer statement_tree x.update) in
     ap (λ t. t ++ block_text level (block_tree x.body))
-        (left front (codes "for (" ++ first ++ codes "; " ++ condition ++ codes "; " ++ update) (codes ") ")
-        ∙ ap (λ t. t ++ codes ") ")
-            (left front (codes "for (" ++ first ++ codes "; " ++ condition ++ codes "; ") update
-            ∙ ap (λ t. t ++ update)
-                (left_of_three front (codes "for (" ++ first ++ codes "; ") condition (codes "; ")
-                ∙ ap (λ t. t ++ condition ++ codes "; ") (left_of_three front (codes "for (") first (codes "; ")))))
+    (left front (codes "for (" ++ first ++ codes "; " ++ condition ++ codes "; " ++ update) (codes ") ")
+    ∙ ap (λ t. t ++ codes ") ")
+    (left front (codes "for (" ++ first ++ codes "; " ++ condition ++ codes "; ") update
+    ∙ ap (λ t. t ++ update)
+    (left_of_three front (codes "for (" ++ first ++ codes "; ") condition (codes "; ")
+    ∙ ap (λ t. t ++ condition ++ codes "; ") (left_of_three front (codes "for (") first (codes "; "))
+    ∙ sym (left_of_three (front ++ codes "for (" ++ first) (codes "; ") condition (codes "; ")))))

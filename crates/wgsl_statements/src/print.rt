@@ -1,14 +1,17 @@
 //! Statements as text. A level says how deep in blocks a line stands.
 
-ghost use Rattle.std.specs.Prelude.{◌≡◌, ◌++◌, Some, map, codes, is_some};
+ghost use Rattle.std.specs.Prelude.{◌≡◌, ◌++◌, ◌+◌, ◌||◌, ◌==◌, not, length, Some, map, codes, is_some};
+ghost use Rattle.std.specs.Option.{option_map};
 ghost use Rattle.std.specs.List.{flat_map, list_any};
 ghost use Rattle.std.specs.Fmt.{WritesOnOk};
 ghost use Rattle.wgsl_expressions.specs.View.{node_tree};
 ghost use Rattle.wgsl_expressions.specs.Print.{indent};
-ghost use Rattle.wgsl_simple_statements.specs.View.{selector_tree};
+ghost use Rattle.wgsl_attributes.specs.View.{attributes_tree};
+ghost use Rattle.wgsl_attributes.specs.Print.{attrs_text};
+ghost use Rattle.wgsl_simple_statements.specs.View.{break_if_tree, selector_tree};
 ghost use Rattle.wgsl_simple_statements.specs.Print.{case_head};
-ghost use Rattle.wgsl_statements.specs.View.{statement_tree, block_tree, part, part_layer, if_layer, switch_layer, continuing_layer, loop_layer, for_layer, while_layer};
-ghost use Rattle.wgsl_statements.specs.Print.{opening, closing, head_text, bare_text, block_text, continuing_text, part_text, behind_text, lines_text};
+ghost use Rattle.wgsl_statements.specs.View.{statement_tree, block_tree, part, part_layer, else_layer, if_layer, switch_layer, continuing_layer, loop_layer, for_layer, while_layer};
+ghost use Rattle.wgsl_statements.specs.Print.{opening, closing, head_text, condition_text, break_line, bare_text, block_text, elses_text, continuing_text, part_text, behind_text, lines_text};
 
 use crate::statement::{
     CompoundStatement, ContinuingStatement, ElseClause, ElseIfClause, ForStatement, IfStatement,
@@ -16,9 +19,9 @@ use crate::statement::{
 };
 use std::fmt;
 use std::fmt::Display;
-use wgsl_attributes::write_attributes;
+use wgsl_attributes::{AttributeNode, write_attributes};
 use wgsl_expressions::{ExpressionNode, write_indent};
-use wgsl_simple_statements::write_case_head;
+use wgsl_simple_statements::{BreakIfStatement, write_case_head};
 
 /// Is it more than a `;`?
 #[tactic(auto, using(crate::proofs::Trees::tree_of_void, crate::proofs::Trees::tree_of_compound, crate::proofs::Trees::tree_of_assignment, crate::proofs::Trees::tree_of_increment, crate::proofs::Trees::tree_of_decrement, crate::proofs::Trees::tree_of_if, crate::proofs::Trees::tree_of_switch, crate::proofs::Trees::tree_of_loop, crate::proofs::Trees::tree_of_for, crate::proofs::Trees::tree_of_while, crate::proofs::Trees::tree_of_break, crate::proofs::Trees::tree_of_continue, crate::proofs::Trees::tree_of_return, crate::proofs::Trees::tree_of_discard, crate::proofs::Trees::tree_of_call, crate::proofs::Trees::tree_of_assertion, crate::proofs::Trees::tree_of_value))]
@@ -38,6 +41,33 @@ fn has_statement(statements: &[StatementNode]) -> bool
     statements
         .iter()
         .any(|statement| is_statement(statement.node()))
+}
+
+/// Is there a line in its braces?
+fn is_block_filled(compound: &CompoundStatement) -> bool
+    ensures { result ≡ list_any (λ n. is_some (statement_tree n.node)) compound.now.statements }
+{
+    has_statement(compound.statements.as_slice())
+}
+
+/// Is there a line in its braces?
+fn is_loop_filled(x: &LoopStatement) -> bool
+    ensures { result ≡ (list_any (λ n. is_some (statement_tree n.node)) x.now.body.statements || is_some x.now.continuing) }
+{
+    is_block_filled(&x.body) || x.continuing.is_some()
+}
+
+/// Is there a line in its braces?
+fn is_continuing_filled(x: &ContinuingStatement) -> bool
+    ensures { result ≡ (list_any (λ n. is_some (statement_tree n.node)) x.now.body.statements || is_some x.now.break_if) }
+{
+    is_block_filled(&x.body) || x.break_if.is_some()
+}
+
+fn has_clause(clauses: &[SwitchClause]) -> bool
+    ensures { result ≡ not (length clauses.now == 0) }
+{
+    !clauses.is_empty()
 }
 
 /// Writes the first brace, with lines behind it or without.
@@ -71,6 +101,128 @@ pub(crate) fn write_head<W: fmt::Write>(
     f.write_str(word)?;
     expression.node().fmt(f)?;
     f.write_str(" ")
+}
+
+/// Writes `for` up to what stands in its parentheses.
+fn write_for_front<W: fmt::Write>(x: &ForStatement, f: &mut fmt::Formatter<W>) -> fmt::Result
+    ensures { WritesOnOk W.write_str_gives f.old result (attrs_text (attributes_tree x.now.attributes) ++ codes "for (") f.new }
+{
+    write_attributes(x.attributes.as_slice(), f)?;
+    f.write_str("for (")
+}
+
+/// Writes the condition of `for` and the `;` before and behind it.
+fn write_condition<W: fmt::Write>(
+    condition: &Option<ExpressionNode>,
+    f: &mut fmt::Formatter<W>,
+) -> fmt::Result
+    ensures { WritesOnOk W.write_str_gives f.old result (codes "; " ++ condition_text (option_map node_tree condition.now) ++ codes "; ") f.new }
+{
+    f.write_str("; ")?;
+    if let Some(condition) = condition {
+        condition.node().fmt(f)?;
+    }
+    f.write_str("; ")
+}
+
+/// Writes the attributes of a block and its first brace.
+fn write_front<W: fmt::Write>(
+    compound: &CompoundStatement,
+    filled: bool,
+    f: &mut fmt::Formatter<W>,
+) -> fmt::Result
+    ensures { WritesOnOk W.write_str_gives f.old result (attrs_text (attributes_tree compound.now.attributes) ++ opening filled) f.new }
+{
+    write_attributes(compound.attributes.as_slice(), f)?;
+    write_opening(filled, f)
+}
+
+/// Writes `if` up to its first block.
+fn write_if_front<W: fmt::Write>(x: &IfStatement, f: &mut fmt::Formatter<W>) -> fmt::Result
+    ensures { WritesOnOk W.write_str_gives f.old result (attrs_text (attributes_tree x.now.attributes) ++ head_text (codes "if ") (node_tree x.now.if_clause.expression)) f.new }
+{
+    write_attributes(x.attributes.as_slice(), f)?;
+    write_head("if ", &x.if_clause.expression, f)
+}
+
+/// Writes `switch` up to its first line.
+fn write_switch_front<W: fmt::Write>(
+    x: &SwitchStatement,
+    filled: bool,
+    f: &mut fmt::Formatter<W>,
+) -> fmt::Result
+    ensures { WritesOnOk W.write_str_gives f.old result (attrs_text (attributes_tree x.now.attributes) ++ head_text (codes "switch ") (node_tree x.now.expression) ++ attrs_text (attributes_tree x.now.body_attributes) ++ opening filled) f.new }
+{
+    write_attributes(x.attributes.as_slice(), f)?;
+    write_head("switch ", &x.expression, f)?;
+    write_attributes(x.body_attributes.as_slice(), f)?;
+    write_opening(filled, f)
+}
+
+/// Writes attributes and a word, up to the first line of the block behind it.
+fn write_word_front<W: fmt::Write>(
+    attributes: &[AttributeNode],
+    word: &str,
+    body: &CompoundStatement,
+    filled: bool,
+    f: &mut fmt::Formatter<W>,
+) -> fmt::Result
+    ensures { WritesOnOk W.write_str_gives f.old result (attrs_text (attributes_tree attributes.now) ++ word.now ++ attrs_text (attributes_tree body.now.attributes) ++ opening filled) f.new }
+{
+    write_attributes(attributes, f)?;
+    f.write_str(word)?;
+    write_front(body, filled, f)
+}
+
+/// Writes `loop` up to its first line.
+fn write_loop_front<W: fmt::Write>(
+    x: &LoopStatement,
+    filled: bool,
+    f: &mut fmt::Formatter<W>,
+) -> fmt::Result
+    ensures { WritesOnOk W.write_str_gives f.old result (attrs_text (attributes_tree x.now.attributes) ++ codes "loop " ++ attrs_text (attributes_tree x.now.body.attributes) ++ opening filled) f.new }
+{
+    write_word_front(x.attributes.as_slice(), "loop ", &x.body, filled, f)
+}
+
+/// Writes `continuing` up to its first line.
+fn write_continuing_front<W: fmt::Write>(
+    x: &ContinuingStatement,
+    filled: bool,
+    f: &mut fmt::Formatter<W>,
+) -> fmt::Result
+    ensures { WritesOnOk W.write_str_gives f.old result (attrs_text (attributes_tree x.now.attributes) ++ codes "continuing " ++ attrs_text (attributes_tree x.now.body.attributes) ++ opening filled) f.new }
+{
+    write_word_front(x.attributes.as_slice(), "continuing ", &x.body, filled, f)
+}
+
+/// Writes the last brace and the end of its line.
+fn write_last_line<W: fmt::Write>(
+    level: u32,
+    filled: bool,
+    f: &mut fmt::Formatter<W>,
+) -> fmt::Result
+    ensures { WritesOnOk W.write_str_gives f.old result (closing level filled ++ codes "\n") f.new }
+{
+    write_closing(level, filled, f)?;
+    f.write_str("\n")
+}
+
+fn write_break_if<W: fmt::Write>(
+    break_if: &Option<BreakIfStatement>,
+    level: u32,
+    f: &mut fmt::Formatter<W>,
+) -> fmt::Result
+    ensures { WritesOnOk W.write_str_gives f.old result (break_line level (option_map break_if_tree break_if.now)) f.new }
+{
+    match break_if {
+        None => Ok(()),
+        Some(break_if) => {
+            write_indent(level, f)?;
+            break_if.write_bare(f)?;
+            f.write_str(";\n")
+        }
+    }
 }
 
 /// Writes what stands behind a statement in its last line.
@@ -156,7 +308,6 @@ fn write_statements<W: fmt::Write>(
 
 /// Writes a block that begins in a line at a level.
 #[cycle(display)]
-#[tactic(auto, using(crate::proofs::Texts::block_whole))]
 pub fn write_block<W: fmt::Write>(
     compound: &CompoundStatement,
     level: u32,
@@ -164,18 +315,30 @@ pub fn write_block<W: fmt::Write>(
 ) -> fmt::Result
     ensures { WritesOnOk W.write_str_gives f.old result (block_text level (block_tree compound.now)) f.new }
 {
+    let filled = is_block_filled(compound);
+    write_attributes(compound.attributes.as_slice(), f)?;
+    write_block_pieces(compound, filled, level, f)
+}
+
+/// Writes a block without its attributes.
+#[cycle(display)]
+fn write_block_pieces<W: fmt::Write>(
+    compound: &CompoundStatement,
+    filled: bool,
+    level: u32,
+    f: &mut fmt::Formatter<W>,
+) -> fmt::Result
+    ensures { WritesOnOk W.write_str_gives f.old result (opening filled ++ flat_map (λ n. lines_text (level + 1) (statement_tree n.node)) compound.now.statements ++ closing level filled) f.new }
+{
     let Some(inner) = level.checked_add(1) else {
         return Err(fmt::Error);
     };
-    let filled = has_statement(compound.statements.as_slice());
-    write_attributes(compound.attributes.as_slice(), f)?;
     write_opening(filled, f)?;
     write_statements(compound.statements.as_slice(), inner, f)?;
     write_closing(level, filled, f)
 }
 
 #[cycle(display)]
-#[tactic(auto, using(crate::proofs::Texts::if_whole))]
 pub(crate) fn write_if<W: fmt::Write>(
     x: &IfStatement,
     level: u32,
@@ -183,11 +346,21 @@ pub(crate) fn write_if<W: fmt::Write>(
 ) -> fmt::Result
     ensures { WritesOnOk W.write_str_gives f.old result (bare_text level (if_layer statement_tree x.now)) f.new }
 {
-    write_attributes(x.attributes.as_slice(), f)?;
-    write_head("if ", &x.if_clause.expression, f)?;
+    write_if_front(x, f)?;
     write_block(&x.if_clause.body, level, f)?;
     write_else_ifs(x.else_if_clauses.as_slice(), level, f)?;
-    match &x.else_clause {
+    write_else(&x.else_clause, level, f)
+}
+
+#[cycle(display)]
+fn write_else<W: fmt::Write>(
+    clause: &Option<ElseClause>,
+    level: u32,
+    f: &mut fmt::Formatter<W>,
+) -> fmt::Result
+    ensures { WritesOnOk W.write_str_gives f.old result (elses_text level (else_layer statement_tree clause.now)) f.new }
+{
+    match clause {
         None => Ok(()),
         Some(clause) => {
             f.write_str(" else ")?;
@@ -213,7 +386,6 @@ fn write_else_ifs<W: fmt::Write>(
 }
 
 #[cycle(display)]
-#[tactic(auto, using(crate::proofs::Texts::switch_whole))]
 pub(crate) fn write_switch<W: fmt::Write>(
     x: &SwitchStatement,
     level: u32,
@@ -224,11 +396,8 @@ pub(crate) fn write_switch<W: fmt::Write>(
     let Some(inner) = level.checked_add(1) else {
         return Err(fmt::Error);
     };
-    let filled = !x.clauses.as_slice().is_empty();
-    write_attributes(x.attributes.as_slice(), f)?;
-    write_head("switch ", &x.expression, f)?;
-    write_attributes(x.body_attributes.as_slice(), f)?;
-    write_opening(filled, f)?;
+    let filled = has_clause(x.clauses.as_slice());
+    write_switch_front(x, filled, f)?;
     write_clauses(x.clauses.as_slice(), inner, f)?;
     write_closing(level, filled, f)
 }
@@ -253,7 +422,6 @@ fn write_clauses<W: fmt::Write>(
 }
 
 #[cycle(display)]
-#[tactic(auto, using(crate::proofs::Texts::loop_whole))]
 pub(crate) fn write_loop<W: fmt::Write>(
     x: &LoopStatement,
     level: u32,
@@ -264,21 +432,30 @@ pub(crate) fn write_loop<W: fmt::Write>(
     let Some(inner) = level.checked_add(1) else {
         return Err(fmt::Error);
     };
-    let filled = has_statement(x.body.statements.as_slice()) || x.continuing.is_some();
-    write_attributes(x.attributes.as_slice(), f)?;
-    f.write_str("loop ")?;
-    write_attributes(x.body.attributes.as_slice(), f)?;
-    write_opening(filled, f)?;
+    let filled = is_loop_filled(x);
+    write_loop_front(x, filled, f)?;
     write_statements(x.body.statements.as_slice(), inner, f)?;
-    if let Some(continuing) = &x.continuing {
-        write_continuing(continuing, inner, f)?;
-    }
+    write_optional_continuing(&x.continuing, inner, f)?;
     write_closing(level, filled, f)
+}
+
+/// Writes `continuing` as lines at a level, where it is there.
+#[cycle(display)]
+fn write_optional_continuing<W: fmt::Write>(
+    continuing: &Option<ContinuingStatement>,
+    level: u32,
+    f: &mut fmt::Formatter<W>,
+) -> fmt::Result
+    ensures { WritesOnOk W.write_str_gives f.old result (continuing_text level (continuing_layer statement_tree continuing.now)) f.new }
+{
+    match continuing {
+        None => Ok(()),
+        Some(x) => write_continuing(x, level, f),
+    }
 }
 
 /// Writes `continuing` as lines at a level.
 #[cycle(display)]
-#[tactic(auto, using(crate::proofs::Texts::continuing_whole))]
 pub(crate) fn write_continuing<W: fmt::Write>(
     x: &ContinuingStatement,
     level: u32,
@@ -289,24 +466,15 @@ pub(crate) fn write_continuing<W: fmt::Write>(
     let Some(inner) = level.checked_add(1) else {
         return Err(fmt::Error);
     };
-    let filled = has_statement(x.body.statements.as_slice()) || x.break_if.is_some();
+    let filled = is_continuing_filled(x);
     write_indent(level, f)?;
-    write_attributes(x.attributes.as_slice(), f)?;
-    f.write_str("continuing ")?;
-    write_attributes(x.body.attributes.as_slice(), f)?;
-    write_opening(filled, f)?;
+    write_continuing_front(x, filled, f)?;
     write_statements(x.body.statements.as_slice(), inner, f)?;
-    if let Some(break_if) = &x.break_if {
-        write_indent(inner, f)?;
-        break_if.write_bare(f)?;
-        f.write_str(";\n")?;
-    }
-    write_closing(level, filled, f)?;
-    f.write_str("\n")
+    write_break_if(&x.break_if, inner, f)?;
+    write_last_line(level, filled, f)
 }
 
 #[cycle(display)]
-#[tactic(auto, using(crate::proofs::Texts::for_whole))]
 pub(crate) fn write_for<W: fmt::Write>(
     x: &ForStatement,
     level: u32,
@@ -314,14 +482,9 @@ pub(crate) fn write_for<W: fmt::Write>(
 ) -> fmt::Result
     ensures { WritesOnOk W.write_str_gives f.old result (bare_text level (for_layer statement_tree x.now)) f.new }
 {
-    write_attributes(x.attributes.as_slice(), f)?;
-    f.write_str("for (")?;
+    write_for_front(x, f)?;
     write_part(&x.initializer, level, f)?;
-    f.write_str("; ")?;
-    if let Some(condition) = &x.condition {
-        condition.node().fmt(f)?;
-    }
-    f.write_str("; ")?;
+    write_condition(&x.condition, f)?;
     write_part(&x.update, level, f)?;
     f.write_str(") ")?;
     write_block(&x.body, level, f)

@@ -1,9 +1,9 @@
 use Rattle.std.proofs.Common.{◌≡◌, ◌∙◌, rules, refl, ap, Err, length-set}
 use Rattle.wesl_visit_expressions.specs.Expressions.{inside_by, around_by}
 use Rattle.wesl_visit_expressions.specs.Attributes.{in_attribute_node, around_attribute_node}
-use Rattle.wesl_visit.specs.Turns.{remade_none}
-use Rattle.wesl_visit.proofs.Lists.{map_stays, later_same}
-use Rattle.wesl_visit.proofs.Loops.{changed_more, changed_refusal_at}
+use Rattle.wesl_turns.specs.Turns.{remade_none}
+use Rattle.wesl_turns.proofs.Lists.{map_stays, later_same}
+use Rattle.wesl_turns.proofs.DeepLoops.{changed_more, changed_refusal_at}
 use Rattle.std.specs.Fn.{CalledAtMut}
 use Rattle.wesl_visit_expressions.proofs.change.change_attributes.Goals as goal
 

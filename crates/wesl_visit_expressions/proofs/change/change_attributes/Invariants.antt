@@ -1,7 +1,7 @@
 use Rattle.std.proofs.Common.{◌≡◌, ◌≤◌, ℕ, length, get_or, map, take, Ok}
 use Rattle.wesl_visit_expressions.specs.Expressions.{inside_by, around_by}
 use Rattle.wesl_visit_expressions.specs.Attributes.{in_attribute_node, around_attribute_node}
-use Rattle.wesl_visit.specs.Turns.{ChangedDeep}
+use Rattle.wesl_turns.specs.Turns.{ChangedDeep}
 use Rattle.std.specs.Fn.{CalledAtMut}
 use Rattle.std.specs.List.{flat_map}
 use Rattle.wgsl_path.specs.declared.span.Spanned.{Spanned}

@@ -1,4 +1,4 @@
-use Rattle.wesl_visit.specs.Turns.{remade_none}
+use Rattle.wesl_turns.specs.Turns.{remade_none}
 use Rattle.wesl_visit_expressions.proofs.change.change_custom.Goals as goal
 
 pub returns-in-None-clause-changed : goal.returns-in-None-clause-changed

@@ -1,6 +1,6 @@
 use Rattle.std.proofs.Common.{◌≡◌, rules, Err}
 use Rattle.wesl_visit_expressions.specs.Expressions.{inside_by, around_by}
-use Rattle.wesl_visit.proofs.Turns.{changed_both, changed_refusal_first}
+use Rattle.wesl_turns.proofs.Deep.{changed_both, changed_refusal_first}
 use Rattle.std.specs.Fn.{CalledAtMut}
 use Rattle.wesl_visit_expressions.proofs.change.change_sizes.Goals as goal
 

@@ -1,6 +1,6 @@
 use Rattle.std.proofs.Common.{◌≡◌, ◌++◌, drop}
 use Rattle.wesl_visit_expressions.specs.Expressions.{in_argument}
-use Rattle.wesl_visit.specs.Turns.{pointed}
+use Rattle.wesl_turns.specs.Turns.{pointed}
 use Rattle.std.specs.List.{flat_map}
 use Rattle.wesl_visit_expressions.proofs.find.find_arguments.Given as goal
 

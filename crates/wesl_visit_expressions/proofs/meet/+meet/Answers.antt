@@ -1,9 +1,9 @@
 use Rattle.std.proofs.Common.{◌≡◌, ◌∷◌, [], rules, refl, Err}
 use Rattle.wesl_visit_expressions.specs.Expressions.{in_argument, expressions_inside}
-use Rattle.wesl_visit.specs.Turns.{deep_none, deep_refusal}
-use Rattle.wesl_visit.proofs.Turns.{met_both, met_refusal_first, met_node}
-use Rattle.wesl_visit.proofs.Lists.{singles}
-use Rattle.wesl_visit.proofs.Loops.{met_more, met_refusal_at, met_all}
+use Rattle.wesl_turns.specs.Turns.{deep_none, deep_refusal}
+use Rattle.wesl_turns.proofs.Deep.{met_both, met_refusal_first, met_node}
+use Rattle.wesl_turns.proofs.Lists.{singles}
+use Rattle.wesl_turns.proofs.DeepLoops.{met_more, met_refusal_at, met_all}
 use Rattle.wesl_visit_expressions.proofs.Cases.{inner}
 use Rattle.std.specs.Fn.{CalledAt}
 use Rattle.wesl_visit_expressions.proofs.meet.+meet.Goals as goal

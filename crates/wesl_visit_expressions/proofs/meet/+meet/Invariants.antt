@@ -1,6 +1,6 @@
 use Rattle.std.proofs.Common.{◌+◌, ◌*◌, ◌∷◌, [], take, Ok}
 use Rattle.wesl_visit_expressions.specs.Expressions.{in_argument, expressions_inside}
-use Rattle.wesl_visit.specs.Turns.{CalledDeep}
+use Rattle.wesl_turns.specs.Turns.{CalledDeep}
 use Rattle.std.specs.Fn.{CalledAt}
 use Rattle.std.specs.List.{flat_map}
 use Rattle.wesl_visit_expressions.proofs.meet.+meet.Given as goal

@@ -1,4 +1,4 @@
-use Rattle.wesl_visit.specs.Turns.{deep_none}
+use Rattle.wesl_turns.specs.Turns.{deep_none}
 use Rattle.wesl_visit_expressions.proofs.meet.meet_attribute.Goals as goal
 
 pub returns-in-Builtin-clause-met : goal.returns-in-Builtin-clause-met

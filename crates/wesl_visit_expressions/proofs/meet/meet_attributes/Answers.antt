@@ -1,8 +1,8 @@
 use Rattle.std.proofs.Common.{◌≡◌, rules, Err}
 use Rattle.wesl_visit_expressions.specs.Expressions.{expressions_inside}
 use Rattle.wesl_visit_expressions.specs.Attributes.{in_attribute_node}
-use Rattle.wesl_visit.specs.Turns.{deep_none}
-use Rattle.wesl_visit.proofs.Loops.{met_more, met_refusal_at}
+use Rattle.wesl_turns.specs.Turns.{deep_none}
+use Rattle.wesl_turns.proofs.DeepLoops.{met_more, met_refusal_at}
 use Rattle.std.specs.Fn.{CalledAt}
 use Rattle.wesl_visit_expressions.proofs.meet.meet_attributes.Goals as goal
 

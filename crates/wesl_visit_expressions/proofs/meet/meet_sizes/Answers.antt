@@ -1,6 +1,6 @@
 use Rattle.std.proofs.Common.{◌≡◌, rules, Err}
 use Rattle.wesl_visit_expressions.specs.Expressions.{expressions_inside}
-use Rattle.wesl_visit.proofs.Turns.{met_both, met_refusal_first}
+use Rattle.wesl_turns.proofs.Deep.{met_both, met_refusal_first}
 use Rattle.std.specs.Fn.{CalledAt}
 use Rattle.wesl_visit_expressions.proofs.meet.meet_sizes.Goals as goal
 

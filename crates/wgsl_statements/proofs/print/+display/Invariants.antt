@@ -21,32 +21,41 @@ decreases-write_part g l = 8 * goal.size-write_part g l + 1
 abbrev pub decreases-write_statements : goal.decreases-write_statements
 decreases-write_statements g l = 8 * goal.size-write_statements g l + 2
 
+abbrev pub decreases-write_block_pieces : goal.decreases-write_block_pieces
+decreases-write_block_pieces g l = 8 * goal.size-write_block_pieces g l + 3
+
 abbrev pub decreases-write_block : goal.decreases-write_block
-decreases-write_block g l = 8 * goal.size-write_block g l + 3
+decreases-write_block g l = 8 * goal.size-write_block g l + 4
 
 abbrev pub decreases-write_continuing : goal.decreases-write_continuing
-decreases-write_continuing g l = 8 * goal.size-write_continuing g l + 4
+decreases-write_continuing g l = 8 * goal.size-write_continuing g l + 5
+
+abbrev pub decreases-write_optional_continuing : goal.decreases-write_optional_continuing
+decreases-write_optional_continuing g l = 8 * goal.size-write_optional_continuing g l + 6
+
+abbrev pub decreases-write_else : goal.decreases-write_else
+decreases-write_else g l = 8 * goal.size-write_else g l + 5
 
 abbrev pub decreases-write_loop : goal.decreases-write_loop
-decreases-write_loop g l = 8 * goal.size-write_loop g l + 5
+decreases-write_loop g l = 8 * goal.size-write_loop g l + 7
 
 abbrev pub decreases-write_else_ifs : goal.decreases-write_else_ifs
-decreases-write_else_ifs g l = 8 * goal.size-write_else_ifs g l + 4
+decreases-write_else_ifs g l = 8 * goal.size-write_else_ifs g l + 5
 
 abbrev pub decreases-write_if : goal.decreases-write_if
-decreases-write_if g l = 8 * goal.size-write_if g l + 5
+decreases-write_if g l = 8 * goal.size-write_if g l + 6
 
 abbrev pub decreases-write_clauses : goal.decreases-write_clauses
-decreases-write_clauses g l = 8 * goal.size-write_clauses g l + 4
+decreases-write_clauses g l = 8 * goal.size-write_clauses g l + 5
 
 abbrev pub decreases-write_switch : goal.decreases-write_switch
-decreases-write_switch g l = 8 * goal.size-write_switch g l + 5
+decreases-write_switch g l = 8 * goal.size-write_switch g l + 6
 
 abbrev pub decreases-write_for : goal.decreases-write_for
-decreases-write_for g l = 8 * goal.size-write_for g l + 4
+decreases-write_for g l = 8 * goal.size-write_for g l + 5
 
 abbrev pub decreases-write_while : goal.decreases-write_while
-decreases-write_while g l = 8 * goal.size-write_while g l + 4
+decreases-write_while g l = 8 * goal.size-write_while g l + 5
 
 abbrev pub invariant-write_statements-loop-statement : goal.invariant-write_statements-loop-statement
 invariant-write_statements-loop-statement g l =

@@ -1,9 +1,0 @@
-use Rattle.std.proofs.Common.{◌≡◌, ◌++◌, drop}
-use Rattle.std.specs.List.{flat_map}
-use Rattle.wesl_visit.specs.Turns.{pointed}
-use Rattle.wesl_visit_attributes.specs.Attributes.{in_directive}
-use Rattle.wesl_visit_attributes.proofs.find.find_directives.Given as goal
-
-abbrev pub invariant-loop-directive : goal.invariant-loop-directive
-invariant-loop-directive l =
-    pointed l.found.items ++ flat_map in_directive (drop l.directive-index l.directives) ≡ pointed l.initial.found.items ++ flat_map in_directive l.directives

@@ -1,9 +1,0 @@
-use Rattle.std.proofs.Common.{◌≡◌, ◌++◌, drop}
-use Rattle.std.specs.List.{flat_map}
-use Rattle.wesl_visit.specs.Turns.{pointed}
-use Rattle.wesl_visit_attributes.specs.Attributes.{in_parameter}
-use Rattle.wesl_visit_attributes.proofs.find.find_parameters.Given as goal
-
-abbrev pub invariant-loop-parameter : goal.invariant-loop-parameter
-invariant-loop-parameter l =
-    pointed l.found.items ++ flat_map in_parameter (drop l.parameter-index l.parameters) ≡ pointed l.initial.found.items ++ flat_map in_parameter l.parameters

@@ -1,8 +1,0 @@
-use Rattle.std.proofs.Common.{◌≡◌, ◌++◌, drop}
-use Rattle.wesl_visit.specs.Turns.{pointed}
-use Rattle.std.specs.List.{flat_map}
-use Rattle.wesl_visit_expressions_in_modules.specs.Modules.{in_declaration_node}
-use Rattle.wesl_visit_expressions_in_modules.proofs.find.find_declarations.Given as goal
-
-abbrev pub invariant-loop-declaration : goal.invariant-loop-declaration
-invariant-loop-declaration l = pointed l.found.items ++ flat_map in_declaration_node (drop l.declaration-index l.declarations) ≡ pointed l.initial.found.items ++ flat_map in_declaration_node l.declarations

@@ -1,5 +1,0 @@
-use Rattle.wesl_visit.specs.Turns.{remade_none}
-use Rattle.wesl_visit_expressions_in_statements.proofs.change.change_break_if.Goals as goal
-
-pub returns-in-None-clause-changed : goal.returns-in-None-clause-changed
-returns-in-None-clause-changed g c = rw c.in-None.is remade_none
