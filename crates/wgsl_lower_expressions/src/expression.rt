@@ -11,7 +11,6 @@ ghost use Rattle.wgsl_eval.specs.Scopes.{scope_of};
 ghost use Rattle.wgsl_lower_expressions.specs.Computed as spec;
 ghost use Rattle.wgsl_lower_expressions.specs.Reduced as reduced;
 
-use crate::write::to_expr;
 use std::alloc::{AllocError, Global};
 use wgsl_enumerations::ShaderStage;
 use wgsl_eval::{
@@ -25,6 +24,7 @@ use wgsl_syntax::{
     BinaryExpression, BinaryOperator, Expression, ExpressionNode, FunctionCall,
     ParenthesizedExpression, Span, Spanned, TypeExpression, UnaryExpression, UnaryOperator,
 };
+use wgsl_written::to_expr;
 
 /// What lowering makes of an expression.
 #[derive(Drop)]

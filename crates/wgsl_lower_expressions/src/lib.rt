@@ -2,7 +2,6 @@
 #![tactic(auto)]
 
 mod expression;
-mod write;
 
 pub use expression::lowered;
-pub use write::to_expr;
+pub use wgsl_written::to_expr;

@@ -1,6 +1,6 @@
 use Rattle.std.proofs.Common.{ap}
-use Rattle.wgsl_lower_expressions.proofs.Parts.{comparison_is}
-use Rattle.wgsl_lower_expressions.proofs.write.equals_zero.Goals as goal
+use Rattle.wgsl_written.proofs.Trees.{comparison_is}
+use Rattle.wgsl_written.proofs.write.equals_zero.Goals as goal
 
 pub returns : goal.returns
 returns c =

@@ -1,6 +1,6 @@
 use Rattle.std.proofs.Common.{ap}
-use Rattle.wgsl_lower_expressions.proofs.Parts.{difference_is}
-use Rattle.wgsl_lower_expressions.proofs.write.least_abstract.Goals as goal
+use Rattle.wgsl_written.proofs.Trees.{difference_is}
+use Rattle.wgsl_written.proofs.write.least_abstract.Goals as goal
 
 pub returns : goal.returns
 returns c =

@@ -1,8 +1,8 @@
 use Rattle.std.proofs.Common.{◌∙◌, ap, ◌++◌, ◌∷◌, []}
 use Rattle.wgsl_syntax.specs.View.{tree}
 use Rattle.wgsl_syntax.specs.declared.expression.Expression.TheVariants.{FunctionCall}
-use Rattle.wgsl_lower_expressions.proofs.Parts.{least_signed_is}
-use Rattle.wgsl_lower_expressions.proofs.write.least_signed.Goals as goal
+use Rattle.wgsl_written.proofs.Trees.{least_signed_is}
+use Rattle.wgsl_written.proofs.write.least_signed.Goals as goal
 
 pub returns : goal.returns
 returns c =
