@@ -47,12 +47,6 @@ expressions_in_attribute (code.Elif x) = x ∷ []
 expressions_in_attribute code.Else = []
 expressions_in_attribute (code.Custom x) = in_custom x
 
-abbrev pub in_attribute_node : Spanned Attribute → List (Spanned Expression)
-in_attribute_node n = expressions_in_attribute n.node
-
-abbrev pub in_attributes : List (Spanned Attribute) → List (Spanned Expression)
-in_attributes attributes = flat_map in_attribute_node attributes
-
 -- ---- all but the expressions
 
 abbrev pub around_sizes : WorkgroupSizeAttribute → WorkgroupSizeAttribute
@@ -88,6 +82,3 @@ around_attribute (code.Custom x) = code.Custom (around_custom x)
 
 abbrev pub around_attribute_node : Spanned Attribute → Spanned Attribute
 around_attribute_node n = record { node = around_attribute n.node; span = n.span }
-
-abbrev pub around_attributes : List (Spanned Attribute) → List (Spanned Attribute)
-around_attributes attributes = map around_attribute_node attributes

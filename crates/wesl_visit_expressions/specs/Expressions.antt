@@ -38,11 +38,6 @@ module _ {A : Type 0} where
   in_option None = []
   in_option (Some n) = n ∷ []
 
-  -- where there may be a type
-  abbrev pub in_optional_type : Option (TypeExpressionOf A) → List (Spanned A)
-  in_optional_type None = []
-  in_optional_type (Some t) = in_type t
-
   abbrev pub in_layer : Expression-F A → List (Spanned A)
   in_layer (Expression-F.Literal l) = []
   in_layer (Expression-F.Parenthesized x) = x.expression ∷ []

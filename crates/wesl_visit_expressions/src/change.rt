@@ -2,14 +2,14 @@
 //! expression and behind them the expression itself.
 
 ghost use Rattle.std.specs.Prelude.{◌≡◌, ◌∷◌, [], map};
-ghost use Rattle.wesl_visit_expressions.specs.Expressions.{in_argument, in_type, in_call, in_option, in_optional_type, expressions_in, around_node, around_parenthesized, around_component, around_indexing, around_unary, around_binary, around_argument, around_type, around_call, around_expressions, inside_by, around_by};
-ghost use Rattle.wesl_visit_expressions.specs.Attributes.{in_sizes, in_custom, expressions_in_attribute, in_attributes, around_sizes, around_custom, around_attribute, around_attributes};
+ghost use Rattle.wesl_visit_expressions.specs.Expressions.{in_argument, in_type, in_call, in_option, expressions_in, around_node, around_parenthesized, around_component, around_indexing, around_unary, around_binary, around_argument, around_type, around_call, around_expressions, inside_by, around_by};
+ghost use Rattle.wesl_visit_expressions.specs.Attributes.{in_sizes, in_custom, expressions_in_attribute, around_sizes, around_custom, around_attribute};
 ghost use Rattle.wesl_turns.specs.Turns.{ChangedDeep};
 ghost use Rattle.std.specs.Fn.{CalledAtMut};
 ghost use Rattle.std.specs.List.{flat_map};
 ghost use Rattle.std.specs.Option.{option_map};
 
-use wgsl_attributes::{Attribute, AttributeNode, CustomAttribute, WorkgroupSizeAttribute};
+use wgsl_attributes::{Attribute, CustomAttribute, WorkgroupSizeAttribute};
 use wgsl_expressions::{
     BinaryExpression, Expression, ExpressionNode, FunctionCall, IndexingExpression,
     NamedComponentExpression, ParenthesizedExpression, TemplateArg, TypeExpression,
@@ -240,23 +240,6 @@ pub fn change_option<E, F: FnMut(&mut ExpressionNode) -> Result<(), E>>(
     }
 }
 
-/// Meets the expressions in a type, where there is one.
-pub fn change_optional_type<E, F: FnMut(&mut ExpressionNode) -> Result<(), E>>(
-    ty: &mut Option<TypeExpression>,
-    deep: bool,
-    f: &mut F,
-) -> Result<(), E>
-    requires { F.IsAlwaysCallable f.old }
-    ensures changed { ChangedDeep (inside_by deep) (around_by deep) (CalledAtMut F.FnMut) f.old (in_optional_type ty.old) result f.new (in_optional_type ty.new) }
-    ensures rest { option_map around_type ty.new ≡ option_map around_type ty.old }
-    ensures callable { F.IsAlwaysCallable f.new }
-{
-    match ty {
-        None => Ok(()),
-        Some(ty) => change_type(ty, deep, f),
-    }
-}
-
 /// Meets the sizes of `@workgroup_size`.
 fn change_sizes<E, F: FnMut(&mut ExpressionNode) -> Result<(), E>>(
     x: &mut WorkgroupSizeAttribute,
@@ -325,21 +308,4 @@ pub fn change_attribute<E, F: FnMut(&mut ExpressionNode) -> Result<(), E>>(
         Attribute::Publish => Ok(()),
         Attribute::Else => Ok(()),
     }
-}
-
-/// Meets the expressions in attributes.
-pub fn change_attributes<E, F: FnMut(&mut ExpressionNode) -> Result<(), E>>(
-    attributes: &mut Items<AttributeNode>,
-    deep: bool,
-    f: &mut F,
-) -> Result<(), E>
-    requires { F.IsAlwaysCallable f.old }
-    ensures changed { ChangedDeep (inside_by deep) (around_by deep) (CalledAtMut F.FnMut) f.old (in_attributes attributes.old) result f.new (in_attributes attributes.new) }
-    ensures rest { around_attributes attributes.new ≡ around_attributes attributes.old }
-    ensures callable { F.IsAlwaysCallable f.new }
-{
-    for i in 0..attributes.len() {
-        change_attribute(attributes.get_mut(i).node_mut(), deep, f)?;
-    }
-    Ok(())
 }

@@ -1,13 +1,13 @@
 //! Lists of the outermost expressions inside a part of a module.
 
 ghost use Rattle.std.specs.Prelude.{◌≡◌, ◌∷◌, ◌++◌, [], OnOk};
-ghost use Rattle.wesl_visit_expressions.specs.Expressions.{in_argument, in_type, in_call, in_option, in_optional_type, expressions_in};
-ghost use Rattle.wesl_visit_expressions.specs.Attributes.{in_sizes, in_custom, expressions_in_attribute, in_attributes};
+ghost use Rattle.wesl_visit_expressions.specs.Expressions.{in_argument, in_type, in_call, in_option, expressions_in};
+ghost use Rattle.wesl_visit_expressions.specs.Attributes.{in_sizes, in_custom, expressions_in_attribute};
 ghost use Rattle.wesl_turns.specs.Turns.{pointed};
 ghost use Rattle.std.specs.List.{flat_map};
 
 use std::alloc::AllocError;
-use wgsl_attributes::{Attribute, AttributeNode, CustomAttribute, WorkgroupSizeAttribute};
+use wgsl_attributes::{Attribute, CustomAttribute, WorkgroupSizeAttribute};
 use wgsl_expressions::{Expression, ExpressionNode, FunctionCall, TemplateArg, TypeExpression};
 
 /// Lists the expressions in an expression.
@@ -116,19 +116,6 @@ pub fn find_option<'a>(
     }
 }
 
-/// Lists the expressions in a type, where there is one.
-pub fn find_optional_type<'a>(
-    ty: &'a Option<TypeExpression>,
-    found: &mut Vec<&'a ExpressionNode>,
-) -> Result<(), AllocError>
-    ensures { OnOk result (pointed found.new.items ≡ pointed found.old.items ++ (in_optional_type ty.now)) }
-{
-    match ty {
-        None => Ok(()),
-        Some(ty) => find_type(ty, found),
-    }
-}
-
 /// Lists the sizes of `@workgroup_size`.
 fn find_sizes<'a>(
     x: &'a WorkgroupSizeAttribute,
@@ -185,17 +172,4 @@ pub fn find_attribute<'a>(
         Attribute::Publish => Ok(()),
         Attribute::Else => Ok(()),
     }
-}
-
-/// Lists the expressions in attributes.
-pub fn find_attributes<'a>(
-    attributes: &'a [AttributeNode],
-    found: &mut Vec<&'a ExpressionNode>,
-) -> Result<(), AllocError>
-    ensures { OnOk result (pointed found.new.items ≡ pointed found.old.items ++ (in_attributes attributes.now)) }
-{
-    for attribute in attributes {
-        find_attribute(attribute.node(), found)?;
-    }
-    Ok(())
 }

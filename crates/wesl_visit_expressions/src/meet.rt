@@ -1,13 +1,13 @@
 //! A closure that is called at each expression and behind it at those inside it.
 
 ghost use Rattle.std.specs.Prelude.{◌∷◌, []};
-ghost use Rattle.wesl_visit_expressions.specs.Expressions.{in_argument, in_type, in_call, in_option, in_optional_type, expressions_in, expressions_inside};
-ghost use Rattle.wesl_visit_expressions.specs.Attributes.{in_sizes, in_custom, expressions_in_attribute, in_attributes};
+ghost use Rattle.wesl_visit_expressions.specs.Expressions.{in_argument, in_type, in_call, in_option, expressions_in, expressions_inside};
+ghost use Rattle.wesl_visit_expressions.specs.Attributes.{in_sizes, in_custom, expressions_in_attribute};
 ghost use Rattle.wesl_turns.specs.Turns.{CalledDeep};
 ghost use Rattle.std.specs.Fn.{CalledAt};
 ghost use Rattle.std.specs.List.{flat_map};
 
-use wgsl_attributes::{Attribute, AttributeNode, CustomAttribute, WorkgroupSizeAttribute};
+use wgsl_attributes::{Attribute, CustomAttribute, WorkgroupSizeAttribute};
 use wgsl_expressions::{
     BinaryExpression, Expression, ExpressionNode, FunctionCall, IndexingExpression, TemplateArg,
     TypeExpression,
@@ -155,21 +155,6 @@ pub fn meet_option<E, F: FnMut(&ExpressionNode) -> Result<(), E>>(
     }
 }
 
-/// Meets the expressions in a type, where there is one.
-pub fn meet_optional_type<E, F: FnMut(&ExpressionNode) -> Result<(), E>>(
-    ty: &Option<TypeExpression>,
-    f: &mut F,
-) -> Result<(), E>
-    requires { F.IsAlwaysCallable f.old }
-    ensures met { CalledDeep expressions_inside (CalledAt F.FnMut) f.old (in_optional_type ty.now) result f.new }
-    ensures callable { F.IsAlwaysCallable f.new }
-{
-    match ty {
-        None => Ok(()),
-        Some(ty) => meet_type(ty, f),
-    }
-}
-
 /// Meets the sizes of `@workgroup_size`.
 fn meet_sizes<E, F: FnMut(&ExpressionNode) -> Result<(), E>>(
     x: &WorkgroupSizeAttribute,
@@ -232,19 +217,4 @@ pub fn meet_attribute<E, F: FnMut(&ExpressionNode) -> Result<(), E>>(
         Attribute::Publish => Ok(()),
         Attribute::Else => Ok(()),
     }
-}
-
-/// Meets the expressions in attributes.
-pub fn meet_attributes<E, F: FnMut(&ExpressionNode) -> Result<(), E>>(
-    attributes: &[AttributeNode],
-    f: &mut F,
-) -> Result<(), E>
-    requires { F.IsAlwaysCallable f.old }
-    ensures met { CalledDeep expressions_inside (CalledAt F.FnMut) f.old (in_attributes attributes.now) result f.new }
-    ensures callable { F.IsAlwaysCallable f.new }
-{
-    for attribute in attributes {
-        meet_attribute(attribute.node(), f)?;
-    }
-    Ok(())
 }

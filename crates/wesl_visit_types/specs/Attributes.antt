@@ -48,12 +48,6 @@ types_in_attribute (code.Elif x) = in_node x
 types_in_attribute code.Else = []
 types_in_attribute (code.Custom x) = in_custom x
 
-abbrev pub in_attribute_node : Spanned Attribute → List (TypeExpressionOf Expression)
-in_attribute_node n = types_in_attribute n.node
-
-abbrev pub in_attributes : List (Spanned Attribute) → List (TypeExpressionOf Expression)
-in_attributes attributes = flat_map in_attribute_node attributes
-
 -- ---- all but the types
 
 abbrev pub around_sizes : WorkgroupSizeAttribute → WorkgroupSizeAttribute
@@ -89,6 +83,3 @@ around_type_attribute (code.Custom x) = code.Custom (around_custom x)
 
 abbrev pub around_attribute_node : Spanned Attribute → Spanned Attribute
 around_attribute_node n = record { node = around_type_attribute n.node; span = n.span }
-
-abbrev pub around_attributes : List (Spanned Attribute) → List (Spanned Attribute)
-around_attributes attributes = map around_attribute_node attributes

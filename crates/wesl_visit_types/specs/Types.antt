@@ -74,11 +74,6 @@ abbrev pub in_option : Option (Spanned Expression) → List (TypeExpressionOf Ex
 in_option None = []
 in_option (Some n) = types_in n.node
 
--- where there may be a type
-abbrev pub in_optional_type : Option (TypeExpressionOf Expression) → List (TypeExpressionOf Expression)
-in_optional_type None = []
-in_optional_type (Some t) = t ∷ []
-
 -- ---- all but the types: in the place of each stands one without a name
 
 abbrev pub blank : TypeExpressionOf Expression
@@ -129,10 +124,6 @@ around_argument a = record { expression = around_node a.expression }
 -- inside a type
 abbrev pub around_inside : TypeExpressionOf Expression → TypeExpressionOf Expression
 around_inside t = record { path = t.path; ident = t.ident; template_args = option_map (map around_argument) t.template_args }
-
--- where there may be a type
-abbrev pub around_type : TypeExpressionOf Expression → TypeExpressionOf Expression
-around_type t = blank
 
 -- what a visit meets inside a type before it: all, or nothing where it is not deep
 abbrev pub inside_by : Bool → TypeExpressionOf Expression → List (TypeExpressionOf Expression)

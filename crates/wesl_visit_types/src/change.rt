@@ -2,14 +2,14 @@
 //! behind them the type itself.
 
 ghost use Rattle.std.specs.Prelude.{◌≡◌, ◌∷◌, ◌++◌, [], map};
-ghost use Rattle.wesl_visit_types.specs.Types.{types_in, types_inside, in_node, in_call, in_option, in_optional_type, around_types, around_node, around_call, around_inside, around_type, inside_by, around_by};
-ghost use Rattle.wesl_visit_types.specs.Attributes.{in_sizes, in_custom, types_in_attribute, in_attributes, around_sizes, around_custom, around_type_attribute, around_attributes};
+ghost use Rattle.wesl_visit_types.specs.Types.{types_in, types_inside, in_node, in_call, in_option, around_types, around_node, around_call, around_inside, inside_by, around_by};
+ghost use Rattle.wesl_visit_types.specs.Attributes.{in_sizes, in_custom, types_in_attribute, around_sizes, around_custom, around_type_attribute};
 ghost use Rattle.wesl_turns.specs.Turns.{ChangedDeep};
 ghost use Rattle.std.specs.Fn.{CalledAtMut};
 ghost use Rattle.std.specs.List.{flat_map};
 ghost use Rattle.std.specs.Option.{option_map};
 
-use wgsl_attributes::{Attribute, AttributeNode, CustomAttribute, WorkgroupSizeAttribute};
+use wgsl_attributes::{Attribute, CustomAttribute, WorkgroupSizeAttribute};
 use wgsl_expressions::{Expression, ExpressionNode, FunctionCall, TypeExpression};
 use wgsl_items::Items;
 
@@ -152,23 +152,6 @@ pub fn change_option<E, F: FnMut(&mut TypeExpression) -> Result<(), E>>(
     }
 }
 
-/// Meets a type, where there is one.
-pub fn change_optional_type<E, F: FnMut(&mut TypeExpression) -> Result<(), E>>(
-    ty: &mut Option<TypeExpression>,
-    deep: bool,
-    f: &mut F,
-) -> Result<(), E>
-    requires { F.IsAlwaysCallable f.old }
-    ensures changed { ChangedDeep (inside_by deep) (around_by deep) (CalledAtMut F.FnMut) f.old (in_optional_type ty.old) result f.new (in_optional_type ty.new) }
-    ensures rest { option_map around_type ty.new ≡ option_map around_type ty.old }
-    ensures callable { F.IsAlwaysCallable f.new }
-{
-    match ty {
-        None => Ok(()),
-        Some(ty) => change_type(ty, deep, f),
-    }
-}
-
 /// Meets the types in the sizes of `@workgroup_size`.
 fn change_sizes<E, F: FnMut(&mut TypeExpression) -> Result<(), E>>(
     x: &mut WorkgroupSizeAttribute,
@@ -237,21 +220,4 @@ pub fn change_attribute<E, F: FnMut(&mut TypeExpression) -> Result<(), E>>(
         Attribute::Publish => Ok(()),
         Attribute::Else => Ok(()),
     }
-}
-
-/// Meets the types in attributes.
-pub fn change_attributes<E, F: FnMut(&mut TypeExpression) -> Result<(), E>>(
-    attributes: &mut Items<AttributeNode>,
-    deep: bool,
-    f: &mut F,
-) -> Result<(), E>
-    requires { F.IsAlwaysCallable f.old }
-    ensures changed { ChangedDeep (inside_by deep) (around_by deep) (CalledAtMut F.FnMut) f.old (in_attributes attributes.old) result f.new (in_attributes attributes.new) }
-    ensures rest { around_attributes attributes.new ≡ around_attributes attributes.old }
-    ensures callable { F.IsAlwaysCallable f.new }
-{
-    for i in 0..attributes.len() {
-        change_attribute(attributes.get_mut(i).node_mut(), deep, f)?;
-    }
-    Ok(())
 }

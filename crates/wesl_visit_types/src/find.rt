@@ -1,13 +1,13 @@
 //! Lists of the outermost types inside a part of a module.
 
 ghost use Rattle.std.specs.Prelude.{◌≡◌, ◌∷◌, ◌++◌, [], OnOk};
-ghost use Rattle.wesl_visit_types.specs.Types.{types_in, types_inside, in_node, in_call, in_option, in_optional_type};
-ghost use Rattle.wesl_visit_types.specs.Attributes.{in_sizes, in_custom, types_in_attribute, in_attributes};
+ghost use Rattle.wesl_visit_types.specs.Types.{types_in, types_inside, in_node, in_call, in_option};
+ghost use Rattle.wesl_visit_types.specs.Attributes.{in_sizes, in_custom, types_in_attribute};
 ghost use Rattle.wesl_turns.specs.Turns.{pointed};
 ghost use Rattle.std.specs.List.{flat_map};
 
 use std::alloc::AllocError;
-use wgsl_attributes::{Attribute, AttributeNode, CustomAttribute, WorkgroupSizeAttribute};
+use wgsl_attributes::{Attribute, CustomAttribute, WorkgroupSizeAttribute};
 use wgsl_expressions::{Expression, ExpressionNode, FunctionCall, TypeExpression};
 
 /// Lists the types in an expression.
@@ -102,19 +102,6 @@ pub fn find_option<'a>(
     }
 }
 
-/// Lists a type, where there is one.
-pub fn find_optional_type<'a>(
-    ty: &'a Option<TypeExpression>,
-    found: &mut Vec<&'a TypeExpression>,
-) -> Result<(), AllocError>
-    ensures { OnOk result (pointed found.new.items ≡ pointed found.old.items ++ (in_optional_type ty.now)) }
-{
-    match ty {
-        None => Ok(()),
-        Some(ty) => find_type(ty, found),
-    }
-}
-
 /// Lists the types in the sizes of `@workgroup_size`.
 fn find_sizes<'a>(
     x: &'a WorkgroupSizeAttribute,
@@ -171,17 +158,4 @@ pub fn find_attribute<'a>(
         Attribute::Publish => Ok(()),
         Attribute::Else => Ok(()),
     }
-}
-
-/// Lists the types in attributes.
-pub fn find_attributes<'a>(
-    attributes: &'a [AttributeNode],
-    found: &mut Vec<&'a TypeExpression>,
-) -> Result<(), AllocError>
-    ensures { OnOk result (pointed found.new.items ≡ pointed found.old.items ++ (in_attributes attributes.now)) }
-{
-    for attribute in attributes {
-        find_attribute(attribute.node(), found)?;
-    }
-    Ok(())
 }

@@ -1,13 +1,13 @@
 //! A closure that is called at each type and behind it at those inside it.
 
 ghost use Rattle.std.specs.Prelude.{◌∷◌, []};
-ghost use Rattle.wesl_visit_types.specs.Types.{types_in, types_inside, in_node, in_call, in_option, in_optional_type};
-ghost use Rattle.wesl_visit_types.specs.Attributes.{in_sizes, in_custom, types_in_attribute, in_attributes};
+ghost use Rattle.wesl_visit_types.specs.Types.{types_in, types_inside, in_node, in_call, in_option};
+ghost use Rattle.wesl_visit_types.specs.Attributes.{in_sizes, in_custom, types_in_attribute};
 ghost use Rattle.wesl_turns.specs.Turns.{CalledDeep};
 ghost use Rattle.std.specs.Fn.{CalledAt};
 ghost use Rattle.std.specs.List.{flat_map};
 
-use wgsl_attributes::{Attribute, AttributeNode, CustomAttribute, WorkgroupSizeAttribute};
+use wgsl_attributes::{Attribute, CustomAttribute, WorkgroupSizeAttribute};
 use wgsl_expressions::{Expression, ExpressionNode, FunctionCall, TypeExpression};
 
 /// Meets the types in an expression.
@@ -119,21 +119,6 @@ pub fn meet_option<E, F: FnMut(&TypeExpression) -> Result<(), E>>(
     }
 }
 
-/// Meets a type, where there is one.
-pub fn meet_optional_type<E, F: FnMut(&TypeExpression) -> Result<(), E>>(
-    ty: &Option<TypeExpression>,
-    f: &mut F,
-) -> Result<(), E>
-    requires { F.IsAlwaysCallable f.old }
-    ensures met { CalledDeep types_inside (CalledAt F.FnMut) f.old (in_optional_type ty.now) result f.new }
-    ensures callable { F.IsAlwaysCallable f.new }
-{
-    match ty {
-        None => Ok(()),
-        Some(ty) => meet_type(ty, f),
-    }
-}
-
 /// Meets the types in the sizes of `@workgroup_size`.
 fn meet_sizes<E, F: FnMut(&TypeExpression) -> Result<(), E>>(
     x: &WorkgroupSizeAttribute,
@@ -196,19 +181,4 @@ pub fn meet_attribute<E, F: FnMut(&TypeExpression) -> Result<(), E>>(
         Attribute::Publish => Ok(()),
         Attribute::Else => Ok(()),
     }
-}
-
-/// Meets the types in attributes.
-pub fn meet_attributes<E, F: FnMut(&TypeExpression) -> Result<(), E>>(
-    attributes: &[AttributeNode],
-    f: &mut F,
-) -> Result<(), E>
-    requires { F.IsAlwaysCallable f.old }
-    ensures met { CalledDeep types_inside (CalledAt F.FnMut) f.old (in_attributes attributes.now) result f.new }
-    ensures callable { F.IsAlwaysCallable f.new }
-{
-    for attribute in attributes {
-        meet_attribute(attribute.node(), f)?;
-    }
-    Ok(())
 }
