@@ -3,11 +3,8 @@
 //! of operators on scalars has a result for each operand.
 #![tactic(auto)]
 
-mod pairs;
 mod parsing;
-mod reading;
 mod scalars;
-mod types;
 mod units;
 
 use std::alloc::{AllocError, Global};
@@ -33,19 +30,8 @@ fn answer(alloc: Global, case: &str) -> Result<String, AllocError> {
         "lex" => parsing::tokens(alloc, with),
         "is_blankspace" | "is_line_break" => parsing::told(alloc, call, with),
         "number" => scalars::one_answer(alloc, with),
-        "row" | "types" => answer_of_types(alloc, call, with),
         call => units::answer(alloc, call, with),
     }
-}
-
-/// What a call on types answers: one of a group, or a row of a table.
-fn answer_of_types(alloc: Global, kind: &str, with: &str) -> Result<String, AllocError> {
-    let (group, with) = cut(with);
-    if kind == "row" {
-        return pairs::answer(alloc, group, with);
-    }
-    let (call, with) = cut(with);
-    types::answer(alloc, group, call, with)
 }
 
 /// Tells of a case whose answer differs from the one that it names. An answer that tells that memory was refused ends all.
@@ -106,7 +92,5 @@ fn check_scalars(rt: &HostRuntime, file: &str) -> io::Result<()> {
 fn main(rt: HostRuntime) -> io::Result<()> {
     check_file(&rt, "texts.txt")?;
     check_file(&rt, "units.txt")?;
-    check_scalars(&rt, "scalars.txt")?;
-    check_file(&rt, "types.txt")?;
-    check_file(&rt, "pairs.txt")
+    check_scalars(&rt, "scalars.txt")
 }
