@@ -1,7 +1,7 @@
 #!/usr/bin/env python3
-"""Writes cases of the program `wgsl_parser_cases`: places in texts and faults of modules, with what a plain slow program tells of them.
+"""Writes cases of the parser for the program `weslc_cases`: places in texts and faults of modules, with what a plain slow program tells of them.
 
-usage: tools/error_cases.py        It writes crates/wgsl_parser_cases/data/places.txt, and the count of cases into the crate's stdout.
+usage: tools/error_cases.py        It writes crates/weslc_cases/data/places.txt, and the count of cases into the crate's stdout.
 
 The plain program shares nothing with the crates: it finds line breaks by a regular expression and cuts a place by the bits of its byte.
 Of a module's fault the message and the place stand below, worked out by hand."""
@@ -100,7 +100,7 @@ def lines():
 
 
 def main():
-    print(f"{write('wgsl_parser_cases', 'places.txt', list(lines()))} cases")
+    print(f"{write('weslc_cases', 'places.txt', list(lines()))} cases")
 
 
 if __name__ == "__main__":

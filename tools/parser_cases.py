@@ -1,9 +1,9 @@
 #!/usr/bin/env python3
-"""Writes cases of faults for the program `wgsl_parser_cases`: samples of every production, and each sample with one token left out,
+"""Writes cases of faults of the parser for the program `weslc_cases`: samples of every production, and each sample with one token left out,
 doubled or replaced, with what a plain slow reading of the grammar makes of it.
 
-usage: tools/parser_cases.py        It writes what stands in crates/wgsl_parser_cases/data/texts.txt from the line
-`# By tools/parser_cases.py` on, and the count of cases into crates/wgsl_parser_cases/stdout; it says how many cases there are.
+usage: tools/parser_cases.py        It writes what stands in crates/weslc_cases/data/parser.txt from the line
+`# By tools/parser_cases.py` on, and the count of cases into crates/weslc_cases/stdout; it says how many cases there are.
 
 The plain reading shares nothing with the parser or its tables: the grammar stands below as it is written, Earley's algorithm reads
 tokens by it, and the first token at which its set is empty is the first with which no sentence goes on. Templates are found by the
@@ -15,8 +15,8 @@ import re
 
 from cases import path, write
 
-CRATE = "wgsl_parser_cases"
-NAME = "texts.txt"
+CRATE = "weslc_cases"
+NAME = "parser.txt"
 MARK = "# By tools/parser_cases.py"
 MOST = 2900
 

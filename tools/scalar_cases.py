@@ -1,8 +1,8 @@
 #!/usr/bin/env python3
-"""Writes cases of the operators on scalars for the program `weslc_unit_cases`: each operator at each stage, on all pairs of
+"""Writes cases of the operators on scalars for the program `weslc_cases`: each operator at each stage, on all pairs of
 values at the edges of their types.
 
-usage: tools/scalar_cases.py         It writes crates/weslc_unit_cases/data/scalars.txt, and says how many results it has.
+usage: tools/scalar_cases.py         It writes crates/weslc_cases/data/scalars.txt, and says how many results it has.
 
 The results are computed with Python's unbounded integers and its own bit operators, and then brought to the type: no code of
 `wgsl_scalar` is used, and none of its ways (it computes in 128 bits and tests ranges by conversions).
@@ -10,7 +10,7 @@ The results are computed with Python's unbounded integers and its own bit operat
 import collections
 import os
 
-FILE = os.path.join(os.path.dirname(os.path.abspath(__file__)), "..", "crates", "weslc_unit_cases", "data", "scalars.txt")
+FILE = os.path.join(os.path.dirname(os.path.abspath(__file__)), "..", "crates", "weslc_cases", "data", "scalars.txt")
 
 STAGES = ["const", "override", "exec"]
 BINARY = ["||", "&&", "+", "-", "*", "/", "%", "==", "!=", "<", "<=", ">", ">=", "|", "&", "^", "<<", ">>"]

@@ -1,8 +1,8 @@
 #!/usr/bin/env python3
-"""Writes cases of template lists for the program `wgsl_parser_cases`: texts chosen by hand with the answers that the grammar gives,
+"""Writes cases of template lists for the program `weslc_cases`: texts chosen by hand with the answers that the grammar gives,
 and texts made at random, from fixed seeds, with what a plain slow reading of the grammar makes of each.
 
-usage: tools/template_cases.py        It writes crates/wgsl_parser_cases/data/lists.txt, and says how many lists there are.
+usage: tools/template_cases.py        It writes crates/weslc_cases/data/lists.txt, and says how many lists there are.
 
 The plain reading shares nothing with the lexer: for each part of the grammar it finds all places where such a part may end, with
 memory and no thought of what comes next, and it reads the whole text behind each `<`. An answer shows each token by its spelling, the
@@ -13,7 +13,7 @@ import functools
 import os
 import random
 
-FILE = os.path.join(os.path.dirname(os.path.abspath(__file__)), "..", "crates", "wgsl_parser_cases", "data", "lists.txt")
+FILE = os.path.join(os.path.dirname(os.path.abspath(__file__)), "..", "crates", "weslc_cases", "data", "lists.txt")
 
 SYMBOLS = """<<= >>= && -> == != >= >> <= << -- ++ || += -= *= /= %= &= |= ^= ::
 & @ / ! [ ] { } : , = > < % - . + | ( ) ; * ~ _ ^""".split()

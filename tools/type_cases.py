@@ -1,5 +1,5 @@
 #!/usr/bin/env python3
-"""Writes crates/wgsl_types_cases/data/pairs.txt: what conversions and operators give at all pairs of scalar and vector types.
+"""Writes crates/weslc_cases/data/pairs.txt: what conversions and operators give at all pairs of scalar and vector types.
 
 This is the plain slow program of the definitions, by search alone. A conversion is a path of single steps, and its rank the
 least sum of the weights along one. An operator gives what its one candidate of the least sum of ranks gives, and refuses
@@ -127,7 +127,7 @@ def main():
         for left in TYPES:
             gives = "".join(sign(function(left, right)) for right in TYPES)
             cases.append(f"row\t{call}\t{name(left)}\t{gives}\n")
-    data = pathlib.Path(__file__).resolve().parent.parent / "crates" / "wgsl_types_cases" / "data"
+    data = pathlib.Path(__file__).resolve().parent.parent / "crates" / "weslc_cases" / "data"
     (data / "pairs.txt").write_text("# Written by tools/type_cases.py.\n" + "".join(cases))
 
 

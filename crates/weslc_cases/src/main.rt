@@ -1,9 +1,10 @@
-//! Runs the program's own door on cases that are data: an input, and the text, the error line and the status that it has to
-//! give. A line comes for each case that differs, and at last a line that counts them.
+//! Runs cases that are data: calls of the libraries with the texts that they answer, and inputs of the program with the text, the
+//! error line and the status that it has to give. A line comes for each case that differs, and lines that count them.
 #![tactic(auto)]
 
 mod case;
 mod stream;
+mod texts;
 
 use case::{input, number_at, text_at};
 use serde_json::Value;
@@ -12,7 +13,18 @@ use std::{fs, io};
 use stream::{Sink, Source};
 use weslc_bundle::serve_bundle;
 
-/// The files of cases, each a list.
+/// The files of calls.
+const CALLS: [&str; 7] = [
+    "types.txt",
+    "pairs.txt",
+    "part.txt",
+    "units.txt",
+    "parser.txt",
+    "places.txt",
+    "lists.txt",
+];
+
+/// The files of inputs of the program, each a list.
 const FILES: [&str; 9] = [
     "bundles.json",
     "fields.json",
@@ -26,6 +38,10 @@ const FILES: [&str; 9] = [
 ];
 
 fn main(rt: HostRuntime) -> io::Result<()> {
+    for path in CALLS {
+        texts::report(&rt, path)?;
+    }
+    texts::report_scalars(&rt, "scalars.txt")?;
     let (mut cases, mut differ) = (0usize, 0usize);
     for path in FILES {
         let (more, wrong) = run_file(&rt, path)?;

@@ -2,7 +2,6 @@
 
 use std::alloc::{AllocError, Global};
 use std::fmt::{Display, Write};
-use wgsl_items::CloneIn;
 use wgsl_lex::{is_blankspace, is_line_break, lex};
 use wgsl_syntax::TranslationUnit;
 use wgsl_token::{SpannedToken, Token};
@@ -65,19 +64,6 @@ fn shown_tokens(alloc: Global, tokens: &[SpannedToken]) -> Result<String, AllocE
 pub fn tokens(alloc: Global, text: &str) -> Result<String, AllocError> {
     let tokens = lex(alloc, text)?;
     shown_tokens(alloc, tokens.as_slice())
-}
-
-/// The printed text of a copy.
-pub fn printed<T: CloneIn + PartialEq + Display + Drop>(
-    alloc: Global,
-    original: &T,
-) -> Result<String, AllocError> {
-    let copy = original.clone_in(alloc)?;
-    if copy == *original {
-        copy.to_string(alloc)
-    } else {
-        String::from_str(alloc, "a copy differs")
-    }
 }
 
 /// Adds a place from what `Debug` has written of it.

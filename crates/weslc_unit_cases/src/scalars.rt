@@ -1,4 +1,4 @@
-//! Operators on scalars. A line of `data/scalars.txt`, which `tools/scalar_cases.py` computes in another way, is a call, its stage,
+//! Operators on scalars. A line of such cases, which `tools/scalar_cases.py` computes in another way, is a call, its stage,
 //! operator and left operand, where it has them, and the result for each of the operands that the first line lists: a value, or the
 //! letter of an error.
 

@@ -1,7 +1,7 @@
 //! Validation, evaluation and compiled units.
 
 use crate::cut;
-use crate::parsing::{places, printed};
+use crate::parsing::places;
 use std::alloc::{AllocError, Global};
 use std::collections::HashMap;
 use std::fmt::{Debug, Display};
@@ -18,6 +18,7 @@ use wgsl_syntax::{
     CompoundStatement, Expression, Function, GlobalDeclaration, Ident, Span, Spanned,
     TranslationUnit,
 };
+use wgsl_types_cases::told_of_copy;
 
 /// How many steps an evaluation may take.
 const MAX_STEPS: u64 = 1_000_000;
@@ -229,7 +230,7 @@ fn first_evaluated(
 /// What a call on a unit gives.
 fn of_unit(alloc: Global, call: &str, unit: &TranslationUnit) -> Result<String, AllocError> {
     match call {
-        "parse" => printed(alloc, unit),
+        "parse" => told_of_copy(alloc, unit),
         "places" => places(alloc, unit),
         "compile_unit" => compiled(alloc, unit, compile_unit(alloc, unit, MAX_STEPS)),
         "validate_wesl" => refused(alloc, validate_wesl(alloc, unit, builtin_names())),

@@ -9,7 +9,7 @@ use Rattle.wgsl_meaning.specs.declared.fault.Fault.{Fault}
 use Rattle.wgsl_meaning.specs.declared.fault.Fault.TheVariants.{StepLimit, Operation, Deferred, NegativeAttr, Name as Named}
 use Rattle.wgsl_meaning.specs.Values.{Checked, and_then}
 use Rattle.wgsl_meaning.specs.Outcome.{Outcome, Done, Failed, Deep}
-pub use Rattle.wgsl_lower_expressions.specs.Lowered.{lacks_value, unless_fault}
+pub use Rattle.wgsl_written.specs.Lacking.{lacks_value, unless_fault, unless_const, lacks, const_value}
 use Rattle.wgsl_meaning.specs.Names.{Name, plain_name}
 use Rattle.wgsl_meaning.specs.Meaning.{Types, value, typed}
 use Rattle.wgsl_meaning.specs.ConstStage.{Scope, stage, module_scope, callee_of}
@@ -20,12 +20,6 @@ use Rattle.wgsl_items.specs.declared.error.OrOutOfMemory.TheVariants.{Error, Out
 use Rattle.wgsl_eval.specs.Start.{refused, then_more, consts_of}
 
 -- ---- expressions
-
--- the written value; where there is none, the parts
-abbrev pub unless_const : Outcome LiteralInstance → Checked Exp → Checked Exp
-unless_const (Done v n) parts = Ok (written v)
-unless_const (Failed f) parts = unless_fault f parts
-unless_const Deep parts = Err StepLimit
 
 abbrev pub callee_here : Scope → Typ → Checked ScalarType
 callee_here s f = and_then (plain_name f) (callee_of s)
@@ -160,20 +154,6 @@ lowered_after order u =
     then_more (consts_of u.declarations order) (λ cs. lowered_under (module_scope u.declarations cs) u.declarations)
 
 -- ---- what code tests and keeps
-
-abbrev pub lacks : OrOutOfMemory Fault → Bool
-lacks OutOfMemory = false
-lacks (Error StepLimit) = false
-lacks (Error (Operation f)) = false
-lacks (Error (Deferred t)) = false
-lacks (Error (NegativeAttr z)) = false
-lacks (Error (Named f x)) = lacks_value f
-
--- the value of an expression, or those of several, if they have them
-abbrev pub const_value : {A : Type 0} → Outcome A → Checked (Option A)
-const_value (Done v n) = Ok (Some v)
-const_value (Failed f) = unless_fault f (Ok None)
-const_value Deep = Err StepLimit
 
 abbrev pub written_or : Checked Exp → Option LiteralInstance → Checked Exp
 written_or parts (Some v) = Ok (written v)

@@ -17,6 +17,7 @@ use Rattle.wgsl_programs.specs.Meaning.{World, plain_name, type_written, value, 
 use Rattle.wgsl_programs.specs.Calls.{const_in}
 use Rattle.wgsl_programs.specs.Programs.{Known, world, root, here}
 use Rattle.wgsl_programs.specs.Runs.{allowed, find_decl, plain}
+pub use Rattle.wgsl_written.specs.Lacking.{lacks_value, unless_fault}
 use Rattle.wgsl_eval.specs.declared.error.DeclarationFault.{DeclarationFault}
 use Rattle.wgsl_eval.specs.Start.{then_more}
 use Rattle.wgsl_items.specs.declared.error.OrOutOfMemory.{OrOutOfMemory}
@@ -43,19 +44,6 @@ written_layer e x = e
 -- an expression, or how its value is written
 abbrev pub written_for : Exp → Instance → Exp
 written_for e x = written_layer e (out-Instance x)
-
--- these faults say that an expression has no const value. Any other is a fault of the unit
-abbrev pub lacks_value : NameFault → Bool
-lacks_value NotAccessible = true
-lacks_value NotConst = true
-lacks_value f = false
-
-abbrev pub unless_fault : {A : Type 0} → Fault → Checked A → Checked A
-unless_fault StepLimit parts = Err StepLimit
-unless_fault (Operation f) parts = Err (Operation f)
-unless_fault (Deferred t) parts = Err (Deferred t)
-unless_fault (NegativeAttr z) parts = Err (NegativeAttr z)
-unless_fault (OfName f x) parts = if lacks_value f then parts else Err (OfName f x)
 
 -- the written value; where there is none, the parts
 abbrev pub unless_const : Exp → Checked Instance → Checked Exp → Checked Exp

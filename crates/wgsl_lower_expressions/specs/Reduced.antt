@@ -15,37 +15,18 @@ use Rattle.wgsl_meaning.specs.Names.{Name, plain_name}
 use Rattle.wgsl_meaning.specs.Meaning.{value, values}
 use Rattle.wgsl_meaning.specs.ConstStage.{Scope, stage, callee_of}
 use Rattle.wgsl_meaning.specs.Written.{written}
-use Rattle.wgsl_lower_expressions.specs.declared.expression.Reduced.{Reduced as CodeReduced}
-use Rattle.wgsl_lower_expressions.specs.declared.expression.Reduced.TheVariants.{Value, Parts}
+pub use Rattle.wgsl_written.specs.Reduced.{Reduced, known, rewritten, reduction, reduced_to}
 use Rattle.wgsl_lower_expressions.specs.declared.expression.Arguments.{Arguments}
 use Rattle.wgsl_lower_expressions.specs.Computed.{const_value, lowered, all_lowered}
-
-pub record Reduced : Type 0 where
-  pub value : Option LiteralInstance
-  pub text : Exp
 
 pub record AllReduced : Type 0 where
   pub values : Option (List LiteralInstance)
   pub texts : List Exp
 
-abbrev pub known : LiteralInstance → Reduced
-known v = record { value = Some v; text = written v }
-
-abbrev pub rewritten : Exp → Reduced
-rewritten d = record { value = None; text = d }
-
--- what code holds
-abbrev pub reduction : CodeReduced → Reduced
-reduction (Value v) = known v
-reduction (Parts n) = rewritten (node_tree n)
-
 abbrev pub reductions : Arguments → AllReduced
 reductions a = record { values = a.values; texts = map node_tree a.nodes }
 
 -- ---- expressions
-
-abbrev pub reduced_to : Checked (Option LiteralInstance) → Checked Exp → Checked Reduced
-reduced_to v d = and_then v (λ o. and_then d (λ e. Ok (record { value = o; text = e })))
 
 abbrev pub reduced : Scope → Exp → Checked Reduced
 reduced s e = reduced_to (const_value (value (stage s) [] e)) (lowered s e)

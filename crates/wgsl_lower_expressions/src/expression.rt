@@ -14,26 +14,16 @@ ghost use Rattle.wgsl_lower_expressions.specs.Reduced as reduced;
 use std::alloc::{AllocError, Global};
 use wgsl_enumerations::ShaderStage;
 use wgsl_eval::{
-    EvalError, Fault, NameFault, Scope, call, callee, computed, decides, eval_value, literal_value,
-    plain_name, values,
+    EvalError, Scope, call, callee, computed, decides, literal_value, plain_name, values,
 };
-use wgsl_items::{Boxed, CloneIn, Items, OrOutOfMemory, Text};
+use wgsl_items::{Boxed, CloneIn, Items, Text};
 use wgsl_scalar::{binary_scalar_op, unary_scalar_op};
 use wgsl_shader_type::LiteralInstance;
 use wgsl_syntax::{
     BinaryExpression, BinaryOperator, Expression, ExpressionNode, FunctionCall,
     ParenthesizedExpression, Span, Spanned, TypeExpression, UnaryExpression, UnaryOperator,
 };
-use wgsl_written::to_expr;
-
-/// What lowering makes of an expression.
-#[derive(Drop)]
-pub(crate) enum Reduced {
-    /// Its value.
-    Value(LiteralInstance),
-    /// The expression with its parts lowered, where it has no value.
-    Parts(ExpressionNode),
-}
+use wgsl_written::{Reduced, lacks_value, named, to_expr};
 
 /// What lowering makes of the arguments of a call.
 #[derive(Drop)]
@@ -42,36 +32,6 @@ pub(crate) struct Arguments {
     pub(crate) values: Option<Items<LiteralInstance>>,
     /// What is written for them.
     pub(crate) nodes: Items<ExpressionNode>,
-}
-
-// Whether the fault says that an expression has no const value.
-fn lacks_value(error: &EvalError) -> bool
-    ensures { result ≡ spec.lacks error.now }
-{
-    matches!(
-        error,
-        OrOutOfMemory::Error(Fault::Name(NameFault::NotAccessible | NameFault::NotConst, _))
-    )
-}
-
-// The value of an expression at the const stage, if it has one.
-fn const_value(
-    alloc: Global,
-    scope: &Scope<'_>,
-    expression: &Expression,
-) -> Result<Option<LiteralInstance>, EvalError>
-    ensures { Gives (λ v. v) (spec.const_value (meaning.value (stage (scope_of scope.now)) [] (tree expression.now))) result }
-{
-    match eval_value(alloc, scope, expression) {
-        Ok(value) => Ok(Some(value)),
-        Err(error) => {
-            if lacks_value(&error) {
-                Ok(None)
-            } else {
-                Err(error)
-            }
-        }
-    }
 }
 
 // The values of expressions at the const stage, if each has one.
@@ -151,18 +111,6 @@ fn under_operator(
         Reduced::Parts(operand) => {
             let tree = Expression::Unary(UnaryExpression { operator, operand });
             Ok(Reduced::Parts(Spanned::new(alloc, tree, span)?))
-        }
-    }
-}
-
-impl Reduced {
-    // The value, if this is one.
-    fn value(&self) -> Option<LiteralInstance>
-        ensures { result ≡ (reduced.reduction self.now).value }
-    {
-        match self {
-            Reduced::Value(value) => Some(*value),
-            Reduced::Parts(_) => None,
         }
     }
 }
@@ -312,16 +260,6 @@ pub(crate) fn reduce(
         Expression::Binary(x) => reduce_binary(alloc, scope, x, node.span()),
         Expression::FunctionCall(x) => reduce_call(alloc, scope, x.get(), node.span()),
         Expression::TypeOrIdentifier(_) => named(alloc, scope, node),
-    }
-}
-
-// A name: its value, or itself.
-fn named(alloc: Global, scope: &Scope<'_>, node: &ExpressionNode) -> Result<Reduced, EvalError>
-    ensures { Gives reduced.reduction (reduced.reduced_to (spec.const_value (meaning.value (stage (scope_of scope.now)) [] (node_tree node.now))) (spec.unless_const (meaning.value (stage (scope_of scope.now)) [] (node_tree node.now)) (Ok (node_tree node.now)))) result }
-{
-    match const_value(alloc, scope, node.node())? {
-        Some(value) => Ok(Reduced::Value(value)),
-        None => Ok(Reduced::Parts(node.clone_in(alloc)?)),
     }
 }
 

@@ -37,7 +37,8 @@ where
     }
 }
 
-fn told_of_copy<T: CloneIn + PartialEq + Display + Drop>(
+/// The text of a copy, if it equals what it copies.
+pub fn told_of_copy<T: CloneIn + PartialEq + Display + Drop>(
     alloc: Global,
     value: &T,
 ) -> Result<String, AllocError> {

@@ -1,6 +1,8 @@
-//! Values of scalars as the expressions that are written for them.
+//! What is written for a value of a scalar, and for a name.
 #![tactic(auto)]
 
+mod named;
 mod write;
 
+pub use named::{Reduced, lacks_value, named};
 pub use write::to_expr;
