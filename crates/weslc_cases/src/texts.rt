@@ -42,7 +42,12 @@ fn tell(report: &mut String, line: &str, found: &str, wanted: &str) -> Result<()
 }
 
 /// Tells of the cases of a text that differ. How many cases there are.
-fn check_all(alloc: Global, report: &mut String, path: &str, text: &str) -> Result<u64, AllocError> {
+fn check_all(
+    alloc: Global,
+    report: &mut String,
+    path: &str,
+    text: &str,
+) -> Result<u64, AllocError> {
     let mut count: u64 = 0;
     for line in text.lines() {
         if line.contains('\t') {

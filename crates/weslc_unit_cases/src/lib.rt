@@ -7,7 +7,6 @@ mod scalars;
 mod units;
 
 pub use scalars::compare_all;
-
 use std::alloc::{AllocError, Global};
 
 /// The text before the first tab, and the text behind it.

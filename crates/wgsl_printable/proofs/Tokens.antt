@@ -20,8 +20,8 @@ use Rattle.wgsl_lex.proofs.First.{word_begins}
 use Rattle.wgsl_lex.proofs.Longest.{word_is_no_trivia}
 use Rattle.wgsl_lex.proofs.Tables.{fixed_of-spelling}
 use Rattle.wgsl_round_trip.specs.Written.{IsSpelled}
-use Rattle.wgsl_round_trip.proofs.Numbers.{decimal_is, abstract_form, signed_form, unsigned_form, digits_are_ascii}
-use Rattle.wgsl_round_trip.proofs.Prints.{scalars_then, spells_ascii}
+use Rattle.wgsl_spelled.proofs.Numbers.{decimal_is, abstract_form, signed_form, unsigned_form, digits_are_ascii}
+use Rattle.wgsl_spelled.proofs.Spells.{scalars_then, spells_ascii}
 use Rattle.wgsl_items.proofs.Bools.{and_both as both}
 
 -- each token is spelled

@@ -26,7 +26,7 @@ use Rattle.wgsl_lex.proofs.Tables.{begins_word}
 use Rattle.wgsl_round_trip.specs.Printing.{StandsFor}
 use Rattle.wgsl_round_trip.specs.Same.{ImportsOfTextsAreApart}
 use Rattle.wgsl_round_trip.proofs.Pieces.{Spelled, identifier_word}
-use Rattle.wgsl_round_trip.proofs.Forms.{made, of_some}
+use Rattle.wgsl_spelled.proofs.Forms.{made, of_some}
 use Rattle.wgsl_round_trip.proofs.Expressions.{Knowns, knowns_front, knowns_behind}
 use Rattle.wgsl_round_trip.proofs.Declarations.{tokens_known}
 

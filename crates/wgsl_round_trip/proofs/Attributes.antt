@@ -13,8 +13,9 @@ use Rattle.wgsl_parser_spec.specs.Languages.{no_more, again}
 use Rattle.wgsl_grammar.specs.Expressions.{IsSum}
 use Rattle.wgsl_grammar.specs.Attributes.{no_comma, IsAttribute, fragment, location}
 use Rattle.wgsl_grammar.specs.Declarations.{IsAttributes}
-use Rattle.wgsl_round_trip.proofs.Prints.{Nothing, nothing, Is, is, Joined, joined, prints_as, prints_where, prints_then, prints_behind, prints_nothing, spells_then, spells_ascii, anything}
-use Rattle.wgsl_round_trip.proofs.Marks.{stops}
+use Rattle.wgsl_round_trip.proofs.Prints.{Nothing, nothing, Is, is, Joined, joined, prints_as, prints_where, prints_then, prints_behind, prints_nothing, anything}
+use Rattle.wgsl_spelled.proofs.Spells.{spells_then, spells_ascii}
+use Rattle.wgsl_spelled.proofs.Marks.{stops}
 use Rattle.wgsl_round_trip.proofs.Pieces.{word_piece, prints_space, prints_paren_left, prints_paren_right, prints_attr}
 use Rattle.wgsl_round_trip.proofs.Expressions.{Knowns, knowns_front, knowns_behind, Gives, gives, again_sum}
 use Rattle.wgsl_round_trip.proofs.Back.{Means, means, Back}

@@ -1,7 +1,8 @@
 -- Phrases for what is seen in one way, and texts that are read as such.
 use Rattle.std.proofs.Common.{◌≡◌, ℕ, Bool, List}
 use Rattle.wgsl_token.specs.declared.token.SpannedToken.{SpannedToken}
-use Rattle.wgsl_round_trip.proofs.Prints.{Prints, Spells}
+use Rattle.wgsl_round_trip.proofs.Prints.{Prints}
+use Rattle.wgsl_spelled.proofs.Spells.{Spells}
 
 -- a phrase for what is seen so
 pub data Means {A B : Type 0} (P : List SpannedToken → A → Type 0) (view : A → B) (b : B) : List SpannedToken → Type 0 where

@@ -30,8 +30,9 @@ use Rattle.wgsl_grammar.specs.Declarations.{ident, IsType, type, IsAttributes, I
 use Rattle.wgsl_lex.specs.Tokens.{Lexes, at_the_end, behind_trivia, a_token, no_token}
 use Rattle.wgsl_lex.proofs.Once.{lexed_once}
 use Rattle.wgsl_round_trip.specs.Printing.{StandsFor, PrintsBack, PrintsTheSame}
-use Rattle.wgsl_round_trip.proofs.Prints.{Prints, Nothing, nothing, Is, is, Joined, joined, prints_as, prints_then, prints_behind, prints_before, prints_nothing, Spells, spells_then, spells_ascii, anything}
-use Rattle.wgsl_round_trip.proofs.Marks.{stops}
+use Rattle.wgsl_round_trip.proofs.Prints.{Prints, Nothing, nothing, Is, is, Joined, joined, prints_as, prints_then, prints_behind, prints_before, prints_nothing, anything}
+use Rattle.wgsl_spelled.proofs.Spells.{Spells, spells_then, spells_ascii}
+use Rattle.wgsl_spelled.proofs.Marks.{stops}
 use Rattle.wgsl_round_trip.proofs.Pieces.{Spelled, word_piece, prints_space, prints_line_break, prints_paren_left, prints_paren_right, prints_brace_left, prints_brace_right, prints_comma, prints_semicolon, prints_separator, prints_arrow, prints_equal, prints_colon, prints_const, prints_fn, prints_return, prints_import, prints_package}
 use Rattle.wgsl_round_trip.proofs.Back.{Means, means, Back}
 use Rattle.wgsl_round_trip.proofs.Attributes.{attributes_back}

@@ -23,8 +23,9 @@ use Rattle.wgsl_syntax.proofs.Trees.{tree_of_literal, tree_of_parenthesized, tre
 use Rattle.wgsl_grammar.specs.Terminals.{literal_of, additive, multiplicative, type_named}
 use Rattle.wgsl_grammar.specs.Expressions.{IsPrimary, number, name, paren, IsArguments, no_arguments, arguments, IsExpressions, last_expression, last_and_comma, more_expressions, IsUnary, primary, negation, IsProduct, unary, times, IsSum, product, plus}
 use Rattle.wgsl_grammar.specs.Expressions as grammar
-use Rattle.wgsl_round_trip.proofs.Prints.{Prints, Nothing, nothing, Is, is, Joined, joined, prints_as, prints_where, prints_then, prints_behind, prints_nothing, Spells, spells_then, spells_ascii}
-use Rattle.wgsl_round_trip.proofs.Marks.{stops, spaced, no_sign}
+use Rattle.wgsl_round_trip.proofs.Prints.{Prints, Nothing, nothing, Is, is, Joined, joined, prints_as, prints_where, prints_then, prints_behind, prints_nothing}
+use Rattle.wgsl_spelled.proofs.Spells.{Spells, spells_then, spells_ascii}
+use Rattle.wgsl_spelled.proofs.Marks.{stops, spaced, no_sign}
 use Rattle.wgsl_round_trip.proofs.Pieces.{begins_plainly, Spelled, word_piece, number_piece, prints_space, prints_paren_left, prints_paren_right, prints_comma, prints_minus, prints_plus, prints_star, prints_slash, prints_percent}
 
 -- Each token is spelled by some characters, or is none.

@@ -18,10 +18,11 @@ use Rattle.wgsl_lex.proofs.Bools.{differs}
 use Rattle.wgsl_lex.proofs.Tables.{begins_word, fixed_of-spelling}
 use Rattle.wgsl_lex.proofs.Forms.{trivia_form, fixed_form}
 use Rattle.wgsl_grammar.specs.Terminals.{literal_of}
-use Rattle.wgsl_round_trip.proofs.Marks.{stops, spaced, no_sign, alone_no_longer, pair_no_longer, spaced_no_longer, minus_no_longer, word_no_longer}
-use Rattle.wgsl_round_trip.proofs.Forms.{Made, as_fixed, as_word, as_number, made, of_some, word_is, Numeral, abstract, signed, unsigned, float, single, half, past, number_numeral}
-use Rattle.wgsl_round_trip.proofs.Numbers.{decimal_is, number_no_longer, abstract_form, signed_form, unsigned_form, digits_are_ascii, digit_is_no_sign, begins_with_digit}
-use Rattle.wgsl_round_trip.proofs.Prints.{Prints, Spells, spells_then, spells_ascii, Nothing, Is, prints_token, prints_trivia, anything}
+use Rattle.wgsl_spelled.proofs.Marks.{stops, spaced, no_sign, alone_no_longer, pair_no_longer, spaced_no_longer, minus_no_longer, word_no_longer}
+use Rattle.wgsl_spelled.proofs.Forms.{Made, as_fixed, as_word, as_number, made, of_some, word_is, Numeral, abstract, signed, unsigned, float, single, half, past, number_numeral}
+use Rattle.wgsl_spelled.proofs.Numbers.{decimal_is, number_no_longer, abstract_form, signed_form, unsigned_form, digits_are_ascii, digit_is_no_sign, begins_with_digit}
+use Rattle.wgsl_round_trip.proofs.Prints.{Prints, Nothing, Is, prints_token, prints_trivia, anything}
+use Rattle.wgsl_spelled.proofs.Spells.{Spells, spells_then, spells_ascii}
 
 -- A token that some characters spell.
 pub record Spelled (k : Token) : Type 0 where
@@ -154,7 +155,7 @@ word_begins (c ∷ []) h = (c, [], refl, ap (λ b. b || (c == 95)) h)
 word_begins (c ∷ d ∷ ds) h = (c, d ∷ ds, refl, (and_parts (begins_word c) (list_all is_xid_continue (d ∷ ds)) h).0)
 
 pub identifier_word : (cs id : List ℕ) → Made cs (t.Identifier id) → (is_word cs ≡ true) × (encode_utf8_all cs ≡ id)
-identifier_word cs id (as_fixed g e) = absurd cc
+identifier_word cs id (as_fixed g e spelled) = absurd cc
 identifier_word cs id (as_word w e) = (w, word_is cs id e)
 identifier_word cs id (as_number e) = no_numeral (number_numeral cs (t.Identifier id) e)
   where
@@ -180,7 +181,7 @@ word_no_literal cs = go (begins_with_two_underscores cs) (is_reserved cs)
     go false false = refl
 
 literal_numeral : (n : Token) (l : LiteralExpression) (cs : List ℕ) → literal_of n ≡ Some l → Made cs n → Numeral n
-literal_numeral n l cs eq (as_fixed g e) = let wrong : None ≡ Some l = sym (ap literal_of e) ∙ eq in absurd cc
+literal_numeral n l cs eq (as_fixed g e spelled) = let wrong : None ≡ Some l = sym (ap literal_of e) ∙ eq in absurd cc
 literal_numeral n l cs eq (as_word w e) = let wrong : None ≡ Some l = sym (ap literal_of e ∙ word_no_literal cs) ∙ eq in absurd cc
 literal_numeral n l cs eq (as_number e) = number_numeral cs n e
 

@@ -6,9 +6,8 @@ mod pairs;
 mod reading;
 mod types;
 
-pub use types::told_of_copy;
-
 use std::alloc::{AllocError, Global};
+pub use types::told_of_copy;
 
 /// The text before the first tab, and the text behind it.
 fn cut(text: &str) -> (&str, &str) {

@@ -12,12 +12,14 @@ use Rattle.wgsl_token.specs.declared.token.Token.TheVariants as t
 use Rattle.wgsl_token.specs.declared.token.Fixed.{Fixed}
 use Rattle.wgsl_lex.specs.Floats.{empty, one, many, some, optional, is_point, is_sign, is_zero, is_mark, is_e, is_p, exponent, decimal_exponent, binary_exponent, float_of, hexadecimal, is_decimal_float, is_hexadecimal_float, is_float, is_decimal, takes_float_suffix}
 use Rattle.wgsl_lex.specs.Tokens.{plain_number, number_with, is_trivia, is_word, fixed_of, form, trivia, token, is_reserved, word_token, begins_with_two_underscores, magnitude, zero_led_value, abstract_token, signed_token, unsigned_token, number_token, digits_value}
+use Rattle.wgsl_token.specs.Spelling.{spelling}
+use Rattle.wgsl_lex.proofs.Tables.{spelled_as}
 use Rattle.wgsl_lex.proofs.Forms.{trivia_form, fixed_form, word_form, number_form, nothing, last, ends, number_token-append}
 use Rattle.wgsl_items.proofs.Bools.{or_right, or_left}
 
 -- which rule makes some characters a token
 pub data Made (cs : List ℕ) (k : Token) : Type 0 where
-  as_fixed : (g : Fixed) → k ≡ t.Fixed g → Made cs k
+  as_fixed : (g : Fixed) → k ≡ t.Fixed g → spelling g ≡ cs → Made cs k
   as_word : is_word cs ≡ true → k ≡ word_token cs → Made cs k
   as_number : number_token cs ≡ Some k → Made cs k
 
@@ -39,7 +41,7 @@ made cs k e = by_trivia (is_trivia cs) refl
     by_word no_trivia no_fixed false w = as_number (mapped_token (number_token cs) k (sym (number_form cs no_trivia no_fixed w) ∙ e))
 
     by_fixed : is_trivia cs ≡ false → (o : Option Fixed) → fixed_of cs ≡ o → Made cs k
-    by_fixed no_trivia (Some g) found = as_fixed g (sym (of_token (sym (fixed_form cs g no_trivia found) ∙ e)))
+    by_fixed no_trivia (Some g) found = as_fixed g (sym (of_token (sym (fixed_form cs g no_trivia found) ∙ e))) (spelled_as cs g found)
     by_fixed no_trivia None found = by_word no_trivia found (is_word cs) refl
 
     by_trivia : (b : Bool) → is_trivia cs ≡ b → Made cs k

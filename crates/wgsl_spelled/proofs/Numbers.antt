@@ -16,8 +16,8 @@ use Rattle.wgsl_token.specs.declared.token.Token.TheVariants as t
 use Rattle.wgsl_lex.specs.Floats.{is_float}
 use Rattle.wgsl_lex.specs.Tokens.{form, token, digit_value, digits_value, magnitude, abstract_token, signed_token, unsigned_token, plain_number, suffixed_number, number_token, NoLonger}
 use Rattle.wgsl_lex.proofs.Forms.{digit_form, number_token-append}
-use Rattle.wgsl_round_trip.proofs.Forms.{is_magnitude_char, is_float_char, is_number_char, all_weaker, magnitude_chars, float_chars, number_chars}
-use Rattle.wgsl_round_trip.proofs.Marks.{stops, no_longer, all_fails, at_stop}
+use Rattle.wgsl_spelled.proofs.Forms.{is_magnitude_char, is_float_char, is_number_char, all_weaker, magnitude_chars, float_chars, number_chars}
+use Rattle.wgsl_spelled.proofs.Marks.{stops, no_longer, all_fails, at_stop}
 
 -- a number in decimal
 pub record IsDecimal (n : ℕ) (ds : List ℕ) : Type 0 where
@@ -87,7 +87,7 @@ no_plain_with cs d more h g = rw (no_magnitude_with cs d more g, no_float (is_fl
     no_float false e = e
     no_float true e = let wrong : true ≡ false = sym (float_chars (cs ++ d ∷ more) e) ∙ all_fails is_float_char cs d more h in absurd cc
 
-no_number_with : (cs : List ℕ) (d : ℕ) (more : List ℕ) → is_number_char d ≡ false → number_token (cs ++ d ∷ more) ≡ None
+pub no_number_with : (cs : List ℕ) (d : ℕ) (more : List ℕ) → is_number_char d ≡ false → number_token (cs ++ d ∷ more) ≡ None
 no_number_with cs d more h = go (number_token (cs ++ d ∷ more)) refl
   where
     go : (k : Option Token) → number_token (cs ++ d ∷ more) ≡ k → number_token (cs ++ d ∷ more) ≡ None

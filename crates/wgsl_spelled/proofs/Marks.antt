@@ -1,7 +1,6 @@
 -- What stands behind a token that has been printed makes no longer form with it.
 use Rattle.std.proofs.Common.{◌≡◌, refl, sym, ap, ◌∙◌, subst, ℕ, Bool, true, false, not, ◌&&◌, ◌||◌, ◌==◌, List, [], ◌∷◌, ◌++◌, codes, None, inl, inr}
 use Rattle.std.specs.List.{list_all}
-use Rattle.std.specs.Char.{is_ascii_digit}
 use Rattle.std.proofs.lemmas.Bool.{eqb-true, eq-eqb, or_cases}
 use Rattle.unicode_ident.specs.Ident.{is_xid_continue}
 use Rattle.unicode_ident.proofs.Computing.{unicode_ident}
@@ -139,7 +138,7 @@ all_fails p (c ∷ cs) d more h = ap (λ b. p c && b) (all_fails p cs d more h) 
     and_no true = refl
     and_no false = refl
 
-word_no_form : (c : ℕ) (es : List ℕ) → begins_word c ≡ true → list_all is_xid_continue es ≡ false → form (c ∷ es) ≡ None
+pub word_no_form : (c : ℕ) (es : List ℕ) → begins_word c ≡ true → list_all is_xid_continue es ≡ false → form (c ∷ es) ≡ None
 word_no_form c [] w e = absurd cc
 word_no_form c (d ∷ es) w e =
     no_form c (d ∷ es) (no_trivia c d es (word_no_slash c w)) (no_fixed stays_word spellings_stay_words (c ∷ d ∷ es) (rw (w, e))) (rw (w, e)) (opens_none c (d ∷ es) (word_no_number c w))

@@ -1,0 +1,5 @@
+pub mod Spells
+pub mod Forms
+pub mod Marks
+pub mod Numbers
+pub mod Ends

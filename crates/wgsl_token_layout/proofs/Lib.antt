@@ -1,0 +1,4 @@
+pub mod Pieces
+pub mod Ahead
+pub mod Levels
+pub mod Marked

@@ -1,0 +1,19 @@
+-- Laws of texts with the same tokens.
+use Rattle.std.specs.Prelude.{◌≡◌, ℕ, List, map}
+use Rattle.wgsl_template_spec.specs.declared.token.TemplateToken.{TemplateToken}
+use Rattle.wgsl_template_spec.specs.declared.token.SpannedTemplateToken.{SpannedTemplateToken}
+use Rattle.wgsl_template_spec.specs.Tokens.{IsLexed}
+use Rattle.wgsl_token_layout.specs.Layout.{IsTextOf}
+
+-- tokens without their places
+abbrev pub without_places : List SpannedTemplateToken → List TemplateToken
+without_places tokens = map (λ t. t.token) tokens
+
+-- A text is laid out as its tokens.
+abbrev pub LaidOutAsItsTokens : Type 0
+LaidOutAsItsTokens = (text : List ℕ) (tokens : List SpannedTemplateToken) → IsLexed text tokens → IsTextOf (without_places tokens) text
+
+-- A text that is laid out as the tokens of another has these tokens, at places of its own.
+abbrev pub LaidOutAlike : Type 0
+LaidOutAlike = (text other : List ℕ) (tokens : List SpannedTemplateToken) → IsLexed text tokens → IsTextOf (without_places tokens) other
+    → (found : List SpannedTemplateToken) × IsLexed other found × (without_places found ≡ without_places tokens)

@@ -1,0 +1,13 @@
+//! Laws of texts with the same tokens. Each function states one, and does nothing.
+
+ghost use Rattle.wgsl_token_layout.specs.Laws.{LaidOutAsItsTokens, LaidOutAlike};
+
+/// A text is laid out as its tokens.
+pub fn laid_out_as_its_tokens()
+    ensures { LaidOutAsItsTokens }
+{}
+
+/// A text that is laid out as the tokens of another has these tokens, template lists among them.
+pub fn laid_out_alike()
+    ensures { LaidOutAlike }
+{}
