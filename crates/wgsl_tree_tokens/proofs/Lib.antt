@@ -1,0 +1,5 @@
+pub mod Lays
+pub mod Signs
+pub mod Floats
+pub mod Leaves
+pub mod Expressions
