@@ -2,3 +2,5 @@ pub mod Pieces
 pub mod Ahead
 pub mod Levels
 pub mod Marked
+pub mod Alike
+pub mod Commas

@@ -22,11 +22,11 @@ use Rattle.wgsl_token_layout.proofs.Pieces.{greater, less, told}
 use Rattle.wgsl_token_layout.proofs.Levels.{beyond, list_closes}
 use Rattle.wgsl_token_layout.proofs.Ahead.{ahead, closes, kinds_of, own, ReadsAhead, reads_ahead, closed_beyond}
 
-abbrev own_list : List Bracket
+abbrev pub own_list : List Bracket
 own_list = b.TemplateList ∷ []
 
 -- what stands behind a `<` begins with a list
-abbrev Lists : List TemplateToken → Type 0
+abbrev pub Lists : List TemplateToken → Type 0
 Lists ts = BeginsWithList (kinds_of (ahead own_list ts))
 
 -- Tokens behind a word or not, where some brackets are still, of which each is told as it stands.
@@ -105,7 +105,7 @@ module _ (ys : List ℕ) (ts : List TemplateToken) (a : ReadsAhead in_list ys ow
 
 -- The tokens of a text are told as they stand
 
-marked : (s : State) (xs : List ℕ) (tokens : List SpannedTemplateToken) (last : State) (left : List ℕ) → Reads s xs tokens last left → left ≡ [] → Marked s.after_word s.opened (without_places tokens)
+pub marked : (s : State) (xs : List ℕ) (tokens : List SpannedTemplateToken) (last : State) (left : List ℕ) → Reads s xs tokens last left → left ≡ [] → Marked s.after_word s.opened (without_places tokens)
 marked s xs _ _ _ (nothing) e = none
 marked s xs tokens last left (behind_trivia n h l) e = marked (past s (take n xs)) (drop n xs) tokens last left l e
 marked s xs _ last left (a_token {tokens = tokens} n t h l) e = go n t h l (marked (after s (take n xs) t) (drop n xs) tokens last left l e)
@@ -127,11 +127,11 @@ marked s xs _ last left (a_token {tokens = tokens} n t h l) e = go n t h l (mark
 
 -- Such tokens are those of each text that is laid out as them
 
-record Found (r : State) (ys : List ℕ) (ts : List TemplateToken) : Type 0 where
-  tokens : List SpannedTemplateToken
-  last : State
-  reads : Reads r ys tokens last []
-  are : without_places tokens ≡ ts
+pub record Found (r : State) (ys : List ℕ) (ts : List TemplateToken) : Type 0 where
+  pub tokens : List SpannedTemplateToken
+  pub last : State
+  pub reads : Reads r ys tokens last []
+  pub are : without_places tokens ≡ ts
 
 behind_token : (r : State) (ys : List ℕ) (n : ℕ) (t : TemplateToken) (ts : List TemplateToken) → Stands r ys n t → Found (after r (take n ys) t) (drop n ys) ts → Found r ys (t ∷ ts)
 behind_token r ys n t ts stands rest = record {
@@ -153,7 +153,7 @@ module _ (r : State) (ys : List ℕ) (n : ℕ) (t : TemplateToken) (ts : List Te
   opens_none_there : (Lists ts → ⊥) → Opens (drop n ys) false
   opens_none_there never = no_list ahead_of_rest.reads (begins_none (drop n ys) ts ahead_of_rest never)
 
-found : (ys : List ℕ) (ts : List TemplateToken) → IsLaidOut ys ts → (w : Bool) (o : List Bracket) → Marked w o ts → (r : State) → r.after_word ≡ w → r.opened ≡ o → Found r ys ts
+pub found : (ys : List ℕ) (ts : List TemplateToken) → IsLaidOut ys ts → (w : Bool) (o : List Bracket) → Marked w o ts → (r : State) → r.after_word ≡ w → r.opened ≡ o → Found r ys ts
 found _ _ (layout.at_the_end) w o m r e f = record { tokens = []; last = r; reads = nothing; are = refl }
 found ys ts (layout.behind_trivia n h l) w o m r e f =
     let rest = found (drop n ys) ts l w o m (past r (take n ys)) e f in

@@ -1,6 +1,6 @@
 //! Laws of texts with the same tokens. Each function states one, and does nothing.
 
-ghost use Rattle.wgsl_token_layout.specs.Laws.{LaidOutAsItsTokens, LaidOutAlike};
+ghost use Rattle.wgsl_token_layout.specs.Laws.{LaidOutAsItsTokens, LaidOutAlike, LaidOutButForLastCommas};
 
 /// A text is laid out as its tokens.
 pub fn laid_out_as_its_tokens()
@@ -10,4 +10,9 @@ pub fn laid_out_as_its_tokens()
 /// A text that is laid out as the tokens of another has these tokens, template lists among them.
 pub fn laid_out_alike()
     ensures { LaidOutAlike }
+{}
+
+/// The same, where the tokens differ in last commas of arguments and template lists.
+pub fn laid_out_but_for_last_commas()
+    ensures { LaidOutButForLastCommas }
 {}
