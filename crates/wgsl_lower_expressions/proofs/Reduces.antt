@@ -37,8 +37,8 @@ use Rattle.wgsl_meaning.specs.Meaning.{value, values, between, construct, called
 use Rattle.wgsl_meaning.specs.ConstStage.{Scope, stage, callee_of, callee_at}
 use Rattle.wgsl_meaning.specs.Written.{written}
 use Rattle.wgsl_eval.specs.Ends.{Gives}
-use Rattle.wgsl_written.specs.declared.named.Reduced.{Reduced as CodeReduced}
-use Rattle.wgsl_written.specs.declared.named.Reduced.TheVariants.{Parts}
+use Rattle.wgsl_written.specs.declared.name.Reduced.{Reduced as CodeReduced}
+use Rattle.wgsl_written.specs.declared.name.Reduced.TheVariants.{Parts}
 use Rattle.wgsl_lower_expressions.specs.Computed.{lacks_value, unless_fault, lowered, all_lowered, parts, const_value, written_or, callee_here}
 use Rattle.wgsl_lower_expressions.specs.Reduced.{Reduced, AllReduced, known, rewritten, reduction, reduced_to, reduced, all_reduced_to, all_reduced, in_parentheses, operated, under_operator, decided_by, between_operands, constructor_name, ended, of_arguments, all_valued, with_argument, joined_values, before_more}
 use Rattle.wgsl_lower_expressions.proofs.Parts.{lowered_is}

@@ -5,8 +5,8 @@ use Rattle.wgsl_syntax.specs.View.{node_tree}
 use Rattle.wgsl_shader_type.specs.declared.literal.LiteralInstance.{LiteralInstance}
 use Rattle.wgsl_meaning.specs.Values.{Checked, and_then}
 use Rattle.wgsl_meaning.specs.Written.{written}
-use Rattle.wgsl_written.specs.declared.named.Reduced.{Reduced as CodeReduced}
-use Rattle.wgsl_written.specs.declared.named.Reduced.TheVariants.{Value, Parts}
+use Rattle.wgsl_written.specs.declared.name.Reduced.{Reduced as CodeReduced}
+use Rattle.wgsl_written.specs.declared.name.Reduced.TheVariants.{Value, Parts}
 
 pub record Reduced : Type 0 where
   pub value : Option LiteralInstance
