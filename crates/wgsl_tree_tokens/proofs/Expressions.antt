@@ -162,17 +162,23 @@ separator_run = sign_run lays_separator refl
 then_word : {ts : List TemplateToken} {xs : List ℕ} (name : List ℕ) → Phrase ends_word ts xs → IsSpelled (t.Identifier name) → Phrase ends_word (ts ++ (mark f.PathSeparator ∷ word name ∷ [])) (xs ++ (codes "::" ++ name))
 then_word name p s = phrase_then p (run_then separator_run (leaf_run (word_leaf name s)) (λ rest ok. free _)) (λ rest ok. at_colon (58 ∷ ((word_leaf name s).characters ++ rest)))
 
-are_front : (ts us : List TemplateToken) → AreSpelled (ts ++ us) → AreSpelled ts
+pub are_front : (ts us : List TemplateToken) → AreSpelled (ts ++ us) → AreSpelled ts
 are_front [] us h = tt
 are_front (Plain k ∷ ts) us h = (h.0, are_front ts us h.1)
 are_front (TemplateArgsStart ∷ ts) us h = are_front ts us h
 are_front (TemplateArgsEnd ∷ ts) us h = are_front ts us h
 
-are_behind : (ts us : List TemplateToken) → AreSpelled (ts ++ us) → AreSpelled us
+pub are_behind : (ts us : List TemplateToken) → AreSpelled (ts ++ us) → AreSpelled us
 are_behind [] us h = h
 are_behind (Plain k ∷ ts) us h = are_behind ts us h.1
 are_behind (TemplateArgsStart ∷ ts) us h = are_behind ts us h
 are_behind (TemplateArgsEnd ∷ ts) us h = are_behind ts us h
+
+pub are_both : (ts us : List TemplateToken) → AreSpelled ts → AreSpelled us → AreSpelled (ts ++ us)
+are_both [] us h g = g
+are_both (Plain k ∷ ts) us h g = (h.0, are_both ts us h.1 g)
+are_both (TemplateArgsStart ∷ ts) us h g = are_both ts us h g
+are_both (TemplateArgsEnd ∷ ts) us h g = are_both ts us h g
 
 -- Paths and names
 

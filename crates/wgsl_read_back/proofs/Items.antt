@@ -1,0 +1,97 @@
+-- A symbol of a row and what stands there: what is printed of it derives it again.
+use Rattle.std.proofs.Common.{◌≡◌, refl, sym, ap, ◌∙◌, subst, ℕ, Bool, List, [], ◌∷◌, ◌++◌, append_assoc, append-nil, map, Option, Some, None}
+use Rattle.wgsl_template_spec.specs.declared.token.TemplateToken.{TemplateToken}
+use Rattle.wgsl_template_spec.specs.declared.token.TemplateToken.TheVariants.{Plain, TemplateArgsStart, TemplateArgsEnd}
+use Rattle.wgsl_template_spec.specs.declared.token.SpannedTemplateToken.{SpannedTemplateToken}
+use Rattle.wgsl_template_spec.specs.Kinds.{kind}
+use Rattle.wgsl_token_layout.specs.Laws.{without_places}
+use Rattle.wgsl_token_layout.specs.Commas.{Before, before, groups, AreAlike, same}
+use Rattle.wgsl_tree_tokens.specs.Printable.{AreSpelled}
+use Rattle.wgsl_shift_reduce.specs.Grammars.{Symbol, token, phrase, Grammar, Derives, a_token, Row, done, next}
+use Rattle.wgsl_parts.specs.declared.part.Part.{Part}
+use Rattle.wgsl_phrases.specs.declared.phrase.Phrase.{Phrase}
+use Rattle.wgsl_grammar_tables.specs.Classes.{class_of}
+use Rattle.wgsl_reading.specs.Phrases.{leaf, grammar}
+use Rattle.wgsl_read_back.proofs.Views.{View, view_tokens, Stands, ends_as}
+use Rattle.wgsl_read_back.proofs.Views as v
+
+-- ---- tokens without places
+
+pub places_append : (a b : List SpannedTemplateToken) → without_places (a ++ b) ≡ without_places a ++ without_places b
+places_append [] b = refl
+places_append (t ∷ a) b = ap (λ x. t.token ∷ x) (places_append a b)
+
+pub record Split (w : List SpannedTemplateToken) (ts us : List TemplateToken) : Type 0 where
+  pub front : List SpannedTemplateToken
+  pub rest : List SpannedTemplateToken
+  pub whole : front ++ rest ≡ w
+  pub front_is : without_places front ≡ ts
+  pub rest_is : without_places rest ≡ us
+
+pub split : (w : List SpannedTemplateToken) (ts us : List TemplateToken) → without_places w ≡ ts ++ us → Split w ts us
+split w [] us e = record { front = []; rest = w; whole = refl; front_is = refl; rest_is = e }
+split [] (t ∷ ts) us e = absurd cc
+split (k ∷ w) (t ∷ ts) us e =
+    let same : k.token ≡ t = cc in
+    let tails : without_places w ≡ ts ++ us = cc in
+    let s = split w ts us tails in
+    record { front = k ∷ s.front; rest = s.rest; whole = ap (λ x. k ∷ x) s.whole; front_is = (λ i. same i ∷ s.front_is i); rest_is = s.rest_is }
+
+-- ---- last commas
+
+-- from one state to another over tokens that are alike, whatever stands behind them
+abbrev pub Cont : Before → List Bool → List TemplateToken → List TemplateToken → Before → List Bool → Type 0
+Cont b o u v c p = (ts us : List TemplateToken) → AreAlike c p ts us → AreAlike b o (u ++ ts) (v ++ us)
+
+pub record Steps (b : Before) (o : List Bool) (u v : List TemplateToken) : Type 0 where
+  pub last : Before
+  pub opened : List Bool
+  pub cont : Cont b o u v last opened
+
+moved : {b : Before} {o : List Bool} {u v x y : List TemplateToken} → u ≡ x → v ≡ y → AreAlike b o u v → AreAlike b o x y
+moved {b = b} {o = o} e h a = let P : List TemplateToken × List TemplateToken → Type 0 = λ x. AreAlike b o x.0 x.1 in subst P (λ i. (e i, h i)) a
+
+pub cont_then : (b : Before) (o : List Bool) (u v : List TemplateToken) (c : Before) (p : List Bool) (x y : List TemplateToken) (d : Before) (q : List Bool) → Cont b o u v c p → Cont c p x y d q → Cont b o (u ++ x) (v ++ y) d q
+cont_then b o u v c p x y d q f h ts us a = moved (sym (append_assoc u x ts)) (sym (append_assoc v y us)) (f (x ++ ts) (y ++ us) (h ts us a))
+
+pub cont_as : (b : Before) (o : List Bool) (u v x y : List TemplateToken) (c : Before) (p : List Bool) → u ≡ x → v ≡ y → Cont b o u v c p → Cont b o x y c p
+cont_as b o u v x y c p e h f = let P : List TemplateToken × List TemplateToken → Type 0 = λ z. Cont b o z.0 z.1 c p in subst P (λ i. (e i, h i)) f
+
+-- ---- items
+
+pub record Again (s : Symbol) (v : View) (w : List SpannedTemplateToken) : Type 0 where
+  pub value : Phrase Part
+  pub derives : Derives grammar s w value
+  pub stands : Stands value.part v
+  pub passes : value.failure ≡ None
+
+pub record Item (s : Symbol) (v : View) (u : List SpannedTemplateToken) (x : Phrase Part) : Type 0 where
+  pub stands : Stands x.part v
+  pub passes : x.failure ≡ None
+  pub again : (w : List SpannedTemplateToken) → without_places w ≡ view_tokens v → Again s v w
+  pub spelled : AreSpelled (without_places u) → AreSpelled (view_tokens v)
+  pub steps : (b : Before) (o : List Bool) → Steps b o (without_places u) (view_tokens v)
+
+-- a phrase opens nothing that it doesn't close
+pub record Back (n : ℕ) (v : View) (u : List SpannedTemplateToken) (x : Phrase Part) : Type 0 where
+  pub item : Item (phrase n) v u x
+  pub level : (b : Before) (o : List Bool) → (item.steps b o).opened ≡ o
+  pub ended : (b : Before) (o : List Bool) → ends_as v (item.steps b o).last
+
+-- a token
+pub record OneToken (c : ℕ) (u : List SpannedTemplateToken) (x : Phrase Part) : Type 0 where
+  pub one : SpannedTemplateToken
+  pub whole : one ∷ [] ≡ u
+  pub class : class_of one.token ≡ c
+  pub value : leaf one ≡ x
+
+token_again : (c : ℕ) (t : TemplateToken) → class_of t ≡ c → (w : List SpannedTemplateToken) → without_places w ≡ t ∷ [] → Again (token c) (v.token t) w
+token_again c t e [] h = absurd cc
+token_again c t e (k ∷ []) h =
+    let is : k.token ≡ t = cc in
+    let P : ℕ → Type 0 = λ z. Derives grammar (token z) (k ∷ []) (leaf k) in
+    record { value = leaf k; derives = subst P (ap class_of is ∙ e) (a_token k); stands = v.a_token (ap (λ z. (Rattle.wgsl_leaves.specs.Leaves.leaf z)) is); passes = refl }
+token_again c t e (k ∷ l ∷ w) h = absurd cc
+
+abbrev pub token_steps : (t : TemplateToken) (b : Before) (o : List Bool) → Steps b o (t ∷ []) (t ∷ [])
+token_steps t b o = record { last = before (kind t); opened = groups b o (kind t); cont = λ ts us a. same t a }

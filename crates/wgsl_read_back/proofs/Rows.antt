@@ -1,0 +1,184 @@
+-- A row and what stands there, and what a production makes of it.
+use Rattle.std.proofs.Common.{◌≡◌, refl, sym, ap, ◌∙◌, subst, ℕ, Bool, List, [], ◌∷◌, ◌++◌, append_assoc, append-nil, map, Option, Some, None}
+use Rattle.wgsl_path.specs.declared.span.Span.{Span}
+use Rattle.wgsl_template_spec.specs.declared.token.TemplateToken.{TemplateToken}
+use Rattle.wgsl_template_spec.specs.declared.token.SpannedTemplateToken.{SpannedTemplateToken}
+use Rattle.wgsl_token_layout.specs.Laws.{without_places}
+use Rattle.wgsl_token_layout.specs.Commas.{Before, AreAlike}
+use Rattle.wgsl_tree_tokens.specs.Printable.{AreSpelled}
+use Rattle.wgsl_tree_tokens.proofs.Expressions.{are_front, are_behind, are_both}
+use Rattle.wgsl_shift_reduce.specs.Grammars.{Symbol, phrase, Derives, Row, done, next}
+use Rattle.wgsl_parts.specs.declared.part.Part.{Part}
+use Rattle.wgsl_parts.specs.declared.part.Part.TheVariants.{Absent}
+use Rattle.wgsl_parts.specs.declared.label.Label.{Label}
+use Rattle.wgsl_phrases.specs.declared.phrase.Failure.{Failure}
+use Rattle.wgsl_phrases.specs.declared.phrase.Phrase.{Phrase}
+use Rattle.wgsl_phrases.specs.declared.gather.Extent.{Extent}
+use Rattle.wgsl_phrases.specs.Gathering.{either, joined, extent_of, extent_from, chosen}
+use Rattle.wgsl_make.specs.Making as making
+use Rattle.wgsl_reading.specs.Phrases.{grammar, made}
+use Rattle.wgsl_reading.specs.Failures.{failure_at, first_check, severity_failed, made_failed, failure_in}
+use Rattle.wgsl_read_back.proofs.Views.{View, view_tokens, Stands, ends_as}
+use Rattle.wgsl_read_back.proofs.Items.{places_append, split, Cont, Steps, cont_then, cont_as, Again, Item, Back}
+
+abbrev pub concat : List View → List TemplateToken
+concat [] = []
+concat (v ∷ vs) = view_tokens v ++ concat vs
+
+pub data RowBack : List Symbol → List View → List SpannedTemplateToken → List (Phrase Part) → Type 0 where
+  nil : RowBack [] [] [] []
+  more : {s : Symbol} {ss : List Symbol} {v : View} {vs : List View} {u w : List SpannedTemplateToken} {x : Phrase Part} {xs : List (Phrase Part)} → Item s v u x → RowBack ss vs w xs
+      → RowBack (s ∷ ss) (v ∷ vs) (u ++ w) (x ∷ xs)
+
+data RowAgain : List Symbol → List View → List SpannedTemplateToken → List (Phrase Part) → Type 0 where
+  nil_again : RowAgain [] [] [] []
+  more_again : {s : Symbol} {ss : List Symbol} {v : View} {vs : List View} {u w : List SpannedTemplateToken} {xs : List (Phrase Part)} → (a : Again s v u) → RowAgain ss vs w xs
+      → RowAgain (s ∷ ss) (v ∷ vs) (u ++ w) (a.value ∷ xs)
+
+row_of : {ss : List Symbol} {vs : List View} {w : List SpannedTemplateToken} {ys : List (Phrase Part)} → RowAgain ss vs w ys → Row grammar ss w ys
+row_of nil_again = done
+row_of (more_again a r) = next a.derives (row_of r)
+
+record RowFound (ss : List Symbol) (vs : List View) (w : List SpannedTemplateToken) : Type 0 where
+  values : List (Phrase Part)
+  row : RowAgain ss vs w values
+
+again_row : {ss : List Symbol} {vs : List View} {u : List SpannedTemplateToken} {xs : List (Phrase Part)} → RowBack ss vs u xs → (w : List SpannedTemplateToken) → without_places w ≡ concat vs → RowFound ss vs w
+again_row nil [] e = record { values = []; row = nil_again }
+again_row nil (k ∷ w) e = absurd cc
+again_row (more {s = s} {ss = ss} {v = v} {vs = vs} i r) w e =
+    let p = split w (view_tokens v) (concat vs) e in
+    let a = i.again p.front p.front_is in
+    let q = again_row r p.rest p.rest_is in
+    let P : List SpannedTemplateToken → Type 0 = λ z. RowFound (s ∷ ss) (v ∷ vs) z in
+    subst P p.whole (record { values = a.value ∷ q.values; row = more_again a q.row })
+
+spelled_row : {ss : List Symbol} {vs : List View} {u : List SpannedTemplateToken} {xs : List (Phrase Part)} → RowBack ss vs u xs → AreSpelled (without_places u) → AreSpelled (concat vs)
+spelled_row nil h = tt
+spelled_row (more {v = v} {vs = vs} {u = u} {w = w} i r) h =
+    let all = subst AreSpelled (places_append u w) h in
+    are_both (view_tokens v) (concat vs) (i.spelled (are_front (without_places u) (without_places w) all)) (spelled_row r (are_behind (without_places u) (without_places w) all))
+
+abbrev pub steps_row : {ss : List Symbol} {vs : List View} {u : List SpannedTemplateToken} {xs : List (Phrase Part)} → RowBack ss vs u xs → (b : Before) (o : List Bool) → Steps b o (without_places u) (concat vs)
+steps_row nil b o = record { last = b; opened = o; cont = λ ts us a. a }
+steps_row (more {v = v} {vs = vs} {u = u} {w = w} i r) b o =
+    let p = i.steps b o in
+    let q = steps_row r p.last p.opened in
+    record {
+      last = q.last;
+      opened = q.opened;
+      cont = cont_as b o (without_places u ++ without_places w) (view_tokens v ++ concat vs) (without_places (u ++ w)) (view_tokens v ++ concat vs) q.last q.opened (sym (places_append u w)) refl
+          (cont_then b o (without_places u) (view_tokens v) p.last p.opened (without_places w) (concat vs) q.last q.opened p.cont q.cont);
+    }
+
+-- ---- what a production makes
+
+-- the phrases stand for these, and no check fails in them
+abbrev pub Stood : List (Phrase Part) → List View → Type 0
+Stood [] [] = Unit {0}
+Stood [] (v ∷ vs) = ⊥
+Stood (y ∷ ys) [] = ⊥
+Stood (y ∷ ys) (v ∷ vs) = (Stands y.part v × (y.failure ≡ None)) × Stood ys vs
+
+stood_back : {ss : List Symbol} {vs : List View} {u : List SpannedTemplateToken} {xs : List (Phrase Part)} → RowBack ss vs u xs → Stood xs vs
+stood_back nil = tt
+stood_back (more i r) = ((i.stands, i.passes), stood_back r)
+
+stood_again : {ss : List Symbol} {vs : List View} {u : List SpannedTemplateToken} {xs : List (Phrase Part)} → RowAgain ss vs u xs → Stood xs vs
+stood_again nil_again = tt
+stood_again (more_again a r) = ((a.stands, a.passes), stood_again r)
+
+pub record Makes (v : View) (x : Phrase Part) : Type 0 where
+  pub stands : Stands x.part v
+  pub passes : x.failure ≡ None
+
+-- by label and pattern
+abbrev pub make_of : Label → List ℕ → List (Phrase Part) → Phrase Part
+make_of label pattern xs = made label (extent_from None xs) (chosen Absent pattern xs)
+
+abbrev AllPass : List (Phrase Part) → Type 0
+AllPass [] = Unit {0}
+AllPass (y ∷ ys) = (y.failure ≡ None) × AllPass ys
+
+pub stood_pass : (ys : List (Phrase Part)) (vs : List View) → Stood ys vs → AllPass ys
+stood_pass [] vs h = tt
+stood_pass (y ∷ ys) [] h = absurd h
+stood_pass (y ∷ ys) (v ∷ vs) h = (h.0.1, stood_pass ys vs h.1)
+
+record Reaches (o : Option Extent) : Type 0 where
+  extent : Extent
+  is : o ≡ Some extent
+  passes : extent.failure ≡ None
+
+reaches : (e : Extent) (ys : List (Phrase Part)) → e.failure ≡ None → AllPass ys → Reaches (extent_from (Some e) ys)
+reaches e [] h g = record { extent = e; is = refl; passes = h }
+reaches e (y ∷ ys) h g = reaches (joined (Some e) y) ys (ap (λ z. either z y.failure) h ∙ g.0) g.1
+
+pub makes_of : (label : Label) (pattern : List ℕ) (y : Phrase Part) (ys : List (Phrase Part)) (v : View) (p : Span → Part) → ((s : Span) → making.make label s (chosen Absent pattern (y ∷ ys)) ≡ p s) → ((s : Span) → Stands (p s) v)
+    → ((ps : List Part) → severity_failed label ps ≡ None) → ((s : Span) → made_failed label (p s) ≡ None) → AllPass (y ∷ ys) → Makes v (make_of label pattern (y ∷ ys))
+makes_of label pattern y ys v p is stands severe failed pass =
+    let r = reaches (extent_of y) ys pass.0 pass.1 in
+    let P : Option Extent → Type 0 = λ o. Makes v (made label o (chosen Absent pattern (y ∷ ys))) in
+    subst P (sym r.is) (record { stands = subst (λ z. Stands z v) (sym (is r.extent.span)) (stands r.extent.span); passes = passes r.extent r.passes })
+  where
+    passes : (e : Extent) → e.failure ≡ None → (made label (Some e) (chosen Absent pattern (y ∷ ys))).failure ≡ None
+    passes e h =
+        ap (λ z. either z (failure_in label (chosen Absent pattern (y ∷ ys)) (making.make label e.span (chosen Absent pattern (y ∷ ys))) e.last)) h
+        ∙ ap (λ z. failure_at e.last (first_check z (made_failed label (making.make label e.span (chosen Absent pattern (y ∷ ys)))))) (severe (chosen Absent pattern (y ∷ ys)))
+        ∙ ap (λ z. failure_at e.last (made_failed label z)) (is e.span)
+        ∙ ap (failure_at e.last) (failed e.span)
+
+-- a production by which phrases of a nonterminal are made of a row
+abbrev pub Rebuild : ℕ → List Symbol → Label → List ℕ → Type 0
+Rebuild n ss label pattern = (w : List SpannedTemplateToken) (ys : List (Phrase Part)) → Row grammar ss w ys → Derives grammar (phrase n) w (make_of label pattern ys)
+
+module _ (n : ℕ) (ss : List Symbol) (label : Label) (pattern : List ℕ) (rebuild : Rebuild n ss label pattern) where
+  pub back_of : {u : List SpannedTemplateToken} {xs : List (Phrase Part)} (vs : List View) (v : View) → concat vs ≡ view_tokens v → ((ys : List (Phrase Part)) → Stood ys vs → Makes v (make_of label pattern ys))
+      → (r : RowBack ss vs u xs) → ((b : Before) (o : List Bool) → (steps_row r b o).opened ≡ o) → ((b : Before) (o : List Bool) → ends_as v (steps_row r b o).last) → Back n v u (make_of label pattern xs)
+  back_of {u = u} {xs = xs} vs v tokens makes r level ended =
+      let one = makes xs (stood_back r) in record {
+        item = record {
+          stands = one.stands;
+          passes = one.passes;
+          again = λ w e.
+          let q = again_row r w (e ∙ sym tokens) in
+          let m = makes q.values (stood_again q.row) in
+          record { value = make_of label pattern q.values; derives = rebuild w q.values (row_of q.row); stands = m.stands; passes = m.passes };
+          spelled = λ h. subst AreSpelled tokens (spelled_row r h);
+          steps = λ b o. let q = steps_row r b o in record {
+            last = q.last;
+            opened = q.opened;
+            cont = cont_as b o (without_places u) (concat vs) (without_places u) (view_tokens v) q.last q.opened refl tokens q.cont;
+          };
+        };
+        level = level;
+        ended = ended;
+      }
+
+-- ---- rows of so many
+
+pub of_one : {v : View} (P : List (Phrase Part) → Type 0) → ((a : Phrase Part) → Stood (a ∷ []) (v ∷ []) → P (a ∷ [])) → (ys : List (Phrase Part)) → Stood ys (v ∷ []) → P ys
+of_one P f [] h = absurd h
+of_one P f (a ∷ []) h = f a h
+of_one P f (a ∷ b ∷ ys) h = absurd h.1
+
+pub of_two : {v w : View} (P : List (Phrase Part) → Type 0) → ((a b : Phrase Part) → Stood (a ∷ b ∷ []) (v ∷ w ∷ []) → P (a ∷ b ∷ [])) → (ys : List (Phrase Part)) → Stood ys (v ∷ w ∷ []) → P ys
+of_two P f [] h = absurd h
+of_two P f (a ∷ []) h = absurd h.1
+of_two P f (a ∷ b ∷ []) h = f a b h
+of_two P f (a ∷ b ∷ c ∷ ys) h = absurd h.1.1
+
+pub of_three : {v w x : View} (P : List (Phrase Part) → Type 0) → ((a b c : Phrase Part) → Stood (a ∷ b ∷ c ∷ []) (v ∷ w ∷ x ∷ []) → P (a ∷ b ∷ c ∷ [])) → (ys : List (Phrase Part)) → Stood ys (v ∷ w ∷ x ∷ []) → P ys
+of_three P f [] h = absurd h
+of_three P f (a ∷ []) h = absurd h.1
+of_three P f (a ∷ b ∷ []) h = absurd h.1.1
+of_three P f (a ∷ b ∷ c ∷ []) h = f a b c h
+of_three P f (a ∷ b ∷ c ∷ d ∷ ys) h = absurd h.1.1.1
+
+pub of_four : {v w x z : View} (P : List (Phrase Part) → Type 0) → ((a b c d : Phrase Part) → Stood (a ∷ b ∷ c ∷ d ∷ []) (v ∷ w ∷ x ∷ z ∷ []) → P (a ∷ b ∷ c ∷ d ∷ [])) → (ys : List (Phrase Part)) → Stood ys (v ∷ w ∷ x ∷ z ∷ []) → P ys
+of_four P f [] h = absurd h
+of_four P f (a ∷ []) h = absurd h.1
+of_four P f (a ∷ b ∷ []) h = absurd h.1.1
+of_four P f (a ∷ b ∷ c ∷ []) h = absurd h.1.1.1
+of_four P f (a ∷ b ∷ c ∷ d ∷ []) h = f a b c d h
+of_four P f (a ∷ b ∷ c ∷ d ∷ e ∷ ys) h = absurd h.1.1.1.1

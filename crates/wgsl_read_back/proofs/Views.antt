@@ -1,0 +1,54 @@
+-- What a phrase of an expression stands for, without places, and its tokens as they are printed.
+use Rattle.std.proofs.Common.{◌≡◌, ℕ, suc, Bool, true, List, [], ◌∷◌, ◌++◌, map, Option}
+use Rattle.wgsl_path.specs.declared.span.Spanned.{Spanned}
+use Rattle.wgsl_path.specs.declared.path.PathOrigin.TheVariants.{Relative}
+use Rattle.wgsl_path.specs.declared.path.ModulePath.{ModulePath}
+use Rattle.wgsl_token.specs.declared.token.Fixed.TheVariants as f
+use Rattle.wgsl_template_spec.specs.declared.token.TemplateToken.{TemplateToken}
+use Rattle.wgsl_token_layout.specs.Commas.{Before, callee, ends_operand}
+use Rattle.wgsl_expressions.specs.declared.expression.Expression.{Expression}
+use Rattle.wgsl_expressions.specs.declared.expression.FunctionCallOf.{FunctionCallOf}
+use Rattle.wgsl_expressions.specs.declared.expression.TypeExpressionOf.{TypeExpressionOf}
+use Rattle.wgsl_expressions.specs.Tree.{Exp, Exps, exps, Typ}
+use Rattle.wgsl_expressions.specs.View.{node_tree, type_tree}
+use Rattle.wgsl_tree_tokens.specs.Tokens.{mark, word, origin_tokens, qualifier_tokens, exp_tokens, exps_tokens, typ_tokens}
+use Rattle.wgsl_parts.specs.declared.part.QualifiedName.{QualifiedName}
+use Rattle.wgsl_parts.specs.declared.part.Part.{Part}
+use Rattle.wgsl_parts.specs.declared.part.Part.TheVariants as part
+use Rattle.wgsl_leaves.specs.Leaves.{leaf}
+
+pub data View : Type 0 where
+  token : TemplateToken → View
+  ups : ℕ → View
+  path : Option ModulePath → List ℕ → View
+  type : Typ → View
+  call : Typ → Exps → View
+  expression : Exp → View
+  expressions : List Exp → View
+
+abbrev pub view_tokens : View → List TemplateToken
+view_tokens (token t) = t ∷ []
+view_tokens (ups n) = origin_tokens (Relative n) ++ (mark f.PathSeparator ∷ [])
+view_tokens (path q x) = qualifier_tokens q ++ (word x ∷ [])
+view_tokens (type t) = typ_tokens t
+view_tokens (call t xs) = typ_tokens t ++ (mark f.ParenLeft ∷ (exps_tokens xs ++ (mark f.ParenRight ∷ [])))
+view_tokens (expression e) = exp_tokens e
+view_tokens (expressions es) = exps_tokens (exps es)
+
+-- the part stands for this
+pub data Stands (p : Part) : View → Type 0 where
+  a_token : {t : TemplateToken} → p ≡ leaf t → Stands p (token t)
+  an_ups : {n : ℕ} → p ≡ part.Ups n → Stands p (ups n)
+  a_path : {q : Option ModulePath} {x : List ℕ} (y : QualifiedName) → p ≡ part.Path y → y.path ≡ q → y.ident.name ≡ x → Stands p (path q x)
+  a_type : {t : Typ} (y : TypeExpressionOf Expression) → p ≡ part.Type y → type_tree y ≡ t → Stands p (type t)
+  a_call : {t : Typ} {xs : Exps} (y : FunctionCallOf Expression) → p ≡ part.Call y → type_tree y.ty ≡ t → exps (map node_tree y.arguments) ≡ xs → Stands p (call t xs)
+  an_expression : {e : Exp} (n : Spanned Expression) → p ≡ part.Expression n → node_tree n ≡ e → Stands p (expression e)
+  some_expressions : {es : List Exp} (ns : List (Spanned Expression)) → p ≡ part.Expressions ns → map node_tree ns ≡ es → Stands p (expressions es)
+
+-- what the last token of a phrase is
+abbrev pub ends_as : View → Before → Type 0
+ends_as (token t) b = Unit {0}
+ends_as (ups n) b = Unit {0}
+ends_as (path q x) b = b ≡ callee
+ends_as (type t) b = b ≡ callee
+ends_as _ b = ends_operand b ≡ true

@@ -1,0 +1,2 @@
+//! What is printed of a tree is read back as it.
+#![tactic(auto)]
