@@ -1,11 +1,11 @@
 -- A symbol of a row and what stands there: what is printed of it derives it again.
-use Rattle.std.proofs.Common.{◌≡◌, refl, sym, ap, ◌∙◌, subst, ℕ, Bool, List, [], ◌∷◌, ◌++◌, append_assoc, append-nil, map, Option, Some, None}
+use Rattle.std.proofs.Common.{◌≡◌, refl, sym, ap, ◌∙◌, subst, ℕ, Bool, true, List, [], ◌∷◌, ◌++◌, append_assoc, append-nil, map, Option, Some, None}
 use Rattle.wgsl_template_spec.specs.declared.token.TemplateToken.{TemplateToken}
 use Rattle.wgsl_template_spec.specs.declared.token.TemplateToken.TheVariants.{Plain, TemplateArgsStart, TemplateArgsEnd}
 use Rattle.wgsl_template_spec.specs.declared.token.SpannedTemplateToken.{SpannedTemplateToken}
 use Rattle.wgsl_template_spec.specs.Kinds.{kind}
 use Rattle.wgsl_token_layout.specs.Laws.{without_places}
-use Rattle.wgsl_token_layout.specs.Commas.{Before, before, groups, AreAlike, same}
+use Rattle.wgsl_token_layout.specs.Commas.{Before, before, ends_operand, is_closer, may_end_so, groups, AreAlike, same}
 use Rattle.wgsl_tree_tokens.specs.Printable.{AreSpelled}
 use Rattle.wgsl_shift_reduce.specs.Grammars.{Symbol, token, phrase, Grammar, Derives, a_token, Row, done, next}
 use Rattle.wgsl_parts.specs.declared.part.Part.{Part}
@@ -48,7 +48,7 @@ pub record Steps (b : Before) (o : List Bool) (u v : List TemplateToken) : Type 
   pub opened : List Bool
   pub cont : Cont b o u v last opened
 
-moved : {b : Before} {o : List Bool} {u v x y : List TemplateToken} → u ≡ x → v ≡ y → AreAlike b o u v → AreAlike b o x y
+pub moved : {b : Before} {o : List Bool} {u v x y : List TemplateToken} → u ≡ x → v ≡ y → AreAlike b o u v → AreAlike b o x y
 moved {b = b} {o = o} e h a = let P : List TemplateToken × List TemplateToken → Type 0 = λ x. AreAlike b o x.0 x.1 in subst P (λ i. (e i, h i)) a
 
 pub cont_then : (b : Before) (o : List Bool) (u v : List TemplateToken) (c : Before) (p : List Bool) (x y : List TemplateToken) (d : Before) (q : List Bool) → Cont b o u v c p → Cont c p x y d q → Cont b o (u ++ x) (v ++ y) d q
@@ -78,6 +78,19 @@ pub record Back (n : ℕ) (v : View) (u : List SpannedTemplateToken) (x : Phrase
   pub level : (b : Before) (o : List Bool) → (item.steps b o).opened ≡ o
   pub ended : (b : Before) (o : List Bool) → ends_as v (item.steps b o).last
 
+-- A list, behind which stands what closes it: it may end in a comma, which is not printed.
+pub record Ending (b : Before) (o : List Bool) (u v : List TemplateToken) : Type 0 where
+  pub last : Before
+  pub ended : ends_operand last ≡ true
+  pub cont : (t : TemplateToken) (ts us : List TemplateToken) → may_end_so o ≡ true → is_closer (kind t) ≡ true → AreAlike (before (kind t)) (groups last o (kind t)) ts us → AreAlike b o (u ++ (t ∷ ts)) (v ++ (t ∷ us))
+
+pub record ListBack (n : ℕ) (v : View) (u : List SpannedTemplateToken) (x : Phrase Part) : Type 0 where
+  pub stands : Stands x.part v
+  pub passes : x.failure ≡ None
+  pub again : (w : List SpannedTemplateToken) → without_places w ≡ view_tokens v → Again (phrase n) v w
+  pub spelled : AreSpelled (without_places u) → AreSpelled (view_tokens v)
+  pub ending : (b : Before) (o : List Bool) → Ending b o (without_places u) (view_tokens v)
+
 -- a token
 pub record OneToken (c : ℕ) (u : List SpannedTemplateToken) (x : Phrase Part) : Type 0 where
   pub one : SpannedTemplateToken
@@ -85,7 +98,7 @@ pub record OneToken (c : ℕ) (u : List SpannedTemplateToken) (x : Phrase Part) 
   pub class : class_of one.token ≡ c
   pub value : leaf one ≡ x
 
-token_again : (c : ℕ) (t : TemplateToken) → class_of t ≡ c → (w : List SpannedTemplateToken) → without_places w ≡ t ∷ [] → Again (token c) (v.token t) w
+pub token_again : (c : ℕ) (t : TemplateToken) → class_of t ≡ c → (w : List SpannedTemplateToken) → without_places w ≡ t ∷ [] → Again (token c) (v.token t) w
 token_again c t e [] h = absurd cc
 token_again c t e (k ∷ []) h =
     let is : k.token ≡ t = cc in

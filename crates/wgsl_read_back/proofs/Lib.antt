@@ -1,3 +1,6 @@
 pub mod Views
 pub mod Items
 pub mod Rows
+pub mod Places
+pub mod Families
+pub mod Operands

@@ -1,10 +1,11 @@
 -- A row and what stands there, and what a production makes of it.
-use Rattle.std.proofs.Common.{◌≡◌, refl, sym, ap, ◌∙◌, subst, ℕ, Bool, List, [], ◌∷◌, ◌++◌, append_assoc, append-nil, map, Option, Some, None}
+use Rattle.std.proofs.Common.{◌≡◌, refl, sym, ap, ◌∙◌, subst, ℕ, Bool, true, List, [], ◌∷◌, ◌++◌, append_assoc, append-nil, map, Option, Some, None}
 use Rattle.wgsl_path.specs.declared.span.Span.{Span}
 use Rattle.wgsl_template_spec.specs.declared.token.TemplateToken.{TemplateToken}
 use Rattle.wgsl_template_spec.specs.declared.token.SpannedTemplateToken.{SpannedTemplateToken}
 use Rattle.wgsl_token_layout.specs.Laws.{without_places}
-use Rattle.wgsl_token_layout.specs.Commas.{Before, AreAlike}
+use Rattle.wgsl_token_layout.specs.Commas.{Before, before, is_closer, may_end_so, groups, AreAlike}
+use Rattle.wgsl_template_spec.specs.Kinds.{kind}
 use Rattle.wgsl_tree_tokens.specs.Printable.{AreSpelled}
 use Rattle.wgsl_tree_tokens.proofs.Expressions.{are_front, are_behind, are_both}
 use Rattle.wgsl_shift_reduce.specs.Grammars.{Symbol, phrase, Derives, Row, done, next}
@@ -18,8 +19,8 @@ use Rattle.wgsl_phrases.specs.Gathering.{either, joined, extent_of, extent_from,
 use Rattle.wgsl_make.specs.Making as making
 use Rattle.wgsl_reading.specs.Phrases.{grammar, made}
 use Rattle.wgsl_reading.specs.Failures.{failure_at, first_check, severity_failed, made_failed, failure_in}
-use Rattle.wgsl_read_back.proofs.Views.{View, view_tokens, Stands, ends_as}
-use Rattle.wgsl_read_back.proofs.Items.{places_append, split, Cont, Steps, cont_then, cont_as, Again, Item, Back}
+use Rattle.wgsl_read_back.proofs.Views.{View, token, view_tokens, Stands, ends_as}
+use Rattle.wgsl_read_back.proofs.Items.{places_append, split, Cont, Steps, moved, cont_then, cont_as, Again, Item, Ending, ListBack, Back}
 
 abbrev pub concat : List View → List TemplateToken
 concat [] = []
@@ -29,6 +30,8 @@ pub data RowBack : List Symbol → List View → List SpannedTemplateToken → L
   nil : RowBack [] [] [] []
   more : {s : Symbol} {ss : List Symbol} {v : View} {vs : List View} {u w : List SpannedTemplateToken} {x : Phrase Part} {xs : List (Phrase Part)} → Item s v u x → RowBack ss vs w xs
       → RowBack (s ∷ ss) (v ∷ vs) (u ++ w) (x ∷ xs)
+  list_more : {n : ℕ} {s : Symbol} {ss : List Symbol} {v : View} {t : TemplateToken} {vs : List View} {u k w : List SpannedTemplateToken} {x y : Phrase Part} {xs : List (Phrase Part)} → ListBack n v u x → Item s (token t) k y
+      → without_places k ≡ t ∷ [] → is_closer (kind t) ≡ true → RowBack ss vs w xs → RowBack (phrase n ∷ s ∷ ss) (v ∷ token t ∷ vs) (u ++ (k ++ w)) (x ∷ y ∷ xs)
 
 data RowAgain : List Symbol → List View → List SpannedTemplateToken → List (Phrase Part) → Type 0 where
   nil_again : RowAgain [] [] [] []
@@ -53,22 +56,59 @@ again_row (more {s = s} {ss = ss} {v = v} {vs = vs} i r) w e =
     let P : List SpannedTemplateToken → Type 0 = λ z. RowFound (s ∷ ss) (v ∷ vs) z in
     subst P p.whole (record { values = a.value ∷ q.values; row = more_again a q.row })
 
+again_row (list_more {n = n} {s = s} {ss = ss} {v = v} {t = t} {vs = vs} l i e c r) w h =
+    let p = split w (view_tokens v) (t ∷ concat vs) h in
+    let a = l.again p.front p.front_is in
+    let m = split p.rest (t ∷ []) (concat vs) p.rest_is in
+    let b = i.again m.front m.front_is in
+    let q = again_row r m.rest m.rest_is in
+    let P : List SpannedTemplateToken → Type 0 = λ z. RowFound (phrase n ∷ s ∷ ss) (v ∷ token t ∷ vs) z in
+    subst P (ap (λ z. p.front ++ z) m.whole ∙ p.whole) (record { values = a.value ∷ b.value ∷ q.values; row = more_again a (more_again b q.row) })
+
 spelled_row : {ss : List Symbol} {vs : List View} {u : List SpannedTemplateToken} {xs : List (Phrase Part)} → RowBack ss vs u xs → AreSpelled (without_places u) → AreSpelled (concat vs)
 spelled_row nil h = tt
 spelled_row (more {v = v} {vs = vs} {u = u} {w = w} i r) h =
     let all = subst AreSpelled (places_append u w) h in
     are_both (view_tokens v) (concat vs) (i.spelled (are_front (without_places u) (without_places w) all)) (spelled_row r (are_behind (without_places u) (without_places w) all))
 
-abbrev pub steps_row : {ss : List Symbol} {vs : List View} {u : List SpannedTemplateToken} {xs : List (Phrase Part)} → RowBack ss vs u xs → (b : Before) (o : List Bool) → Steps b o (without_places u) (concat vs)
-steps_row nil b o = record { last = b; opened = o; cont = λ ts us a. a }
-steps_row (more {v = v} {vs = vs} {u = u} {w = w} i r) b o =
+spelled_row (list_more {v = v} {t = t} {vs = vs} {u = u} {k = k} {w = w} l i e c r) h =
+    let all = subst AreSpelled (places_append u (k ++ w)) h in
+    let behind = subst AreSpelled (places_append k w) (are_behind (without_places u) (without_places (k ++ w)) all) in
+    are_both (view_tokens v) (t ∷ concat vs) (l.spelled (are_front (without_places u) (without_places (k ++ w)) all))
+    (are_both (t ∷ []) (concat vs) (i.spelled (are_front (without_places k) (without_places w) behind)) (spelled_row r (are_behind (without_places k) (without_places w) behind)))
+
+-- the tokens of a list and what closes it
+pub closing : (b : Before) (o : List Bool) (u v : List TemplateToken) (t : TemplateToken) (x y : List TemplateToken) (d : Before) (q : List Bool) → (e : Ending b o u v) → may_end_so o ≡ true → is_closer (kind t) ≡ true
+    → Cont (before (kind t)) (groups e.last o (kind t)) x y d q → Cont b o (u ++ (t ∷ x)) (v ++ (t ∷ y)) d q
+closing b o u v t x y d q e may closer f ts us a = moved (sym (append_assoc u (t ∷ x) ts)) (sym (append_assoc v (t ∷ y) us)) (e.cont t (x ++ ts) (y ++ us) may closer (f ts us a))
+
+-- each list stands where it may end in a comma
+abbrev pub Fine : {ss : List Symbol} {vs : List View} {u : List SpannedTemplateToken} {xs : List (Phrase Part)} → RowBack ss vs u xs → Before → List Bool → Type 0
+Fine nil b o = Unit {0}
+Fine (more i r) b o = Fine r (i.steps b o).last (i.steps b o).opened
+Fine (list_more {t = t} l i e c r) b o = (may_end_so o ≡ true) × Fine r (before (kind t)) (groups (l.ending b o).last o (kind t))
+
+abbrev pub steps_row : {ss : List Symbol} {vs : List View} {u : List SpannedTemplateToken} {xs : List (Phrase Part)} → (r : RowBack ss vs u xs) → (b : Before) (o : List Bool) → Fine r b o → Steps b o (without_places u) (concat vs)
+steps_row nil b o fine = record { last = b; opened = o; cont = λ ts us a. a }
+steps_row (more {v = v} {vs = vs} {u = u} {w = w} i r) b o fine =
     let p = i.steps b o in
-    let q = steps_row r p.last p.opened in
+    let q = steps_row r p.last p.opened fine in
     record {
       last = q.last;
       opened = q.opened;
       cont = cont_as b o (without_places u ++ without_places w) (view_tokens v ++ concat vs) (without_places (u ++ w)) (view_tokens v ++ concat vs) q.last q.opened (sym (places_append u w)) refl
           (cont_then b o (without_places u) (view_tokens v) p.last p.opened (without_places w) (concat vs) q.last q.opened p.cont q.cont);
+    }
+
+steps_row (list_more {v = v} {t = t} {vs = vs} {u = u} {k = k} {w = w} l i e c r) b o fine =
+    let p = l.ending b o in
+    let q = steps_row r (before (kind t)) (groups p.last o (kind t)) fine.1 in
+    record {
+      last = q.last;
+      opened = q.opened;
+      cont = cont_as b o (without_places u ++ (t ∷ without_places w)) (view_tokens v ++ (t ∷ concat vs)) (without_places (u ++ (k ++ w))) (view_tokens v ++ (t ∷ concat vs)) q.last q.opened
+          (sym (places_append u (k ++ w) ∙ ap (λ z. without_places u ++ z) (places_append k w ∙ ap (λ z. z ++ without_places w) e))) refl
+          (closing b o (without_places u) (view_tokens v) t (without_places w) (concat vs) q.last q.opened p fine.0 c q.cont);
     }
 
 -- ---- what a production makes
@@ -83,6 +123,8 @@ Stood (y ∷ ys) (v ∷ vs) = (Stands y.part v × (y.failure ≡ None)) × Stood
 stood_back : {ss : List Symbol} {vs : List View} {u : List SpannedTemplateToken} {xs : List (Phrase Part)} → RowBack ss vs u xs → Stood xs vs
 stood_back nil = tt
 stood_back (more i r) = ((i.stands, i.passes), stood_back r)
+
+stood_back (list_more l i e c r) = ((l.stands, l.passes), ((i.stands, i.passes), stood_back r))
 
 stood_again : {ss : List Symbol} {vs : List View} {u : List SpannedTemplateToken} {xs : List (Phrase Part)} → RowAgain ss vs u xs → Stood xs vs
 stood_again nil_again = tt
@@ -134,8 +176,9 @@ Rebuild n ss label pattern = (w : List SpannedTemplateToken) (ys : List (Phrase 
 
 module _ (n : ℕ) (ss : List Symbol) (label : Label) (pattern : List ℕ) (rebuild : Rebuild n ss label pattern) where
   pub back_of : {u : List SpannedTemplateToken} {xs : List (Phrase Part)} (vs : List View) (v : View) → concat vs ≡ view_tokens v → ((ys : List (Phrase Part)) → Stood ys vs → Makes v (make_of label pattern ys))
-      → (r : RowBack ss vs u xs) → ((b : Before) (o : List Bool) → (steps_row r b o).opened ≡ o) → ((b : Before) (o : List Bool) → ends_as v (steps_row r b o).last) → Back n v u (make_of label pattern xs)
-  back_of {u = u} {xs = xs} vs v tokens makes r level ended =
+      → (r : RowBack ss vs u xs) → (fine : (b : Before) (o : List Bool) → Fine r b o) → ((b : Before) (o : List Bool) → (steps_row r b o (fine b o)).opened ≡ o) → ((b : Before) (o : List Bool) → ends_as v (steps_row r b o (fine b o)).last)
+      → Back n v u (make_of label pattern xs)
+  back_of {u = u} {xs = xs} vs v tokens makes r fine level ended =
       let one = makes xs (stood_back r) in record {
         item = record {
           stands = one.stands;
@@ -145,7 +188,7 @@ module _ (n : ℕ) (ss : List Symbol) (label : Label) (pattern : List ℕ) (rebu
           let m = makes q.values (stood_again q.row) in
           record { value = make_of label pattern q.values; derives = rebuild w q.values (row_of q.row); stands = m.stands; passes = m.passes };
           spelled = λ h. subst AreSpelled tokens (spelled_row r h);
-          steps = λ b o. let q = steps_row r b o in record {
+          steps = λ b o. let q = steps_row r b o (fine b o) in record {
             last = q.last;
             opened = q.opened;
             cont = cont_as b o (without_places u) (concat vs) (without_places u) (view_tokens v) q.last q.opened refl tokens q.cont;

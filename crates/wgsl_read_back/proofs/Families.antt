@@ -1,0 +1,174 @@
+-- What the productions of expressions make: what is printed of it derives it again.
+use Rattle.std.proofs.Common.{◌≡◌, refl, sym, ap, ◌∙◌, subst, ℕ, zero, suc, Bool, true, false, not, ◌&&◌, ◌||◌, List, [], ◌∷◌, ◌++◌, append_assoc, append-nil, map, Option, Some, None}
+use Rattle.wgsl_path.specs.declared.span.Span.{Span}
+use Rattle.wgsl_path.specs.declared.span.Spanned.{Spanned}
+use Rattle.wgsl_operators.specs.declared.BinaryOperator.{BinaryOperator}
+use Rattle.wgsl_operators.specs.declared.BinaryOperator.TheVariants.{ShortCircuitOr}
+use Rattle.wgsl_operators.specs.declared.UnaryOperator.{UnaryOperator}
+use Rattle.wgsl_operators.specs.declared.UnaryOperator.TheVariants.{Negation}
+use Rattle.wgsl_token.specs.declared.token.Token.TheVariants as t
+use Rattle.wgsl_token.specs.declared.token.Fixed.{Fixed}
+use Rattle.wgsl_token.specs.declared.token.Fixed.TheVariants as f
+use Rattle.wgsl_template_spec.specs.declared.token.TemplateToken.{TemplateToken}
+use Rattle.wgsl_template_spec.specs.declared.token.TemplateToken.TheVariants.{Plain, TemplateArgsStart, TemplateArgsEnd}
+use Rattle.wgsl_template_spec.specs.declared.token.SpannedTemplateToken.{SpannedTemplateToken}
+use Rattle.wgsl_template_spec.specs.Kinds.{kind}
+use Rattle.wgsl_token_layout.specs.Laws.{without_places}
+use Rattle.wgsl_token_layout.specs.Commas.{Before, fresh, callee, operand, before, is_callee, ends_operand, is_closer, groups, may_end_so, comma, AreAlike, same, first_has}
+use Rattle.wgsl_expressions.specs.declared.expression.Expression.{Expression}
+use Rattle.wgsl_expressions.specs.declared.expression.Expression.TheVariants as exp
+use Rattle.wgsl_expressions.specs.Print.{is_number, is_numeric}
+use Rattle.wgsl_expressions.specs.Tree.{Exp, literal, parenthesized, component, indexed, unary, binary, call, named, Exps, nil, cons, exps, Typ, simple, templated}
+use Rattle.wgsl_expressions.specs.View.{node_tree, type_tree}
+use Rattle.wgsl_expressions.proofs.Trees.{tree_of_literal, tree_of_parenthesized, tree_of_component, tree_of_indexed, tree_of_unary, tree_of_binary, tree_of_call, tree_of_named}
+use Rattle.wgsl_tree_tokens.specs.Tokens.{mark, word, literal_token, unary_sign, binary_sign, exp_tokens, exps_tokens, typ_tokens}
+use Rattle.wgsl_tree_tokens.specs.Printable.{AreSpelled, ends_in_number, is_apart, are_apart, type_is_apart}
+use Rattle.wgsl_shift_reduce.specs.Grammars.{Symbol, token, phrase}
+use Rattle.wgsl_parts.specs.declared.part.Part.{Part}
+use Rattle.wgsl_parts.specs.declared.part.Part.TheVariants as part
+use Rattle.wgsl_parts.specs.declared.label.Label.{Label}
+use Rattle.wgsl_parts.specs.declared.label.Label.TheVariants as l
+use Rattle.wgsl_parts.specs.declared.label.NameLabel.TheVariants as name
+use Rattle.wgsl_parts.specs.declared.label.ExpressionLabel.TheVariants as label
+use Rattle.wgsl_leaves.specs.Leaves as leaves
+use Rattle.wgsl_phrases.specs.declared.phrase.Phrase.{Phrase}
+use Rattle.wgsl_make_expressions.specs.Making as make
+use Rattle.wgsl_grammar_tables.specs.Classes.{fixed_class, class_of}
+use Rattle.wgsl_reading.specs.Phrases.{leaf}
+use Rattle.wgsl_reading.specs.Failures.{made_failed}
+use Rattle.wgsl_read_back.proofs.Views.{View, view_tokens, Stands, a_token, an_ups, a_path, a_type, a_call, an_expression, some_expressions, ends_as}
+use Rattle.wgsl_read_back.proofs.Views as v
+use Rattle.wgsl_read_back.proofs.Items.{Steps, cont_as, Again, Item, Back, OneToken, token_again, token_steps}
+use Rattle.wgsl_read_back.proofs.Rows.{concat, RowBack, nil as no_more, more, steps_row, Stood, stood_pass, Makes, make_of, makes_of, Rebuild, back_of, of_one, of_two, of_three, of_four}
+use Rattle.wgsl_read_back.proofs.Places.{mark_of, word_of, number_of, start_of, end_of}
+
+-- ---- what phrases are
+
+abbrev pub Expressed : ℕ → List SpannedTemplateToken → Phrase Part → Type 0
+Expressed n u x = (e : Exp) × (is_apart e ≡ true) × Back n (v.expression e) u x
+
+-- before which a point may stand
+abbrev pub Single : ℕ → List SpannedTemplateToken → Phrase Part → Type 0
+Single n u x = (e : Exp) × (is_apart e ≡ true) × ((is_numeric e || not (ends_in_number e)) ≡ true) × Back n (v.expression e) u x
+
+abbrev pub Typed : ℕ → List SpannedTemplateToken → Phrase Part → Type 0
+Typed n u x = (t : Typ) × (type_is_apart t ≡ true) × Back n (v.type t) u x
+
+-- ---- tokens
+
+abbrev pub token_item : (c : ℕ) (t : TemplateToken) (u : List SpannedTemplateToken) (x : Phrase Part) → (k : OneToken c u x) → k.one.token ≡ t → class_of t ≡ c → Item (token c) (v.token t) u x
+token_item c t u x k is class = record {
+  stands = a_token (ap (λ z. z.part) (sym k.value) ∙ ap leaves.leaf is);
+  passes = ap (λ z. z.failure) (sym k.value);
+  again = token_again c t class;
+  spelled = λ h. subst AreSpelled (ap without_places (sym k.whole) ∙ ap (λ z. z ∷ []) is) h;
+  steps = λ b o. record {
+    last = before (kind t);
+    opened = groups b o (kind t);
+    cont = cont_as b o (t ∷ []) (t ∷ []) (without_places u) (t ∷ []) (before (kind t)) (groups b o (kind t)) (sym (ap without_places (sym k.whole) ∙ ap (λ z. z ∷ []) is)) refl (token_steps t b o).cont;
+  };
+}
+
+abbrev pub mark_item : (g : Fixed) (u : List SpannedTemplateToken) (x : Phrase Part) → OneToken (fixed_class g) u x → Item (token (fixed_class g)) (v.token (mark g)) u x
+mark_item g u x k = token_item (fixed_class g) (mark g) u x k (mark_of k.one.token g k.class) refl
+
+-- ---- productions that pass on
+
+passed : {p : Part} {w : View} → Stands p w → (label : Label) → made_failed label p ≡ None
+passed (a_token {t = k} e) label = ap (made_failed label) e ∙ none k
+  where
+    none : (k : TemplateToken) → made_failed label (leaves.leaf k) ≡ None
+    none TemplateArgsStart = refl
+    none (Plain (t.Fixed f.Const)) = refl
+    none _ = refl
+passed (an_ups e) label = ap (made_failed label) e
+passed (a_path y e h g) label = ap (made_failed label) e
+passed (a_type y e h) label = ap (made_failed label) e
+passed (a_call y e h g) label = ap (made_failed label) e
+passed (an_expression n e h) label = ap (made_failed label) e
+passed (some_expressions ns e h) label = ap (made_failed label) e
+
+pub pass_back : (n m : ℕ) (w : View) → Rebuild n (phrase m ∷ []) l.Pass (2 ∷ []) → {u : List SpannedTemplateToken} {x : Phrase Part} → Back m w u x → Back n w (u ++ []) (make_of l.Pass (2 ∷ []) (x ∷ []))
+pass_back n m w rebuild b =
+    back_of n (phrase m ∷ []) l.Pass (2 ∷ []) rebuild (w ∷ []) w (append-nil (view_tokens w))
+    (of_one (λ ys. Makes w (make_of l.Pass (2 ∷ []) ys)) (λ a h. makes_of l.Pass (2 ∷ []) a [] w (λ s. a.part) (λ s. refl) (λ s. h.0.0) (λ ps. refl) (λ s. passed h.0.0 l.Pass) (stood_pass (a ∷ []) (w ∷ []) h)))
+    (more b.item no_more) (λ c p. tt) b.level b.ended
+
+pub pass_expressed : (n m : ℕ) → Rebuild n (phrase m ∷ []) l.Pass (2 ∷ []) → {u : List SpannedTemplateToken} {x : Phrase Part} → Expressed m u x → Expressed n (u ++ []) (make_of l.Pass (2 ∷ []) (x ∷ []))
+pass_expressed n m rebuild h = (h.0, h.1, pass_back n m (v.expression h.0) rebuild h.2)
+
+pub pass_single : (n m : ℕ) → Rebuild n (phrase m ∷ []) l.Pass (2 ∷ []) → {u : List SpannedTemplateToken} {x : Phrase Part} → Single m u x → Single n (u ++ []) (make_of l.Pass (2 ∷ []) (x ∷ []))
+pass_single n m rebuild h = (h.0, h.1, h.2, pass_back n m (v.expression h.0) rebuild h.3)
+
+pub expressed : {n : ℕ} {u : List SpannedTemplateToken} {x : Phrase Part} → Single n u x → Expressed n u x
+expressed h = (h.0, h.1, h.3)
+
+pub pass_typed : (n m : ℕ) → Rebuild n (phrase m ∷ []) l.Pass (2 ∷ []) → {u : List SpannedTemplateToken} {x : Phrase Part} → Typed m u x → Typed n (u ++ []) (make_of l.Pass (2 ∷ []) (x ∷ []))
+pass_typed n m rebuild h = (h.0, h.1, pass_back n m (v.type h.0) rebuild h.2)
+
+-- ---- operators
+
+binary_level : (o : BinaryOperator) (b : Before) (p : List Bool) → groups b p (kind (mark (binary_sign o))) ≡ p
+binary_level ShortCircuitOr b p = refl
+binary_level _ b p = refl
+
+unary_level : (o : UnaryOperator) (b : Before) (p : List Bool) → groups b p (kind (mark (unary_sign o))) ≡ p
+unary_level Negation b p = refl
+unary_level _ b p = refl
+
+both : (a b : Bool) → a ≡ true → b ≡ true → (a && b) ≡ true
+both a b e h = (λ i. e i && h i)
+
+binary_makes : (o : BinaryOperator) (d e : Exp) (k : TemplateToken) (a b c : Phrase Part) → Stood (a ∷ b ∷ c ∷ []) (v.expression d ∷ v.token k ∷ v.expression e ∷ [])
+    → Makes (v.expression (binary o d e)) (make_of (l.Expression (label.Binary o)) (2 ∷ 1 ∷ 2 ∷ []) (a ∷ b ∷ c ∷ []))
+binary_makes o d e k a b c h = go h.0.0 h.1.1.0.0
+  where
+    go : Stands a.part (v.expression d) → Stands c.part (v.expression e) → Makes (v.expression (binary o d e)) (make_of (l.Expression (label.Binary o)) (2 ∷ 1 ∷ 2 ∷ []) (a ∷ b ∷ c ∷ []))
+    go (an_expression n p q) (an_expression m r s) =
+        makes_of (l.Expression (label.Binary o)) (2 ∷ 1 ∷ 2 ∷ []) a (b ∷ c ∷ []) (v.expression (binary o d e)) (λ z. part.Expression (record { node = exp.Binary (record { operator = o; left = n; right = m }); span = z }))
+        (λ z i. make.binary o z (p i ∷ r i ∷ [])) (λ z. an_expression _ refl (tree_of_binary (record { operator = o; left = n; right = m }) ∙ (λ i. binary o (q i) (s i)))) (λ ps. refl) (λ z. refl)
+        (stood_pass (a ∷ b ∷ c ∷ []) (v.expression d ∷ v.token k ∷ v.expression e ∷ []) h)
+
+module _ (o : BinaryOperator) (n m r : ℕ) (rebuild : Rebuild n (phrase m ∷ token (fixed_class (binary_sign o)) ∷ phrase r ∷ []) (l.Expression (label.Binary o)) (2 ∷ 1 ∷ 2 ∷ [])) where
+  pub binary_expressed : {a b c : List SpannedTemplateToken} {x y z : Phrase Part} → Expressed m a x → OneToken (fixed_class (binary_sign o)) b y → Expressed r c z
+      → Expressed n (a ++ (b ++ (c ++ []))) (make_of (l.Expression (label.Binary o)) (2 ∷ 1 ∷ 2 ∷ []) (x ∷ y ∷ z ∷ []))
+  binary_expressed {b = b} {y = y} h k g =
+      let sign = mark (binary_sign o) in
+      let row = more h.2.item (more (mark_item (binary_sign o) b y k) (more g.2.item no_more)) in (
+        binary o h.0 g.0,
+        both (is_apart h.0) (is_apart g.0) h.1 g.1,
+        back_of n (phrase m ∷ token (fixed_class (binary_sign o)) ∷ phrase r ∷ []) (l.Expression (label.Binary o)) (2 ∷ 1 ∷ 2 ∷ []) rebuild
+        (v.expression h.0 ∷ v.token sign ∷ v.expression g.0 ∷ []) (v.expression (binary o h.0 g.0)) (ap (λ z. exp_tokens h.0 ++ (sign ∷ z)) (append-nil (exp_tokens g.0)))
+        (of_three (λ ys. Makes (v.expression (binary o h.0 g.0)) (make_of (l.Expression (label.Binary o)) (2 ∷ 1 ∷ 2 ∷ []) ys)) (binary_makes o h.0 g.0 sign))
+        row
+        (λ c p. tt)
+        (λ c p. g.2.level _ _ ∙ binary_level o (h.2.item.steps c p).last (h.2.item.steps c p).opened ∙ h.2.level c p)
+        (λ c p. g.2.ended _ _)
+      )
+
+unary_makes : (o : UnaryOperator) (e : Exp) (k : TemplateToken) (a b : Phrase Part) → Stood (a ∷ b ∷ []) (v.token k ∷ v.expression e ∷ [])
+    → Makes (v.expression (unary o e)) (make_of (l.Expression (label.Unary o)) (1 ∷ 2 ∷ []) (a ∷ b ∷ []))
+unary_makes o e k a b h = go h.1.0.0
+  where
+    go : Stands b.part (v.expression e) → Makes (v.expression (unary o e)) (make_of (l.Expression (label.Unary o)) (1 ∷ 2 ∷ []) (a ∷ b ∷ []))
+    go (an_expression n p q) =
+        makes_of (l.Expression (label.Unary o)) (1 ∷ 2 ∷ []) a (b ∷ []) (v.expression (unary o e)) (λ z. part.Expression (record { node = exp.Unary (record { operator = o; operand = n }); span = z }))
+        (λ z i. make.unary o z (p i ∷ [])) (λ z. an_expression _ refl (tree_of_unary (record { operator = o; operand = n }) ∙ (λ i. unary o (q i)))) (λ ps. refl) (λ z. refl)
+        (stood_pass (a ∷ b ∷ []) (v.token k ∷ v.expression e ∷ []) h)
+
+module _ (o : UnaryOperator) (n m : ℕ) (rebuild : Rebuild n (token (fixed_class (unary_sign o)) ∷ phrase m ∷ []) (l.Expression (label.Unary o)) (1 ∷ 2 ∷ [])) where
+  pub unary_expressed : {a b : List SpannedTemplateToken} {x y : Phrase Part} → OneToken (fixed_class (unary_sign o)) a x → Expressed m b y
+      → Expressed n (a ++ (b ++ [])) (make_of (l.Expression (label.Unary o)) (1 ∷ 2 ∷ []) (x ∷ y ∷ []))
+  unary_expressed {a = a} {x = x} k g =
+      let sign = mark (unary_sign o) in
+      let row = more (mark_item (unary_sign o) a x k) (more g.2.item no_more) in (
+        unary o g.0,
+        g.1,
+        back_of n (token (fixed_class (unary_sign o)) ∷ phrase m ∷ []) (l.Expression (label.Unary o)) (1 ∷ 2 ∷ []) rebuild
+        (v.token sign ∷ v.expression g.0 ∷ []) (v.expression (unary o g.0)) (ap (λ z. sign ∷ z) (append-nil (exp_tokens g.0)))
+        (of_two (λ ys. Makes (v.expression (unary o g.0)) (make_of (l.Expression (label.Unary o)) (1 ∷ 2 ∷ []) ys)) (unary_makes o g.0 sign))
+        row
+        (λ c p. tt)
+        (λ c p. g.2.level _ _ ∙ unary_level o c p)
+        (λ c p. g.2.ended _ _)
+      )
