@@ -4,3 +4,4 @@ pub mod Rows
 pub mod Places
 pub mod Families
 pub mod Operands
+pub mod Primaries

@@ -69,15 +69,15 @@ Separated n u x = (d : Exp) × (ds : List Exp) × (are_apart (exps (d ∷ ds)) �
 abbrev pub Listed : ℕ → List SpannedTemplateToken → Phrase Part → Type 0
 Listed n u x = (es : List Exp) × (are_apart (exps es) ≡ true) × ListBack n (v.expressions es) u x
 
-both : (a b : Bool) → a ≡ true → b ≡ true → (a && b) ≡ true
+pub both : (a b : Bool) → a ≡ true → b ≡ true → (a && b) ≡ true
 both a b e h = (λ i. e i && h i)
 
 -- ---- words
 
-abbrev word_item : (u : List SpannedTemplateToken) (x : Phrase Part) → (k : OneToken 77 u x) → Item (token 77) (v.token (word (word_of k.one.token k.class).0)) u x
+abbrev pub word_item : (u : List SpannedTemplateToken) (x : Phrase Part) → (k : OneToken 77 u x) → Item (token 77) (v.token (word (word_of k.one.token k.class).0)) u x
 word_item u x k = token_item 77 (word (word_of k.one.token k.class).0) u x k (word_of k.one.token k.class).1 refl
 
-word_part : (p : Part) (y : List ℕ) → Stands p (v.token (word y)) → p ≡ part.Ident (ident_of y)
+pub word_part : (p : Part) (y : List ℕ) → Stands p (v.token (word y)) → p ≡ part.Ident (ident_of y)
 word_part p y (a_token e) = e
 
 -- ---- names

@@ -1,0 +1,308 @@
+-- The productions of operands and of lists.
+use Rattle.std.proofs.Common.{◌≡◌, refl, sym, ap, ◌∙◌, subst, ℕ, zero, suc, ◌+◌, arith, Bool, true, false, not, ◌&&◌, ◌||◌, List, [], ◌∷◌, ◌++◌, append_assoc, append-nil, map, Option, Some, None}
+use Rattle.std.specs.List.{flat_map}
+use Rattle.std.proofs.lemmas.List.{map-append}
+use Rattle.std.proofs.lemmas.Bool.{and_parts}
+use Rattle.wgsl_path.specs.declared.span.Span.{Span}
+use Rattle.wgsl_path.specs.declared.span.Spanned.{Spanned}
+use Rattle.wgsl_path.specs.declared.ident.Ident.{Ident}
+use Rattle.wgsl_path.specs.declared.path.PathOrigin.TheVariants.{Relative}
+use Rattle.wgsl_path.specs.declared.path.ModulePath.{ModulePath}
+use Rattle.wgsl_path.specs.Paths.{ident_of}
+use Rattle.wgsl_path.specs.Joining.{root_path}
+use Rattle.wgsl_token.specs.declared.token.Token.TheVariants as t
+use Rattle.wgsl_token.specs.declared.token.Fixed.TheVariants as f
+use Rattle.wgsl_template_spec.specs.declared.token.TemplateToken.{TemplateToken}
+use Rattle.wgsl_template_spec.specs.declared.token.TemplateToken.TheVariants.{Plain, TemplateArgsStart, TemplateArgsEnd}
+use Rattle.wgsl_template_spec.specs.declared.token.SpannedTemplateToken.{SpannedTemplateToken}
+use Rattle.wgsl_template_spec.specs.Kinds.{kind}
+use Rattle.wgsl_token_layout.specs.Laws.{without_places}
+use Rattle.wgsl_token_layout.specs.Commas.{Before, callee, operand, before, is_callee, ends_operand, is_closer, outer, groups, may_end_so, comma, AreAlike, same, first_has}
+use Rattle.wgsl_expressions.specs.declared.expression.Expression.{Expression}
+use Rattle.wgsl_expressions.specs.declared.expression.Expression.TheVariants as exp
+use Rattle.wgsl_expressions.specs.declared.expression.FunctionCallOf.{FunctionCallOf}
+use Rattle.wgsl_expressions.specs.declared.expression.LiteralExpression.{LiteralExpression}
+use Rattle.wgsl_expressions.specs.declared.expression.LiteralExpression.TheVariants as lit
+use Rattle.wgsl_expressions.specs.declared.expression.TemplateArgOf.{TemplateArgOf}
+use Rattle.wgsl_expressions.specs.declared.expression.TypeExpressionOf.{TypeExpressionOf}
+use Rattle.wgsl_expressions.specs.Print.{is_number, is_numeric}
+use Rattle.wgsl_expressions.specs.Tree.{Exp, literal, parenthesized, component, indexed, unary, binary, call, named, Exps, nil, cons, exps, Typ, simple, templated}
+use Rattle.wgsl_expressions.specs.View.{node_tree, type_tree}
+use Rattle.wgsl_expressions.proofs.Trees.{tree_of_literal, tree_of_parenthesized, tree_of_component, tree_of_indexed, tree_of_call, tree_of_named}
+use Rattle.wgsl_tree_tokens.specs.Tokens.{mark, word, literal_token, origin_tokens, supers_tokens, components_tokens, path_tokens, qualifier_tokens, exp_tokens, exps_tokens, more_tokens, typ_tokens}
+use Rattle.wgsl_tree_tokens.specs.Printable.{AreSpelled, ends_in_number, is_apart, are_apart, type_is_apart}
+use Rattle.wgsl_tree_tokens.proofs.Expressions.{are_front}
+use Rattle.wgsl_shift_reduce.specs.Grammars.{Symbol, token, phrase}
+use Rattle.wgsl_parts.specs.declared.part.Part.{Part}
+use Rattle.wgsl_parts.specs.declared.part.Part.TheVariants as part
+use Rattle.wgsl_parts.specs.declared.part.QualifiedName.{QualifiedName}
+use Rattle.wgsl_parts.specs.declared.label.Label.{Label}
+use Rattle.wgsl_parts.specs.declared.label.Label.TheVariants as l
+use Rattle.wgsl_parts.specs.declared.label.NameLabel.TheVariants as name
+use Rattle.wgsl_parts.specs.declared.label.ExpressionLabel.TheVariants as label
+use Rattle.wgsl_leaves.specs.Leaves as leaves
+use Rattle.wgsl_phrases.specs.declared.phrase.Phrase.{Phrase}
+use Rattle.wgsl_make_expressions.specs.Making as make
+use Rattle.wgsl_make_expressions.specs.Lists as lists
+use Rattle.wgsl_grammar_tables.specs.Classes.{fixed_class, class_of}
+use Rattle.wgsl_read_back.proofs.Views.{View, view_tokens, Stands, a_token, an_ups, a_path, a_type, a_call, an_expression, some_expressions, ends_as}
+use Rattle.wgsl_read_back.proofs.Views as v
+use Rattle.wgsl_read_back.proofs.Items.{places_append, Again, Item, Ending, ListBack, Back, OneToken, moved}
+use Rattle.wgsl_read_back.proofs.Rows.{concat, RowBack, nil as no_more, more, list_more, Stood, stood_pass, Makes, make_of, makes_of, Rebuild, back_of, of_one, of_two, of_three, of_four}
+use Rattle.wgsl_read_back.proofs.Places.{mark_of, word_of, number_of, start_of, end_of}
+use Rattle.wgsl_read_back.proofs.Families.{Expressed, Single, Typed, token_item, mark_item, pass_back}
+use Rattle.wgsl_read_back.proofs.Operands.{Named, Upped, Called, Separated, Listed, both, word_item, word_part}
+
+-- ---- operands
+
+either_way : (b : Bool) → (b || not b) ≡ true
+either_way true = refl
+either_way false = refl
+
+leaf_literal : (x : LiteralExpression) → leaves.leaf (Plain (literal_token x)) ≡ part.Literal x
+leaf_literal (lit.Bool true) = refl
+leaf_literal (lit.Bool false) = refl
+leaf_literal (lit.AbstractInt z) = refl
+leaf_literal (lit.AbstractFloat z) = refl
+leaf_literal (lit.I32 z) = refl
+leaf_literal (lit.U32 z) = refl
+leaf_literal (lit.F32 z) = refl
+leaf_literal (lit.F16 z) = refl
+
+literal_level : (x : LiteralExpression) (b : Before) (p : List Bool) → groups b p (kind (Plain (literal_token x))) ≡ p
+literal_level (lit.Bool true) b p = refl
+literal_level (lit.Bool false) b p = refl
+literal_level (lit.AbstractInt z) b p = refl
+literal_level _ b p = refl
+
+literal_ends : (x : LiteralExpression) → ends_operand (before (kind (Plain (literal_token x)))) ≡ true
+literal_ends (lit.Bool true) = refl
+literal_ends (lit.Bool false) = refl
+literal_ends (lit.AbstractInt z) = refl
+literal_ends _ = refl
+
+pub literal_single : (n c : ℕ) → Rebuild n (token c ∷ []) (l.Expression label.ALiteral) (2 ∷ []) → {u : List SpannedTemplateToken} {y : Phrase Part} (x : LiteralExpression) → (k : OneToken c u y) → k.one.token ≡ Plain (literal_token x)
+    → Single n (u ++ []) (make_of (l.Expression label.ALiteral) (2 ∷ []) (y ∷ []))
+literal_single n c rebuild {u = u} {y = y} x k is = (
+  literal x,
+  refl,
+  either_way (is_number x),
+  back_of n (token c ∷ []) (l.Expression label.ALiteral) (2 ∷ []) rebuild (v.token (Plain (literal_token x)) ∷ []) (v.expression (literal x)) refl
+  (of_one (λ ys. Makes (v.expression (literal x)) (make_of (l.Expression label.ALiteral) (2 ∷ []) ys)) makes)
+  (more (token_item c (Plain (literal_token x)) u y k is (ap class_of (sym is) ∙ k.class)) no_more) (λ d p. tt) (λ d p. literal_level x d p) (λ d p. literal_ends x)
+)
+  where
+    makes : (a : Phrase Part) → Stood (a ∷ []) (v.token (Plain (literal_token x)) ∷ []) → Makes (v.expression (literal x)) (make_of (l.Expression label.ALiteral) (2 ∷ []) (a ∷ []))
+    makes a h = go h.0.0
+      where
+        go : Stands a.part (v.token (Plain (literal_token x))) → Makes (v.expression (literal x)) (make_of (l.Expression label.ALiteral) (2 ∷ []) (a ∷ []))
+        go (a_token e) =
+            makes_of (l.Expression label.ALiteral) (2 ∷ []) a [] (v.expression (literal x)) (λ z. part.Expression (record { node = exp.Literal x; span = z }))
+            (λ z. ap (λ q. make.a_literal z (q ∷ [])) (e ∙ leaf_literal x)) (λ z. an_expression _ refl (tree_of_literal x)) (λ ps. refl) (λ z. refl) (stood_pass (a ∷ []) (v.token (Plain (literal_token x)) ∷ []) h)
+
+pub number_single : (n : ℕ) → Rebuild n (token 78 ∷ []) (l.Expression label.ALiteral) (2 ∷ []) → {u : List SpannedTemplateToken} {y : Phrase Part} → OneToken 78 u y → Single n (u ++ []) (make_of (l.Expression label.ALiteral) (2 ∷ []) (y ∷ []))
+number_single n rebuild k = let x = number_of k.one.token k.class in literal_single n 78 rebuild x.0 k x.1
+
+pub named_single : (n m : ℕ) → Rebuild n (phrase m ∷ []) (l.Expression label.Named) (2 ∷ []) → {u : List SpannedTemplateToken} {x : Phrase Part} → Typed m u x → Single n (u ++ []) (make_of (l.Expression label.Named) (2 ∷ []) (x ∷ []))
+named_single n m rebuild g = (
+  named g.0,
+  g.1,
+  refl,
+  back_of n (phrase m ∷ []) (l.Expression label.Named) (2 ∷ []) rebuild (v.type g.0 ∷ []) (v.expression (named g.0)) (append-nil (typ_tokens g.0))
+  (of_one (λ ys. Makes (v.expression (named g.0)) (make_of (l.Expression label.Named) (2 ∷ []) ys)) (makes g.0))
+  (more g.2.item no_more) (λ c p. tt) g.2.level (λ c p. ap ends_operand (g.2.ended c p))
+)
+  where
+    makes : (t : Typ) (a : Phrase Part) → Stood (a ∷ []) (v.type t ∷ []) → Makes (v.expression (named t)) (make_of (l.Expression label.Named) (2 ∷ []) (a ∷ []))
+    makes t a h = go h.0.0
+      where
+        go : Stands a.part (v.type t) → Makes (v.expression (named t)) (make_of (l.Expression label.Named) (2 ∷ []) (a ∷ []))
+        go (a_type x is p) =
+            makes_of (l.Expression label.Named) (2 ∷ []) a [] (v.expression (named t)) (λ z. part.Expression (record { node = exp.TypeOrIdentifier x; span = z }))
+            (λ z i. make.named z (is i ∷ [])) (λ z. an_expression _ refl (tree_of_named x ∙ ap named p)) (λ ps. refl) (λ z. refl) (stood_pass (a ∷ []) (v.type t ∷ []) h)
+
+pub called_single : (n m : ℕ) → Rebuild n (phrase m ∷ []) (l.Expression label.Called) (2 ∷ []) → {u : List SpannedTemplateToken} {x : Phrase Part} → Called m u x → Single n (u ++ []) (make_of (l.Expression label.Called) (2 ∷ []) (x ∷ []))
+called_single n m rebuild g = (
+  call g.0 g.1,
+  g.2,
+  refl,
+  back_of n (phrase m ∷ []) (l.Expression label.Called) (2 ∷ []) rebuild (v.call g.0 g.1 ∷ []) (v.expression (call g.0 g.1)) (append-nil (exp_tokens (call g.0 g.1)))
+  (of_one (λ ys. Makes (v.expression (call g.0 g.1)) (make_of (l.Expression label.Called) (2 ∷ []) ys)) (makes g.0 g.1))
+  (more g.3.item no_more) (λ c p. tt) g.3.level g.3.ended
+)
+  where
+    makes : (t : Typ) (xs : Exps) (a : Phrase Part) → Stood (a ∷ []) (v.call t xs ∷ []) → Makes (v.expression (call t xs)) (make_of (l.Expression label.Called) (2 ∷ []) (a ∷ []))
+    makes t xs a h = go h.0.0
+      where
+        go : Stands a.part (v.call t xs) → Makes (v.expression (call t xs)) (make_of (l.Expression label.Called) (2 ∷ []) (a ∷ []))
+        go (a_call x is p q) =
+            makes_of (l.Expression label.Called) (2 ∷ []) a [] (v.expression (call t xs)) (λ z. part.Expression (record { node = exp.FunctionCall x; span = z }))
+            (λ z i. make.called z (is i ∷ [])) (λ z. an_expression _ refl (tree_of_call x ∙ (λ i. call (p i) (q i)))) (λ ps. refl) (λ z. refl) (stood_pass (a ∷ []) (v.call t xs ∷ []) h)
+
+pub parenthesized_single : (n m : ℕ) → Rebuild n (token (fixed_class f.ParenLeft) ∷ phrase m ∷ token (fixed_class f.ParenRight) ∷ []) (l.Expression label.Parenthesized) (1 ∷ 2 ∷ 1 ∷ []) → {a b c : List SpannedTemplateToken} {x y z : Phrase Part}
+    → OneToken (fixed_class f.ParenLeft) a x → Expressed m b y → OneToken (fixed_class f.ParenRight) c z → Single n (a ++ (b ++ (c ++ []))) (make_of (l.Expression label.Parenthesized) (1 ∷ 2 ∷ 1 ∷ []) (x ∷ y ∷ z ∷ []))
+parenthesized_single n m rebuild {a = a} {c = c} {x = x} {z = z} i g j = (
+  parenthesized g.0,
+  g.1,
+  refl,
+  back_of n (token (fixed_class f.ParenLeft) ∷ phrase m ∷ token (fixed_class f.ParenRight) ∷ []) (l.Expression label.Parenthesized) (1 ∷ 2 ∷ 1 ∷ []) rebuild
+  (v.token (mark f.ParenLeft) ∷ v.expression g.0 ∷ v.token (mark f.ParenRight) ∷ []) (v.expression (parenthesized g.0)) refl
+  (of_three (λ ys. Makes (v.expression (parenthesized g.0)) (make_of (l.Expression label.Parenthesized) (1 ∷ 2 ∷ 1 ∷ []) ys)) (makes g.0))
+  (more (mark_item f.ParenLeft a x i) (more g.2.item (more (mark_item f.ParenRight c z j) no_more))) (λ d p. tt) (λ d p. ap outer (g.2.level (before (kind (mark f.ParenLeft))) (is_callee d ∷ p))) (λ d p. refl)
+)
+  where
+    makes : (e : Exp) (a b c : Phrase Part) → Stood (a ∷ b ∷ c ∷ []) (v.token (mark f.ParenLeft) ∷ v.expression e ∷ v.token (mark f.ParenRight) ∷ []) → Makes (v.expression (parenthesized e)) (make_of (l.Expression label.Parenthesized) (1 ∷ 2 ∷ 1 ∷ []) (a ∷ b ∷ c ∷ []))
+    makes e a b c h = go h.1.0.0
+      where
+        go : Stands b.part (v.expression e) → Makes (v.expression (parenthesized e)) (make_of (l.Expression label.Parenthesized) (1 ∷ 2 ∷ 1 ∷ []) (a ∷ b ∷ c ∷ []))
+        go (an_expression x is p) =
+            makes_of (l.Expression label.Parenthesized) (1 ∷ 2 ∷ 1 ∷ []) a (b ∷ c ∷ []) (v.expression (parenthesized e)) (λ z. part.Expression (record { node = exp.Parenthesized (record { expression = x }); span = z }))
+            (λ z i. make.parenthesized z (is i ∷ [])) (λ z. an_expression _ refl (tree_of_parenthesized (record { expression = x }) ∙ ap parenthesized p)) (λ ps. refl) (λ z. refl)
+            (stood_pass (a ∷ b ∷ c ∷ []) (v.token (mark f.ParenLeft) ∷ v.expression e ∷ v.token (mark f.ParenRight) ∷ []) h)
+
+pub component_single : (n m : ℕ) → Rebuild n (phrase m ∷ token (fixed_class f.Period) ∷ token 77 ∷ []) (l.Expression label.Component) (2 ∷ 1 ∷ 2 ∷ []) → {a b c : List SpannedTemplateToken} {x y z : Phrase Part}
+    → Single m a x → OneToken (fixed_class f.Period) b y → OneToken 77 c z → Single n (a ++ (b ++ (c ++ []))) (make_of (l.Expression label.Component) (2 ∷ 1 ∷ 2 ∷ []) (x ∷ y ∷ z ∷ []))
+component_single n m rebuild {b = b} {c = c} {y = y} {z = z} g i j =
+    let name = (word_of j.one.token j.class).0 in (
+      component g.0 name,
+      both (is_numeric g.0 || not (ends_in_number g.0)) (is_apart g.0) g.2 g.1,
+      refl,
+      back_of n (phrase m ∷ token (fixed_class f.Period) ∷ token 77 ∷ []) (l.Expression label.Component) (2 ∷ 1 ∷ 2 ∷ []) rebuild
+      (v.expression g.0 ∷ v.token (mark f.Period) ∷ v.token (word name) ∷ []) (v.expression (component g.0 name)) refl
+      (of_three (λ ys. Makes (v.expression (component g.0 name)) (make_of (l.Expression label.Component) (2 ∷ 1 ∷ 2 ∷ []) ys)) (makes g.0 name))
+      (more g.3.item (more (mark_item f.Period b y i) (more (word_item c z j) no_more))) (λ d p. tt) (λ d p. g.3.level d p) (λ d p. refl)
+    )
+  where
+    makes : (e : Exp) (name : List ℕ) (a b c : Phrase Part) → Stood (a ∷ b ∷ c ∷ []) (v.expression e ∷ v.token (mark f.Period) ∷ v.token (word name) ∷ []) → Makes (v.expression (component e name)) (make_of (l.Expression label.Component) (2 ∷ 1 ∷ 2 ∷ []) (a ∷ b ∷ c ∷ []))
+    makes e name a b c h = go h.0.0
+      where
+        go : Stands a.part (v.expression e) → Makes (v.expression (component e name)) (make_of (l.Expression label.Component) (2 ∷ 1 ∷ 2 ∷ []) (a ∷ b ∷ c ∷ []))
+        go (an_expression x is p) =
+            makes_of (l.Expression label.Component) (2 ∷ 1 ∷ 2 ∷ []) a (b ∷ c ∷ []) (v.expression (component e name)) (λ z. part.Expression (record { node = exp.NamedComponent (record { base = x; component = ident_of name }); span = z }))
+            (λ z i. make.component z (is i ∷ word_part c.part name h.1.1.0.0 i ∷ [])) (λ z. an_expression _ refl (tree_of_component (record { base = x; component = ident_of name }) ∙ ap (λ d. component d name) p)) (λ ps. refl) (λ z. refl)
+            (stood_pass (a ∷ b ∷ c ∷ []) (v.expression e ∷ v.token (mark f.Period) ∷ v.token (word name) ∷ []) h)
+
+pub indexed_single : (n m r : ℕ) → Rebuild n (phrase m ∷ token (fixed_class f.BracketLeft) ∷ phrase r ∷ token (fixed_class f.BracketRight) ∷ []) (l.Expression label.Indexed) (2 ∷ 1 ∷ 2 ∷ 1 ∷ [])
+    → {a b c d : List SpannedTemplateToken} {x y z w : Phrase Part} → Single m a x → OneToken (fixed_class f.BracketLeft) b y → Expressed r c z → OneToken (fixed_class f.BracketRight) d w
+    → Single n (a ++ (b ++ (c ++ (d ++ [])))) (make_of (l.Expression label.Indexed) (2 ∷ 1 ∷ 2 ∷ 1 ∷ []) (x ∷ y ∷ z ∷ w ∷ []))
+indexed_single n m r rebuild {b = b} {d = d} {y = y} {w = w} g i h j = (
+  indexed g.0 h.0,
+  both (is_apart g.0) (is_apart h.0) g.1 h.1,
+  refl,
+  back_of n (phrase m ∷ token (fixed_class f.BracketLeft) ∷ phrase r ∷ token (fixed_class f.BracketRight) ∷ []) (l.Expression label.Indexed) (2 ∷ 1 ∷ 2 ∷ 1 ∷ []) rebuild
+  (v.expression g.0 ∷ v.token (mark f.BracketLeft) ∷ v.expression h.0 ∷ v.token (mark f.BracketRight) ∷ []) (v.expression (indexed g.0 h.0)) refl
+  (of_four (λ ys. Makes (v.expression (indexed g.0 h.0)) (make_of (l.Expression label.Indexed) (2 ∷ 1 ∷ 2 ∷ 1 ∷ []) ys)) (makes g.0 h.0))
+  (more g.3.item (more (mark_item f.BracketLeft b y i) (more h.2.item (more (mark_item f.BracketRight d w j) no_more)))) (λ c p. tt)
+  (λ c p. ap outer (h.2.level (before (kind (mark f.BracketLeft))) (false ∷ (g.3.item.steps c p).opened)) ∙ g.3.level c p) (λ c p. refl)
+)
+  where
+    makes : (e k : Exp) (a b c d : Phrase Part) → Stood (a ∷ b ∷ c ∷ d ∷ []) (v.expression e ∷ v.token (mark f.BracketLeft) ∷ v.expression k ∷ v.token (mark f.BracketRight) ∷ [])
+        → Makes (v.expression (indexed e k)) (make_of (l.Expression label.Indexed) (2 ∷ 1 ∷ 2 ∷ 1 ∷ []) (a ∷ b ∷ c ∷ d ∷ []))
+    makes e k a b c d h = go h.0.0 h.1.1.0.0
+      where
+        go : Stands a.part (v.expression e) → Stands c.part (v.expression k) → Makes (v.expression (indexed e k)) (make_of (l.Expression label.Indexed) (2 ∷ 1 ∷ 2 ∷ 1 ∷ []) (a ∷ b ∷ c ∷ d ∷ []))
+        go (an_expression x is p) (an_expression y at q) =
+            makes_of (l.Expression label.Indexed) (2 ∷ 1 ∷ 2 ∷ 1 ∷ []) a (b ∷ c ∷ d ∷ []) (v.expression (indexed e k)) (λ z. part.Expression (record { node = exp.Indexing (record { base = x; index = y }); span = z }))
+            (λ z i. make.indexed z (is i ∷ at i ∷ [])) (λ z. an_expression _ refl (tree_of_indexed (record { base = x; index = y }) ∙ (λ i. indexed (p i) (q i)))) (λ ps. refl) (λ z. refl)
+            (stood_pass (a ∷ b ∷ c ∷ d ∷ []) (v.expression e ∷ v.token (mark f.BracketLeft) ∷ v.expression k ∷ v.token (mark f.BracketRight) ∷ []) h)
+
+-- ---- lists
+
+pub first_separated : (n m : ℕ) → Rebuild n (phrase m ∷ []) l.First (2 ∷ []) → {u : List SpannedTemplateToken} {x : Phrase Part} → Expressed m u x → Separated n (u ++ []) (make_of l.First (2 ∷ []) (x ∷ []))
+first_separated n m rebuild g = (
+  g.0,
+  [],
+  both (is_apart g.0) true g.1 refl,
+  back_of n (phrase m ∷ []) l.First (2 ∷ []) rebuild (v.expression g.0 ∷ []) (v.expressions (g.0 ∷ [])) refl
+  (of_one (λ ys. Makes (v.expressions (g.0 ∷ [])) (make_of l.First (2 ∷ []) ys)) (makes g.0))
+  (more g.2.item no_more) (λ c p. tt) g.2.level g.2.ended
+)
+  where
+    makes : (e : Exp) (a : Phrase Part) → Stood (a ∷ []) (v.expression e ∷ []) → Makes (v.expressions (e ∷ [])) (make_of l.First (2 ∷ []) (a ∷ []))
+    makes e a h = go h.0.0
+      where
+        go : Stands a.part (v.expression e) → Makes (v.expressions (e ∷ [])) (make_of l.First (2 ∷ []) (a ∷ []))
+        go (an_expression x is p) =
+            makes_of l.First (2 ∷ []) a [] (v.expressions (e ∷ [])) (λ z. part.Expressions (x ∷ []))
+            (λ z i. lists.started (is i)) (λ z. some_expressions _ refl (λ i. p i ∷ [])) (λ ps. refl) (λ z. refl) (stood_pass (a ∷ []) (v.expression e ∷ []) h)
+
+more_last : (ds : List Exp) (e : Exp) → more_tokens (exps (ds ++ (e ∷ []))) ≡ more_tokens (exps ds) ++ (comma ∷ (exp_tokens e ++ []))
+more_last [] e = refl
+more_last (d ∷ ds) e = ap (λ z. comma ∷ (exp_tokens d ++ z)) (more_last ds e) ∙ ap (λ z. comma ∷ z) (sym (append_assoc (exp_tokens d) (more_tokens (exps ds)) (comma ∷ (exp_tokens e ++ []))))
+
+apart_last : (ds : List Exp) (e : Exp) → are_apart (exps ds) ≡ true → is_apart e ≡ true → are_apart (exps (ds ++ (e ∷ []))) ≡ true
+apart_last [] e h g = both (is_apart e) true g refl
+apart_last (d ∷ ds) e h g = let b = and_parts (is_apart d) (are_apart (exps ds)) h in both (is_apart d) (are_apart (exps (ds ++ (e ∷ [])))) b.0 (apart_last ds e b.1 g)
+
+pub more_separated : (n m : ℕ) → Rebuild n (phrase n ∷ token (fixed_class f.Comma) ∷ phrase m ∷ []) l.More (2 ∷ 1 ∷ 2 ∷ []) → {a b c : List SpannedTemplateToken} {x y z : Phrase Part} → Separated n a x → OneToken (fixed_class f.Comma) b y → Expressed m c z
+    → Separated n (a ++ (b ++ (c ++ []))) (make_of l.More (2 ∷ 1 ∷ 2 ∷ []) (x ∷ y ∷ z ∷ []))
+more_separated n m rebuild {b = b} {y = y} g i h = (
+  g.0,
+  g.1 ++ (h.0 ∷ []),
+  apart_last (g.0 ∷ g.1) h.0 g.2 h.1,
+  back_of n (phrase n ∷ token (fixed_class f.Comma) ∷ phrase m ∷ []) l.More (2 ∷ 1 ∷ 2 ∷ []) rebuild
+  (v.expressions (g.0 ∷ g.1) ∷ v.token comma ∷ v.expression h.0 ∷ []) (v.expressions (g.0 ∷ (g.1 ++ (h.0 ∷ []))))
+  (append_assoc (exp_tokens g.0) (more_tokens (exps g.1)) (comma ∷ (exp_tokens h.0 ++ [])) ∙ ap (λ z. exp_tokens g.0 ++ z) (sym (more_last g.1 h.0)))
+  (of_three (λ ys. Makes (v.expressions (g.0 ∷ (g.1 ++ (h.0 ∷ [])))) (make_of l.More (2 ∷ 1 ∷ 2 ∷ []) ys)) (makes g.0 g.1 h.0))
+  (more g.3.item (more (mark_item f.Comma b y i) (more h.2.item no_more))) (λ d p. tt) (λ d p. h.2.level _ _ ∙ g.3.level d p) (λ d p. h.2.ended _ _)
+)
+  where
+    makes : (d : Exp) (ds : List Exp) (e : Exp) (a b c : Phrase Part) → Stood (a ∷ b ∷ c ∷ []) (v.expressions (d ∷ ds) ∷ v.token comma ∷ v.expression e ∷ []) → Makes (v.expressions (d ∷ (ds ++ (e ∷ [])))) (make_of l.More (2 ∷ 1 ∷ 2 ∷ []) (a ∷ b ∷ c ∷ []))
+    makes d ds e a b c h = go h.0.0 h.1.1.0.0
+      where
+        go : Stands a.part (v.expressions (d ∷ ds)) → Stands c.part (v.expression e) → Makes (v.expressions (d ∷ (ds ++ (e ∷ [])))) (make_of l.More (2 ∷ 1 ∷ 2 ∷ []) (a ∷ b ∷ c ∷ []))
+        go (some_expressions ns is p) (an_expression x at q) =
+            makes_of l.More (2 ∷ 1 ∷ 2 ∷ []) a (b ∷ c ∷ []) (v.expressions (d ∷ (ds ++ (e ∷ [])))) (λ z. part.Expressions (ns ++ (x ∷ [])))
+            (λ z i. lists.joined (is i) (at i)) (λ z. some_expressions _ refl (map-append node_tree ns (x ∷ []) ∙ (λ i. p i ++ (q i ∷ [])))) (λ ps. refl) (λ z. refl)
+            (stood_pass (a ∷ b ∷ c ∷ []) (v.expressions (d ∷ ds) ∷ v.token comma ∷ v.expression e ∷ []) h)
+
+pub listed_without : (n m : ℕ) → Rebuild n (phrase m ∷ []) l.Pass (2 ∷ []) → {u : List SpannedTemplateToken} {x : Phrase Part} → Separated m u x → Listed n (u ++ []) (make_of l.Pass (2 ∷ []) (x ∷ []))
+listed_without n m rebuild g =
+    let b = pass_back n m (v.expressions (g.0 ∷ g.1)) rebuild g.3 in (
+      g.0 ∷ g.1,
+      g.2,
+      record {
+        stands = b.item.stands;
+        passes = b.item.passes;
+        again = b.item.again;
+        spelled = b.item.spelled;
+        ending = λ d o. let q = b.item.steps d o in record {
+          last = q.last;
+          ended = b.ended d o;
+          cont = λ t ts us may closer a. let P : List Bool → Type 0 = λ z. AreAlike (before (kind t)) (groups q.last z (kind t)) ts us in q.cont (t ∷ ts) (t ∷ us) (same t (subst P (sym (b.level d o)) a));
+        };
+      }
+    )
+
+pub listed_with : (n m : ℕ) → Rebuild n (phrase m ∷ []) l.Pass (2 ∷ []) → {a b : List SpannedTemplateToken} {x y : Phrase Part} → Separated m a x → OneToken (fixed_class f.Comma) b y
+    → Listed n (a ++ (b ++ [])) (make_of l.Pass (2 ∷ 1 ∷ []) (x ∷ y ∷ []))
+listed_with n m rebuild {a = a} {b = b} {x = x} {y = y} g k =
+    let bare = pass_back n m (v.expressions (g.0 ∷ g.1)) rebuild g.3 in
+    let made = makes (g.0 ∷ g.1) x y g.3.item.stands g.3.item.passes (ap (λ z. z.failure) (sym k.value)) in (
+      g.0 ∷ g.1,
+      g.2,
+      record {
+        stands = made.stands;
+        passes = made.passes;
+        again = bare.item.again;
+        spelled = λ h. g.3.item.spelled (are_front (without_places a) (without_places (b ++ [])) (subst AreSpelled (places_append a (b ++ [])) h));
+        ending = λ d o. let q = g.3.item.steps d o in record {
+          last = q.last;
+          ended = g.3.ended d o;
+          cont = λ t ts us may closer h.
+          let P : List Bool → Type 0 = λ z. AreAlike (before (kind t)) (groups q.last z (kind t)) ts us in
+          let Q : List Bool → Type 0 = λ z. may_end_so z ≡ true in
+          moved (regroup t ts) refl (q.cont (comma ∷ t ∷ ts) (t ∷ us) (first_has t (g.3.ended d o) (subst Q (sym (g.3.level d o)) may) closer (subst P (sym (g.3.level d o)) h)));
+        };
+      }
+    )
+  where
+    one_comma : without_places (b ++ []) ≡ comma ∷ []
+    one_comma = places_append b [] ∙ append-nil (without_places b) ∙ ap without_places (sym k.whole) ∙ ap (λ z. z ∷ []) (mark_of k.one.token f.Comma k.class)
+
+    regroup : (t : TemplateToken) (ts : List TemplateToken) → without_places a ++ (comma ∷ t ∷ ts) ≡ without_places (a ++ (b ++ [])) ++ (t ∷ ts)
+    regroup t ts = sym (ap (λ z. z ++ (t ∷ ts)) (places_append a (b ++ []) ∙ ap (λ z. without_places a ++ z) one_comma) ∙ append_assoc (without_places a) (comma ∷ []) (t ∷ ts))
+
+    makes : (es : List Exp) (x y : Phrase Part) → Stands x.part (v.expressions es) → x.failure ≡ None → y.failure ≡ None → Makes (v.expressions es) (make_of l.Pass (2 ∷ 1 ∷ []) (x ∷ y ∷ []))
+    makes es x y (some_expressions ns is p) h i =
+        makes_of l.Pass (2 ∷ 1 ∷ []) x (y ∷ []) (v.expressions es) (λ z. part.Expressions ns) (λ z. is) (λ z. some_expressions ns refl p) (λ ps. refl) (λ z. refl) (h, (i, tt))
