@@ -5,3 +5,5 @@ pub mod Places
 pub mod Families
 pub mod Operands
 pub mod Primaries
+pub mod Steps
+pub mod Derived

@@ -1,0 +1,206 @@
+-- What tokens derive, expression by expression.
+use Rattle.std.proofs.Common.{◌≡◌, refl, sym, ap, ◌∙◌, subst, ℕ, zero, suc, Bool, true, false, ◌&&◌, ◌==◌, List, [], ◌∷◌, ◌++◌, take, drop, take-append-drop, Option, Some, None}
+use Rattle.std.specs.List.{list_all}
+use Rattle.std.proofs.lemmas.Bool.{and_parts}
+use Rattle.wgsl_operators.specs.declared.BinaryOperator.TheVariants as o
+use Rattle.wgsl_operators.specs.declared.UnaryOperator.TheVariants as u
+use Rattle.wgsl_template_spec.specs.declared.token.SpannedTemplateToken.{SpannedTemplateToken}
+use Rattle.wgsl_shift_reduce.specs.Grammars.{Symbol, token, phrase, Rule, Derives, a_token, a_phrase, Row, done, next}
+use Rattle.wgsl_tables.specs.Listed.{rule_at}
+use Rattle.wgsl_parts.specs.declared.part.Part.{Part}
+use Rattle.wgsl_parts.specs.declared.part.Part.TheVariants.{Absent}
+use Rattle.wgsl_parts.specs.declared.label.Label.TheVariants as l
+use Rattle.wgsl_phrases.specs.declared.phrase.Phrase.{Phrase}
+use Rattle.wgsl_phrases.specs.Gathering.{extent_from, chosen}
+use Rattle.wgsl_grammar_tables.specs.Decoded.{listed}
+use Rattle.wgsl_grammar_tables.specs.Labels.{label_at, pattern_at}
+use Rattle.wgsl_grammar_tables.specs.Nonterminals as n
+use Rattle.wgsl_grammar_tables.specs.Expansion.{Made, made_rules, made_in, rule_in, parts_in, plain, in_a_list, with_commas}
+use Rattle.wgsl_grammar_tables.proofs.Written.{rules_are, label_is, parts_are}
+use Rattle.wgsl_reading.specs.Phrases.{grammar, made, make}
+use Rattle.wgsl_read_back.proofs.Rows.{make_of, Rebuild}
+use Rattle.wgsl_read_back.proofs.Steps.{Sort, unknown, sort_of, GoodAs, Good, GoodRow, good_end, good_next, Step, as_expressed, s_binary, s_unary, s_pass, s_pass_singles, s_pass_types, s_name_alone, s_name_above, s_name_in_package, s_name_within, s_one_up, s_further_up, s_simple, s_templated, s_call_without, s_call_with, s_number, s_true, s_false, s_named, s_called, s_parenthesized, s_component, s_indexed, s_first, s_more, s_listed_without, s_listed_with}
+
+-- ---- rules by number
+
+rule_made : (ms : List Made) (p : ℕ) (m : Made) → made_in ms p ≡ Some m → rule_in ms p ≡ Some (record { left = m.left; right = m.right })
+rule_made [] p m e = absurd cc
+rule_made (x ∷ ms) zero m e = let same : x ≡ m = cc in ap (λ (z : Made). let r : Rule = record { left = z.left; right = z.right } in Some r) same
+rule_made (x ∷ ms) (suc p) m e = rule_made ms p m e
+
+parts_made : (ms : List Made) (p : ℕ) (m : Made) → made_in ms p ≡ Some m → parts_in ms p ≡ m.parts
+parts_made [] p m e = absurd cc
+parts_made (x ∷ ms) zero m e = let same : x ≡ m = cc in ap (λ (z : Made). z.parts) same
+parts_made (x ∷ ms) (suc p) m e = parts_made ms p m e
+
+makes_as : (p : ℕ) (m : Made) → made_in made_rules p ≡ Some m → (xs : List (Phrase Part)) → make p xs ≡ make_of m.label m.parts xs
+makes_as p m e xs = λ i. made (label_is p m e i) (extent_from None xs) (chosen Absent ((parts_are p ∙ parts_made made_rules p m e) i) xs)
+
+pub rebuild_at : (p : ℕ) (m : Made) → made_in made_rules p ≡ Some m → Rebuild m.left m.right m.label m.parts
+rebuild_at p m e w ys row =
+    let r : Rule = record { left = m.left; right = m.right } in
+    subst (Derives grammar (phrase m.left) w) (makes_as p m e ys) (a_phrase p r (rules_are p ∙ rule_made made_rules p m e) row)
+
+record Found (p : ℕ) (r : Rule) : Type 0 where
+  made : Made
+  is : made_in made_rules p ≡ Some made
+  left_is : made.left ≡ r.left
+  right_is : made.right ≡ r.right
+
+found_in : (ms : List Made) (p : ℕ) (r : Rule) → rule_in ms p ≡ Some r → (m : Made) × (made_in ms p ≡ Some m) × (m.left ≡ r.left) × (m.right ≡ r.right)
+found_in [] p r e = absurd cc
+found_in (m ∷ ms) zero r e =
+    let q : Rule = record { left = m.left; right = m.right } in
+    let same : q ≡ r = cc in
+    (m, refl, ap (λ (z : Rule). z.left) same, ap (λ (z : Rule). z.right) same)
+found_in (m ∷ ms) (suc p) r e = found_in ms p r e
+
+-- ---- the step of each rule
+
+abbrev Each : List Made → Type 0
+Each [] = Unit {0}
+Each (m ∷ ms) = Step m × Each ms
+
+each_at : (ms : List Made) → Each ms → (p : ℕ) (m : Made) → made_in ms p ≡ Some m → Step m
+each_at [] h p m e = absurd cc
+each_at (x ∷ ms) h zero m e = let same : x ≡ m = cc in subst Step same h.0
+each_at (x ∷ ms) h (suc p) m e = each_at ms h.1 p m e
+
+each_append : (ms ks : List Made) → Each ms → Each ks → Each (ms ++ ks)
+each_append [] ks h g = g
+each_append (m ∷ ms) ks h g = (h.0, each_append ms ks h.1 g)
+
+abbrev is_unknown : Sort → Bool
+is_unknown unknown = true
+is_unknown _ = false
+
+unknown_step : (m : Made) → is_unknown (sort_of m.left) ≡ true → Step m
+unknown_step m e rebuild w xs row = go (sort_of m.left) e
+  where
+    go : (s : Sort) → is_unknown s ≡ true → GoodAs s m.left w (make_of m.label m.parts xs)
+    go unknown h = tt
+    go _ h = absurd cc
+
+all_unknown : (ms : List Made) → list_all (λ m. is_unknown (sort_of m.left)) ms ≡ true → Each ms
+all_unknown [] e = tt
+all_unknown (m ∷ ms) e = let h = and_parts (is_unknown (sort_of m.left)) (list_all (λ k. is_unknown (sort_of k.left)) ms) e in (unknown_step m h.0, all_unknown ms h.1)
+
+bare_Item : Rebuild (in_a_list n.Item) (phrase (with_commas n.Item) ∷ []) l.Pass (2 ∷ [])
+unfolding made_rules
+bare_Item = rebuild_at 289 (record { left = in_a_list n.Item; right = phrase (with_commas n.Item) ∷ []; label = l.Pass; parts = 2 ∷ [] }) refl
+
+bare_Expression : Rebuild (in_a_list n.Expression) (phrase (with_commas n.Expression) ∷ []) l.Pass (2 ∷ [])
+unfolding made_rules
+bare_Expression = rebuild_at 293 (record { left = in_a_list n.Expression; right = phrase (with_commas n.Expression) ∷ []; label = l.Pass; parts = 2 ∷ [] }) refl
+
+first_steps : Each (take 63 made_rules)
+unfolding made_rules
+first_steps =
+    (s_name_alone (plain n.Name) (λ w x h. h),
+    (s_name_above (plain n.Name) (plain n.Ups) (λ w x h. h) (λ w x h. h),
+    (s_name_in_package (plain n.Name) (λ w x h. h),
+    (s_name_within (plain n.Name) (plain n.Name) (λ w x h. h) (λ w x h. h),
+    (s_one_up (plain n.Ups) (λ w x h. h),
+    (s_further_up (plain n.Ups) (plain n.Ups) (λ w x h. h) (λ w x h. h),
+    (s_simple (plain n.Simple) (plain n.Name) (λ w x h. h) (λ w x h. h),
+    (s_templated (plain n.Templated) (plain n.Name) (in_a_list n.Item) (λ w x h. h) (λ w x h. h) (λ w x h. h),
+    (s_pass_types (plain n.TypeExpression) (plain n.Simple) (λ w x h. h) (λ w x h. h),
+    (s_pass_types (plain n.TypeExpression) (plain n.Templated) (λ w x h. h) (λ w x h. h),
+    (s_simple (plain n.Callee) (plain n.Name) (λ w x h. h) (λ w x h. h),
+    (s_templated (plain n.Callee) (plain n.Name) (in_a_list n.Item) (λ w x h. h) (λ w x h. h) (λ w x h. h),
+    (s_call_without (plain n.Call) (plain n.Callee) (λ w x h. h) (λ w x h. h),
+    (s_call_with (plain n.Call) (plain n.Callee) (in_a_list n.Expression) (λ w x h. h) (λ w x h. h) (λ w x h. h),
+    (s_number (plain n.Primary) (λ w x h. h),
+    (s_true (plain n.Primary) (λ w x h. h),
+    (s_false (plain n.Primary) (λ w x h. h),
+    (s_named (plain n.Primary) (plain n.TypeExpression) (λ w x h. h) (λ w x h. h),
+    (s_called (plain n.Primary) (plain n.Call) (λ w x h. h) (λ w x h. h),
+    (s_parenthesized (plain n.Primary) (plain n.Expression) (λ w x h. h) (λ w x h. h),
+    (s_pass_singles (plain n.Singular) (plain n.Primary) (λ w x h. h) (λ w x h. h),
+    (s_component (plain n.Singular) (plain n.Singular) (λ w x h. h) (λ w x h. h),
+    (s_indexed (plain n.Singular) (plain n.Singular) (plain n.Expression) (λ w x h. h) (λ w x h. h) (λ w x h. h),
+    (s_pass (plain n.Unary) (plain n.Singular) (λ w x h. h) (λ w x h. as_expressed h),
+    (s_unary u.LogicalNegation (plain n.Unary) (plain n.Unary) (λ w x h. h) (λ w x h. h),
+    (s_unary u.Negation (plain n.Unary) (plain n.Unary) (λ w x h. h) (λ w x h. h),
+    (s_unary u.BitwiseComplement (plain n.Unary) (plain n.Unary) (λ w x h. h) (λ w x h. h),
+    (s_unary u.Indirection (plain n.Unary) (plain n.Unary) (λ w x h. h) (λ w x h. h),
+    (s_unary u.AddressOf (plain n.Unary) (plain n.Unary) (λ w x h. h) (λ w x h. h),
+    (s_pass (plain n.Product) (plain n.Unary) (λ w x h. h) (λ w x h. h),
+    (s_binary o.Multiplication (plain n.Product) (plain n.Product) (plain n.Unary) (λ w x h. h) (λ w x h. h) (λ w x h. h),
+    (s_binary o.Division (plain n.Product) (plain n.Product) (plain n.Unary) (λ w x h. h) (λ w x h. h) (λ w x h. h),
+    (s_binary o.Remainder (plain n.Product) (plain n.Product) (plain n.Unary) (λ w x h. h) (λ w x h. h) (λ w x h. h),
+    (s_pass (plain n.Sum) (plain n.Product) (λ w x h. h) (λ w x h. h),
+    (s_binary o.Addition (plain n.Sum) (plain n.Sum) (plain n.Product) (λ w x h. h) (λ w x h. h) (λ w x h. h),
+    (s_binary o.Subtraction (plain n.Sum) (plain n.Sum) (plain n.Product) (λ w x h. h) (λ w x h. h) (λ w x h. h),
+    (s_pass (plain n.Shift) (plain n.Sum) (λ w x h. h) (λ w x h. h),
+    (s_binary o.ShiftLeft (plain n.Shift) (plain n.Unary) (plain n.Unary) (λ w x h. h) (λ w x h. h) (λ w x h. h),
+    (s_binary o.ShiftRight (plain n.Shift) (plain n.Unary) (plain n.Unary) (λ w x h. h) (λ w x h. h) (λ w x h. h),
+    (s_pass (plain n.Relational) (plain n.Shift) (λ w x h. h) (λ w x h. h),
+    (s_binary o.LessThan (plain n.Relational) (plain n.Shift) (plain n.Shift) (λ w x h. h) (λ w x h. h) (λ w x h. h),
+    (s_binary o.LessThanEqual (plain n.Relational) (plain n.Shift) (plain n.Shift) (λ w x h. h) (λ w x h. h) (λ w x h. h),
+    (s_binary o.GreaterThan (plain n.Relational) (plain n.Shift) (plain n.Shift) (λ w x h. h) (λ w x h. h) (λ w x h. h),
+    (s_binary o.GreaterThanEqual (plain n.Relational) (plain n.Shift) (plain n.Shift) (λ w x h. h) (λ w x h. h) (λ w x h. h),
+    (s_binary o.Equality (plain n.Relational) (plain n.Shift) (plain n.Shift) (λ w x h. h) (λ w x h. h) (λ w x h. h),
+    (s_binary o.Inequality (plain n.Relational) (plain n.Shift) (plain n.Shift) (λ w x h. h) (λ w x h. h) (λ w x h. h),
+    (s_binary o.BitwiseAnd (plain n.Ands) (plain n.Unary) (plain n.Unary) (λ w x h. h) (λ w x h. h) (λ w x h. h),
+    (s_binary o.BitwiseAnd (plain n.Ands) (plain n.Ands) (plain n.Unary) (λ w x h. h) (λ w x h. h) (λ w x h. h),
+    (s_binary o.BitwiseXor (plain n.Xors) (plain n.Unary) (plain n.Unary) (λ w x h. h) (λ w x h. h) (λ w x h. h),
+    (s_binary o.BitwiseXor (plain n.Xors) (plain n.Xors) (plain n.Unary) (λ w x h. h) (λ w x h. h) (λ w x h. h),
+    (s_binary o.BitwiseOr (plain n.Ors) (plain n.Unary) (plain n.Unary) (λ w x h. h) (λ w x h. h) (λ w x h. h),
+    (s_binary o.BitwiseOr (plain n.Ors) (plain n.Ors) (plain n.Unary) (λ w x h. h) (λ w x h. h) (λ w x h. h),
+    (s_binary o.ShortCircuitAnd (plain n.AllOf) (plain n.Relational) (plain n.Relational) (λ w x h. h) (λ w x h. h) (λ w x h. h),
+    (s_binary o.ShortCircuitAnd (plain n.AllOf) (plain n.AllOf) (plain n.Relational) (λ w x h. h) (λ w x h. h) (λ w x h. h),
+    (s_binary o.ShortCircuitOr (plain n.AnyOf) (plain n.Relational) (plain n.Relational) (λ w x h. h) (λ w x h. h) (λ w x h. h),
+    (s_binary o.ShortCircuitOr (plain n.AnyOf) (plain n.AnyOf) (plain n.Relational) (λ w x h. h) (λ w x h. h) (λ w x h. h),
+    (s_pass (plain n.Item) (plain n.Relational) (λ w x h. h) (λ w x h. h),
+    (s_pass (plain n.Item) (plain n.Ands) (λ w x h. h) (λ w x h. h),
+    (s_pass (plain n.Item) (plain n.Xors) (λ w x h. h) (λ w x h. h),
+    (s_pass (plain n.Item) (plain n.Ors) (λ w x h. h) (λ w x h. h),
+    (s_pass (plain n.Expression) (plain n.Item) (λ w x h. h) (λ w x h. h),
+    (s_pass (plain n.Expression) (plain n.AllOf) (λ w x h. h) (λ w x h. h),
+    (s_pass (plain n.Expression) (plain n.AnyOf) (λ w x h. h) (λ w x h. h),
+    tt)))))))))))))))))))))))))))))))))))))))))))))))))))))))))))))))
+
+list_steps : Each (take 8 (drop 226 (drop 63 made_rules)))
+unfolding made_rules
+list_steps =
+    (s_listed_without (in_a_list n.Item) (with_commas n.Item) (λ w x h. h) (λ w x h. h),
+    (s_listed_with (in_a_list n.Item) (with_commas n.Item) (λ w x h. h) (λ w x h. h) bare_Item,
+    (s_first (with_commas n.Item) (plain n.Item) (λ w x h. h) (λ w x h. h),
+    (s_more (with_commas n.Item) (plain n.Item) (λ w x h. h) (λ w x h. h) (λ w x h. h),
+    (s_listed_without (in_a_list n.Expression) (with_commas n.Expression) (λ w x h. h) (λ w x h. h),
+    (s_listed_with (in_a_list n.Expression) (with_commas n.Expression) (λ w x h. h) (λ w x h. h) bare_Expression,
+    (s_first (with_commas n.Expression) (plain n.Expression) (λ w x h. h) (λ w x h. h),
+    (s_more (with_commas n.Expression) (plain n.Expression) (λ w x h. h) (λ w x h. h) (λ w x h. h),
+    tt))))))))
+
+middle_unknown : list_all (λ m. is_unknown (sort_of m.left)) (take 226 (drop 63 made_rules)) ≡ true
+unfolding made_rules
+middle_unknown = refl
+
+last_unknown : list_all (λ m. is_unknown (sort_of m.left)) (drop 8 (drop 226 (drop 63 made_rules))) ≡ true
+unfolding made_rules
+last_unknown = refl
+
+steps : Each made_rules
+steps =
+    let behind : Each (drop 226 (drop 63 made_rules)) =
+        subst Each (take-append-drop 8 (drop 226 (drop 63 made_rules))) (each_append (take 8 (drop 226 (drop 63 made_rules))) (drop 8 (drop 226 (drop 63 made_rules))) list_steps (all_unknown _ last_unknown)) in
+    let rest : Each (drop 63 made_rules) = subst Each (take-append-drop 226 (drop 63 made_rules)) (each_append (take 226 (drop 63 made_rules)) (drop 226 (drop 63 made_rules)) (all_unknown _ middle_unknown) behind) in
+    subst Each (take-append-drop 63 made_rules) (each_append (take 63 made_rules) (drop 63 made_rules) first_steps rest)
+
+-- ---- derivations
+
+mutual
+  pub derived : (s : Symbol) (w : List SpannedTemplateToken) (x : Phrase Part) → Derives grammar s w x → Good s w x
+  derived _ _ _ (a_token k) = record { one = k; whole = refl; class = refl; value = refl }
+  derived _ w _ (a_phrase p r {xs = xs} e row) =
+      let (m, is, left, right) = found_in made_rules p r (sym (rules_are p) ∙ e) in
+      let P : List Symbol → Type 0 = λ ss. GoodRow ss w xs in
+      let good = each_at made_rules steps p m is (rebuild_at p m is) w xs (subst P (sym right) (row_derived r.right w xs row)) in
+      let Q : ℕ → Type 0 = λ k. Good (phrase k) w (make_of m.label m.parts xs) in
+      subst (Good (phrase r.left) w) (sym (makes_as p m is xs)) (subst Q left good)
+
+  row_derived : (ss : List Symbol) (w : List SpannedTemplateToken) (xs : List (Phrase Part)) → Row grammar ss w xs → GoodRow ss w xs
+  row_derived _ _ _ done = good_end
+  row_derived _ _ _ (next {s = s} {ss = ss} {u = a} {v = b} {x = x} {xs = xs} d r) = good_next a (derived s a x d) (row_derived ss b xs r)

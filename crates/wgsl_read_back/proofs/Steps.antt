@@ -1,0 +1,162 @@
+-- What each production of expressions makes of what stands in its row.
+use Rattle.std.proofs.Common.{◌≡◌, refl, ℕ, ◌==◌, true, false, if◌then◌else◌, List, [], ◌∷◌, ◌++◌}
+use Rattle.wgsl_operators.specs.declared.BinaryOperator.{BinaryOperator}
+use Rattle.wgsl_operators.specs.declared.UnaryOperator.{UnaryOperator}
+use Rattle.wgsl_token.specs.declared.token.Fixed.TheVariants as f
+use Rattle.wgsl_template_spec.specs.declared.token.SpannedTemplateToken.{SpannedTemplateToken}
+use Rattle.wgsl_expressions.specs.declared.expression.LiteralExpression.TheVariants as lit
+use Rattle.wgsl_tree_tokens.specs.Tokens.{unary_sign, binary_sign}
+use Rattle.wgsl_shift_reduce.specs.Grammars.{Symbol, token, phrase}
+use Rattle.wgsl_parts.specs.declared.part.Part.{Part}
+use Rattle.wgsl_parts.specs.declared.label.Label.{Label}
+use Rattle.wgsl_parts.specs.declared.label.Label.TheVariants as l
+use Rattle.wgsl_parts.specs.declared.label.NameLabel.TheVariants as name
+use Rattle.wgsl_parts.specs.declared.label.ExpressionLabel.TheVariants as label
+use Rattle.wgsl_phrases.specs.declared.phrase.Phrase.{Phrase}
+use Rattle.wgsl_grammar_tables.specs.Classes.{fixed_class}
+use Rattle.wgsl_grammar_tables.specs.Nonterminals as n
+use Rattle.wgsl_grammar_tables.specs.Expansion.{Made, plain, in_a_list, with_commas}
+use Rattle.wgsl_read_back.proofs.Items.{OneToken}
+use Rattle.wgsl_read_back.proofs.Rows.{make_of, Rebuild}
+use Rattle.wgsl_read_back.proofs.Places.{mark_of}
+use Rattle.wgsl_read_back.proofs.Families.{Expressed, Single, Typed, pass_expressed, pass_single, pass_typed, binary_expressed, unary_expressed}
+use Rattle.wgsl_read_back.proofs.Operands.{Named, Upped, Called, Separated, Listed, name_alone, name_above, name_in_package, name_within, one_up, further_up, simple_typed, template_typed, call_without, call_with}
+use Rattle.wgsl_read_back.proofs.Primaries.{literal_single, number_single, named_single, called_single, parenthesized_single, component_single, indexed_single, first_separated, more_separated, listed_without, listed_with}
+
+-- ---- what phrases of each nonterminal are
+
+pub data Sort : Type 0 where
+  unknown : Sort
+  names : Sort
+  upses : Sort
+  types : Sort
+  calls : Sort
+  singles : Sort
+  expressed : Sort
+  separated : Sort
+  lists : Sort
+
+abbrev pub sort_in : List (ℕ × Sort) → ℕ → Sort
+sort_in [] k = unknown
+sort_in (e ∷ es) k = if k == e.0 then e.1 else sort_in es k
+
+abbrev pub sort_of : ℕ → Sort
+sort_of = sort_in ((plain n.Name, names) ∷ (plain n.Ups, upses) ∷ (plain n.Simple, types) ∷ (plain n.Templated, types) ∷ (plain n.TypeExpression, types) ∷ (plain n.Callee, types) ∷ (plain n.Call, calls) ∷ (plain n.Primary, singles) ∷ (plain n.Singular, singles) ∷ (plain n.Unary, expressed) ∷ (plain n.Product, expressed) ∷ (plain n.Sum, expressed) ∷ (plain n.Shift, expressed) ∷ (plain n.Relational, expressed) ∷ (plain n.Ands, expressed) ∷ (plain n.Xors, expressed) ∷ (plain n.Ors, expressed) ∷ (plain n.AllOf, expressed) ∷ (plain n.AnyOf, expressed) ∷ (plain n.Item, expressed) ∷ (plain n.Expression, expressed) ∷ (in_a_list n.Item, lists) ∷ (with_commas n.Item, separated) ∷ (in_a_list n.Expression, lists) ∷ (with_commas n.Expression, separated) ∷ [])
+
+abbrev pub GoodAs : Sort → ℕ → List SpannedTemplateToken → Phrase Part → Type 0
+GoodAs unknown k u x = Unit {0}
+GoodAs names k u x = Named k u x
+GoodAs upses k u x = Upped k u x
+GoodAs types k u x = Typed k u x
+GoodAs calls k u x = Called k u x
+GoodAs singles k u x = Single k u x
+GoodAs expressed k u x = Expressed k u x
+GoodAs separated k u x = Separated k u x
+GoodAs lists k u x = Listed k u x
+
+abbrev pub Good : Symbol → List SpannedTemplateToken → Phrase Part → Type 0
+Good (token c) u x = OneToken c u x
+Good (phrase k) u x = GoodAs (sort_of k) k u x
+
+pub data GoodRow : List Symbol → List SpannedTemplateToken → List (Phrase Part) → Type 0 where
+  good_end : GoodRow [] [] []
+  good_next : {s : Symbol} {ss : List Symbol} (u : List SpannedTemplateToken) {w : List SpannedTemplateToken} {x : Phrase Part} {xs : List (Phrase Part)} → Good s u x → GoodRow ss w xs → GoodRow (s ∷ ss) (u ++ w) (x ∷ xs)
+
+abbrev Makes : ℕ → List Symbol → Label → List ℕ → Type 0
+Makes k ss label pattern = Rebuild k ss label pattern → (u : List SpannedTemplateToken) (xs : List (Phrase Part)) → GoodRow ss u xs → Good (phrase k) u (make_of label pattern xs)
+
+abbrev pub Step : Made → Type 0
+Step m = Makes m.left m.right m.label m.parts
+
+abbrev Is : (ℕ → List SpannedTemplateToken → Phrase Part → Type 0) → ℕ → Type 0
+Is X k = (u : List SpannedTemplateToken) (x : Phrase Part) → X k u x → Good (phrase k) u x
+
+abbrev As : (ℕ → List SpannedTemplateToken → Phrase Part → Type 0) → ℕ → Type 0
+As X k = (u : List SpannedTemplateToken) (x : Phrase Part) → Good (phrase k) u x → X k u x
+
+pub as_expressed : {k : ℕ} {u : List SpannedTemplateToken} {x : Phrase Part} → Single k u x → Expressed k u x
+as_expressed h = (h.0, h.1, h.3)
+
+-- ---- steps
+
+pub s_binary : (o : BinaryOperator) (k m r : ℕ) → Is Expressed k → As Expressed m → As Expressed r → Makes k (phrase m ∷ token (fixed_class (binary_sign o)) ∷ phrase r ∷ []) (l.Expression (label.Binary o)) (2 ∷ 1 ∷ 2 ∷ [])
+s_binary o k m r out a b rebuild _ _ (good_next _ h (good_next _ i (good_next _ g good_end))) = out _ _ (binary_expressed o k m r rebuild (a _ _ h) i (b _ _ g))
+
+pub s_unary : (o : UnaryOperator) (k m : ℕ) → Is Expressed k → As Expressed m → Makes k (token (fixed_class (unary_sign o)) ∷ phrase m ∷ []) (l.Expression (label.Unary o)) (1 ∷ 2 ∷ [])
+s_unary o k m out a rebuild _ _ (good_next _ i (good_next _ h good_end)) = out _ _ (unary_expressed o k m rebuild i (a _ _ h))
+
+pub s_pass : (k m : ℕ) → Is Expressed k → As Expressed m → Makes k (phrase m ∷ []) l.Pass (2 ∷ [])
+s_pass k m out a rebuild _ _ (good_next _ h good_end) = out _ _ (pass_expressed k m rebuild (a _ _ h))
+
+pub s_pass_singles : (k m : ℕ) → Is Single k → As Single m → Makes k (phrase m ∷ []) l.Pass (2 ∷ [])
+s_pass_singles k m out a rebuild _ _ (good_next _ h good_end) = out _ _ (pass_single k m rebuild (a _ _ h))
+
+pub s_pass_types : (k m : ℕ) → Is Typed k → As Typed m → Makes k (phrase m ∷ []) l.Pass (2 ∷ [])
+s_pass_types k m out a rebuild _ _ (good_next _ h good_end) = out _ _ (pass_typed k m rebuild (a _ _ h))
+
+pub s_name_alone : (k : ℕ) → Is Named k → Makes k (token 77 ∷ []) (l.Name name.NameAlone) (2 ∷ [])
+s_name_alone k out rebuild _ _ (good_next _ i good_end) = out _ _ (name_alone k rebuild i)
+
+pub s_name_above : (k m : ℕ) → Is Named k → As Upped m → Makes k (phrase m ∷ token 77 ∷ []) (l.Name name.NameAbove) (2 ∷ 2 ∷ [])
+s_name_above k m out a rebuild _ _ (good_next _ h (good_next _ i good_end)) = out _ _ (name_above k m rebuild (a _ _ h) i)
+
+pub s_name_in_package : (k : ℕ) → Is Named k → Makes k (token (fixed_class f.Package) ∷ token (fixed_class f.PathSeparator) ∷ token 77 ∷ []) (l.Name name.NameInPackage) (1 ∷ 1 ∷ 2 ∷ [])
+s_name_in_package k out rebuild _ _ (good_next _ h (good_next _ i (good_next _ j good_end))) = out _ _ (name_in_package k rebuild h i j)
+
+pub s_name_within : (k m : ℕ) → Is Named k → As Named m → Makes k (phrase m ∷ token (fixed_class f.PathSeparator) ∷ token 77 ∷ []) (l.Name name.NameWithin) (2 ∷ 1 ∷ 2 ∷ [])
+s_name_within k m out a rebuild _ _ (good_next _ h (good_next _ i (good_next _ j good_end))) = out _ _ (name_within k m rebuild (a _ _ h) i j)
+
+pub s_one_up : (k : ℕ) → Is Upped k → Makes k (token (fixed_class f.Super) ∷ token (fixed_class f.PathSeparator) ∷ []) (l.Name name.OneUp) (1 ∷ 1 ∷ [])
+s_one_up k out rebuild _ _ (good_next _ i (good_next _ j good_end)) = out _ _ (one_up k rebuild i j)
+
+pub s_further_up : (k m : ℕ) → Is Upped k → As Upped m → Makes k (phrase m ∷ token (fixed_class f.Super) ∷ token (fixed_class f.PathSeparator) ∷ []) (l.Name name.FurtherUp) (2 ∷ 1 ∷ 1 ∷ [])
+s_further_up k m out a rebuild _ _ (good_next _ h (good_next _ i (good_next _ j good_end))) = out _ _ (further_up k m rebuild (a _ _ h) i j)
+
+pub s_simple : (k m : ℕ) → Is Typed k → As Named m → Makes k (phrase m ∷ []) (l.Name name.Simple) (2 ∷ [])
+s_simple k m out a rebuild _ _ (good_next _ h good_end) = out _ _ (simple_typed k m rebuild (a _ _ h))
+
+pub s_templated : (k m r : ℕ) → Is Typed k → As Named m → As Listed r → Makes k (phrase m ∷ token 80 ∷ phrase r ∷ token 81 ∷ []) (l.Name name.Templated) (2 ∷ 1 ∷ 2 ∷ 1 ∷ [])
+s_templated k m r out a b rebuild _ _ (good_next _ h (good_next _ i (good_next _ g (good_next _ j good_end)))) = out _ _ (template_typed k m r rebuild (a _ _ h) i (b _ _ g) j)
+
+pub s_call_without : (k m : ℕ) → Is Called k → As Typed m → Makes k (phrase m ∷ token (fixed_class f.ParenLeft) ∷ token (fixed_class f.ParenRight) ∷ []) (l.Name name.Call) (2 ∷ 1 ∷ 0 ∷ 1 ∷ [])
+s_call_without k m out a rebuild _ _ (good_next _ h (good_next _ i (good_next _ j good_end))) = out _ _ (call_without k m rebuild (a _ _ h) i j)
+
+pub s_call_with : (k m r : ℕ) → Is Called k → As Typed m → As Listed r → Makes k (phrase m ∷ token (fixed_class f.ParenLeft) ∷ phrase r ∷ token (fixed_class f.ParenRight) ∷ []) (l.Name name.Call) (2 ∷ 1 ∷ 2 ∷ 1 ∷ [])
+s_call_with k m r out a b rebuild _ _ (good_next _ h (good_next _ i (good_next _ g (good_next _ j good_end)))) = out _ _ (call_with k m r rebuild (a _ _ h) i (b _ _ g) j)
+
+pub s_number : (k : ℕ) → Is Single k → Makes k (token 78 ∷ []) (l.Expression label.ALiteral) (2 ∷ [])
+s_number k out rebuild _ _ (good_next _ i good_end) = out _ _ (number_single k rebuild i)
+
+pub s_true : (k : ℕ) → Is Single k → Makes k (token (fixed_class f.True) ∷ []) (l.Expression label.ALiteral) (2 ∷ [])
+s_true k out rebuild _ _ (good_next _ i good_end) = out _ _ (literal_single k (fixed_class f.True) rebuild (lit.Bool true) i (mark_of i.one.token f.True i.class))
+
+pub s_false : (k : ℕ) → Is Single k → Makes k (token (fixed_class f.False) ∷ []) (l.Expression label.ALiteral) (2 ∷ [])
+s_false k out rebuild _ _ (good_next _ i good_end) = out _ _ (literal_single k (fixed_class f.False) rebuild (lit.Bool false) i (mark_of i.one.token f.False i.class))
+
+pub s_named : (k m : ℕ) → Is Single k → As Typed m → Makes k (phrase m ∷ []) (l.Expression label.Named) (2 ∷ [])
+s_named k m out a rebuild _ _ (good_next _ h good_end) = out _ _ (named_single k m rebuild (a _ _ h))
+
+pub s_called : (k m : ℕ) → Is Single k → As Called m → Makes k (phrase m ∷ []) (l.Expression label.Called) (2 ∷ [])
+s_called k m out a rebuild _ _ (good_next _ h good_end) = out _ _ (called_single k m rebuild (a _ _ h))
+
+pub s_parenthesized : (k m : ℕ) → Is Single k → As Expressed m → Makes k (token (fixed_class f.ParenLeft) ∷ phrase m ∷ token (fixed_class f.ParenRight) ∷ []) (l.Expression label.Parenthesized) (1 ∷ 2 ∷ 1 ∷ [])
+s_parenthesized k m out a rebuild _ _ (good_next _ i (good_next _ h (good_next _ j good_end))) = out _ _ (parenthesized_single k m rebuild i (a _ _ h) j)
+
+pub s_component : (k m : ℕ) → Is Single k → As Single m → Makes k (phrase m ∷ token (fixed_class f.Period) ∷ token 77 ∷ []) (l.Expression label.Component) (2 ∷ 1 ∷ 2 ∷ [])
+s_component k m out a rebuild _ _ (good_next _ h (good_next _ i (good_next _ j good_end))) = out _ _ (component_single k m rebuild (a _ _ h) i j)
+
+pub s_indexed : (k m r : ℕ) → Is Single k → As Single m → As Expressed r → Makes k (phrase m ∷ token (fixed_class f.BracketLeft) ∷ phrase r ∷ token (fixed_class f.BracketRight) ∷ []) (l.Expression label.Indexed) (2 ∷ 1 ∷ 2 ∷ 1 ∷ [])
+s_indexed k m r out a b rebuild _ _ (good_next _ h (good_next _ i (good_next _ g (good_next _ j good_end)))) = out _ _ (indexed_single k m r rebuild (a _ _ h) i (b _ _ g) j)
+
+pub s_first : (k m : ℕ) → Is Separated k → As Expressed m → Makes k (phrase m ∷ []) l.First (2 ∷ [])
+s_first k m out a rebuild _ _ (good_next _ h good_end) = out _ _ (first_separated k m rebuild (a _ _ h))
+
+pub s_more : (k m : ℕ) → Is Separated k → As Separated k → As Expressed m → Makes k (phrase k ∷ token (fixed_class f.Comma) ∷ phrase m ∷ []) l.More (2 ∷ 1 ∷ 2 ∷ [])
+s_more k m out a b rebuild _ _ (good_next _ h (good_next _ i (good_next _ g good_end))) = out _ _ (more_separated k m rebuild (a _ _ h) i (b _ _ g))
+
+pub s_listed_without : (k m : ℕ) → Is Listed k → As Separated m → Makes k (phrase m ∷ []) l.Pass (2 ∷ [])
+s_listed_without k m out a rebuild _ _ (good_next _ h good_end) = out _ _ (listed_without k m rebuild (a _ _ h))
+
+-- (the phrase is derived again without the comma)
+pub s_listed_with : (k m : ℕ) → Is Listed k → As Separated m → Rebuild k (phrase m ∷ []) l.Pass (2 ∷ []) → Makes k (phrase m ∷ token (fixed_class f.Comma) ∷ []) l.Pass (2 ∷ 1 ∷ [])
+s_listed_with k m out a bare rebuild _ _ (good_next _ h (good_next _ i good_end)) = out _ _ (listed_with k m bare (a _ _ h) i)
