@@ -7,3 +7,4 @@ pub mod Operands
 pub mod Primaries
 pub mod Steps
 pub mod Derived
+pub mod Whole

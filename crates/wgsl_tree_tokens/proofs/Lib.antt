@@ -3,3 +3,4 @@ pub mod Signs
 pub mod Floats
 pub mod Leaves
 pub mod Expressions
+pub mod Spelled
