@@ -1,19 +1,16 @@
 -- What tokens derive, expression by expression.
-use Rattle.std.proofs.Common.{◌≡◌, refl, sym, ap, ◌∙◌, subst, ℕ, zero, suc, Bool, true, false, ◌&&◌, ◌==◌, List, [], ◌∷◌, ◌++◌, take, drop, take-append-drop, Option, Some, None}
+use Rattle.std.proofs.Common.{◌≡◌, refl, sym, ap, ◌∙◌, subst, ℕ, zero, suc, Bool, true, false, List, [], ◌∷◌, ◌++◌, take, drop, take-append-drop, Some, None}
 use Rattle.std.specs.List.{list_all}
 use Rattle.std.proofs.lemmas.Bool.{and_parts}
 use Rattle.wgsl_operators.specs.declared.BinaryOperator.TheVariants as o
 use Rattle.wgsl_operators.specs.declared.UnaryOperator.TheVariants as u
 use Rattle.wgsl_template_spec.specs.declared.token.SpannedTemplateToken.{SpannedTemplateToken}
-use Rattle.wgsl_shift_reduce.specs.Grammars.{Symbol, token, phrase, Rule, Derives, a_token, a_phrase, Row, done, next}
-use Rattle.wgsl_tables.specs.Listed.{rule_at}
+use Rattle.wgsl_shift_reduce.specs.Grammars.{Symbol, phrase, Rule, Derives, a_token, a_phrase, Row, done, next}
 use Rattle.wgsl_parts.specs.declared.part.Part.{Part}
 use Rattle.wgsl_parts.specs.declared.part.Part.TheVariants.{Absent}
 use Rattle.wgsl_parts.specs.declared.label.Label.TheVariants as l
 use Rattle.wgsl_phrases.specs.declared.phrase.Phrase.{Phrase}
 use Rattle.wgsl_phrases.specs.Gathering.{extent_from, chosen}
-use Rattle.wgsl_grammar_tables.specs.Decoded.{listed}
-use Rattle.wgsl_grammar_tables.specs.Labels.{label_at, pattern_at}
 use Rattle.wgsl_grammar_tables.specs.Nonterminals as n
 use Rattle.wgsl_grammar_tables.specs.Expansion.{Made, made_rules, made_in, rule_in, parts_in, plain, in_a_list, with_commas}
 use Rattle.wgsl_grammar_tables.proofs.Written.{rules_are, label_is, parts_are}
@@ -95,84 +92,224 @@ bare_Expression = rebuild_at 293 (record { left = in_a_list n.Expression; right 
 
 first_steps : Each (take 63 made_rules)
 unfolding made_rules
-first_steps =
-    (s_name_alone (plain n.Name) (λ w x h. h),
-    (s_name_above (plain n.Name) (plain n.Ups) (λ w x h. h) (λ w x h. h),
-    (s_name_in_package (plain n.Name) (λ w x h. h),
-    (s_name_within (plain n.Name) (plain n.Name) (λ w x h. h) (λ w x h. h),
-    (s_one_up (plain n.Ups) (λ w x h. h),
-    (s_further_up (plain n.Ups) (plain n.Ups) (λ w x h. h) (λ w x h. h),
-    (s_simple (plain n.Simple) (plain n.Name) (λ w x h. h) (λ w x h. h),
-    (s_templated (plain n.Templated) (plain n.Name) (in_a_list n.Item) (λ w x h. h) (λ w x h. h) (λ w x h. h),
-    (s_pass_types (plain n.TypeExpression) (plain n.Simple) (λ w x h. h) (λ w x h. h),
-    (s_pass_types (plain n.TypeExpression) (plain n.Templated) (λ w x h. h) (λ w x h. h),
-    (s_simple (plain n.Callee) (plain n.Name) (λ w x h. h) (λ w x h. h),
-    (s_templated (plain n.Callee) (plain n.Name) (in_a_list n.Item) (λ w x h. h) (λ w x h. h) (λ w x h. h),
-    (s_call_without (plain n.Call) (plain n.Callee) (λ w x h. h) (λ w x h. h),
-    (s_call_with (plain n.Call) (plain n.Callee) (in_a_list n.Expression) (λ w x h. h) (λ w x h. h) (λ w x h. h),
-    (s_number (plain n.Primary) (λ w x h. h),
-    (s_true (plain n.Primary) (λ w x h. h),
-    (s_false (plain n.Primary) (λ w x h. h),
-    (s_named (plain n.Primary) (plain n.TypeExpression) (λ w x h. h) (λ w x h. h),
-    (s_called (plain n.Primary) (plain n.Call) (λ w x h. h) (λ w x h. h),
-    (s_parenthesized (plain n.Primary) (plain n.Expression) (λ w x h. h) (λ w x h. h),
-    (s_pass_singles (plain n.Singular) (plain n.Primary) (λ w x h. h) (λ w x h. h),
-    (s_component (plain n.Singular) (plain n.Singular) (λ w x h. h) (λ w x h. h),
-    (s_indexed (plain n.Singular) (plain n.Singular) (plain n.Expression) (λ w x h. h) (λ w x h. h) (λ w x h. h),
-    (s_pass (plain n.Unary) (plain n.Singular) (λ w x h. h) (λ w x h. as_expressed h),
-    (s_unary u.LogicalNegation (plain n.Unary) (plain n.Unary) (λ w x h. h) (λ w x h. h),
-    (s_unary u.Negation (plain n.Unary) (plain n.Unary) (λ w x h. h) (λ w x h. h),
-    (s_unary u.BitwiseComplement (plain n.Unary) (plain n.Unary) (λ w x h. h) (λ w x h. h),
-    (s_unary u.Indirection (plain n.Unary) (plain n.Unary) (λ w x h. h) (λ w x h. h),
-    (s_unary u.AddressOf (plain n.Unary) (plain n.Unary) (λ w x h. h) (λ w x h. h),
-    (s_pass (plain n.Product) (plain n.Unary) (λ w x h. h) (λ w x h. h),
-    (s_binary o.Multiplication (plain n.Product) (plain n.Product) (plain n.Unary) (λ w x h. h) (λ w x h. h) (λ w x h. h),
-    (s_binary o.Division (plain n.Product) (plain n.Product) (plain n.Unary) (λ w x h. h) (λ w x h. h) (λ w x h. h),
-    (s_binary o.Remainder (plain n.Product) (plain n.Product) (plain n.Unary) (λ w x h. h) (λ w x h. h) (λ w x h. h),
-    (s_pass (plain n.Sum) (plain n.Product) (λ w x h. h) (λ w x h. h),
-    (s_binary o.Addition (plain n.Sum) (plain n.Sum) (plain n.Product) (λ w x h. h) (λ w x h. h) (λ w x h. h),
-    (s_binary o.Subtraction (plain n.Sum) (plain n.Sum) (plain n.Product) (λ w x h. h) (λ w x h. h) (λ w x h. h),
-    (s_pass (plain n.Shift) (plain n.Sum) (λ w x h. h) (λ w x h. h),
-    (s_binary o.ShiftLeft (plain n.Shift) (plain n.Unary) (plain n.Unary) (λ w x h. h) (λ w x h. h) (λ w x h. h),
-    (s_binary o.ShiftRight (plain n.Shift) (plain n.Unary) (plain n.Unary) (λ w x h. h) (λ w x h. h) (λ w x h. h),
-    (s_pass (plain n.Relational) (plain n.Shift) (λ w x h. h) (λ w x h. h),
-    (s_binary o.LessThan (plain n.Relational) (plain n.Shift) (plain n.Shift) (λ w x h. h) (λ w x h. h) (λ w x h. h),
-    (s_binary o.LessThanEqual (plain n.Relational) (plain n.Shift) (plain n.Shift) (λ w x h. h) (λ w x h. h) (λ w x h. h),
-    (s_binary o.GreaterThan (plain n.Relational) (plain n.Shift) (plain n.Shift) (λ w x h. h) (λ w x h. h) (λ w x h. h),
-    (s_binary o.GreaterThanEqual (plain n.Relational) (plain n.Shift) (plain n.Shift) (λ w x h. h) (λ w x h. h) (λ w x h. h),
-    (s_binary o.Equality (plain n.Relational) (plain n.Shift) (plain n.Shift) (λ w x h. h) (λ w x h. h) (λ w x h. h),
-    (s_binary o.Inequality (plain n.Relational) (plain n.Shift) (plain n.Shift) (λ w x h. h) (λ w x h. h) (λ w x h. h),
-    (s_binary o.BitwiseAnd (plain n.Ands) (plain n.Unary) (plain n.Unary) (λ w x h. h) (λ w x h. h) (λ w x h. h),
-    (s_binary o.BitwiseAnd (plain n.Ands) (plain n.Ands) (plain n.Unary) (λ w x h. h) (λ w x h. h) (λ w x h. h),
-    (s_binary o.BitwiseXor (plain n.Xors) (plain n.Unary) (plain n.Unary) (λ w x h. h) (λ w x h. h) (λ w x h. h),
-    (s_binary o.BitwiseXor (plain n.Xors) (plain n.Xors) (plain n.Unary) (λ w x h. h) (λ w x h. h) (λ w x h. h),
-    (s_binary o.BitwiseOr (plain n.Ors) (plain n.Unary) (plain n.Unary) (λ w x h. h) (λ w x h. h) (λ w x h. h),
-    (s_binary o.BitwiseOr (plain n.Ors) (plain n.Ors) (plain n.Unary) (λ w x h. h) (λ w x h. h) (λ w x h. h),
-    (s_binary o.ShortCircuitAnd (plain n.AllOf) (plain n.Relational) (plain n.Relational) (λ w x h. h) (λ w x h. h) (λ w x h. h),
-    (s_binary o.ShortCircuitAnd (plain n.AllOf) (plain n.AllOf) (plain n.Relational) (λ w x h. h) (λ w x h. h) (λ w x h. h),
-    (s_binary o.ShortCircuitOr (plain n.AnyOf) (plain n.Relational) (plain n.Relational) (λ w x h. h) (λ w x h. h) (λ w x h. h),
-    (s_binary o.ShortCircuitOr (plain n.AnyOf) (plain n.AnyOf) (plain n.Relational) (λ w x h. h) (λ w x h. h) (λ w x h. h),
-    (s_pass (plain n.Item) (plain n.Relational) (λ w x h. h) (λ w x h. h),
-    (s_pass (plain n.Item) (plain n.Ands) (λ w x h. h) (λ w x h. h),
-    (s_pass (plain n.Item) (plain n.Xors) (λ w x h. h) (λ w x h. h),
-    (s_pass (plain n.Item) (plain n.Ors) (λ w x h. h) (λ w x h. h),
-    (s_pass (plain n.Expression) (plain n.Item) (λ w x h. h) (λ w x h. h),
-    (s_pass (plain n.Expression) (plain n.AllOf) (λ w x h. h) (λ w x h. h),
-    (s_pass (plain n.Expression) (plain n.AnyOf) (λ w x h. h) (λ w x h. h),
-    tt)))))))))))))))))))))))))))))))))))))))))))))))))))))))))))))))
+first_steps = (
+  s_name_alone (plain n.Name) (λ w x h. h),
+  (
+    s_name_above (plain n.Name) (plain n.Ups) (λ w x h. h) (λ w x h. h),
+    (
+      s_name_in_package (plain n.Name) (λ w x h. h),
+      (
+        s_name_within (plain n.Name) (plain n.Name) (λ w x h. h) (λ w x h. h),
+        (
+          s_one_up (plain n.Ups) (λ w x h. h),
+          (
+            s_further_up (plain n.Ups) (plain n.Ups) (λ w x h. h) (λ w x h. h),
+            (
+              s_simple (plain n.Simple) (plain n.Name) (λ w x h. h) (λ w x h. h),
+              (
+                s_templated (plain n.Templated) (plain n.Name) (in_a_list n.Item) (λ w x h. h) (λ w x h. h) (λ w x h. h),
+                (
+                  s_pass_types (plain n.TypeExpression) (plain n.Simple) (λ w x h. h) (λ w x h. h),
+                  (
+                    s_pass_types (plain n.TypeExpression) (plain n.Templated) (λ w x h. h) (λ w x h. h),
+                    (
+                      s_simple (plain n.Callee) (plain n.Name) (λ w x h. h) (λ w x h. h),
+                      (
+                        s_templated (plain n.Callee) (plain n.Name) (in_a_list n.Item) (λ w x h. h) (λ w x h. h) (λ w x h. h),
+                        (
+                          s_call_without (plain n.Call) (plain n.Callee) (λ w x h. h) (λ w x h. h),
+                          (
+                            s_call_with (plain n.Call) (plain n.Callee) (in_a_list n.Expression) (λ w x h. h) (λ w x h. h) (λ w x h. h),
+                            (
+                              s_number (plain n.Primary) (λ w x h. h),
+                              (
+                                s_true (plain n.Primary) (λ w x h. h),
+                                (
+                                  s_false (plain n.Primary) (λ w x h. h),
+                                  (
+                                    s_named (plain n.Primary) (plain n.TypeExpression) (λ w x h. h) (λ w x h. h),
+                                    (
+                                      s_called (plain n.Primary) (plain n.Call) (λ w x h. h) (λ w x h. h),
+                                      (
+                                        s_parenthesized (plain n.Primary) (plain n.Expression) (λ w x h. h) (λ w x h. h),
+                                        (
+                                          s_pass_singles (plain n.Singular) (plain n.Primary) (λ w x h. h) (λ w x h. h),
+                                          (
+                                            s_component (plain n.Singular) (plain n.Singular) (λ w x h. h) (λ w x h. h),
+                                            (
+                                              s_indexed (plain n.Singular) (plain n.Singular) (plain n.Expression) (λ w x h. h) (λ w x h. h) (λ w x h. h),
+                                              (
+                                                s_pass (plain n.Unary) (plain n.Singular) (λ w x h. h) (λ w x h. as_expressed h),
+                                                (
+                                                  s_unary u.LogicalNegation (plain n.Unary) (plain n.Unary) (λ w x h. h) (λ w x h. h),
+                                                  (
+                                                    s_unary u.Negation (plain n.Unary) (plain n.Unary) (λ w x h. h) (λ w x h. h),
+                                                    (
+                                                      s_unary u.BitwiseComplement (plain n.Unary) (plain n.Unary) (λ w x h. h) (λ w x h. h),
+                                                      (
+                                                        s_unary u.Indirection (plain n.Unary) (plain n.Unary) (λ w x h. h) (λ w x h. h),
+                                                        (
+                                                          s_unary u.AddressOf (plain n.Unary) (plain n.Unary) (λ w x h. h) (λ w x h. h),
+                                                          (
+                                                            s_pass (plain n.Product) (plain n.Unary) (λ w x h. h) (λ w x h. h),
+                                                            (
+                                                              s_binary o.Multiplication (plain n.Product) (plain n.Product) (plain n.Unary) (λ w x h. h) (λ w x h. h) (λ w x h. h),
+                                                              (
+                                                                s_binary o.Division (plain n.Product) (plain n.Product) (plain n.Unary) (λ w x h. h) (λ w x h. h) (λ w x h. h),
+                                                                (
+                                                                  s_binary o.Remainder (plain n.Product) (plain n.Product) (plain n.Unary) (λ w x h. h) (λ w x h. h) (λ w x h. h),
+                                                                  (
+                                                                    s_pass (plain n.Sum) (plain n.Product) (λ w x h. h) (λ w x h. h),
+                                                                    (
+                                                                      s_binary o.Addition (plain n.Sum) (plain n.Sum) (plain n.Product) (λ w x h. h) (λ w x h. h) (λ w x h. h),
+                                                                      (
+                                                                        s_binary o.Subtraction (plain n.Sum) (plain n.Sum) (plain n.Product) (λ w x h. h) (λ w x h. h) (λ w x h. h),
+                                                                        (
+                                                                          s_pass (plain n.Shift) (plain n.Sum) (λ w x h. h) (λ w x h. h),
+                                                                          (
+                                                                            s_binary o.ShiftLeft (plain n.Shift) (plain n.Unary) (plain n.Unary) (λ w x h. h) (λ w x h. h) (λ w x h. h),
+                                                                            (
+                                                                              s_binary o.ShiftRight (plain n.Shift) (plain n.Unary) (plain n.Unary) (λ w x h. h) (λ w x h. h) (λ w x h. h),
+                                                                              (
+                                                                                s_pass (plain n.Relational) (plain n.Shift) (λ w x h. h) (λ w x h. h),
+                                                                                (
+                                                                                  s_binary o.LessThan (plain n.Relational) (plain n.Shift) (plain n.Shift) (λ w x h. h) (λ w x h. h) (λ w x h. h),
+                                                                                  (
+                                                                                    s_binary o.LessThanEqual (plain n.Relational) (plain n.Shift) (plain n.Shift) (λ w x h. h) (λ w x h. h) (λ w x h. h),
+                                                                                    (
+                                                                                      s_binary o.GreaterThan (plain n.Relational) (plain n.Shift) (plain n.Shift) (λ w x h. h) (λ w x h. h) (λ w x h. h),
+                                                                                      (
+                                                                                        s_binary o.GreaterThanEqual (plain n.Relational) (plain n.Shift) (plain n.Shift) (λ w x h. h) (λ w x h. h) (λ w x h. h),
+                                                                                        (
+                                                                                          s_binary o.Equality (plain n.Relational) (plain n.Shift) (plain n.Shift) (λ w x h. h) (λ w x h. h) (λ w x h. h),
+                                                                                          (
+                                                                                            s_binary o.Inequality (plain n.Relational) (plain n.Shift) (plain n.Shift) (λ w x h. h) (λ w x h. h) (λ w x h. h),
+                                                                                            (
+                                                                                              s_binary o.BitwiseAnd (plain n.Ands) (plain n.Unary) (plain n.Unary) (λ w x h. h) (λ w x h. h) (λ w x h. h),
+                                                                                              (
+                                                                                                s_binary o.BitwiseAnd (plain n.Ands) (plain n.Ands) (plain n.Unary) (λ w x h. h) (λ w x h. h) (λ w x h. h),
+                                                                                                (
+                                                                                                  s_binary o.BitwiseXor (plain n.Xors) (plain n.Unary) (plain n.Unary) (λ w x h. h) (λ w x h. h) (λ w x h. h),
+                                                                                                  (
+                                                                                                    s_binary o.BitwiseXor (plain n.Xors) (plain n.Xors) (plain n.Unary) (λ w x h. h) (λ w x h. h) (λ w x h. h),
+                                                                                                    (
+                                                                                                      s_binary o.BitwiseOr (plain n.Ors) (plain n.Unary) (plain n.Unary) (λ w x h. h) (λ w x h. h) (λ w x h. h),
+                                                                                                      (
+                                                                                                        s_binary o.BitwiseOr (plain n.Ors) (plain n.Ors) (plain n.Unary) (λ w x h. h) (λ w x h. h) (λ w x h. h),
+                                                                                                        (
+                                                                                                          s_binary o.ShortCircuitAnd (plain n.AllOf) (plain n.Relational) (plain n.Relational) (λ w x h. h) (λ w x h. h) (λ w x h. h),
+                                                                                                          (
+                                                                                                            s_binary o.ShortCircuitAnd (plain n.AllOf) (plain n.AllOf) (plain n.Relational) (λ w x h. h) (λ w x h. h) (λ w x h. h),
+                                                                                                            (
+                                                                                                              s_binary o.ShortCircuitOr (plain n.AnyOf) (plain n.Relational) (plain n.Relational) (λ w x h. h) (λ w x h. h) (λ w x h. h),
+                                                                                                              (
+                                                                                                                s_binary o.ShortCircuitOr (plain n.AnyOf) (plain n.AnyOf) (plain n.Relational) (λ w x h. h) (λ w x h. h) (λ w x h. h),
+                                                                                                                (
+                                                                                                                  s_pass (plain n.Item) (plain n.Relational) (λ w x h. h) (λ w x h. h),
+                                                                                                                  (
+                                                                                                                    s_pass (plain n.Item) (plain n.Ands) (λ w x h. h) (λ w x h. h),
+                                                                                                                    (
+                                                                                                                      s_pass (plain n.Item) (plain n.Xors) (λ w x h. h) (λ w x h. h),
+                                                                                                                      (
+                                                                                                                        s_pass (plain n.Item) (plain n.Ors) (λ w x h. h) (λ w x h. h),
+                                                                                                                        (
+                                                                                                                          s_pass (plain n.Expression) (plain n.Item) (λ w x h. h) (λ w x h. h),
+                                                                                                                          (
+                                                                                                                            s_pass (plain n.Expression) (plain n.AllOf) (λ w x h. h) (λ w x h. h),
+                                                                                                                            (
+                                                                                                                              s_pass (plain n.Expression) (plain n.AnyOf) (λ w x h. h) (λ w x h. h),
+                                                                                                                              tt,
+                                                                                                                            ),
+                                                                                                                          ),
+                                                                                                                        ),
+                                                                                                                      ),
+                                                                                                                    ),
+                                                                                                                  ),
+                                                                                                                ),
+                                                                                                              ),
+                                                                                                            ),
+                                                                                                          ),
+                                                                                                        ),
+                                                                                                      ),
+                                                                                                    ),
+                                                                                                  ),
+                                                                                                ),
+                                                                                              ),
+                                                                                            ),
+                                                                                          ),
+                                                                                        ),
+                                                                                      ),
+                                                                                    ),
+                                                                                  ),
+                                                                                ),
+                                                                              ),
+                                                                            ),
+                                                                          ),
+                                                                        ),
+                                                                      ),
+                                                                    ),
+                                                                  ),
+                                                                ),
+                                                              ),
+                                                            ),
+                                                          ),
+                                                        ),
+                                                      ),
+                                                    ),
+                                                  ),
+                                                ),
+                                              ),
+                                            ),
+                                          ),
+                                        ),
+                                      ),
+                                    ),
+                                  ),
+                                ),
+                              ),
+                            ),
+                          ),
+                        ),
+                      ),
+                    ),
+                  ),
+                ),
+              ),
+            ),
+          ),
+        ),
+      ),
+    ),
+  ),
+)
 
 list_steps : Each (take 8 (drop 226 (drop 63 made_rules)))
 unfolding made_rules
-list_steps =
-    (s_listed_without (in_a_list n.Item) (with_commas n.Item) (λ w x h. h) (λ w x h. h),
-    (s_listed_with (in_a_list n.Item) (with_commas n.Item) (λ w x h. h) (λ w x h. h) bare_Item,
-    (s_first (with_commas n.Item) (plain n.Item) (λ w x h. h) (λ w x h. h),
-    (s_more (with_commas n.Item) (plain n.Item) (λ w x h. h) (λ w x h. h) (λ w x h. h),
-    (s_listed_without (in_a_list n.Expression) (with_commas n.Expression) (λ w x h. h) (λ w x h. h),
-    (s_listed_with (in_a_list n.Expression) (with_commas n.Expression) (λ w x h. h) (λ w x h. h) bare_Expression,
-    (s_first (with_commas n.Expression) (plain n.Expression) (λ w x h. h) (λ w x h. h),
-    (s_more (with_commas n.Expression) (plain n.Expression) (λ w x h. h) (λ w x h. h) (λ w x h. h),
-    tt))))))))
+list_steps = (
+  s_listed_without (in_a_list n.Item) (with_commas n.Item) (λ w x h. h) (λ w x h. h),
+  (
+    s_listed_with (in_a_list n.Item) (with_commas n.Item) (λ w x h. h) (λ w x h. h) bare_Item,
+    (
+      s_first (with_commas n.Item) (plain n.Item) (λ w x h. h) (λ w x h. h),
+      (
+        s_more (with_commas n.Item) (plain n.Item) (λ w x h. h) (λ w x h. h) (λ w x h. h),
+        (
+          s_listed_without (in_a_list n.Expression) (with_commas n.Expression) (λ w x h. h) (λ w x h. h),
+          (
+            s_listed_with (in_a_list n.Expression) (with_commas n.Expression) (λ w x h. h) (λ w x h. h) bare_Expression,
+            (
+              s_first (with_commas n.Expression) (plain n.Expression) (λ w x h. h) (λ w x h. h),
+              (
+                s_more (with_commas n.Expression) (plain n.Expression) (λ w x h. h) (λ w x h. h) (λ w x h. h),
+                tt,
+              ),
+            ),
+          ),
+        ),
+      ),
+    ),
+  ),
+)
 
 middle_unknown : list_all (λ m. is_unknown (sort_of m.left)) (take 226 (drop 63 made_rules)) ≡ true
 unfolding made_rules
@@ -185,7 +322,7 @@ last_unknown = refl
 steps : Each made_rules
 steps =
     let behind : Each (drop 226 (drop 63 made_rules)) =
-        subst Each (take-append-drop 8 (drop 226 (drop 63 made_rules))) (each_append (take 8 (drop 226 (drop 63 made_rules))) (drop 8 (drop 226 (drop 63 made_rules))) list_steps (all_unknown _ last_unknown)) in
+    subst Each (take-append-drop 8 (drop 226 (drop 63 made_rules))) (each_append (take 8 (drop 226 (drop 63 made_rules))) (drop 8 (drop 226 (drop 63 made_rules))) list_steps (all_unknown _ last_unknown)) in
     let rest : Each (drop 63 made_rules) = subst Each (take-append-drop 226 (drop 63 made_rules)) (each_append (take 226 (drop 63 made_rules)) (drop 226 (drop 63 made_rules)) (all_unknown _ middle_unknown) behind) in
     subst Each (take-append-drop 63 made_rules) (each_append (take 63 made_rules) (drop 63 made_rules) first_steps rest)
 

@@ -1,7 +1,5 @@
 -- What the productions of expressions make: what is printed of it derives it again.
-use Rattle.std.proofs.Common.{◌≡◌, refl, sym, ap, ◌∙◌, subst, ℕ, zero, suc, Bool, true, false, not, ◌&&◌, ◌||◌, List, [], ◌∷◌, ◌++◌, append_assoc, append-nil, map, Option, Some, None}
-use Rattle.wgsl_path.specs.declared.span.Span.{Span}
-use Rattle.wgsl_path.specs.declared.span.Spanned.{Spanned}
+use Rattle.std.proofs.Common.{◌≡◌, refl, sym, ap, ◌∙◌, subst, ℕ, Bool, true, not, ◌&&◌, ◌||◌, List, [], ◌∷◌, ◌++◌, append-nil, None}
 use Rattle.wgsl_operators.specs.declared.BinaryOperator.{BinaryOperator}
 use Rattle.wgsl_operators.specs.declared.BinaryOperator.TheVariants.{ShortCircuitOr}
 use Rattle.wgsl_operators.specs.declared.UnaryOperator.{UnaryOperator}
@@ -10,37 +8,33 @@ use Rattle.wgsl_token.specs.declared.token.Token.TheVariants as t
 use Rattle.wgsl_token.specs.declared.token.Fixed.{Fixed}
 use Rattle.wgsl_token.specs.declared.token.Fixed.TheVariants as f
 use Rattle.wgsl_template_spec.specs.declared.token.TemplateToken.{TemplateToken}
-use Rattle.wgsl_template_spec.specs.declared.token.TemplateToken.TheVariants.{Plain, TemplateArgsStart, TemplateArgsEnd}
+use Rattle.wgsl_template_spec.specs.declared.token.TemplateToken.TheVariants.{Plain, TemplateArgsStart}
 use Rattle.wgsl_template_spec.specs.declared.token.SpannedTemplateToken.{SpannedTemplateToken}
 use Rattle.wgsl_template_spec.specs.Kinds.{kind}
 use Rattle.wgsl_token_layout.specs.Laws.{without_places}
-use Rattle.wgsl_token_layout.specs.Commas.{Before, fresh, callee, operand, before, is_callee, ends_operand, is_closer, groups, may_end_so, comma, AreAlike, same, first_has}
-use Rattle.wgsl_expressions.specs.declared.expression.Expression.{Expression}
+use Rattle.wgsl_token_layout.specs.Commas.{Before, before, groups}
 use Rattle.wgsl_expressions.specs.declared.expression.Expression.TheVariants as exp
-use Rattle.wgsl_expressions.specs.Print.{is_number, is_numeric}
-use Rattle.wgsl_expressions.specs.Tree.{Exp, literal, parenthesized, component, indexed, unary, binary, call, named, Exps, nil, cons, exps, Typ, simple, templated}
-use Rattle.wgsl_expressions.specs.View.{node_tree, type_tree}
-use Rattle.wgsl_expressions.proofs.Trees.{tree_of_literal, tree_of_parenthesized, tree_of_component, tree_of_indexed, tree_of_unary, tree_of_binary, tree_of_call, tree_of_named}
-use Rattle.wgsl_tree_tokens.specs.Tokens.{mark, word, literal_token, unary_sign, binary_sign, exp_tokens, exps_tokens, typ_tokens}
-use Rattle.wgsl_tree_tokens.specs.Printable.{AreSpelled, ends_in_number, is_apart, are_apart, type_is_apart}
-use Rattle.wgsl_shift_reduce.specs.Grammars.{Symbol, token, phrase}
+use Rattle.wgsl_expressions.specs.Print.{is_numeric}
+use Rattle.wgsl_expressions.specs.Tree.{Exp, unary, binary, Typ}
+use Rattle.wgsl_expressions.proofs.Trees.{tree_of_unary, tree_of_binary}
+use Rattle.wgsl_tree_tokens.specs.Tokens.{mark, unary_sign, binary_sign, exp_tokens}
+use Rattle.wgsl_tree_tokens.specs.Printable.{AreSpelled, ends_in_number, is_apart, type_is_apart}
+use Rattle.wgsl_shift_reduce.specs.Grammars.{token, phrase}
 use Rattle.wgsl_parts.specs.declared.part.Part.{Part}
 use Rattle.wgsl_parts.specs.declared.part.Part.TheVariants as part
 use Rattle.wgsl_parts.specs.declared.label.Label.{Label}
 use Rattle.wgsl_parts.specs.declared.label.Label.TheVariants as l
-use Rattle.wgsl_parts.specs.declared.label.NameLabel.TheVariants as name
 use Rattle.wgsl_parts.specs.declared.label.ExpressionLabel.TheVariants as label
 use Rattle.wgsl_leaves.specs.Leaves as leaves
 use Rattle.wgsl_phrases.specs.declared.phrase.Phrase.{Phrase}
 use Rattle.wgsl_make_expressions.specs.Making as make
 use Rattle.wgsl_grammar_tables.specs.Classes.{fixed_class, class_of}
-use Rattle.wgsl_reading.specs.Phrases.{leaf}
 use Rattle.wgsl_reading.specs.Failures.{made_failed}
 use Rattle.wgsl_read_back.proofs.Views.{View, view_tokens, Stands, a_token, an_ups, a_path, a_type, a_call, an_expression, some_expressions, ends_as}
 use Rattle.wgsl_read_back.proofs.Views as v
-use Rattle.wgsl_read_back.proofs.Items.{Steps, cont_as, Again, Item, Back, OneToken, token_again, token_steps}
-use Rattle.wgsl_read_back.proofs.Rows.{concat, RowBack, nil as no_more, more, steps_row, Stood, stood_pass, Makes, make_of, makes_of, Rebuild, back_of, of_one, of_two, of_three, of_four}
-use Rattle.wgsl_read_back.proofs.Places.{mark_of, word_of, number_of, start_of, end_of}
+use Rattle.wgsl_read_back.proofs.Items.{cont_as, Item, Back, OneToken, token_again, token_steps}
+use Rattle.wgsl_read_back.proofs.Rows.{nil as no_more, more, Stood, stood_pass, Makes, make_of, makes_of, Rebuild, back_of, of_one, of_two, of_three}
+use Rattle.wgsl_read_back.proofs.Places.{mark_of}
 
 -- ---- what phrases are
 
@@ -138,12 +132,12 @@ module _ (o : BinaryOperator) (n m r : ℕ) (rebuild : Rebuild n (phrase m ∷ t
         binary o h.0 g.0,
         both (is_apart h.0) (is_apart g.0) h.1 g.1,
         back_of n (phrase m ∷ token (fixed_class (binary_sign o)) ∷ phrase r ∷ []) (l.Expression (label.Binary o)) (2 ∷ 1 ∷ 2 ∷ []) rebuild
-        (v.expression h.0 ∷ v.token sign ∷ v.expression g.0 ∷ []) (v.expression (binary o h.0 g.0)) (ap (λ z. exp_tokens h.0 ++ (sign ∷ z)) (append-nil (exp_tokens g.0)))
-        (of_three (λ ys. Makes (v.expression (binary o h.0 g.0)) (make_of (l.Expression (label.Binary o)) (2 ∷ 1 ∷ 2 ∷ []) ys)) (binary_makes o h.0 g.0 sign))
-        row
-        (λ c p. tt)
-        (λ c p. g.2.level _ _ ∙ binary_level o (h.2.item.steps c p).last (h.2.item.steps c p).opened ∙ h.2.level c p)
-        (λ c p. g.2.ended _ _)
+            (v.expression h.0 ∷ v.token sign ∷ v.expression g.0 ∷ []) (v.expression (binary o h.0 g.0)) (ap (λ z. exp_tokens h.0 ++ (sign ∷ z)) (append-nil (exp_tokens g.0)))
+            (of_three (λ ys. Makes (v.expression (binary o h.0 g.0)) (make_of (l.Expression (label.Binary o)) (2 ∷ 1 ∷ 2 ∷ []) ys)) (binary_makes o h.0 g.0 sign))
+            row
+            (λ c p. tt)
+            (λ c p. g.2.level _ _ ∙ binary_level o (h.2.item.steps c p).last (h.2.item.steps c p).opened ∙ h.2.level c p)
+            (λ c p. g.2.ended _ _),
       )
 
 unary_makes : (o : UnaryOperator) (e : Exp) (k : TemplateToken) (a b : Phrase Part) → Stood (a ∷ b ∷ []) (v.token k ∷ v.expression e ∷ [])
@@ -165,10 +159,10 @@ module _ (o : UnaryOperator) (n m : ℕ) (rebuild : Rebuild n (token (fixed_clas
         unary o g.0,
         g.1,
         back_of n (token (fixed_class (unary_sign o)) ∷ phrase m ∷ []) (l.Expression (label.Unary o)) (1 ∷ 2 ∷ []) rebuild
-        (v.token sign ∷ v.expression g.0 ∷ []) (v.expression (unary o g.0)) (ap (λ z. sign ∷ z) (append-nil (exp_tokens g.0)))
-        (of_two (λ ys. Makes (v.expression (unary o g.0)) (make_of (l.Expression (label.Unary o)) (1 ∷ 2 ∷ []) ys)) (unary_makes o g.0 sign))
-        row
-        (λ c p. tt)
-        (λ c p. g.2.level _ _ ∙ unary_level o c p)
-        (λ c p. g.2.ended _ _)
+            (v.token sign ∷ v.expression g.0 ∷ []) (v.expression (unary o g.0)) (ap (λ z. sign ∷ z) (append-nil (exp_tokens g.0)))
+            (of_two (λ ys. Makes (v.expression (unary o g.0)) (make_of (l.Expression (label.Unary o)) (1 ∷ 2 ∷ []) ys)) (unary_makes o g.0 sign))
+            row
+            (λ c p. tt)
+            (λ c p. g.2.level _ _ ∙ unary_level o c p)
+            (λ c p. g.2.ended _ _),
       )

@@ -1,13 +1,12 @@
 -- A symbol of a row and what stands there: what is printed of it derives it again.
-use Rattle.std.proofs.Common.{◌≡◌, refl, sym, ap, ◌∙◌, subst, ℕ, Bool, true, List, [], ◌∷◌, ◌++◌, append_assoc, append-nil, map, Option, Some, None}
+use Rattle.std.proofs.Common.{◌≡◌, refl, sym, ap, ◌∙◌, subst, ℕ, Bool, true, List, [], ◌∷◌, ◌++◌, append_assoc, None}
 use Rattle.wgsl_template_spec.specs.declared.token.TemplateToken.{TemplateToken}
-use Rattle.wgsl_template_spec.specs.declared.token.TemplateToken.TheVariants.{Plain, TemplateArgsStart, TemplateArgsEnd}
 use Rattle.wgsl_template_spec.specs.declared.token.SpannedTemplateToken.{SpannedTemplateToken}
 use Rattle.wgsl_template_spec.specs.Kinds.{kind}
 use Rattle.wgsl_token_layout.specs.Laws.{without_places}
 use Rattle.wgsl_token_layout.specs.Commas.{Before, before, ends_operand, is_closer, may_end_so, groups, AreAlike, same}
 use Rattle.wgsl_tree_tokens.specs.Printable.{AreSpelled}
-use Rattle.wgsl_shift_reduce.specs.Grammars.{Symbol, token, phrase, Grammar, Derives, a_token, Row, done, next}
+use Rattle.wgsl_shift_reduce.specs.Grammars.{Symbol, token, phrase, Derives, a_token}
 use Rattle.wgsl_parts.specs.declared.part.Part.{Part}
 use Rattle.wgsl_phrases.specs.declared.phrase.Phrase.{Phrase}
 use Rattle.wgsl_grammar_tables.specs.Classes.{class_of}

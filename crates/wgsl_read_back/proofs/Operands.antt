@@ -1,55 +1,36 @@
 -- The productions of names, types, calls, operands and lists.
-use Rattle.std.proofs.Common.{◌≡◌, refl, sym, ap, ◌∙◌, subst, ℕ, zero, suc, ◌+◌, arith, Bool, true, false, not, ◌&&◌, ◌||◌, List, [], ◌∷◌, ◌++◌, append_assoc, append-nil, map, Option, Some, None}
-use Rattle.std.specs.List.{flat_map}
-use Rattle.std.proofs.lemmas.List.{map-append}
-use Rattle.wgsl_path.specs.declared.span.Span.{Span}
+use Rattle.std.proofs.Common.{◌≡◌, refl, sym, ap, ◌∙◌, ℕ, suc, ◌+◌, arith, Bool, true, ◌&&◌, List, [], ◌∷◌, ◌++◌, append_assoc, append-nil, map, Option, Some, None}
 use Rattle.wgsl_path.specs.declared.span.Spanned.{Spanned}
-use Rattle.wgsl_path.specs.declared.ident.Ident.{Ident}
 use Rattle.wgsl_path.specs.declared.path.PathOrigin.TheVariants.{Relative}
 use Rattle.wgsl_path.specs.declared.path.ModulePath.{ModulePath}
 use Rattle.wgsl_path.specs.Paths.{ident_of}
 use Rattle.wgsl_path.specs.Joining.{root_path}
-use Rattle.wgsl_token.specs.declared.token.Token.TheVariants as t
 use Rattle.wgsl_token.specs.declared.token.Fixed.TheVariants as f
-use Rattle.wgsl_template_spec.specs.declared.token.TemplateToken.{TemplateToken}
-use Rattle.wgsl_template_spec.specs.declared.token.TemplateToken.TheVariants.{Plain, TemplateArgsStart, TemplateArgsEnd}
+use Rattle.wgsl_template_spec.specs.declared.token.TemplateToken.TheVariants.{TemplateArgsStart, TemplateArgsEnd}
 use Rattle.wgsl_template_spec.specs.declared.token.SpannedTemplateToken.{SpannedTemplateToken}
 use Rattle.wgsl_template_spec.specs.Kinds.{kind}
 use Rattle.wgsl_token_layout.specs.Laws.{without_places}
-use Rattle.wgsl_token_layout.specs.Commas.{Before, callee, operand, before, is_callee, ends_operand, is_closer, outer, groups, may_end_so, comma, AreAlike, same, first_has}
+use Rattle.wgsl_token_layout.specs.Commas.{Before, is_callee, outer, groups}
 use Rattle.wgsl_expressions.specs.declared.expression.Expression.{Expression}
-use Rattle.wgsl_expressions.specs.declared.expression.Expression.TheVariants as exp
-use Rattle.wgsl_expressions.specs.declared.expression.FunctionCallOf.{FunctionCallOf}
-use Rattle.wgsl_expressions.specs.declared.expression.LiteralExpression.{LiteralExpression}
-use Rattle.wgsl_expressions.specs.declared.expression.LiteralExpression.TheVariants as lit
 use Rattle.wgsl_expressions.specs.declared.expression.TemplateArgOf.{TemplateArgOf}
-use Rattle.wgsl_expressions.specs.declared.expression.TypeExpressionOf.{TypeExpressionOf}
-use Rattle.wgsl_expressions.specs.Print.{is_number, is_numeric}
-use Rattle.wgsl_expressions.specs.Tree.{Exp, literal, parenthesized, component, indexed, unary, binary, call, named, Exps, nil, cons, exps, Typ, simple, templated}
-use Rattle.wgsl_expressions.specs.View.{node_tree, type_tree}
-use Rattle.wgsl_expressions.proofs.Trees.{tree_of_literal, tree_of_parenthesized, tree_of_component, tree_of_indexed, tree_of_call, tree_of_named}
-use Rattle.wgsl_tree_tokens.specs.Tokens.{mark, word, literal_token, origin_tokens, supers_tokens, components_tokens, path_tokens, qualifier_tokens, exp_tokens, exps_tokens, more_tokens, typ_tokens}
-use Rattle.wgsl_tree_tokens.specs.Printable.{AreSpelled, ends_in_number, is_apart, are_apart, type_is_apart}
-use Rattle.wgsl_tree_tokens.proofs.Expressions.{are_front}
-use Rattle.wgsl_shift_reduce.specs.Grammars.{Symbol, token, phrase}
+use Rattle.wgsl_expressions.specs.Tree.{Exp, Exps, nil, exps, Typ, simple, templated}
+use Rattle.wgsl_expressions.specs.View.{node_tree}
+use Rattle.wgsl_tree_tokens.specs.Tokens.{mark, word, origin_tokens, supers_tokens, components_tokens, path_tokens, qualifier_tokens, exps_tokens}
+use Rattle.wgsl_tree_tokens.specs.Printable.{are_apart, type_is_apart}
+use Rattle.wgsl_shift_reduce.specs.Grammars.{token, phrase}
 use Rattle.wgsl_parts.specs.declared.part.Part.{Part}
 use Rattle.wgsl_parts.specs.declared.part.Part.TheVariants as part
-use Rattle.wgsl_parts.specs.declared.part.QualifiedName.{QualifiedName}
-use Rattle.wgsl_parts.specs.declared.label.Label.{Label}
 use Rattle.wgsl_parts.specs.declared.label.Label.TheVariants as l
 use Rattle.wgsl_parts.specs.declared.label.NameLabel.TheVariants as name
-use Rattle.wgsl_parts.specs.declared.label.ExpressionLabel.TheVariants as label
-use Rattle.wgsl_leaves.specs.Leaves as leaves
 use Rattle.wgsl_phrases.specs.declared.phrase.Phrase.{Phrase}
 use Rattle.wgsl_make_expressions.specs.Making as make
-use Rattle.wgsl_make_expressions.specs.Lists as lists
-use Rattle.wgsl_grammar_tables.specs.Classes.{fixed_class, class_of}
+use Rattle.wgsl_grammar_tables.specs.Classes.{fixed_class}
 use Rattle.wgsl_read_back.proofs.Views.{View, view_tokens, Stands, a_token, an_ups, a_path, a_type, a_call, an_expression, some_expressions, ends_as}
 use Rattle.wgsl_read_back.proofs.Views as v
-use Rattle.wgsl_read_back.proofs.Items.{places_append, Again, Item, Ending, ListBack, Back, OneToken, moved}
-use Rattle.wgsl_read_back.proofs.Rows.{concat, RowBack, nil as no_more, more, list_more, Stood, stood_pass, Makes, make_of, makes_of, Rebuild, back_of, of_one, of_two, of_three, of_four}
-use Rattle.wgsl_read_back.proofs.Places.{mark_of, word_of, number_of, start_of, end_of}
-use Rattle.wgsl_read_back.proofs.Families.{Expressed, Single, Typed, token_item, mark_item}
+use Rattle.wgsl_read_back.proofs.Items.{Item, ListBack, Back, OneToken}
+use Rattle.wgsl_read_back.proofs.Rows.{concat, nil as no_more, more, list_more, Stood, stood_pass, Makes, make_of, makes_of, Rebuild, back_of, of_one, of_two, of_three, of_four}
+use Rattle.wgsl_read_back.proofs.Places.{mark_of, word_of, start_of, end_of}
+use Rattle.wgsl_read_back.proofs.Families.{Typed, token_item, mark_item}
 
 -- ---- what phrases are
 
@@ -88,10 +69,10 @@ name_alone n rebuild {u = u} {x = x} k =
       None,
       y,
       back_of n (token 77 ∷ []) (l.Name name.NameAlone) (2 ∷ []) rebuild (v.token (word y) ∷ []) (v.path None y) refl
-      (of_one (λ ys. Makes (v.path None y) (make_of (l.Name name.NameAlone) (2 ∷ []) ys)) (λ a h.
-        makes_of (l.Name name.NameAlone) (2 ∷ []) a [] (v.path None y) (λ s. part.Path (record { path = None; ident = ident_of y }))
-        (λ s i. make.name_alone (word_part a.part y h.0.0 i ∷ [])) (λ s. a_path _ refl refl refl) (λ ps. refl) (λ s. refl) (stood_pass (a ∷ []) (v.token (word y) ∷ []) h)))
-      (more (word_item u x k) no_more) (λ c p. tt) (λ c p. refl) (λ c p. refl)
+          (of_one (λ ys. Makes (v.path None y) (make_of (l.Name name.NameAlone) (2 ∷ []) ys)) (λ a h.
+          makes_of (l.Name name.NameAlone) (2 ∷ []) a [] (v.path None y) (λ s. part.Path (record { path = None; ident = ident_of y }))
+          (λ s i. make.name_alone (word_part a.part y h.0.0 i ∷ [])) (λ s. a_path _ refl refl refl) (λ ps. refl) (λ s. refl) (stood_pass (a ∷ []) (v.token (word y) ∷ []) h)))
+          (more (word_item u x k) no_more) (λ c p. tt) (λ c p. refl) (λ c p. refl),
     )
 
 above_tokens : (k : ℕ) (y : List ℕ) → concat (v.ups (suc k) ∷ v.token (word y) ∷ []) ≡ view_tokens (v.path (Some (record { origin = Relative (suc k); components = [] })) y)
@@ -105,8 +86,8 @@ name_above n m rebuild {b = u} {y = z} g k =
       Some q,
       y,
       back_of n (phrase m ∷ token 77 ∷ []) (l.Name name.NameAbove) (2 ∷ 2 ∷ []) rebuild (v.ups (suc g.0) ∷ v.token (word y) ∷ []) (v.path (Some q) y) (above_tokens g.0 y)
-      (of_two (λ ys. Makes (v.path (Some q) y) (make_of (l.Name name.NameAbove) (2 ∷ 2 ∷ []) ys)) (makes g.0 y))
-      (more g.1.item (more (word_item u z k) no_more)) (λ c p. tt) (λ c p. g.1.level c p) (λ c p. refl)
+          (of_two (λ ys. Makes (v.path (Some q) y) (make_of (l.Name name.NameAbove) (2 ∷ 2 ∷ []) ys)) (makes g.0 y))
+          (more g.1.item (more (word_item u z k) no_more)) (λ c p. tt) (λ c p. g.1.level c p) (λ c p. refl),
     )
   where
     makes : (k : ℕ) (y : List ℕ) (a b : Phrase Part) → Stood (a ∷ b ∷ []) (v.ups (suc k) ∷ v.token (word y) ∷ [])
@@ -126,12 +107,12 @@ name_in_package n rebuild {a = a} {b = b} {c = c} {x = x} {y = s} {z = z} i j k 
       Some root_path,
       y,
       back_of n (token (fixed_class f.Package) ∷ token (fixed_class f.PathSeparator) ∷ token 77 ∷ []) (l.Name name.NameInPackage) (1 ∷ 1 ∷ 2 ∷ []) rebuild
-      (v.token (mark f.Package) ∷ v.token (mark f.PathSeparator) ∷ v.token (word y) ∷ []) (v.path (Some root_path) y) refl
-      (of_three (λ ys. Makes (v.path (Some root_path) y) (make_of (l.Name name.NameInPackage) (1 ∷ 1 ∷ 2 ∷ []) ys)) (λ d e g h.
-        makes_of (l.Name name.NameInPackage) (1 ∷ 1 ∷ 2 ∷ []) d (e ∷ g ∷ []) (v.path (Some root_path) y) (λ s. part.Path (record { path = Some root_path; ident = ident_of y }))
-        (λ s i. make.name_in_package (word_part g.part y h.1.1.0.0 i ∷ [])) (λ s. a_path _ refl refl refl) (λ ps. refl) (λ s. refl)
-        (stood_pass (d ∷ e ∷ g ∷ []) (v.token (mark f.Package) ∷ v.token (mark f.PathSeparator) ∷ v.token (word y) ∷ []) h)))
-      (more (mark_item f.Package a x i) (more (mark_item f.PathSeparator b s j) (more (word_item c z k) no_more))) (λ c p. tt) (λ c p. refl) (λ c p. refl)
+          (v.token (mark f.Package) ∷ v.token (mark f.PathSeparator) ∷ v.token (word y) ∷ []) (v.path (Some root_path) y) refl
+          (of_three (λ ys. Makes (v.path (Some root_path) y) (make_of (l.Name name.NameInPackage) (1 ∷ 1 ∷ 2 ∷ []) ys)) (λ d e g h.
+          makes_of (l.Name name.NameInPackage) (1 ∷ 1 ∷ 2 ∷ []) d (e ∷ g ∷ []) (v.path (Some root_path) y) (λ s. part.Path (record { path = Some root_path; ident = ident_of y }))
+          (λ s i. make.name_in_package (word_part g.part y h.1.1.0.0 i ∷ [])) (λ s. a_path _ refl refl refl) (λ ps. refl) (λ s. refl)
+          (stood_pass (d ∷ e ∷ g ∷ []) (v.token (mark f.Package) ∷ v.token (mark f.PathSeparator) ∷ v.token (word y) ∷ []) h)))
+          (more (mark_item f.Package a x i) (more (mark_item f.PathSeparator b s j) (more (word_item c z k) no_more))) (λ c p. tt) (λ c p. refl) (λ c p. refl),
     )
 
 components_more : (cs : List (List ℕ)) (y : List ℕ) → components_tokens (cs ++ (y ∷ [])) ≡ components_tokens cs ++ (mark f.PathSeparator ∷ word y ∷ [])
@@ -152,9 +133,9 @@ name_within n m rebuild {b = b} {c = c} {y = s} {z = z} g j k =
       Some q,
       y,
       back_of n (phrase m ∷ token (fixed_class f.PathSeparator) ∷ token 77 ∷ []) (l.Name name.NameWithin) (2 ∷ 1 ∷ 2 ∷ []) rebuild
-      (v.path g.0 g.1 ∷ v.token (mark f.PathSeparator) ∷ v.token (word y) ∷ []) (v.path (Some q) y) (tokens g.0 g.1 y)
-      (of_three (λ ys. Makes (v.path (Some q) y) (make_of (l.Name name.NameWithin) (2 ∷ 1 ∷ 2 ∷ []) ys)) (makes g.0 g.1 y))
-      (more g.2.item (more (mark_item f.PathSeparator b s j) (more (word_item c z k) no_more))) (λ c p. tt) (λ c p. g.2.level c p) (λ c p. refl)
+          (v.path g.0 g.1 ∷ v.token (mark f.PathSeparator) ∷ v.token (word y) ∷ []) (v.path (Some q) y) (tokens g.0 g.1 y)
+          (of_three (λ ys. Makes (v.path (Some q) y) (make_of (l.Name name.NameWithin) (2 ∷ 1 ∷ 2 ∷ []) ys)) (makes g.0 g.1 y))
+          (more g.2.item (more (mark_item f.PathSeparator b s j) (more (word_item c z k) no_more))) (λ c p. tt) (λ c p. g.2.level c p) (λ c p. refl),
     )
   where
     tokens : (q : Option ModulePath) (o y : List ℕ) → concat (v.path q o ∷ v.token (mark f.PathSeparator) ∷ v.token (word y) ∷ []) ≡ view_tokens (v.path (Some (make.path_within q o)) y)
@@ -176,9 +157,9 @@ pub one_up : (n : ℕ) → Rebuild n (token (fixed_class f.Super) ∷ token (fix
 one_up n rebuild {a = a} {b = b} {x = x} {y = y} i j = (
   0,
   back_of n (token (fixed_class f.Super) ∷ token (fixed_class f.PathSeparator) ∷ []) (l.Name name.OneUp) (1 ∷ 1 ∷ []) rebuild (v.token (mark f.Super) ∷ v.token (mark f.PathSeparator) ∷ []) (v.ups 1) refl
-  (of_two (λ ys. Makes (v.ups 1) (make_of (l.Name name.OneUp) (1 ∷ 1 ∷ []) ys)) (λ d e h.
-    makes_of (l.Name name.OneUp) (1 ∷ 1 ∷ []) d (e ∷ []) (v.ups 1) (λ s. part.Ups 1) (λ s. refl) (λ s. an_ups refl) (λ ps. refl) (λ s. refl) (stood_pass (d ∷ e ∷ []) (v.token (mark f.Super) ∷ v.token (mark f.PathSeparator) ∷ []) h)))
-  (more (mark_item f.Super a x i) (more (mark_item f.PathSeparator b y j) no_more)) (λ c p. tt) (λ c p. refl) (λ c p. tt)
+      (of_two (λ ys. Makes (v.ups 1) (make_of (l.Name name.OneUp) (1 ∷ 1 ∷ []) ys)) (λ d e h.
+      makes_of (l.Name name.OneUp) (1 ∷ 1 ∷ []) d (e ∷ []) (v.ups 1) (λ s. part.Ups 1) (λ s. refl) (λ s. an_ups refl) (λ ps. refl) (λ s. refl) (stood_pass (d ∷ e ∷ []) (v.token (mark f.Super) ∷ v.token (mark f.PathSeparator) ∷ []) h)))
+      (more (mark_item f.Super a x i) (more (mark_item f.PathSeparator b y j) no_more)) (λ c p. tt) (λ c p. refl) (λ c p. tt),
 )
 
 pub further_up : (n m : ℕ) → Rebuild n (phrase m ∷ token (fixed_class f.Super) ∷ token (fixed_class f.PathSeparator) ∷ []) (l.Name name.FurtherUp) (2 ∷ 1 ∷ 1 ∷ []) → {a b c : List SpannedTemplateToken} {x y z : Phrase Part}
@@ -186,9 +167,9 @@ pub further_up : (n m : ℕ) → Rebuild n (phrase m ∷ token (fixed_class f.Su
 further_up n m rebuild {b = b} {c = c} {y = y} {z = z} g i j = (
   suc g.0,
   back_of n (phrase m ∷ token (fixed_class f.Super) ∷ token (fixed_class f.PathSeparator) ∷ []) (l.Name name.FurtherUp) (2 ∷ 1 ∷ 1 ∷ []) rebuild
-  (v.ups (suc g.0) ∷ v.token (mark f.Super) ∷ v.token (mark f.PathSeparator) ∷ []) (v.ups (suc (suc g.0))) (tokens g.0)
-  (of_three (λ ys. Makes (v.ups (suc (suc g.0))) (make_of (l.Name name.FurtherUp) (2 ∷ 1 ∷ 1 ∷ []) ys)) (makes g.0))
-  (more g.1.item (more (mark_item f.Super b y i) (more (mark_item f.PathSeparator c z j) no_more))) (λ c p. tt) (λ c p. g.1.level c p) (λ c p. tt)
+      (v.ups (suc g.0) ∷ v.token (mark f.Super) ∷ v.token (mark f.PathSeparator) ∷ []) (v.ups (suc (suc g.0))) (tokens g.0)
+      (of_three (λ ys. Makes (v.ups (suc (suc g.0))) (make_of (l.Name name.FurtherUp) (2 ∷ 1 ∷ 1 ∷ []) ys)) (makes g.0))
+      (more g.1.item (more (mark_item f.Super b y i) (more (mark_item f.PathSeparator c z j) no_more))) (λ c p. tt) (λ c p. g.1.level c p) (λ c p. tt),
 )
   where
     tokens : (k : ℕ) → concat (v.ups (suc k) ∷ v.token (mark f.Super) ∷ v.token (mark f.PathSeparator) ∷ []) ≡ view_tokens (v.ups (suc (suc k)))
@@ -214,8 +195,8 @@ simple_typed n m rebuild g = (
   simple g.0 g.1,
   refl,
   back_of n (phrase m ∷ []) (l.Name name.Simple) (2 ∷ []) rebuild (v.path g.0 g.1 ∷ []) (v.type (simple g.0 g.1)) (append-nil (view_tokens (v.path g.0 g.1)))
-  (of_one (λ ys. Makes (v.type (simple g.0 g.1)) (make_of (l.Name name.Simple) (2 ∷ []) ys)) (makes g.0 g.1))
-  (more g.2.item no_more) (λ c p. tt) g.2.level g.2.ended
+      (of_one (λ ys. Makes (v.type (simple g.0 g.1)) (make_of (l.Name name.Simple) (2 ∷ []) ys)) (makes g.0 g.1))
+      (more g.2.item no_more) (λ c p. tt) g.2.level g.2.ended,
 )
   where
     makes : (q : Option ModulePath) (y : List ℕ) (a : Phrase Part) → Stood (a ∷ []) (v.path q y ∷ []) → Makes (v.type (simple q y)) (make_of (l.Name name.Simple) (2 ∷ []) (a ∷ []))
@@ -237,11 +218,11 @@ template_typed n m i rebuild {b = b} {d = d} {y = y} {w = w} g j h k =
       templated g.0 g.1 (exps h.0),
       h.1,
       back_of n (phrase m ∷ token 80 ∷ phrase i ∷ token 81 ∷ []) (l.Name name.Templated) (2 ∷ 1 ∷ 2 ∷ 1 ∷ []) rebuild
-      (v.path g.0 g.1 ∷ v.token TemplateArgsStart ∷ v.expressions h.0 ∷ v.token TemplateArgsEnd ∷ []) (v.type (templated g.0 g.1 (exps h.0)))
-      (append_assoc (qualifier_tokens g.0) (word g.1 ∷ []) (TemplateArgsStart ∷ (exps_tokens (exps h.0) ++ (TemplateArgsEnd ∷ []))))
-      (of_four (λ ys. Makes (v.type (templated g.0 g.1 (exps h.0))) (make_of (l.Name name.Templated) (2 ∷ 1 ∷ 2 ∷ 1 ∷ []) ys)) (makes g.0 g.1 h.0))
-      (more g.2.item (more (token_item 80 TemplateArgsStart b y j (start_of j.one.token j.class) refl) (list_more h.2 (token_item 81 TemplateArgsEnd d w k shut refl) (ap without_places (sym k.whole) ∙ ap (λ z. z ∷ []) shut) refl no_more)))
-      (λ c p. (refl, tt)) (λ c p. g.2.level c p) (λ c p. refl)
+          (v.path g.0 g.1 ∷ v.token TemplateArgsStart ∷ v.expressions h.0 ∷ v.token TemplateArgsEnd ∷ []) (v.type (templated g.0 g.1 (exps h.0)))
+          (append_assoc (qualifier_tokens g.0) (word g.1 ∷ []) (TemplateArgsStart ∷ (exps_tokens (exps h.0) ++ (TemplateArgsEnd ∷ []))))
+          (of_four (λ ys. Makes (v.type (templated g.0 g.1 (exps h.0))) (make_of (l.Name name.Templated) (2 ∷ 1 ∷ 2 ∷ 1 ∷ []) ys)) (makes g.0 g.1 h.0))
+          (more g.2.item (more (token_item 80 TemplateArgsStart b y j (start_of j.one.token j.class) refl) (list_more h.2 (token_item 81 TemplateArgsEnd d w k shut refl) (ap without_places (sym k.whole) ∙ ap (λ z. z ∷ []) shut) refl no_more)))
+          (λ c p. (refl, tt)) (λ c p. g.2.level c p) (λ c p. refl),
     )
   where
     makes : (q : Option ModulePath) (o : List ℕ) (es : List Exp) (a b c d : Phrase Part) → Stood (a ∷ b ∷ c ∷ d ∷ []) (v.path q o ∷ v.token TemplateArgsStart ∷ v.expressions es ∷ v.token TemplateArgsEnd ∷ [])
@@ -267,9 +248,9 @@ call_without n m rebuild {b = b} {c = c} {y = y} {z = z} g i j = (
   nil,
   both (type_is_apart g.0) true g.1 refl,
   back_of n (phrase m ∷ token (fixed_class f.ParenLeft) ∷ token (fixed_class f.ParenRight) ∷ []) (l.Name name.Call) (2 ∷ 1 ∷ 0 ∷ 1 ∷ []) rebuild
-  (v.type g.0 ∷ v.token (mark f.ParenLeft) ∷ v.token (mark f.ParenRight) ∷ []) (v.call g.0 nil) refl
-  (of_three (λ ys. Makes (v.call g.0 nil) (make_of (l.Name name.Call) (2 ∷ 1 ∷ 0 ∷ 1 ∷ []) ys)) (makes g.0))
-  (more g.2.item (more (mark_item f.ParenLeft b y i) (more (mark_item f.ParenRight c z j) no_more))) (λ c p. tt) (λ c p. g.2.level c p) (λ c p. refl)
+      (v.type g.0 ∷ v.token (mark f.ParenLeft) ∷ v.token (mark f.ParenRight) ∷ []) (v.call g.0 nil) refl
+      (of_three (λ ys. Makes (v.call g.0 nil) (make_of (l.Name name.Call) (2 ∷ 1 ∷ 0 ∷ 1 ∷ []) ys)) (makes g.0))
+      (more g.2.item (more (mark_item f.ParenLeft b y i) (more (mark_item f.ParenRight c z j) no_more))) (λ c p. tt) (λ c p. g.2.level c p) (λ c p. refl),
 )
   where
     makes : (t : Typ) (d e h : Phrase Part) → Stood (d ∷ e ∷ h ∷ []) (v.type t ∷ v.token (mark f.ParenLeft) ∷ v.token (mark f.ParenRight) ∷ []) → Makes (v.call t nil) (make_of (l.Name name.Call) (2 ∷ 1 ∷ 0 ∷ 1 ∷ []) (d ∷ e ∷ h ∷ []))
@@ -288,10 +269,10 @@ call_with n m i rebuild {b = b} {d = d} {y = y} {w = w} g j h k =
       exps h.0,
       both (type_is_apart g.0) (are_apart (exps h.0)) g.1 h.1,
       back_of n (phrase m ∷ token (fixed_class f.ParenLeft) ∷ phrase i ∷ token (fixed_class f.ParenRight) ∷ []) (l.Name name.Call) (2 ∷ 1 ∷ 2 ∷ 1 ∷ []) rebuild
-      (v.type g.0 ∷ v.token (mark f.ParenLeft) ∷ v.expressions h.0 ∷ v.token (mark f.ParenRight) ∷ []) (v.call g.0 (exps h.0)) refl
-      (of_four (λ ys. Makes (v.call g.0 (exps h.0)) (make_of (l.Name name.Call) (2 ∷ 1 ∷ 2 ∷ 1 ∷ []) ys)) (makes g.0 h.0))
-      (more g.2.item (more (mark_item f.ParenLeft b y j) (list_more h.2 (mark_item f.ParenRight d w k) (ap without_places (sym k.whole) ∙ ap (λ z. z ∷ []) shut) refl no_more)))
-      (λ c p. (ap is_callee (g.2.ended c p), tt)) (λ c p. g.2.level c p) (λ c p. refl)
+          (v.type g.0 ∷ v.token (mark f.ParenLeft) ∷ v.expressions h.0 ∷ v.token (mark f.ParenRight) ∷ []) (v.call g.0 (exps h.0)) refl
+          (of_four (λ ys. Makes (v.call g.0 (exps h.0)) (make_of (l.Name name.Call) (2 ∷ 1 ∷ 2 ∷ 1 ∷ []) ys)) (makes g.0 h.0))
+          (more g.2.item (more (mark_item f.ParenLeft b y j) (list_more h.2 (mark_item f.ParenRight d w k) (ap without_places (sym k.whole) ∙ ap (λ z. z ∷ []) shut) refl no_more)))
+          (λ c p. (ap is_callee (g.2.ended c p), tt)) (λ c p. g.2.level c p) (λ c p. refl),
     )
   where
     makes : (t : Typ) (es : List Exp) (a b c d : Phrase Part) → Stood (a ∷ b ∷ c ∷ d ∷ []) (v.type t ∷ v.token (mark f.ParenLeft) ∷ v.expressions es ∷ v.token (mark f.ParenRight) ∷ [])

@@ -1,7 +1,5 @@
 -- Which token is of which class.
-use Rattle.std.proofs.Common.{◌≡◌, refl, sym, ap, ◌∙◌, ℕ, zero, suc, ◌<◌, nat_lt, Bool, true, false, List, [], ◌∷◌, arith}
-use Rattle.std.proofs.lemmas.Bool.{ltb-true}
-use Rattle.wgsl_token.specs.declared.token.Token.{Token}
+use Rattle.std.proofs.Common.{◌≡◌, refl, sym, ap, ◌∙◌, ℕ, zero, suc, nat_lt, true, false, List, [], ◌∷◌, arith}
 use Rattle.wgsl_token.specs.declared.token.Token.TheVariants as t
 use Rattle.wgsl_token.specs.declared.token.Fixed.{Fixed}
 use Rattle.wgsl_token.specs.declared.token.Fixed.TheVariants as f
@@ -10,7 +8,7 @@ use Rattle.wgsl_template_spec.specs.declared.token.TemplateToken.TheVariants.{Pl
 use Rattle.wgsl_expressions.specs.declared.expression.LiteralExpression.{LiteralExpression}
 use Rattle.wgsl_expressions.specs.declared.expression.LiteralExpression.TheVariants as l
 use Rattle.wgsl_tree_tokens.specs.Tokens.{mark, word, literal_token}
-use Rattle.wgsl_grammar_tables.specs.Classes.{fixed_class, plain_class, class_of}
+use Rattle.wgsl_grammar_tables.specs.Classes.{fixed_class, class_of}
 
 fixeds : List Fixed
 fixeds =

@@ -1,44 +1,29 @@
 -- The productions of operands and of lists.
-use Rattle.std.proofs.Common.{◌≡◌, refl, sym, ap, ◌∙◌, subst, ℕ, zero, suc, ◌+◌, arith, Bool, true, false, not, ◌&&◌, ◌||◌, List, [], ◌∷◌, ◌++◌, append_assoc, append-nil, map, Option, Some, None}
-use Rattle.std.specs.List.{flat_map}
+use Rattle.std.proofs.Common.{◌≡◌, refl, sym, ap, ◌∙◌, subst, ℕ, Bool, true, false, not, ◌||◌, List, [], ◌∷◌, ◌++◌, append_assoc, append-nil, None}
 use Rattle.std.proofs.lemmas.List.{map-append}
 use Rattle.std.proofs.lemmas.Bool.{and_parts}
-use Rattle.wgsl_path.specs.declared.span.Span.{Span}
-use Rattle.wgsl_path.specs.declared.span.Spanned.{Spanned}
-use Rattle.wgsl_path.specs.declared.ident.Ident.{Ident}
-use Rattle.wgsl_path.specs.declared.path.PathOrigin.TheVariants.{Relative}
-use Rattle.wgsl_path.specs.declared.path.ModulePath.{ModulePath}
 use Rattle.wgsl_path.specs.Paths.{ident_of}
-use Rattle.wgsl_path.specs.Joining.{root_path}
-use Rattle.wgsl_token.specs.declared.token.Token.TheVariants as t
 use Rattle.wgsl_token.specs.declared.token.Fixed.TheVariants as f
 use Rattle.wgsl_template_spec.specs.declared.token.TemplateToken.{TemplateToken}
-use Rattle.wgsl_template_spec.specs.declared.token.TemplateToken.TheVariants.{Plain, TemplateArgsStart, TemplateArgsEnd}
+use Rattle.wgsl_template_spec.specs.declared.token.TemplateToken.TheVariants.{Plain}
 use Rattle.wgsl_template_spec.specs.declared.token.SpannedTemplateToken.{SpannedTemplateToken}
 use Rattle.wgsl_template_spec.specs.Kinds.{kind}
 use Rattle.wgsl_token_layout.specs.Laws.{without_places}
-use Rattle.wgsl_token_layout.specs.Commas.{Before, callee, operand, before, is_callee, ends_operand, is_closer, outer, groups, may_end_so, comma, AreAlike, same, first_has}
-use Rattle.wgsl_expressions.specs.declared.expression.Expression.{Expression}
+use Rattle.wgsl_token_layout.specs.Commas.{Before, before, is_callee, ends_operand, outer, groups, may_end_so, comma, AreAlike, same, first_has}
 use Rattle.wgsl_expressions.specs.declared.expression.Expression.TheVariants as exp
-use Rattle.wgsl_expressions.specs.declared.expression.FunctionCallOf.{FunctionCallOf}
 use Rattle.wgsl_expressions.specs.declared.expression.LiteralExpression.{LiteralExpression}
 use Rattle.wgsl_expressions.specs.declared.expression.LiteralExpression.TheVariants as lit
-use Rattle.wgsl_expressions.specs.declared.expression.TemplateArgOf.{TemplateArgOf}
-use Rattle.wgsl_expressions.specs.declared.expression.TypeExpressionOf.{TypeExpressionOf}
 use Rattle.wgsl_expressions.specs.Print.{is_number, is_numeric}
-use Rattle.wgsl_expressions.specs.Tree.{Exp, literal, parenthesized, component, indexed, unary, binary, call, named, Exps, nil, cons, exps, Typ, simple, templated}
-use Rattle.wgsl_expressions.specs.View.{node_tree, type_tree}
+use Rattle.wgsl_expressions.specs.Tree.{Exp, literal, parenthesized, component, indexed, call, named, Exps, exps, Typ}
+use Rattle.wgsl_expressions.specs.View.{node_tree}
 use Rattle.wgsl_expressions.proofs.Trees.{tree_of_literal, tree_of_parenthesized, tree_of_component, tree_of_indexed, tree_of_call, tree_of_named}
-use Rattle.wgsl_tree_tokens.specs.Tokens.{mark, word, literal_token, origin_tokens, supers_tokens, components_tokens, path_tokens, qualifier_tokens, exp_tokens, exps_tokens, more_tokens, typ_tokens}
-use Rattle.wgsl_tree_tokens.specs.Printable.{AreSpelled, ends_in_number, is_apart, are_apart, type_is_apart}
+use Rattle.wgsl_tree_tokens.specs.Tokens.{mark, word, literal_token, exp_tokens, more_tokens, typ_tokens}
+use Rattle.wgsl_tree_tokens.specs.Printable.{AreSpelled, ends_in_number, is_apart, are_apart}
 use Rattle.wgsl_tree_tokens.proofs.Expressions.{are_front}
-use Rattle.wgsl_shift_reduce.specs.Grammars.{Symbol, token, phrase}
+use Rattle.wgsl_shift_reduce.specs.Grammars.{token, phrase}
 use Rattle.wgsl_parts.specs.declared.part.Part.{Part}
 use Rattle.wgsl_parts.specs.declared.part.Part.TheVariants as part
-use Rattle.wgsl_parts.specs.declared.part.QualifiedName.{QualifiedName}
-use Rattle.wgsl_parts.specs.declared.label.Label.{Label}
 use Rattle.wgsl_parts.specs.declared.label.Label.TheVariants as l
-use Rattle.wgsl_parts.specs.declared.label.NameLabel.TheVariants as name
 use Rattle.wgsl_parts.specs.declared.label.ExpressionLabel.TheVariants as label
 use Rattle.wgsl_leaves.specs.Leaves as leaves
 use Rattle.wgsl_phrases.specs.declared.phrase.Phrase.{Phrase}
@@ -47,11 +32,11 @@ use Rattle.wgsl_make_expressions.specs.Lists as lists
 use Rattle.wgsl_grammar_tables.specs.Classes.{fixed_class, class_of}
 use Rattle.wgsl_read_back.proofs.Views.{View, view_tokens, Stands, a_token, an_ups, a_path, a_type, a_call, an_expression, some_expressions, ends_as}
 use Rattle.wgsl_read_back.proofs.Views as v
-use Rattle.wgsl_read_back.proofs.Items.{places_append, Again, Item, Ending, ListBack, Back, OneToken, moved}
-use Rattle.wgsl_read_back.proofs.Rows.{concat, RowBack, nil as no_more, more, list_more, Stood, stood_pass, Makes, make_of, makes_of, Rebuild, back_of, of_one, of_two, of_three, of_four}
-use Rattle.wgsl_read_back.proofs.Places.{mark_of, word_of, number_of, start_of, end_of}
+use Rattle.wgsl_read_back.proofs.Items.{places_append, OneToken, moved}
+use Rattle.wgsl_read_back.proofs.Rows.{nil as no_more, more, Stood, stood_pass, Makes, make_of, makes_of, Rebuild, back_of, of_one, of_three, of_four}
+use Rattle.wgsl_read_back.proofs.Places.{mark_of, word_of, number_of}
 use Rattle.wgsl_read_back.proofs.Families.{Expressed, Single, Typed, token_item, mark_item, pass_back}
-use Rattle.wgsl_read_back.proofs.Operands.{Named, Upped, Called, Separated, Listed, both, word_item, word_part}
+use Rattle.wgsl_read_back.proofs.Operands.{Called, Separated, Listed, both, word_item, word_part}
 
 -- ---- operands
 
@@ -88,8 +73,8 @@ literal_single n c rebuild {u = u} {y = y} x k is = (
   refl,
   either_way (is_number x),
   back_of n (token c ∷ []) (l.Expression label.ALiteral) (2 ∷ []) rebuild (v.token (Plain (literal_token x)) ∷ []) (v.expression (literal x)) refl
-  (of_one (λ ys. Makes (v.expression (literal x)) (make_of (l.Expression label.ALiteral) (2 ∷ []) ys)) makes)
-  (more (token_item c (Plain (literal_token x)) u y k is (ap class_of (sym is) ∙ k.class)) no_more) (λ d p. tt) (λ d p. literal_level x d p) (λ d p. literal_ends x)
+      (of_one (λ ys. Makes (v.expression (literal x)) (make_of (l.Expression label.ALiteral) (2 ∷ []) ys)) makes)
+      (more (token_item c (Plain (literal_token x)) u y k is (ap class_of (sym is) ∙ k.class)) no_more) (λ d p. tt) (λ d p. literal_level x d p) (λ d p. literal_ends x),
 )
   where
     makes : (a : Phrase Part) → Stood (a ∷ []) (v.token (Plain (literal_token x)) ∷ []) → Makes (v.expression (literal x)) (make_of (l.Expression label.ALiteral) (2 ∷ []) (a ∷ []))
@@ -109,8 +94,8 @@ named_single n m rebuild g = (
   g.1,
   refl,
   back_of n (phrase m ∷ []) (l.Expression label.Named) (2 ∷ []) rebuild (v.type g.0 ∷ []) (v.expression (named g.0)) (append-nil (typ_tokens g.0))
-  (of_one (λ ys. Makes (v.expression (named g.0)) (make_of (l.Expression label.Named) (2 ∷ []) ys)) (makes g.0))
-  (more g.2.item no_more) (λ c p. tt) g.2.level (λ c p. ap ends_operand (g.2.ended c p))
+      (of_one (λ ys. Makes (v.expression (named g.0)) (make_of (l.Expression label.Named) (2 ∷ []) ys)) (makes g.0))
+      (more g.2.item no_more) (λ c p. tt) g.2.level (λ c p. ap ends_operand (g.2.ended c p)),
 )
   where
     makes : (t : Typ) (a : Phrase Part) → Stood (a ∷ []) (v.type t ∷ []) → Makes (v.expression (named t)) (make_of (l.Expression label.Named) (2 ∷ []) (a ∷ []))
@@ -127,8 +112,8 @@ called_single n m rebuild g = (
   g.2,
   refl,
   back_of n (phrase m ∷ []) (l.Expression label.Called) (2 ∷ []) rebuild (v.call g.0 g.1 ∷ []) (v.expression (call g.0 g.1)) (append-nil (exp_tokens (call g.0 g.1)))
-  (of_one (λ ys. Makes (v.expression (call g.0 g.1)) (make_of (l.Expression label.Called) (2 ∷ []) ys)) (makes g.0 g.1))
-  (more g.3.item no_more) (λ c p. tt) g.3.level g.3.ended
+      (of_one (λ ys. Makes (v.expression (call g.0 g.1)) (make_of (l.Expression label.Called) (2 ∷ []) ys)) (makes g.0 g.1))
+      (more g.3.item no_more) (λ c p. tt) g.3.level g.3.ended,
 )
   where
     makes : (t : Typ) (xs : Exps) (a : Phrase Part) → Stood (a ∷ []) (v.call t xs ∷ []) → Makes (v.expression (call t xs)) (make_of (l.Expression label.Called) (2 ∷ []) (a ∷ []))
@@ -146,9 +131,9 @@ parenthesized_single n m rebuild {a = a} {c = c} {x = x} {z = z} i g j = (
   g.1,
   refl,
   back_of n (token (fixed_class f.ParenLeft) ∷ phrase m ∷ token (fixed_class f.ParenRight) ∷ []) (l.Expression label.Parenthesized) (1 ∷ 2 ∷ 1 ∷ []) rebuild
-  (v.token (mark f.ParenLeft) ∷ v.expression g.0 ∷ v.token (mark f.ParenRight) ∷ []) (v.expression (parenthesized g.0)) refl
-  (of_three (λ ys. Makes (v.expression (parenthesized g.0)) (make_of (l.Expression label.Parenthesized) (1 ∷ 2 ∷ 1 ∷ []) ys)) (makes g.0))
-  (more (mark_item f.ParenLeft a x i) (more g.2.item (more (mark_item f.ParenRight c z j) no_more))) (λ d p. tt) (λ d p. ap outer (g.2.level (before (kind (mark f.ParenLeft))) (is_callee d ∷ p))) (λ d p. refl)
+      (v.token (mark f.ParenLeft) ∷ v.expression g.0 ∷ v.token (mark f.ParenRight) ∷ []) (v.expression (parenthesized g.0)) refl
+      (of_three (λ ys. Makes (v.expression (parenthesized g.0)) (make_of (l.Expression label.Parenthesized) (1 ∷ 2 ∷ 1 ∷ []) ys)) (makes g.0))
+      (more (mark_item f.ParenLeft a x i) (more g.2.item (more (mark_item f.ParenRight c z j) no_more))) (λ d p. tt) (λ d p. ap outer (g.2.level (before (kind (mark f.ParenLeft))) (is_callee d ∷ p))) (λ d p. refl),
 )
   where
     makes : (e : Exp) (a b c : Phrase Part) → Stood (a ∷ b ∷ c ∷ []) (v.token (mark f.ParenLeft) ∷ v.expression e ∷ v.token (mark f.ParenRight) ∷ []) → Makes (v.expression (parenthesized e)) (make_of (l.Expression label.Parenthesized) (1 ∷ 2 ∷ 1 ∷ []) (a ∷ b ∷ c ∷ []))
@@ -168,9 +153,9 @@ component_single n m rebuild {b = b} {c = c} {y = y} {z = z} g i j =
       both (is_numeric g.0 || not (ends_in_number g.0)) (is_apart g.0) g.2 g.1,
       refl,
       back_of n (phrase m ∷ token (fixed_class f.Period) ∷ token 77 ∷ []) (l.Expression label.Component) (2 ∷ 1 ∷ 2 ∷ []) rebuild
-      (v.expression g.0 ∷ v.token (mark f.Period) ∷ v.token (word name) ∷ []) (v.expression (component g.0 name)) refl
-      (of_three (λ ys. Makes (v.expression (component g.0 name)) (make_of (l.Expression label.Component) (2 ∷ 1 ∷ 2 ∷ []) ys)) (makes g.0 name))
-      (more g.3.item (more (mark_item f.Period b y i) (more (word_item c z j) no_more))) (λ d p. tt) (λ d p. g.3.level d p) (λ d p. refl)
+          (v.expression g.0 ∷ v.token (mark f.Period) ∷ v.token (word name) ∷ []) (v.expression (component g.0 name)) refl
+          (of_three (λ ys. Makes (v.expression (component g.0 name)) (make_of (l.Expression label.Component) (2 ∷ 1 ∷ 2 ∷ []) ys)) (makes g.0 name))
+          (more g.3.item (more (mark_item f.Period b y i) (more (word_item c z j) no_more))) (λ d p. tt) (λ d p. g.3.level d p) (λ d p. refl),
     )
   where
     makes : (e : Exp) (name : List ℕ) (a b c : Phrase Part) → Stood (a ∷ b ∷ c ∷ []) (v.expression e ∷ v.token (mark f.Period) ∷ v.token (word name) ∷ []) → Makes (v.expression (component e name)) (make_of (l.Expression label.Component) (2 ∷ 1 ∷ 2 ∷ []) (a ∷ b ∷ c ∷ []))
@@ -190,10 +175,10 @@ indexed_single n m r rebuild {b = b} {d = d} {y = y} {w = w} g i h j = (
   both (is_apart g.0) (is_apart h.0) g.1 h.1,
   refl,
   back_of n (phrase m ∷ token (fixed_class f.BracketLeft) ∷ phrase r ∷ token (fixed_class f.BracketRight) ∷ []) (l.Expression label.Indexed) (2 ∷ 1 ∷ 2 ∷ 1 ∷ []) rebuild
-  (v.expression g.0 ∷ v.token (mark f.BracketLeft) ∷ v.expression h.0 ∷ v.token (mark f.BracketRight) ∷ []) (v.expression (indexed g.0 h.0)) refl
-  (of_four (λ ys. Makes (v.expression (indexed g.0 h.0)) (make_of (l.Expression label.Indexed) (2 ∷ 1 ∷ 2 ∷ 1 ∷ []) ys)) (makes g.0 h.0))
-  (more g.3.item (more (mark_item f.BracketLeft b y i) (more h.2.item (more (mark_item f.BracketRight d w j) no_more)))) (λ c p. tt)
-  (λ c p. ap outer (h.2.level (before (kind (mark f.BracketLeft))) (false ∷ (g.3.item.steps c p).opened)) ∙ g.3.level c p) (λ c p. refl)
+      (v.expression g.0 ∷ v.token (mark f.BracketLeft) ∷ v.expression h.0 ∷ v.token (mark f.BracketRight) ∷ []) (v.expression (indexed g.0 h.0)) refl
+      (of_four (λ ys. Makes (v.expression (indexed g.0 h.0)) (make_of (l.Expression label.Indexed) (2 ∷ 1 ∷ 2 ∷ 1 ∷ []) ys)) (makes g.0 h.0))
+      (more g.3.item (more (mark_item f.BracketLeft b y i) (more h.2.item (more (mark_item f.BracketRight d w j) no_more)))) (λ c p. tt)
+      (λ c p. ap outer (h.2.level (before (kind (mark f.BracketLeft))) (false ∷ (g.3.item.steps c p).opened)) ∙ g.3.level c p) (λ c p. refl),
 )
   where
     makes : (e k : Exp) (a b c d : Phrase Part) → Stood (a ∷ b ∷ c ∷ d ∷ []) (v.expression e ∷ v.token (mark f.BracketLeft) ∷ v.expression k ∷ v.token (mark f.BracketRight) ∷ [])
@@ -214,8 +199,8 @@ first_separated n m rebuild g = (
   [],
   both (is_apart g.0) true g.1 refl,
   back_of n (phrase m ∷ []) l.First (2 ∷ []) rebuild (v.expression g.0 ∷ []) (v.expressions (g.0 ∷ [])) refl
-  (of_one (λ ys. Makes (v.expressions (g.0 ∷ [])) (make_of l.First (2 ∷ []) ys)) (makes g.0))
-  (more g.2.item no_more) (λ c p. tt) g.2.level g.2.ended
+      (of_one (λ ys. Makes (v.expressions (g.0 ∷ [])) (make_of l.First (2 ∷ []) ys)) (makes g.0))
+      (more g.2.item no_more) (λ c p. tt) g.2.level g.2.ended,
 )
   where
     makes : (e : Exp) (a : Phrase Part) → Stood (a ∷ []) (v.expression e ∷ []) → Makes (v.expressions (e ∷ [])) (make_of l.First (2 ∷ []) (a ∷ []))
@@ -241,10 +226,10 @@ more_separated n m rebuild {b = b} {y = y} g i h = (
   g.1 ++ (h.0 ∷ []),
   apart_last (g.0 ∷ g.1) h.0 g.2 h.1,
   back_of n (phrase n ∷ token (fixed_class f.Comma) ∷ phrase m ∷ []) l.More (2 ∷ 1 ∷ 2 ∷ []) rebuild
-  (v.expressions (g.0 ∷ g.1) ∷ v.token comma ∷ v.expression h.0 ∷ []) (v.expressions (g.0 ∷ (g.1 ++ (h.0 ∷ []))))
-  (append_assoc (exp_tokens g.0) (more_tokens (exps g.1)) (comma ∷ (exp_tokens h.0 ++ [])) ∙ ap (λ z. exp_tokens g.0 ++ z) (sym (more_last g.1 h.0)))
-  (of_three (λ ys. Makes (v.expressions (g.0 ∷ (g.1 ++ (h.0 ∷ [])))) (make_of l.More (2 ∷ 1 ∷ 2 ∷ []) ys)) (makes g.0 g.1 h.0))
-  (more g.3.item (more (mark_item f.Comma b y i) (more h.2.item no_more))) (λ d p. tt) (λ d p. h.2.level _ _ ∙ g.3.level d p) (λ d p. h.2.ended _ _)
+      (v.expressions (g.0 ∷ g.1) ∷ v.token comma ∷ v.expression h.0 ∷ []) (v.expressions (g.0 ∷ (g.1 ++ (h.0 ∷ []))))
+      (append_assoc (exp_tokens g.0) (more_tokens (exps g.1)) (comma ∷ (exp_tokens h.0 ++ [])) ∙ ap (λ z. exp_tokens g.0 ++ z) (sym (more_last g.1 h.0)))
+      (of_three (λ ys. Makes (v.expressions (g.0 ∷ (g.1 ++ (h.0 ∷ [])))) (make_of l.More (2 ∷ 1 ∷ 2 ∷ []) ys)) (makes g.0 g.1 h.0))
+      (more g.3.item (more (mark_item f.Comma b y i) (more h.2.item no_more))) (λ d p. tt) (λ d p. h.2.level _ _ ∙ g.3.level d p) (λ d p. h.2.ended _ _),
 )
   where
     makes : (d : Exp) (ds : List Exp) (e : Exp) (a b c : Phrase Part) → Stood (a ∷ b ∷ c ∷ []) (v.expressions (d ∷ ds) ∷ v.token comma ∷ v.expression e ∷ []) → Makes (v.expressions (d ∷ (ds ++ (e ∷ [])))) (make_of l.More (2 ∷ 1 ∷ 2 ∷ []) (a ∷ b ∷ c ∷ []))
@@ -271,7 +256,7 @@ listed_without n m rebuild g =
           ended = b.ended d o;
           cont = λ t ts us may closer a. let P : List Bool → Type 0 = λ z. AreAlike (before (kind t)) (groups q.last z (kind t)) ts us in q.cont (t ∷ ts) (t ∷ us) (same t (subst P (sym (b.level d o)) a));
         };
-      }
+      },
     )
 
 pub listed_with : (n m : ℕ) → Rebuild n (phrase m ∷ []) l.Pass (2 ∷ []) → {a b : List SpannedTemplateToken} {x y : Phrase Part} → Separated m a x → OneToken (fixed_class f.Comma) b y
@@ -290,11 +275,11 @@ listed_with n m rebuild {a = a} {b = b} {x = x} {y = y} g k =
           last = q.last;
           ended = g.3.ended d o;
           cont = λ t ts us may closer h.
-          let P : List Bool → Type 0 = λ z. AreAlike (before (kind t)) (groups q.last z (kind t)) ts us in
-          let Q : List Bool → Type 0 = λ z. may_end_so z ≡ true in
-          moved (regroup t ts) refl (q.cont (comma ∷ t ∷ ts) (t ∷ us) (first_has t (g.3.ended d o) (subst Q (sym (g.3.level d o)) may) closer (subst P (sym (g.3.level d o)) h)));
+              let P : List Bool → Type 0 = λ z. AreAlike (before (kind t)) (groups q.last z (kind t)) ts us in
+              let Q : List Bool → Type 0 = λ z. may_end_so z ≡ true in
+              moved (regroup t ts) refl (q.cont (comma ∷ t ∷ ts) (t ∷ us) (first_has t (g.3.ended d o) (subst Q (sym (g.3.level d o)) may) closer (subst P (sym (g.3.level d o)) h)));
         };
-      }
+      },
     )
   where
     one_comma : without_places (b ++ []) ≡ comma ∷ []

@@ -1,10 +1,10 @@
 -- A row and what stands there, and what a production makes of it.
-use Rattle.std.proofs.Common.{◌≡◌, refl, sym, ap, ◌∙◌, subst, ℕ, Bool, true, List, [], ◌∷◌, ◌++◌, append_assoc, append-nil, map, Option, Some, None}
+use Rattle.std.proofs.Common.{◌≡◌, refl, sym, ap, ◌∙◌, subst, ℕ, Bool, true, List, [], ◌∷◌, ◌++◌, append_assoc, Option, Some, None}
 use Rattle.wgsl_path.specs.declared.span.Span.{Span}
 use Rattle.wgsl_template_spec.specs.declared.token.TemplateToken.{TemplateToken}
 use Rattle.wgsl_template_spec.specs.declared.token.SpannedTemplateToken.{SpannedTemplateToken}
 use Rattle.wgsl_token_layout.specs.Laws.{without_places}
-use Rattle.wgsl_token_layout.specs.Commas.{Before, before, is_closer, may_end_so, groups, AreAlike}
+use Rattle.wgsl_token_layout.specs.Commas.{Before, before, is_closer, may_end_so, groups}
 use Rattle.wgsl_template_spec.specs.Kinds.{kind}
 use Rattle.wgsl_tree_tokens.specs.Printable.{AreSpelled}
 use Rattle.wgsl_tree_tokens.proofs.Expressions.{are_front, are_behind, are_both}
@@ -12,7 +12,6 @@ use Rattle.wgsl_shift_reduce.specs.Grammars.{Symbol, phrase, Derives, Row, done,
 use Rattle.wgsl_parts.specs.declared.part.Part.{Part}
 use Rattle.wgsl_parts.specs.declared.part.Part.TheVariants.{Absent}
 use Rattle.wgsl_parts.specs.declared.label.Label.{Label}
-use Rattle.wgsl_phrases.specs.declared.phrase.Failure.{Failure}
 use Rattle.wgsl_phrases.specs.declared.phrase.Phrase.{Phrase}
 use Rattle.wgsl_phrases.specs.declared.gather.Extent.{Extent}
 use Rattle.wgsl_phrases.specs.Gathering.{either, joined, extent_of, extent_from, chosen}
@@ -55,7 +54,6 @@ again_row (more {s = s} {ss = ss} {v = v} {vs = vs} i r) w e =
     let q = again_row r p.rest p.rest_is in
     let P : List SpannedTemplateToken → Type 0 = λ z. RowFound (s ∷ ss) (v ∷ vs) z in
     subst P p.whole (record { values = a.value ∷ q.values; row = more_again a q.row })
-
 again_row (list_more {n = n} {s = s} {ss = ss} {v = v} {t = t} {vs = vs} l i e c r) w h =
     let p = split w (view_tokens v) (t ∷ concat vs) h in
     let a = l.again p.front p.front_is in
@@ -70,7 +68,6 @@ spelled_row nil h = tt
 spelled_row (more {v = v} {vs = vs} {u = u} {w = w} i r) h =
     let all = subst AreSpelled (places_append u w) h in
     are_both (view_tokens v) (concat vs) (i.spelled (are_front (without_places u) (without_places w) all)) (spelled_row r (are_behind (without_places u) (without_places w) all))
-
 spelled_row (list_more {v = v} {t = t} {vs = vs} {u = u} {k = k} {w = w} l i e c r) h =
     let all = subst AreSpelled (places_append u (k ++ w)) h in
     let behind = subst AreSpelled (places_append k w) (are_behind (without_places u) (without_places (k ++ w)) all) in
@@ -99,7 +96,6 @@ steps_row (more {v = v} {vs = vs} {u = u} {w = w} i r) b o fine =
       cont = cont_as b o (without_places u ++ without_places w) (view_tokens v ++ concat vs) (without_places (u ++ w)) (view_tokens v ++ concat vs) q.last q.opened (sym (places_append u w)) refl
           (cont_then b o (without_places u) (view_tokens v) p.last p.opened (without_places w) (concat vs) q.last q.opened p.cont q.cont);
     }
-
 steps_row (list_more {v = v} {t = t} {vs = vs} {u = u} {k = k} {w = w} l i e c r) b o fine =
     let p = l.ending b o in
     let q = steps_row r (before (kind t)) (groups p.last o (kind t)) fine.1 in
@@ -123,7 +119,6 @@ Stood (y ∷ ys) (v ∷ vs) = (Stands y.part v × (y.failure ≡ None)) × Stood
 stood_back : {ss : List Symbol} {vs : List View} {u : List SpannedTemplateToken} {xs : List (Phrase Part)} → RowBack ss vs u xs → Stood xs vs
 stood_back nil = tt
 stood_back (more i r) = ((i.stands, i.passes), stood_back r)
-
 stood_back (list_more l i e c r) = ((l.stands, l.passes), ((i.stands, i.passes), stood_back r))
 
 stood_again : {ss : List Symbol} {vs : List View} {u : List SpannedTemplateToken} {xs : List (Phrase Part)} → RowAgain ss vs u xs → Stood xs vs
@@ -184,9 +179,9 @@ module _ (n : ℕ) (ss : List Symbol) (label : Label) (pattern : List ℕ) (rebu
           stands = one.stands;
           passes = one.passes;
           again = λ w e.
-          let q = again_row r w (e ∙ sym tokens) in
-          let m = makes q.values (stood_again q.row) in
-          record { value = make_of label pattern q.values; derives = rebuild w q.values (row_of q.row); stands = m.stands; passes = m.passes };
+              let q = again_row r w (e ∙ sym tokens) in
+              let m = makes q.values (stood_again q.row) in
+              record { value = make_of label pattern q.values; derives = rebuild w q.values (row_of q.row); stands = m.stands; passes = m.passes };
           spelled = λ h. subst AreSpelled tokens (spelled_row r h);
           steps = λ b o. let q = steps_row r b o (fine b o) in record {
             last = q.last;

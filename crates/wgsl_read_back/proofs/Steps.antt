@@ -1,5 +1,5 @@
 -- What each production of expressions makes of what stands in its row.
-use Rattle.std.proofs.Common.{◌≡◌, refl, ℕ, ◌==◌, true, false, if◌then◌else◌, List, [], ◌∷◌, ◌++◌}
+use Rattle.std.proofs.Common.{ℕ, ◌==◌, true, false, if◌then◌else◌, List, [], ◌∷◌, ◌++◌}
 use Rattle.wgsl_operators.specs.declared.BinaryOperator.{BinaryOperator}
 use Rattle.wgsl_operators.specs.declared.UnaryOperator.{UnaryOperator}
 use Rattle.wgsl_token.specs.declared.token.Fixed.TheVariants as f

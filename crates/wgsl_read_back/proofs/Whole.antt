@@ -1,5 +1,5 @@
 -- What is printed of an expression that a text derives is read as it again.
-use Rattle.std.proofs.Common.{◌≡◌, refl, sym, ap, ◌∙◌, subst, ℕ, nat_lt, true, List, [], ◌∷◌, ◌++◌, append-nil, Some, None}
+use Rattle.std.proofs.Common.{◌≡◌, refl, sym, ap, ◌∙◌, subst, ℕ, nat_lt, true, List, [], append-nil, None}
 use Rattle.wgsl_path.specs.declared.span.Span.{Span}
 use Rattle.wgsl_path.specs.declared.span.Spanned.{Spanned}
 use Rattle.wgsl_template_spec.specs.declared.token.SpannedTemplateToken.{SpannedTemplateToken}
@@ -12,7 +12,7 @@ use Rattle.wgsl_expressions.specs.Tree.{Exp}
 use Rattle.wgsl_expressions.specs.View.{node_tree}
 use Rattle.wgsl_expressions.specs.Print.{exp_text}
 use Rattle.wgsl_tree_tokens.specs.Tokens.{exp_tokens}
-use Rattle.wgsl_tree_tokens.specs.Printable.{AreSpelled, is_apart}
+use Rattle.wgsl_tree_tokens.specs.Printable.{AreSpelled}
 use Rattle.wgsl_tree_tokens.proofs.Expressions.{expressions_are_laid_out}
 use Rattle.wgsl_tree_tokens.proofs.Spelled.{read_spelled}
 use Rattle.wgsl_shift_reduce.specs.Grammars.{phrase, Derives}
@@ -31,12 +31,11 @@ use Rattle.wgsl_grammar_tables.proofs.Written.{goal_is}
 use Rattle.wgsl_grammar_tables.proofs.Examples as examples
 use Rattle.wgsl_reading.specs.declared.driver.Start.TheVariants.{Expression}
 use Rattle.wgsl_reading.specs.Phrases.{grammar, number, tables_of}
-use Rattle.wgsl_reading.specs.Readings.{goal_of, IsPart}
+use Rattle.wgsl_reading.specs.Readings.{goal_of}
 use Rattle.wgsl_parser.specs.Texts.{IsParsed}
 use Rattle.wgsl_read_back.specs.Laws.{ExpressionsAreReadBack}
 use Rattle.wgsl_read_back.proofs.Views.{Stands, an_expression}
 use Rattle.wgsl_read_back.proofs.Views as v
-use Rattle.wgsl_read_back.proofs.Items.{Again, Back}
 use Rattle.wgsl_read_back.proofs.Families.{Expressed}
 use Rattle.wgsl_read_back.proofs.Derived.{derived}
 

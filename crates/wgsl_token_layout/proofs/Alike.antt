@@ -1,5 +1,5 @@
 -- Kinds of tokens that differ in last commas alone are read alike by the grammar.
-use Rattle.std.proofs.Common.{◌≡◌, refl, sym, ap, ◌∙◌, subst, Bool, true, false, List, [], ◌∷◌, ◌++◌, append_assoc, append-nil}
+use Rattle.std.proofs.Common.{◌≡◌, refl, sym, ap, ◌∙◌, subst, Bool, true, false, List, [], ◌∷◌, ◌++◌, append_assoc}
 use Rattle.wgsl_template_spec.specs.declared.kind.Kind.{Kind}
 use Rattle.wgsl_template_spec.specs.declared.kind.Kind.TheVariants as k
 use Rattle.wgsl_template_spec.specs.Grammar.{is_prefix, is_multiplicative, is_additive, is_bitwise, is_logical, IsQualified, id, within, IsRelative, once, again, IsName, qualified, from_package, from_super, IsType, named, templated, IsPrimary, literal, type, call, parenthesized, IsArguments, no_argument, last_argument, more_arguments, IsSingular, primary, member, index, IsUnary, singular, prefixed, IsProduct, unary, times, IsSum, product, plus, IsShift, sum, shifted, IsRelational, shift, compared, IsBitwise, two_unaries, more_unaries, IsLogical, two_relations, more_relations, IsItem, relational, bitwise, IsExpression, item, logical, IsListBody, last_item, last_and_comma, more_items}

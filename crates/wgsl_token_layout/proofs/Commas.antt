@@ -1,5 +1,5 @@
 -- Tokens that differ in last commas alone are told alike.
-use Rattle.std.proofs.Common.{◌≡◌, refl, sym, ap, ◌∙◌, subst, ℕ, Bool, true, false, ◌&&◌, List, [], ◌∷◌, ◌++◌, map}
+use Rattle.std.proofs.Common.{◌≡◌, refl, sym, ap, ◌∙◌, subst, Bool, true, false, ◌&&◌, List, [], ◌∷◌}
 use Rattle.std.specs.Prelude.{if◌then◌else◌}
 use Rattle.wgsl_lex.proofs.Bools.{and_false}
 use Rattle.wgsl_token.specs.declared.token.Token.{Token}
@@ -8,21 +8,17 @@ use Rattle.wgsl_token.specs.declared.token.Fixed.TheVariants as f
 use Rattle.wgsl_template_spec.specs.declared.kind.Kind.{Kind}
 use Rattle.wgsl_template_spec.specs.declared.kind.Kind.TheVariants as k
 use Rattle.wgsl_template_spec.specs.declared.token.Bracket.{Bracket}
-use Rattle.wgsl_template_spec.specs.declared.token.Bracket.TheVariants as b
 use Rattle.wgsl_template_spec.specs.declared.token.TemplateToken.{TemplateToken}
 use Rattle.wgsl_template_spec.specs.declared.token.TemplateToken.TheVariants.{Plain, TemplateArgsStart, TemplateArgsEnd}
-use Rattle.wgsl_template_spec.specs.declared.token.SpannedTemplateToken.{SpannedTemplateToken}
 use Rattle.wgsl_template_spec.specs.Kinds.{kind}
-use Rattle.wgsl_template_spec.specs.Laws.{BeginsWithList}
 use Rattle.wgsl_template_spec.specs.Tokens.{is_word, is_in_list, behind, start}
 use Rattle.wgsl_token_layout.specs.Commas.{Before, fresh, before, ends_operand, is_closer, groups, may_end_so, comma, AreAlike}
 use Rattle.wgsl_token_layout.specs.Commas as t
-use Rattle.wgsl_token_layout.specs.Laws.{without_places, LaidOutButForLastCommas}
-use Rattle.wgsl_token_layout.proofs.Pieces.{greater, less}
+use Rattle.wgsl_token_layout.specs.Laws.{LaidOutButForLastCommas}
+use Rattle.wgsl_token_layout.proofs.Pieces.{less}
 use Rattle.wgsl_token_layout.proofs.Ahead.{is_own, greater_token, ahead, kinds_of}
 use Rattle.wgsl_token_layout.proofs.Alike.{Alike, none, same, first_has, second_has, list_reads}
 use Rattle.wgsl_token_layout.proofs.Marked.{own_list, Lists, Marked, end, begin, less_sign, as_is, marked, found}
-use Rattle.wgsl_token_layout.proofs.Marked as m
 
 -- the other way round
 flipped : {b : Before} {o : List Bool} {ts us : List TemplateToken} → AreAlike b o ts us → AreAlike b o us ts

@@ -1,18 +1,17 @@
 -- The tokens of a text are spelled.
-use Rattle.std.proofs.Common.{◌≡◌, refl, sym, ap, ◌∙◌, subst, ℕ, zero, suc, Bool, true, false, ◌&&◌, List, [], ◌∷◌, take, drop, codes, Option, Some, None}
+use Rattle.std.proofs.Common.{◌≡◌, refl, subst, ℕ, zero, suc, true, false, List, [], ◌∷◌, take, drop, codes, Option, Some}
 use Rattle.std.specs.Str.{all_scalars}
 use Rattle.std.proofs.Math.Utf8.{scalar}
 use Rattle.std.proofs.lemmas.Bool.{and_parts, and_from}
 use Rattle.unicode_ident.proofs.Computing.{unicode_ident}
 use Rattle.wgsl_token.specs.declared.token.Token.{Token}
 use Rattle.wgsl_token.specs.declared.token.Token.TheVariants.{Invalid}
-use Rattle.wgsl_lex.specs.Tokens.{fixed_of, form, token}
+use Rattle.wgsl_lex.specs.Tokens.{fixed_of}
 use Rattle.wgsl_lex.specs.Pieces.{StandsFirst, trivia_first, token_first, nothing_first}
 use Rattle.wgsl_lex.proofs.Forms.{word_form}
 use Rattle.wgsl_template_spec.specs.declared.token.TemplateToken.{TemplateToken}
-use Rattle.wgsl_template_spec.specs.declared.token.TemplateToken.TheVariants.{Plain, TemplateArgsStart, TemplateArgsEnd}
 use Rattle.wgsl_template_spec.specs.declared.token.SpannedTemplateToken.{SpannedTemplateToken}
-use Rattle.wgsl_template_spec.specs.Tokens.{State, past, after, IsFirst, Reads, nothing, behind_trivia, a_token, Stands, closing, asked, plain}
+use Rattle.wgsl_template_spec.specs.Tokens.{State, past, after, Reads, nothing, behind_trivia, a_token, Stands, closing, asked, plain}
 use Rattle.wgsl_token_layout.specs.Laws.{without_places}
 use Rattle.wgsl_tree_tokens.specs.Printable.{IsSpelled, AreSpelled}
 
