@@ -12,7 +12,7 @@ use Rattle.wgsl_template_spec.specs.declared.token.TemplateToken.TheVariants.{Pl
 use Rattle.wgsl_template_spec.specs.declared.token.SpannedTemplateToken.{SpannedTemplateToken}
 use Rattle.wgsl_template_spec.specs.Kinds.{kind}
 use Rattle.wgsl_token_layout.specs.Laws.{without_places}
-use Rattle.wgsl_token_layout.specs.Commas.{Before, before, groups}
+use Rattle.wgsl_token_layout.specs.OptionalMarks.{Before, before, groups}
 use Rattle.wgsl_expressions.specs.declared.expression.Expression.TheVariants as exp
 use Rattle.wgsl_expressions.specs.Print.{is_numeric}
 use Rattle.wgsl_expressions.specs.Tree.{Exp, unary, binary, Typ}
@@ -57,9 +57,9 @@ token_item c t u x k is class = record {
   again = token_again c t class;
   spelled = λ h. subst AreSpelled (ap without_places (sym k.whole) ∙ ap (λ z. z ∷ []) is) h;
   steps = λ b o. record {
-    last = before (kind t);
+    last = before t;
     opened = groups b o (kind t);
-    cont = cont_as b o (t ∷ []) (t ∷ []) (without_places u) (t ∷ []) (before (kind t)) (groups b o (kind t)) (sym (ap without_places (sym k.whole) ∙ ap (λ z. z ∷ []) is)) refl (token_steps t b o).cont;
+    cont = cont_as b o (t ∷ []) (t ∷ []) (without_places u) (t ∷ []) (before t) (groups b o (kind t)) (sym (ap without_places (sym k.whole) ∙ ap (λ z. z ∷ []) is)) refl (token_steps t b o).cont;
   };
 }
 

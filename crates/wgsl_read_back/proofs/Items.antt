@@ -4,7 +4,7 @@ use Rattle.wgsl_template_spec.specs.declared.token.TemplateToken.{TemplateToken}
 use Rattle.wgsl_template_spec.specs.declared.token.SpannedTemplateToken.{SpannedTemplateToken}
 use Rattle.wgsl_template_spec.specs.Kinds.{kind}
 use Rattle.wgsl_token_layout.specs.Laws.{without_places}
-use Rattle.wgsl_token_layout.specs.Commas.{Before, before, ends_operand, is_closer, may_end_so, groups, AreAlike, same}
+use Rattle.wgsl_token_layout.specs.OptionalMarks.{Before, before, ends_operand, is_closer, may_end_so, groups, AreAlike, same}
 use Rattle.wgsl_tree_tokens.specs.Printable.{AreSpelled}
 use Rattle.wgsl_shift_reduce.specs.Grammars.{Symbol, token, phrase, Derives, a_token}
 use Rattle.wgsl_parts.specs.declared.part.Part.{Part}
@@ -81,7 +81,7 @@ pub record Back (n : ℕ) (v : View) (u : List SpannedTemplateToken) (x : Phrase
 pub record Ending (b : Before) (o : List Bool) (u v : List TemplateToken) : Type 0 where
   pub last : Before
   pub ended : ends_operand last ≡ true
-  pub cont : (t : TemplateToken) (ts us : List TemplateToken) → may_end_so o ≡ true → is_closer (kind t) ≡ true → AreAlike (before (kind t)) (groups last o (kind t)) ts us → AreAlike b o (u ++ (t ∷ ts)) (v ++ (t ∷ us))
+  pub cont : (t : TemplateToken) (ts us : List TemplateToken) → may_end_so o ≡ true → is_closer (kind t) ≡ true → AreAlike (before t) (groups last o (kind t)) ts us → AreAlike b o (u ++ (t ∷ ts)) (v ++ (t ∷ us))
 
 pub record ListBack (n : ℕ) (v : View) (u : List SpannedTemplateToken) (x : Phrase Part) : Type 0 where
   pub stands : Stands x.part v
@@ -106,4 +106,4 @@ token_again c t e (k ∷ []) h =
 token_again c t e (k ∷ l ∷ w) h = absurd cc
 
 abbrev pub token_steps : (t : TemplateToken) (b : Before) (o : List Bool) → Steps b o (t ∷ []) (t ∷ [])
-token_steps t b o = record { last = before (kind t); opened = groups b o (kind t); cont = λ ts us a. same t a }
+token_steps t b o = record { last = before t; opened = groups b o (kind t); cont = λ ts us a. same t a }

@@ -10,7 +10,7 @@ use Rattle.wgsl_template_spec.specs.declared.token.TemplateToken.TheVariants.{Te
 use Rattle.wgsl_template_spec.specs.declared.token.SpannedTemplateToken.{SpannedTemplateToken}
 use Rattle.wgsl_template_spec.specs.Kinds.{kind}
 use Rattle.wgsl_token_layout.specs.Laws.{without_places}
-use Rattle.wgsl_token_layout.specs.Commas.{Before, is_callee, outer, groups}
+use Rattle.wgsl_token_layout.specs.OptionalMarks.{Before, is_callee, outer, groups}
 use Rattle.wgsl_expressions.specs.declared.expression.Expression.{Expression}
 use Rattle.wgsl_expressions.specs.declared.expression.TemplateArgOf.{TemplateArgOf}
 use Rattle.wgsl_expressions.specs.Tree.{Exp, Exps, nil, exps, Typ, simple, templated}

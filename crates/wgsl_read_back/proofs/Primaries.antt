@@ -9,7 +9,7 @@ use Rattle.wgsl_template_spec.specs.declared.token.TemplateToken.TheVariants.{Pl
 use Rattle.wgsl_template_spec.specs.declared.token.SpannedTemplateToken.{SpannedTemplateToken}
 use Rattle.wgsl_template_spec.specs.Kinds.{kind}
 use Rattle.wgsl_token_layout.specs.Laws.{without_places}
-use Rattle.wgsl_token_layout.specs.Commas.{Before, before, is_callee, ends_operand, outer, groups, may_end_so, comma, AreAlike, same, first_has}
+use Rattle.wgsl_token_layout.specs.OptionalMarks.{Before, before, is_callee, ends_operand, outer, groups, may_end_so, comma, AreAlike, same, first_has}
 use Rattle.wgsl_expressions.specs.declared.expression.Expression.TheVariants as exp
 use Rattle.wgsl_expressions.specs.declared.expression.LiteralExpression.{LiteralExpression}
 use Rattle.wgsl_expressions.specs.declared.expression.LiteralExpression.TheVariants as lit
@@ -60,7 +60,7 @@ literal_level (lit.Bool false) b p = refl
 literal_level (lit.AbstractInt z) b p = refl
 literal_level _ b p = refl
 
-literal_ends : (x : LiteralExpression) → ends_operand (before (kind (Plain (literal_token x)))) ≡ true
+literal_ends : (x : LiteralExpression) → ends_operand (before (Plain (literal_token x))) ≡ true
 literal_ends (lit.Bool true) = refl
 literal_ends (lit.Bool false) = refl
 literal_ends (lit.AbstractInt z) = refl
@@ -133,7 +133,7 @@ parenthesized_single n m rebuild {a = a} {c = c} {x = x} {z = z} i g j = (
   back_of n (token (fixed_class f.ParenLeft) ∷ phrase m ∷ token (fixed_class f.ParenRight) ∷ []) (l.Expression label.Parenthesized) (1 ∷ 2 ∷ 1 ∷ []) rebuild
       (v.token (mark f.ParenLeft) ∷ v.expression g.0 ∷ v.token (mark f.ParenRight) ∷ []) (v.expression (parenthesized g.0)) refl
       (of_three (λ ys. Makes (v.expression (parenthesized g.0)) (make_of (l.Expression label.Parenthesized) (1 ∷ 2 ∷ 1 ∷ []) ys)) (makes g.0))
-      (more (mark_item f.ParenLeft a x i) (more g.2.item (more (mark_item f.ParenRight c z j) no_more))) (λ d p. tt) (λ d p. ap outer (g.2.level (before (kind (mark f.ParenLeft))) (is_callee d ∷ p))) (λ d p. refl),
+      (more (mark_item f.ParenLeft a x i) (more g.2.item (more (mark_item f.ParenRight c z j) no_more))) (λ d p. tt) (λ d p. ap outer (g.2.level (before (mark f.ParenLeft)) (is_callee d ∷ p))) (λ d p. refl),
 )
   where
     makes : (e : Exp) (a b c : Phrase Part) → Stood (a ∷ b ∷ c ∷ []) (v.token (mark f.ParenLeft) ∷ v.expression e ∷ v.token (mark f.ParenRight) ∷ []) → Makes (v.expression (parenthesized e)) (make_of (l.Expression label.Parenthesized) (1 ∷ 2 ∷ 1 ∷ []) (a ∷ b ∷ c ∷ []))
@@ -178,7 +178,7 @@ indexed_single n m r rebuild {b = b} {d = d} {y = y} {w = w} g i h j = (
       (v.expression g.0 ∷ v.token (mark f.BracketLeft) ∷ v.expression h.0 ∷ v.token (mark f.BracketRight) ∷ []) (v.expression (indexed g.0 h.0)) refl
       (of_four (λ ys. Makes (v.expression (indexed g.0 h.0)) (make_of (l.Expression label.Indexed) (2 ∷ 1 ∷ 2 ∷ 1 ∷ []) ys)) (makes g.0 h.0))
       (more g.3.item (more (mark_item f.BracketLeft b y i) (more h.2.item (more (mark_item f.BracketRight d w j) no_more)))) (λ c p. tt)
-      (λ c p. ap outer (h.2.level (before (kind (mark f.BracketLeft))) (false ∷ (g.3.item.steps c p).opened)) ∙ g.3.level c p) (λ c p. refl),
+      (λ c p. ap outer (h.2.level (before (mark f.BracketLeft)) (false ∷ (g.3.item.steps c p).opened)) ∙ g.3.level c p) (λ c p. refl),
 )
   where
     makes : (e k : Exp) (a b c d : Phrase Part) → Stood (a ∷ b ∷ c ∷ d ∷ []) (v.expression e ∷ v.token (mark f.BracketLeft) ∷ v.expression k ∷ v.token (mark f.BracketRight) ∷ [])
@@ -254,7 +254,7 @@ listed_without n m rebuild g =
         ending = λ d o. let q = b.item.steps d o in record {
           last = q.last;
           ended = b.ended d o;
-          cont = λ t ts us may closer a. let P : List Bool → Type 0 = λ z. AreAlike (before (kind t)) (groups q.last z (kind t)) ts us in q.cont (t ∷ ts) (t ∷ us) (same t (subst P (sym (b.level d o)) a));
+          cont = λ t ts us may closer a. let P : List Bool → Type 0 = λ z. AreAlike (before t) (groups q.last z (kind t)) ts us in q.cont (t ∷ ts) (t ∷ us) (same t (subst P (sym (b.level d o)) a));
         };
       },
     )
@@ -275,7 +275,7 @@ listed_with n m rebuild {a = a} {b = b} {x = x} {y = y} g k =
           last = q.last;
           ended = g.3.ended d o;
           cont = λ t ts us may closer h.
-              let P : List Bool → Type 0 = λ z. AreAlike (before (kind t)) (groups q.last z (kind t)) ts us in
+              let P : List Bool → Type 0 = λ z. AreAlike (before t) (groups q.last z (kind t)) ts us in
               let Q : List Bool → Type 0 = λ z. may_end_so z ≡ true in
               moved (regroup t ts) refl (q.cont (comma ∷ t ∷ ts) (t ∷ us) (first_has t (g.3.ended d o) (subst Q (sym (g.3.level d o)) may) closer (subst P (sym (g.3.level d o)) h)));
         };

@@ -4,7 +4,7 @@ use Rattle.wgsl_path.specs.declared.span.Span.{Span}
 use Rattle.wgsl_template_spec.specs.declared.token.TemplateToken.{TemplateToken}
 use Rattle.wgsl_template_spec.specs.declared.token.SpannedTemplateToken.{SpannedTemplateToken}
 use Rattle.wgsl_token_layout.specs.Laws.{without_places}
-use Rattle.wgsl_token_layout.specs.Commas.{Before, before, is_closer, may_end_so, groups}
+use Rattle.wgsl_token_layout.specs.OptionalMarks.{Before, before, is_closer, may_end_so, groups}
 use Rattle.wgsl_template_spec.specs.Kinds.{kind}
 use Rattle.wgsl_tree_tokens.specs.Printable.{AreSpelled}
 use Rattle.wgsl_tree_tokens.proofs.Expressions.{are_front, are_behind, are_both}
@@ -76,14 +76,14 @@ spelled_row (list_more {v = v} {t = t} {vs = vs} {u = u} {k = k} {w = w} l i e c
 
 -- the tokens of a list and what closes it
 pub closing : (b : Before) (o : List Bool) (u v : List TemplateToken) (t : TemplateToken) (x y : List TemplateToken) (d : Before) (q : List Bool) → (e : Ending b o u v) → may_end_so o ≡ true → is_closer (kind t) ≡ true
-    → Cont (before (kind t)) (groups e.last o (kind t)) x y d q → Cont b o (u ++ (t ∷ x)) (v ++ (t ∷ y)) d q
+    → Cont (before t) (groups e.last o (kind t)) x y d q → Cont b o (u ++ (t ∷ x)) (v ++ (t ∷ y)) d q
 closing b o u v t x y d q e may closer f ts us a = moved (sym (append_assoc u (t ∷ x) ts)) (sym (append_assoc v (t ∷ y) us)) (e.cont t (x ++ ts) (y ++ us) may closer (f ts us a))
 
 -- each list stands where it may end in a comma
 abbrev pub Fine : {ss : List Symbol} {vs : List View} {u : List SpannedTemplateToken} {xs : List (Phrase Part)} → RowBack ss vs u xs → Before → List Bool → Type 0
 Fine nil b o = Unit {0}
 Fine (more i r) b o = Fine r (i.steps b o).last (i.steps b o).opened
-Fine (list_more {t = t} l i e c r) b o = (may_end_so o ≡ true) × Fine r (before (kind t)) (groups (l.ending b o).last o (kind t))
+Fine (list_more {t = t} l i e c r) b o = (may_end_so o ≡ true) × Fine r (before t) (groups (l.ending b o).last o (kind t))
 
 abbrev pub steps_row : {ss : List Symbol} {vs : List View} {u : List SpannedTemplateToken} {xs : List (Phrase Part)} → (r : RowBack ss vs u xs) → (b : Before) (o : List Bool) → Fine r b o → Steps b o (without_places u) (concat vs)
 steps_row nil b o fine = record { last = b; opened = o; cont = λ ts us a. a }
@@ -98,7 +98,7 @@ steps_row (more {v = v} {vs = vs} {u = u} {w = w} i r) b o fine =
     }
 steps_row (list_more {v = v} {t = t} {vs = vs} {u = u} {k = k} {w = w} l i e c r) b o fine =
     let p = l.ending b o in
-    let q = steps_row r (before (kind t)) (groups p.last o (kind t)) fine.1 in
+    let q = steps_row r (before t) (groups p.last o (kind t)) fine.1 in
     record {
       last = q.last;
       opened = q.opened;

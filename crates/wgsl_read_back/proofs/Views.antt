@@ -5,7 +5,7 @@ use Rattle.wgsl_path.specs.declared.path.PathOrigin.TheVariants.{Relative}
 use Rattle.wgsl_path.specs.declared.path.ModulePath.{ModulePath}
 use Rattle.wgsl_token.specs.declared.token.Fixed.TheVariants as f
 use Rattle.wgsl_template_spec.specs.declared.token.TemplateToken.{TemplateToken}
-use Rattle.wgsl_token_layout.specs.Commas.{Before, callee, ends_operand}
+use Rattle.wgsl_token_layout.specs.OptionalMarks.{Before, callee, ends_operand}
 use Rattle.wgsl_expressions.specs.declared.expression.Expression.{Expression}
 use Rattle.wgsl_expressions.specs.declared.expression.FunctionCallOf.{FunctionCallOf}
 use Rattle.wgsl_expressions.specs.declared.expression.TypeExpressionOf.{TypeExpressionOf}

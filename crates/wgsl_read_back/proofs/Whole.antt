@@ -5,8 +5,8 @@ use Rattle.wgsl_path.specs.declared.span.Spanned.{Spanned}
 use Rattle.wgsl_template_spec.specs.declared.token.SpannedTemplateToken.{SpannedTemplateToken}
 use Rattle.wgsl_template_spec.specs.Tokens.{IsLexed, start as at_start}
 use Rattle.wgsl_token_layout.specs.Laws.{without_places}
-use Rattle.wgsl_token_layout.specs.Commas.{fresh, AreAlike, none}
-use Rattle.wgsl_token_layout.proofs.Commas.{laid_out_but_for_last_commas}
+use Rattle.wgsl_token_layout.specs.OptionalMarks.{outside, AreAlike, none}
+use Rattle.wgsl_token_layout.proofs.OptionalMarks.{laid_out_but_for_optional_marks}
 use Rattle.wgsl_expressions.specs.declared.expression.Expression.{Expression as Node}
 use Rattle.wgsl_expressions.specs.Tree.{Exp}
 use Rattle.wgsl_expressions.specs.View.{node_tree}
@@ -75,15 +75,15 @@ module _ (text : List ℕ) (x : Spanned Node) (p : IsParsed Expression text (par
   spelled : AreSpelled (exp_tokens good.0)
   spelled = good.2.item.spelled (read_spelled at_start p.lexed.characters p.tokens p.lexed.lexes.0 [] p.lexed.lexes.1 p.lexed.are_scalars)
 
-  alike : AreAlike fresh [] (without_places p.tokens) (exp_tokens good.0)
+  alike : AreAlike outside [] (without_places p.tokens) (exp_tokens good.0)
   alike =
-      let q = good.2.item.steps fresh [] in
-      let P : List _ × List _ → Type 0 = λ z. AreAlike fresh [] z.0 z.1 in
+      let q = good.2.item.steps outside [] in
+      let P : List _ × List _ → Type 0 = λ z. AreAlike outside [] z.0 z.1 in
       subst P (λ i. (append-nil (without_places p.tokens) i, append-nil (exp_tokens good.0) i)) (q.cont [] [] none)
 
   printed : (y : Spanned Node) × IsParsed Expression (exp_text good.0) (part.Expression y) × (node_tree y ≡ good.0)
   printed =
-      let found = laid_out_but_for_last_commas text (exp_text good.0) p.tokens (exp_tokens good.0) p.lexed alike (expressions_are_laid_out good.0 spelled good.1) in
+      let found = laid_out_but_for_optional_marks text (exp_text good.0) p.tokens (exp_tokens good.0) p.lexed alike (expressions_are_laid_out good.0 spelled good.1) in
       let again = good.2.item.again found.0 found.2 in
       let P : ℕ → Type 0 = λ k. Derives grammar (phrase k) found.0 again.value in
       let read = is_read found.0 again.value (subst P (sym goal_is_expression) again.derives) in

@@ -1,21 +1,40 @@
--- Kinds of tokens that differ in last commas alone are read alike by the grammar.
+-- Kinds of tokens that differ in marks alone that may be left out are read alike by the grammar.
 use Rattle.std.proofs.Common.{◌≡◌, refl, sym, ap, ◌∙◌, subst, Bool, true, false, List, [], ◌∷◌, ◌++◌, append_assoc}
 use Rattle.wgsl_template_spec.specs.declared.kind.Kind.{Kind}
 use Rattle.wgsl_template_spec.specs.declared.kind.Kind.TheVariants as k
 use Rattle.wgsl_template_spec.specs.Grammar.{is_prefix, is_multiplicative, is_additive, is_bitwise, is_logical, IsQualified, id, within, IsRelative, once, again, IsName, qualified, from_package, from_super, IsType, named, templated, IsPrimary, literal, type, call, parenthesized, IsArguments, no_argument, last_argument, more_arguments, IsSingular, primary, member, index, IsUnary, singular, prefixed, IsProduct, unary, times, IsSum, product, plus, IsShift, sum, shifted, IsRelational, shift, compared, IsBitwise, two_unaries, more_unaries, IsLogical, two_relations, more_relations, IsItem, relational, bitwise, IsExpression, item, logical, IsListBody, last_item, last_and_comma, more_items}
-use Rattle.wgsl_token_layout.specs.Commas.{Before, fresh, callee, operand, before, is_callee, ends_operand, is_closer, outer, groups, may_end_so}
+use Rattle.wgsl_token_layout.specs.OptionalMarks.{Before, outside, fresh, callee, operand, behind_kind, is_callee, ends_operand, is_closer, outer, groups, may_end_so}
+
+-- marks that may be left out, and what stands in no expression
+abbrev pub is_extra : Kind → Bool
+is_extra k.Comma = true
+is_extra k.Other = true
+is_extra _ = false
+
+abbrev pub starts_outside : List Kind → Bool
+starts_outside (k.Other ∷ u) = true
+starts_outside _ = false
+
+abbrev pub inside : Before → Bool
+inside outside = false
+inside _ = true
 
 pub data Alike : Before → List Bool → List Kind → List Kind → Type 0 where
   none : {b : Before} {o : List Bool} → Alike b o [] []
-  same : {b : Before} {o : List Bool} {u v : List Kind} (x : Kind) → Alike (before x) (groups b o x) u v → Alike b o (x ∷ u) (x ∷ v)
-  first_has : {b : Before} {o : List Bool} {u v : List Kind} (x : Kind) → ends_operand b ≡ true → may_end_so o ≡ true → is_closer x ≡ true → Alike (before x) (groups b o x) u v → Alike b o (k.Comma ∷ x ∷ u) (x ∷ v)
-  second_has : {b : Before} {o : List Bool} {u v : List Kind} (x : Kind) → ends_operand b ≡ true → may_end_so o ≡ true → is_closer x ≡ true → Alike (before x) (groups b o x) u v → Alike b o (x ∷ u) (k.Comma ∷ x ∷ v)
+  same : {b : Before} {o : List Bool} {u v : List Kind} (x : Kind) → Alike (behind_kind x) (groups b o x) u v → Alike b o (x ∷ u) (x ∷ v)
+  first_has : {b : Before} {o : List Bool} {u v : List Kind} (x : Kind) → ends_operand b ≡ true → may_end_so o ≡ true → is_closer x ≡ true → Alike (behind_kind x) (groups b o x) u v → Alike b o (k.Comma ∷ x ∷ u) (x ∷ v)
+  second_has : {b : Before} {o : List Bool} {u v : List Kind} (x : Kind) → ends_operand b ≡ true → may_end_so o ≡ true → is_closer x ≡ true → Alike (behind_kind x) (groups b o x) u v → Alike b o (x ∷ u) (k.Comma ∷ x ∷ v)
+  first_extra : {b : Before} {o : List Bool} {u v : List Kind} (x : Kind) → is_extra x ≡ true → starts_outside v ≡ true → Alike b o u v → Alike b o (x ∷ u) v
+  second_extra : {b : Before} {o : List Bool} {u v : List Kind} (x : Kind) → is_extra x ≡ true → starts_outside u ≡ true → Alike b o u v → Alike b o u (x ∷ v)
+  first_void : {o : List Bool} {u v : List Kind} → Alike outside o u v → Alike outside o (k.Other ∷ u) v
+  second_void : {o : List Bool} {u v : List Kind} → Alike outside o u v → Alike outside o u (k.Other ∷ v)
 
--- a kind that neither is a comma nor closes is in both
+-- a kind that neither is a comma nor closes, and stands in an expression, is in both
 abbrev is_plain : Kind → Bool
 is_plain k.Comma = false
 is_plain k.ParenRight = false
 is_plain k.TemplateArgsEnd = false
+is_plain k.Other = false
 is_plain _ = true
 
 plain_no_closer : (x : Kind) → is_plain x ≡ true → is_closer x ≡ true → ⊥
@@ -23,35 +42,65 @@ plain_no_closer k.ParenRight e h = absurd cc
 plain_no_closer k.TemplateArgsEnd e h = absurd cc
 plain_no_closer _ e h = absurd cc
 
+plain_no_extra : (x : Kind) → is_plain x ≡ true → is_extra x ≡ true → ⊥
+plain_no_extra k.Comma e h = absurd cc
+plain_no_extra k.Other e h = absurd cc
+plain_no_extra _ e h = absurd cc
+
+plain_inside : (x : Kind) (u : List Kind) → is_plain x ≡ true → starts_outside (x ∷ u) ≡ true → ⊥
+plain_inside k.Other u e h = absurd cc
+plain_inside _ u e h = absurd cc
+
+closer_no_extra : (x : Kind) → is_closer x ≡ true → is_extra x ≡ true → ⊥
+closer_no_extra k.Comma e h = absurd cc
+closer_no_extra k.Other e h = absurd cc
+closer_no_extra _ e h = absurd cc
+
+closer_inside : (x : Kind) (u : List Kind) → is_closer x ≡ true → starts_outside (x ∷ u) ≡ true → ⊥
+closer_inside k.Other u e h = absurd cc
+closer_inside _ u e h = absurd cc
+
 record Kept (b : Before) (o : List Bool) (x : Kind) (u v : List Kind) : Type 0 where
   rest : List Kind
   whole : u ≡ x ∷ rest
-  alike : Alike (before x) (groups b o x) rest v
+  alike : Alike (behind_kind x) (groups b o x) rest v
 
-kept : (b : Before) (o : List Bool) (x : Kind) (u v : List Kind) → is_plain x ≡ true → Alike b o u (x ∷ v) → Kept b o x u v
-kept b o x _ v e (same {u = u} _ a) = record { rest = u; whole = refl; alike = a }
-kept b o x _ v e (first_has _ h g c a) = absurd (plain_no_closer x e c)
-kept b o _ _ _ e (second_has x h g c a) = absurd cc
+kept : (b : Before) (o : List Bool) (x : Kind) (u v : List Kind) → is_plain x ≡ true → inside b ≡ true → Alike b o u (x ∷ v) → Kept b o x u v
+kept b o x _ v e f (same {u = u} _ a) = record { rest = u; whole = refl; alike = a }
+kept b o x _ v e f (first_has _ h g c a) = absurd (plain_no_closer x e c)
+kept b o _ _ _ e f (second_has x h g c a) = absurd cc
+kept b o x _ v e f (first_extra y m s a) = absurd (plain_inside x v e s)
+kept b o x _ v e f (second_extra _ m s a) = absurd (plain_no_extra x e m)
+kept _ o x _ v e f (first_void a) = absurd cc
+kept _ o _ _ v e f (second_void a) = absurd cc
 
 -- one that closes
 data Closed (b : Before) (o : List Bool) (x : Kind) (u v : List Kind) : Type 0 where
-  at_once : (rest : List Kind) → u ≡ x ∷ rest → Alike (before x) (groups b o x) rest v → Closed b o x u v
-  behind_comma : (rest : List Kind) → u ≡ k.Comma ∷ x ∷ rest → ends_operand b ≡ true → may_end_so o ≡ true → Alike (before x) (groups b o x) rest v → Closed b o x u v
+  at_once : (rest : List Kind) → u ≡ x ∷ rest → Alike (behind_kind x) (groups b o x) rest v → Closed b o x u v
+  behind_comma : (rest : List Kind) → u ≡ k.Comma ∷ x ∷ rest → ends_operand b ≡ true → may_end_so o ≡ true → Alike (behind_kind x) (groups b o x) rest v → Closed b o x u v
 
-closed : (b : Before) (o : List Bool) (x : Kind) (u v : List Kind) → is_closer x ≡ true → Alike b o u (x ∷ v) → Closed b o x u v
-closed b o x _ v e (same {u = u} _ a) = at_once u refl a
-closed b o x _ v e (first_has {u = u} _ h g c a) = behind_comma u refl h g a
-closed b o _ _ _ e (second_has x h g c a) = absurd cc
+closed : (b : Before) (o : List Bool) (x : Kind) (u v : List Kind) → is_closer x ≡ true → inside b ≡ true → Alike b o u (x ∷ v) → Closed b o x u v
+closed b o x _ v e f (same {u = u} _ a) = at_once u refl a
+closed b o x _ v e f (first_has {u = u} _ h g c a) = behind_comma u refl h g a
+closed b o _ _ _ e f (second_has x h g c a) = absurd cc
+closed b o x _ v e f (first_extra y m s a) = absurd (closer_inside x v e s)
+closed b o x _ v e f (second_extra _ m s a) = absurd (closer_no_extra x e m)
+closed _ o x _ v e f (first_void a) = absurd cc
+closed _ o _ _ v e f (second_void a) = absurd cc
 
 -- a comma
 data Parted (b : Before) (o : List Bool) (u v : List Kind) : Type 0 where
   both : (rest : List Kind) → u ≡ k.Comma ∷ rest → Alike fresh o rest v → Parted b o u v
-  last_one : (x : Kind) (rest left : List Kind) → v ≡ x ∷ left → u ≡ x ∷ rest → is_closer x ≡ true → Alike (before x) (groups b o x) rest left → Parted b o u v
+  last_one : (x : Kind) (rest left : List Kind) → v ≡ x ∷ left → u ≡ x ∷ rest → is_closer x ≡ true → Alike (behind_kind x) (groups b o x) rest left → Parted b o u v
+  one_outside : starts_outside u ≡ true → Alike b o u v → Parted b o u v
 
-parted : (b : Before) (o : List Bool) (u v : List Kind) → Alike b o u (k.Comma ∷ v) → Parted b o u v
-parted b o _ v (same {u = u} _ a) = both u refl a
-parted b o _ v (first_has _ h g c a) = absurd cc
-parted b o _ _ (second_has {u = u} {v = v} x h g c a) = last_one x u v refl refl c a
+parted : (b : Before) (o : List Bool) (u v : List Kind) → inside b ≡ true → Alike b o u (k.Comma ∷ v) → Parted b o u v
+parted b o _ v f (same {u = u} _ a) = both u refl a
+parted b o _ v f (first_has _ h g c a) = absurd cc
+parted b o _ _ f (second_has {u = u} {v = v} x h g c a) = last_one x u v refl refl c a
+parted b o _ v f (first_extra y m s a) = absurd cc
+parted b o u v f (second_extra _ m s a) = one_outside s a
+parted _ o _ v f (first_void a) = absurd cc
 
 -- some kinds of which the front is a phrase, and what is left is alike
 pub record Goes (X : List Kind → Type 0) (ends : Before → Type 0) (o : List Bool) (u w : List Kind) : Type 0 where
@@ -71,7 +120,16 @@ Ends b = ends_operand b ≡ true
 
 -- what begins behind no operand
 abbrev Reads : (List Kind → Type 0) → (Before → Type 0) → List Kind → Type 0
-Reads X ends v = (b : Before) (o : List Bool) (u w : List Kind) → is_callee b ≡ false → Alike b o u (v ++ w) → Goes X ends o u w
+Reads X ends v = (o : List Bool) (u w : List Kind) → Alike fresh o u (v ++ w) → Goes X ends o u w
+
+ended_inside : (b : Before) → ends_operand b ≡ true → inside b ≡ true
+ended_inside outside e = absurd cc
+ended_inside fresh e = refl
+ended_inside callee e = refl
+ended_inside operand e = refl
+
+called_inside : (b : Before) → b ≡ callee → inside b ≡ true
+called_inside b e = ap inside e
 
 join : (u f r g s : List Kind) → u ≡ f ++ r → r ≡ g ++ s → u ≡ (f ++ g) ++ s
 join u f r g s e h = e ∙ ap (λ x. f ++ x) h ∙ sym (append_assoc f g s)
@@ -88,7 +146,7 @@ at_groups {b = b} {u = u} {v = v} o p e a = let P : List Bool → Type 0 = λ x.
 -- an operator opens nothing, and an operand stands behind it
 record Operator (x : Kind) : Type 0 where
   plain : is_plain x ≡ true
-  fresh_behind : before x ≡ fresh
+  fresh_behind : behind_kind x ≡ fresh
   level : (b : Before) (o : List Bool) → groups b o x ≡ o
 
 prefix_operator : (o : Kind) → is_prefix o ≡ true → Operator o
@@ -126,14 +184,14 @@ comparison_operator : Operator k.Comparison
 comparison_operator = record { plain = refl; fresh_behind = refl; level = λ b o. refl }
 
 module _ (x : Kind) (op : Operator x) where
-  behind_operator : (b : Before) (o : List Bool) (u v : List Kind) → Alike (before x) (groups b o x) u v → Alike fresh o u v
-  behind_operator b o u v a = at_before (before x) fresh op.fresh_behind (at_groups (groups b o x) o (op.level b o) a)
+  behind_operator : (b : Before) (o : List Bool) (u v : List Kind) → Alike (behind_kind x) (groups b o x) u v → Alike fresh o u v
+  behind_operator b o u v a = at_before (behind_kind x) fresh op.fresh_behind (at_groups (groups b o x) o (op.level b o) a)
 
-  between : {X Y Z : List Kind → Type 0} {E F : Before → Type 0} (v y : List Kind) → Reads X E v → Reads Y F y → ((f g : List Kind) → X f → Y g → Z (f ++ (x ∷ g))) → Reads Z F (v ++ (x ∷ y))
-  between v y first second lift b o u w c a =
-      let p = first b o u ((x ∷ y) ++ w) c (regroup v (x ∷ y) w a) in
-      let m = kept p.last o x p.rest (y ++ w) op.plain p.alike in
-      let q = second fresh o m.rest w refl (behind_operator p.last o m.rest (y ++ w) m.alike) in
+  between : {X Y Z : List Kind → Type 0} (v y : List Kind) → Reads X Ends v → Reads Y Ends y → ((f g : List Kind) → X f → Y g → Z (f ++ (x ∷ g))) → Reads Z Ends (v ++ (x ∷ y))
+  between v y first second lift o u w a =
+      let p = first o u ((x ∷ y) ++ w) (regroup v (x ∷ y) w a) in
+      let m = kept p.last o x p.rest (y ++ w) op.plain (ended_inside p.last p.ended) p.alike in
+      let q = second o m.rest w (behind_operator p.last o m.rest (y ++ w) m.alike) in
       record {
         front = p.front ++ (x ∷ q.front);
         rest = q.rest;
@@ -144,53 +202,57 @@ module _ (x : Kind) (op : Operator x) where
         alike = q.alike;
       }
 
-  in_front : {Y Z : List Kind → Type 0} {F : Before → Type 0} (y : List Kind) → Reads Y F y → ((g : List Kind) → Y g → Z (x ∷ g)) → Reads Z F (x ∷ y)
-  in_front y second lift b o u w c a =
-      let m = kept b o x u (y ++ w) op.plain a in
-      let q = second fresh o m.rest w refl (behind_operator b o m.rest (y ++ w) m.alike) in
+  in_front : {Y Z : List Kind → Type 0} (y : List Kind) → Reads Y Ends y → ((g : List Kind) → Y g → Z (x ∷ g)) → Reads Z Ends (x ∷ y)
+  in_front y second lift o u w a =
+      let m = kept fresh o x u (y ++ w) op.plain refl a in
+      let q = second o m.rest w (behind_operator fresh o m.rest (y ++ w) m.alike) in
       record { front = x ∷ q.front; rest = q.rest; whole = m.whole ∙ ap (λ z. x ∷ z) q.whole; is = lift q.front q.is; last = q.last; ended = q.ended; alike = q.alike }
 
 as_is : {X Z : List Kind → Type 0} {E F : Before → Type 0} (v : List Kind) → ((f : List Kind) → X f → Z f) → ((b : Before) → E b → F b) → Reads X E v → Reads Z F v
-as_is v lift lower reads b o u w c a = let p = reads b o u w c a in record { front = p.front; rest = p.rest; whole = p.whole; is = lift p.front p.is; last = p.last; ended = lower p.last p.ended; alike = p.alike }
+as_is v lift lower reads o u w a = let p = reads o u w a in record { front = p.front; rest = p.rest; whole = p.whole; is = lift p.front p.is; last = p.last; ended = lower p.last p.ended; alike = p.alike }
 
 -- Names
 
-module _ (b : Before) (o : List Bool) where
+module _ (b : Before) (o : List Bool) (f : inside b ≡ true) where
   -- a name behind what stands before it
-  named_by : (x y : Kind) (v u w : List Kind) {X Z : List Kind → Type 0} → is_plain x ≡ true → is_plain y ≡ true → ((c : Before) → groups c (groups b o x) y ≡ o) → ((f : List Kind) → X f → Z (x ∷ y ∷ f))
-      → ((c : Before) (s : List Kind) → Alike c o s (v ++ w) → Goes X Callee o s w) → Alike b o u (x ∷ y ∷ (v ++ w)) → Goes Z Callee o u w
-  named_by x y v u w p q level lift reads a =
-      let m = kept b o x u (y ∷ (v ++ w)) p a in
-      let n = kept (before x) (groups b o x) y m.rest (v ++ w) q m.alike in
-      let r = reads (before y) n.rest (at_groups _ o (level (before x)) n.alike) in
+  named_by : (x y : Kind) (v u w : List Kind) {X Z : List Kind → Type 0} → is_plain x ≡ true → inside (behind_kind x) ≡ true → is_plain y ≡ true → behind_kind y ≡ fresh → ((c : Before) → groups c (groups b o x) y ≡ o) → ((f : List Kind) → X f → Z (x ∷ y ∷ f))
+      → ((s : List Kind) → Alike fresh o s (v ++ w) → Goes X Callee o s w) → Alike b o u (x ∷ y ∷ (v ++ w)) → Goes Z Callee o u w
+  named_by x y v u w p g q h level lift reads a =
+      let m = kept b o x u (y ∷ (v ++ w)) p f a in
+      let n = kept (behind_kind x) (groups b o x) y m.rest (v ++ w) q g m.alike in
+      let r = reads n.rest (at_before (behind_kind y) fresh h (at_groups _ o (level (behind_kind x)) n.alike)) in
       record { front = x ∷ y ∷ r.front; rest = r.rest; whole = m.whole ∙ ap (λ z. x ∷ z) n.whole ∙ ap (λ z. x ∷ y ∷ z) r.whole; is = lift r.front r.is; last = r.last; ended = r.ended; alike = r.alike }
 
-qualified_reads : (v : List Kind) → IsQualified v → (b : Before) (o : List Bool) (u w : List Kind) → Alike b o u (v ++ w) → Goes IsQualified Callee o u w
-qualified_reads _ (id) b o u w a =
-    let m = kept b o k.Word u w refl a in record { front = k.Word ∷ []; rest = m.rest; whole = m.whole; is = id; last = callee; ended = refl; alike = m.alike }
-qualified_reads _ (within {u = v} h) b o u w a = named_by b o k.Word k.PathSeparator v u w refl refl (λ c. refl) (λ f x. within x) (λ c s x. qualified_reads v h c o s w x) a
+qualified_reads : (v : List Kind) → IsQualified v → Reads IsQualified Callee v
+qualified_reads _ (id) o u w a =
+    let m = kept fresh o k.Word u w refl refl a in record { front = k.Word ∷ []; rest = m.rest; whole = m.whole; is = id; last = callee; ended = refl; alike = m.alike }
+qualified_reads _ (within {u = v} h) o u w a = named_by fresh o refl k.Word k.PathSeparator v u w refl refl refl refl (λ c. refl) (λ f x. within x) (λ s x. qualified_reads v h o s w x) a
 
-relative_reads : (v : List Kind) → IsRelative v → (b : Before) (o : List Bool) (u w : List Kind) → Alike b o u (v ++ w) → Goes IsRelative Callee o u w
-relative_reads _ (once {u = v} h) b o u w a = named_by b o k.Super k.PathSeparator v u w refl refl (λ c. refl) (λ f x. once x) (λ c s x. qualified_reads v h c o s w x) a
-relative_reads _ (again {u = v} h) b o u w a = named_by b o k.Super k.PathSeparator v u w refl refl (λ c. refl) (λ f x. again x) (λ c s x. relative_reads v h c o s w x) a
+relative_reads : (v : List Kind) → IsRelative v → Reads IsRelative Callee v
+relative_reads _ (once {u = v} h) o u w a = named_by fresh o refl k.Super k.PathSeparator v u w refl refl refl refl (λ c. refl) (λ f x. once x) (λ s x. qualified_reads v h o s w x) a
+relative_reads _ (again {u = v} h) o u w a = named_by fresh o refl k.Super k.PathSeparator v u w refl refl refl refl (λ c. refl) (λ f x. again x) (λ s x. relative_reads v h o s w x) a
 
 name_reads : (v : List Kind) → IsName v → Reads IsName Callee v
-name_reads v (qualified h) b o u w c a = as_is v (λ f x. qualified x) (λ d e. e) (λ d p s z e y. qualified_reads v h d p s z y) b o u w c a
-name_reads _ (from_package {u = v} h) b o u w c a = named_by b o k.Package k.PathSeparator v u w refl refl (λ d. refl) (λ f x. from_package x) (λ d s x. qualified_reads v h d o s w x) a
-name_reads v (from_super h) b o u w c a = as_is v (λ f x. from_super x) (λ d e. e) (λ d p s z e y. relative_reads v h d p s z y) b o u w c a
+name_reads v (qualified h) o u w a = as_is v (λ f x. qualified x) (λ d e. e) (qualified_reads v h) o u w a
+name_reads _ (from_package {u = v} h) o u w a = named_by fresh o refl k.Package k.PathSeparator v u w refl refl refl refl (λ d. refl) (λ f x. from_package x) (λ s x. qualified_reads v h o s w x) a
+name_reads v (from_super h) o u w a = as_is v (λ f x. from_super x) (λ d e. e) (relative_reads v h) o u w a
 
--- What phrases begin with: nothing that closes
+-- What phrases begin with: nothing that closes, no comma, and nothing that stands in no expression
 
 abbrev starts : List Kind → Bool
 starts [] = false
 starts (k.ParenRight ∷ u) = false
 starts (k.TemplateArgsEnd ∷ u) = false
+starts (k.Comma ∷ u) = false
+starts (k.Other ∷ u) = false
 starts (x ∷ u) = true
 
 starts_append : (u v : List Kind) → starts u ≡ true → starts (u ++ v) ≡ true
 starts_append [] v e = absurd cc
 starts_append (k.ParenRight ∷ u) v e = absurd cc
 starts_append (k.TemplateArgsEnd ∷ u) v e = absurd cc
+starts_append (k.Comma ∷ u) v e = absurd cc
+starts_append (k.Other ∷ u) v e = absurd cc
 starts_append (_ ∷ u) v e = refl
 
 no_closer : (x : Kind) (u : List Kind) → starts (x ∷ u) ≡ true → is_closer x ≡ true → ⊥
@@ -214,6 +276,8 @@ name_starts u (from_super h) = relative_starts u h
 prefix_starts : (o : Kind) (u : List Kind) → is_prefix o ≡ true → starts (o ∷ u) ≡ true
 prefix_starts k.ParenRight u e = absurd cc
 prefix_starts k.TemplateArgsEnd u e = absurd cc
+prefix_starts k.Comma u e = absurd cc
+prefix_starts k.Other u e = absurd cc
 prefix_starts _ u e = refl
 
 type_starts : (u : List Kind) → IsType u → starts u ≡ true
@@ -271,22 +335,50 @@ expression_starts u (logical o e h) = logical_starts o u h
 not_more : (v w left : List Kind) (x : Kind) → starts v ≡ true → v ++ w ≡ x ∷ left → is_closer x ≡ true → ⊥
 not_more v w left x s e c = no_closer x left (ap starts (sym e) ∙ starts_append v w s) c
 
+-- What begins outside of expressions is not alike what begins inside.
+abbrev starts_within : List Kind → Bool
+starts_within [] = false
+starts_within (k.Comma ∷ u) = false
+starts_within (k.Other ∷ u) = false
+starts_within (x ∷ u) = true
+
+within_too : (u : List Kind) → starts u ≡ true → starts_within u ≡ true
+within_too [] e = absurd cc
+within_too (k.Comma ∷ u) e = absurd cc
+within_too (k.Other ∷ u) e = absurd cc
+within_too (_ ∷ u) e = refl
+
+starts_inside : (x : Kind) (u : List Kind) → starts_within (x ∷ u) ≡ true → is_extra x ≡ true → ⊥
+starts_inside k.Comma u e h = absurd cc
+starts_inside k.Other u e h = absurd cc
+starts_inside _ u e h = absurd cc
+
+not_outside : (v : List Kind) → starts_within v ≡ true → starts_outside v ≡ true → ⊥
+not_outside [] e h = absurd cc
+not_outside (k.Other ∷ v) e h = absurd cc
+not_outside (_ ∷ v) e h = absurd cc
+
+same_head : (x : Kind) (u v : List Kind) → starts_outside (x ∷ u) ≡ true → starts_outside (x ∷ v) ≡ true
+same_head k.Other u v e = refl
+same_head _ u v e = absurd cc
+
+apart : (b : Before) (o : List Bool) (u v : List Kind) → inside b ≡ true → starts_outside u ≡ true → starts_within v ≡ true → Alike b o u v → ⊥
+apart b o _ _ f e h (none) = absurd cc
+apart b o _ _ f e h (same {u = u} {v = v} x a) = not_outside (x ∷ v) h (same_head x u v e)
+apart b o _ _ f e h (first_has x i g c a) = absurd cc
+apart b o _ _ f e h (second_has x i g c a) = absurd cc
+apart b o _ v f e h (first_extra x m s a) = not_outside v h s
+apart b o u _ f e h (second_extra {v = v} x m s a) = starts_inside x v h m
+apart _ o _ v f e h (first_void a) = absurd cc
+apart _ o u _ f e h (second_void a) = absurd cc
+
 -- Phrases
 
 ended_at : (b : Before) → b ≡ callee → ends_operand b ≡ true
 ended_at b e = ap ends_operand e
 
-no_callee : (b : Before) → ends_operand b ≡ false → is_callee b ≡ false
-no_callee fresh e = refl
-no_callee callee e = absurd cc
-no_callee operand e = absurd cc
-
-not_both : (x : Bool) → x ≡ true → x ≡ false → ⊥
-not_both x e f = cc
-
-in_parentheses : (b : Before) (o : List Bool) (u r w : List Kind) → is_callee b ≡ false → u ≡ k.ParenLeft ∷ r → (p : Goes IsExpression Ends (is_callee b ∷ o) r (k.ParenRight ∷ w)) → Closed p.last (is_callee b ∷ o) k.ParenRight p.rest w
-    → Goes IsPrimary Ends o u w
-in_parentheses b o u r w c e p (at_once rest is a) = record {
+in_parentheses : (o : List Bool) (u r w : List Kind) → u ≡ k.ParenLeft ∷ r → (p : Goes IsExpression Ends (false ∷ o) r (k.ParenRight ∷ w)) → Closed p.last (false ∷ o) k.ParenRight p.rest w → Goes IsPrimary Ends o u w
+in_parentheses o u r w e p (at_once rest is a) = record {
   front = k.ParenLeft ∷ (p.front ++ (k.ParenRight ∷ []));
   rest = rest;
   whole = e ∙ ap (λ z. k.ParenLeft ∷ z) (join r p.front p.rest (k.ParenRight ∷ []) rest p.whole is);
@@ -295,14 +387,14 @@ in_parentheses b o u r w c e p (at_once rest is a) = record {
   ended = refl;
   alike = a;
 }
-in_parentheses b o u r w c e p (behind_comma rest is h g a) = absurd (not_both (is_callee b) g c)
+in_parentheses o u r w e p (behind_comma rest is h g a) = absurd cc
 
-no_more : (b : Before) (x : Bool) (o : List Bool) (u w : List Kind) → ends_operand b ≡ false → Closed b (x ∷ o) k.ParenRight u w → Goes IsArguments Ends o u w
-no_more b x o u w c (at_once rest is a) = record { front = k.ParenRight ∷ []; rest = rest; whole = is; is = no_argument; last = operand; ended = refl; alike = a }
-no_more b x o u w c (behind_comma rest is h g a) = absurd (not_both (ends_operand b) h c)
+no_more : (x : Bool) (o : List Bool) (u w : List Kind) → Closed fresh (x ∷ o) k.ParenRight u w → Goes IsArguments Ends o u w
+no_more x o u w (at_once rest is a) = record { front = k.ParenRight ∷ []; rest = rest; whole = is; is = no_argument; last = operand; ended = refl; alike = a }
+no_more x o u w (behind_comma rest is h g a) = absurd cc
 
-one_more : (b : Before) (x : Bool) (o : List Bool) (u w : List Kind) → (p : Goes IsExpression Ends (x ∷ o) u (k.ParenRight ∷ w)) → Closed p.last (x ∷ o) k.ParenRight p.rest w → Goes IsArguments Ends o u w
-one_more b x o u w p (at_once rest is a) = record {
+one_more : (x : Bool) (o : List Bool) (u w : List Kind) → (p : Goes IsExpression Ends (x ∷ o) u (k.ParenRight ∷ w)) → Closed p.last (x ∷ o) k.ParenRight p.rest w → Goes IsArguments Ends o u w
+one_more x o u w p (at_once rest is a) = record {
   front = p.front ++ (k.ParenRight ∷ []);
   rest = rest;
   whole = join u p.front p.rest (k.ParenRight ∷ []) rest p.whole is;
@@ -311,7 +403,7 @@ one_more b x o u w p (at_once rest is a) = record {
   ended = refl;
   alike = a;
 }
-one_more b x o u w p (behind_comma rest is h g a) = record {
+one_more x o u w p (behind_comma rest is h g a) = record {
   front = p.front ++ (k.Comma ∷ k.ParenRight ∷ []);
   rest = rest;
   whole = join u p.front p.rest (k.Comma ∷ k.ParenRight ∷ []) rest p.whole is;
@@ -339,7 +431,7 @@ more_read x o u l w p list reads (last_one y rest left e is c a) = ends list e
     ends (no_argument) e =
         let same : k.ParenRight ≡ y = cc in
         let tails : w ≡ left = cc in
-        let P : Kind → Type 0 = λ z. Alike (before z) (groups p.last (x ∷ o) z) rest left in
+        let P : Kind → Type 0 = λ z. Alike (behind_kind z) (groups p.last (x ∷ o) z) rest left in
         let Q : List Kind → Type 0 = λ z. Alike operand o rest z in
         record {
           front = p.front ++ (k.ParenRight ∷ []);
@@ -352,6 +444,13 @@ more_read x o u l w p list reads (last_one y rest left e is c a) = ends list e
         }
     ends (last_argument {u = v} h) e = absurd (not_more (v ++ (k.ParenRight ∷ [])) w left y (starts_append v (k.ParenRight ∷ []) (expression_starts v h)) e c)
     ends (more_arguments {u = v} {v = m} h g) e = absurd (not_more (v ++ (k.Comma ∷ m)) w left y (starts_append v (k.Comma ∷ m) (expression_starts v h)) e c)
+
+more_read x o u l w p list reads (one_outside s a) = absurd (apart p.last (x ∷ o) p.rest (l ++ w) (ended_inside p.last p.ended) s (arguments_start list) a)
+  where
+    arguments_start : {l : List Kind} → IsArguments l → starts_within (l ++ w) ≡ true
+    arguments_start (no_argument) = refl
+    arguments_start (last_argument {u = v} h) = within_too ((v ++ (k.ParenRight ∷ [])) ++ w) (starts_append (v ++ (k.ParenRight ∷ [])) w (starts_append v (k.ParenRight ∷ []) (expression_starts v h)))
+    arguments_start (more_arguments {u = v} {v = m} h g) = within_too ((v ++ (k.Comma ∷ m)) ++ w) (starts_append (v ++ (k.Comma ∷ m)) w (starts_append v (k.Comma ∷ m) (expression_starts v h)))
 
 last_read : (o : List Bool) (u w : List Kind) → (p : Goes IsItem Ends o u (k.TemplateArgsEnd ∷ w)) → Closed p.last o k.TemplateArgsEnd p.rest w → Goes IsListBody Callee (outer o) u w
 last_read o u w p (at_once rest is a) = record {
@@ -374,7 +473,7 @@ last_read o u w p (behind_comma rest is h g a) = record {
 }
 
 last_comma_read : (o : List Bool) (u w : List Kind) → (p : Goes IsItem Ends o u (k.Comma ∷ k.TemplateArgsEnd ∷ w)) → Parted p.last o p.rest (k.TemplateArgsEnd ∷ w) → Goes IsListBody Callee (outer o) u w
-last_comma_read o u w p (both rest is a) = behind rest is (closed fresh o k.TemplateArgsEnd rest w refl a)
+last_comma_read o u w p (both rest is a) = behind rest is (closed fresh o k.TemplateArgsEnd rest w refl refl a)
   where
     behind : (rest : List Kind) → p.rest ≡ k.Comma ∷ rest → Closed fresh o k.TemplateArgsEnd rest w → Goes IsListBody Callee (outer o) u w
     behind rest is (at_once left e a) = record {
@@ -390,7 +489,7 @@ last_comma_read o u w p (both rest is a) = behind rest is (closed fresh o k.Temp
 last_comma_read o u w p (last_one y rest left e is c a) =
     let same : k.TemplateArgsEnd ≡ y = cc in
     let tails : w ≡ left = cc in
-    let P : Kind → Type 0 = λ z. Alike (before z) (groups p.last o z) rest left in
+    let P : Kind → Type 0 = λ z. Alike (behind_kind z) (groups p.last o z) rest left in
     let Q : List Kind → Type 0 = λ z. Alike callee (outer o) rest z in
     record {
       front = p.front ++ (k.TemplateArgsEnd ∷ []);
@@ -401,6 +500,7 @@ last_comma_read o u w p (last_one y rest left e is c a) =
       ended = refl;
       alike = subst Q (sym tails) (subst P (sym same) a);
     }
+last_comma_read o u w p (one_outside s a) = absurd (apart p.last o p.rest (k.TemplateArgsEnd ∷ w) (ended_inside p.last p.ended) s refl a)
 
 body_starts : (l : List Kind) → IsListBody l → starts l ≡ true
 body_starts _ (last_item {u = v} h) = starts_append v _ (item_starts v h)
@@ -420,14 +520,15 @@ more_items_read o u l w p list reads (both rest is a) =
       alike = q.alike;
     }
 more_items_read o u l w p list reads (last_one y rest left e is c a) = absurd (not_more l w left y (body_starts l list) e c)
+more_items_read o u l w p list reads (one_outside s a) = absurd (apart p.last o p.rest (l ++ w) (ended_inside p.last p.ended) s (within_too (l ++ w) (starts_append l w (body_starts l list))) a)
 
 mutual
   type_reads : (v : List Kind) → IsType v → Reads IsType Callee v
-  type_reads v (named h) b o u w c a = as_is v (λ f x. named x) (λ d e. e) (name_reads v h) b o u w c a
-  type_reads _ (templated {u = v} {v = l} h list) b o u w c a =
-      let p = name_reads v h b o u ((k.TemplateArgsStart ∷ l) ++ w) c (regroup v (k.TemplateArgsStart ∷ l) w a) in
-      let m = kept p.last o k.TemplateArgsStart p.rest (l ++ w) refl p.alike in
-      let q = list_reads l list fresh (true ∷ o) m.rest w refl m.alike in
+  type_reads v (named h) o u w a = as_is v (λ f x. named x) (λ d e. e) (name_reads v h) o u w a
+  type_reads _ (templated {u = v} {v = l} h list) o u w a =
+      let p = name_reads v h o u ((k.TemplateArgsStart ∷ l) ++ w) (regroup v (k.TemplateArgsStart ∷ l) w a) in
+      let m = kept p.last o k.TemplateArgsStart p.rest (l ++ w) refl (called_inside p.last p.ended) p.alike in
+      let q = list_reads l list (true ∷ o) m.rest w m.alike in
       record {
         front = p.front ++ (k.TemplateArgsStart ∷ q.front);
         rest = q.rest;
@@ -439,13 +540,13 @@ mutual
       }
 
   primary_reads : (v : List Kind) → IsPrimary v → Reads IsPrimary Ends v
-  primary_reads _ (literal) b o u w c a =
-      let m = kept b o k.Literal u w refl a in record { front = k.Literal ∷ []; rest = m.rest; whole = m.whole; is = literal; last = operand; ended = refl; alike = m.alike }
-  primary_reads v (type h) b o u w c a = as_is v (λ f x. type x) ended_at (type_reads v h) b o u w c a
-  primary_reads _ (call {u = v} {v = l} h list) b o u w c a =
-      let p = type_reads v h b o u ((k.ParenLeft ∷ l) ++ w) c (regroup v (k.ParenLeft ∷ l) w a) in
-      let m = kept p.last o k.ParenLeft p.rest (l ++ w) refl p.alike in
-      let q = arguments_read l list fresh (is_callee p.last) o m.rest w refl m.alike in
+  primary_reads _ (literal) o u w a =
+      let m = kept fresh o k.Literal u w refl refl a in record { front = k.Literal ∷ []; rest = m.rest; whole = m.whole; is = literal; last = operand; ended = refl; alike = m.alike }
+  primary_reads v (type h) o u w a = as_is v (λ f x. type x) ended_at (type_reads v h) o u w a
+  primary_reads _ (call {u = v} {v = l} h list) o u w a =
+      let p = type_reads v h o u ((k.ParenLeft ∷ l) ++ w) (regroup v (k.ParenLeft ∷ l) w a) in
+      let m = kept p.last o k.ParenLeft p.rest (l ++ w) refl (called_inside p.last p.ended) p.alike in
+      let q = arguments_read l list (is_callee p.last) o m.rest w m.alike in
       record {
         front = p.front ++ (k.ParenLeft ∷ q.front);
         rest = q.rest;
@@ -455,26 +556,26 @@ mutual
         ended = q.ended;
         alike = q.alike;
       }
-  primary_reads _ (parenthesized {u = v} h) b o u w c a =
-      let m = kept b o k.ParenLeft u ((v ++ (k.ParenRight ∷ [])) ++ w) refl a in
-      let p = expression_reads v h fresh (is_callee b ∷ o) m.rest ((k.ParenRight ∷ []) ++ w) refl (regroup v (k.ParenRight ∷ []) w m.alike) in
-      in_parentheses b o u m.rest w c m.whole p (closed p.last (is_callee b ∷ o) k.ParenRight p.rest w refl p.alike)
+  primary_reads _ (parenthesized {u = v} h) o u w a =
+      let m = kept fresh o k.ParenLeft u ((v ++ (k.ParenRight ∷ [])) ++ w) refl refl a in
+      let p = expression_reads v h (false ∷ o) m.rest ((k.ParenRight ∷ []) ++ w) (regroup v (k.ParenRight ∷ []) w m.alike) in
+      in_parentheses o u m.rest w m.whole p (closed p.last (false ∷ o) k.ParenRight p.rest w refl (ended_inside p.last p.ended) p.alike)
 
-  arguments_read : (v : List Kind) → IsArguments v → (b : Before) (x : Bool) (o : List Bool) (u w : List Kind) → ends_operand b ≡ false → Alike b (x ∷ o) u (v ++ w) → Goes IsArguments Ends o u w
-  arguments_read _ (no_argument) b x o u w c a = no_more b x o u w c (closed b (x ∷ o) k.ParenRight u w refl a)
-  arguments_read _ (last_argument {u = v} h) b x o u w c a =
-      let p = expression_reads v h b (x ∷ o) u ((k.ParenRight ∷ []) ++ w) (no_callee b c) (regroup v (k.ParenRight ∷ []) w a) in
-      one_more b x o u w p (closed p.last (x ∷ o) k.ParenRight p.rest w refl p.alike)
-  arguments_read _ (more_arguments {u = v} {v = l} h list) b x o u w c a =
-      let p = expression_reads v h b (x ∷ o) u ((k.Comma ∷ l) ++ w) (no_callee b c) (regroup v (k.Comma ∷ l) w a) in
-      more_read x o u l w p list (λ s y. arguments_read l list fresh x o s w refl y) (parted p.last (x ∷ o) p.rest (l ++ w) p.alike)
+  arguments_read : (v : List Kind) → IsArguments v → (x : Bool) (o : List Bool) (u w : List Kind) → Alike fresh (x ∷ o) u (v ++ w) → Goes IsArguments Ends o u w
+  arguments_read _ (no_argument) x o u w a = no_more x o u w (closed fresh (x ∷ o) k.ParenRight u w refl refl a)
+  arguments_read _ (last_argument {u = v} h) x o u w a =
+      let p = expression_reads v h (x ∷ o) u ((k.ParenRight ∷ []) ++ w) (regroup v (k.ParenRight ∷ []) w a) in
+      one_more x o u w p (closed p.last (x ∷ o) k.ParenRight p.rest w refl (ended_inside p.last p.ended) p.alike)
+  arguments_read _ (more_arguments {u = v} {v = l} h list) x o u w a =
+      let p = expression_reads v h (x ∷ o) u ((k.Comma ∷ l) ++ w) (regroup v (k.Comma ∷ l) w a) in
+      more_read x o u l w p list (λ s y. arguments_read l list x o s w y) (parted p.last (x ∷ o) p.rest (l ++ w) (ended_inside p.last p.ended) p.alike)
 
   singular_reads : (v : List Kind) → IsSingular v → Reads IsSingular Ends v
-  singular_reads v (primary h) b o u w c a = as_is v (λ f x. primary x) (λ d e. e) (primary_reads v h) b o u w c a
-  singular_reads _ (member {u = v} h) b o u w c a =
-      let p = singular_reads v h b o u ((k.Period ∷ k.Word ∷ []) ++ w) c (regroup v (k.Period ∷ k.Word ∷ []) w a) in
-      let m = kept p.last o k.Period p.rest (k.Word ∷ w) refl p.alike in
-      let n = kept fresh o k.Word m.rest w refl m.alike in
+  singular_reads v (primary h) o u w a = as_is v (λ f x. primary x) (λ d e. e) (primary_reads v h) o u w a
+  singular_reads _ (member {u = v} h) o u w a =
+      let p = singular_reads v h o u ((k.Period ∷ k.Word ∷ []) ++ w) (regroup v (k.Period ∷ k.Word ∷ []) w a) in
+      let m = kept p.last o k.Period p.rest (k.Word ∷ w) refl (ended_inside p.last p.ended) p.alike in
+      let n = kept fresh o k.Word m.rest w refl refl m.alike in
       record {
         front = p.front ++ (k.Period ∷ k.Word ∷ []);
         rest = n.rest;
@@ -484,11 +585,11 @@ mutual
         ended = refl;
         alike = n.alike;
       }
-  singular_reads _ (index {u = v} {v = y} h i) b o u w c a =
-      let p = singular_reads v h b o u ((k.BracketLeft ∷ (y ++ (k.BracketRight ∷ []))) ++ w) c (regroup v (k.BracketLeft ∷ (y ++ (k.BracketRight ∷ []))) w a) in
-      let m = kept p.last o k.BracketLeft p.rest ((y ++ (k.BracketRight ∷ [])) ++ w) refl p.alike in
-      let q = expression_reads y i fresh (false ∷ o) m.rest ((k.BracketRight ∷ []) ++ w) refl (regroup y (k.BracketRight ∷ []) w m.alike) in
-      let n = kept q.last (false ∷ o) k.BracketRight q.rest w refl q.alike in
+  singular_reads _ (index {u = v} {v = y} h i) o u w a =
+      let p = singular_reads v h o u ((k.BracketLeft ∷ (y ++ (k.BracketRight ∷ []))) ++ w) (regroup v (k.BracketLeft ∷ (y ++ (k.BracketRight ∷ []))) w a) in
+      let m = kept p.last o k.BracketLeft p.rest ((y ++ (k.BracketRight ∷ [])) ++ w) refl (ended_inside p.last p.ended) p.alike in
+      let q = expression_reads y i (false ∷ o) m.rest ((k.BracketRight ∷ []) ++ w) (regroup y (k.BracketRight ∷ []) w m.alike) in
+      let n = kept q.last (false ∷ o) k.BracketRight q.rest w refl (ended_inside q.last q.ended) q.alike in
       record {
         front = p.front ++ (k.BracketLeft ∷ (q.front ++ (k.BracketRight ∷ [])));
         rest = n.rest;
@@ -500,48 +601,48 @@ mutual
       }
 
   unary_reads : (v : List Kind) → IsUnary v → Reads IsUnary Ends v
-  unary_reads v (singular h) b o u w c a = as_is v (λ f x. singular x) (λ d e. e) (singular_reads v h) b o u w c a
-  unary_reads _ (prefixed {u = v} x e h) b o u w c a = in_front x (prefix_operator x e) v (unary_reads v h) (λ g y. prefixed x e y) b o u w c a
+  unary_reads v (singular h) o u w a = as_is v (λ f x. singular x) (λ d e. e) (singular_reads v h) o u w a
+  unary_reads _ (prefixed {u = v} x e h) o u w a = in_front x (prefix_operator x e) v (unary_reads v h) (λ g y. prefixed x e y) o u w a
 
   product_reads : (v : List Kind) → IsProduct v → Reads IsProduct Ends v
-  product_reads v (unary h) b o u w c a = as_is v (λ f x. unary x) (λ d e. e) (unary_reads v h) b o u w c a
-  product_reads _ (times {u = v} {v = y} x h e i) b o u w c a = between x (multiplicative_operator x e) v y (product_reads v h) (unary_reads y i) (λ f g p q. times x p e q) b o u w c a
+  product_reads v (unary h) o u w a = as_is v (λ f x. unary x) (λ d e. e) (unary_reads v h) o u w a
+  product_reads _ (times {u = v} {v = y} x h e i) o u w a = between x (multiplicative_operator x e) v y (product_reads v h) (unary_reads y i) (λ f g p q. times x p e q) o u w a
 
   sum_reads : (v : List Kind) → IsSum v → Reads IsSum Ends v
-  sum_reads v (product h) b o u w c a = as_is v (λ f x. product x) (λ d e. e) (product_reads v h) b o u w c a
-  sum_reads _ (plus {u = v} {v = y} x h e i) b o u w c a = between x (additive_operator x e) v y (sum_reads v h) (product_reads y i) (λ f g p q. plus x p e q) b o u w c a
+  sum_reads v (product h) o u w a = as_is v (λ f x. product x) (λ d e. e) (product_reads v h) o u w a
+  sum_reads _ (plus {u = v} {v = y} x h e i) o u w a = between x (additive_operator x e) v y (sum_reads v h) (product_reads y i) (λ f g p q. plus x p e q) o u w a
 
   shift_reads : (v : List Kind) → IsShift v → Reads IsShift Ends v
-  shift_reads v (sum h) b o u w c a = as_is v (λ f x. sum x) (λ d e. e) (sum_reads v h) b o u w c a
-  shift_reads _ (shifted {u = v} {v = y} h i) b o u w c a = between k.Shift shift_operator v y (unary_reads v h) (unary_reads y i) (λ f g p q. shifted p q) b o u w c a
+  shift_reads v (sum h) o u w a = as_is v (λ f x. sum x) (λ d e. e) (sum_reads v h) o u w a
+  shift_reads _ (shifted {u = v} {v = y} h i) o u w a = between k.Shift shift_operator v y (unary_reads v h) (unary_reads y i) (λ f g p q. shifted p q) o u w a
 
   relational_reads : (v : List Kind) → IsRelational v → Reads IsRelational Ends v
-  relational_reads v (shift h) b o u w c a = as_is v (λ f x. shift x) (λ d e. e) (shift_reads v h) b o u w c a
-  relational_reads _ (compared {u = v} {v = y} h i) b o u w c a = between k.Comparison comparison_operator v y (shift_reads v h) (shift_reads y i) (λ f g p q. compared p q) b o u w c a
+  relational_reads v (shift h) o u w a = as_is v (λ f x. shift x) (λ d e. e) (shift_reads v h) o u w a
+  relational_reads _ (compared {u = v} {v = y} h i) o u w a = between k.Comparison comparison_operator v y (shift_reads v h) (shift_reads y i) (λ f g p q. compared p q) o u w a
 
   bitwise_reads : (x : Kind) (v : List Kind) → is_bitwise x ≡ true → IsBitwise x v → Reads (IsBitwise x) Ends v
-  bitwise_reads x _ e (two_unaries {u = v} {v = y} _ h i) b o u w c a = between x (bitwise_operator x e) v y (unary_reads v h) (unary_reads y i) (λ f g p q. two_unaries x p q) b o u w c a
-  bitwise_reads x _ e (more_unaries {u = v} {v = y} _ h i) b o u w c a = between x (bitwise_operator x e) v y (bitwise_reads x v e h) (unary_reads y i) (λ f g p q. more_unaries x p q) b o u w c a
+  bitwise_reads x _ e (two_unaries {u = v} {v = y} _ h i) o u w a = between x (bitwise_operator x e) v y (unary_reads v h) (unary_reads y i) (λ f g p q. two_unaries x p q) o u w a
+  bitwise_reads x _ e (more_unaries {u = v} {v = y} _ h i) o u w a = between x (bitwise_operator x e) v y (bitwise_reads x v e h) (unary_reads y i) (λ f g p q. more_unaries x p q) o u w a
 
   logical_reads : (x : Kind) (v : List Kind) → is_logical x ≡ true → IsLogical x v → Reads (IsLogical x) Ends v
-  logical_reads x _ e (two_relations {u = v} {v = y} _ h i) b o u w c a = between x (logical_operator x e) v y (relational_reads v h) (relational_reads y i) (λ f g p q. two_relations x p q) b o u w c a
-  logical_reads x _ e (more_relations {u = v} {v = y} _ h i) b o u w c a = between x (logical_operator x e) v y (logical_reads x v e h) (relational_reads y i) (λ f g p q. more_relations x p q) b o u w c a
+  logical_reads x _ e (two_relations {u = v} {v = y} _ h i) o u w a = between x (logical_operator x e) v y (relational_reads v h) (relational_reads y i) (λ f g p q. two_relations x p q) o u w a
+  logical_reads x _ e (more_relations {u = v} {v = y} _ h i) o u w a = between x (logical_operator x e) v y (logical_reads x v e h) (relational_reads y i) (λ f g p q. more_relations x p q) o u w a
 
   item_reads : (v : List Kind) → IsItem v → Reads IsItem Ends v
-  item_reads v (relational h) b o u w c a = as_is v (λ f x. relational x) (λ d e. e) (relational_reads v h) b o u w c a
-  item_reads v (bitwise x e h) b o u w c a = as_is v (λ f y. bitwise x e y) (λ d g. g) (bitwise_reads x v e h) b o u w c a
+  item_reads v (relational h) o u w a = as_is v (λ f x. relational x) (λ d e. e) (relational_reads v h) o u w a
+  item_reads v (bitwise x e h) o u w a = as_is v (λ f y. bitwise x e y) (λ d g. g) (bitwise_reads x v e h) o u w a
 
   expression_reads : (v : List Kind) → IsExpression v → Reads IsExpression Ends v
-  expression_reads v (item h) b o u w c a = as_is v (λ f x. item x) (λ d e. e) (item_reads v h) b o u w c a
-  expression_reads v (logical x e h) b o u w c a = as_is v (λ f y. logical x e y) (λ d g. g) (logical_reads x v e h) b o u w c a
+  expression_reads v (item h) o u w a = as_is v (λ f x. item x) (λ d e. e) (item_reads v h) o u w a
+  expression_reads v (logical x e h) o u w a = as_is v (λ f y. logical x e y) (λ d g. g) (logical_reads x v e h) o u w a
 
-  pub list_reads : (v : List Kind) → IsListBody v → (b : Before) (o : List Bool) (u w : List Kind) → ends_operand b ≡ false → Alike b o u (v ++ w) → Goes IsListBody Callee (outer o) u w
-  list_reads _ (last_item {u = v} h) b o u w c a =
-      let p = item_reads v h b o u ((k.TemplateArgsEnd ∷ []) ++ w) (no_callee b c) (regroup v (k.TemplateArgsEnd ∷ []) w a) in
-      last_read o u w p (closed p.last o k.TemplateArgsEnd p.rest w refl p.alike)
-  list_reads _ (last_and_comma {u = v} h) b o u w c a =
-      let p = item_reads v h b o u ((k.Comma ∷ k.TemplateArgsEnd ∷ []) ++ w) (no_callee b c) (regroup v (k.Comma ∷ k.TemplateArgsEnd ∷ []) w a) in
-      last_comma_read o u w p (parted p.last o p.rest (k.TemplateArgsEnd ∷ w) p.alike)
-  list_reads _ (more_items {u = v} {v = l} h list) b o u w c a =
-      let p = item_reads v h b o u ((k.Comma ∷ l) ++ w) (no_callee b c) (regroup v (k.Comma ∷ l) w a) in
-      more_items_read o u l w p list (λ s y. list_reads l list fresh o s w refl y) (parted p.last o p.rest (l ++ w) p.alike)
+  pub list_reads : (v : List Kind) → IsListBody v → (o : List Bool) (u w : List Kind) → Alike fresh o u (v ++ w) → Goes IsListBody Callee (outer o) u w
+  list_reads _ (last_item {u = v} h) o u w a =
+      let p = item_reads v h o u ((k.TemplateArgsEnd ∷ []) ++ w) (regroup v (k.TemplateArgsEnd ∷ []) w a) in
+      last_read o u w p (closed p.last o k.TemplateArgsEnd p.rest w refl (ended_inside p.last p.ended) p.alike)
+  list_reads _ (last_and_comma {u = v} h) o u w a =
+      let p = item_reads v h o u ((k.Comma ∷ k.TemplateArgsEnd ∷ []) ++ w) (regroup v (k.Comma ∷ k.TemplateArgsEnd ∷ []) w a) in
+      last_comma_read o u w p (parted p.last o p.rest (k.TemplateArgsEnd ∷ w) (ended_inside p.last p.ended) p.alike)
+  list_reads _ (more_items {u = v} {v = l} h list) o u w a =
+      let p = item_reads v h o u ((k.Comma ∷ l) ++ w) (regroup v (k.Comma ∷ l) w a) in
+      more_items_read o u l w p list (λ s y. list_reads l list o s w y) (parted p.last o p.rest (l ++ w) (ended_inside p.last p.ended) p.alike)

@@ -3,4 +3,4 @@ pub mod Ahead
 pub mod Levels
 pub mod Marked
 pub mod Alike
-pub mod Commas
+pub mod OptionalMarks

@@ -4,7 +4,7 @@ use Rattle.wgsl_template_spec.specs.declared.token.TemplateToken.{TemplateToken}
 use Rattle.wgsl_template_spec.specs.declared.token.SpannedTemplateToken.{SpannedTemplateToken}
 use Rattle.wgsl_template_spec.specs.Tokens.{IsLexed}
 use Rattle.wgsl_token_layout.specs.Layout.{IsTextOf}
-use Rattle.wgsl_token_layout.specs.Commas.{fresh, AreAlike}
+use Rattle.wgsl_token_layout.specs.OptionalMarks.{outside, AreAlike}
 
 -- tokens without their places
 abbrev pub without_places : List SpannedTemplateToken → List TemplateToken
@@ -19,7 +19,7 @@ abbrev pub LaidOutAlike : Type 0
 LaidOutAlike = (text other : List ℕ) (tokens : List SpannedTemplateToken) → IsLexed text tokens → IsTextOf (without_places tokens) other
     → (found : List SpannedTemplateToken) × IsLexed other found × (without_places found ≡ without_places tokens)
 
--- Nor do last commas count, of arguments and of template lists: the tokens of a text are told alike with them and without.
-abbrev pub LaidOutButForLastCommas : Type 0
-LaidOutButForLastCommas = (text other : List ℕ) (tokens : List SpannedTemplateToken) (us : List TemplateToken) → IsLexed text tokens → AreAlike fresh [] (without_places tokens) us → IsTextOf us other
+-- Nor do marks count that may be left out, last commas among them: the tokens of a text are told alike with them and without.
+abbrev pub LaidOutButForOptionalMarks : Type 0
+LaidOutButForOptionalMarks = (text other : List ℕ) (tokens : List SpannedTemplateToken) (us : List TemplateToken) → IsLexed text tokens → AreAlike outside [] (without_places tokens) us → IsTextOf us other
     → (found : List SpannedTemplateToken) × IsLexed other found × (without_places found ≡ us)

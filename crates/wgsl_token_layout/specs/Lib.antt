@@ -1,3 +1,3 @@
 pub mod Layout
 pub mod Laws
-pub mod Commas
+pub mod OptionalMarks

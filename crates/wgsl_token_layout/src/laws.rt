@@ -1,6 +1,6 @@
 //! Laws of texts with the same tokens. Each function states one, and does nothing.
 
-ghost use Rattle.wgsl_token_layout.specs.Laws.{LaidOutAsItsTokens, LaidOutAlike, LaidOutButForLastCommas};
+ghost use Rattle.wgsl_token_layout.specs.Laws.{LaidOutAsItsTokens, LaidOutAlike, LaidOutButForOptionalMarks};
 
 /// A text is laid out as its tokens.
 pub fn laid_out_as_its_tokens()
@@ -12,7 +12,7 @@ pub fn laid_out_alike()
     ensures { LaidOutAlike }
 {}
 
-/// The same, where the tokens differ in last commas of arguments and template lists.
-pub fn laid_out_but_for_last_commas()
-    ensures { LaidOutButForLastCommas }
+/// The same, where the tokens differ in marks that may be left out: last commas of lists, and `:` and `;` where a text may do without.
+pub fn laid_out_but_for_optional_marks()
+    ensures { LaidOutButForOptionalMarks }
 {}

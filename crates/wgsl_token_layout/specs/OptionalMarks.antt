@@ -1,0 +1,100 @@
+-- Tokens that differ in marks alone that may be left out: the last comma of a list, and `:` and `;` where a text may do without.
+use Rattle.std.specs.Prelude.{◌≡◌, Bool, true, false, List, [], ◌∷◌}
+use Rattle.wgsl_token.specs.declared.token.Token.TheVariants.{Fixed}
+use Rattle.wgsl_token.specs.declared.token.Fixed.TheVariants as f
+use Rattle.wgsl_template_spec.specs.declared.kind.Kind.{Kind}
+use Rattle.wgsl_template_spec.specs.declared.kind.Kind.TheVariants as k
+use Rattle.wgsl_template_spec.specs.declared.token.TemplateToken.{TemplateToken}
+use Rattle.wgsl_template_spec.specs.declared.token.TemplateToken.TheVariants.{Plain}
+use Rattle.wgsl_template_spec.specs.Kinds.{kind}
+
+-- What a token stands behind: what may be called, another operand's end, what stands in no expression (or nothing), or anything else.
+pub data Before : Type 0 where
+  outside : Before
+  fresh : Before
+  callee : Before
+  operand : Before
+
+abbrev pub behind_kind : Kind → Before
+behind_kind k.Word = callee
+behind_kind k.TemplateArgsEnd = callee
+behind_kind k.Literal = operand
+behind_kind k.ParenRight = operand
+behind_kind k.BracketRight = operand
+behind_kind k.Other = outside
+behind_kind _ = fresh
+
+-- (`var` is a word behind which a list may open)
+abbrev pub before : TemplateToken → Before
+before (Plain (Fixed f.Var)) = fresh
+before t = behind_kind (kind t)
+
+-- `(` stands before arguments: of a call, or of an attribute or a directive, whose word may be a keyword
+abbrev pub is_callee : Before → Bool
+is_callee callee = true
+is_callee outside = true
+is_callee _ = false
+
+abbrev pub ends_operand : Before → Bool
+ends_operand callee = true
+ends_operand operand = true
+ends_operand _ = false
+
+abbrev pub is_closer : Kind → Bool
+is_closer k.ParenRight = true
+is_closer k.TemplateArgsEnd = true
+is_closer _ = false
+
+abbrev pub outer : List Bool → List Bool
+outer [] = []
+outer (x ∷ xs) = xs
+
+-- Of each group that is open, the last one first: may it end in a comma? Arguments and template lists may.
+abbrev pub groups : Before → List Bool → Kind → List Bool
+groups b opened k.ParenLeft = is_callee b ∷ opened
+groups b opened k.BracketLeft = false ∷ opened
+groups b opened k.TemplateArgsStart = true ∷ opened
+groups b opened k.ParenRight = outer opened
+groups b opened k.BracketRight = outer opened
+groups b opened k.TemplateArgsEnd = outer opened
+groups b opened _ = opened
+
+abbrev pub may_end_so : List Bool → Bool
+may_end_so [] = false
+may_end_so (x ∷ xs) = x
+
+abbrev pub comma : TemplateToken
+comma = Plain (Fixed f.Comma)
+
+abbrev pub void : TemplateToken
+void = Plain (Fixed f.Semicolon)
+
+-- the marks that may be left out
+abbrev pub may_go : TemplateToken → Bool
+may_go (Plain (Fixed f.Comma)) = true
+may_go (Plain (Fixed f.Colon)) = true
+may_go (Plain (Fixed f.Semicolon)) = true
+may_go _ = false
+
+-- A mark stands first that is in no expression: where a list ends without a bracket, and where `:` or `;` may be left out.
+abbrev pub begins_outside : List TemplateToken → Bool
+begins_outside (Plain (Fixed f.BraceLeft) ∷ ts) = true
+begins_outside (Plain (Fixed f.BraceRight) ∷ ts) = true
+begins_outside (Plain (Fixed f.Attr) ∷ ts) = true
+begins_outside (Plain (Fixed f.Colon) ∷ ts) = true
+begins_outside (Plain (Fixed f.Semicolon) ∷ ts) = true
+begins_outside _ = false
+
+-- The same tokens but for marks that may be left out, of either: a comma before what closes arguments or a template list; a mark before
+-- what stands in no expression; a `;` behind what stands in none.
+pub data AreAlike : Before → List Bool → List TemplateToken → List TemplateToken → Type 0 where
+  none : {b : Before} {opened : List Bool} → AreAlike b opened [] []
+  same : {b : Before} {opened : List Bool} {ts us : List TemplateToken} (t : TemplateToken) → AreAlike (before t) (groups b opened (kind t)) ts us → AreAlike b opened (t ∷ ts) (t ∷ us)
+  first_has : {b : Before} {opened : List Bool} {ts us : List TemplateToken} (t : TemplateToken) → ends_operand b ≡ true → may_end_so opened ≡ true → is_closer (kind t) ≡ true
+      → AreAlike (before t) (groups b opened (kind t)) ts us → AreAlike b opened (comma ∷ t ∷ ts) (t ∷ us)
+  second_has : {b : Before} {opened : List Bool} {ts us : List TemplateToken} (t : TemplateToken) → ends_operand b ≡ true → may_end_so opened ≡ true → is_closer (kind t) ≡ true
+      → AreAlike (before t) (groups b opened (kind t)) ts us → AreAlike b opened (t ∷ ts) (comma ∷ t ∷ us)
+  first_extra : {b : Before} {opened : List Bool} {ts us : List TemplateToken} (t : TemplateToken) → may_go t ≡ true → begins_outside us ≡ true → AreAlike b opened ts us → AreAlike b opened (t ∷ ts) us
+  second_extra : {b : Before} {opened : List Bool} {ts us : List TemplateToken} (t : TemplateToken) → may_go t ≡ true → begins_outside ts ≡ true → AreAlike b opened ts us → AreAlike b opened ts (t ∷ us)
+  first_void : {opened : List Bool} {ts us : List TemplateToken} → AreAlike outside opened ts us → AreAlike outside opened (void ∷ ts) us
+  second_void : {opened : List Bool} {ts us : List TemplateToken} → AreAlike outside opened ts us → AreAlike outside opened ts (void ∷ us)
