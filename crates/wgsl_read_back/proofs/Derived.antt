@@ -5,7 +5,7 @@ use Rattle.std.proofs.lemmas.Bool.{and_parts}
 use Rattle.wgsl_operators.specs.declared.BinaryOperator.TheVariants as o
 use Rattle.wgsl_operators.specs.declared.UnaryOperator.TheVariants as u
 use Rattle.wgsl_template_spec.specs.declared.token.SpannedTemplateToken.{SpannedTemplateToken}
-use Rattle.wgsl_shift_reduce.specs.Grammars.{Symbol, phrase, Rule, Derives, a_token, a_phrase, Row, done, next}
+use Rattle.wgsl_shift_reduce.specs.Grammars.{Symbol, token, phrase, Rule, Derives, a_token, a_phrase, Row, done, next}
 use Rattle.wgsl_parts.specs.declared.part.Part.{Part}
 use Rattle.wgsl_parts.specs.declared.part.Part.TheVariants.{Absent}
 use Rattle.wgsl_parts.specs.declared.label.Label.TheVariants as l
@@ -15,7 +15,8 @@ use Rattle.wgsl_grammar_tables.specs.Nonterminals as n
 use Rattle.wgsl_grammar_tables.specs.Expansion.{Made, made_rules, made_in, rule_in, parts_in, plain, in_a_list, with_commas}
 use Rattle.wgsl_grammar_tables.proofs.Written.{rules_are, label_is, parts_are}
 use Rattle.wgsl_reading.specs.Phrases.{grammar, made, make}
-use Rattle.wgsl_read_back.proofs.Rows.{make_of, Rebuild}
+use Rattle.wgsl_read_back.proofs.Items.{OneToken}
+use Rattle.wgsl_read_back.proofs.Rows.{make_of, Rebuild, AllPass, made_parts_pass}
 use Rattle.wgsl_read_back.proofs.Steps.{Sort, unknown, sort_of, GoodAs, Good, GoodRow, good_end, good_next, Step, as_expressed, s_binary, s_unary, s_pass, s_pass_singles, s_pass_types, s_name_alone, s_name_above, s_name_in_package, s_name_within, s_one_up, s_further_up, s_simple, s_templated, s_call_without, s_call_with, s_number, s_true, s_false, s_named, s_called, s_parenthesized, s_component, s_indexed, s_first, s_more, s_listed_without, s_listed_with}
 
 -- ---- rules by number
@@ -328,16 +329,38 @@ steps =
 
 -- ---- derivations
 
+-- of a phrase in which no check fails
+abbrev pub GoodWhen : Symbol → List SpannedTemplateToken → Phrase Part → Type 0
+GoodWhen (token c) u x = OneToken c u x
+GoodWhen (phrase k) u x = x.failure ≡ None → Good (phrase k) u x
+
+data RowWhen : List Symbol → List SpannedTemplateToken → List (Phrase Part) → Type 0 where
+  when_end : RowWhen [] [] []
+  when_next : {s : Symbol} {ss : List Symbol} (u : List SpannedTemplateToken) {w : List SpannedTemplateToken} {x : Phrase Part} {xs : List (Phrase Part)} → GoodWhen s u x → RowWhen ss w xs → RowWhen (s ∷ ss) (u ++ w) (x ∷ xs)
+
+good_now : (s : Symbol) (u : List SpannedTemplateToken) (x : Phrase Part) → GoodWhen s u x → x.failure ≡ None → Good s u x
+good_now (token c) u x h e = h
+good_now (phrase k) u x h e = h e
+
+row_now : {ss : List Symbol} {u : List SpannedTemplateToken} {xs : List (Phrase Part)} → RowWhen ss u xs → AllPass xs → GoodRow ss u xs
+row_now when_end e = good_end
+row_now (when_next {s = s} u {x = x} h r) e = good_next u (good_now s u x h e.0) (row_now r e.1)
+
 mutual
-  pub derived : (s : Symbol) (w : List SpannedTemplateToken) (x : Phrase Part) → Derives grammar s w x → Good s w x
-  derived _ _ _ (a_token k) = record { one = k; whole = refl; class = refl; value = refl }
-  derived _ w _ (a_phrase p r {xs = xs} e row) =
+  pub derived_when : (s : Symbol) (w : List SpannedTemplateToken) (x : Phrase Part) → Derives grammar s w x → GoodWhen s w x
+  derived_when _ _ _ (a_token k) = record { one = k; whole = refl; class = refl; value = refl }
+  derived_when _ w _ (a_phrase p r {xs = xs} e row) = λ pass.
       let (m, is, left, right) = found_in made_rules p r (sym (rules_are p) ∙ e) in
-      let P : List Symbol → Type 0 = λ ss. GoodRow ss w xs in
-      let good = each_at made_rules steps p m is (rebuild_at p m is) w xs (subst P (sym right) (row_derived r.right w xs row)) in
+      let P : List Symbol → Type 0 = λ ss. RowWhen ss w xs in
+      let parts = made_parts_pass m.label m.parts xs (ap (λ (z : Phrase Part). z.failure) (sym (makes_as p m is xs)) ∙ pass) in
+      let good = each_at made_rules steps p m is (rebuild_at p m is) w xs (row_now (subst P (sym right) (row_when r.right w xs row)) parts) in
       let Q : ℕ → Type 0 = λ k. Good (phrase k) w (make_of m.label m.parts xs) in
       subst (Good (phrase r.left) w) (sym (makes_as p m is xs)) (subst Q left good)
 
-  row_derived : (ss : List Symbol) (w : List SpannedTemplateToken) (xs : List (Phrase Part)) → Row grammar ss w xs → GoodRow ss w xs
-  row_derived _ _ _ done = good_end
-  row_derived _ _ _ (next {s = s} {ss = ss} {u = a} {v = b} {x = x} {xs = xs} d r) = good_next a (derived s a x d) (row_derived ss b xs r)
+  row_when : (ss : List Symbol) (w : List SpannedTemplateToken) (xs : List (Phrase Part)) → Row grammar ss w xs → RowWhen ss w xs
+  row_when _ _ _ done = when_end
+  row_when _ _ _ (next {s = s} {ss = ss} {u = a} {v = b} {x = x} {xs = xs} d r) = when_next a (derived_when s a x d) (row_when ss b xs r)
+
+-- what is derived is good where no check fails in it
+pub derived : (s : Symbol) (w : List SpannedTemplateToken) (x : Phrase Part) → Derives grammar s w x → x.failure ≡ None → Good s w x
+derived s w x d e = good_now s w x (derived_when s w x d) e

@@ -13,6 +13,7 @@ use Rattle.wgsl_parts.specs.declared.part.Part.{Part}
 use Rattle.wgsl_parts.specs.declared.part.Part.TheVariants.{Absent}
 use Rattle.wgsl_parts.specs.declared.label.Label.{Label}
 use Rattle.wgsl_phrases.specs.declared.phrase.Phrase.{Phrase}
+use Rattle.wgsl_phrases.specs.declared.phrase.Failure.{Failure}
 use Rattle.wgsl_phrases.specs.declared.gather.Extent.{Extent}
 use Rattle.wgsl_phrases.specs.Gathering.{either, joined, extent_of, extent_from, chosen}
 use Rattle.wgsl_make.specs.Making as making
@@ -133,7 +134,7 @@ pub record Makes (v : View) (x : Phrase Part) : Type 0 where
 abbrev pub make_of : Label → List ℕ → List (Phrase Part) → Phrase Part
 make_of label pattern xs = made label (extent_from None xs) (chosen Absent pattern xs)
 
-abbrev AllPass : List (Phrase Part) → Type 0
+abbrev pub AllPass : List (Phrase Part) → Type 0
 AllPass [] = Unit {0}
 AllPass (y ∷ ys) = (y.failure ≡ None) × AllPass ys
 
@@ -164,6 +165,41 @@ makes_of label pattern y ys v p is stands severe failed pass =
         ∙ ap (λ z. failure_at e.last (first_check z (made_failed label (making.make label e.span (chosen Absent pattern (y ∷ ys)))))) (severe (chosen Absent pattern (y ∷ ys)))
         ∙ ap (λ z. failure_at e.last (made_failed label z)) (is e.span)
         ∙ ap (failure_at e.last) (failed e.span)
+
+-- Where no check fails in what is made of some phrases, none fails in them.
+
+either_first : (f g : Option Failure) → either f g ≡ None → f ≡ None
+either_first None g e = refl
+either_first (Some x) g e = absurd cc
+
+either_second : (f g : Option Failure) → either f g ≡ None → g ≡ None
+either_second None g e = e
+either_second (Some x) g e = absurd cc
+
+record Passed (xs : List (Phrase Part)) (e : Extent) : Type 0 where
+  first : e.failure ≡ None
+  all : AllPass xs
+
+extent_passes : (e : Extent) (xs : List (Phrase Part)) (to : Extent) → extent_from (Some e) xs ≡ Some to → to.failure ≡ None → Passed xs e
+extent_passes e [] to is pass = let same : e ≡ to = cc in record { first = ap (λ (z : Extent). z.failure) same ∙ pass; all = tt }
+extent_passes e (x ∷ xs) to is pass =
+    let r = extent_passes (joined (Some e) x) xs to is pass in
+    record { first = either_first e.failure x.failure r.first; all = (either_second e.failure x.failure r.first, r.all) }
+
+pub made_parts_pass : (label : Label) (pattern : List ℕ) (xs : List (Phrase Part)) → (make_of label pattern xs).failure ≡ None → AllPass xs
+made_parts_pass label pattern [] h = tt
+made_parts_pass label pattern (x ∷ xs) h = go (extent_from (Some (extent_of x)) xs) refl
+  where
+    go : (o : Option Extent) → extent_from (Some (extent_of x)) xs ≡ o → AllPass (x ∷ xs)
+    go None is = absurd (never (extent_of x) xs is)
+      where
+        never : (e : Extent) (xs : List (Phrase Part)) → extent_from (Some e) xs ≡ None → ⊥
+        never e [] is = absurd cc
+        never e (x ∷ xs) is = never (joined (Some e) x) xs is
+    go (Some to) is =
+        let whole : (made label (Some to) (chosen Absent pattern (x ∷ xs))).failure ≡ None = ap (λ o. (made label o (chosen Absent pattern (x ∷ xs))).failure) (sym is) ∙ h in
+        let r = extent_passes (extent_of x) xs to is (either_first to.failure (failure_in label (chosen Absent pattern (x ∷ xs)) (making.make label to.span (chosen Absent pattern (x ∷ xs))) to.last) whole) in
+        (r.first, r.all)
 
 -- a production by which phrases of a nonterminal are made of a row
 abbrev pub Rebuild : ℕ → List Symbol → Label → List ℕ → Type 0

@@ -64,7 +64,7 @@ module _ (text : List ℕ) (x : Spanned Node) (p : IsParsed Expression text (par
   good : Expressed (plain n.Expression) p.tokens p.part.phrase
   good =
       let P : ℕ → Type 0 = λ k. Derives grammar (phrase k) p.tokens p.part.phrase in
-      derived (phrase (plain n.Expression)) p.tokens p.part.phrase (subst P goal_is_expression p.part.derived.derives)
+      derived (phrase (plain n.Expression)) p.tokens p.part.phrase (subst P goal_is_expression p.part.derived.derives) p.part.passed
 
   tree_is : good.0 ≡ node_tree x
   tree_is = go good.2.item.stands
