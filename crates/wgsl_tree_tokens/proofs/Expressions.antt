@@ -57,7 +57,7 @@ run_where h p = record { characters = p.characters; spells = p.spells; lays = la
 abbrev pub sign_run : {may : List ℕ → Bool} {ts : List TemplateToken} {cs : List ℕ} → Lays may cs ts → list_all (λ c. nat_lt c 128) cs ≡ true → Run may ts cs
 sign_run {cs = cs} l ascii = record { characters = cs; spells = spells_ascii cs ascii; lays = l }
 
-abbrev leaf_run : {may : List ℕ → Bool} {k : _} {xs : List ℕ} → Leaf may k xs → Run may (Plain k ∷ []) xs
+abbrev pub leaf_run : {may : List ℕ → Bool} {k : _} {xs : List ℕ} → Leaf may k xs → Run may (Plain k ∷ []) xs
 leaf_run p = record { characters = p.characters; spells = p.spells; lays = p.lays }
 
 -- of a phrase, which begins with none of `<`, `=` and `>`
@@ -92,19 +92,19 @@ ends_at : (c : ℕ) → is_xid_continue c ≡ false → is_number_char c ≡ fal
 ends_at c w n true rest = ap not n
 ends_at c w n false rest = ap not w
 
-at_space : (b : Bool) (rest : List ℕ) → ends b (32 ∷ rest) ≡ true
+pub at_space : (b : Bool) (rest : List ℕ) → ends b (32 ∷ rest) ≡ true
 unfolding unicode_ident
 at_space = ends_at 32 refl refl
 
-at_paren_left : (b : Bool) (rest : List ℕ) → ends b (40 ∷ rest) ≡ true
+pub at_paren_left : (b : Bool) (rest : List ℕ) → ends b (40 ∷ rest) ≡ true
 unfolding unicode_ident
 at_paren_left = ends_at 40 refl refl
 
-at_paren_right : (b : Bool) (rest : List ℕ) → ends b (41 ∷ rest) ≡ true
+pub at_paren_right : (b : Bool) (rest : List ℕ) → ends b (41 ∷ rest) ≡ true
 unfolding unicode_ident
 at_paren_right = ends_at 41 refl refl
 
-at_comma : (b : Bool) (rest : List ℕ) → ends b (44 ∷ rest) ≡ true
+pub at_comma : (b : Bool) (rest : List ℕ) → ends b (44 ∷ rest) ≡ true
 unfolding unicode_ident
 at_comma = ends_at 44 refl refl
 
@@ -128,7 +128,7 @@ at_colon : (rest : List ℕ) → ends_word (58 ∷ rest) ≡ true
 unfolding unicode_ident
 at_colon rest = refl
 
-at_period : (rest : List ℕ) → ends_word (46 ∷ rest) ≡ true
+pub at_period : (rest : List ℕ) → ends_word (46 ∷ rest) ≡ true
 unfolding unicode_ident
 at_period rest = refl
 
@@ -326,7 +326,7 @@ first_of x p q = phrase_then p q.run (λ rest ok. q.follows (ends_in_number x) r
 abbrev component_by : Exp → List ℕ → Bool → List ℕ
 component_by x name b = exp_text x ++ ((if b then codes " " else []) ++ (codes "." ++ name))
 
-abbrev point_run : (name : List ℕ) → IsSpelled (t.Identifier name) → Run ends_word (mark f.Period ∷ word name ∷ []) (codes "." ++ name)
+abbrev pub point_run : (name : List ℕ) → IsSpelled (t.Identifier name) → Run ends_word (mark f.Period ∷ word name ∷ []) (codes "." ++ name)
 point_run name s = run_then (sign_run lays_period refl) (leaf_run (word_leaf name s)) (λ rest ok. word_starts name s rest)
 
 component_phrase : (x : Exp) (name : List ℕ) → Phrase (ends (ends_in_number x)) (exp_tokens x) (exp_text x) → IsSpelled (t.Identifier name) → (is_numeric x || not (ends_in_number x)) ≡ true

@@ -3,4 +3,5 @@ pub mod Signs
 pub mod Floats
 pub mod Leaves
 pub mod Expressions
+pub mod Directives
 pub mod Spelled

@@ -181,3 +181,8 @@ lays_list_start = lays_start (λ e. cc) refl (fixed_form (codes "<") f.LessThan 
 pub lays_space : Lays (begins_with_none []) (codes " ") []
 unfolding unicode_ident
 lays_space = lays_trivia (λ e. cc) (trivia_form (codes " ") refl) (λ rest ok. sign_ends 32 [] rest refl refl refl refl ok)
+
+-- the end of a line
+pub lays_blank : Lays (begins_with_none []) (codes "\n") []
+unfolding unicode_ident
+lays_blank = lays_trivia (λ e. cc) (trivia_form (codes "\n") refl) (λ rest ok. sign_ends 10 [] rest refl refl refl refl ok)

@@ -1,11 +1,19 @@
 -- What is printed of a tree.
-use Rattle.std.specs.Prelude.{◌≡◌, true}
+use Rattle.std.specs.Prelude.{◌≡◌, true, List}
+use Rattle.wgsl_template_spec.specs.declared.token.TemplateToken.{TemplateToken}
 use Rattle.wgsl_token_layout.specs.Layout.{IsTextOf}
 use Rattle.wgsl_expressions.specs.Tree.{Exp}
 use Rattle.wgsl_expressions.specs.Print.{exp_text}
 use Rattle.wgsl_tree_tokens.specs.Tokens.{exp_tokens}
+use Rattle.wgsl_imports.specs.Tree.{Directive}
+use Rattle.wgsl_imports.specs.Print.{directive_text}
 use Rattle.wgsl_tree_tokens.specs.Printable.{AreSpelled, is_apart}
+use Rattle.wgsl_tree_tokens.specs.Directives.{HasTokens}
 
 -- The printed text of an expression is laid out as the expression's tokens.
 abbrev pub ExpressionsAreLaidOut : Type 0
 ExpressionsAreLaidOut = (e : Exp) → AreSpelled (exp_tokens e) → is_apart e ≡ true → IsTextOf (exp_tokens e) (exp_text e)
+
+-- So is that of a directive.
+abbrev pub DirectivesAreLaidOut : Type 0
+DirectivesAreLaidOut = (d : Directive) (ts : List TemplateToken) → HasTokens d ts → AreSpelled ts → IsTextOf ts (directive_text d)

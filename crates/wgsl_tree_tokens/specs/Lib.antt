@@ -1,3 +1,4 @@
 pub mod Tokens
 pub mod Printable
+pub mod Directives
 pub mod Laws

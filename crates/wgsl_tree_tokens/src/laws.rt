@@ -1,8 +1,13 @@
 //! Laws of the texts of trees. Each function states one, and does nothing.
 
-ghost use Rattle.wgsl_tree_tokens.specs.Laws.{ExpressionsAreLaidOut};
+ghost use Rattle.wgsl_tree_tokens.specs.Laws.{ExpressionsAreLaidOut, DirectivesAreLaidOut};
 
 /// The printed text of an expression is laid out as the expression's tokens.
 pub fn expressions_are_laid_out()
     ensures { ExpressionsAreLaidOut }
+{}
+
+/// So is that of a directive.
+pub fn directives_are_laid_out()
+    ensures { DirectivesAreLaidOut }
 {}

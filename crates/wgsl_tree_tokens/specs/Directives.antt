@@ -1,0 +1,32 @@
+-- The tokens of a directive as it is printed, one behind the other (WGSL, "Directives").
+use Rattle.std.specs.Prelude.{ℕ, List, [], ◌∷◌, ◌++◌, codes}
+use Rattle.wgsl_token.specs.declared.token.Fixed.TheVariants as f
+use Rattle.wgsl_template_spec.specs.declared.token.TemplateToken.{TemplateToken}
+use Rattle.wgsl_enumerations.specs.declared.words.DiagnosticSeverity.{DiagnosticSeverity}
+use Rattle.wgsl_enumerations.specs.Texts.{diagnostic_severity_text}
+use Rattle.wgsl_imports.specs.Tree.{Directive, diagnostic, enabling, requiring}
+use Rattle.wgsl_tree_tokens.specs.Tokens.{mark, word}
+
+-- a rule of a diagnostic: a name, or two names with a period between
+pub data IsRule : List ℕ → List TemplateToken → Type 0 where
+  one_name : (x : List ℕ) → IsRule x (word x ∷ [])
+  two_names : (x y : List ℕ) → IsRule (x ++ codes "." ++ y) (word x ∷ mark f.Period ∷ word y ∷ [])
+
+-- names behind the first, and all, with commas between them
+abbrev pub more_names_tokens : List (List ℕ) → List TemplateToken
+more_names_tokens [] = []
+more_names_tokens (x ∷ xs) = mark f.Comma ∷ word x ∷ more_names_tokens xs
+
+abbrev pub names_tokens : List (List ℕ) → List TemplateToken
+names_tokens [] = []
+names_tokens (x ∷ xs) = word x ∷ more_names_tokens xs
+
+-- a severity for a rule
+abbrev pub setting_tokens : DiagnosticSeverity → List TemplateToken → List TemplateToken
+setting_tokens severity rule = mark f.Diagnostic ∷ mark f.ParenLeft ∷ word (diagnostic_severity_text severity) ∷ mark f.Comma ∷ (rule ++ (mark f.ParenRight ∷ []))
+
+-- of directives without attributes, since no text has others
+pub data HasTokens : Directive → List TemplateToken → Type 0 where
+  of_diagnostic : (severity : DiagnosticSeverity) {rule : List ℕ} {ts : List TemplateToken} → IsRule rule ts → HasTokens (diagnostic [] severity rule) (setting_tokens severity ts ++ (mark f.Semicolon ∷ []))
+  of_enable : (names : List (List ℕ)) → HasTokens (enabling [] names) (mark f.Enable ∷ (names_tokens names ++ (mark f.Semicolon ∷ [])))
+  of_requires : (names : List (List ℕ)) → HasTokens (requiring [] names) (mark f.Requires ∷ (names_tokens names ++ (mark f.Semicolon ∷ [])))
