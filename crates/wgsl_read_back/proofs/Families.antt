@@ -30,7 +30,7 @@ use Rattle.wgsl_phrases.specs.declared.phrase.Phrase.{Phrase}
 use Rattle.wgsl_make_expressions.specs.Making as make
 use Rattle.wgsl_grammar_tables.specs.Classes.{fixed_class, class_of}
 use Rattle.wgsl_reading.specs.Failures.{made_failed}
-use Rattle.wgsl_read_back.proofs.Views.{View, view_tokens, Stands, a_token, an_ups, a_path, a_type, a_call, an_expression, some_expressions, ends_as}
+use Rattle.wgsl_read_back.proofs.Views.{View, view_tokens, Stands, a_token, an_ups, a_path, a_type, a_call, an_expression, some_expressions, a_text, some_texts, a_directive, ends_as}
 use Rattle.wgsl_read_back.proofs.Views as v
 use Rattle.wgsl_read_back.proofs.Items.{cont_as, Item, Back, OneToken, token_again, token_steps}
 use Rattle.wgsl_read_back.proofs.Rows.{nil as no_more, more, Stood, stood_pass, Makes, make_of, makes_of, Rebuild, back_of, of_one, of_two, of_three}
@@ -68,7 +68,7 @@ mark_item g u x k = token_item (fixed_class g) (mark g) u x k (mark_of k.one.tok
 
 -- ---- productions that pass on
 
-passed : {p : Part} {w : View} → Stands p w → (label : Label) → made_failed label p ≡ None
+pub passed : {p : Part} {w : View} → Stands p w → (label : Label) → made_failed label p ≡ None
 passed (a_token {t = k} e) label = ap (made_failed label) e ∙ none k
   where
     none : (k : TemplateToken) → made_failed label (leaves.leaf k) ≡ None
@@ -81,6 +81,9 @@ passed (a_type y e h) label = ap (made_failed label) e
 passed (a_call y e h g) label = ap (made_failed label) e
 passed (an_expression n e h) label = ap (made_failed label) e
 passed (some_expressions ns e h) label = ap (made_failed label) e
+passed (a_text e) label = ap (made_failed label) e
+passed (some_texts e) label = ap (made_failed label) e
+passed (a_directive y e h) label = ap (made_failed label) e
 
 pub pass_back : (n m : ℕ) (w : View) → Rebuild n (phrase m ∷ []) l.Pass (2 ∷ []) → {u : List SpannedTemplateToken} {x : Phrase Part} → Back m w u x → Back n w (u ++ []) (make_of l.Pass (2 ∷ []) (x ∷ []))
 pass_back n m w rebuild b =

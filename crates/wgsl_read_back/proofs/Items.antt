@@ -4,7 +4,7 @@ use Rattle.wgsl_template_spec.specs.declared.token.TemplateToken.{TemplateToken}
 use Rattle.wgsl_template_spec.specs.declared.token.SpannedTemplateToken.{SpannedTemplateToken}
 use Rattle.wgsl_template_spec.specs.Kinds.{kind}
 use Rattle.wgsl_token_layout.specs.Laws.{without_places}
-use Rattle.wgsl_token_layout.specs.OptionalMarks.{Before, before, ends_operand, is_closer, may_end_so, groups, AreAlike, same}
+use Rattle.wgsl_token_layout.specs.OptionalMarks.{Before, before, ends_operand, is_closer, may_end_so, groups, comma, begins_outside, AreAlike, same, first_has, first_extra}
 use Rattle.wgsl_tree_tokens.specs.Printable.{AreSpelled}
 use Rattle.wgsl_shift_reduce.specs.Grammars.{Symbol, token, phrase, Derives, a_token}
 use Rattle.wgsl_parts.specs.declared.part.Part.{Part}
@@ -77,11 +77,24 @@ pub record Back (n : ℕ) (v : View) (u : List SpannedTemplateToken) (x : Phrase
   pub level : (b : Before) (o : List Bool) → (item.steps b o).opened ≡ o
   pub ended : (b : Before) (o : List Bool) → ends_as v (item.steps b o).last
 
+-- What may stand behind a list that may end in a comma: what closes it, where it may, or what stands in no expression.
+pub data Shuts (t : TemplateToken) : Type 0 where
+  closes : is_closer (kind t) ≡ true → Shuts t
+  cuts : ((ts : List TemplateToken) → begins_outside (t ∷ ts) ≡ true) → Shuts t
+
+abbrev pub MayEnd : {t : TemplateToken} → Shuts t → List Bool → Type 0
+MayEnd (closes e) o = may_end_so o ≡ true
+MayEnd (cuts h) o = Unit {0}
+
+pub comma_gone : (b : Before) (o : List Bool) (t : TemplateToken) (ts us : List TemplateToken) → ends_operand b ≡ true → (s : Shuts t) → MayEnd s o → AreAlike (before t) (groups b o (kind t)) ts us → AreAlike b o (comma ∷ t ∷ ts) (t ∷ us)
+comma_gone b o t ts us e (closes c) may a = first_has t e may c a
+comma_gone b o t ts us e (cuts h) may a = first_extra comma refl (h us) (same t a)
+
 -- A list, behind which stands what closes it: it may end in a comma, which is not printed.
 pub record Ending (b : Before) (o : List Bool) (u v : List TemplateToken) : Type 0 where
   pub last : Before
   pub ended : ends_operand last ≡ true
-  pub cont : (t : TemplateToken) (ts us : List TemplateToken) → may_end_so o ≡ true → is_closer (kind t) ≡ true → AreAlike (before t) (groups last o (kind t)) ts us → AreAlike b o (u ++ (t ∷ ts)) (v ++ (t ∷ us))
+  pub cont : (t : TemplateToken) (ts us : List TemplateToken) → (s : Shuts t) → MayEnd s o → AreAlike (before t) (groups last o (kind t)) ts us → AreAlike b o (u ++ (t ∷ ts)) (v ++ (t ∷ us))
 
 pub record ListBack (n : ℕ) (v : View) (u : List SpannedTemplateToken) (x : Phrase Part) : Type 0 where
   pub stands : Stands x.part v

@@ -5,6 +5,7 @@ pub mod Places
 pub mod Families
 pub mod Operands
 pub mod Primaries
+pub mod Directives
 pub mod Steps
 pub mod Derived
 pub mod Whole

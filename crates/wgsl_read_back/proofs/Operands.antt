@@ -27,7 +27,7 @@ use Rattle.wgsl_make_expressions.specs.Making as make
 use Rattle.wgsl_grammar_tables.specs.Classes.{fixed_class}
 use Rattle.wgsl_read_back.proofs.Views.{View, view_tokens, Stands, a_token, an_ups, a_path, a_type, a_call, an_expression, some_expressions, ends_as}
 use Rattle.wgsl_read_back.proofs.Views as v
-use Rattle.wgsl_read_back.proofs.Items.{Item, ListBack, Back, OneToken}
+use Rattle.wgsl_read_back.proofs.Items.{Item, closes, ListBack, Back, OneToken}
 use Rattle.wgsl_read_back.proofs.Rows.{concat, nil as no_more, more, list_more, Stood, stood_pass, Makes, make_of, makes_of, Rebuild, back_of, of_one, of_two, of_three, of_four}
 use Rattle.wgsl_read_back.proofs.Places.{mark_of, word_of, start_of, end_of}
 use Rattle.wgsl_read_back.proofs.Families.{Typed, token_item, mark_item}
@@ -221,7 +221,7 @@ template_typed n m i rebuild {b = b} {d = d} {y = y} {w = w} g j h k =
           (v.path g.0 g.1 ∷ v.token TemplateArgsStart ∷ v.expressions h.0 ∷ v.token TemplateArgsEnd ∷ []) (v.type (templated g.0 g.1 (exps h.0)))
           (append_assoc (qualifier_tokens g.0) (word g.1 ∷ []) (TemplateArgsStart ∷ (exps_tokens (exps h.0) ++ (TemplateArgsEnd ∷ []))))
           (of_four (λ ys. Makes (v.type (templated g.0 g.1 (exps h.0))) (make_of (l.Name name.Templated) (2 ∷ 1 ∷ 2 ∷ 1 ∷ []) ys)) (makes g.0 g.1 h.0))
-          (more g.2.item (more (token_item 80 TemplateArgsStart b y j (start_of j.one.token j.class) refl) (list_more h.2 (token_item 81 TemplateArgsEnd d w k shut refl) (ap without_places (sym k.whole) ∙ ap (λ z. z ∷ []) shut) refl no_more)))
+          (more g.2.item (more (token_item 80 TemplateArgsStart b y j (start_of j.one.token j.class) refl) (list_more h.2 (token_item 81 TemplateArgsEnd d w k shut refl) (ap without_places (sym k.whole) ∙ ap (λ z. z ∷ []) shut) (closes refl) no_more)))
           (λ c p. (refl, tt)) (λ c p. g.2.level c p) (λ c p. refl),
     )
   where
@@ -271,7 +271,7 @@ call_with n m i rebuild {b = b} {d = d} {y = y} {w = w} g j h k =
       back_of n (phrase m ∷ token (fixed_class f.ParenLeft) ∷ phrase i ∷ token (fixed_class f.ParenRight) ∷ []) (l.Name name.Call) (2 ∷ 1 ∷ 2 ∷ 1 ∷ []) rebuild
           (v.type g.0 ∷ v.token (mark f.ParenLeft) ∷ v.expressions h.0 ∷ v.token (mark f.ParenRight) ∷ []) (v.call g.0 (exps h.0)) refl
           (of_four (λ ys. Makes (v.call g.0 (exps h.0)) (make_of (l.Name name.Call) (2 ∷ 1 ∷ 2 ∷ 1 ∷ []) ys)) (makes g.0 h.0))
-          (more g.2.item (more (mark_item f.ParenLeft b y j) (list_more h.2 (mark_item f.ParenRight d w k) (ap without_places (sym k.whole) ∙ ap (λ z. z ∷ []) shut) refl no_more)))
+          (more g.2.item (more (mark_item f.ParenLeft b y j) (list_more h.2 (mark_item f.ParenRight d w k) (ap without_places (sym k.whole) ∙ ap (λ z. z ∷ []) shut) (closes refl) no_more)))
           (λ c p. (ap is_callee (g.2.ended c p), tt)) (λ c p. g.2.level c p) (λ c p. refl),
     )
   where

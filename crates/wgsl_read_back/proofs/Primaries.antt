@@ -32,7 +32,7 @@ use Rattle.wgsl_make_expressions.specs.Lists as lists
 use Rattle.wgsl_grammar_tables.specs.Classes.{fixed_class, class_of}
 use Rattle.wgsl_read_back.proofs.Views.{View, view_tokens, Stands, a_token, an_ups, a_path, a_type, a_call, an_expression, some_expressions, ends_as}
 use Rattle.wgsl_read_back.proofs.Views as v
-use Rattle.wgsl_read_back.proofs.Items.{places_append, OneToken, moved}
+use Rattle.wgsl_read_back.proofs.Items.{places_append, OneToken, moved, MayEnd, comma_gone}
 use Rattle.wgsl_read_back.proofs.Rows.{nil as no_more, more, Stood, stood_pass, Makes, make_of, makes_of, Rebuild, back_of, of_one, of_three, of_four}
 use Rattle.wgsl_read_back.proofs.Places.{mark_of, word_of, number_of}
 use Rattle.wgsl_read_back.proofs.Families.{Expressed, Single, Typed, token_item, mark_item, pass_back}
@@ -254,7 +254,7 @@ listed_without n m rebuild g =
         ending = λ d o. let q = b.item.steps d o in record {
           last = q.last;
           ended = b.ended d o;
-          cont = λ t ts us may closer a. let P : List Bool → Type 0 = λ z. AreAlike (before t) (groups q.last z (kind t)) ts us in q.cont (t ∷ ts) (t ∷ us) (same t (subst P (sym (b.level d o)) a));
+          cont = λ t ts us s may a. let P : List Bool → Type 0 = λ z. AreAlike (before t) (groups q.last z (kind t)) ts us in q.cont (t ∷ ts) (t ∷ us) (same t (subst P (sym (b.level d o)) a));
         };
       },
     )
@@ -274,10 +274,10 @@ listed_with n m rebuild {a = a} {b = b} {x = x} {y = y} g k =
         ending = λ d o. let q = g.3.item.steps d o in record {
           last = q.last;
           ended = g.3.ended d o;
-          cont = λ t ts us may closer h.
+          cont = λ t ts us s may h.
               let P : List Bool → Type 0 = λ z. AreAlike (before t) (groups q.last z (kind t)) ts us in
-              let Q : List Bool → Type 0 = λ z. may_end_so z ≡ true in
-              moved (regroup t ts) refl (q.cont (comma ∷ t ∷ ts) (t ∷ us) (first_has t (g.3.ended d o) (subst Q (sym (g.3.level d o)) may) closer (subst P (sym (g.3.level d o)) h)));
+              let Q : List Bool → Type 0 = λ z. MayEnd s z in
+              moved (regroup t ts) refl (q.cont (comma ∷ t ∷ ts) (t ∷ us) (comma_gone q.last q.opened t ts us (g.3.ended d o) s (subst Q (sym (g.3.level d o)) may) (subst P (sym (g.3.level d o)) h)));
         };
       },
     )

@@ -13,6 +13,7 @@ use Rattle.wgsl_parts.specs.declared.part.Part.{Part}
 use Rattle.wgsl_parts.specs.declared.part.Part.TheVariants.{Absent}
 use Rattle.wgsl_parts.specs.declared.label.Label.{Label}
 use Rattle.wgsl_phrases.specs.declared.phrase.Phrase.{Phrase}
+use Rattle.wgsl_phrases.specs.declared.phrase.Check.{Check}
 use Rattle.wgsl_phrases.specs.declared.phrase.Failure.{Failure}
 use Rattle.wgsl_phrases.specs.declared.gather.Extent.{Extent}
 use Rattle.wgsl_phrases.specs.Gathering.{either, joined, extent_of, extent_from, chosen}
@@ -20,7 +21,7 @@ use Rattle.wgsl_make.specs.Making as making
 use Rattle.wgsl_reading.specs.Phrases.{grammar, made}
 use Rattle.wgsl_reading.specs.Failures.{failure_at, first_check, severity_failed, made_failed, failure_in}
 use Rattle.wgsl_read_back.proofs.Views.{View, token, view_tokens, Stands, ends_as}
-use Rattle.wgsl_read_back.proofs.Items.{places_append, split, Cont, Steps, moved, cont_then, cont_as, Again, Item, Ending, ListBack, Back}
+use Rattle.wgsl_read_back.proofs.Items.{places_append, split, Cont, Steps, moved, cont_then, cont_as, Again, Item, Shuts, MayEnd, Ending, ListBack, Back}
 
 abbrev pub concat : List View → List TemplateToken
 concat [] = []
@@ -31,7 +32,7 @@ pub data RowBack : List Symbol → List View → List SpannedTemplateToken → L
   more : {s : Symbol} {ss : List Symbol} {v : View} {vs : List View} {u w : List SpannedTemplateToken} {x : Phrase Part} {xs : List (Phrase Part)} → Item s v u x → RowBack ss vs w xs
       → RowBack (s ∷ ss) (v ∷ vs) (u ++ w) (x ∷ xs)
   list_more : {n : ℕ} {s : Symbol} {ss : List Symbol} {v : View} {t : TemplateToken} {vs : List View} {u k w : List SpannedTemplateToken} {x y : Phrase Part} {xs : List (Phrase Part)} → ListBack n v u x → Item s (token t) k y
-      → without_places k ≡ t ∷ [] → is_closer (kind t) ≡ true → RowBack ss vs w xs → RowBack (phrase n ∷ s ∷ ss) (v ∷ token t ∷ vs) (u ++ (k ++ w)) (x ∷ y ∷ xs)
+      → without_places k ≡ t ∷ [] → Shuts t → RowBack ss vs w xs → RowBack (phrase n ∷ s ∷ ss) (v ∷ token t ∷ vs) (u ++ (k ++ w)) (x ∷ y ∷ xs)
 
 data RowAgain : List Symbol → List View → List SpannedTemplateToken → List (Phrase Part) → Type 0 where
   nil_again : RowAgain [] [] [] []
@@ -64,7 +65,7 @@ again_row (list_more {n = n} {s = s} {ss = ss} {v = v} {t = t} {vs = vs} l i e c
     let P : List SpannedTemplateToken → Type 0 = λ z. RowFound (phrase n ∷ s ∷ ss) (v ∷ token t ∷ vs) z in
     subst P (ap (λ z. p.front ++ z) m.whole ∙ p.whole) (record { values = a.value ∷ b.value ∷ q.values; row = more_again a (more_again b q.row) })
 
-spelled_row : {ss : List Symbol} {vs : List View} {u : List SpannedTemplateToken} {xs : List (Phrase Part)} → RowBack ss vs u xs → AreSpelled (without_places u) → AreSpelled (concat vs)
+pub spelled_row : {ss : List Symbol} {vs : List View} {u : List SpannedTemplateToken} {xs : List (Phrase Part)} → RowBack ss vs u xs → AreSpelled (without_places u) → AreSpelled (concat vs)
 spelled_row nil h = tt
 spelled_row (more {v = v} {vs = vs} {u = u} {w = w} i r) h =
     let all = subst AreSpelled (places_append u w) h in
@@ -76,15 +77,15 @@ spelled_row (list_more {v = v} {t = t} {vs = vs} {u = u} {k = k} {w = w} l i e c
     (are_both (t ∷ []) (concat vs) (i.spelled (are_front (without_places k) (without_places w) behind)) (spelled_row r (are_behind (without_places k) (without_places w) behind)))
 
 -- the tokens of a list and what closes it
-pub closing : (b : Before) (o : List Bool) (u v : List TemplateToken) (t : TemplateToken) (x y : List TemplateToken) (d : Before) (q : List Bool) → (e : Ending b o u v) → may_end_so o ≡ true → is_closer (kind t) ≡ true
+pub closing : (b : Before) (o : List Bool) (u v : List TemplateToken) (t : TemplateToken) (x y : List TemplateToken) (d : Before) (q : List Bool) → (e : Ending b o u v) → (s : Shuts t) → MayEnd s o
     → Cont (before t) (groups e.last o (kind t)) x y d q → Cont b o (u ++ (t ∷ x)) (v ++ (t ∷ y)) d q
-closing b o u v t x y d q e may closer f ts us a = moved (sym (append_assoc u (t ∷ x) ts)) (sym (append_assoc v (t ∷ y) us)) (e.cont t (x ++ ts) (y ++ us) may closer (f ts us a))
+closing b o u v t x y d q e s may f ts us a = moved (sym (append_assoc u (t ∷ x) ts)) (sym (append_assoc v (t ∷ y) us)) (e.cont t (x ++ ts) (y ++ us) s may (f ts us a))
 
 -- each list stands where it may end in a comma
 abbrev pub Fine : {ss : List Symbol} {vs : List View} {u : List SpannedTemplateToken} {xs : List (Phrase Part)} → RowBack ss vs u xs → Before → List Bool → Type 0
 Fine nil b o = Unit {0}
 Fine (more i r) b o = Fine r (i.steps b o).last (i.steps b o).opened
-Fine (list_more {t = t} l i e c r) b o = (may_end_so o ≡ true) × Fine r (before t) (groups (l.ending b o).last o (kind t))
+Fine (list_more {t = t} l i e c r) b o = MayEnd c o × Fine r (before t) (groups (l.ending b o).last o (kind t))
 
 abbrev pub steps_row : {ss : List Symbol} {vs : List View} {u : List SpannedTemplateToken} {xs : List (Phrase Part)} → (r : RowBack ss vs u xs) → (b : Before) (o : List Bool) → Fine r b o → Steps b o (without_places u) (concat vs)
 steps_row nil b o fine = record { last = b; opened = o; cont = λ ts us a. a }
@@ -105,7 +106,7 @@ steps_row (list_more {v = v} {t = t} {vs = vs} {u = u} {k = k} {w = w} l i e c r
       opened = q.opened;
       cont = cont_as b o (without_places u ++ (t ∷ without_places w)) (view_tokens v ++ (t ∷ concat vs)) (without_places (u ++ (k ++ w))) (view_tokens v ++ (t ∷ concat vs)) q.last q.opened
           (sym (places_append u (k ++ w) ∙ ap (λ z. without_places u ++ z) (places_append k w ∙ ap (λ z. z ++ without_places w) e))) refl
-          (closing b o (without_places u) (view_tokens v) t (without_places w) (concat vs) q.last q.opened p fine.0 c q.cont);
+          (closing b o (without_places u) (view_tokens v) t (without_places w) (concat vs) q.last q.opened p c fine.0 q.cont);
     }
 
 -- ---- what a production makes
@@ -117,7 +118,7 @@ Stood [] (v ∷ vs) = ⊥
 Stood (y ∷ ys) [] = ⊥
 Stood (y ∷ ys) (v ∷ vs) = (Stands y.part v × (y.failure ≡ None)) × Stood ys vs
 
-stood_back : {ss : List Symbol} {vs : List View} {u : List SpannedTemplateToken} {xs : List (Phrase Part)} → RowBack ss vs u xs → Stood xs vs
+pub stood_back : {ss : List Symbol} {vs : List View} {u : List SpannedTemplateToken} {xs : List (Phrase Part)} → RowBack ss vs u xs → Stood xs vs
 stood_back nil = tt
 stood_back (more i r) = ((i.stands, i.passes), stood_back r)
 stood_back (list_more l i e c r) = ((l.stands, l.passes), ((i.stands, i.passes), stood_back r))
@@ -152,9 +153,9 @@ reaches : (e : Extent) (ys : List (Phrase Part)) → e.failure ≡ None → AllP
 reaches e [] h g = record { extent = e; is = refl; passes = h }
 reaches e (y ∷ ys) h g = reaches (joined (Some e) y) ys (ap (λ z. either z y.failure) h ∙ g.0) g.1
 
-pub makes_of : (label : Label) (pattern : List ℕ) (y : Phrase Part) (ys : List (Phrase Part)) (v : View) (p : Span → Part) → ((s : Span) → making.make label s (chosen Absent pattern (y ∷ ys)) ≡ p s) → ((s : Span) → Stands (p s) v)
-    → ((ps : List Part) → severity_failed label ps ≡ None) → ((s : Span) → made_failed label (p s) ≡ None) → AllPass (y ∷ ys) → Makes v (make_of label pattern (y ∷ ys))
-makes_of label pattern y ys v p is stands severe failed pass =
+pub makes_checked : (label : Label) (pattern : List ℕ) (y : Phrase Part) (ys : List (Phrase Part)) (v : View) (p : Span → Part) → ((s : Span) → making.make label s (chosen Absent pattern (y ∷ ys)) ≡ p s) → ((s : Span) → Stands (p s) v)
+    → severity_failed label (chosen Absent pattern (y ∷ ys)) ≡ None → ((s : Span) → made_failed label (p s) ≡ None) → AllPass (y ∷ ys) → Makes v (make_of label pattern (y ∷ ys))
+makes_checked label pattern y ys v p is stands severe failed pass =
     let r = reaches (extent_of y) ys pass.0 pass.1 in
     let P : Option Extent → Type 0 = λ o. Makes v (made label o (chosen Absent pattern (y ∷ ys))) in
     subst P (sym r.is) (record { stands = subst (λ z. Stands z v) (sym (is r.extent.span)) (stands r.extent.span); passes = passes r.extent r.passes })
@@ -162,9 +163,13 @@ makes_of label pattern y ys v p is stands severe failed pass =
     passes : (e : Extent) → e.failure ≡ None → (made label (Some e) (chosen Absent pattern (y ∷ ys))).failure ≡ None
     passes e h =
         ap (λ z. either z (failure_in label (chosen Absent pattern (y ∷ ys)) (making.make label e.span (chosen Absent pattern (y ∷ ys))) e.last)) h
-        ∙ ap (λ z. failure_at e.last (first_check z (made_failed label (making.make label e.span (chosen Absent pattern (y ∷ ys)))))) (severe (chosen Absent pattern (y ∷ ys)))
+        ∙ ap (λ z. failure_at e.last (first_check z (made_failed label (making.make label e.span (chosen Absent pattern (y ∷ ys)))))) severe
         ∙ ap (λ z. failure_at e.last (made_failed label z)) (is e.span)
         ∙ ap (failure_at e.last) (failed e.span)
+
+pub makes_of : (label : Label) (pattern : List ℕ) (y : Phrase Part) (ys : List (Phrase Part)) (v : View) (p : Span → Part) → ((s : Span) → making.make label s (chosen Absent pattern (y ∷ ys)) ≡ p s) → ((s : Span) → Stands (p s) v)
+    → ((ps : List Part) → severity_failed label ps ≡ None) → ((s : Span) → made_failed label (p s) ≡ None) → AllPass (y ∷ ys) → Makes v (make_of label pattern (y ∷ ys))
+makes_of label pattern y ys v p is stands severe failed pass = makes_checked label pattern y ys v p is stands (severe (chosen Absent pattern (y ∷ ys))) failed pass
 
 -- Where no check fails in what is made of some phrases, none fails in them.
 
@@ -186,16 +191,36 @@ extent_passes e (x ∷ xs) to is pass =
     let r = extent_passes (joined (Some e) x) xs to is pass in
     record { first = either_first e.failure x.failure r.first; all = (either_second e.failure x.failure r.first, r.all) }
 
+never : (e : Extent) (xs : List (Phrase Part)) → extent_from (Some e) xs ≡ None → ⊥
+never e [] is = absurd cc
+never e (x ∷ xs) is = never (joined (Some e) x) xs is
+
+-- nor is there a severity that is none
+no_failure : (s : Span) (o : Option Check) → failure_at s o ≡ None → o ≡ None
+no_failure s None e = refl
+no_failure s (Some c) e = absurd cc
+
+no_first : (o p : Option Check) → first_check o p ≡ None → o ≡ None
+no_first None p e = refl
+no_first (Some c) p e = absurd cc
+
+pub made_severity_passes : (label : Label) (pattern : List ℕ) (x : Phrase Part) (xs : List (Phrase Part)) → (make_of label pattern (x ∷ xs)).failure ≡ None → severity_failed label (chosen Absent pattern (x ∷ xs)) ≡ None
+made_severity_passes label pattern x xs h = go (extent_from (Some (extent_of x)) xs) refl
+  where
+    go : (o : Option Extent) → extent_from (Some (extent_of x)) xs ≡ o → severity_failed label (chosen Absent pattern (x ∷ xs)) ≡ None
+    go None is = absurd (never (extent_of x) xs is)
+    go (Some to) is =
+        let whole : (made label (Some to) (chosen Absent pattern (x ∷ xs))).failure ≡ None = ap (λ o. (made label o (chosen Absent pattern (x ∷ xs))).failure) (sym is) ∙ h in
+        let parts = chosen Absent pattern (x ∷ xs) in
+        no_first (severity_failed label parts) (made_failed label (making.make label to.span parts)) (no_failure to.last (first_check (severity_failed label parts) (made_failed label (making.make label to.span parts)))
+        (either_second to.failure (failure_in label parts (making.make label to.span parts) to.last) whole))
+
 pub made_parts_pass : (label : Label) (pattern : List ℕ) (xs : List (Phrase Part)) → (make_of label pattern xs).failure ≡ None → AllPass xs
 made_parts_pass label pattern [] h = tt
 made_parts_pass label pattern (x ∷ xs) h = go (extent_from (Some (extent_of x)) xs) refl
   where
     go : (o : Option Extent) → extent_from (Some (extent_of x)) xs ≡ o → AllPass (x ∷ xs)
     go None is = absurd (never (extent_of x) xs is)
-      where
-        never : (e : Extent) (xs : List (Phrase Part)) → extent_from (Some e) xs ≡ None → ⊥
-        never e [] is = absurd cc
-        never e (x ∷ xs) is = never (joined (Some e) x) xs is
     go (Some to) is =
         let whole : (made label (Some to) (chosen Absent pattern (x ∷ xs))).failure ≡ None = ap (λ o. (made label o (chosen Absent pattern (x ∷ xs))).failure) (sym is) ∙ h in
         let r = extent_passes (extent_of x) xs to is (either_first to.failure (failure_in label (chosen Absent pattern (x ∷ xs)) (making.make label to.span (chosen Absent pattern (x ∷ xs))) to.last) whole) in
@@ -256,3 +281,17 @@ of_four P f (a ∷ b ∷ []) h = absurd h.1.1
 of_four P f (a ∷ b ∷ c ∷ []) h = absurd h.1.1.1
 of_four P f (a ∷ b ∷ c ∷ d ∷ []) h = f a b c d h
 of_four P f (a ∷ b ∷ c ∷ d ∷ e ∷ ys) h = absurd h.1.1.1.1
+
+pub of_five : {v w x z k : View} (P : List (Phrase Part) → Type 0) → ((a b c d e : Phrase Part) → Stood (a ∷ b ∷ c ∷ d ∷ e ∷ []) (v ∷ w ∷ x ∷ z ∷ k ∷ []) → P (a ∷ b ∷ c ∷ d ∷ e ∷ [])) → (ys : List (Phrase Part)) → Stood ys (v ∷ w ∷ x ∷ z ∷ k ∷ []) → P ys
+of_five P f [] h = absurd h
+of_five P f (a ∷ []) h = absurd h.1
+of_five P f (a ∷ b ∷ []) h = absurd h.1.1
+of_five P f (a ∷ b ∷ c ∷ []) h = absurd h.1.1.1
+of_five P f (a ∷ b ∷ c ∷ d ∷ []) h = absurd h.1.1.1.1
+of_five P f (a ∷ b ∷ c ∷ d ∷ e ∷ []) h = f a b c d e h
+of_five P f (a ∷ b ∷ c ∷ d ∷ e ∷ g ∷ ys) h = absurd h.1.1.1.1.1
+
+pub of_six : {v w x z k m : View} (P : List (Phrase Part) → Type 0) → ((a b c d e g : Phrase Part) → Stood (a ∷ b ∷ c ∷ d ∷ e ∷ g ∷ []) (v ∷ w ∷ x ∷ z ∷ k ∷ m ∷ []) → P (a ∷ b ∷ c ∷ d ∷ e ∷ g ∷ [])) → (ys : List (Phrase Part))
+    → Stood ys (v ∷ w ∷ x ∷ z ∷ k ∷ m ∷ []) → P ys
+of_six P f [] h = absurd h
+of_six P f (a ∷ ys) h = of_five (λ zs. P (a ∷ zs)) (λ b c d e g i. f a b c d e g (h.0, i)) ys h.1

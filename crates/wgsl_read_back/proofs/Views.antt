@@ -1,4 +1,4 @@
--- What a phrase of an expression stands for, without places, and its tokens as they are printed.
+-- What a phrase stands for, without places, and its tokens as they are printed.
 use Rattle.std.proofs.Common.{◌≡◌, ℕ, true, List, [], ◌∷◌, ◌++◌, map, Option}
 use Rattle.wgsl_path.specs.declared.span.Spanned.{Spanned}
 use Rattle.wgsl_path.specs.declared.path.PathOrigin.TheVariants.{Relative}
@@ -11,6 +11,10 @@ use Rattle.wgsl_expressions.specs.declared.expression.FunctionCallOf.{FunctionCa
 use Rattle.wgsl_expressions.specs.declared.expression.TypeExpressionOf.{TypeExpressionOf}
 use Rattle.wgsl_expressions.specs.Tree.{Exp, Exps, exps, Typ}
 use Rattle.wgsl_expressions.specs.View.{node_tree, type_tree}
+use Rattle.wgsl_imports.specs.declared.directive.GlobalDirective.{GlobalDirective}
+use Rattle.wgsl_imports.specs.Tree.{Directive}
+use Rattle.wgsl_imports.specs.View.{directive_tree}
+use Rattle.wgsl_tree_tokens.specs.Directives.{names_tokens}
 use Rattle.wgsl_tree_tokens.specs.Tokens.{mark, word, origin_tokens, qualifier_tokens, exp_tokens, exps_tokens, typ_tokens}
 use Rattle.wgsl_parts.specs.declared.part.QualifiedName.{QualifiedName}
 use Rattle.wgsl_parts.specs.declared.part.Part.{Part}
@@ -25,6 +29,10 @@ pub data View : Type 0 where
   call : Typ → Exps → View
   expression : Exp → View
   expressions : List Exp → View
+  -- a text, and a directive, with the tokens as which they are printed
+  text : List ℕ → List TemplateToken → View
+  texts : List (List ℕ) → View
+  directive : Directive → List TemplateToken → View
 
 abbrev pub view_tokens : View → List TemplateToken
 view_tokens (token t) = t ∷ []
@@ -34,6 +42,9 @@ view_tokens (type t) = typ_tokens t
 view_tokens (call t xs) = typ_tokens t ++ (mark f.ParenLeft ∷ (exps_tokens xs ++ (mark f.ParenRight ∷ [])))
 view_tokens (expression e) = exp_tokens e
 view_tokens (expressions es) = exps_tokens (exps es)
+view_tokens (text x ts) = ts
+view_tokens (texts xs) = names_tokens xs
+view_tokens (directive d ts) = ts
 
 -- the part stands for this
 pub data Stands (p : Part) : View → Type 0 where
@@ -43,6 +54,9 @@ pub data Stands (p : Part) : View → Type 0 where
   a_type : {t : Typ} (y : TypeExpressionOf Expression) → p ≡ part.Type y → type_tree y ≡ t → Stands p (type t)
   a_call : {t : Typ} {xs : Exps} (y : FunctionCallOf Expression) → p ≡ part.Call y → type_tree y.ty ≡ t → exps (map node_tree y.arguments) ≡ xs → Stands p (call t xs)
   an_expression : {e : Exp} (n : Spanned Expression) → p ≡ part.Expression n → node_tree n ≡ e → Stands p (expression e)
+  a_text : {x : List ℕ} {ts : List TemplateToken} → p ≡ part.Text x → Stands p (text x ts)
+  some_texts : {xs : List (List ℕ)} → p ≡ part.Texts xs → Stands p (texts xs)
+  a_directive : {d : Directive} {ts : List TemplateToken} (y : GlobalDirective) → p ≡ part.Directive y → directive_tree y ≡ d → Stands p (directive d ts)
   some_expressions : {es : List Exp} (ns : List (Spanned Expression)) → p ≡ part.Expressions ns → map node_tree ns ≡ es → Stands p (expressions es)
 
 -- what the last token of a phrase is
@@ -51,4 +65,5 @@ ends_as (token t) b = Unit {0}
 ends_as (ups n) b = Unit {0}
 ends_as (path q x) b = b ≡ callee
 ends_as (type t) b = b ≡ callee
+ends_as (directive d ts) b = Unit {0}
 ends_as _ b = ends_operand b ≡ true
