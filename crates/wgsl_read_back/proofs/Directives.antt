@@ -1,5 +1,8 @@
 -- The productions of directives.
-use Rattle.std.proofs.Common.{◌≡◌, refl, sym, ap, ◌∙◌, subst, ℕ, Bool, true, List, [], ◌∷◌, ◌++◌, append_assoc, append-nil, codes, Option, Some, None}
+use Rattle.std.specs.Prelude.{if◌then◌else◌}
+use Rattle.std.specs.Str.{bytes_eq}
+use Rattle.wgsl_items.proofs.Members.{same_bytes}
+use Rattle.std.proofs.Common.{◌≡◌, refl, sym, ap, ◌∙◌, subst, ℕ, Bool, true, false, List, [], ◌∷◌, ◌++◌, append_assoc, append-nil, codes, Option, Some, None}
 use Rattle.wgsl_path.specs.Paths.{ident_of}
 use Rattle.wgsl_path.specs.declared.span.Span.{Span}
 use Rattle.wgsl_enumerations.specs.declared.words.DiagnosticSeverity.{DiagnosticSeverity}
@@ -11,7 +14,7 @@ use Rattle.wgsl_template_spec.specs.declared.token.TemplateToken.{TemplateToken}
 use Rattle.wgsl_template_spec.specs.declared.token.SpannedTemplateToken.{SpannedTemplateToken}
 use Rattle.wgsl_template_spec.specs.Kinds.{kind}
 use Rattle.wgsl_token_layout.specs.Laws.{without_places}
-use Rattle.wgsl_token_layout.specs.OptionalMarks.{Before, before, ends_operand, groups, comma, AreAlike, same, first_has}
+use Rattle.wgsl_token_layout.specs.OptionalMarks.{Before, before, ends_operand, may_end_so, outer, groups, comma, AreAlike, same, first_has}
 use Rattle.wgsl_imports.specs.declared.directive.GlobalDirective.{GlobalDirective}
 use Rattle.wgsl_imports.specs.declared.directive.GlobalDirective.TheVariants as directive
 use Rattle.wgsl_imports.specs.Tree.{Directive, diagnostic, enabling, requiring}
@@ -20,7 +23,7 @@ use Rattle.wgsl_tree_tokens.specs.Printable.{AreSpelled}
 use Rattle.wgsl_tree_tokens.specs.Directives.{IsRule, one_name, two_names, more_names_tokens, names_tokens, setting_tokens, HasTokens, of_diagnostic, of_enable, of_requires}
 use Rattle.wgsl_tree_tokens.proofs.Expressions.{are_front, are_behind, are_both}
 use Rattle.wgsl_choices.specs.Choices.{severity_of}
-use Rattle.wgsl_shift_reduce.specs.Grammars.{token, phrase}
+use Rattle.wgsl_shift_reduce.specs.Grammars.{Symbol, token, phrase}
 use Rattle.wgsl_parts.specs.declared.part.Part.{Part}
 use Rattle.wgsl_parts.specs.declared.part.Part.TheVariants as part
 use Rattle.wgsl_parts.specs.declared.label.Label.{Label}
@@ -184,3 +187,227 @@ names_with n m rebuild {a = a} {b = b} {x = x} {y = y} g k =
 
     regroup : (t : TemplateToken) (ts : List TemplateToken) → without_places a ++ (comma ∷ t ∷ ts) ≡ without_places (a ++ (b ++ [])) ++ (t ∷ ts)
     regroup t ts = sym (ap (λ z. z ++ (t ∷ ts)) (places_append a (b ++ []) ∙ ap (λ z. without_places a ++ z) one_comma) ∙ append_assoc (without_places a) (comma ∷ []) (t ∷ ts))
+
+-- ---- settings of diagnostics
+
+text_of_severity : (y : List ℕ) (s : DiagnosticSeverity) → severity_of y ≡ Some s → diagnostic_severity_text s ≡ y
+text_of_severity y s e = go (bytes_eq (codes "error") y) (bytes_eq (codes "warning") y) (bytes_eq (codes "info") y) (bytes_eq (codes "off") y) refl refl refl refl e
+  where
+    go : (a b c d : Bool) → bytes_eq (codes "error") y ≡ a → bytes_eq (codes "warning") y ≡ b → bytes_eq (codes "info") y ≡ c → bytes_eq (codes "off") y ≡ d
+        → (if a then Some Error else if b then Some Warning else if c then Some Info else if d then Some Off else None) ≡ Some s → diagnostic_severity_text s ≡ y
+    go true b c d h i j k e = let is : Error ≡ s = cc in ap diagnostic_severity_text (sym is) ∙ same_bytes (codes "error") y h
+    go false true c d h i j k e = let is : Warning ≡ s = cc in ap diagnostic_severity_text (sym is) ∙ same_bytes (codes "warning") y i
+    go false false true d h i j k e = let is : Info ≡ s = cc in ap diagnostic_severity_text (sym is) ∙ same_bytes (codes "info") y j
+    go false false false true h i j k e = let is : Off ≡ s = cc in ap diagnostic_severity_text (sym is) ∙ same_bytes (codes "off") y k
+    go false false false false h i j k e = absurd cc
+
+severity_is : (s : DiagnosticSeverity) → severity_of (diagnostic_severity_text s) ≡ Some s
+severity_is Error = refl
+severity_is Warning = refl
+severity_is Info = refl
+severity_is Off = refl
+
+known_severity : (o : Option DiagnosticSeverity) → unknown_severity o ≡ None → (s : DiagnosticSeverity) × (o ≡ Some s)
+known_severity None e = absurd cc
+known_severity (Some s) e = (s, refl)
+
+abbrev setting : DiagnosticSeverity → List ℕ → Part
+setting s rule = part.Directive (directive.Diagnostic (record { attributes = []; severity = s; rule_name = rule }))
+
+-- what is made of a word that names a severity, and of a rule
+module _ (s : DiagnosticSeverity) (rule : List ℕ) (p q : Part) (e : p ≡ part.Ident (ident_of (diagnostic_severity_text s))) (h : q ≡ part.Text rule) where
+  setting_is : make.diagnostic (p ∷ q ∷ []) ≡ setting s rule
+  setting_is = (λ i. make.diagnostic (e i ∷ h i ∷ [])) ∙ ap (λ o. setting (make.or_off o) rule) (severity_is s)
+
+  setting_passes : part_severity (Some p) ≡ None
+  setting_passes = ap (λ z. part_severity (Some z)) e ∙ ap unknown_severity (severity_is s)
+
+-- the severity of one in which no check fails
+found_severity : (y : List ℕ) (p : Part) → p ≡ part.Ident (ident_of y) → part_severity (Some p) ≡ None → (s : DiagnosticSeverity) × (diagnostic_severity_text s ≡ y)
+found_severity y p e h =
+    let k = known_severity (severity_of y) (ap (λ z. part_severity (Some z)) (sym e) ∙ h) in
+    (k.0, text_of_severity y k.0 k.1)
+
+abbrev bare_pattern : List ℕ
+bare_pattern = 1 ∷ 1 ∷ 2 ∷ 1 ∷ 2 ∷ 1 ∷ []
+
+abbrev comma_pattern : List ℕ
+comma_pattern = 1 ∷ 1 ∷ 2 ∷ 1 ∷ 2 ∷ 1 ∷ 1 ∷ []
+
+abbrev bare_row : ℕ → List Symbol
+bare_row m = token (fixed_class f.Diagnostic) ∷ token (fixed_class f.ParenLeft) ∷ token 77 ∷ token (fixed_class f.Comma) ∷ phrase m ∷ token (fixed_class f.ParenRight) ∷ []
+
+abbrev comma_row : ℕ → List Symbol
+comma_row m = token (fixed_class f.Diagnostic) ∷ token (fixed_class f.ParenLeft) ∷ token 77 ∷ token (fixed_class f.Comma) ∷ phrase m ∷ token (fixed_class f.Comma) ∷ token (fixed_class f.ParenRight) ∷ []
+
+abbrev bare_views : DiagnosticSeverity → List ℕ → List TemplateToken → List View
+bare_views s rule ts = v.token (mark f.Diagnostic) ∷ v.token (mark f.ParenLeft) ∷ v.token (word (diagnostic_severity_text s)) ∷ v.token comma ∷ v.text rule ts ∷ v.token (mark f.ParenRight) ∷ []
+
+-- the word that names the severity
+abbrev severity_item : (u : List SpannedTemplateToken) (x : Phrase Part) → (k : OneToken 77 u x) → (s : DiagnosticSeverity) → diagnostic_severity_text s ≡ (word_of k.one.token k.class).0 → Item (token 77) (v.token (word (diagnostic_severity_text s))) u x
+severity_item u x k s e = token_item 77 (word (diagnostic_severity_text s)) u x k ((word_of k.one.token k.class).1 ∙ ap word (sym e)) refl
+
+severity_in_row : (m : ℕ) {c : List SpannedTemplateToken} {z : Phrase Part} (k : OneToken 77 c z) → part_severity (Some z.part) ≡ None → (s : DiagnosticSeverity) × (diagnostic_severity_text s ≡ (word_of k.one.token k.class).0)
+severity_in_row m {c = c} {z = z} k h = found_severity (word_of k.one.token k.class).0 z.part (word_part z.part (word_of k.one.token k.class).0 (word_item c z k).stands) h
+
+module _ (n m : ℕ) (rebuild : Rebuild n (bare_row m) (l.Directive label.Diagnostic) bare_pattern) (s : DiagnosticSeverity) (rule : List ℕ) (ts : List TemplateToken) where
+  bare_makes : (a b c d e g : Phrase Part) → Stood (a ∷ b ∷ c ∷ d ∷ e ∷ g ∷ []) (bare_views s rule ts) → Makes (v.directive (diagnostic [] s rule) (setting_tokens s ts)) (make_of (l.Directive label.Diagnostic) bare_pattern (a ∷ b ∷ c ∷ d ∷ e ∷ g ∷ []))
+  bare_makes a b c d e g h =
+      let is = word_part c.part (diagnostic_severity_text s) h.1.1.0.0 in
+      let at = text_part e.part rule ts h.1.1.1.1.0.0 in
+      makes_checked (l.Directive label.Diagnostic) bare_pattern a (b ∷ c ∷ d ∷ e ∷ g ∷ []) (v.directive (diagnostic [] s rule) (setting_tokens s ts)) (λ z. setting s rule) (λ z. setting_is s rule c.part e.part is at) (λ z. a_directive _ refl refl)
+      (setting_passes s rule c.part e.part is at) (λ z. refl) (stood_pass (a ∷ b ∷ c ∷ d ∷ e ∷ g ∷ []) (bare_views s rule ts) h)
+
+  bare_back : {u : List SpannedTemplateToken} {xs : List (Phrase Part)} → (r : RowBack (bare_row m) (bare_views s rule ts) u xs) → (fine : (b : Before) (o : List Bool) → Fine r b o) → ((b : Before) (o : List Bool) → (steps_row r b o (fine b o)).opened ≡ o)
+      → Back n (v.directive (diagnostic [] s rule) (setting_tokens s ts)) u (make_of (l.Directive label.Diagnostic) bare_pattern xs)
+  bare_back r fine level =
+      back_of n (bare_row m) (l.Directive label.Diagnostic) bare_pattern rebuild (bare_views s rule ts) (v.directive (diagnostic [] s rule) (setting_tokens s ts)) refl
+      (of_six (λ ys. Makes (v.directive (diagnostic [] s rule) (setting_tokens s ts)) (make_of (l.Directive label.Diagnostic) bare_pattern ys)) bare_makes) r fine level (λ b o. tt)
+
+pub setting_without : (n m : ℕ) → Rebuild n (bare_row m) (l.Directive label.Diagnostic) bare_pattern → {a b c d e g : List SpannedTemplateToken} {x1 x2 x3 x4 x5 x6 : Phrase Part}
+    → OneToken (fixed_class f.Diagnostic) a x1 → OneToken (fixed_class f.ParenLeft) b x2 → OneToken 77 c x3 → OneToken (fixed_class f.Comma) d x4 → Ruled m e x5 → OneToken (fixed_class f.ParenRight) g x6
+    → (make_of (l.Directive label.Diagnostic) bare_pattern (x1 ∷ x2 ∷ x3 ∷ x4 ∷ x5 ∷ x6 ∷ [])).failure ≡ None
+    → Controlled n (a ++ (b ++ (c ++ (d ++ (e ++ (g ++ [])))))) (make_of (l.Directive label.Diagnostic) bare_pattern (x1 ∷ x2 ∷ x3 ∷ x4 ∷ x5 ∷ x6 ∷ []))
+setting_without n m rebuild {a = a} {b = b} {c = c} {d = d} {g = g} {x1 = x1} {x2 = x2} {x3 = x3} {x4 = x4} {x5 = x5} {x6 = x6} i j k o r p pass =
+    let s = severity_in_row m k (made_severity_passes (l.Directive label.Diagnostic) bare_pattern x1 (x2 ∷ x3 ∷ x4 ∷ x5 ∷ x6 ∷ []) pass) in (
+      s.0,
+      r.0,
+      r.1,
+      r.2,
+      bare_back n m rebuild s.0 r.0 r.1
+          (more (mark_item f.Diagnostic a x1 i) (more (mark_item f.ParenLeft b x2 j) (more (severity_item c x3 k s.0 s.1) (more (mark_item f.Comma d x4 o) (more r.3.item (more (mark_item f.ParenRight g x6 p) no_more))))))
+          (λ b o. tt) (λ b o. ap outer (r.3.level (before comma) (true ∷ o))),
+    )
+
+-- the same with a last comma, which is not printed
+abbrev comma_views : DiagnosticSeverity → List ℕ → List TemplateToken → List View
+comma_views s rule ts = v.token (mark f.Diagnostic) ∷ v.token (mark f.ParenLeft) ∷ v.token (word (diagnostic_severity_text s)) ∷ v.token comma ∷ v.text rule ts ∷ v.token comma ∷ v.token (mark f.ParenRight) ∷ []
+
+comma_makes : (s : DiagnosticSeverity) (rule : List ℕ) (ts : List TemplateToken) (a b c d e k g : Phrase Part) → Stood (a ∷ b ∷ c ∷ d ∷ e ∷ k ∷ g ∷ []) (comma_views s rule ts)
+    → Makes (v.directive (diagnostic [] s rule) (setting_tokens s ts)) (make_of (l.Directive label.Diagnostic) comma_pattern (a ∷ b ∷ c ∷ d ∷ e ∷ k ∷ g ∷ []))
+comma_makes s rule ts a b c d e k g h =
+    let is = word_part c.part (diagnostic_severity_text s) h.1.1.0.0 in
+    let at = text_part e.part rule ts h.1.1.1.1.0.0 in
+    makes_checked (l.Directive label.Diagnostic) comma_pattern a (b ∷ c ∷ d ∷ e ∷ k ∷ g ∷ []) (v.directive (diagnostic [] s rule) (setting_tokens s ts)) (λ z. setting s rule) (λ z. setting_is s rule c.part e.part is at) (λ z. a_directive _ refl refl)
+    (setting_passes s rule c.part e.part is at) (λ z. refl) (stood_pass (a ∷ b ∷ c ∷ d ∷ e ∷ k ∷ g ∷ []) (comma_views s rule ts) h)
+
+joined : {A : Type 0} (a b c d e w : List A) → (a ++ (b ++ (c ++ (d ++ (e ++ []))))) ++ w ≡ a ++ (b ++ (c ++ (d ++ (e ++ w))))
+joined a b c d e w =
+    append_assoc a (b ++ (c ++ (d ++ (e ++ [])))) w
+    ∙ ap (λ z. a ++ z) (append_assoc b (c ++ (d ++ (e ++ []))) w ∙ ap (λ z. b ++ z) (append_assoc c (d ++ (e ++ [])) w ∙ ap (λ z. c ++ z) (append_assoc d (e ++ []) w ∙ ap (λ z. d ++ z) (append_assoc e [] w))))
+
+pub setting_with : (n m : ℕ) → Rebuild n (bare_row m) (l.Directive label.Diagnostic) bare_pattern → {a b c d e k g : List SpannedTemplateToken} {x1 x2 x3 x4 x5 x6 x7 : Phrase Part}
+    → OneToken (fixed_class f.Diagnostic) a x1 → OneToken (fixed_class f.ParenLeft) b x2 → OneToken 77 c x3 → OneToken (fixed_class f.Comma) d x4 → Ruled m e x5 → OneToken (fixed_class f.Comma) k x6 → OneToken (fixed_class f.ParenRight) g x7
+    → (make_of (l.Directive label.Diagnostic) comma_pattern (x1 ∷ x2 ∷ x3 ∷ x4 ∷ x5 ∷ x6 ∷ x7 ∷ [])).failure ≡ None
+    → Controlled n (a ++ (b ++ (c ++ (d ++ (e ++ (k ++ (g ++ []))))))) (make_of (l.Directive label.Diagnostic) comma_pattern (x1 ∷ x2 ∷ x3 ∷ x4 ∷ x5 ∷ x6 ∷ x7 ∷ []))
+setting_with n m rebuild {a = a} {b = b} {c = c} {d = d} {e = e} {k = k} {g = g} {x1 = x1} {x2 = x2} {x3 = x3} {x4 = x4} {x5 = x5} {x6 = x6} {x7 = x7} i1 i2 i3 i4 r i6 i7 pass = (
+  s.0,
+  r.0,
+  r.1,
+  r.2,
+  record {
+    item = record {
+      stands = made.stands;
+      passes = made.passes;
+      again = bare.item.again;
+      spelled = λ h. let z = spelled_row whole h in
+          (z.0, (z.1.0, (z.1.1.0, (z.1.1.1.0, are_both r.1 (mark f.ParenRight ∷ []) (are_front r.1 (comma ∷ mark f.ParenRight ∷ []) z.1.1.1.1) (are_behind r.1 (comma ∷ mark f.ParenRight ∷ []) z.1.1.1.1).1))));
+      steps = λ o p. let q = steps_row front o p tt in record {
+        last = before (mark f.ParenRight);
+        opened = outer q.opened;
+        cont = λ ts us h. moved (source ts) (printed us)
+            (q.cont (comma ∷ mark f.ParenRight ∷ ts) (mark f.ParenRight ∷ us) (first_has (mark f.ParenRight) (r.3.ended (before comma) (true ∷ p)) (ap may_end_so (r.3.level (before comma) (true ∷ p))) refl h));
+      };
+    };
+    level = λ o p. ap outer (r.3.level (before comma) (true ∷ p));
+    ended = λ o p. tt;
+  },
+)
+  where
+    s : (s : DiagnosticSeverity) × (diagnostic_severity_text s ≡ (word_of i3.one.token i3.class).0)
+    s = severity_in_row m i3 (made_severity_passes (l.Directive label.Diagnostic) comma_pattern x1 (x2 ∷ x3 ∷ x4 ∷ x5 ∷ x6 ∷ x7 ∷ []) pass)
+
+    front : RowBack (token (fixed_class f.Diagnostic) ∷ token (fixed_class f.ParenLeft) ∷ token 77 ∷ token (fixed_class f.Comma) ∷ phrase m ∷ []) (v.token (mark f.Diagnostic) ∷ v.token (mark f.ParenLeft) ∷ v.token (word (diagnostic_severity_text s.0)) ∷ v.token comma ∷ v.text r.0 r.1 ∷ []) (a ++ (b ++ (c ++ (d ++ (e ++ []))))) (x1 ∷ x2 ∷ x3 ∷ x4 ∷ x5 ∷ [])
+    front = more (mark_item f.Diagnostic a x1 i1) (more (mark_item f.ParenLeft b x2 i2) (more (severity_item c x3 i3 s.0 s.1) (more (mark_item f.Comma d x4 i4) (more r.3.item no_more))))
+
+    whole : RowBack (comma_row m) (comma_views s.0 r.0 r.1) (a ++ (b ++ (c ++ (d ++ (e ++ (k ++ (g ++ []))))))) (x1 ∷ x2 ∷ x3 ∷ x4 ∷ x5 ∷ x6 ∷ x7 ∷ [])
+    whole = more (mark_item f.Diagnostic a x1 i1) (more (mark_item f.ParenLeft b x2 i2) (more (severity_item c x3 i3 s.0 s.1) (more (mark_item f.Comma d x4 i4) (more r.3.item (more (mark_item f.Comma k x6 i6) (more (mark_item f.ParenRight g x7 i7) no_more))))))
+
+    made : Makes (v.directive (diagnostic [] s.0 r.0) (setting_tokens s.0 r.1)) (make_of (l.Directive label.Diagnostic) comma_pattern (x1 ∷ x2 ∷ x3 ∷ x4 ∷ x5 ∷ x6 ∷ x7 ∷ []))
+    made = comma_makes s.0 r.0 r.1 x1 x2 x3 x4 x5 x6 x7 (stood_back whole)
+
+    bare : Back n (v.directive (diagnostic [] s.0 r.0) (setting_tokens s.0 r.1)) (a ++ (b ++ (c ++ (d ++ (e ++ (g ++ [])))))) (make_of (l.Directive label.Diagnostic) bare_pattern (x1 ∷ x2 ∷ x3 ∷ x4 ∷ x5 ∷ x7 ∷ []))
+    bare =
+        bare_back n m rebuild s.0 r.0 r.1
+        (more (mark_item f.Diagnostic a x1 i1) (more (mark_item f.ParenLeft b x2 i2) (more (severity_item c x3 i3 s.0 s.1) (more (mark_item f.Comma d x4 i4) (more r.3.item (more (mark_item f.ParenRight g x7 i7) no_more))))))
+        (λ b o. tt) (λ b o. ap outer (r.3.level (before comma) (true ∷ o)))
+
+    last_tokens : without_places (k ++ (g ++ [])) ≡ comma ∷ mark f.ParenRight ∷ []
+    last_tokens =
+        places_append k (g ++ []) ∙ (λ i. (ap without_places (sym i6.whole) ∙ ap (λ z. z ∷ []) (mark_of i6.one.token f.Comma i6.class)) i ++ (places_append g [] ∙ append-nil (without_places g) ∙ ap without_places (sym i7.whole) ∙ ap (λ z. z ∷ []) (mark_of i7.one.token f.ParenRight i7.class)) i)
+
+    all_tokens : without_places (a ++ (b ++ (c ++ (d ++ (e ++ (k ++ (g ++ []))))))) ≡ without_places (a ++ (b ++ (c ++ (d ++ (e ++ []))))) ++ (comma ∷ mark f.ParenRight ∷ [])
+    all_tokens =
+        ap without_places (sym (joined a b c d e (k ++ (g ++ [])))) ∙ places_append (a ++ (b ++ (c ++ (d ++ (e ++ []))))) (k ++ (g ++ [])) ∙ ap (λ z. without_places (a ++ (b ++ (c ++ (d ++ (e ++ []))))) ++ z) last_tokens
+
+    source : (ts : List TemplateToken) → without_places (a ++ (b ++ (c ++ (d ++ (e ++ []))))) ++ (comma ∷ mark f.ParenRight ∷ ts) ≡ without_places (a ++ (b ++ (c ++ (d ++ (e ++ (k ++ (g ++ []))))))) ++ ts
+    source ts = sym (ap (λ z. z ++ ts) all_tokens ∙ append_assoc (without_places (a ++ (b ++ (c ++ (d ++ (e ++ [])))))) (comma ∷ mark f.ParenRight ∷ []) ts)
+
+    printed : (us : List TemplateToken) → concat (v.token (mark f.Diagnostic) ∷ v.token (mark f.ParenLeft) ∷ v.token (word (diagnostic_severity_text s.0)) ∷ v.token comma ∷ v.text r.0 r.1 ∷ []) ++ (mark f.ParenRight ∷ us) ≡ setting_tokens s.0 r.1 ++ us
+    printed us = ap (λ z. mark f.Diagnostic ∷ mark f.ParenLeft ∷ word (diagnostic_severity_text s.0) ∷ comma ∷ z) (append_assoc r.1 [] (mark f.ParenRight ∷ us) ∙ sym (append_assoc r.1 (mark f.ParenRight ∷ []) us))
+
+-- ---- directives
+
+pub directive_of_setting : (n m : ℕ) → Rebuild n (phrase m ∷ token (fixed_class f.Semicolon) ∷ []) l.Pass (2 ∷ 1 ∷ []) → {a b : List SpannedTemplateToken} {x y : Phrase Part} → Controlled m a x → OneToken (fixed_class f.Semicolon) b y
+    → Directed n (a ++ (b ++ [])) (make_of l.Pass (2 ∷ 1 ∷ []) (x ∷ y ∷ []))
+directive_of_setting n m rebuild {b = b} {y = y} g k = (
+  diagnostic [] g.0 g.1,
+  setting_tokens g.0 g.2 ++ (mark f.Semicolon ∷ []),
+  of_diagnostic g.0 g.3,
+  back_of n (phrase m ∷ token (fixed_class f.Semicolon) ∷ []) l.Pass (2 ∷ 1 ∷ []) rebuild (v.directive (diagnostic [] g.0 g.1) (setting_tokens g.0 g.2) ∷ v.token (mark f.Semicolon) ∷ [])
+      (v.directive (diagnostic [] g.0 g.1) (setting_tokens g.0 g.2 ++ (mark f.Semicolon ∷ []))) refl
+      (of_two (λ ys. Makes (v.directive (diagnostic [] g.0 g.1) (setting_tokens g.0 g.2 ++ (mark f.Semicolon ∷ []))) (make_of l.Pass (2 ∷ 1 ∷ []) ys)) (makes (diagnostic [] g.0 g.1) (setting_tokens g.0 g.2)))
+      (more g.4.item (more (mark_item f.Semicolon b y k) no_more)) (λ c p. tt) (λ c p. g.4.level c p) (λ c p. tt),
+)
+  where
+    makes : (d : Directive) (ts : List TemplateToken) (a b : Phrase Part) → Stood (a ∷ b ∷ []) (v.directive d ts ∷ v.token (mark f.Semicolon) ∷ []) → Makes (v.directive d (ts ++ (mark f.Semicolon ∷ []))) (make_of l.Pass (2 ∷ 1 ∷ []) (a ∷ b ∷ []))
+    makes d ts a b h = go h.0.0
+      where
+        go : Stands a.part (v.directive d ts) → Makes (v.directive d (ts ++ (mark f.Semicolon ∷ []))) (make_of l.Pass (2 ∷ 1 ∷ []) (a ∷ b ∷ []))
+        go (a_directive y e p) =
+            makes_of l.Pass (2 ∷ 1 ∷ []) a (b ∷ []) (v.directive d (ts ++ (mark f.Semicolon ∷ []))) (λ z. part.Directive y) (λ z. e) (λ z. a_directive y refl p) (λ ps. refl) (λ z. refl)
+            (stood_pass (a ∷ b ∷ []) (v.directive d ts ∷ v.token (mark f.Semicolon) ∷ []) h)
+
+abbrev names_row : Fixed → ℕ → List Symbol
+names_row g m = token (fixed_class g) ∷ phrase m ∷ token (fixed_class f.Semicolon) ∷ []
+
+semicolon_tokens : {b : List SpannedTemplateToken} {y : Phrase Part} → (k : OneToken (fixed_class f.Semicolon) b y) → without_places b ≡ mark f.Semicolon ∷ []
+semicolon_tokens k = ap without_places (sym k.whole) ∙ ap (λ z. z ∷ []) (mark_of k.one.token f.Semicolon k.class)
+
+pub enabled : (n m : ℕ) → Rebuild n (names_row f.Enable m) (l.Directive label.Enable) (1 ∷ 2 ∷ 1 ∷ []) → {a b c : List SpannedTemplateToken} {x y z : Phrase Part} → OneToken (fixed_class f.Enable) a x → NamesListed m b y → OneToken (fixed_class f.Semicolon) c z
+    → Directed n (a ++ (b ++ (c ++ []))) (make_of (l.Directive label.Enable) (1 ∷ 2 ∷ 1 ∷ []) (x ∷ y ∷ z ∷ []))
+enabled n m rebuild {a = a} {c = c} {x = x} {z = z} i g k =
+    let ts : List TemplateToken = mark f.Enable ∷ (names_tokens g.0 ++ (mark f.Semicolon ∷ [])) in (
+      enabling [] g.0,
+      ts,
+      of_enable g.0,
+      back_of n (names_row f.Enable m) (l.Directive label.Enable) (1 ∷ 2 ∷ 1 ∷ []) rebuild (v.token (mark f.Enable) ∷ v.texts g.0 ∷ v.token (mark f.Semicolon) ∷ []) (v.directive (enabling [] g.0) ts) refl
+          (of_three (λ ys. Makes (v.directive (enabling [] g.0) ts) (make_of (l.Directive label.Enable) (1 ∷ 2 ∷ 1 ∷ []) ys)) (λ d e h w.
+          makes_of (l.Directive label.Enable) (1 ∷ 2 ∷ 1 ∷ []) d (e ∷ h ∷ []) (v.directive (enabling [] g.0) ts) (λ s. part.Directive (directive.Enable (record { attributes = []; extensions = g.0 }))) (λ s i. make.enable (texts_part e.part g.0 w.1.0.0 i ∷ []))
+          (λ s. a_directive _ refl refl) (λ ps. refl) (λ s. refl) (stood_pass (d ∷ e ∷ h ∷ []) (v.token (mark f.Enable) ∷ v.texts g.0 ∷ v.token (mark f.Semicolon) ∷ []) w)))
+          (more (mark_item f.Enable a x i) (list_more g.1 (mark_item f.Semicolon c z k) (semicolon_tokens k) (cuts (λ xs. refl)) no_more)) (λ c p. (tt, tt)) (λ c p. refl) (λ c p. tt),
+    )
+
+pub required : (n m : ℕ) → Rebuild n (names_row f.Requires m) (l.Directive label.Requires) (1 ∷ 2 ∷ 1 ∷ []) → {a b c : List SpannedTemplateToken} {x y z : Phrase Part} → OneToken (fixed_class f.Requires) a x → NamesListed m b y → OneToken (fixed_class f.Semicolon) c z
+    → Directed n (a ++ (b ++ (c ++ []))) (make_of (l.Directive label.Requires) (1 ∷ 2 ∷ 1 ∷ []) (x ∷ y ∷ z ∷ []))
+required n m rebuild {a = a} {c = c} {x = x} {z = z} i g k =
+    let ts : List TemplateToken = mark f.Requires ∷ (names_tokens g.0 ++ (mark f.Semicolon ∷ [])) in (
+      requiring [] g.0,
+      ts,
+      of_requires g.0,
+      back_of n (names_row f.Requires m) (l.Directive label.Requires) (1 ∷ 2 ∷ 1 ∷ []) rebuild (v.token (mark f.Requires) ∷ v.texts g.0 ∷ v.token (mark f.Semicolon) ∷ []) (v.directive (requiring [] g.0) ts) refl
+          (of_three (λ ys. Makes (v.directive (requiring [] g.0) ts) (make_of (l.Directive label.Requires) (1 ∷ 2 ∷ 1 ∷ []) ys)) (λ d e h w.
+          makes_of (l.Directive label.Requires) (1 ∷ 2 ∷ 1 ∷ []) d (e ∷ h ∷ []) (v.directive (requiring [] g.0) ts) (λ s. part.Directive (directive.Requires (record { attributes = []; extensions = g.0 })))
+          (λ s i. make.requires_extensions (texts_part e.part g.0 w.1.0.0 i ∷ [])) (λ s. a_directive _ refl refl) (λ ps. refl) (λ s. refl) (stood_pass (d ∷ e ∷ h ∷ []) (v.token (mark f.Requires) ∷ v.texts g.0 ∷ v.token (mark f.Semicolon) ∷ []) w)))
+          (more (mark_item f.Requires a x i) (list_more g.1 (mark_item f.Semicolon c z k) (semicolon_tokens k) (cuts (λ xs. refl)) no_more)) (λ c p. (tt, tt)) (λ c p. refl) (λ c p. tt),
+    )
