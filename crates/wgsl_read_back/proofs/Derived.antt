@@ -17,7 +17,9 @@ use Rattle.wgsl_grammar_tables.proofs.Written.{rules_are, label_is, parts_are}
 use Rattle.wgsl_reading.specs.Phrases.{grammar, made, make}
 use Rattle.wgsl_read_back.proofs.Items.{OneToken}
 use Rattle.wgsl_read_back.proofs.Rows.{make_of, Rebuild, AllPass, made_parts_pass}
-use Rattle.wgsl_read_back.proofs.Steps.{Sort, unknown, sort_of, GoodAs, Good, GoodRow, good_end, good_next, Step, as_expressed, s_binary, s_unary, s_pass, s_pass_singles, s_pass_types, s_name_alone, s_name_above, s_name_in_package, s_name_within, s_one_up, s_further_up, s_simple, s_templated, s_call_without, s_call_with, s_number, s_true, s_false, s_named, s_called, s_parenthesized, s_component, s_indexed, s_first, s_more, s_listed_without, s_listed_with}
+use Rattle.wgsl_parts.specs.declared.label.DirectiveLabel.TheVariants as dir
+use Rattle.wgsl_read_back.proofs.Directives.{bare_row, bare_pattern}
+use Rattle.wgsl_read_back.proofs.Steps.{PlainStep, always, s_rule, s_rule_of, s_extension, s_setting, s_setting_with, s_directive, s_enable, s_requires, s_first_name, s_more_names, s_names_without, s_names_with, Sort, unknown, sort_of, GoodAs, Good, GoodRow, good_end, good_next, Step, as_expressed, s_binary, s_unary, s_pass, s_pass_singles, s_pass_types, s_name_alone, s_name_above, s_name_in_package, s_name_within, s_one_up, s_further_up, s_simple, s_templated, s_call_without, s_call_with, s_number, s_true, s_false, s_named, s_called, s_parenthesized, s_component, s_indexed, s_first, s_more, s_listed_without, s_listed_with}
 
 -- ---- rules by number
 
@@ -68,12 +70,20 @@ each_append : (ms ks : List Made) → Each ms → Each ks → Each (ms ++ ks)
 each_append [] ks h g = g
 each_append (m ∷ ms) ks h g = (h.0, each_append ms ks h.1 g)
 
+abbrev EachPlain : List Made → Type 0
+EachPlain [] = Unit {0}
+EachPlain (m ∷ ms) = PlainStep m × EachPlain ms
+
+each_plain : (ms : List Made) → EachPlain ms → Each ms
+each_plain [] h = h
+each_plain (m ∷ ms) h = (always m h.0, each_plain ms h.1)
+
 abbrev is_unknown : Sort → Bool
 is_unknown unknown = true
 is_unknown _ = false
 
 unknown_step : (m : Made) → is_unknown (sort_of m.left) ≡ true → Step m
-unknown_step m e rebuild w xs row = go (sort_of m.left) e
+unknown_step m e rebuild w xs row pass = go (sort_of m.left) e
   where
     go : (s : Sort) → is_unknown s ≡ true → GoodAs s m.left w (make_of m.label m.parts xs)
     go unknown h = tt
@@ -87,11 +97,38 @@ bare_Item : Rebuild (in_a_list n.Item) (phrase (with_commas n.Item) ∷ []) l.Pa
 unfolding made_rules
 bare_Item = rebuild_at 289 (record { left = in_a_list n.Item; right = phrase (with_commas n.Item) ∷ []; label = l.Pass; parts = 2 ∷ [] }) refl
 
+bare_Control : Rebuild (plain n.Control) (bare_row (plain n.Rule)) (l.Directive dir.Diagnostic) bare_pattern
+unfolding made_rules
+bare_Control = rebuild_at 235 (record { left = plain n.Control; right = bare_row (plain n.Rule); label = l.Directive dir.Diagnostic; parts = bare_pattern }) refl
+
+bare_Extension : Rebuild (in_a_list n.Extension) (phrase (with_commas n.Extension) ∷ []) l.Pass (2 ∷ [])
+unfolding made_rules
+bare_Extension = rebuild_at 305 (record { left = in_a_list n.Extension; right = phrase (with_commas n.Extension) ∷ []; label = l.Pass; parts = 2 ∷ [] }) refl
+
 bare_Expression : Rebuild (in_a_list n.Expression) (phrase (with_commas n.Expression) ∷ []) l.Pass (2 ∷ [])
 unfolding made_rules
 bare_Expression = rebuild_at 293 (record { left = in_a_list n.Expression; right = phrase (with_commas n.Expression) ∷ []; label = l.Pass; parts = 2 ∷ [] }) refl
 
-first_steps : Each (take 63 made_rules)
+-- from attributes on, from directives on, from what is behind them on, from the lists on, and from lists behind expressions on
+abbrev rules_of_attributes : List Made
+rules_of_attributes = drop 63 made_rules
+
+abbrev rules_of_directives : List Made
+rules_of_directives = drop 170 rules_of_attributes
+
+abbrev rules_of_declarations : List Made
+rules_of_declarations = drop 8 rules_of_directives
+
+abbrev rules_of_lists : List Made
+rules_of_lists = drop 48 rules_of_declarations
+
+abbrev rules_of_selectors : List Made
+rules_of_selectors = drop 8 rules_of_lists
+
+abbrev rules_of_extensions : List Made
+rules_of_extensions = drop 8 rules_of_selectors
+
+first_steps : EachPlain (take 63 made_rules)
 unfolding made_rules
 first_steps = (
   s_name_alone (plain n.Name) (λ w x h. h),
@@ -284,7 +321,7 @@ first_steps = (
   ),
 )
 
-list_steps : Each (take 8 (drop 226 (drop 63 made_rules)))
+list_steps : EachPlain (take 8 rules_of_lists)
 unfolding made_rules
 list_steps = (
   s_listed_without (in_a_list n.Item) (with_commas n.Item) (λ w x h. h) (λ w x h. h),
@@ -312,20 +349,72 @@ list_steps = (
   ),
 )
 
-middle_unknown : list_all (λ m. is_unknown (sort_of m.left)) (take 226 (drop 63 made_rules)) ≡ true
+directive_steps : Each (take 8 rules_of_directives)
 unfolding made_rules
-middle_unknown = refl
+directive_steps = (
+  (λ r u xs row pass. s_rule (plain n.Rule) (λ w x h. h) r u xs row),
+  (
+    (λ r u xs row pass. s_rule_of (plain n.Rule) (λ w x h. h) r u xs row),
+    (
+      s_setting (plain n.Control) (plain n.Rule) (λ w x h. h) (λ w x h. h),
+      (
+        s_setting_with (plain n.Control) (plain n.Rule) (λ w x h. h) (λ w x h. h) bare_Control,
+        (
+          (λ r u xs row pass. s_directive (plain n.Directive) (plain n.Control) (λ w x h. h) (λ w x h. h) r u xs row),
+          (
+            (λ r u xs row pass. s_extension (plain n.Extension) (λ w x h. h) r u xs row),
+            (
+              (λ r u xs row pass. s_enable (plain n.Directive) (in_a_list n.Extension) (λ w x h. h) (λ w x h. h) r u xs row),
+              ((λ r u xs row pass. s_requires (plain n.Directive) (in_a_list n.Extension) (λ w x h. h) (λ w x h. h) r u xs row), tt),
+            ),
+          ),
+        ),
+      ),
+    ),
+  ),
+)
 
-last_unknown : list_all (λ m. is_unknown (sort_of m.left)) (drop 8 (drop 226 (drop 63 made_rules))) ≡ true
+extension_steps : EachPlain (take 4 rules_of_extensions)
+unfolding made_rules
+extension_steps = (
+  s_names_without (in_a_list n.Extension) (with_commas n.Extension) (λ w x h. h) (λ w x h. h),
+  (
+    s_names_with (in_a_list n.Extension) (with_commas n.Extension) (λ w x h. h) (λ w x h. h) bare_Extension,
+    (
+      s_first_name (with_commas n.Extension) (plain n.Extension) (λ w x h. h) (λ w x h. h),
+      (s_more_names (with_commas n.Extension) (plain n.Extension) (λ w x h. h) (λ w x h. h) (λ w x h. h), tt),
+    ),
+  ),
+)
+
+attributes_unknown : list_all (λ m. is_unknown (sort_of m.left)) (take 170 rules_of_attributes) ≡ true
+unfolding made_rules
+attributes_unknown = refl
+
+declarations_unknown : list_all (λ m. is_unknown (sort_of m.left)) (take 48 rules_of_declarations) ≡ true
+unfolding made_rules
+declarations_unknown = refl
+
+selectors_unknown : list_all (λ m. is_unknown (sort_of m.left)) (take 8 rules_of_selectors) ≡ true
+unfolding made_rules
+selectors_unknown = refl
+
+last_unknown : list_all (λ m. is_unknown (sort_of m.left)) (drop 4 rules_of_extensions) ≡ true
 unfolding made_rules
 last_unknown = refl
 
+both_steps : (n : ℕ) (ms : List Made) → Each (take n ms) → Each (drop n ms) → Each ms
+both_steps n ms h g = subst Each (take-append-drop n ms) (each_append (take n ms) (drop n ms) h g)
+
 steps : Each made_rules
 steps =
-    let behind : Each (drop 226 (drop 63 made_rules)) =
-    subst Each (take-append-drop 8 (drop 226 (drop 63 made_rules))) (each_append (take 8 (drop 226 (drop 63 made_rules))) (drop 8 (drop 226 (drop 63 made_rules))) list_steps (all_unknown _ last_unknown)) in
-    let rest : Each (drop 63 made_rules) = subst Each (take-append-drop 226 (drop 63 made_rules)) (each_append (take 226 (drop 63 made_rules)) (drop 226 (drop 63 made_rules)) (all_unknown _ middle_unknown) behind) in
-    subst Each (take-append-drop 63 made_rules) (each_append (take 63 made_rules) (drop 63 made_rules) first_steps rest)
+    both_steps 63 made_rules (each_plain _ first_steps)
+    (both_steps 170 rules_of_attributes (all_unknown _ attributes_unknown)
+    (both_steps 8 rules_of_directives directive_steps
+    (both_steps 48 rules_of_declarations (all_unknown _ declarations_unknown)
+    (both_steps 8 rules_of_lists (each_plain _ list_steps)
+    (both_steps 8 rules_of_selectors (all_unknown _ selectors_unknown)
+    (both_steps 4 rules_of_extensions (each_plain _ extension_steps) (all_unknown _ last_unknown)))))))
 
 -- ---- derivations
 
@@ -352,8 +441,9 @@ mutual
   derived_when _ w _ (a_phrase p r {xs = xs} e row) = λ pass.
       let (m, is, left, right) = found_in made_rules p r (sym (rules_are p) ∙ e) in
       let P : List Symbol → Type 0 = λ ss. RowWhen ss w xs in
-      let parts = made_parts_pass m.label m.parts xs (ap (λ (z : Phrase Part). z.failure) (sym (makes_as p m is xs)) ∙ pass) in
-      let good = each_at made_rules steps p m is (rebuild_at p m is) w xs (row_now (subst P (sym right) (row_when r.right w xs row)) parts) in
+      let passed = ap (λ (z : Phrase Part). z.failure) (sym (makes_as p m is xs)) ∙ pass in
+      let parts = made_parts_pass m.label m.parts xs passed in
+      let good = each_at made_rules steps p m is (rebuild_at p m is) w xs (row_now (subst P (sym right) (row_when r.right w xs row)) parts) passed in
       let Q : ℕ → Type 0 = λ k. Good (phrase k) w (make_of m.label m.parts xs) in
       subst (Good (phrase r.left) w) (sym (makes_as p m is xs)) (subst Q left good)
 

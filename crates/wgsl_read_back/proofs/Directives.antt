@@ -228,16 +228,16 @@ found_severity y p e h =
     let k = known_severity (severity_of y) (ap (λ z. part_severity (Some z)) (sym e) ∙ h) in
     (k.0, text_of_severity y k.0 k.1)
 
-abbrev bare_pattern : List ℕ
+abbrev pub bare_pattern : List ℕ
 bare_pattern = 1 ∷ 1 ∷ 2 ∷ 1 ∷ 2 ∷ 1 ∷ []
 
-abbrev comma_pattern : List ℕ
+abbrev pub comma_pattern : List ℕ
 comma_pattern = 1 ∷ 1 ∷ 2 ∷ 1 ∷ 2 ∷ 1 ∷ 1 ∷ []
 
-abbrev bare_row : ℕ → List Symbol
+abbrev pub bare_row : ℕ → List Symbol
 bare_row m = token (fixed_class f.Diagnostic) ∷ token (fixed_class f.ParenLeft) ∷ token 77 ∷ token (fixed_class f.Comma) ∷ phrase m ∷ token (fixed_class f.ParenRight) ∷ []
 
-abbrev comma_row : ℕ → List Symbol
+abbrev pub comma_row : ℕ → List Symbol
 comma_row m = token (fixed_class f.Diagnostic) ∷ token (fixed_class f.ParenLeft) ∷ token 77 ∷ token (fixed_class f.Comma) ∷ phrase m ∷ token (fixed_class f.Comma) ∷ token (fixed_class f.ParenRight) ∷ []
 
 abbrev bare_views : DiagnosticSeverity → List ℕ → List TemplateToken → List View
@@ -378,7 +378,7 @@ directive_of_setting n m rebuild {b = b} {y = y} g k = (
             makes_of l.Pass (2 ∷ 1 ∷ []) a (b ∷ []) (v.directive d (ts ++ (mark f.Semicolon ∷ []))) (λ z. part.Directive y) (λ z. e) (λ z. a_directive y refl p) (λ ps. refl) (λ z. refl)
             (stood_pass (a ∷ b ∷ []) (v.directive d ts ∷ v.token (mark f.Semicolon) ∷ []) h)
 
-abbrev names_row : Fixed → ℕ → List Symbol
+abbrev pub names_row : Fixed → ℕ → List Symbol
 names_row g m = token (fixed_class g) ∷ phrase m ∷ token (fixed_class f.Semicolon) ∷ []
 
 semicolon_tokens : {b : List SpannedTemplateToken} {y : Phrase Part} → (k : OneToken (fixed_class f.Semicolon) b y) → without_places b ≡ mark f.Semicolon ∷ []

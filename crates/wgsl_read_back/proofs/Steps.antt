@@ -1,5 +1,5 @@
--- What each production of expressions makes of what stands in its row.
-use Rattle.std.proofs.Common.{ℕ, ◌==◌, true, false, if◌then◌else◌, List, [], ◌∷◌, ◌++◌}
+-- What each production of expressions and of directives makes of what stands in its row.
+use Rattle.std.proofs.Common.{◌≡◌, None, ℕ, ◌==◌, true, false, if◌then◌else◌, List, [], ◌∷◌, ◌++◌}
 use Rattle.wgsl_operators.specs.declared.BinaryOperator.{BinaryOperator}
 use Rattle.wgsl_operators.specs.declared.UnaryOperator.{UnaryOperator}
 use Rattle.wgsl_token.specs.declared.token.Fixed.TheVariants as f
@@ -21,6 +21,8 @@ use Rattle.wgsl_read_back.proofs.Rows.{make_of, Rebuild}
 use Rattle.wgsl_read_back.proofs.Places.{mark_of}
 use Rattle.wgsl_read_back.proofs.Families.{Expressed, Single, Typed, pass_expressed, pass_single, pass_typed, binary_expressed, unary_expressed}
 use Rattle.wgsl_read_back.proofs.Operands.{Named, Upped, Called, Separated, Listed, name_alone, name_above, name_in_package, name_within, one_up, further_up, simple_typed, template_typed, call_without, call_with}
+use Rattle.wgsl_read_back.proofs.Directives.{Ruled, Extended, Enumerated, NamesListed, Controlled, Directed, rule_alone, rule_of_two, extension, first_enumerated, more_enumerated, names_without, names_with, bare_row, bare_pattern, comma_row, comma_pattern, setting_without, setting_with, names_row, directive_of_setting, enabled, required}
+use Rattle.wgsl_parts.specs.declared.label.DirectiveLabel.TheVariants as dir
 use Rattle.wgsl_read_back.proofs.Primaries.{literal_single, number_single, named_single, called_single, parenthesized_single, component_single, indexed_single, first_separated, more_separated, listed_without, listed_with}
 
 -- ---- what phrases of each nonterminal are
@@ -35,13 +37,19 @@ pub data Sort : Type 0 where
   expressed : Sort
   separated : Sort
   lists : Sort
+  rules : Sort
+  settings : Sort
+  directives : Sort
+  extensions : Sort
+  enumerated : Sort
+  names_lists : Sort
 
 abbrev pub sort_in : List (ℕ × Sort) → ℕ → Sort
 sort_in [] k = unknown
 sort_in (e ∷ es) k = if k == e.0 then e.1 else sort_in es k
 
 abbrev pub sort_of : ℕ → Sort
-sort_of = sort_in ((plain n.Name, names) ∷ (plain n.Ups, upses) ∷ (plain n.Simple, types) ∷ (plain n.Templated, types) ∷ (plain n.TypeExpression, types) ∷ (plain n.Callee, types) ∷ (plain n.Call, calls) ∷ (plain n.Primary, singles) ∷ (plain n.Singular, singles) ∷ (plain n.Unary, expressed) ∷ (plain n.Product, expressed) ∷ (plain n.Sum, expressed) ∷ (plain n.Shift, expressed) ∷ (plain n.Relational, expressed) ∷ (plain n.Ands, expressed) ∷ (plain n.Xors, expressed) ∷ (plain n.Ors, expressed) ∷ (plain n.AllOf, expressed) ∷ (plain n.AnyOf, expressed) ∷ (plain n.Item, expressed) ∷ (plain n.Expression, expressed) ∷ (in_a_list n.Item, lists) ∷ (with_commas n.Item, separated) ∷ (in_a_list n.Expression, lists) ∷ (with_commas n.Expression, separated) ∷ [])
+sort_of = sort_in ((plain n.Name, names) ∷ (plain n.Ups, upses) ∷ (plain n.Simple, types) ∷ (plain n.Templated, types) ∷ (plain n.TypeExpression, types) ∷ (plain n.Callee, types) ∷ (plain n.Call, calls) ∷ (plain n.Primary, singles) ∷ (plain n.Singular, singles) ∷ (plain n.Unary, expressed) ∷ (plain n.Product, expressed) ∷ (plain n.Sum, expressed) ∷ (plain n.Shift, expressed) ∷ (plain n.Relational, expressed) ∷ (plain n.Ands, expressed) ∷ (plain n.Xors, expressed) ∷ (plain n.Ors, expressed) ∷ (plain n.AllOf, expressed) ∷ (plain n.AnyOf, expressed) ∷ (plain n.Item, expressed) ∷ (plain n.Expression, expressed) ∷ (in_a_list n.Item, lists) ∷ (with_commas n.Item, separated) ∷ (in_a_list n.Expression, lists) ∷ (with_commas n.Expression, separated) ∷ (plain n.Rule, rules) ∷ (plain n.Control, settings) ∷ (plain n.Directive, directives) ∷ (plain n.Extension, extensions) ∷ (in_a_list n.Extension, names_lists) ∷ (with_commas n.Extension, enumerated) ∷ [])
 
 abbrev pub GoodAs : Sort → ℕ → List SpannedTemplateToken → Phrase Part → Type 0
 GoodAs unknown k u x = Unit {0}
@@ -53,6 +61,12 @@ GoodAs singles k u x = Single k u x
 GoodAs expressed k u x = Expressed k u x
 GoodAs separated k u x = Separated k u x
 GoodAs lists k u x = Listed k u x
+GoodAs rules k u x = Ruled k u x
+GoodAs settings k u x = Controlled k u x
+GoodAs directives k u x = Directed k u x
+GoodAs extensions k u x = Extended k u x
+GoodAs enumerated k u x = Enumerated k u x
+GoodAs names_lists k u x = NamesListed k u x
 
 abbrev pub Good : Symbol → List SpannedTemplateToken → Phrase Part → Type 0
 Good (token c) u x = OneToken c u x
@@ -65,8 +79,18 @@ pub data GoodRow : List Symbol → List SpannedTemplateToken → List (Phrase Pa
 abbrev Makes : ℕ → List Symbol → Label → List ℕ → Type 0
 Makes k ss label pattern = Rebuild k ss label pattern → (u : List SpannedTemplateToken) (xs : List (Phrase Part)) → GoodRow ss u xs → Good (phrase k) u (make_of label pattern xs)
 
+-- the same where no check fails in what is made
+abbrev MakesWhen : ℕ → List Symbol → Label → List ℕ → Type 0
+MakesWhen k ss label pattern = Rebuild k ss label pattern → (u : List SpannedTemplateToken) (xs : List (Phrase Part)) → GoodRow ss u xs → (make_of label pattern xs).failure ≡ None → Good (phrase k) u (make_of label pattern xs)
+
 abbrev pub Step : Made → Type 0
-Step m = Makes m.left m.right m.label m.parts
+Step m = MakesWhen m.left m.right m.label m.parts
+
+abbrev pub PlainStep : Made → Type 0
+PlainStep m = Makes m.left m.right m.label m.parts
+
+pub always : (m : Made) → PlainStep m → Step m
+always m h rebuild u xs row pass = h rebuild u xs row
 
 abbrev Is : (ℕ → List SpannedTemplateToken → Phrase Part → Type 0) → ℕ → Type 0
 Is X k = (u : List SpannedTemplateToken) (x : Phrase Part) → X k u x → Good (phrase k) u x
@@ -160,3 +184,42 @@ s_listed_without k m out a rebuild _ _ (good_next _ h good_end) = out _ _ (liste
 -- (the phrase is derived again without the comma)
 pub s_listed_with : (k m : ℕ) → Is Listed k → As Separated m → Rebuild k (phrase m ∷ []) l.Pass (2 ∷ []) → Makes k (phrase m ∷ token (fixed_class f.Comma) ∷ []) l.Pass (2 ∷ 1 ∷ [])
 s_listed_with k m out a bare rebuild _ _ (good_next _ h (good_next _ i good_end)) = out _ _ (listed_with k m bare (a _ _ h) i)
+
+-- directives
+
+pub s_rule : (k : ℕ) → Is Ruled k → Makes k (token 77 ∷ []) (l.Directive dir.Rule) (2 ∷ [])
+s_rule k out rebuild _ _ (good_next _ i good_end) = out _ _ (rule_alone k rebuild i)
+
+pub s_rule_of : (k : ℕ) → Is Ruled k → Makes k (token 77 ∷ token (fixed_class f.Period) ∷ token 77 ∷ []) (l.Directive dir.RuleOf) (2 ∷ 1 ∷ 2 ∷ [])
+s_rule_of k out rebuild _ _ (good_next _ h (good_next _ i (good_next _ j good_end))) = out _ _ (rule_of_two k rebuild h i j)
+
+pub s_extension : (k : ℕ) → Is Extended k → Makes k (token 77 ∷ []) (l.Directive dir.Extension) (2 ∷ [])
+s_extension k out rebuild _ _ (good_next _ i good_end) = out _ _ (extension k rebuild i)
+
+pub s_setting : (k m : ℕ) → Is Controlled k → As Ruled m → MakesWhen k (bare_row m) (l.Directive dir.Diagnostic) bare_pattern
+s_setting k m out a rebuild _ _ (good_next _ h (good_next _ i (good_next _ j (good_next _ g (good_next _ r (good_next _ e good_end)))))) pass = out _ _ (setting_without k m rebuild h i j g (a _ _ r) e pass)
+
+-- (the phrase is derived again without the comma)
+pub s_setting_with : (k m : ℕ) → Is Controlled k → As Ruled m → Rebuild k (bare_row m) (l.Directive dir.Diagnostic) bare_pattern → MakesWhen k (comma_row m) (l.Directive dir.Diagnostic) comma_pattern
+s_setting_with k m out a bare rebuild _ _ (good_next _ h (good_next _ i (good_next _ j (good_next _ g (good_next _ r (good_next _ c (good_next _ e good_end))))))) pass = out _ _ (setting_with k m bare h i j g (a _ _ r) c e pass)
+
+pub s_directive : (k m : ℕ) → Is Directed k → As Controlled m → Makes k (phrase m ∷ token (fixed_class f.Semicolon) ∷ []) l.Pass (2 ∷ 1 ∷ [])
+s_directive k m out a rebuild _ _ (good_next _ h (good_next _ i good_end)) = out _ _ (directive_of_setting k m rebuild (a _ _ h) i)
+
+pub s_enable : (k m : ℕ) → Is Directed k → As NamesListed m → Makes k (names_row f.Enable m) (l.Directive dir.Enable) (1 ∷ 2 ∷ 1 ∷ [])
+s_enable k m out a rebuild _ _ (good_next _ i (good_next _ h (good_next _ j good_end))) = out _ _ (enabled k m rebuild i (a _ _ h) j)
+
+pub s_requires : (k m : ℕ) → Is Directed k → As NamesListed m → Makes k (names_row f.Requires m) (l.Directive dir.Requires) (1 ∷ 2 ∷ 1 ∷ [])
+s_requires k m out a rebuild _ _ (good_next _ i (good_next _ h (good_next _ j good_end))) = out _ _ (required k m rebuild i (a _ _ h) j)
+
+pub s_first_name : (k m : ℕ) → Is Enumerated k → As Extended m → Makes k (phrase m ∷ []) l.First (2 ∷ [])
+s_first_name k m out a rebuild _ _ (good_next _ h good_end) = out _ _ (first_enumerated k m rebuild (a _ _ h))
+
+pub s_more_names : (k m : ℕ) → Is Enumerated k → As Enumerated k → As Extended m → Makes k (phrase k ∷ token (fixed_class f.Comma) ∷ phrase m ∷ []) l.More (2 ∷ 1 ∷ 2 ∷ [])
+s_more_names k m out a b rebuild _ _ (good_next _ h (good_next _ i (good_next _ g good_end))) = out _ _ (more_enumerated k m rebuild (a _ _ h) i (b _ _ g))
+
+pub s_names_without : (k m : ℕ) → Is NamesListed k → As Enumerated m → Makes k (phrase m ∷ []) l.Pass (2 ∷ [])
+s_names_without k m out a rebuild _ _ (good_next _ h good_end) = out _ _ (names_without k m rebuild (a _ _ h))
+
+pub s_names_with : (k m : ℕ) → Is NamesListed k → As Enumerated m → Rebuild k (phrase m ∷ []) l.Pass (2 ∷ []) → Makes k (phrase m ∷ token (fixed_class f.Comma) ∷ []) l.Pass (2 ∷ 1 ∷ [])
+s_names_with k m out a bare rebuild _ _ (good_next _ h (good_next _ i good_end)) = out _ _ (names_with k m bare (a _ _ h) i)
