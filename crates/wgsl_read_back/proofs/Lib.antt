@@ -9,3 +9,4 @@ pub mod Directives
 pub mod Steps
 pub mod Derived
 pub mod Whole
+pub mod WholeDirectives

@@ -41,10 +41,10 @@ use Rattle.wgsl_read_back.proofs.Derived.{derived}
 
 -- ---- one tree
 
-a_place : Span
+pub a_place : Span
 a_place = record { start = 0; end = 0 }
 
-token_of : (c : ℕ) → nat_lt c listed.class_count ≡ true → (k : SpannedTemplateToken) × (grammar.class_of k ≡ c)
+pub token_of : (c : ℕ) → nat_lt c listed.class_count ≡ true → (k : SpannedTemplateToken) × (grammar.class_of k ≡ c)
 token_of c lt = let e = examples.each_class c lt in (record { token = e.0; span = a_place }, e.1)
 
 goal_is_expression : goal_of Expression ≡ plain n.Expression

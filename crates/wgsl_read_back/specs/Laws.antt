@@ -4,11 +4,19 @@ use Rattle.wgsl_path.specs.declared.span.Spanned.{Spanned}
 use Rattle.wgsl_expressions.specs.declared.expression.Expression.{Expression as Node}
 use Rattle.wgsl_expressions.specs.View.{node_tree}
 use Rattle.wgsl_expressions.specs.Print.{exp_text}
+use Rattle.wgsl_imports.specs.declared.directive.GlobalDirective.{GlobalDirective}
+use Rattle.wgsl_imports.specs.View.{directive_tree}
+use Rattle.wgsl_imports.specs.Print.{directive_text}
 use Rattle.wgsl_parts.specs.declared.part.Part.TheVariants as part
-use Rattle.wgsl_reading.specs.declared.driver.Start.TheVariants.{Expression}
+use Rattle.wgsl_reading.specs.declared.driver.Start.TheVariants.{Expression, Directive}
 use Rattle.wgsl_parser.specs.Texts.{IsParsed}
 
 -- Where a text is an expression, what is printed of its tree is one, too, with the same tree but for places.
 abbrev pub ExpressionsAreReadBack : Type 0
 ExpressionsAreReadBack = (text : List ℕ) (x : Spanned Node) → IsParsed Expression text (part.Expression x)
     → (y : Spanned Node) × IsParsed Expression (exp_text (node_tree x)) (part.Expression y) × (node_tree y ≡ node_tree x)
+
+-- So is what is printed of a directive.
+abbrev pub DirectivesAreReadBack : Type 0
+DirectivesAreReadBack = (text : List ℕ) (x : GlobalDirective) → IsParsed Directive text (part.Directive x)
+    → (y : GlobalDirective) × IsParsed Directive (directive_text (directive_tree x)) (part.Directive y) × (directive_tree y ≡ directive_tree x)

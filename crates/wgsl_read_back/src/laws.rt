@@ -1,8 +1,13 @@
 //! Laws of what is printed and read back. Each function states one, and does nothing.
 
-ghost use Rattle.wgsl_read_back.specs.Laws.{ExpressionsAreReadBack};
+ghost use Rattle.wgsl_read_back.specs.Laws.{ExpressionsAreReadBack, DirectivesAreReadBack};
 
 /// Where a text is an expression, what is printed of its tree is one, too, with the same tree but for places.
 pub fn expressions_are_read_back()
     ensures { ExpressionsAreReadBack }
+{}
+
+/// The same of a directive.
+pub fn directives_are_read_back()
+    ensures { DirectivesAreReadBack }
 {}

@@ -1,0 +1,5 @@
+use Rattle.wgsl_read_back.proofs.WholeDirectives as whole
+use Rattle.wgsl_read_back.proofs.laws.directives_are_read_back.Goals as goal
+
+pub returns : goal.returns
+returns c = whole.directives_are_read_back
