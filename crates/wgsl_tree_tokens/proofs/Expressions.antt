@@ -140,7 +140,7 @@ ends_nothing false = refl
 abbrev pub stops : List ℕ → Bool
 stops rest = ends_word rest && ends_number rest
 
-stops_end : (b : Bool) (rest : List ℕ) → stops rest ≡ true → ends b rest ≡ true
+pub stops_end : (b : Bool) (rest : List ℕ) → stops rest ≡ true → ends b rest ≡ true
 stops_end true rest h = (and_parts (ends_word rest) (ends_number rest) h).1
 stops_end false rest h = (and_parts (ends_word rest) (ends_number rest) h).0
 
@@ -346,22 +346,22 @@ component_phrase x name p s h =
         (phrase_then p (point_run name s) (λ rest ok. at_point (or_no (is_numeric x) (ends_in_number x) h e) ((word_leaf name s).characters ++ rest)))
 
 -- a template list behind a name
-plain_start : (cs rest : List ℕ) → begins_plainly cs ≡ true → begins_with_none (60 ∷ 61 ∷ []) (cs ++ rest) ≡ true
+pub plain_start : (cs rest : List ℕ) → begins_plainly cs ≡ true → begins_with_none (60 ∷ 61 ∷ []) (cs ++ rest) ≡ true
 plain_start [] rest h = absurd cc
 plain_start (c ∷ cs) rest h = let off = none_of_three (c == 60) (c == 61) (c == 62) h in rw (off.0, off.1) refl
 
 -- the inside of a list, and what may stand before it
-record Inside (ts : List TemplateToken) (bytes : List ℕ) : Type 0 where
-  run : Run stops ts bytes
-  starts : (rest : List ℕ) → begins_with_none (60 ∷ 61 ∷ []) (run.characters ++ (62 ∷ rest)) ≡ true
+pub record Inside (ts : List TemplateToken) (bytes : List ℕ) : Type 0 where
+  pub run : Run stops ts bytes
+  pub starts : (rest : List ℕ) → begins_with_none (60 ∷ 61 ∷ []) (run.characters ++ (62 ∷ rest)) ≡ true
 
-angled_run : {ts : List TemplateToken} {bytes : List ℕ} → Inside ts bytes → Run ends_word (TemplateArgsStart ∷ (ts ++ (TemplateArgsEnd ∷ []))) (angled bytes)
+pub angled_run : {ts : List TemplateToken} {bytes : List ℕ} → Inside ts bytes → Run ends_word (TemplateArgsStart ∷ (ts ++ (TemplateArgsEnd ∷ []))) (angled bytes)
 unfolding angled
 angled_run p =
     run_then (sign_run lays_list_start refl) (run_then p.run (closed_run _ (sign_run lays_list_end refl)) (λ rest ok. stops_at (62 ∷ rest) (λ b. at_greater b rest)))
     (λ rest ok. let same = append_assoc p.run.characters (62 ∷ []) rest in ap (begins_with_none (60 ∷ 61 ∷ [])) same ∙ p.starts rest)
 
-at_angle : {ts : List TemplateToken} {bytes : List ℕ} (p : Inside ts bytes) (rest : List ℕ) → ends_word ((angled_run p).characters ++ rest) ≡ true
+pub at_angle : {ts : List TemplateToken} {bytes : List ℕ} (p : Inside ts bytes) (rest : List ℕ) → ends_word ((angled_run p).characters ++ rest) ≡ true
 unfolding angled angled_run
 at_angle p rest = at_less false ((p.run.characters ++ codes ">") ++ rest)
 

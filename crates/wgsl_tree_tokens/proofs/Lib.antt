@@ -4,4 +4,5 @@ pub mod Floats
 pub mod Leaves
 pub mod Expressions
 pub mod Directives
+pub mod DeclarationKinds
 pub mod Spelled

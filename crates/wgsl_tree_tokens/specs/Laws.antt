@@ -8,7 +8,10 @@ use Rattle.wgsl_tree_tokens.specs.Tokens.{exp_tokens}
 use Rattle.wgsl_imports.specs.Tree.{Directive}
 use Rattle.wgsl_imports.specs.Print.{directive_text}
 use Rattle.wgsl_tree_tokens.specs.Printable.{AreSpelled, is_apart}
+use Rattle.wgsl_simple_statements.specs.declared.declaration.DeclarationKind.{DeclarationKind}
+use Rattle.wgsl_simple_statements.specs.Print.{kind_text}
 use Rattle.wgsl_tree_tokens.specs.Directives.{HasTokens}
+use Rattle.wgsl_tree_tokens.specs.DeclarationKinds.{kind_tokens}
 
 -- The printed text of an expression is laid out as the expression's tokens.
 abbrev pub ExpressionsAreLaidOut : Type 0
@@ -17,3 +20,7 @@ ExpressionsAreLaidOut = (e : Exp) → AreSpelled (exp_tokens e) → is_apart e �
 -- So is that of a directive.
 abbrev pub DirectivesAreLaidOut : Type 0
 DirectivesAreLaidOut = (d : Directive) (ts : List TemplateToken) → HasTokens d ts → AreSpelled ts → IsTextOf ts (directive_text d)
+
+-- And that of what a declaration of a value begins with.
+abbrev pub KindsAreLaidOut : Type 0
+KindsAreLaidOut = (k : DeclarationKind) → AreSpelled (kind_tokens k) → IsTextOf (kind_tokens k) (kind_text k)

@@ -1,4 +1,5 @@
 pub mod Tokens
 pub mod Printable
 pub mod Directives
+pub mod DeclarationKinds
 pub mod Laws

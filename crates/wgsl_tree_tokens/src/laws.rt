@@ -1,6 +1,6 @@
 //! Laws of the texts of trees. Each function states one, and does nothing.
 
-ghost use Rattle.wgsl_tree_tokens.specs.Laws.{ExpressionsAreLaidOut, DirectivesAreLaidOut};
+ghost use Rattle.wgsl_tree_tokens.specs.Laws.{ExpressionsAreLaidOut, DirectivesAreLaidOut, KindsAreLaidOut};
 
 /// The printed text of an expression is laid out as the expression's tokens.
 pub fn expressions_are_laid_out()
@@ -10,4 +10,9 @@ pub fn expressions_are_laid_out()
 /// So is that of a directive.
 pub fn directives_are_laid_out()
     ensures { DirectivesAreLaidOut }
+{}
+
+/// And that of what a declaration of a value begins with.
+pub fn kinds_are_laid_out()
+    ensures { KindsAreLaidOut }
 {}
