@@ -19,7 +19,7 @@ use Rattle.wgsl_read_back.proofs.Items.{OneToken}
 use Rattle.wgsl_read_back.proofs.Rows.{make_of, Rebuild, AllPass, made_parts_pass}
 use Rattle.wgsl_parts.specs.declared.label.DirectiveLabel.TheVariants as dir
 use Rattle.wgsl_read_back.proofs.Directives.{bare_row, bare_pattern}
-use Rattle.wgsl_read_back.proofs.Steps.{PlainStep, always, s_rule, s_rule_of, s_extension, s_setting, s_setting_with, s_directive, s_enable, s_requires, s_first_name, s_more_names, s_names_without, s_names_with, Sort, unknown, sort_of, GoodAs, Good, GoodRow, good_end, good_next, Step, as_expressed, s_binary, s_unary, s_pass, s_pass_singles, s_pass_types, s_name_alone, s_name_above, s_name_in_package, s_name_within, s_one_up, s_further_up, s_simple, s_templated, s_call_without, s_call_with, s_number, s_true, s_false, s_named, s_called, s_parenthesized, s_component, s_indexed, s_first, s_more, s_listed_without, s_listed_with}
+use Rattle.wgsl_read_back.proofs.Steps.{PlainStep, always, s_rule, s_rule_of, s_extension, s_setting, s_setting_with, s_directive, s_enable, s_requires, s_first_name, s_more_names, s_names_without, s_names_with, s_var, s_var_in, s_const_kind, s_override_kind, s_let_kind, s_pass_kind, Sort, unknown, sort_of, GoodAs, Good, GoodRow, good_end, good_next, Step, as_expressed, s_binary, s_unary, s_pass, s_pass_singles, s_pass_types, s_name_alone, s_name_above, s_name_in_package, s_name_within, s_one_up, s_further_up, s_simple, s_templated, s_call_without, s_call_with, s_number, s_true, s_false, s_named, s_called, s_parenthesized, s_component, s_indexed, s_first, s_more, s_listed_without, s_listed_with}
 
 -- ---- rules by number
 
@@ -109,18 +109,30 @@ bare_Expression : Rebuild (in_a_list n.Expression) (phrase (with_commas n.Expres
 unfolding made_rules
 bare_Expression = rebuild_at 293 (record { left = in_a_list n.Expression; right = phrase (with_commas n.Expression) ∷ []; label = l.Pass; parts = 2 ∷ [] }) refl
 
--- from attributes on, from directives on, from what is behind them on, from the lists on, and from lists behind expressions on
+-- from attributes on, from `var` on, from what is behind it on, and so on: each list begins where the one before it has no more of its own
 abbrev rules_of_attributes : List Made
 rules_of_attributes = drop 63 made_rules
 
+abbrev rules_of_var : List Made
+rules_of_var = drop 36 rules_of_attributes
+
+abbrev rules_of_values : List Made
+rules_of_values = drop 2 rules_of_var
+
 abbrev rules_of_directives : List Made
-rules_of_directives = drop 170 rules_of_attributes
+rules_of_directives = drop 132 rules_of_values
 
 abbrev rules_of_declarations : List Made
 rules_of_declarations = drop 8 rules_of_directives
 
+abbrev rules_of_kinds : List Made
+rules_of_kinds = drop 30 rules_of_declarations
+
+abbrev rules_of_rows : List Made
+rules_of_rows = drop 4 rules_of_kinds
+
 abbrev rules_of_lists : List Made
-rules_of_lists = drop 48 rules_of_declarations
+rules_of_lists = drop 14 rules_of_rows
 
 abbrev rules_of_selectors : List Made
 rules_of_selectors = drop 8 rules_of_lists
@@ -387,13 +399,32 @@ extension_steps = (
   ),
 )
 
-attributes_unknown : list_all (λ m. is_unknown (sort_of m.left)) (take 170 rules_of_attributes) ≡ true
+var_steps : Each (take 2 rules_of_var)
+unfolding made_rules
+var_steps = ((λ r u xs row pass. s_var (plain n.VarHead) (λ w x h. h) r u xs row), (s_var_in (plain n.VarHead) (in_a_list n.Item) (λ w x h. h) (λ w x h. h), tt))
+
+kind_steps : EachPlain (take 4 rules_of_kinds)
+unfolding made_rules
+kind_steps = (
+  s_const_kind (plain n.Kind) (λ w x h. h),
+  (s_override_kind (plain n.Kind) (λ w x h. h), (s_let_kind (plain n.Kind) (λ w x h. h), (s_pass_kind (plain n.Kind) (plain n.VarHead) (λ w x h. h) (λ w x h. h), tt))),
+)
+
+attributes_unknown : list_all (λ m. is_unknown (sort_of m.left)) (take 36 rules_of_attributes) ≡ true
 unfolding made_rules
 attributes_unknown = refl
 
-declarations_unknown : list_all (λ m. is_unknown (sort_of m.left)) (take 48 rules_of_declarations) ≡ true
+values_unknown : list_all (λ m. is_unknown (sort_of m.left)) (take 132 rules_of_values) ≡ true
+unfolding made_rules
+values_unknown = refl
+
+declarations_unknown : list_all (λ m. is_unknown (sort_of m.left)) (take 30 rules_of_declarations) ≡ true
 unfolding made_rules
 declarations_unknown = refl
+
+rows_unknown : list_all (λ m. is_unknown (sort_of m.left)) (take 14 rules_of_rows) ≡ true
+unfolding made_rules
+rows_unknown = refl
 
 selectors_unknown : list_all (λ m. is_unknown (sort_of m.left)) (take 8 rules_of_selectors) ≡ true
 unfolding made_rules
@@ -409,12 +440,16 @@ both_steps n ms h g = subst Each (take-append-drop n ms) (each_append (take n ms
 steps : Each made_rules
 steps =
     both_steps 63 made_rules (each_plain _ first_steps)
-    (both_steps 170 rules_of_attributes (all_unknown _ attributes_unknown)
+    (both_steps 36 rules_of_attributes (all_unknown _ attributes_unknown)
+    (both_steps 2 rules_of_var var_steps
+    (both_steps 132 rules_of_values (all_unknown _ values_unknown)
     (both_steps 8 rules_of_directives directive_steps
-    (both_steps 48 rules_of_declarations (all_unknown _ declarations_unknown)
+    (both_steps 30 rules_of_declarations (all_unknown _ declarations_unknown)
+    (both_steps 4 rules_of_kinds (each_plain _ kind_steps)
+    (both_steps 14 rules_of_rows (all_unknown _ rows_unknown)
     (both_steps 8 rules_of_lists (each_plain _ list_steps)
     (both_steps 8 rules_of_selectors (all_unknown _ selectors_unknown)
-    (both_steps 4 rules_of_extensions (each_plain _ extension_steps) (all_unknown _ last_unknown)))))))
+    (both_steps 4 rules_of_extensions (each_plain _ extension_steps) (all_unknown _ last_unknown)))))))))))
 
 -- ---- derivations
 

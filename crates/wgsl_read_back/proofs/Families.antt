@@ -17,6 +17,8 @@ use Rattle.wgsl_expressions.specs.declared.expression.Expression.TheVariants as 
 use Rattle.wgsl_expressions.specs.Print.{is_numeric}
 use Rattle.wgsl_expressions.specs.Tree.{Exp, unary, binary, Typ}
 use Rattle.wgsl_expressions.proofs.Trees.{tree_of_unary, tree_of_binary}
+use Rattle.wgsl_simple_statements.specs.declared.declaration.DeclarationKind.{DeclarationKind}
+use Rattle.wgsl_simple_statements.specs.declared.declaration.DeclarationKind.TheVariants as kinds
 use Rattle.wgsl_tree_tokens.specs.Tokens.{mark, unary_sign, binary_sign, exp_tokens}
 use Rattle.wgsl_tree_tokens.specs.Printable.{AreSpelled, ends_in_number, is_apart, type_is_apart}
 use Rattle.wgsl_shift_reduce.specs.Grammars.{token, phrase}
@@ -30,7 +32,7 @@ use Rattle.wgsl_phrases.specs.declared.phrase.Phrase.{Phrase}
 use Rattle.wgsl_make_expressions.specs.Making as make
 use Rattle.wgsl_grammar_tables.specs.Classes.{fixed_class, class_of}
 use Rattle.wgsl_reading.specs.Failures.{made_failed}
-use Rattle.wgsl_read_back.proofs.Views.{View, view_tokens, Stands, a_token, an_ups, a_path, a_type, a_call, an_expression, some_expressions, a_text, some_texts, a_directive, ends_as}
+use Rattle.wgsl_read_back.proofs.Views.{View, view_tokens, Stands, a_token, an_ups, a_path, a_type, a_call, an_expression, some_expressions, a_text, some_texts, a_directive, a_kind, ends_as}
 use Rattle.wgsl_read_back.proofs.Views as v
 use Rattle.wgsl_read_back.proofs.Items.{cont_as, Item, Back, OneToken, token_again, token_steps}
 use Rattle.wgsl_read_back.proofs.Rows.{nil as no_more, more, Stood, stood_pass, Makes, make_of, makes_of, Rebuild, back_of, of_one, of_two, of_three}
@@ -68,27 +70,32 @@ mark_item g u x k = token_item (fixed_class g) (mark g) u x k (mark_of k.one.tok
 
 -- ---- productions that pass on
 
-pub passed : {p : Part} {w : View} → Stands p w → (label : Label) → made_failed label p ≡ None
-passed (a_token {t = k} e) label = ap (made_failed label) e ∙ none k
+pub passed : {p : Part} {w : View} → Stands p w → made_failed l.Pass p ≡ None
+passed (a_token {t = k} e) = ap (made_failed l.Pass) e ∙ none k
   where
-    none : (k : TemplateToken) → made_failed label (leaves.leaf k) ≡ None
+    none : (k : TemplateToken) → made_failed l.Pass (leaves.leaf k) ≡ None
     none TemplateArgsStart = refl
     none (Plain (t.Fixed f.Const)) = refl
     none _ = refl
-passed (an_ups e) label = ap (made_failed label) e
-passed (a_path y e h g) label = ap (made_failed label) e
-passed (a_type y e h) label = ap (made_failed label) e
-passed (a_call y e h g) label = ap (made_failed label) e
-passed (an_expression n e h) label = ap (made_failed label) e
-passed (some_expressions ns e h) label = ap (made_failed label) e
-passed (a_text e) label = ap (made_failed label) e
-passed (some_texts e) label = ap (made_failed label) e
-passed (a_directive y e h) label = ap (made_failed label) e
+passed (an_ups e) = ap (made_failed l.Pass) e
+passed (a_path y e h g) = ap (made_failed l.Pass) e
+passed (a_type y e h) = ap (made_failed l.Pass) e
+passed (a_call y e h g) = ap (made_failed l.Pass) e
+passed (an_expression n e h) = ap (made_failed l.Pass) e
+passed (some_expressions ns e h) = ap (made_failed l.Pass) e
+passed (a_text e) = ap (made_failed l.Pass) e
+passed (some_texts e) = ap (made_failed l.Pass) e
+passed (a_directive y e h) = ap (made_failed l.Pass) e
+passed (a_kind {k = k} e) = ap (made_failed l.Pass) e ∙ none k
+  where
+    none : (k : DeclarationKind) → made_failed l.Pass (part.Kind k) ≡ None
+    none (kinds.Var None) = refl
+    none _ = refl
 
 pub pass_back : (n m : ℕ) (w : View) → Rebuild n (phrase m ∷ []) l.Pass (2 ∷ []) → {u : List SpannedTemplateToken} {x : Phrase Part} → Back m w u x → Back n w (u ++ []) (make_of l.Pass (2 ∷ []) (x ∷ []))
 pass_back n m w rebuild b =
     back_of n (phrase m ∷ []) l.Pass (2 ∷ []) rebuild (w ∷ []) w (append-nil (view_tokens w))
-    (of_one (λ ys. Makes w (make_of l.Pass (2 ∷ []) ys)) (λ a h. makes_of l.Pass (2 ∷ []) a [] w (λ s. a.part) (λ s. refl) (λ s. h.0.0) (λ ps. refl) (λ s. passed h.0.0 l.Pass) (stood_pass (a ∷ []) (w ∷ []) h)))
+    (of_one (λ ys. Makes w (make_of l.Pass (2 ∷ []) ys)) (λ a h. makes_of l.Pass (2 ∷ []) a [] w (λ s. a.part) (λ s. refl) (λ s. h.0.0) (λ ps. refl) (λ s. passed h.0.0) (stood_pass (a ∷ []) (w ∷ []) h)))
     (more b.item no_more) (λ c p. tt) b.level b.ended
 
 pub pass_expressed : (n m : ℕ) → Rebuild n (phrase m ∷ []) l.Pass (2 ∷ []) → {u : List SpannedTemplateToken} {x : Phrase Part} → Expressed m u x → Expressed n (u ++ []) (make_of l.Pass (2 ∷ []) (x ∷ []))

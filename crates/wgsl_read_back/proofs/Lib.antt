@@ -5,7 +5,9 @@ pub mod Places
 pub mod Families
 pub mod Operands
 pub mod Primaries
+pub mod Chosen
 pub mod Directives
+pub mod DeclarationKinds
 pub mod Steps
 pub mod Derived
 pub mod Whole

@@ -215,6 +215,22 @@ made_severity_passes label pattern x xs h = go (extent_from (Some (extent_of x))
         no_first (severity_failed label parts) (made_failed label (making.make label to.span parts)) (no_failure to.last (first_check (severity_failed label parts) (made_failed label (making.make label to.span parts)))
         (either_second to.failure (failure_in label parts (making.make label to.span parts) to.last) whole))
 
+no_second : (o p : Option Check) → first_check o p ≡ None → p ≡ None
+no_second None p e = e
+no_second (Some c) p e = absurd cc
+
+-- and no check fails of what is made
+pub made_check_passes : (label : Label) (pattern : List ℕ) (x : Phrase Part) (xs : List (Phrase Part)) → (make_of label pattern (x ∷ xs)).failure ≡ None → (s : Span) × (made_failed label (making.make label s (chosen Absent pattern (x ∷ xs))) ≡ None)
+made_check_passes label pattern x xs h = go (extent_from (Some (extent_of x)) xs) refl
+  where
+    go : (o : Option Extent) → extent_from (Some (extent_of x)) xs ≡ o → (s : Span) × (made_failed label (making.make label s (chosen Absent pattern (x ∷ xs))) ≡ None)
+    go None is = absurd (never (extent_of x) xs is)
+    go (Some to) is =
+        let whole : (made label (Some to) (chosen Absent pattern (x ∷ xs))).failure ≡ None = ap (λ o. (made label o (chosen Absent pattern (x ∷ xs))).failure) (sym is) ∙ h in
+        let parts = chosen Absent pattern (x ∷ xs) in
+        (to.span, no_second (severity_failed label parts) (made_failed label (making.make label to.span parts)) (no_failure to.last (first_check (severity_failed label parts) (made_failed label (making.make label to.span parts)))
+        (either_second to.failure (failure_in label parts (making.make label to.span parts) to.last) whole)))
+
 pub made_parts_pass : (label : Label) (pattern : List ℕ) (xs : List (Phrase Part)) → (make_of label pattern xs).failure ≡ None → AllPass xs
 made_parts_pass label pattern [] h = tt
 made_parts_pass label pattern (x ∷ xs) h = go (extent_from (Some (extent_of x)) xs) refl

@@ -1,5 +1,5 @@
 -- What each production of expressions and of directives makes of what stands in its row.
-use Rattle.std.proofs.Common.{◌≡◌, None, ℕ, ◌==◌, true, false, if◌then◌else◌, List, [], ◌∷◌, ◌++◌}
+use Rattle.std.proofs.Common.{◌≡◌, refl, None, ℕ, ◌==◌, true, false, if◌then◌else◌, List, [], ◌∷◌, ◌++◌}
 use Rattle.wgsl_operators.specs.declared.BinaryOperator.{BinaryOperator}
 use Rattle.wgsl_operators.specs.declared.UnaryOperator.{UnaryOperator}
 use Rattle.wgsl_token.specs.declared.token.Fixed.TheVariants as f
@@ -23,6 +23,9 @@ use Rattle.wgsl_read_back.proofs.Families.{Expressed, Single, Typed, pass_expres
 use Rattle.wgsl_read_back.proofs.Operands.{Named, Upped, Called, Separated, Listed, name_alone, name_above, name_in_package, name_within, one_up, further_up, simple_typed, template_typed, call_without, call_with}
 use Rattle.wgsl_read_back.proofs.Directives.{Ruled, Extended, Enumerated, NamesListed, Controlled, Directed, rule_alone, rule_of_two, extension, first_enumerated, more_enumerated, names_without, names_with, bare_row, bare_pattern, comma_row, comma_pattern, setting_without, setting_with, names_row, directive_of_setting, enabled, required}
 use Rattle.wgsl_parts.specs.declared.label.DirectiveLabel.TheVariants as dir
+use Rattle.wgsl_simple_statements.specs.declared.declaration.DeclarationKind.TheVariants as kinds
+use Rattle.wgsl_parts.specs.declared.label.AttributeLabel.TheVariants as attr
+use Rattle.wgsl_read_back.proofs.DeclarationKinds.{Kinded, var_alone, template_row, template_pattern, var_in, pass_kinded, kind_alone}
 use Rattle.wgsl_read_back.proofs.Primaries.{literal_single, number_single, named_single, called_single, parenthesized_single, component_single, indexed_single, first_separated, more_separated, listed_without, listed_with}
 
 -- ---- what phrases of each nonterminal are
@@ -43,13 +46,14 @@ pub data Sort : Type 0 where
   extensions : Sort
   enumerated : Sort
   names_lists : Sort
+  declaration_kinds : Sort
 
 abbrev pub sort_in : List (ℕ × Sort) → ℕ → Sort
 sort_in [] k = unknown
 sort_in (e ∷ es) k = if k == e.0 then e.1 else sort_in es k
 
 abbrev pub sort_of : ℕ → Sort
-sort_of = sort_in ((plain n.Name, names) ∷ (plain n.Ups, upses) ∷ (plain n.Simple, types) ∷ (plain n.Templated, types) ∷ (plain n.TypeExpression, types) ∷ (plain n.Callee, types) ∷ (plain n.Call, calls) ∷ (plain n.Primary, singles) ∷ (plain n.Singular, singles) ∷ (plain n.Unary, expressed) ∷ (plain n.Product, expressed) ∷ (plain n.Sum, expressed) ∷ (plain n.Shift, expressed) ∷ (plain n.Relational, expressed) ∷ (plain n.Ands, expressed) ∷ (plain n.Xors, expressed) ∷ (plain n.Ors, expressed) ∷ (plain n.AllOf, expressed) ∷ (plain n.AnyOf, expressed) ∷ (plain n.Item, expressed) ∷ (plain n.Expression, expressed) ∷ (in_a_list n.Item, lists) ∷ (with_commas n.Item, separated) ∷ (in_a_list n.Expression, lists) ∷ (with_commas n.Expression, separated) ∷ (plain n.Rule, rules) ∷ (plain n.Control, settings) ∷ (plain n.Directive, directives) ∷ (plain n.Extension, extensions) ∷ (in_a_list n.Extension, names_lists) ∷ (with_commas n.Extension, enumerated) ∷ [])
+sort_of = sort_in ((plain n.Name, names) ∷ (plain n.Ups, upses) ∷ (plain n.Simple, types) ∷ (plain n.Templated, types) ∷ (plain n.TypeExpression, types) ∷ (plain n.Callee, types) ∷ (plain n.Call, calls) ∷ (plain n.Primary, singles) ∷ (plain n.Singular, singles) ∷ (plain n.Unary, expressed) ∷ (plain n.Product, expressed) ∷ (plain n.Sum, expressed) ∷ (plain n.Shift, expressed) ∷ (plain n.Relational, expressed) ∷ (plain n.Ands, expressed) ∷ (plain n.Xors, expressed) ∷ (plain n.Ors, expressed) ∷ (plain n.AllOf, expressed) ∷ (plain n.AnyOf, expressed) ∷ (plain n.Item, expressed) ∷ (plain n.Expression, expressed) ∷ (in_a_list n.Item, lists) ∷ (with_commas n.Item, separated) ∷ (in_a_list n.Expression, lists) ∷ (with_commas n.Expression, separated) ∷ (plain n.Rule, rules) ∷ (plain n.Control, settings) ∷ (plain n.Directive, directives) ∷ (plain n.Extension, extensions) ∷ (in_a_list n.Extension, names_lists) ∷ (with_commas n.Extension, enumerated) ∷ (plain n.VarHead, declaration_kinds) ∷ (plain n.Kind, declaration_kinds) ∷ [])
 
 abbrev pub GoodAs : Sort → ℕ → List SpannedTemplateToken → Phrase Part → Type 0
 GoodAs unknown k u x = Unit {0}
@@ -67,6 +71,7 @@ GoodAs directives k u x = Directed k u x
 GoodAs extensions k u x = Extended k u x
 GoodAs enumerated k u x = Enumerated k u x
 GoodAs names_lists k u x = NamesListed k u x
+GoodAs declaration_kinds k u x = Kinded k u x
 
 abbrev pub Good : Symbol → List SpannedTemplateToken → Phrase Part → Type 0
 Good (token c) u x = OneToken c u x
@@ -223,3 +228,23 @@ s_names_without k m out a rebuild _ _ (good_next _ h good_end) = out _ _ (names_
 
 pub s_names_with : (k m : ℕ) → Is NamesListed k → As Enumerated m → Rebuild k (phrase m ∷ []) l.Pass (2 ∷ []) → Makes k (phrase m ∷ token (fixed_class f.Comma) ∷ []) l.Pass (2 ∷ 1 ∷ [])
 s_names_with k m out a bare rebuild _ _ (good_next _ h (good_next _ i good_end)) = out _ _ (names_with k m bare (a _ _ h) i)
+
+-- what declarations of values begin with
+
+pub s_var : (k : ℕ) → Is Kinded k → Makes k (token (fixed_class f.Var) ∷ []) (l.Attribute attr.VarKind) (1 ∷ [])
+s_var k out rebuild _ _ (good_next _ i good_end) = out _ _ (var_alone k rebuild i)
+
+pub s_var_in : (k m : ℕ) → Is Kinded k → As Listed m → MakesWhen k (template_row m) (l.Attribute attr.VarIn) template_pattern
+s_var_in k m out a rebuild _ _ (good_next _ h (good_next _ i (good_next _ g (good_next _ j good_end)))) pass = out _ _ (var_in k m rebuild h i (a _ _ g) j pass)
+
+pub s_const_kind : (k : ℕ) → Is Kinded k → Makes k (token (fixed_class f.Const) ∷ []) l.Pass (2 ∷ [])
+s_const_kind k out rebuild _ _ (good_next _ i good_end) = out _ _ (kind_alone f.Const kinds.Const refl refl (λ b o. refl) k rebuild refl i)
+
+pub s_override_kind : (k : ℕ) → Is Kinded k → Makes k (token (fixed_class f.Override) ∷ []) l.Pass (2 ∷ [])
+s_override_kind k out rebuild _ _ (good_next _ i good_end) = out _ _ (kind_alone f.Override kinds.Override refl refl (λ b o. refl) k rebuild refl i)
+
+pub s_let_kind : (k : ℕ) → Is Kinded k → Makes k (token (fixed_class f.Let) ∷ []) l.Pass (2 ∷ [])
+s_let_kind k out rebuild _ _ (good_next _ i good_end) = out _ _ (kind_alone f.Let kinds.Let refl refl (λ b o. refl) k rebuild refl i)
+
+pub s_pass_kind : (k m : ℕ) → Is Kinded k → As Kinded m → Makes k (phrase m ∷ []) l.Pass (2 ∷ [])
+s_pass_kind k m out a rebuild _ _ (good_next _ h good_end) = out _ _ (pass_kinded k m rebuild (a _ _ h))

@@ -14,7 +14,9 @@ use Rattle.wgsl_expressions.specs.View.{node_tree, type_tree}
 use Rattle.wgsl_imports.specs.declared.directive.GlobalDirective.{GlobalDirective}
 use Rattle.wgsl_imports.specs.Tree.{Directive}
 use Rattle.wgsl_imports.specs.View.{directive_tree}
+use Rattle.wgsl_simple_statements.specs.declared.declaration.DeclarationKind.{DeclarationKind}
 use Rattle.wgsl_tree_tokens.specs.Directives.{names_tokens}
+use Rattle.wgsl_tree_tokens.specs.DeclarationKinds.{kind_tokens}
 use Rattle.wgsl_tree_tokens.specs.Tokens.{mark, word, origin_tokens, qualifier_tokens, exp_tokens, exps_tokens, typ_tokens}
 use Rattle.wgsl_parts.specs.declared.part.QualifiedName.{QualifiedName}
 use Rattle.wgsl_parts.specs.declared.part.Part.{Part}
@@ -33,6 +35,7 @@ pub data View : Type 0 where
   text : List ℕ → List TemplateToken → View
   texts : List (List ℕ) → View
   directive : Directive → List TemplateToken → View
+  kind : DeclarationKind → View
 
 abbrev pub view_tokens : View → List TemplateToken
 view_tokens (token t) = t ∷ []
@@ -45,6 +48,7 @@ view_tokens (expressions es) = exps_tokens (exps es)
 view_tokens (text x ts) = ts
 view_tokens (texts xs) = names_tokens xs
 view_tokens (directive d ts) = ts
+view_tokens (kind k) = kind_tokens k
 
 -- the part stands for this
 pub data Stands (p : Part) : View → Type 0 where
@@ -56,6 +60,7 @@ pub data Stands (p : Part) : View → Type 0 where
   an_expression : {e : Exp} (n : Spanned Expression) → p ≡ part.Expression n → node_tree n ≡ e → Stands p (expression e)
   a_text : {x : List ℕ} {ts : List TemplateToken} → p ≡ part.Text x → Stands p (text x ts)
   some_texts : {xs : List (List ℕ)} → p ≡ part.Texts xs → Stands p (texts xs)
+  a_kind : {k : DeclarationKind} → p ≡ part.Kind k → Stands p (kind k)
   a_directive : {d : Directive} {ts : List TemplateToken} (y : GlobalDirective) → p ≡ part.Directive y → directive_tree y ≡ d → Stands p (directive d ts)
   some_expressions : {es : List Exp} (ns : List (Spanned Expression)) → p ≡ part.Expressions ns → map node_tree ns ≡ es → Stands p (expressions es)
 
@@ -66,4 +71,5 @@ ends_as (ups n) b = Unit {0}
 ends_as (path q x) b = b ≡ callee
 ends_as (type t) b = b ≡ callee
 ends_as (directive d ts) b = Unit {0}
+ends_as (kind k) b = Unit {0}
 ends_as _ b = ends_operand b ≡ true
