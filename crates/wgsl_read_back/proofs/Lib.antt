@@ -10,5 +10,5 @@ pub mod Directives
 pub mod DeclarationKinds
 pub mod Steps
 pub mod Derived
+pub mod Returned
 pub mod Whole
-pub mod WholeDirectives

@@ -7,8 +7,10 @@ use Rattle.wgsl_expressions.specs.Print.{exp_text}
 use Rattle.wgsl_imports.specs.declared.directive.GlobalDirective.{GlobalDirective}
 use Rattle.wgsl_imports.specs.View.{directive_tree}
 use Rattle.wgsl_imports.specs.Print.{directive_text}
+use Rattle.wgsl_simple_statements.specs.declared.declaration.DeclarationKind.{DeclarationKind}
+use Rattle.wgsl_simple_statements.specs.Print.{kind_text}
 use Rattle.wgsl_parts.specs.declared.part.Part.TheVariants as part
-use Rattle.wgsl_reading.specs.declared.driver.Start.TheVariants.{Expression, Directive}
+use Rattle.wgsl_reading.specs.declared.driver.Start.TheVariants.{Expression, Directive, Kind}
 use Rattle.wgsl_parser.specs.Texts.{IsParsed}
 
 -- Where a text is an expression, what is printed of its tree is one, too, with the same tree but for places.
@@ -20,3 +22,7 @@ ExpressionsAreReadBack = (text : List ℕ) (x : Spanned Node) → IsParsed Expre
 abbrev pub DirectivesAreReadBack : Type 0
 DirectivesAreReadBack = (text : List ℕ) (x : GlobalDirective) → IsParsed Directive text (part.Directive x)
     → (y : GlobalDirective) × IsParsed Directive (directive_text (directive_tree x)) (part.Directive y) × (directive_tree y ≡ directive_tree x)
+
+-- And what is printed of a kind of declaration, which has no places.
+abbrev pub KindsAreReadBack : Type 0
+KindsAreReadBack = (text : List ℕ) (x : DeclarationKind) → IsParsed Kind text (part.Kind x) → IsParsed Kind (kind_text x) (part.Kind x)

@@ -1,6 +1,6 @@
 //! Laws of what is printed and read back. Each function states one, and does nothing.
 
-ghost use Rattle.wgsl_read_back.specs.Laws.{ExpressionsAreReadBack, DirectivesAreReadBack};
+ghost use Rattle.wgsl_read_back.specs.Laws.{ExpressionsAreReadBack, DirectivesAreReadBack, KindsAreReadBack};
 
 /// Where a text is an expression, what is printed of its tree is one, too, with the same tree but for places.
 pub fn expressions_are_read_back()
@@ -10,4 +10,9 @@ pub fn expressions_are_read_back()
 /// The same of a directive.
 pub fn directives_are_read_back()
     ensures { DirectivesAreReadBack }
+{}
+
+/// The same of a kind of declaration, as `var<storage, read_write>`.
+pub fn kinds_are_read_back()
+    ensures { KindsAreReadBack }
 {}

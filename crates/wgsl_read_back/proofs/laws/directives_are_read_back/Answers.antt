@@ -1,4 +1,4 @@
-use Rattle.wgsl_read_back.proofs.WholeDirectives as whole
+use Rattle.wgsl_read_back.proofs.Whole as whole
 use Rattle.wgsl_read_back.proofs.laws.directives_are_read_back.Goals as goal
 
 pub returns : goal.returns

@@ -1,0 +1,73 @@
+-- What is printed of what a text derives is read as it again, from any start.
+use Rattle.std.proofs.Common.{◌≡◌, refl, sym, subst, ℕ, nat_lt, true, List, [], ◌++◌, append-nil, None}
+use Rattle.wgsl_path.specs.declared.span.Span.{Span}
+use Rattle.wgsl_template_spec.specs.declared.token.TemplateToken.{TemplateToken}
+use Rattle.wgsl_template_spec.specs.declared.token.SpannedTemplateToken.{SpannedTemplateToken}
+use Rattle.wgsl_template_spec.specs.Tokens.{start as at_start}
+use Rattle.wgsl_token_layout.specs.Layout.{IsTextOf}
+use Rattle.wgsl_token_layout.specs.Laws.{without_places}
+use Rattle.wgsl_token_layout.specs.OptionalMarks.{outside, AreAlike, none}
+use Rattle.wgsl_token_layout.proofs.OptionalMarks.{laid_out_but_for_optional_marks}
+use Rattle.wgsl_tree_tokens.specs.Printable.{AreSpelled}
+use Rattle.wgsl_tree_tokens.proofs.Spelled.{read_spelled}
+use Rattle.wgsl_shift_reduce.specs.Grammars.{phrase, Derives}
+use Rattle.wgsl_shift_reduce.specs.Laws.{IsRead}
+use Rattle.wgsl_shift_reduce.proofs.Whole.{trees_are_unique}
+use Rattle.wgsl_tables.specs.Listed.{account}
+use Rattle.wgsl_parts.specs.declared.part.Part.{Part}
+use Rattle.wgsl_phrases.specs.declared.phrase.Phrase.{Phrase}
+use Rattle.wgsl_grammar_tables.specs.Decoded.{listed}
+use Rattle.wgsl_grammar_tables.specs.Starts.{start}
+use Rattle.wgsl_grammar_tables.proofs.Fits.{tables_fit}
+use Rattle.wgsl_grammar_tables.proofs.Examples as examples
+use Rattle.wgsl_reading.specs.declared.driver.Start.{Start}
+use Rattle.wgsl_reading.specs.Phrases.{grammar, number, tables_of}
+use Rattle.wgsl_reading.specs.Readings.{goal_of}
+use Rattle.wgsl_parser.specs.Texts.{IsParsed}
+use Rattle.wgsl_read_back.proofs.Views.{View, view_tokens, Stands}
+use Rattle.wgsl_read_back.proofs.Items.{Back}
+use Rattle.wgsl_read_back.proofs.Steps.{Good}
+use Rattle.wgsl_read_back.proofs.Derived.{derived}
+
+-- ---- one tree
+
+a_place : Span
+a_place = record { start = 0; end = 0 }
+
+token_of : (c : ℕ) → nat_lt c listed.class_count ≡ true → (k : SpannedTemplateToken) × (grammar.class_of k ≡ c)
+token_of c lt = let e = examples.each_class c lt in (record { token = e.0; span = a_place }, e.1)
+
+-- what tokens derive is what is read
+is_read : (s : Start) → nat_lt (number s) 7 ≡ true → (tokens : List SpannedTemplateToken) (x : Phrase Part) → Derives grammar (phrase (goal_of s)) tokens x → IsRead grammar (goal_of s) tokens x
+is_read s lt tokens x d =
+    let b = start (number s) in record {
+      derives = d;
+      only = λ y e. trees_are_unique grammar (tables_of s) (account listed b) b.from b.rule b.sentence b.goal (tables_fit grammar (λ p. refl) token_of (number s) lt) tokens x y d e;
+    }
+
+-- ---- from a text to what is printed
+
+-- what a text derives from a start
+module _ (s : Start) (lt : nat_lt (number s) 7 ≡ true) (k : ℕ) (goal : goal_of s ≡ k) (text : List ℕ) (p : Part) (h : IsParsed s text p) where
+  pub parsed_good : Good (phrase k) h.tokens h.part.phrase
+  parsed_good =
+      let P : ℕ → Type 0 = λ k. Derives grammar (phrase k) h.tokens h.part.phrase in
+      derived (phrase k) h.tokens h.part.phrase (subst P goal h.part.derived.derives) h.part.passed
+
+  -- a text that is laid out as what it stands for
+  pub record Returned (other : List ℕ) (v : View) : Type 0 where
+    pub made : Part
+    pub parsed : IsParsed s other made
+    pub stands : Stands made v
+
+  pub returned : (other : List ℕ) (v : View) → Back k v h.tokens h.part.phrase → (AreSpelled (view_tokens v) → IsTextOf (view_tokens v) other) → Returned other v
+  returned other v b laid =
+      let spelled = b.item.spelled (read_spelled at_start h.lexed.characters h.tokens h.lexed.lexes.0 [] h.lexed.lexes.1 h.lexed.are_scalars) in
+      let q = b.item.steps outside [] in
+      let P : List TemplateToken × List TemplateToken → Type 0 = λ z. AreAlike outside [] z.0 z.1 in
+      let alike = subst P (λ i. (append-nil (without_places h.tokens) i, append-nil (view_tokens v) i)) (q.cont [] [] none) in
+      let found = laid_out_but_for_optional_marks text other h.tokens (view_tokens v) h.lexed alike (laid spelled) in
+      let again = b.item.again found.0 found.2 in
+      let Q : ℕ → Type 0 = λ k. Derives grammar (phrase k) found.0 again.value in
+      let read = is_read s lt found.0 again.value (subst Q (sym goal) again.derives) in
+      record { made = again.value.part; parsed = record { tokens = found.0; lexed = found.1; part = record { phrase = again.value; derived = read; passed = again.passes; same = refl } }; stands = again.stands }
