@@ -227,9 +227,11 @@ made_check_passes label pattern x xs h = go (extent_from (Some (extent_of x)) xs
     go None is = absurd (never (extent_of x) xs is)
     go (Some to) is =
         let whole : (made label (Some to) (chosen Absent pattern (x ∷ xs))).failure ≡ None = ap (λ o. (made label o (chosen Absent pattern (x ∷ xs))).failure) (sym is) ∙ h in
-        let parts = chosen Absent pattern (x ∷ xs) in
-        (to.span, no_second (severity_failed label parts) (made_failed label (making.make label to.span parts)) (no_failure to.last (first_check (severity_failed label parts) (made_failed label (making.make label to.span parts)))
-        (either_second to.failure (failure_in label parts (making.make label to.span parts) to.last) whole)))
+        let parts = chosen Absent pattern (x ∷ xs) in (
+          to.span,
+          no_second (severity_failed label parts) (made_failed label (making.make label to.span parts)) (no_failure to.last (first_check (severity_failed label parts) (made_failed label (making.make label to.span parts)))
+              (either_second to.failure (failure_in label parts (making.make label to.span parts) to.last) whole)),
+        )
 
 pub made_parts_pass : (label : Label) (pattern : List ℕ) (xs : List (Phrase Part)) → (make_of label pattern xs).failure ≡ None → AllPass xs
 made_parts_pass label pattern [] h = tt

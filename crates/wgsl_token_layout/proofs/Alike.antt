@@ -444,7 +444,6 @@ more_read x o u l w p list reads (last_one y rest left e is c a) = ends list e
         }
     ends (last_argument {u = v} h) e = absurd (not_more (v ++ (k.ParenRight ∷ [])) w left y (starts_append v (k.ParenRight ∷ []) (expression_starts v h)) e c)
     ends (more_arguments {u = v} {v = m} h g) e = absurd (not_more (v ++ (k.Comma ∷ m)) w left y (starts_append v (k.Comma ∷ m) (expression_starts v h)) e c)
-
 more_read x o u l w p list reads (one_outside s a) = absurd (apart p.last (x ∷ o) p.rest (l ++ w) (ended_inside p.last p.ended) s (arguments_start list) a)
   where
     arguments_start : {l : List Kind} → IsArguments l → starts_within (l ++ w) ≡ true
