@@ -1,12 +1,12 @@
 -- What is printed of what a declaration of a value begins with is laid out as its tokens.
-use Rattle.std.proofs.Common.{◌≡◌, refl, sym, ap, ◌∙◌, subst, ℕ, true, false, List, [], ◌∷◌, ◌++◌, append_assoc, append-nil, codes, Option, Some, None}
+use Rattle.std.proofs.Common.{◌≡◌, refl, sym, ap, subst, ℕ, false, List, [], ◌∷◌, ◌++◌, append_assoc, append-nil, codes, Option, Some, None}
 use Rattle.unicode_ident.proofs.Computing.{unicode_ident}
 use Rattle.wgsl_token.specs.declared.token.Token.TheVariants as t
 use Rattle.wgsl_token.specs.declared.token.Fixed.TheVariants as f
 use Rattle.wgsl_spelled.proofs.Ends.{ends_word}
 use Rattle.wgsl_template_spec.specs.declared.token.TemplateToken.{TemplateToken}
 use Rattle.wgsl_template_spec.specs.declared.token.TemplateToken.TheVariants.{TemplateArgsEnd}
-use Rattle.wgsl_token_layout.specs.Layout.{IsTextOf, IsLaidOut, at_the_end}
+use Rattle.wgsl_token_layout.specs.Layout.{IsLaidOut, at_the_end}
 use Rattle.wgsl_enumerations.specs.declared.address.AccessMode.{AccessMode}
 use Rattle.wgsl_enumerations.specs.declared.address.AddressSpace.{AddressSpace}
 use Rattle.wgsl_enumerations.specs.Texts.{address_space_text, access_mode_text}
@@ -14,13 +14,12 @@ use Rattle.wgsl_expressions.specs.Print.{angled}
 use Rattle.wgsl_simple_statements.specs.declared.declaration.DeclarationKind.{DeclarationKind}
 use Rattle.wgsl_simple_statements.specs.declared.declaration.DeclarationKind.TheVariants as kinds
 use Rattle.wgsl_simple_statements.specs.Print.{access_text, kind_text}
-use Rattle.wgsl_tree_tokens.specs.Tokens.{mark}
 use Rattle.wgsl_tree_tokens.specs.Printable.{AreSpelled}
-use Rattle.wgsl_tree_tokens.specs.DeclarationKinds.{access_tokens, space_tokens, kind_tokens}
+use Rattle.wgsl_tree_tokens.specs.DeclarationKinds.{space_tokens, kind_tokens}
 use Rattle.wgsl_tree_tokens.specs.Laws.{KindsAreLaidOut}
 use Rattle.wgsl_tree_tokens.proofs.Signs.{lays_comma, lays_space}
 use Rattle.wgsl_tree_tokens.proofs.Leaves.{Leaf, word_leaf, keyword_leaf}
-use Rattle.wgsl_tree_tokens.proofs.Expressions.{Run, run_then, run_as, run_where, sign_run, leaf_run, free, at_comma, stops, stops_end, plain_start, begins_then, Inside, angled_run, at_angle, are_front}
+use Rattle.wgsl_tree_tokens.proofs.Expressions.{Run, run_then, run_as, run_where, sign_run, leaf_run, free, at_comma, stops_end, plain_start, begins_then, Inside, angled_run, at_angle, are_front}
 
 const_leaf : Leaf ends_word (t.Fixed f.Const) (codes "const")
 unfolding unicode_ident

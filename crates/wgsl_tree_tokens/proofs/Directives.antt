@@ -9,17 +9,17 @@ use Rattle.wgsl_token.specs.declared.token.Fixed.TheVariants as f
 use Rattle.wgsl_spelled.proofs.Spells.{spells_ascii}
 use Rattle.wgsl_spelled.proofs.Ends.{ends_word}
 use Rattle.wgsl_template_spec.specs.declared.token.TemplateToken.{TemplateToken}
-use Rattle.wgsl_token_layout.specs.Layout.{IsTextOf, IsLaidOut, at_the_end}
+use Rattle.wgsl_token_layout.specs.Layout.{IsLaidOut, at_the_end}
 use Rattle.wgsl_imports.specs.Print.{setting_text, names_text, directive_text}
-use Rattle.wgsl_imports.specs.Tree.{Directive, diagnostic, enabling, requiring}
+use Rattle.wgsl_imports.specs.Tree.{Directive}
 use Rattle.wgsl_tree_tokens.specs.Tokens.{mark, word}
 use Rattle.wgsl_tree_tokens.specs.Printable.{AreSpelled}
 use Rattle.wgsl_tree_tokens.specs.Directives.{IsRule, one_name, two_names, more_names_tokens, names_tokens, setting_tokens, HasTokens, of_diagnostic, of_enable, of_requires}
 use Rattle.wgsl_tree_tokens.specs.Laws.{DirectivesAreLaidOut}
 use Rattle.wgsl_tree_tokens.proofs.Lays.{Lays, lays_nothing}
 use Rattle.wgsl_tree_tokens.proofs.Signs.{begins_with_none, lays_sign, lays_paren_left, lays_paren_right, lays_comma, lays_space, lays_blank}
-use Rattle.wgsl_tree_tokens.proofs.Leaves.{Leaf, word_leaf, word_starts, keyword_leaf}
-use Rattle.wgsl_tree_tokens.proofs.Expressions.{Run, run_then, run_as, run_where, sign_run, leaf_run, point_run, free, at_space, at_paren_left, at_paren_right, at_comma, at_period, are_front, are_behind}
+use Rattle.wgsl_tree_tokens.proofs.Leaves.{Leaf, word_leaf, keyword_leaf}
+use Rattle.wgsl_tree_tokens.proofs.Expressions.{Run, run_then, run_as, sign_run, leaf_run, point_run, free, at_space, at_paren_left, at_paren_right, at_comma, at_period, are_front}
 
 diagnostic_leaf : Leaf ends_word (t.Fixed f.Diagnostic) (codes "diagnostic")
 unfolding unicode_ident

@@ -144,7 +144,7 @@ pub stops_end : (b : Bool) (rest : List ℕ) → stops rest ≡ true → ends b 
 stops_end true rest h = (and_parts (ends_word rest) (ends_number rest) h).1
 stops_end false rest h = (and_parts (ends_word rest) (ends_number rest) h).0
 
-stops_at : (rest : List ℕ) → ((b : Bool) → ends b rest ≡ true) → stops rest ≡ true
+pub stops_at : (rest : List ℕ) → ((b : Bool) → ends b rest ≡ true) → stops rest ≡ true
 stops_at rest h = (λ i. h false i && h true i)
 
 -- Signs and words
@@ -311,7 +311,7 @@ or_no false true h e = absurd cc
 or_no false false h e = refl
 
 -- a number alone ends in it
-abbrev closed_run : (ts : List TemplateToken) {xs : List ℕ} → Run (begins_with_none []) ts xs → Run ends_word ts xs
+abbrev pub closed_run : (ts : List TemplateToken) {xs : List ℕ} → Run (begins_with_none []) ts xs → Run ends_word ts xs
 closed_run ts p = run_where (λ rest ok. free rest) p
 
 -- what stands behind the first expression of a list
@@ -410,7 +410,7 @@ mutual
       (λ rest ok. at_paren_left false ((q.characters ++ codes ")") ++ rest)))
   exp_phrase (named t) s h = typ_phrase t s h
 
-  exps_run : (xs : Exps) → AreSpelled (exps_tokens xs) → are_apart xs ≡ true → Run stops (exps_tokens xs) (exps_text xs)
+  pub exps_run : (xs : Exps) → AreSpelled (exps_tokens xs) → are_apart xs ≡ true → Run stops (exps_tokens xs) (exps_text xs)
   exps_run nil s h = empty_run
   exps_run (cons x xs) s h =
       let both = and_parts (is_apart x) (are_apart xs) h in

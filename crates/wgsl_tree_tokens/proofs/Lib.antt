@@ -3,6 +3,7 @@ pub mod Signs
 pub mod Floats
 pub mod Leaves
 pub mod Expressions
+pub mod Attributes
 pub mod Directives
 pub mod DeclarationKinds
 pub mod Spelled

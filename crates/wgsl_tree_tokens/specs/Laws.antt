@@ -10,6 +10,9 @@ use Rattle.wgsl_imports.specs.Print.{directive_text}
 use Rattle.wgsl_tree_tokens.specs.Printable.{AreSpelled, is_apart}
 use Rattle.wgsl_simple_statements.specs.declared.declaration.DeclarationKind.{DeclarationKind}
 use Rattle.wgsl_simple_statements.specs.Print.{kind_text}
+use Rattle.wgsl_attributes.specs.Tree.{Attr}
+use Rattle.wgsl_attributes.specs.Print.{attr_text}
+use Rattle.wgsl_tree_tokens.specs.Attributes.{AttributeTokens}
 use Rattle.wgsl_tree_tokens.specs.Directives.{HasTokens}
 use Rattle.wgsl_tree_tokens.specs.DeclarationKinds.{kind_tokens}
 
@@ -24,3 +27,7 @@ DirectivesAreLaidOut = (d : Directive) (ts : List TemplateToken) → HasTokens d
 -- And that of what a declaration of a value begins with.
 abbrev pub KindsAreLaidOut : Type 0
 KindsAreLaidOut = (k : DeclarationKind) → AreSpelled (kind_tokens k) → IsTextOf (kind_tokens k) (kind_text k)
+
+-- And that of an attribute.
+abbrev pub AttributesAreLaidOut : Type 0
+AttributesAreLaidOut = (a : Attr) (ts : List TemplateToken) → AttributeTokens a ts → AreSpelled ts → IsTextOf ts (attr_text a)

@@ -1,5 +1,6 @@
 pub mod Tokens
 pub mod Printable
+pub mod Attributes
 pub mod Directives
 pub mod DeclarationKinds
 pub mod Laws

@@ -1,12 +1,12 @@
 -- Expressions of which each token is one that a text can have, and that are printed as these tokens.
-use Rattle.std.specs.Prelude.{◌≡◌, ℕ, Bool, true, false, not, ◌&&◌, ◌||◌, List, [], ◌∷◌, Some}
+use Rattle.std.specs.Prelude.{◌≡◌, ℕ, Bool, true, false, not, ◌&&◌, ◌||◌, List, [], ◌∷◌, Option, Some, None}
 use Rattle.std.specs.Str.{all_scalars}
 use Rattle.wgsl_token.specs.declared.token.Token.{Token}
 use Rattle.wgsl_lex.specs.Tokens.{form, token}
 use Rattle.wgsl_template_spec.specs.declared.token.TemplateToken.{TemplateToken}
 use Rattle.wgsl_template_spec.specs.declared.token.TemplateToken.TheVariants.{Plain, TemplateArgsStart, TemplateArgsEnd}
 use Rattle.wgsl_expressions.specs.Print.{is_number, is_numeric}
-use Rattle.wgsl_expressions.specs.Tree.{Exp, literal, parenthesized, component, indexed, unary, binary, call, named, Exps, nil, cons, Typ, simple, templated}
+use Rattle.wgsl_expressions.specs.Tree.{Exp, literal, parenthesized, component, indexed, unary, binary, call, named, Exps, nil, cons, exps, Typ, simple, templated}
 
 -- some characters are this token
 pub record IsSpelled (k : Token) : Type 0 where
@@ -47,3 +47,8 @@ abbrev mutual
   pub type_is_apart : Typ → Bool
   type_is_apart (simple path name) = true
   type_is_apart (templated path name xs) = are_apart xs
+
+-- of arguments
+abbrev pub arguments_are_apart : Option (List Exp) → Bool
+arguments_are_apart None = true
+arguments_are_apart (Some es) = are_apart (exps es)

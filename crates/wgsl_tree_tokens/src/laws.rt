@@ -1,6 +1,6 @@
 //! Laws of the texts of trees. Each function states one, and does nothing.
 
-ghost use Rattle.wgsl_tree_tokens.specs.Laws.{ExpressionsAreLaidOut, DirectivesAreLaidOut, KindsAreLaidOut};
+ghost use Rattle.wgsl_tree_tokens.specs.Laws.{ExpressionsAreLaidOut, DirectivesAreLaidOut, KindsAreLaidOut, AttributesAreLaidOut};
 
 /// The printed text of an expression is laid out as the expression's tokens.
 pub fn expressions_are_laid_out()
@@ -15,4 +15,9 @@ pub fn directives_are_laid_out()
 /// And that of what a declaration of a value begins with.
 pub fn kinds_are_laid_out()
     ensures { KindsAreLaidOut }
+{}
+
+/// And that of an attribute.
+pub fn attributes_are_laid_out()
+    ensures { AttributesAreLaidOut }
 {}
