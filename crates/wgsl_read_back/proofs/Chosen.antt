@@ -1,7 +1,6 @@
 -- Words of fixed choice, and expressions that are no more than names: what they are depends on the tree alone.
 use Rattle.std.specs.Prelude.{if◌then◌else◌}
 use Rattle.std.specs.Option.{option_map, option_and_then}
-use Rattle.std.specs.Str.{bytes_eq}
 use Rattle.std.proofs.Common.{◌≡◌, refl, sym, ap, ◌∙◌, ℕ, Bool, true, false, List, [], ◌∷◌, ◌++◌, map, Option, Some, None}
 use Rattle.wgsl_items.proofs.Members.{same_bytes}
 use Rattle.wgsl_path.specs.declared.span.Spanned.{Spanned}
@@ -13,7 +12,7 @@ use Rattle.wgsl_enumerations.specs.declared.address.AddressSpace.TheVariants.{Fu
 use Rattle.wgsl_enumerations.specs.Texts.{address_space_text, address_space_spelled, access_mode_text, access_mode_spelled}
 use Rattle.wgsl_expressions.specs.declared.expression.Expression.{Expression, Expression-F, out-Expression}
 use Rattle.wgsl_expressions.specs.declared.expression.TemplateArgOf.{TemplateArgOf}
-use Rattle.wgsl_expressions.specs.Tree.{Exp, literal, parenthesized, component, indexed, unary, binary, call, named, exps, simple, templated}
+use Rattle.wgsl_expressions.specs.Tree.{Exp, named, exps, simple}
 use Rattle.wgsl_expressions.specs.View.{tree, node_tree, layer, typed}
 use Rattle.wgsl_expressions.proofs.Trees.{tree_out}
 use Rattle.wgsl_choices.specs.Choices.{is_spelled, named as found_named, address_space_of, access_mode_of}

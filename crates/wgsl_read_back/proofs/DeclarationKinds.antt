@@ -1,7 +1,5 @@
 -- The productions of what declarations of values begin with.
-use Rattle.std.proofs.Common.{◌≡◌, refl, sym, ap, ◌∙◌, ℕ, Bool, true, List, [], ◌∷◌, ◌++◌, map, Option, Some, None}
-use Rattle.wgsl_path.specs.declared.span.Span.{Span}
-use Rattle.wgsl_path.specs.declared.span.Spanned.{Spanned}
+use Rattle.std.proofs.Common.{◌≡◌, refl, sym, ap, ◌∙◌, ℕ, Bool, List, [], ◌∷◌, ◌++◌, Option, Some, None}
 use Rattle.wgsl_token.specs.declared.token.Fixed.{Fixed}
 use Rattle.wgsl_token.specs.declared.token.Fixed.TheVariants as f
 use Rattle.wgsl_template_spec.specs.declared.token.TemplateToken.TheVariants.{TemplateArgsStart, TemplateArgsEnd}
@@ -11,12 +9,10 @@ use Rattle.wgsl_token_layout.specs.Laws.{without_places}
 use Rattle.wgsl_token_layout.specs.OptionalMarks.{Before, groups}
 use Rattle.wgsl_enumerations.specs.declared.address.AccessMode.{AccessMode}
 use Rattle.wgsl_enumerations.specs.declared.address.AddressSpace.{AddressSpace}
-use Rattle.wgsl_expressions.specs.declared.expression.Expression.{Expression}
-use Rattle.wgsl_expressions.specs.Tree.{Exp, exps}
-use Rattle.wgsl_expressions.specs.View.{node_tree}
+use Rattle.wgsl_expressions.specs.Tree.{Exp}
 use Rattle.wgsl_simple_statements.specs.declared.declaration.DeclarationKind.{DeclarationKind}
 use Rattle.wgsl_simple_statements.specs.declared.declaration.DeclarationKind.TheVariants as kinds
-use Rattle.wgsl_tree_tokens.specs.Tokens.{mark, exps_tokens}
+use Rattle.wgsl_tree_tokens.specs.Tokens.{mark}
 use Rattle.wgsl_tree_tokens.specs.DeclarationKinds.{kind_tokens}
 use Rattle.wgsl_attribute_words.specs.Attributes.{template_of}
 use Rattle.wgsl_leaves.specs.Leaves.{leaf}

@@ -4,7 +4,6 @@ use Rattle.std.specs.Str.{bytes_eq}
 use Rattle.wgsl_items.proofs.Members.{same_bytes}
 use Rattle.std.proofs.Common.{◌≡◌, refl, sym, ap, ◌∙◌, subst, ℕ, Bool, true, false, List, [], ◌∷◌, ◌++◌, append_assoc, append-nil, codes, Option, Some, None}
 use Rattle.wgsl_path.specs.Paths.{ident_of}
-use Rattle.wgsl_path.specs.declared.span.Span.{Span}
 use Rattle.wgsl_enumerations.specs.declared.words.DiagnosticSeverity.{DiagnosticSeverity}
 use Rattle.wgsl_enumerations.specs.declared.words.DiagnosticSeverity.TheVariants.{Error, Warning, Info, Off}
 use Rattle.wgsl_enumerations.specs.Texts.{diagnostic_severity_text}
@@ -14,8 +13,7 @@ use Rattle.wgsl_template_spec.specs.declared.token.TemplateToken.{TemplateToken}
 use Rattle.wgsl_template_spec.specs.declared.token.SpannedTemplateToken.{SpannedTemplateToken}
 use Rattle.wgsl_template_spec.specs.Kinds.{kind}
 use Rattle.wgsl_token_layout.specs.Laws.{without_places}
-use Rattle.wgsl_token_layout.specs.OptionalMarks.{Before, before, ends_operand, may_end_so, outer, groups, comma, AreAlike, same, first_has}
-use Rattle.wgsl_imports.specs.declared.directive.GlobalDirective.{GlobalDirective}
+use Rattle.wgsl_token_layout.specs.OptionalMarks.{Before, before, may_end_so, outer, groups, comma, AreAlike, same, first_has}
 use Rattle.wgsl_imports.specs.declared.directive.GlobalDirective.TheVariants as directive
 use Rattle.wgsl_imports.specs.Tree.{Directive, diagnostic, enabling, requiring}
 use Rattle.wgsl_tree_tokens.specs.Tokens.{mark, word}
@@ -26,21 +24,19 @@ use Rattle.wgsl_choices.specs.Choices.{severity_of}
 use Rattle.wgsl_shift_reduce.specs.Grammars.{Symbol, token, phrase}
 use Rattle.wgsl_parts.specs.declared.part.Part.{Part}
 use Rattle.wgsl_parts.specs.declared.part.Part.TheVariants as part
-use Rattle.wgsl_parts.specs.declared.label.Label.{Label}
 use Rattle.wgsl_parts.specs.declared.label.Label.TheVariants as l
 use Rattle.wgsl_parts.specs.declared.label.DirectiveLabel.TheVariants as label
 use Rattle.wgsl_phrases.specs.declared.phrase.Phrase.{Phrase}
-use Rattle.wgsl_make.specs.Making as making
 use Rattle.wgsl_make_declarations.specs.Imports as make
 use Rattle.wgsl_make_expressions.specs.Lists as lists
-use Rattle.wgsl_reading.specs.Failures.{severity_failed, made_failed, part_severity, unknown_severity}
+use Rattle.wgsl_reading.specs.Failures.{part_severity, unknown_severity}
 use Rattle.wgsl_grammar_tables.specs.Classes.{fixed_class}
 use Rattle.wgsl_read_back.proofs.Views.{View, view_tokens, Stands, a_token, a_text, some_texts, a_directive}
 use Rattle.wgsl_read_back.proofs.Views as v
 use Rattle.wgsl_read_back.proofs.Items.{Item, Back, ListBack, OneToken, cuts, places_append, moved, MayEnd, comma_gone}
 use Rattle.wgsl_read_back.proofs.Rows.{concat, nil as no_more, more, list_more, RowBack, Fine, steps_row, spelled_row, stood_back, Stood, stood_pass, Makes, make_of, makes_of, makes_checked, made_severity_passes, Rebuild, back_of, of_one, of_two, of_three, of_six}
 use Rattle.wgsl_read_back.proofs.Places.{mark_of, word_of}
-use Rattle.wgsl_read_back.proofs.Families.{token_item, mark_item, pass_back, passed}
+use Rattle.wgsl_read_back.proofs.Families.{token_item, mark_item, pass_back}
 use Rattle.wgsl_read_back.proofs.Operands.{word_item, word_part}
 
 -- ---- what phrases are

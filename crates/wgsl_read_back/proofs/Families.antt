@@ -24,7 +24,6 @@ use Rattle.wgsl_tree_tokens.specs.Printable.{AreSpelled, ends_in_number, is_apar
 use Rattle.wgsl_shift_reduce.specs.Grammars.{token, phrase}
 use Rattle.wgsl_parts.specs.declared.part.Part.{Part}
 use Rattle.wgsl_parts.specs.declared.part.Part.TheVariants as part
-use Rattle.wgsl_parts.specs.declared.label.Label.{Label}
 use Rattle.wgsl_parts.specs.declared.label.Label.TheVariants as l
 use Rattle.wgsl_parts.specs.declared.label.ExpressionLabel.TheVariants as label
 use Rattle.wgsl_leaves.specs.Leaves as leaves

@@ -9,7 +9,7 @@ use Rattle.wgsl_template_spec.specs.declared.token.TemplateToken.TheVariants.{Pl
 use Rattle.wgsl_template_spec.specs.declared.token.SpannedTemplateToken.{SpannedTemplateToken}
 use Rattle.wgsl_template_spec.specs.Kinds.{kind}
 use Rattle.wgsl_token_layout.specs.Laws.{without_places}
-use Rattle.wgsl_token_layout.specs.OptionalMarks.{Before, before, is_callee, ends_operand, outer, groups, may_end_so, comma, AreAlike, same, first_has}
+use Rattle.wgsl_token_layout.specs.OptionalMarks.{Before, before, is_callee, ends_operand, outer, groups, comma, AreAlike, same}
 use Rattle.wgsl_expressions.specs.declared.expression.Expression.TheVariants as exp
 use Rattle.wgsl_expressions.specs.declared.expression.LiteralExpression.{LiteralExpression}
 use Rattle.wgsl_expressions.specs.declared.expression.LiteralExpression.TheVariants as lit

@@ -1,5 +1,5 @@
 -- What is printed of what a text derives is read as it again, from any start.
-use Rattle.std.proofs.Common.{◌≡◌, refl, sym, subst, ℕ, nat_lt, true, List, [], ◌++◌, append-nil, None}
+use Rattle.std.proofs.Common.{◌≡◌, refl, sym, subst, ℕ, nat_lt, true, List, [], append-nil}
 use Rattle.wgsl_path.specs.declared.span.Span.{Span}
 use Rattle.wgsl_template_spec.specs.declared.token.TemplateToken.{TemplateToken}
 use Rattle.wgsl_template_spec.specs.declared.token.SpannedTemplateToken.{SpannedTemplateToken}

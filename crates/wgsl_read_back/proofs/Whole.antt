@@ -29,7 +29,7 @@ use Rattle.wgsl_read_back.proofs.Views as v
 use Rattle.wgsl_read_back.proofs.Families.{Expressed}
 use Rattle.wgsl_read_back.proofs.Directives.{Directed}
 use Rattle.wgsl_read_back.proofs.DeclarationKinds.{Kinded}
-use Rattle.wgsl_read_back.proofs.Returned.{parsed_good, Returned, returned}
+use Rattle.wgsl_read_back.proofs.Returned.{parsed_good, returned}
 
 -- ---- expressions
 
