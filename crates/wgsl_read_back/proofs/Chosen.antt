@@ -57,24 +57,24 @@ abbrev pub tree_name : Exp → Option (List ℕ)
 tree_name (named (simple None name)) = Some name
 tree_name _ = None
 
-name_is : (x : Expression) → name_of x ≡ tree_name (tree x)
-name_is x = by_layer (out-Expression x) ∙ ap tree_name (sym (tree_out x))
+pub layer_name_is : (y : Expression-F Expression) → layer_name y ≡ tree_name (layer tree y)
+layer_name_is (Expression-F.TypeOrIdentifier t) = go t.path t.template_args t.ident.name
   where
     go : (path : Option ModulePath) (template : Option (List (TemplateArgOf Expression))) (name : List ℕ) → alone path template name ≡ tree_name (named (typed tree path name template))
     go None None name = refl
     go None (Some ts) name = refl
     go (Some p) None name = refl
     go (Some p) (Some ts) name = refl
+layer_name_is (Expression-F.Literal l) = refl
+layer_name_is (Expression-F.Parenthesized x) = refl
+layer_name_is (Expression-F.NamedComponent x) = refl
+layer_name_is (Expression-F.Indexing x) = refl
+layer_name_is (Expression-F.Unary x) = refl
+layer_name_is (Expression-F.Binary x) = refl
+layer_name_is (Expression-F.FunctionCall x) = refl
 
-    by_layer : (y : Expression-F Expression) → layer_name y ≡ tree_name (layer tree y)
-    by_layer (Expression-F.TypeOrIdentifier t) = go t.path t.template_args t.ident.name
-    by_layer (Expression-F.Literal l) = refl
-    by_layer (Expression-F.Parenthesized x) = refl
-    by_layer (Expression-F.NamedComponent x) = refl
-    by_layer (Expression-F.Indexing x) = refl
-    by_layer (Expression-F.Unary x) = refl
-    by_layer (Expression-F.Binary x) = refl
-    by_layer (Expression-F.FunctionCall x) = refl
+pub name_is : (x : Expression) → name_of x ≡ tree_name (tree x)
+name_is x = layer_name_is (out-Expression x) ∙ ap tree_name (sym (tree_out x))
 
 name_shown : (e : Exp) (name : List ℕ) → tree_name e ≡ Some name → exp_tokens e ≡ word name ∷ []
 name_shown (named (simple None other)) name e = let same : other ≡ name = cc in ap (λ x. word x ∷ []) same

@@ -6,6 +6,7 @@ pub mod Families
 pub mod Operands
 pub mod Primaries
 pub mod Chosen
+pub mod AttributeTrees
 pub mod Directives
 pub mod DeclarationKinds
 pub mod Steps

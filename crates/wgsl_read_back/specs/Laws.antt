@@ -1,8 +1,13 @@
 -- What is printed is read back.
-use Rattle.std.specs.Prelude.{◌≡◌, ℕ, List}
+use Rattle.std.specs.Prelude.{◌≡◌, ℕ, List, map, ◌++◌, codes, Option, Some}
+use Rattle.std.specs.Option.{option_map}
 use Rattle.wgsl_path.specs.declared.span.Spanned.{Spanned}
 use Rattle.wgsl_expressions.specs.declared.expression.Expression.{Expression as Node}
 use Rattle.wgsl_expressions.specs.View.{node_tree}
+use Rattle.wgsl_attributes.specs.declared.attribute.Attribute.{Attribute}
+use Rattle.wgsl_attributes.specs.View.{attribute_tree}
+use Rattle.wgsl_attributes.specs.Print.{arguments_text, attr_text}
+use Rattle.wgsl_attribute_words.specs.Attributes.{attribute_of}
 use Rattle.wgsl_expressions.specs.Print.{exp_text}
 use Rattle.wgsl_imports.specs.declared.directive.GlobalDirective.{GlobalDirective}
 use Rattle.wgsl_imports.specs.View.{directive_tree}
@@ -26,3 +31,8 @@ DirectivesAreReadBack = (text : List ℕ) (x : GlobalDirective) → IsParsed Dir
 -- And what is printed of a kind of declaration, which has no places.
 abbrev pub KindsAreReadBack : Type 0
 KindsAreReadBack = (text : List ℕ) (x : DeclarationKind) → IsParsed Kind text (part.Kind x) → IsParsed Kind (kind_text x) (part.Kind x)
+
+-- The attribute of a word and arguments is printed as `@`, that word and these arguments.
+abbrev pub AttributesArePrintedAsRead : Type 0
+AttributesArePrintedAsRead = (name : List ℕ) (arguments : Option (List (Spanned Node))) (x : Attribute) → attribute_of name arguments ≡ Some x
+    → attr_text (attribute_tree x) ≡ codes "@" ++ name ++ arguments_text (option_map (map node_tree) arguments)

@@ -1,6 +1,6 @@
 //! Laws of what is printed and read back. Each function states one, and does nothing.
 
-ghost use Rattle.wgsl_read_back.specs.Laws.{ExpressionsAreReadBack, DirectivesAreReadBack, KindsAreReadBack};
+ghost use Rattle.wgsl_read_back.specs.Laws.{ExpressionsAreReadBack, DirectivesAreReadBack, KindsAreReadBack, AttributesArePrintedAsRead};
 
 /// Where a text is an expression, what is printed of its tree is one, too, with the same tree but for places.
 pub fn expressions_are_read_back()
@@ -15,4 +15,9 @@ pub fn directives_are_read_back()
 /// The same of a kind of declaration, as `var<storage, read_write>`.
 pub fn kinds_are_read_back()
     ensures { KindsAreReadBack }
+{}
+
+/// The attribute of a word and arguments is printed as `@`, that word and these arguments.
+pub fn attributes_are_printed_as_read()
+    ensures { AttributesArePrintedAsRead }
 {}

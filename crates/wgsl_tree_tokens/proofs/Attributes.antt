@@ -48,7 +48,7 @@ two_text a b = append_assoc a (codes ", ") b ∙ ap (λ z. a ++ z) (sym (append-
 one_text : (a : List ℕ) → a ≡ a ++ []
 one_text a = sym (append-nil a)
 
-written_text : (a : Attr) (w : List ℕ) (es : Option (List Exp)) → IsWritten a w es → attr_text a ≡ (codes "@" ++ w) ++ arguments_text es
+pub written_text : (a : Attr) (w : List ℕ) (es : Option (List Exp)) → IsWritten a w es → attr_text a ≡ (codes "@" ++ w) ++ arguments_text es
 written_text _ _ _ (align_is x) = argued_as (codes "align") (exp_text x) _ (one_text (exp_text x))
 written_text _ _ _ (binding_is x) = argued_as (codes "binding") (exp_text x) _ (one_text (exp_text x))
 written_text _ _ _ (blend_src_is x) = argued_as (codes "blend_src") (exp_text x) _ (one_text (exp_text x))
