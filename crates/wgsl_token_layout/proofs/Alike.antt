@@ -26,6 +26,8 @@ pub data Alike : Before → List Bool → List Kind → List Kind → Type 0 whe
   second_has : {b : Before} {o : List Bool} {u v : List Kind} (x : Kind) → ends_operand b ≡ true → may_end_so o ≡ true → is_closer x ≡ true → Alike (behind_kind x) (groups b o x) u v → Alike b o (x ∷ u) (k.Comma ∷ x ∷ v)
   first_extra : {b : Before} {o : List Bool} {u v : List Kind} (x : Kind) → is_extra x ≡ true → starts_outside v ≡ true → Alike b o u v → Alike b o (x ∷ u) v
   second_extra : {b : Before} {o : List Bool} {u v : List Kind} (x : Kind) → is_extra x ≡ true → starts_outside u ≡ true → Alike b o u v → Alike b o u (x ∷ v)
+  -- (of what stands behind a token that stands in no expression nothing is asked)
+  cut : {b : Before} {o : List Bool} {u v : List Kind} → Alike b o (k.Other ∷ u) (k.Other ∷ v)
   first_void : {o : List Bool} {u v : List Kind} → Alike outside o u v → Alike outside o (k.Other ∷ u) v
   second_void : {o : List Bool} {u v : List Kind} → Alike outside o u v → Alike outside o u (k.Other ∷ v)
 
@@ -71,6 +73,7 @@ kept b o x _ v e f (first_has _ h g c a) = absurd (plain_no_closer x e c)
 kept b o _ _ _ e f (second_has x h g c a) = absurd cc
 kept b o x _ v e f (first_extra y m s a) = absurd (plain_inside x v e s)
 kept b o x _ v e f (second_extra _ m s a) = absurd (plain_no_extra x e m)
+kept b o _ _ _ e f (cut) = absurd cc
 kept _ o x _ v e f (first_void a) = absurd cc
 kept _ o _ _ v e f (second_void a) = absurd cc
 
@@ -85,6 +88,7 @@ closed b o x _ v e f (first_has {u = u} _ h g c a) = behind_comma u refl h g a
 closed b o _ _ _ e f (second_has x h g c a) = absurd cc
 closed b o x _ v e f (first_extra y m s a) = absurd (closer_inside x v e s)
 closed b o x _ v e f (second_extra _ m s a) = absurd (closer_no_extra x e m)
+closed b o _ _ _ e f (cut) = absurd cc
 closed _ o x _ v e f (first_void a) = absurd cc
 closed _ o _ _ v e f (second_void a) = absurd cc
 
@@ -369,6 +373,7 @@ apart b o _ _ f e h (first_has x i g c a) = absurd cc
 apart b o _ _ f e h (second_has x i g c a) = absurd cc
 apart b o _ v f e h (first_extra x m s a) = not_outside v h s
 apart b o u _ f e h (second_extra {v = v} x m s a) = starts_inside x v h m
+apart b o _ _ f e h (cut) = absurd cc
 apart _ o _ v f e h (first_void a) = absurd cc
 apart _ o u _ f e h (second_void a) = absurd cc
 

@@ -12,12 +12,12 @@ use Rattle.wgsl_template_spec.specs.declared.token.TemplateToken.{TemplateToken}
 use Rattle.wgsl_template_spec.specs.declared.token.TemplateToken.TheVariants.{Plain, TemplateArgsStart, TemplateArgsEnd}
 use Rattle.wgsl_template_spec.specs.Kinds.{kind}
 use Rattle.wgsl_template_spec.specs.Tokens.{is_word, is_in_list, behind, start}
-use Rattle.wgsl_token_layout.specs.OptionalMarks.{Before, outside, fresh, behind_kind, before, is_callee, ends_operand, is_closer, outer, groups, may_end_so, comma, void, may_go, begins_outside, AreAlike}
+use Rattle.wgsl_token_layout.specs.OptionalMarks.{Before, outside, fresh, behind_kind, before, is_callee, ends_operand, is_closer, outer, groups, may_end_so, comma, void, at_sign, is_any_word, may_go, begins_outside, AreAlike}
 use Rattle.wgsl_token_layout.specs.OptionalMarks as t
 use Rattle.wgsl_token_layout.specs.Laws.{LaidOutButForOptionalMarks}
 use Rattle.wgsl_token_layout.proofs.Pieces.{less}
 use Rattle.wgsl_token_layout.proofs.Ahead.{is_own, greater_token, ahead, kinds_of}
-use Rattle.wgsl_token_layout.proofs.Alike.{is_extra, starts_outside, inside, Alike, none, same, first_has, second_has, first_extra, second_extra, first_void, second_void, list_reads}
+use Rattle.wgsl_token_layout.proofs.Alike.{is_extra, starts_outside, inside, Alike, none, same, first_has, second_has, first_extra, second_extra, cut, first_void, second_void, list_reads}
 use Rattle.wgsl_token_layout.proofs.Marked.{own_list, Lists, Marked, end, begin, less_sign, as_is, marked, found}
 
 -- the other way round
@@ -28,6 +28,7 @@ flipped (t.first_has x h g c a) = t.second_has x h g c (flipped a)
 flipped (t.second_has x h g c a) = t.first_has x h g c (flipped a)
 flipped (t.first_extra x m s a) = t.second_extra x m s (flipped a)
 flipped (t.second_extra x m s a) = t.first_extra x m s (flipped a)
+flipped (t.same_attribute x m a) = t.same_attribute x m (flipped a)
 flipped (t.first_void a) = t.second_void (flipped a)
 flipped (t.second_void a) = t.first_void (flipped a)
 
@@ -77,6 +78,7 @@ wider_alike {b = b} {o = o} p w (first_has x h i c a) = first_has x h (wider_end
 wider_alike {b = b} {o = o} p w (second_has x h i c a) = second_has x h (wider_end w i) c (wider_alike (groups b p x) (wider_groups b o p x w) a)
 wider_alike p w (first_extra x m s a) = first_extra x m s (wider_alike p w a)
 wider_alike p w (second_extra x m s a) = second_extra x m s (wider_alike p w a)
+wider_alike p w (cut) = cut
 wider_alike p w (first_void a) = first_void (wider_alike p w a)
 wider_alike p w (second_void a) = second_void (wider_alike p w a)
 
@@ -87,6 +89,7 @@ outside_too (first_has x h i c a) = absurd cc
 outside_too (second_has x h i c a) = absurd cc
 outside_too (first_extra x m s a) = first_extra x m s (outside_too a)
 outside_too (second_extra x m s a) = second_extra x m s (outside_too a)
+outside_too (cut) = cut
 
 by_kind : {o : List Bool} {u v : List Kind} (x : TemplateToken) → Alike (before x) o u v → Alike (behind_kind (kind x)) o u v
 by_kind (Plain (Fixed f.Var)) a = outside_too a
@@ -139,6 +142,9 @@ ahead_outside c o (Plain (Fixed f.Colon) ∷ ts) e = ap starts_outside (onward c
 ahead_outside c o (Plain (Fixed f.Semicolon) ∷ ts) e = ap starts_outside (onward c o (Plain (Fixed f.Semicolon)) ts (and_false (is_own (c ∷ o))))
 ahead_outside c o (_ ∷ ts) e = absurd cc
 
+at_onward : (c : Bracket) (o : List Bracket) (x : TemplateToken) (ts : List TemplateToken) → kinds_of (ahead (c ∷ o) (at_sign ∷ x ∷ ts)) ≡ k.Other ∷ kinds_of (ahead (c ∷ o) (x ∷ ts))
+at_onward c o x ts = onward c o at_sign (x ∷ ts) (and_false (is_own (c ∷ o)))
+
 ahead_alike : {b : Before} {g : List Bool} {ts us : List TemplateToken} → AreAlike b g ts us → (o : List Bracket) → Alike b g (kinds_of (ahead o ts)) (kinds_of (ahead o us))
 ahead_alike t.none [] = none
 ahead_alike t.none (c ∷ o) = none
@@ -159,6 +165,8 @@ ahead_alike (t.first_extra x m s a) [] = none
 ahead_alike (t.first_extra {ts = ts} {us = us} x m s a) (c ∷ o) = moved (sym (extra_onward c o x ts m)) refl (first_extra (kind x) (extra_kind x m) (ahead_outside c o us s) (ahead_alike a (c ∷ o)))
 ahead_alike (t.second_extra x m s a) [] = none
 ahead_alike (t.second_extra {ts = ts} {us = us} x m s a) (c ∷ o) = moved refl (sym (extra_onward c o x us m)) (second_extra (kind x) (extra_kind x m) (ahead_outside c o ts s) (ahead_alike a (c ∷ o)))
+ahead_alike (t.same_attribute x m a) [] = none
+ahead_alike (t.same_attribute {ts = ts} {us = us} x m a) (c ∷ o) = moved (sym (at_onward c o x ts)) (sym (at_onward c o x us)) cut
 ahead_alike (t.first_void a) [] = none
 ahead_alike (t.first_void {ts = ts} {us = us} a) (c ∷ o) = moved (sym (extra_onward c o void ts refl)) refl (first_void (ahead_alike a (c ∷ o)))
 ahead_alike (t.second_void a) [] = none
@@ -236,6 +244,25 @@ fits_behind (Plain (Fixed f.Var)) e = absurd cc
 fits_behind (Plain (Identifier name)) e = absurd cc
 fits_behind _ e = refl
 
+-- a word is told as it stands
+word_step : (w : Bool) (o : List Bracket) (x : TemplateToken) (ts us : List TemplateToken) → is_any_word x ≡ true → ((v : Bool) → Marked v o ts → Marked v o us) → Marked w o (x ∷ ts) → Marked w o (x ∷ us)
+word_step w o _ ts us e go (end inside h) = absurd cc
+word_step w o _ ts us e go (begin word list h) = absurd cc
+word_step w o (Plain (Fixed f.LessThan)) ts us e go (less_sign word sign never h) = absurd cc
+word_step w o (Plain _) ts us e go (less_sign word sign never h) = absurd cc
+word_step w o (Plain u) ts us e go (as_is p q h) = as_is p q (step u e h)
+  where
+    step : (u : Token) → is_any_word (Plain u) ≡ true → Marked (is_word (Plain u)) (behind o (Plain u)) ts → Marked (is_word (Plain u)) (behind o (Plain u)) us
+    step (Fixed f.ParenLeft) e h = absurd cc
+    step (Fixed f.ParenRight) e h = absurd cc
+    step (Fixed f.BracketLeft) e h = absurd cc
+    step (Fixed f.BracketRight) e h = absurd cc
+    step _ e h = go _ h
+
+at_step : (w : Bool) (o : List Bracket) (ts us : List TemplateToken) → (Marked false o ts → Marked false o us) → Marked w o (at_sign ∷ ts) → Marked w o (at_sign ∷ us)
+at_step w o ts us go (less_sign word sign never h) = absurd cc
+at_step w o ts us go (as_is p q h) = as_is p q (go h)
+
 marked_alike : {b : Before} {g : List Bool} {ts us : List TemplateToken} → AreAlike b g ts us → (w : Bool) (o : List Bracket) → Fits b w → Marked w o ts → Marked w o us
 marked_alike t.none w o f h = h
 marked_alike (t.same _ a) w o f (end inside h) = end inside (marked_alike a false _ (λ e. refl) h)
@@ -248,6 +275,7 @@ marked_alike (t.first_has {ts = ts} {us = us} x i j c a) w o f h = comma_gone w 
 marked_alike (t.second_has {ts = ts} {us = us} x i j c a) w o f h = comma_there w w o x ts us c (marked_alike a (is_word x) (behind o x) (fits_behind x)) h
 marked_alike (t.first_extra {ts = ts} {us = us} x m s a) w o f h = any_word false w o us s (marked_alike a false o (λ e. refl) (extra_gone w o x ts m h))
 marked_alike (t.second_extra {ts = ts} {us = us} x m s a) w o f h = extra_there w o x us m (marked_alike a false o (λ e. refl) (any_word w false o ts s h))
+marked_alike (t.same_attribute {ts = ts} {us = us} x m a) w o f h = at_step w o (x ∷ ts) (x ∷ us) (word_step false o x ts us m (λ v. marked_alike a v o (λ e. absurd cc))) h
 marked_alike (t.first_void {ts = ts} {us = us} a) w o f h =
     let P : Bool → Type 0 = λ z. Marked z o us in subst P (sym (f refl)) (marked_alike a false o (λ e. refl) (extra_gone w o void ts refl h))
 marked_alike (t.second_void {ts = ts} {us = us} a) w o f h =

@@ -1,6 +1,6 @@
 -- Tokens that differ in marks alone that may be left out: the last comma of a list, and `:` and `;` where a text may do without.
 use Rattle.std.specs.Prelude.{◌≡◌, Bool, true, false, List, [], ◌∷◌}
-use Rattle.wgsl_token.specs.declared.token.Token.TheVariants.{Fixed}
+use Rattle.wgsl_token.specs.declared.token.Token.TheVariants.{Fixed, Identifier, Reserved}
 use Rattle.wgsl_token.specs.declared.token.Fixed.TheVariants as f
 use Rattle.wgsl_template_spec.specs.declared.kind.Kind.{Kind}
 use Rattle.wgsl_template_spec.specs.declared.kind.Kind.TheVariants as k
@@ -85,8 +85,47 @@ begins_outside (Plain (Fixed f.Colon) ∷ ts) = true
 begins_outside (Plain (Fixed f.Semicolon) ∷ ts) = true
 begins_outside _ = false
 
+-- a word, which may stand behind `@`
+abbrev pub is_any_word : TemplateToken → Bool
+is_any_word (Plain (Identifier name)) = true
+is_any_word (Plain (Reserved name)) = true
+is_any_word (Plain (Fixed f.Alias)) = true
+is_any_word (Plain (Fixed f.Break)) = true
+is_any_word (Plain (Fixed f.Case)) = true
+is_any_word (Plain (Fixed f.Const)) = true
+is_any_word (Plain (Fixed f.ConstAssert)) = true
+is_any_word (Plain (Fixed f.Continue)) = true
+is_any_word (Plain (Fixed f.Continuing)) = true
+is_any_word (Plain (Fixed f.Default)) = true
+is_any_word (Plain (Fixed f.Diagnostic)) = true
+is_any_word (Plain (Fixed f.Discard)) = true
+is_any_word (Plain (Fixed f.Else)) = true
+is_any_word (Plain (Fixed f.Enable)) = true
+is_any_word (Plain (Fixed f.False)) = true
+is_any_word (Plain (Fixed f.Fn)) = true
+is_any_word (Plain (Fixed f.For)) = true
+is_any_word (Plain (Fixed f.If)) = true
+is_any_word (Plain (Fixed f.Let)) = true
+is_any_word (Plain (Fixed f.Loop)) = true
+is_any_word (Plain (Fixed f.Override)) = true
+is_any_word (Plain (Fixed f.Requires)) = true
+is_any_word (Plain (Fixed f.Return)) = true
+is_any_word (Plain (Fixed f.Struct)) = true
+is_any_word (Plain (Fixed f.Switch)) = true
+is_any_word (Plain (Fixed f.True)) = true
+is_any_word (Plain (Fixed f.Var)) = true
+is_any_word (Plain (Fixed f.While)) = true
+is_any_word (Plain (Fixed f.Import)) = true
+is_any_word (Plain (Fixed f.Package)) = true
+is_any_word (Plain (Fixed f.Super)) = true
+is_any_word (Plain (Fixed f.As)) = true
+is_any_word _ = false
+
+abbrev pub at_sign : TemplateToken
+at_sign = Plain (Fixed f.Attr)
+
 -- The same tokens but for marks that may be left out, of either: a comma before what closes arguments or a template list; a mark before
--- what stands in no expression; a `;` behind what stands in none.
+-- what stands in no expression; a `;` behind what stands in none. The word of an attribute may have arguments, whatever word it is.
 pub data AreAlike : Before → List Bool → List TemplateToken → List TemplateToken → Type 0 where
   none : {b : Before} {opened : List Bool} → AreAlike b opened [] []
   same : {b : Before} {opened : List Bool} {ts us : List TemplateToken} (t : TemplateToken) → AreAlike (before t) (groups b opened (kind t)) ts us → AreAlike b opened (t ∷ ts) (t ∷ us)
@@ -96,5 +135,6 @@ pub data AreAlike : Before → List Bool → List TemplateToken → List Templat
       → AreAlike (before t) (groups b opened (kind t)) ts us → AreAlike b opened (t ∷ ts) (comma ∷ t ∷ us)
   first_extra : {b : Before} {opened : List Bool} {ts us : List TemplateToken} (t : TemplateToken) → may_go t ≡ true → begins_outside us ≡ true → AreAlike b opened ts us → AreAlike b opened (t ∷ ts) us
   second_extra : {b : Before} {opened : List Bool} {ts us : List TemplateToken} (t : TemplateToken) → may_go t ≡ true → begins_outside ts ≡ true → AreAlike b opened ts us → AreAlike b opened ts (t ∷ us)
+  same_attribute : {b : Before} {opened : List Bool} {ts us : List TemplateToken} (t : TemplateToken) → is_any_word t ≡ true → AreAlike callee opened ts us → AreAlike b opened (at_sign ∷ t ∷ ts) (at_sign ∷ t ∷ us)
   first_void : {opened : List Bool} {ts us : List TemplateToken} → AreAlike outside opened ts us → AreAlike outside opened (void ∷ ts) us
   second_void : {opened : List Bool} {ts us : List TemplateToken} → AreAlike outside opened ts us → AreAlike outside opened ts (void ∷ us)
