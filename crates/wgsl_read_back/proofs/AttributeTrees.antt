@@ -23,7 +23,11 @@ use Rattle.wgsl_attribute_words.specs.declared.word.AttributeWord.{AttributeWord
 use Rattle.wgsl_attribute_words.specs.declared.word.AttributeWord.TheVariants as word
 use Rattle.wgsl_attribute_words.specs.Words.{word_text, word_spelled, word_named}
 use Rattle.wgsl_attribute_words.specs.Names.{name_of, layer_rule, rule_of}
+use Rattle.wgsl_attributes.specs.declared.attribute.Attribute.{Attribute}
 use Rattle.wgsl_attribute_words.specs.Attributes as code_attributes
+use Rattle.wgsl_attribute_words.specs.Attributes.{custom as custom_code}
+use Rattle.wgsl_make_declarations.specs.Attributes.{or_else, checked}
+use Rattle.wgsl_reading.specs.Failures.{of_word, attribute_failed}
 use Rattle.wgsl_attribute_words.specs.Attributes.{attribute_of, attribute_named, known_attribute, with_arguments, with_one, with_two, with_three, without_arguments}
 use Rattle.wgsl_tree_tokens.specs.Attributes as tokens
 use Rattle.wgsl_tree_tokens.specs.Attributes.{name_exp, IsRuleExp, IsWritten}
@@ -309,3 +313,102 @@ pub attributes_are_printed_as_read : AttributesArePrintedAsRead
 attributes_are_printed_as_read name xs a h =
     let is : tree_attribute name (trees_of xs) ≡ Some (attribute_tree a) = sym (attribute_is name xs) ∙ ap (option_map attribute_tree) h in
     written_text (attribute_tree a) name (trees_of xs) (attribute_written name (trees_of xs) (attribute_tree a) is)
+
+-- ---- no check fails in the attribute of a word and arguments
+
+abbrev Sound : Option Attribute → Type 0
+Sound None = Unit {0}
+Sound (Some x) = attribute_failed x ≡ None
+
+sound_alone : (w : AttributeWord) → Sound (without_arguments w)
+sound_alone word.Const = refl
+sound_alone word.Invariant = refl
+sound_alone word.MustUse = refl
+sound_alone word.Vertex = refl
+sound_alone word.Fragment = refl
+sound_alone word.Compute = refl
+sound_alone word.Publish = refl
+sound_alone word.Else = refl
+sound_alone _ = tt
+
+sound_builtin : (o : Option BuiltinValue) → Sound (option_map code.Builtin o)
+sound_builtin None = tt
+sound_builtin (Some v) = refl
+
+sound_interpolated : (o : Option InterpolationType) (p : Option InterpolationSampling) → Sound (code_attributes.interpolated o p)
+sound_interpolated None p = tt
+sound_interpolated (Some v) p = refl
+
+sound_sampled : (o : Option InterpolationType) (p : Option InterpolationSampling) → Sound (code_attributes.sampled o p)
+sound_sampled o None = tt
+sound_sampled o (Some s) = sound_interpolated o (Some s)
+
+sound_diagnosed : (o : Option DiagnosticSeverity) (p : Option (List ℕ)) → Sound (code_attributes.diagnosed o p)
+sound_diagnosed None None = tt
+sound_diagnosed None (Some r) = tt
+sound_diagnosed (Some s) None = tt
+sound_diagnosed (Some s) (Some r) = refl
+
+sound_one : (w : AttributeWord) (x : Spanned Expression) → Sound (with_one w x)
+sound_one word.Align x = refl
+sound_one word.Binding x = refl
+sound_one word.BlendSrc x = refl
+sound_one word.Group x = refl
+sound_one word.Id x = refl
+sound_one word.Location x = refl
+sound_one word.Size x = refl
+sound_one word.If x = refl
+sound_one word.Elif x = refl
+sound_one word.WorkgroupSize x = refl
+sound_one word.Builtin x = sound_builtin (option_and_then builtin_value_of (name_of x.node))
+sound_one word.Interpolate x = sound_interpolated (option_and_then interpolation_type_of (name_of x.node)) None
+sound_one _ x = tt
+
+sound_two : (w : AttributeWord) (x y : Spanned Expression) → Sound (with_two w x y)
+sound_two word.Interpolate x y = sound_sampled (option_and_then interpolation_type_of (name_of x.node)) (option_and_then interpolation_sampling_of (name_of y.node))
+sound_two word.Diagnostic x y = sound_diagnosed (option_and_then severity_of (name_of x.node)) (rule_of y.node)
+sound_two word.WorkgroupSize x y = refl
+sound_two _ x y = tt
+
+sound_three : (w : AttributeWord) (x y z : Spanned Expression) → Sound (with_three w x y z)
+sound_three word.WorkgroupSize x y z = refl
+sound_three _ x y z = tt
+
+sound_known : (w : AttributeWord) (xs : Option (List (Spanned Expression))) → Sound (known_attribute w xs)
+sound_known w None = sound_alone w
+sound_known w (Some []) = tt
+sound_known w (Some (x ∷ [])) = sound_one w x
+sound_known w (Some (x ∷ y ∷ [])) = sound_two w x y
+sound_known w (Some (x ∷ y ∷ z ∷ [])) = sound_three w x y z
+sound_known w (Some (x ∷ y ∷ z ∷ u ∷ xs)) = tt
+
+sound : (name : List ℕ) (xs : Option (List (Spanned Expression))) → Sound (attribute_of name xs)
+sound name xs = go (word_named name) refl
+  where
+    go : (o : Option AttributeWord) → word_named name ≡ o → Sound (attribute_named o name xs)
+    go None is = ap (option_map (λ w. of_word w xs)) is
+    go (Some w) is = sound_known w xs
+
+-- what is read in which no check fails is an attribute of its word and arguments
+pub checked_found : (name : List ℕ) (xs : Option (List (Spanned Expression))) → attribute_failed (checked name xs) ≡ None → (a : Attr) × (tree_attribute name (trees_of xs) ≡ Some a)
+checked_found name xs h = go (word_named name) refl
+  where
+    failed : (o : Option Attribute) → attribute_of name xs ≡ o → (w : AttributeWord) → word_named name ≡ Some w → (x : Attribute) × (attribute_of name xs ≡ Some x)
+    failed (Some x) e w is = (x, e)
+    failed None e w is =
+        absurd (let bad : Some (of_word w xs) ≡ None = sym (ap (option_map (λ w. of_word w xs)) is) ∙ ap (λ o. attribute_failed (or_else o (custom_code name xs))) (sym e) ∙ h in cc)
+
+    go : (o : Option AttributeWord) → word_named name ≡ o → (a : Attr) × (tree_attribute name (trees_of xs) ≡ Some a)
+    go None is = (custom name (trees_of xs), ap (λ o. tree_named o name (trees_of xs)) is)
+    go (Some w) is = let x = failed (attribute_of name xs) refl w is in (attribute_tree x.0, sym (attribute_is name xs) ∙ ap (option_map attribute_tree) x.1)
+
+-- and any other arguments with these trees are read as it
+pub found_again : (name : List ℕ) (es : Option (List Exp)) (a : Attr) → tree_attribute name es ≡ Some a → (xs : Option (List (Spanned Expression))) → trees_of xs ≡ es → (attribute_failed (checked name xs) ≡ None) × (attribute_tree (checked name xs) ≡ a)
+found_again name es a is xs same = go (attribute_of name xs) refl (attribute_is name xs ∙ ap (tree_attribute name) same ∙ is) (sound name xs)
+  where
+    go : (o : Option Attribute) → attribute_of name xs ≡ o → option_map attribute_tree (attribute_of name xs) ≡ Some a → Sound (attribute_of name xs) → (attribute_failed (checked name xs) ≡ None) × (attribute_tree (checked name xs) ≡ a)
+    go None e h s = absurd (let bad : None ≡ Some a = ap (option_map attribute_tree) (sym e) ∙ h in cc)
+    go (Some x) e h s =
+        let whole : checked name xs ≡ x = ap (λ o. or_else o (custom_code name xs)) e in
+        let tree_is : Some (attribute_tree x) ≡ Some a = ap (option_map attribute_tree) (sym e) ∙ h in
+        (ap attribute_failed whole ∙ subst Sound e s, ap attribute_tree whole ∙ (let same : attribute_tree x ≡ a = cc in same))

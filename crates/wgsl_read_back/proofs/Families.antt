@@ -31,7 +31,7 @@ use Rattle.wgsl_phrases.specs.declared.phrase.Phrase.{Phrase}
 use Rattle.wgsl_make_expressions.specs.Making as make
 use Rattle.wgsl_grammar_tables.specs.Classes.{fixed_class, class_of}
 use Rattle.wgsl_reading.specs.Failures.{made_failed}
-use Rattle.wgsl_read_back.proofs.Views.{View, view_tokens, Stands, a_token, an_ups, a_path, a_type, a_call, an_expression, some_expressions, a_text, some_texts, a_directive, a_kind, ends_as}
+use Rattle.wgsl_read_back.proofs.Views.{View, view_tokens, Stands, a_token, an_ups, a_path, a_type, a_call, an_expression, some_expressions, a_text, some_texts, a_directive, a_kind, a_word, some_arguments, an_attribute, ends_as}
 use Rattle.wgsl_read_back.proofs.Views as v
 use Rattle.wgsl_read_back.proofs.Items.{cont_as, Item, Back, OneToken, token_again, token_steps}
 use Rattle.wgsl_read_back.proofs.Rows.{nil as no_more, more, Stood, stood_pass, Makes, make_of, makes_of, Rebuild, back_of, of_one, of_two, of_three}
@@ -85,6 +85,9 @@ passed (some_expressions ns e h) = ap (made_failed l.Pass) e
 passed (a_text e) = ap (made_failed l.Pass) e
 passed (some_texts e) = ap (made_failed l.Pass) e
 passed (a_directive y e h) = ap (made_failed l.Pass) e
+passed (a_word e) = ap (made_failed l.Pass) e
+passed (some_arguments ns e h) = ap (made_failed l.Pass) e
+passed (an_attribute y e h q) = ap (made_failed l.Pass) e ∙ h
 passed (a_kind {k = k} e) = ap (made_failed l.Pass) e ∙ none k
   where
     none : (k : DeclarationKind) → made_failed l.Pass (part.Kind k) ≡ None
