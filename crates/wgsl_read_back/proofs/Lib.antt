@@ -9,6 +9,7 @@ pub mod Chosen
 pub mod AttributeTrees
 pub mod Directives
 pub mod DeclarationKinds
+pub mod AttributeRows
 pub mod Steps
 pub mod Derived
 pub mod Returned

@@ -96,3 +96,9 @@ pub end_of : (t : TemplateToken) → class_of t ≡ 81 → t ≡ TemplateArgsEnd
 end_of (Plain (t.Fixed h)) e = no_fixed_so h 81 refl e
 end_of TemplateArgsEnd e = refl
 end_of _ e = absurd (omega arith)
+
+-- reserved words
+pub reserved_of : (k : TemplateToken) → class_of k ≡ 79 → (x : List ℕ) × (k ≡ Plain (t.Reserved x))
+reserved_of (Plain (t.Fixed h)) e = no_fixed_so h 79 refl e
+reserved_of (Plain (t.Reserved x)) e = (x, refl)
+reserved_of _ e = absurd (omega arith)

@@ -34,20 +34,20 @@ pub data RowBack : List Symbol → List View → List SpannedTemplateToken → L
   list_more : {n : ℕ} {s : Symbol} {ss : List Symbol} {v : View} {t : TemplateToken} {vs : List View} {u k w : List SpannedTemplateToken} {x y : Phrase Part} {xs : List (Phrase Part)} → ListBack n v u x → Item s (token t) k y
       → without_places k ≡ t ∷ [] → Shuts t → RowBack ss vs w xs → RowBack (phrase n ∷ s ∷ ss) (v ∷ token t ∷ vs) (u ++ (k ++ w)) (x ∷ y ∷ xs)
 
-data RowAgain : List Symbol → List View → List SpannedTemplateToken → List (Phrase Part) → Type 0 where
+pub data RowAgain : List Symbol → List View → List SpannedTemplateToken → List (Phrase Part) → Type 0 where
   nil_again : RowAgain [] [] [] []
   more_again : {s : Symbol} {ss : List Symbol} {v : View} {vs : List View} {u w : List SpannedTemplateToken} {xs : List (Phrase Part)} → (a : Again s v u) → RowAgain ss vs w xs
       → RowAgain (s ∷ ss) (v ∷ vs) (u ++ w) (a.value ∷ xs)
 
-row_of : {ss : List Symbol} {vs : List View} {w : List SpannedTemplateToken} {ys : List (Phrase Part)} → RowAgain ss vs w ys → Row grammar ss w ys
+pub row_of : {ss : List Symbol} {vs : List View} {w : List SpannedTemplateToken} {ys : List (Phrase Part)} → RowAgain ss vs w ys → Row grammar ss w ys
 row_of nil_again = done
 row_of (more_again a r) = next a.derives (row_of r)
 
-record RowFound (ss : List Symbol) (vs : List View) (w : List SpannedTemplateToken) : Type 0 where
-  values : List (Phrase Part)
-  row : RowAgain ss vs w values
+pub record RowFound (ss : List Symbol) (vs : List View) (w : List SpannedTemplateToken) : Type 0 where
+  pub values : List (Phrase Part)
+  pub row : RowAgain ss vs w values
 
-again_row : {ss : List Symbol} {vs : List View} {u : List SpannedTemplateToken} {xs : List (Phrase Part)} → RowBack ss vs u xs → (w : List SpannedTemplateToken) → without_places w ≡ concat vs → RowFound ss vs w
+pub again_row : {ss : List Symbol} {vs : List View} {u : List SpannedTemplateToken} {xs : List (Phrase Part)} → RowBack ss vs u xs → (w : List SpannedTemplateToken) → without_places w ≡ concat vs → RowFound ss vs w
 again_row nil [] e = record { values = []; row = nil_again }
 again_row nil (k ∷ w) e = absurd cc
 again_row (more {s = s} {ss = ss} {v = v} {vs = vs} i r) w e =
@@ -123,7 +123,7 @@ stood_back nil = tt
 stood_back (more i r) = ((i.stands, i.passes), stood_back r)
 stood_back (list_more l i e c r) = ((l.stands, l.passes), ((i.stands, i.passes), stood_back r))
 
-stood_again : {ss : List Symbol} {vs : List View} {u : List SpannedTemplateToken} {xs : List (Phrase Part)} → RowAgain ss vs u xs → Stood xs vs
+pub stood_again : {ss : List Symbol} {vs : List View} {u : List SpannedTemplateToken} {xs : List (Phrase Part)} → RowAgain ss vs u xs → Stood xs vs
 stood_again nil_again = tt
 stood_again (more_again a r) = ((a.stands, a.passes), stood_again r)
 
