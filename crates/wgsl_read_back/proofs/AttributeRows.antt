@@ -1,5 +1,5 @@
 -- The productions of attributes.
-use Rattle.std.proofs.Common.{◌≡◌, refl, sym, ap, ◌∙◌, subst, ℕ, Bool, true, List, [], ◌∷◌, ◌++◌, append_assoc, append-nil, map, Option, Some, None}
+use Rattle.std.proofs.Common.{◌≡◌, refl, sym, ap, ◌∙◌, subst, ℕ, Bool, true, List, [], ◌∷◌, ◌++◌, append-nil, map, Option, Some, None}
 use Rattle.wgsl_path.specs.declared.span.Span.{Span}
 use Rattle.wgsl_path.specs.declared.span.Spanned.{Spanned}
 use Rattle.wgsl_token.specs.declared.token.Token.TheVariants as t
@@ -15,14 +15,11 @@ use Rattle.wgsl_token_layout.specs.OptionalMarks.{Before, callee, groups, is_any
 use Rattle.wgsl_expressions.specs.declared.expression.Expression.{Expression}
 use Rattle.wgsl_expressions.specs.Tree.{Exp, exps}
 use Rattle.wgsl_expressions.specs.View.{node_tree}
-use Rattle.wgsl_attributes.specs.declared.attribute.Attribute.{Attribute}
 use Rattle.wgsl_attributes.specs.Tree.{Attr}
-use Rattle.wgsl_attributes.specs.View.{attribute_tree}
-use Rattle.wgsl_tree_tokens.specs.Tokens.{mark, word, exps_tokens}
+use Rattle.wgsl_tree_tokens.specs.Tokens.{mark, word}
 use Rattle.wgsl_tree_tokens.specs.Printable.{AreSpelled, are_apart}
 use Rattle.wgsl_tree_tokens.specs.Attributes.{IsWord, identifier, reserved, keyword, is_word_mark, arguments_tokens, AttributeTokens, an_attribute}
 use Rattle.wgsl_tree_tokens.proofs.Expressions.{are_front, are_behind, are_both}
-use Rattle.wgsl_leaves.specs.Leaves.{leaf}
 use Rattle.wgsl_shift_reduce.specs.Grammars.{Symbol, token, phrase, Row, done, next}
 use Rattle.wgsl_parts.specs.declared.part.Part.{Part}
 use Rattle.wgsl_parts.specs.declared.part.Part.TheVariants as part
@@ -32,9 +29,9 @@ use Rattle.wgsl_parts.specs.declared.label.AttributeLabel.TheVariants as label
 use Rattle.wgsl_phrases.specs.declared.phrase.Phrase.{Phrase}
 use Rattle.wgsl_make_declarations.specs.Attributes as make
 use Rattle.wgsl_make_declarations.specs.Attributes.{checked}
-use Rattle.wgsl_reading.specs.Failures.{made_failed, attribute_failed}
+use Rattle.wgsl_reading.specs.Failures.{made_failed}
 use Rattle.wgsl_reading.specs.Phrases.{grammar}
-use Rattle.wgsl_grammar_tables.specs.Classes.{fixed_class, class_of}
+use Rattle.wgsl_grammar_tables.specs.Classes.{fixed_class}
 use Rattle.wgsl_read_back.proofs.Views.{View, view_tokens, Stands, a_token, a_word, some_expressions, some_arguments, ends_as}
 use Rattle.wgsl_read_back.proofs.Views as v
 use Rattle.wgsl_read_back.proofs.Items.{Again, Item, Back, OneToken, Steps, cont_as, split, places_append, moved, closes}
@@ -42,7 +39,7 @@ use Rattle.wgsl_read_back.proofs.Rows.{concat, nil as no_more, more, list_more, 
 use Rattle.wgsl_read_back.proofs.Places.{mark_of, word_of, reserved_of}
 use Rattle.wgsl_read_back.proofs.Families.{token_item, mark_item}
 use Rattle.wgsl_read_back.proofs.Operands.{Listed, word_item, word_part}
-use Rattle.wgsl_read_back.proofs.AttributeTrees.{tree_attribute, trees_of, checked_found, found_again, attribute_written}
+use Rattle.wgsl_read_back.proofs.AttributeTrees.{tree_attribute, checked_found, found_again, attribute_written}
 
 -- ---- the words of attributes
 

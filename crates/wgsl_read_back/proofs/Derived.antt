@@ -4,6 +4,7 @@ use Rattle.std.specs.List.{list_all}
 use Rattle.std.proofs.lemmas.Bool.{and_parts}
 use Rattle.wgsl_operators.specs.declared.BinaryOperator.TheVariants as o
 use Rattle.wgsl_operators.specs.declared.UnaryOperator.TheVariants as u
+use Rattle.wgsl_token.specs.declared.token.Fixed.TheVariants as f
 use Rattle.wgsl_template_spec.specs.declared.token.SpannedTemplateToken.{SpannedTemplateToken}
 use Rattle.wgsl_shift_reduce.specs.Grammars.{Symbol, token, phrase, Rule, Derives, a_token, a_phrase, Row, done, next}
 use Rattle.wgsl_parts.specs.declared.part.Part.{Part}
@@ -19,7 +20,7 @@ use Rattle.wgsl_read_back.proofs.Items.{OneToken}
 use Rattle.wgsl_read_back.proofs.Rows.{make_of, Rebuild, AllPass, made_parts_pass}
 use Rattle.wgsl_parts.specs.declared.label.DirectiveLabel.TheVariants as dir
 use Rattle.wgsl_read_back.proofs.Directives.{bare_row, bare_pattern}
-use Rattle.wgsl_read_back.proofs.Steps.{PlainStep, always, s_rule, s_rule_of, s_extension, s_setting, s_setting_with, s_directive, s_enable, s_requires, s_first_name, s_more_names, s_names_without, s_names_with, s_var, s_var_in, s_const_kind, s_override_kind, s_let_kind, s_pass_kind, Sort, unknown, sort_of, GoodAs, Good, GoodRow, good_end, good_next, Step, as_expressed, s_binary, s_unary, s_pass, s_pass_singles, s_pass_types, s_name_alone, s_name_above, s_name_in_package, s_name_within, s_one_up, s_further_up, s_simple, s_templated, s_call_without, s_call_with, s_number, s_true, s_false, s_named, s_called, s_parenthesized, s_component, s_indexed, s_first, s_more, s_listed_without, s_listed_with}
+use Rattle.wgsl_read_back.proofs.Steps.{PlainStep, always, s_rule, s_rule_of, s_extension, s_setting, s_setting_with, s_directive, s_enable, s_requires, s_first_name, s_more_names, s_names_without, s_names_with, s_var, s_var_in, s_const_kind, s_override_kind, s_let_kind, s_pass_kind, s_attribute_word, s_reserved_word, s_keyword, s_no_arguments, s_arguments, s_bare_attribute, s_attribute, Sort, unknown, sort_of, GoodAs, Good, GoodRow, good_end, good_next, Step, as_expressed, s_binary, s_unary, s_pass, s_pass_singles, s_pass_types, s_name_alone, s_name_above, s_name_in_package, s_name_within, s_one_up, s_further_up, s_simple, s_templated, s_call_without, s_call_with, s_number, s_true, s_false, s_named, s_called, s_parenthesized, s_component, s_indexed, s_first, s_more, s_listed_without, s_listed_with}
 
 -- ---- rules by number
 
@@ -113,8 +114,11 @@ bare_Expression = rebuild_at 293 (record { left = in_a_list n.Expression; right 
 abbrev rules_of_attributes : List Made
 rules_of_attributes = drop 63 made_rules
 
+abbrev rules_of_whole_attributes : List Made
+rules_of_whole_attributes = drop 34 rules_of_attributes
+
 abbrev rules_of_var : List Made
-rules_of_var = drop 36 rules_of_attributes
+rules_of_var = drop 2 rules_of_whole_attributes
 
 abbrev rules_of_values : List Made
 rules_of_values = drop 2 rules_of_var
@@ -410,9 +414,13 @@ kind_steps = (
   (s_override_kind (plain n.Kind) (λ w x h. h), (s_let_kind (plain n.Kind) (λ w x h. h), (s_pass_kind (plain n.Kind) (plain n.VarHead) (λ w x h. h) (λ w x h. h), tt))),
 )
 
-attributes_unknown : list_all (λ m. is_unknown (sort_of m.left)) (take 36 rules_of_attributes) ≡ true
+word_steps : EachPlain (take 34 rules_of_attributes)
 unfolding made_rules
-attributes_unknown = refl
+word_steps = (s_attribute_word (plain n.Word) (λ w x h. h), (s_reserved_word (plain n.Word) (λ w x h. h), (s_keyword f.Alias refl refl (λ b o. refl) (plain n.Word) (λ w x h. h), (s_keyword f.Break refl refl (λ b o. refl) (plain n.Word) (λ w x h. h), (s_keyword f.Case refl refl (λ b o. refl) (plain n.Word) (λ w x h. h), (s_keyword f.Const refl refl (λ b o. refl) (plain n.Word) (λ w x h. h), (s_keyword f.ConstAssert refl refl (λ b o. refl) (plain n.Word) (λ w x h. h), (s_keyword f.Continue refl refl (λ b o. refl) (plain n.Word) (λ w x h. h), (s_keyword f.Continuing refl refl (λ b o. refl) (plain n.Word) (λ w x h. h), (s_keyword f.Default refl refl (λ b o. refl) (plain n.Word) (λ w x h. h), (s_keyword f.Diagnostic refl refl (λ b o. refl) (plain n.Word) (λ w x h. h), (s_keyword f.Discard refl refl (λ b o. refl) (plain n.Word) (λ w x h. h), (s_keyword f.Else refl refl (λ b o. refl) (plain n.Word) (λ w x h. h), (s_keyword f.Enable refl refl (λ b o. refl) (plain n.Word) (λ w x h. h), (s_keyword f.False refl refl (λ b o. refl) (plain n.Word) (λ w x h. h), (s_keyword f.Fn refl refl (λ b o. refl) (plain n.Word) (λ w x h. h), (s_keyword f.For refl refl (λ b o. refl) (plain n.Word) (λ w x h. h), (s_keyword f.If refl refl (λ b o. refl) (plain n.Word) (λ w x h. h), (s_keyword f.Let refl refl (λ b o. refl) (plain n.Word) (λ w x h. h), (s_keyword f.Loop refl refl (λ b o. refl) (plain n.Word) (λ w x h. h), (s_keyword f.Override refl refl (λ b o. refl) (plain n.Word) (λ w x h. h), (s_keyword f.Requires refl refl (λ b o. refl) (plain n.Word) (λ w x h. h), (s_keyword f.Return refl refl (λ b o. refl) (plain n.Word) (λ w x h. h), (s_keyword f.Struct refl refl (λ b o. refl) (plain n.Word) (λ w x h. h), (s_keyword f.Switch refl refl (λ b o. refl) (plain n.Word) (λ w x h. h), (s_keyword f.True refl refl (λ b o. refl) (plain n.Word) (λ w x h. h), (s_keyword f.Var refl refl (λ b o. refl) (plain n.Word) (λ w x h. h), (s_keyword f.While refl refl (λ b o. refl) (plain n.Word) (λ w x h. h), (s_keyword f.Import refl refl (λ b o. refl) (plain n.Word) (λ w x h. h), (s_keyword f.Package refl refl (λ b o. refl) (plain n.Word) (λ w x h. h), (s_keyword f.Super refl refl (λ b o. refl) (plain n.Word) (λ w x h. h), (s_keyword f.As refl refl (λ b o. refl) (plain n.Word) (λ w x h. h), (s_no_arguments (plain n.Arguments) (λ w x h. h), (s_arguments (plain n.Arguments) (in_a_list n.Expression) (λ w x h. h) (λ w x h. h), tt))))))))))))))))))))))))))))))))))
+
+attribute_steps : Each (take 2 rules_of_whole_attributes)
+unfolding made_rules
+attribute_steps = (s_bare_attribute (plain n.Attribute) (plain n.Word) (λ w x h. h) (λ w x h. h), (s_attribute (plain n.Attribute) (plain n.Word) (plain n.Arguments) (λ w x h. h) (λ w x h. h) (λ w x h. h), tt))
 
 values_unknown : list_all (λ m. is_unknown (sort_of m.left)) (take 132 rules_of_values) ≡ true
 unfolding made_rules
@@ -440,7 +448,8 @@ both_steps n ms h g = subst Each (take-append-drop n ms) (each_append (take n ms
 steps : Each made_rules
 steps =
     both_steps 63 made_rules (each_plain _ first_steps)
-    (both_steps 36 rules_of_attributes (all_unknown _ attributes_unknown)
+    (both_steps 34 rules_of_attributes (each_plain _ word_steps)
+    (both_steps 2 rules_of_whole_attributes attribute_steps
     (both_steps 2 rules_of_var var_steps
     (both_steps 132 rules_of_values (all_unknown _ values_unknown)
     (both_steps 8 rules_of_directives directive_steps
@@ -449,7 +458,7 @@ steps =
     (both_steps 14 rules_of_rows (all_unknown _ rows_unknown)
     (both_steps 8 rules_of_lists (each_plain _ list_steps)
     (both_steps 8 rules_of_selectors (all_unknown _ selectors_unknown)
-    (both_steps 4 rules_of_extensions (each_plain _ extension_steps) (all_unknown _ last_unknown)))))))))))
+    (both_steps 4 rules_of_extensions (each_plain _ extension_steps) (all_unknown _ last_unknown))))))))))))
 
 -- ---- derivations
 

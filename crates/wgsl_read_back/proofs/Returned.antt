@@ -3,7 +3,7 @@ use Rattle.std.proofs.Common.{◌≡◌, refl, sym, subst, ℕ, nat_lt, true, Li
 use Rattle.wgsl_path.specs.declared.span.Span.{Span}
 use Rattle.wgsl_template_spec.specs.declared.token.TemplateToken.{TemplateToken}
 use Rattle.wgsl_template_spec.specs.declared.token.SpannedTemplateToken.{SpannedTemplateToken}
-use Rattle.wgsl_template_spec.specs.Tokens.{start as at_start}
+use Rattle.wgsl_template_spec.specs.Tokens.{IsLexed, start as at_start}
 use Rattle.wgsl_token_layout.specs.Layout.{IsTextOf}
 use Rattle.wgsl_token_layout.specs.Laws.{without_places}
 use Rattle.wgsl_token_layout.specs.OptionalMarks.{outside, AreAlike, none}
@@ -47,6 +47,18 @@ is_read s lt tokens x d =
 
 -- ---- from a text to what is printed
 
+-- what is printed of a phrase has the tokens that it stands for
+abbrev pub Printed : View → List ℕ → Type 0
+Printed v other = (found : List SpannedTemplateToken) × IsLexed other found × (without_places found ≡ view_tokens v)
+
+pub printed : (text : List ℕ) (ks : List SpannedTemplateToken) → IsLexed text ks → (other : List ℕ) (k : ℕ) (v : View) (x : Phrase Part) → Back k v ks x → (AreSpelled (view_tokens v) → IsTextOf (view_tokens v) other) → Printed v other
+printed text ks lexed other k v x b laid =
+    let spelled = b.item.spelled (read_spelled at_start lexed.characters ks lexed.lexes.0 [] lexed.lexes.1 lexed.are_scalars) in
+    let q = b.item.steps outside [] in
+    let P : List TemplateToken × List TemplateToken → Type 0 = λ z. AreAlike outside [] z.0 z.1 in
+    let alike = subst P (λ i. (append-nil (without_places ks) i, append-nil (view_tokens v) i)) (q.cont [] [] none) in
+    laid_out_but_for_optional_marks text other ks (view_tokens v) lexed alike (laid spelled)
+
 -- what a text derives from a start
 module _ (s : Start) (lt : nat_lt (number s) 7 ≡ true) (k : ℕ) (goal : goal_of s ≡ k) (text : List ℕ) (p : Part) (h : IsParsed s text p) where
   pub parsed_good : Good (phrase k) h.tokens h.part.phrase
@@ -62,11 +74,7 @@ module _ (s : Start) (lt : nat_lt (number s) 7 ≡ true) (k : ℕ) (goal : goal_
 
   pub returned : (other : List ℕ) (v : View) → Back k v h.tokens h.part.phrase → (AreSpelled (view_tokens v) → IsTextOf (view_tokens v) other) → Returned other v
   returned other v b laid =
-      let spelled = b.item.spelled (read_spelled at_start h.lexed.characters h.tokens h.lexed.lexes.0 [] h.lexed.lexes.1 h.lexed.are_scalars) in
-      let q = b.item.steps outside [] in
-      let P : List TemplateToken × List TemplateToken → Type 0 = λ z. AreAlike outside [] z.0 z.1 in
-      let alike = subst P (λ i. (append-nil (without_places h.tokens) i, append-nil (view_tokens v) i)) (q.cont [] [] none) in
-      let found = laid_out_but_for_optional_marks text other h.tokens (view_tokens v) h.lexed alike (laid spelled) in
+      let found = printed text h.tokens h.lexed other k v h.part.phrase b laid in
       let again = b.item.again found.0 found.2 in
       let Q : ℕ → Type 0 = λ k. Derives grammar (phrase k) found.0 again.value in
       let read = is_read s lt found.0 again.value (subst Q (sym goal) again.derives) in

@@ -1,11 +1,11 @@
 -- What each production of expressions and of directives makes of what stands in its row.
-use Rattle.std.proofs.Common.{◌≡◌, refl, None, ℕ, ◌==◌, true, false, if◌then◌else◌, List, [], ◌∷◌, ◌++◌}
+use Rattle.std.proofs.Common.{◌≡◌, refl, None, ℕ, Bool, ◌==◌, true, false, if◌then◌else◌, List, [], ◌∷◌, ◌++◌}
 use Rattle.wgsl_operators.specs.declared.BinaryOperator.{BinaryOperator}
 use Rattle.wgsl_operators.specs.declared.UnaryOperator.{UnaryOperator}
 use Rattle.wgsl_token.specs.declared.token.Fixed.TheVariants as f
 use Rattle.wgsl_template_spec.specs.declared.token.SpannedTemplateToken.{SpannedTemplateToken}
 use Rattle.wgsl_expressions.specs.declared.expression.LiteralExpression.TheVariants as lit
-use Rattle.wgsl_tree_tokens.specs.Tokens.{unary_sign, binary_sign}
+use Rattle.wgsl_tree_tokens.specs.Tokens.{mark, unary_sign, binary_sign}
 use Rattle.wgsl_shift_reduce.specs.Grammars.{Symbol, token, phrase}
 use Rattle.wgsl_parts.specs.declared.part.Part.{Part}
 use Rattle.wgsl_parts.specs.declared.label.Label.{Label}
@@ -26,6 +26,11 @@ use Rattle.wgsl_parts.specs.declared.label.DirectiveLabel.TheVariants as dir
 use Rattle.wgsl_simple_statements.specs.declared.declaration.DeclarationKind.TheVariants as kinds
 use Rattle.wgsl_parts.specs.declared.label.AttributeLabel.TheVariants as attr
 use Rattle.wgsl_read_back.proofs.DeclarationKinds.{Kinded, var_alone, template_row, template_pattern, var_in, pass_kinded, kind_alone}
+use Rattle.wgsl_token.specs.declared.token.Fixed.{Fixed}
+use Rattle.wgsl_template_spec.specs.Kinds.{kind}
+use Rattle.wgsl_token_layout.specs.OptionalMarks.{Before, groups, is_any_word}
+use Rattle.wgsl_tree_tokens.specs.Attributes.{is_word_mark}
+use Rattle.wgsl_read_back.proofs.AttributeRows.{Worded, word_alone, reserved_alone, keyword_alone, Argued, empty_row, arguments_row, no_arguments, some_arguments_read, Attributed, bare_attribute_row, attribute_row, bare_attribute, full_attribute}
 use Rattle.wgsl_read_back.proofs.Primaries.{literal_single, number_single, named_single, called_single, parenthesized_single, component_single, indexed_single, first_separated, more_separated, listed_without, listed_with}
 
 -- ---- what phrases of each nonterminal are
@@ -47,13 +52,16 @@ pub data Sort : Type 0 where
   enumerated : Sort
   names_lists : Sort
   declaration_kinds : Sort
+  words : Sort
+  arguments : Sort
+  attributes : Sort
 
 abbrev pub sort_in : List (ℕ × Sort) → ℕ → Sort
 sort_in [] k = unknown
 sort_in (e ∷ es) k = if k == e.0 then e.1 else sort_in es k
 
 abbrev pub sort_of : ℕ → Sort
-sort_of = sort_in ((plain n.Name, names) ∷ (plain n.Ups, upses) ∷ (plain n.Simple, types) ∷ (plain n.Templated, types) ∷ (plain n.TypeExpression, types) ∷ (plain n.Callee, types) ∷ (plain n.Call, calls) ∷ (plain n.Primary, singles) ∷ (plain n.Singular, singles) ∷ (plain n.Unary, expressed) ∷ (plain n.Product, expressed) ∷ (plain n.Sum, expressed) ∷ (plain n.Shift, expressed) ∷ (plain n.Relational, expressed) ∷ (plain n.Ands, expressed) ∷ (plain n.Xors, expressed) ∷ (plain n.Ors, expressed) ∷ (plain n.AllOf, expressed) ∷ (plain n.AnyOf, expressed) ∷ (plain n.Item, expressed) ∷ (plain n.Expression, expressed) ∷ (in_a_list n.Item, lists) ∷ (with_commas n.Item, separated) ∷ (in_a_list n.Expression, lists) ∷ (with_commas n.Expression, separated) ∷ (plain n.Rule, rules) ∷ (plain n.Control, settings) ∷ (plain n.Directive, directives) ∷ (plain n.Extension, extensions) ∷ (in_a_list n.Extension, names_lists) ∷ (with_commas n.Extension, enumerated) ∷ (plain n.VarHead, declaration_kinds) ∷ (plain n.Kind, declaration_kinds) ∷ [])
+sort_of = sort_in ((plain n.Name, names) ∷ (plain n.Ups, upses) ∷ (plain n.Simple, types) ∷ (plain n.Templated, types) ∷ (plain n.TypeExpression, types) ∷ (plain n.Callee, types) ∷ (plain n.Call, calls) ∷ (plain n.Primary, singles) ∷ (plain n.Singular, singles) ∷ (plain n.Unary, expressed) ∷ (plain n.Product, expressed) ∷ (plain n.Sum, expressed) ∷ (plain n.Shift, expressed) ∷ (plain n.Relational, expressed) ∷ (plain n.Ands, expressed) ∷ (plain n.Xors, expressed) ∷ (plain n.Ors, expressed) ∷ (plain n.AllOf, expressed) ∷ (plain n.AnyOf, expressed) ∷ (plain n.Item, expressed) ∷ (plain n.Expression, expressed) ∷ (in_a_list n.Item, lists) ∷ (with_commas n.Item, separated) ∷ (in_a_list n.Expression, lists) ∷ (with_commas n.Expression, separated) ∷ (plain n.Rule, rules) ∷ (plain n.Control, settings) ∷ (plain n.Directive, directives) ∷ (plain n.Extension, extensions) ∷ (in_a_list n.Extension, names_lists) ∷ (with_commas n.Extension, enumerated) ∷ (plain n.VarHead, declaration_kinds) ∷ (plain n.Kind, declaration_kinds) ∷ (plain n.Word, words) ∷ (plain n.Arguments, arguments) ∷ (plain n.Attribute, attributes) ∷ [])
 
 abbrev pub GoodAs : Sort → ℕ → List SpannedTemplateToken → Phrase Part → Type 0
 GoodAs unknown k u x = Unit {0}
@@ -72,6 +80,9 @@ GoodAs extensions k u x = Extended k u x
 GoodAs enumerated k u x = Enumerated k u x
 GoodAs names_lists k u x = NamesListed k u x
 GoodAs declaration_kinds k u x = Kinded k u x
+GoodAs words k u x = Worded k u x
+GoodAs arguments k u x = Argued k u x
+GoodAs attributes k u x = Attributed k u x
 
 abbrev pub Good : Symbol → List SpannedTemplateToken → Phrase Part → Type 0
 Good (token c) u x = OneToken c u x
@@ -248,3 +259,26 @@ s_let_kind k out rebuild _ _ (good_next _ i good_end) = out _ _ (kind_alone f.Le
 
 pub s_pass_kind : (k m : ℕ) → Is Kinded k → As Kinded m → Makes k (phrase m ∷ []) l.Pass (2 ∷ [])
 s_pass_kind k m out a rebuild _ _ (good_next _ h good_end) = out _ _ (pass_kinded k m rebuild (a _ _ h))
+
+-- attributes
+
+pub s_attribute_word : (k : ℕ) → Is Worded k → Makes k (token 77 ∷ []) (l.Attribute attr.Word) (2 ∷ [])
+s_attribute_word k out rebuild _ _ (good_next _ i good_end) = out _ _ (word_alone k rebuild i)
+
+pub s_reserved_word : (k : ℕ) → Is Worded k → Makes k (token 79 ∷ []) (l.Attribute attr.ReservedWord) (2 ∷ [])
+s_reserved_word k out rebuild _ _ (good_next _ i good_end) = out _ _ (reserved_alone k rebuild i)
+
+pub s_keyword : (g : Fixed) → is_word_mark g ≡ true → is_any_word (mark g) ≡ true → ((b : Before) (o : List Bool) → groups b o (kind (mark g)) ≡ o) → (k : ℕ) → Is Worded k → Makes k (token (fixed_class g) ∷ []) (l.Attribute (attr.Keyword g)) (1 ∷ [])
+s_keyword g is any level k out rebuild _ _ (good_next _ i good_end) = out _ _ (keyword_alone g is any level k rebuild i)
+
+pub s_no_arguments : (k : ℕ) → Is Argued k → Makes k empty_row (l.Attribute attr.Arguments) (1 ∷ 0 ∷ 1 ∷ [])
+s_no_arguments k out rebuild _ _ (good_next _ i (good_next _ j good_end)) = out _ _ (no_arguments k rebuild i j)
+
+pub s_arguments : (k m : ℕ) → Is Argued k → As Listed m → Makes k (arguments_row m) (l.Attribute attr.Arguments) (1 ∷ 2 ∷ 1 ∷ [])
+s_arguments k m out a rebuild _ _ (good_next _ i (good_next _ g (good_next _ j good_end))) = out _ _ (some_arguments_read k m rebuild i (a _ _ g) j)
+
+pub s_bare_attribute : (k m : ℕ) → Is Attributed k → As Worded m → MakesWhen k (bare_attribute_row m) (l.Attribute attr.Attribute) (1 ∷ 2 ∷ 0 ∷ [])
+s_bare_attribute k m out a rebuild _ _ (good_next _ i (good_next _ g good_end)) pass = out _ _ (bare_attribute k m rebuild i (a _ _ g) pass)
+
+pub s_attribute : (k m r : ℕ) → Is Attributed k → As Worded m → As Argued r → MakesWhen k (attribute_row m r) (l.Attribute attr.Attribute) (1 ∷ 2 ∷ 2 ∷ [])
+s_attribute k m r out a b rebuild _ _ (good_next _ i (good_next _ g (good_next _ h good_end))) pass = out _ _ (full_attribute k m r rebuild i (a _ _ g) (b _ _ h) pass)

@@ -12,6 +12,16 @@ use Rattle.wgsl_imports.specs.View.{directive_tree}
 use Rattle.wgsl_imports.specs.Print.{directive_text}
 use Rattle.wgsl_simple_statements.specs.declared.declaration.DeclarationKind.{DeclarationKind}
 use Rattle.wgsl_simple_statements.specs.Print.{kind_text}
+use Rattle.wgsl_template_spec.specs.declared.token.SpannedTemplateToken.{SpannedTemplateToken}
+use Rattle.wgsl_template_spec.specs.Tokens.{IsLexed}
+use Rattle.wgsl_attributes.specs.declared.attribute.Attribute.{Attribute}
+use Rattle.wgsl_attributes.specs.Tree.{Attr}
+use Rattle.wgsl_attributes.specs.View.{attribute_tree}
+use Rattle.wgsl_attributes.specs.Print.{attr_text}
+use Rattle.wgsl_shift_reduce.specs.Grammars.{phrase}
+use Rattle.wgsl_tree_tokens.proofs.Attributes.{attributes_are_laid_out}
+use Rattle.wgsl_read_back.proofs.AttributeRows.{Attributed}
+use Rattle.wgsl_read_back.proofs.Derived.{derived}
 use Rattle.wgsl_tree_tokens.proofs.Expressions.{expressions_are_laid_out}
 use Rattle.wgsl_tree_tokens.proofs.Directives.{directives_are_laid_out}
 use Rattle.wgsl_tree_tokens.proofs.DeclarationKinds.{kinds_are_laid_out}
@@ -23,13 +33,13 @@ use Rattle.wgsl_grammar_tables.proofs.Written.{goal_is}
 use Rattle.wgsl_reading.specs.declared.driver.Start.TheVariants.{Expression, Directive, Kind}
 use Rattle.wgsl_reading.specs.Readings.{goal_of}
 use Rattle.wgsl_parser.specs.Texts.{IsParsed}
-use Rattle.wgsl_read_back.specs.Laws.{ExpressionsAreReadBack, DirectivesAreReadBack, KindsAreReadBack}
-use Rattle.wgsl_read_back.proofs.Views.{Stands, an_expression, a_directive, a_kind}
+use Rattle.wgsl_read_back.specs.Laws.{ExpressionsAreReadBack, DirectivesAreReadBack, KindsAreReadBack, AreAttribute, AttributesAreReadBack}
+use Rattle.wgsl_read_back.proofs.Views.{Stands, an_expression, a_directive, a_kind, an_attribute}
 use Rattle.wgsl_read_back.proofs.Views as v
 use Rattle.wgsl_read_back.proofs.Families.{Expressed}
 use Rattle.wgsl_read_back.proofs.Directives.{Directed}
 use Rattle.wgsl_read_back.proofs.DeclarationKinds.{Kinded}
-use Rattle.wgsl_read_back.proofs.Returned.{parsed_good, returned}
+use Rattle.wgsl_read_back.proofs.Returned.{parsed_good, printed, returned}
 
 -- ---- expressions
 
@@ -111,3 +121,30 @@ module _ (text : List ℕ) (x : DeclarationKind) (p : IsParsed Kind text (part.K
 
 pub kinds_are_read_back : KindsAreReadBack
 kinds_are_read_back text x p = let P : DeclarationKind → Type 0 = λ k. IsParsed Kind (kind_text k) (part.Kind k) in subst P (kind_is text x p) (kind_returned text x p)
+
+-- ---- attributes, which no text is alone
+
+attribute_of : (p : Part) (a : Attr) (ts : List TemplateToken) → Stands p (v.attribute a ts) → (y : Spanned Attribute) × (p ≡ part.Attribute y) × (attribute_tree y.node ≡ a)
+attribute_of p a ts (an_attribute y is h q) = (y, is, q)
+
+module _ (text : List ℕ) (tokens : List SpannedTemplateToken) (x : Spanned Attribute) (lexed : IsLexed text tokens) (p : AreAttribute tokens x) where
+  attributed : Attributed (plain n.Attribute) tokens p.made
+  attributed = derived (phrase (plain n.Attribute)) tokens p.made p.derives p.passes
+
+  attribute_is : attributed.0 ≡ attribute_tree x.node
+  attribute_is =
+      let y = attribute_of p.made.part attributed.0 attributed.1 attributed.3.item.stands in
+      let same : part.Attribute y.0 ≡ part.Attribute x = sym y.1 ∙ p.part_is in
+      let node : y.0 ≡ x = cc in sym y.2 ∙ ap (λ (z : Spanned Attribute). attribute_tree z.node) node
+
+  attribute_returned : (again : List SpannedTemplateToken) × IsLexed (attr_text attributed.0) again × (y : Spanned Attribute) × AreAttribute again y × (attribute_tree y.node ≡ attributed.0)
+  attribute_returned =
+      let found = printed text tokens lexed (attr_text attributed.0) (plain n.Attribute) (v.attribute attributed.0 attributed.1) p.made attributed.3 (λ s. attributes_are_laid_out attributed.0 attributed.1 attributed.2 s) in
+      let r = attributed.3.item.again found.0 found.2 in
+      let y = attribute_of r.value.part attributed.0 attributed.1 r.stands in
+      (found.0, found.1, y.0, record { made = r.value; derives = r.derives; passes = r.passes; part_is = y.1 }, y.2)
+
+pub attributes_are_read_back : AttributesAreReadBack
+attributes_are_read_back text tokens x lexed p =
+    let P : Attr → Type 0 = λ a. (again : List SpannedTemplateToken) × IsLexed (attr_text a) again × (y : Spanned Attribute) × AreAttribute again y × (attribute_tree y.node ≡ a) in
+    subst P (attribute_is text tokens x lexed p) (attribute_returned text tokens x lexed p)

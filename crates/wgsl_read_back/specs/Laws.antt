@@ -1,9 +1,17 @@
 -- What is printed is read back.
-use Rattle.std.specs.Prelude.{◌≡◌, ℕ, List, map, ◌++◌, codes, Option, Some}
+use Rattle.std.specs.Prelude.{◌≡◌, ℕ, List, map, ◌++◌, codes, Option, Some, None}
 use Rattle.std.specs.Option.{option_map}
 use Rattle.wgsl_path.specs.declared.span.Spanned.{Spanned}
 use Rattle.wgsl_expressions.specs.declared.expression.Expression.{Expression as Node}
 use Rattle.wgsl_expressions.specs.View.{node_tree}
+use Rattle.wgsl_template_spec.specs.declared.token.SpannedTemplateToken.{SpannedTemplateToken}
+use Rattle.wgsl_template_spec.specs.Tokens.{IsLexed}
+use Rattle.wgsl_shift_reduce.specs.Grammars.{phrase, Derives}
+use Rattle.wgsl_grammar_tables.specs.Nonterminals as n
+use Rattle.wgsl_grammar_tables.specs.Expansion.{plain}
+use Rattle.wgsl_parts.specs.declared.part.Part.{Part}
+use Rattle.wgsl_phrases.specs.declared.phrase.Phrase.{Phrase}
+use Rattle.wgsl_reading.specs.Phrases.{grammar}
 use Rattle.wgsl_attributes.specs.declared.attribute.Attribute.{Attribute}
 use Rattle.wgsl_attributes.specs.View.{attribute_tree}
 use Rattle.wgsl_attributes.specs.Print.{arguments_text, attr_text}
@@ -36,3 +44,15 @@ KindsAreReadBack = (text : List ℕ) (x : DeclarationKind) → IsParsed Kind tex
 abbrev pub AttributesArePrintedAsRead : Type 0
 AttributesArePrintedAsRead = (name : List ℕ) (arguments : Option (List (Spanned Node))) (x : Attribute) → attribute_of name arguments ≡ Some x
     → attr_text (attribute_tree x) ≡ codes "@" ++ name ++ arguments_text (option_map (map node_tree) arguments)
+
+-- some tokens are this attribute, and no check fails in it
+pub record AreAttribute (tokens : List SpannedTemplateToken) (x : Spanned Attribute) : Type 0 where
+  pub made : Phrase Part
+  pub derives : Derives grammar (phrase (plain n.Attribute)) tokens made
+  pub passes : made.failure ≡ None
+  pub part_is : made.part ≡ part.Attribute x
+
+-- Where the tokens of a text are an attribute, so are those of what is printed of it, with the same tree but for places.
+abbrev pub AttributesAreReadBack : Type 0
+AttributesAreReadBack = (text : List ℕ) (tokens : List SpannedTemplateToken) (x : Spanned Attribute) → IsLexed text tokens → AreAttribute tokens x
+    → (again : List SpannedTemplateToken) × IsLexed (attr_text (attribute_tree x.node)) again × (y : Spanned Attribute) × AreAttribute again y × (attribute_tree y.node ≡ attribute_tree x.node)

@@ -1,6 +1,6 @@
 //! Laws of what is printed and read back. Each function states one, and does nothing.
 
-ghost use Rattle.wgsl_read_back.specs.Laws.{ExpressionsAreReadBack, DirectivesAreReadBack, KindsAreReadBack, AttributesArePrintedAsRead};
+ghost use Rattle.wgsl_read_back.specs.Laws.{ExpressionsAreReadBack, DirectivesAreReadBack, KindsAreReadBack, AttributesArePrintedAsRead, AttributesAreReadBack};
 
 /// Where a text is an expression, what is printed of its tree is one, too, with the same tree but for places.
 pub fn expressions_are_read_back()
@@ -20,4 +20,9 @@ pub fn kinds_are_read_back()
 /// The attribute of a word and arguments is printed as `@`, that word and these arguments.
 pub fn attributes_are_printed_as_read()
     ensures { AttributesArePrintedAsRead }
+{}
+
+/// Where the tokens of a text are an attribute, so are those of what is printed of it, with the same tree but for places.
+pub fn attributes_are_read_back()
+    ensures { AttributesAreReadBack }
 {}
