@@ -82,7 +82,7 @@ written_text _ _ _ (custom_is name es) = refl
 
 -- ---- words
 
-keyword_of : (g : Fixed) → is_word_mark g ≡ true → Leaf ends_word (t.Fixed g) (spelling g)
+pub keyword_of : (g : Fixed) → is_word_mark g ≡ true → Leaf ends_word (t.Fixed g) (spelling g)
 unfolding unicode_ident
 keyword_of f.Alias e = keyword_leaf f.Alias 97 (codes "lias") refl refl refl refl
 keyword_of f.Break e = keyword_leaf f.Break 98 (codes "reak") refl refl refl refl

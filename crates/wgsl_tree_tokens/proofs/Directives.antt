@@ -33,16 +33,16 @@ requires_leaf : Leaf ends_word (t.Fixed f.Requires) (codes "requires")
 unfolding unicode_ident
 requires_leaf = keyword_leaf f.Requires 114 (codes "equires") refl refl refl refl
 
-lays_semicolon : Lays (begins_with_none []) (codes ";") (mark f.Semicolon ∷ [])
+pub lays_semicolon : Lays (begins_with_none []) (codes ";") (mark f.Semicolon ∷ [])
 unfolding unicode_ident
 lays_semicolon = lays_sign f.Semicolon 59 refl [] refl refl refl refl refl
 
-at_semicolon : (rest : List ℕ) → ends_word (59 ∷ rest) ≡ true
+pub at_semicolon : (rest : List ℕ) → ends_word (59 ∷ rest) ≡ true
 unfolding unicode_ident
 at_semicolon rest = refl
 
 -- the end of a line
-abbrev line_end : Run (begins_with_none []) (mark f.Semicolon ∷ []) (codes ";\n")
+abbrev pub line_end : Run (begins_with_none []) (mark f.Semicolon ∷ []) (codes ";\n")
 line_end = run_then (sign_run lays_semicolon refl) (sign_run lays_blank refl) (λ rest ok. free (10 ∷ rest))
 
 rule_run : (rule : List ℕ) (ts : List TemplateToken) → IsRule rule ts → AreSpelled ts → Run ends_word ts rule

@@ -124,7 +124,7 @@ at_greater : (b : Bool) (rest : List ℕ) → ends b (62 ∷ rest) ≡ true
 unfolding unicode_ident
 at_greater = ends_at 62 refl refl
 
-at_colon : (rest : List ℕ) → ends_word (58 ∷ rest) ≡ true
+pub at_colon : (rest : List ℕ) → ends_word (58 ∷ rest) ≡ true
 unfolding unicode_ident
 at_colon rest = refl
 
@@ -200,7 +200,7 @@ components_phrase {ts = ts} {xs = xs} (c ∷ cs) p s =
     phrase_as (append_assoc ts (mark f.PathSeparator ∷ word c ∷ []) (components_tokens cs)) (append_assoc xs (codes "::" ++ c) (components_text cs))
     (components_phrase cs (then_word c p s.1.0) s.1.1)
 
-path_phrase : (p : ModulePath) → AreSpelled (path_tokens p) → Phrase ends_word (path_tokens p) (path_text p)
+pub path_phrase : (p : ModulePath) → AreSpelled (path_tokens p) → Phrase ends_word (path_tokens p) (path_text p)
 path_phrase p s = components_phrase p.components (origin_phrase p.origin (are_front (origin_tokens p.origin) (components_tokens p.components) s)) (are_behind (origin_tokens p.origin) (components_tokens p.components) s)
 
 name_phrase : (path : Option ModulePath) (name : List ℕ) → AreSpelled (qualifier_tokens path) → IsSpelled (t.Identifier name) → Phrase ends_word (qualifier_tokens path ++ (word name ∷ [])) (qualifier_text path ++ name)

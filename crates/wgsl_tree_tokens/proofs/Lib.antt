@@ -6,4 +6,5 @@ pub mod Expressions
 pub mod Attributes
 pub mod Directives
 pub mod DeclarationKinds
+pub mod Imports
 pub mod Spelled

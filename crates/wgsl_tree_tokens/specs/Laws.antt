@@ -5,8 +5,9 @@ use Rattle.wgsl_token_layout.specs.Layout.{IsTextOf}
 use Rattle.wgsl_expressions.specs.Tree.{Exp}
 use Rattle.wgsl_expressions.specs.Print.{exp_text}
 use Rattle.wgsl_tree_tokens.specs.Tokens.{exp_tokens}
-use Rattle.wgsl_imports.specs.Tree.{Directive}
-use Rattle.wgsl_imports.specs.Print.{directive_text}
+use Rattle.wgsl_imports.specs.Tree.{Directive, Importing}
+use Rattle.wgsl_imports.specs.Print.{directive_text, importing_text}
+use Rattle.wgsl_tree_tokens.specs.Imports.{ImportTokens}
 use Rattle.wgsl_tree_tokens.specs.Printable.{AreSpelled, is_apart}
 use Rattle.wgsl_simple_statements.specs.declared.declaration.DeclarationKind.{DeclarationKind}
 use Rattle.wgsl_simple_statements.specs.Print.{kind_text}
@@ -31,3 +32,7 @@ KindsAreLaidOut = (k : DeclarationKind) → AreSpelled (kind_tokens k) → IsTex
 -- And that of an attribute.
 abbrev pub AttributesAreLaidOut : Type 0
 AttributesAreLaidOut = (a : Attr) (ts : List TemplateToken) → AttributeTokens a ts → AreSpelled ts → IsTextOf ts (attr_text a)
+
+-- And that of an import statement.
+abbrev pub ImportsAreLaidOut : Type 0
+ImportsAreLaidOut = (i : Importing) (ts : List TemplateToken) → ImportTokens i ts → AreSpelled ts → IsTextOf ts (importing_text i)

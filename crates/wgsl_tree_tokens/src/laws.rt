@@ -1,6 +1,6 @@
 //! Laws of the texts of trees. Each function states one, and does nothing.
 
-ghost use Rattle.wgsl_tree_tokens.specs.Laws.{ExpressionsAreLaidOut, DirectivesAreLaidOut, KindsAreLaidOut, AttributesAreLaidOut};
+ghost use Rattle.wgsl_tree_tokens.specs.Laws.{ExpressionsAreLaidOut, DirectivesAreLaidOut, KindsAreLaidOut, AttributesAreLaidOut, ImportsAreLaidOut};
 
 /// The printed text of an expression is laid out as the expression's tokens.
 pub fn expressions_are_laid_out()
@@ -20,4 +20,9 @@ pub fn kinds_are_laid_out()
 /// And that of an attribute.
 pub fn attributes_are_laid_out()
     ensures { AttributesAreLaidOut }
+{}
+
+/// And that of an import statement.
+pub fn imports_are_laid_out()
+    ensures { ImportsAreLaidOut }
 {}
