@@ -18,7 +18,7 @@ use Rattle.wgsl_expressions.specs.View.{node_tree}
 use Rattle.wgsl_attributes.specs.Tree.{Attr}
 use Rattle.wgsl_tree_tokens.specs.Tokens.{mark, word}
 use Rattle.wgsl_tree_tokens.specs.Printable.{AreSpelled, are_apart}
-use Rattle.wgsl_tree_tokens.specs.Attributes.{IsWord, identifier, reserved, keyword, is_word_mark, arguments_tokens, AttributeTokens, an_attribute}
+use Rattle.wgsl_tree_tokens.specs.Attributes.{IsWord, identifier, reserved, keyword, arguments_tokens, AttributeTokens, an_attribute}
 use Rattle.wgsl_tree_tokens.proofs.Expressions.{are_front, are_behind, are_both}
 use Rattle.wgsl_shift_reduce.specs.Grammars.{Symbol, token, phrase, Row, done, next}
 use Rattle.wgsl_parts.specs.declared.part.Part.{Part}
@@ -83,12 +83,12 @@ reserved_alone n rebuild {u = u} {x = x} k =
           (more (token_item 79 w u x k (reserved_of k.one.token k.class).1 refl) no_more) (λ c p. tt) (λ c p. refl) (λ c p. tt),
     )
 
-pub keyword_alone : (g : Fixed) → is_word_mark g ≡ true → is_any_word (mark g) ≡ true → ((b : Before) (o : List Bool) → groups b o (kind (mark g)) ≡ o) → (n : ℕ) → Rebuild n (token (fixed_class g) ∷ []) (l.Attribute (label.Keyword g)) (1 ∷ []) → {u : List SpannedTemplateToken} {x : Phrase Part}
+pub keyword_alone : (g : Fixed) → is_any_word (mark g) ≡ true → ((b : Before) (o : List Bool) → groups b o (kind (mark g)) ≡ o) → (n : ℕ) → Rebuild n (token (fixed_class g) ∷ []) (l.Attribute (label.Keyword g)) (1 ∷ []) → {u : List SpannedTemplateToken} {x : Phrase Part}
     → OneToken (fixed_class g) u x → Worded n (u ++ []) (make_of (l.Attribute (label.Keyword g)) (1 ∷ []) (x ∷ []))
-keyword_alone g is any level n rebuild {u = u} {x = x} k = (
+keyword_alone g any level n rebuild {u = u} {x = x} k = (
   spelling g,
   mark g,
-  record { word = keyword g is; any = any; tokens = one_token u k (mark g) (mark_of k.one.token g k.class) },
+  record { word = keyword g any; any = any; tokens = one_token u k (mark g) (mark_of k.one.token g k.class) },
   back_of n (token (fixed_class g) ∷ []) (l.Attribute (label.Keyword g)) (1 ∷ []) rebuild (v.token (mark g) ∷ []) (v.attribute_word (spelling g) (mark g)) refl
       (of_one (λ ys. Makes (v.attribute_word (spelling g) (mark g)) (make_of (l.Attribute (label.Keyword g)) (1 ∷ []) ys)) (λ a h.
       makes_of (l.Attribute (label.Keyword g)) (1 ∷ []) a [] (v.attribute_word (spelling g) (mark g)) (λ s. part.Word (spelling g)) (λ s. refl) (λ s. a_word refl) (λ ps. refl) (λ s. refl) (stood_pass (a ∷ []) (v.token (mark g) ∷ []) h)))

@@ -416,7 +416,7 @@ kind_steps = (
 
 word_steps : EachPlain (take 34 rules_of_attributes)
 unfolding made_rules
-word_steps = (s_attribute_word (plain n.Word) (λ w x h. h), (s_reserved_word (plain n.Word) (λ w x h. h), (s_keyword f.Alias refl refl (λ b o. refl) (plain n.Word) (λ w x h. h), (s_keyword f.Break refl refl (λ b o. refl) (plain n.Word) (λ w x h. h), (s_keyword f.Case refl refl (λ b o. refl) (plain n.Word) (λ w x h. h), (s_keyword f.Const refl refl (λ b o. refl) (plain n.Word) (λ w x h. h), (s_keyword f.ConstAssert refl refl (λ b o. refl) (plain n.Word) (λ w x h. h), (s_keyword f.Continue refl refl (λ b o. refl) (plain n.Word) (λ w x h. h), (s_keyword f.Continuing refl refl (λ b o. refl) (plain n.Word) (λ w x h. h), (s_keyword f.Default refl refl (λ b o. refl) (plain n.Word) (λ w x h. h), (s_keyword f.Diagnostic refl refl (λ b o. refl) (plain n.Word) (λ w x h. h), (s_keyword f.Discard refl refl (λ b o. refl) (plain n.Word) (λ w x h. h), (s_keyword f.Else refl refl (λ b o. refl) (plain n.Word) (λ w x h. h), (s_keyword f.Enable refl refl (λ b o. refl) (plain n.Word) (λ w x h. h), (s_keyword f.False refl refl (λ b o. refl) (plain n.Word) (λ w x h. h), (s_keyword f.Fn refl refl (λ b o. refl) (plain n.Word) (λ w x h. h), (s_keyword f.For refl refl (λ b o. refl) (plain n.Word) (λ w x h. h), (s_keyword f.If refl refl (λ b o. refl) (plain n.Word) (λ w x h. h), (s_keyword f.Let refl refl (λ b o. refl) (plain n.Word) (λ w x h. h), (s_keyword f.Loop refl refl (λ b o. refl) (plain n.Word) (λ w x h. h), (s_keyword f.Override refl refl (λ b o. refl) (plain n.Word) (λ w x h. h), (s_keyword f.Requires refl refl (λ b o. refl) (plain n.Word) (λ w x h. h), (s_keyword f.Return refl refl (λ b o. refl) (plain n.Word) (λ w x h. h), (s_keyword f.Struct refl refl (λ b o. refl) (plain n.Word) (λ w x h. h), (s_keyword f.Switch refl refl (λ b o. refl) (plain n.Word) (λ w x h. h), (s_keyword f.True refl refl (λ b o. refl) (plain n.Word) (λ w x h. h), (s_keyword f.Var refl refl (λ b o. refl) (plain n.Word) (λ w x h. h), (s_keyword f.While refl refl (λ b o. refl) (plain n.Word) (λ w x h. h), (s_keyword f.Import refl refl (λ b o. refl) (plain n.Word) (λ w x h. h), (s_keyword f.Package refl refl (λ b o. refl) (plain n.Word) (λ w x h. h), (s_keyword f.Super refl refl (λ b o. refl) (plain n.Word) (λ w x h. h), (s_keyword f.As refl refl (λ b o. refl) (plain n.Word) (λ w x h. h), (s_no_arguments (plain n.Arguments) (λ w x h. h), (s_arguments (plain n.Arguments) (in_a_list n.Expression) (λ w x h. h) (λ w x h. h), tt))))))))))))))))))))))))))))))))))
+word_steps = (s_attribute_word (plain n.Word) (λ w x h. h), (s_reserved_word (plain n.Word) (λ w x h. h), (s_keyword f.Alias refl (λ b o. refl) (plain n.Word) (λ w x h. h), (s_keyword f.Break refl (λ b o. refl) (plain n.Word) (λ w x h. h), (s_keyword f.Case refl (λ b o. refl) (plain n.Word) (λ w x h. h), (s_keyword f.Const refl (λ b o. refl) (plain n.Word) (λ w x h. h), (s_keyword f.ConstAssert refl (λ b o. refl) (plain n.Word) (λ w x h. h), (s_keyword f.Continue refl (λ b o. refl) (plain n.Word) (λ w x h. h), (s_keyword f.Continuing refl (λ b o. refl) (plain n.Word) (λ w x h. h), (s_keyword f.Default refl (λ b o. refl) (plain n.Word) (λ w x h. h), (s_keyword f.Diagnostic refl (λ b o. refl) (plain n.Word) (λ w x h. h), (s_keyword f.Discard refl (λ b o. refl) (plain n.Word) (λ w x h. h), (s_keyword f.Else refl (λ b o. refl) (plain n.Word) (λ w x h. h), (s_keyword f.Enable refl (λ b o. refl) (plain n.Word) (λ w x h. h), (s_keyword f.False refl (λ b o. refl) (plain n.Word) (λ w x h. h), (s_keyword f.Fn refl (λ b o. refl) (plain n.Word) (λ w x h. h), (s_keyword f.For refl (λ b o. refl) (plain n.Word) (λ w x h. h), (s_keyword f.If refl (λ b o. refl) (plain n.Word) (λ w x h. h), (s_keyword f.Let refl (λ b o. refl) (plain n.Word) (λ w x h. h), (s_keyword f.Loop refl (λ b o. refl) (plain n.Word) (λ w x h. h), (s_keyword f.Override refl (λ b o. refl) (plain n.Word) (λ w x h. h), (s_keyword f.Requires refl (λ b o. refl) (plain n.Word) (λ w x h. h), (s_keyword f.Return refl (λ b o. refl) (plain n.Word) (λ w x h. h), (s_keyword f.Struct refl (λ b o. refl) (plain n.Word) (λ w x h. h), (s_keyword f.Switch refl (λ b o. refl) (plain n.Word) (λ w x h. h), (s_keyword f.True refl (λ b o. refl) (plain n.Word) (λ w x h. h), (s_keyword f.Var refl (λ b o. refl) (plain n.Word) (λ w x h. h), (s_keyword f.While refl (λ b o. refl) (plain n.Word) (λ w x h. h), (s_keyword f.Import refl (λ b o. refl) (plain n.Word) (λ w x h. h), (s_keyword f.Package refl (λ b o. refl) (plain n.Word) (λ w x h. h), (s_keyword f.Super refl (λ b o. refl) (plain n.Word) (λ w x h. h), (s_keyword f.As refl (λ b o. refl) (plain n.Word) (λ w x h. h), (s_no_arguments (plain n.Arguments) (λ w x h. h), (s_arguments (plain n.Arguments) (in_a_list n.Expression) (λ w x h. h) (λ w x h. h), tt))))))))))))))))))))))))))))))))))
 
 attribute_steps : Each (take 2 rules_of_whole_attributes)
 unfolding made_rules

@@ -29,7 +29,6 @@ use Rattle.wgsl_read_back.proofs.DeclarationKinds.{Kinded, var_alone, template_r
 use Rattle.wgsl_token.specs.declared.token.Fixed.{Fixed}
 use Rattle.wgsl_template_spec.specs.Kinds.{kind}
 use Rattle.wgsl_token_layout.specs.OptionalMarks.{Before, groups, is_any_word}
-use Rattle.wgsl_tree_tokens.specs.Attributes.{is_word_mark}
 use Rattle.wgsl_read_back.proofs.AttributeRows.{Worded, word_alone, reserved_alone, keyword_alone, Argued, empty_row, arguments_row, no_arguments, some_arguments_read, Attributed, bare_attribute_row, attribute_row, bare_attribute, full_attribute}
 use Rattle.wgsl_read_back.proofs.Primaries.{literal_single, number_single, named_single, called_single, parenthesized_single, component_single, indexed_single, first_separated, more_separated, listed_without, listed_with}
 
@@ -268,8 +267,8 @@ s_attribute_word k out rebuild _ _ (good_next _ i good_end) = out _ _ (word_alon
 pub s_reserved_word : (k : ℕ) → Is Worded k → Makes k (token 79 ∷ []) (l.Attribute attr.ReservedWord) (2 ∷ [])
 s_reserved_word k out rebuild _ _ (good_next _ i good_end) = out _ _ (reserved_alone k rebuild i)
 
-pub s_keyword : (g : Fixed) → is_word_mark g ≡ true → is_any_word (mark g) ≡ true → ((b : Before) (o : List Bool) → groups b o (kind (mark g)) ≡ o) → (k : ℕ) → Is Worded k → Makes k (token (fixed_class g) ∷ []) (l.Attribute (attr.Keyword g)) (1 ∷ [])
-s_keyword g is any level k out rebuild _ _ (good_next _ i good_end) = out _ _ (keyword_alone g is any level k rebuild i)
+pub s_keyword : (g : Fixed) → is_any_word (mark g) ≡ true → ((b : Before) (o : List Bool) → groups b o (kind (mark g)) ≡ o) → (k : ℕ) → Is Worded k → Makes k (token (fixed_class g) ∷ []) (l.Attribute (attr.Keyword g)) (1 ∷ [])
+s_keyword g any level k out rebuild _ _ (good_next _ i good_end) = out _ _ (keyword_alone g any level k rebuild i)
 
 pub s_no_arguments : (k : ℕ) → Is Argued k → Makes k empty_row (l.Attribute attr.Arguments) (1 ∷ 0 ∷ 1 ∷ [])
 s_no_arguments k out rebuild _ _ (good_next _ i (good_next _ j good_end)) = out _ _ (no_arguments k rebuild i j)

@@ -15,9 +15,10 @@ use Rattle.wgsl_expressions.specs.Print.{commas, exp_text, exps_text, more_text 
 use Rattle.wgsl_expressions.specs.Tree.{Exp, exps}
 use Rattle.wgsl_attributes.specs.Print.{argued, arguments_text, attr_text}
 use Rattle.wgsl_attributes.specs.Tree.{Attr}
+use Rattle.wgsl_token_layout.specs.OptionalMarks.{is_any_word}
 use Rattle.wgsl_tree_tokens.specs.Tokens.{mark, exps_tokens}
 use Rattle.wgsl_tree_tokens.specs.Printable.{AreSpelled, arguments_are_apart}
-use Rattle.wgsl_tree_tokens.specs.Attributes.{IsRuleExp, one_name, two_names, IsWritten, align_is, binding_is, blend_src_is, builtin_is, constant_is, diagnostic_is, group_is, id_is, interpolate_is, sampled_is, invariant_is, location_is, must_use_is, size_is, size_of_one, size_of_two, size_of_three, vertex_is, fragment_is, compute_is, publish_is, if_is, elif_is, otherwise_is, custom_is, is_word_mark, IsWord, identifier, reserved, keyword, arguments_tokens, AttributeTokens, an_attribute}
+use Rattle.wgsl_tree_tokens.specs.Attributes.{IsRuleExp, one_name, two_names, IsWritten, align_is, binding_is, blend_src_is, builtin_is, constant_is, diagnostic_is, group_is, id_is, interpolate_is, sampled_is, invariant_is, location_is, must_use_is, size_is, size_of_one, size_of_two, size_of_three, vertex_is, fragment_is, compute_is, publish_is, if_is, elif_is, otherwise_is, custom_is, IsWord, identifier, reserved, keyword, arguments_tokens, AttributeTokens, an_attribute}
 use Rattle.wgsl_tree_tokens.specs.Laws.{AttributesAreLaidOut}
 use Rattle.wgsl_tree_tokens.proofs.Lays.{Lays, lays_nothing}
 use Rattle.wgsl_tree_tokens.proofs.Signs.{begins_with_none, lays_sign, lays_paren_left, lays_paren_right}
@@ -82,7 +83,7 @@ written_text _ _ _ (custom_is name es) = refl
 
 -- ---- words
 
-pub keyword_of : (g : Fixed) → is_word_mark g ≡ true → Leaf ends_word (t.Fixed g) (spelling g)
+pub keyword_of : (g : Fixed) → is_any_word (mark g) ≡ true → Leaf ends_word (t.Fixed g) (spelling g)
 unfolding unicode_ident
 keyword_of f.Alias e = keyword_leaf f.Alias 97 (codes "lias") refl refl refl refl
 keyword_of f.Break e = keyword_leaf f.Break 98 (codes "reak") refl refl refl refl

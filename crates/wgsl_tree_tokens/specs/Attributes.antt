@@ -13,6 +13,7 @@ use Rattle.wgsl_enumerations.specs.declared.words.InterpolationSampling.{Interpo
 use Rattle.wgsl_enumerations.specs.Texts.{builtin_value_text, diagnostic_severity_text, interpolation_type_text, interpolation_sampling_text}
 use Rattle.wgsl_expressions.specs.Tree.{Exp, component, named, exps, simple}
 use Rattle.wgsl_attributes.specs.Tree.{Attr, align, binding, blend_src, builtin, constant, diagnostic, group, id_number, interpolate, invariant, location, must_use, byte_size, workgroup_size, vertex, fragment, compute, publish, if_true, else_if, otherwise, custom}
+use Rattle.wgsl_token_layout.specs.OptionalMarks.{is_any_word}
 use Rattle.wgsl_tree_tokens.specs.Tokens.{mark, word, exps_tokens}
 use Rattle.wgsl_tree_tokens.specs.Printable.{arguments_are_apart}
 
@@ -54,44 +55,11 @@ pub data IsWritten : Attr → List ℕ → Option (List Exp) → Type 0 where
   otherwise_is : IsWritten otherwise (codes "else") None
   custom_is : (name : List ℕ) (arguments : Option (List Exp)) → IsWritten (custom name arguments) name arguments
 
--- any word may stand behind `@`: an identifier, a reserved word, or one of these
-abbrev pub is_word_mark : Fixed → Bool
-is_word_mark f.Alias = true
-is_word_mark f.Break = true
-is_word_mark f.Case = true
-is_word_mark f.Const = true
-is_word_mark f.ConstAssert = true
-is_word_mark f.Continue = true
-is_word_mark f.Continuing = true
-is_word_mark f.Default = true
-is_word_mark f.Diagnostic = true
-is_word_mark f.Discard = true
-is_word_mark f.Else = true
-is_word_mark f.Enable = true
-is_word_mark f.False = true
-is_word_mark f.Fn = true
-is_word_mark f.For = true
-is_word_mark f.If = true
-is_word_mark f.Let = true
-is_word_mark f.Loop = true
-is_word_mark f.Override = true
-is_word_mark f.Requires = true
-is_word_mark f.Return = true
-is_word_mark f.Struct = true
-is_word_mark f.Switch = true
-is_word_mark f.True = true
-is_word_mark f.Var = true
-is_word_mark f.While = true
-is_word_mark f.Import = true
-is_word_mark f.Package = true
-is_word_mark f.Super = true
-is_word_mark f.As = true
-is_word_mark _ = false
-
+-- any word may stand behind `@`
 pub data IsWord : List ℕ → TemplateToken → Type 0 where
   identifier : (x : List ℕ) → IsWord x (word x)
   reserved : (x : List ℕ) → IsWord x (Plain (t.Reserved x))
-  keyword : (g : Fixed) → is_word_mark g ≡ true → IsWord (spelling g) (mark g)
+  keyword : (g : Fixed) → is_any_word (mark g) ≡ true → IsWord (spelling g) (mark g)
 
 abbrev pub arguments_tokens : Option (List Exp) → List TemplateToken
 arguments_tokens None = []
