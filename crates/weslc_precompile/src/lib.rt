@@ -2,7 +2,6 @@
 #![tactic(auto)]
 
 mod error;
-mod print;
 mod text;
 
 pub use error::PrecompileError;

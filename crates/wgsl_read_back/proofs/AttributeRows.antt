@@ -1,5 +1,6 @@
--- The productions of attributes.
-use Rattle.std.proofs.Common.{◌≡◌, refl, sym, ap, ◌∙◌, subst, ℕ, Bool, true, List, [], ◌∷◌, ◌++◌, append-nil, map, Option, Some, None}
+-- The productions of attributes, and of attributes in a row.
+use Rattle.std.proofs.Common.{◌≡◌, refl, sym, ap, ◌∙◌, subst, ℕ, Bool, true, List, [], ◌∷◌, ◌++◌, append_assoc, append-nil, map, Option, Some, None}
+use Rattle.std.proofs.lemmas.List.{map-append}
 use Rattle.wgsl_path.specs.declared.span.Span.{Span}
 use Rattle.wgsl_path.specs.declared.span.Spanned.{Spanned}
 use Rattle.wgsl_token.specs.declared.token.Token.TheVariants as t
@@ -11,16 +12,20 @@ use Rattle.wgsl_template_spec.specs.declared.token.TemplateToken.TheVariants.{Pl
 use Rattle.wgsl_template_spec.specs.declared.token.SpannedTemplateToken.{SpannedTemplateToken}
 use Rattle.wgsl_template_spec.specs.Kinds.{kind}
 use Rattle.wgsl_token_layout.specs.Laws.{without_places}
-use Rattle.wgsl_token_layout.specs.OptionalMarks.{Before, callee, groups, is_any_word, same_attribute}
+use Rattle.wgsl_token_layout.specs.OptionalMarks.{Before, callee, groups, is_any_word, same_attribute, begins_outside}
 use Rattle.wgsl_expressions.specs.declared.expression.Expression.{Expression}
 use Rattle.wgsl_expressions.specs.Tree.{Exp, exps}
 use Rattle.wgsl_expressions.specs.View.{node_tree}
+use Rattle.wgsl_attributes.specs.declared.attribute.Attribute.{Attribute}
 use Rattle.wgsl_attributes.specs.Tree.{Attr}
+use Rattle.wgsl_attributes.specs.View.{attribute_tree, attributes_tree}
 use Rattle.wgsl_tree_tokens.specs.Tokens.{mark, word}
 use Rattle.wgsl_tree_tokens.specs.Printable.{AreSpelled, are_apart}
 use Rattle.wgsl_tree_tokens.specs.Attributes.{IsWord, identifier, reserved, keyword, arguments_tokens, AttributeTokens, an_attribute}
+use Rattle.wgsl_tree_tokens.specs.Imports.{AttributesTokens, no_attributes, attributes_and}
 use Rattle.wgsl_tree_tokens.proofs.Expressions.{are_front, are_behind, are_both}
 use Rattle.wgsl_shift_reduce.specs.Grammars.{Symbol, token, phrase, Row, done, next}
+use Rattle.wgsl_parts.specs.Reading.{attributes_of}
 use Rattle.wgsl_parts.specs.declared.part.Part.{Part}
 use Rattle.wgsl_parts.specs.declared.part.Part.TheVariants as part
 use Rattle.wgsl_parts.specs.declared.label.Label.{Label}
@@ -29,12 +34,13 @@ use Rattle.wgsl_parts.specs.declared.label.AttributeLabel.TheVariants as label
 use Rattle.wgsl_phrases.specs.declared.phrase.Phrase.{Phrase}
 use Rattle.wgsl_make_declarations.specs.Attributes as make
 use Rattle.wgsl_make_declarations.specs.Attributes.{checked}
-use Rattle.wgsl_reading.specs.Failures.{made_failed}
+use Rattle.wgsl_make_expressions.specs.Lists as lists
+use Rattle.wgsl_reading.specs.Failures.{attribute_failed, made_failed}
 use Rattle.wgsl_reading.specs.Phrases.{grammar}
 use Rattle.wgsl_grammar_tables.specs.Classes.{fixed_class}
-use Rattle.wgsl_read_back.proofs.Views.{View, view_tokens, Stands, a_token, a_word, some_expressions, some_arguments, ends_as}
+use Rattle.wgsl_read_back.proofs.Views.{View, NoneFails, view_tokens, Stands, a_token, a_word, some_expressions, some_arguments, ends_as}
 use Rattle.wgsl_read_back.proofs.Views as v
-use Rattle.wgsl_read_back.proofs.Items.{Again, Item, Back, OneToken, Steps, cont_as, split, places_append, moved, closes}
+use Rattle.wgsl_read_back.proofs.Items.{BeginsOutside, begins_then, Again, Item, Back, OneToken, Steps, cont_as, split, places_append, moved, closes}
 use Rattle.wgsl_read_back.proofs.Rows.{concat, nil as no_more, more, list_more, RowBack, again_row, row_of, Fine, steps_row, spelled_row, stood_back, stood_again, Stood, stood_pass, Makes, make_of, makes_of, made_check_passes, Rebuild, back_of, of_one, of_two, of_three}
 use Rattle.wgsl_read_back.proofs.Places.{mark_of, word_of, reserved_of}
 use Rattle.wgsl_read_back.proofs.Families.{token_item, mark_item}
@@ -153,7 +159,7 @@ some_arguments_read n m rebuild {a = a} {c = c} {x = x} {z = z} i h k =
       h.1,
       arguments_back_of n (arguments_row m) (l.Attribute label.Arguments) (1 ∷ 2 ∷ 1 ∷ []) rebuild (v.token (mark f.ParenLeft) ∷ v.expressions h.0 ∷ v.token (mark f.ParenRight) ∷ []) (v.arguments h.0) refl
           (of_three (λ ys. Makes (v.arguments h.0) (make_of (l.Attribute label.Arguments) (1 ∷ 2 ∷ 1 ∷ []) ys)) (makes h.0))
-          (more (mark_item f.ParenLeft a x i) (list_more h.2 (mark_item f.ParenRight c z k) (ap without_places (sym k.whole) ∙ ap (λ z. z ∷ []) shut) (closes refl) no_more)) (λ o. (refl, tt)) (λ o. refl),
+          (more (mark_item f.ParenLeft a x i) (list_more h.2 (mark_item f.ParenRight c z k) (ap without_places (sym k.whole) ∙ ap (λ z. z ∷ []) shut) (closes refl) no_more)) (λ o. ((h.2.ended _ _, refl), tt)) (λ o. refl),
     )
   where
     makes : (es : List Exp) (d e g : Phrase Part) → Stood (d ∷ e ∷ g ∷ []) (v.token (mark f.ParenLeft) ∷ v.expressions es ∷ v.token (mark f.ParenRight) ∷ []) → Makes (v.arguments es) (make_of (l.Attribute label.Arguments) (1 ∷ 2 ∷ 1 ∷ []) (d ∷ e ∷ g ∷ []))
@@ -167,7 +173,10 @@ some_arguments_read n m rebuild {a = a} {c = c} {x = x} {z = z} i h k =
 -- ---- attributes
 
 abbrev pub Attributed : ℕ → List SpannedTemplateToken → Phrase Part → Type 0
-Attributed n u x = (a : Attr) × (ts : List TemplateToken) × AttributeTokens a ts × Back n (v.attribute a ts) u x
+Attributed n u x = (a : Attr) × (ts : List TemplateToken) × AttributeTokens a ts × Back n (v.attribute a ts) u x × BeginsOutside (without_places u)
+
+at_begins : (u w : List SpannedTemplateToken) {x : Phrase Part} → OneToken (fixed_class f.Attr) u x → BeginsOutside (without_places (u ++ w))
+at_begins u w k = begins_then u w (λ us. ap (λ z. begins_outside (z ++ us)) (ap without_places (sym k.whole) ∙ ap (λ z. z ∷ []) (mark_of k.one.token f.Attr k.class)))
 
 abbrev pub bare_attribute_row : ℕ → List Symbol
 bare_attribute_row m = token (fixed_class f.Attr) ∷ phrase m ∷ []
@@ -190,7 +199,7 @@ bare_makes w k a ts is c d h =
 
 pub bare_attribute : (n m : ℕ) → Rebuild n (bare_attribute_row m) (l.Attribute label.Attribute) (1 ∷ 2 ∷ 0 ∷ []) → {a b : List SpannedTemplateToken} {x y : Phrase Part} → OneToken (fixed_class f.Attr) a x → Worded m b y
     → (make_of (l.Attribute label.Attribute) (1 ∷ 2 ∷ 0 ∷ []) (x ∷ y ∷ [])).failure ≡ None → Attributed n (a ++ (b ++ [])) (make_of (l.Attribute label.Attribute) (1 ∷ 2 ∷ 0 ∷ []) (x ∷ y ∷ []))
-bare_attribute n m rebuild {a = a} {x = x} {y = y} i g pass =
+bare_attribute n m rebuild {a = a} {b = b} {x = x} {y = y} i g pass =
     let check = made_check_passes (l.Attribute label.Attribute) (1 ∷ 2 ∷ 0 ∷ []) x (y ∷ []) pass in
     let found = checked_found g.0 None (ap (λ z. made_failed (l.Attribute label.Attribute) (make.whole_attribute check.0 (z ∷ part.Absent ∷ []))) (sym (word_is y.part g.0 g.1 g.3.item.stands)) ∙ check.1) in
     let ts : List TemplateToken = mark f.Attr ∷ g.1 ∷ [] in (
@@ -200,6 +209,7 @@ bare_attribute n m rebuild {a = a} {x = x} {y = y} i g pass =
       back_of n (bare_attribute_row m) (l.Attribute label.Attribute) (1 ∷ 2 ∷ 0 ∷ []) rebuild (v.token (mark f.Attr) ∷ v.attribute_word g.0 g.1 ∷ []) (v.attribute found.0 ts) refl
           (of_two (λ ys. Makes (v.attribute found.0 ts) (make_of (l.Attribute label.Attribute) (1 ∷ 2 ∷ 0 ∷ []) ys)) (bare_makes g.0 g.1 found.0 ts found.1))
           (more (mark_item f.Attr a x i) (more g.3.item no_more)) (λ c p. tt) (λ c p. g.3.level _ p) (λ c p. tt),
+      at_begins a (b ++ []) i,
     )
 
 -- with arguments
@@ -235,6 +245,7 @@ full_attribute n m r rebuild {a = a} {b = b} {c = c} {x = x} {y = y} {z = z} i g
     level = λ o p. h.2.level p;
     ended = λ o p. tt;
   },
+  at_begins a (b ++ (c ++ [])) i,
 )
   where
     at : Item (token (fixed_class f.Attr)) (v.token (mark f.Attr)) a x
@@ -274,3 +285,67 @@ full_attribute n m r rebuild {a = a} {b = b} {c = c} {x = x} {y = y} {z = z} i g
         let whole : without_places (a ++ (b ++ (c ++ []))) ≡ mark f.Attr ∷ g.1 ∷ without_places c =
         places_append a (b ++ (c ++ [])) ∙ (λ k. first k ++ (places_append b (c ++ []) ∙ (λ j. g.2.tokens j ++ (places_append c [] ∙ append-nil (without_places c)) j)) k) in
         ap (λ z. z ++ us) (sym whole)
+
+-- ---- attributes one behind the other
+
+abbrev pub AttributesRowed : ℕ → List SpannedTemplateToken → Phrase Part → Type 0
+AttributesRowed n u x = (a : Attr) × (xs : List Attr) × (ts : List TemplateToken) × AttributesTokens (a ∷ xs) ts × Back n (v.attributes (a ∷ xs) ts) u x × BeginsOutside (without_places u)
+
+attribute_alone : (a : Attr) (ts : List TemplateToken) → AttributeTokens a ts → AttributesTokens (a ∷ []) ts
+attribute_alone a ts h = subst (AttributesTokens (a ∷ [])) (append-nil ts) (attributes_and h no_attributes)
+
+attributes_last : {xs : List Attr} {ts : List TemplateToken} (a : Attr) (us : List TemplateToken) → AttributesTokens xs ts → AttributeTokens a us → AttributesTokens (xs ++ (a ∷ [])) (ts ++ us)
+attributes_last a us no_attributes h = attribute_alone a us h
+attributes_last a us (attributes_and {a = b} {xs = xs} {ts = ts} {us = vs} g gs) h = subst (AttributesTokens (b ∷ (xs ++ (a ∷ [])))) (sym (append_assoc ts vs us)) (attributes_and g (attributes_last a us gs h))
+
+none_fails_last : (ys : List (Spanned Attribute)) (y : Spanned Attribute) → NoneFails ys → attribute_failed y.node ≡ None → NoneFails (ys ++ (y ∷ []))
+none_fails_last [] y h g = (g, tt)
+none_fails_last (z ∷ ys) y h g = (h.0, none_fails_last ys y h.1 g)
+
+pub first_attribute : (n m : ℕ) → Rebuild n (phrase m ∷ []) l.First (2 ∷ []) → {u : List SpannedTemplateToken} {x : Phrase Part} → Attributed m u x → AttributesRowed n (u ++ []) (make_of l.First (2 ∷ []) (x ∷ []))
+first_attribute n m rebuild {u = u} g = (
+  g.0,
+  [],
+  g.1,
+  attribute_alone g.0 g.1 g.2,
+  back_of n (phrase m ∷ []) l.First (2 ∷ []) rebuild (v.attribute g.0 g.1 ∷ []) (v.attributes (g.0 ∷ []) g.1) (append-nil g.1)
+      (of_one (λ ys. Makes (v.attributes (g.0 ∷ []) g.1) (make_of l.First (2 ∷ []) ys)) (makes g.0 g.1))
+      (more g.3.item no_more) (λ c p. tt) g.3.level (λ c p. tt),
+  begins_then u [] g.4,
+)
+  where
+    makes : (a : Attr) (ts : List TemplateToken) (c : Phrase Part) → Stood (c ∷ []) (v.attribute a ts ∷ []) → Makes (v.attributes (a ∷ []) ts) (make_of l.First (2 ∷ []) (c ∷ []))
+    makes a ts c h = go h.0.0
+      where
+        go : Stands c.part (v.attribute a ts) → Makes (v.attributes (a ∷ []) ts) (make_of l.First (2 ∷ []) (c ∷ []))
+        go (v.an_attribute y is p q) =
+            makes_of l.First (2 ∷ []) c [] (v.attributes (a ∷ []) ts) (λ s. part.Attributes (y ∷ [])) (λ s i. lists.started (is i)) (λ s. v.some_attributes (y ∷ []) refl (p, tt) (λ i. q i ∷ [])) (λ ps. refl) (λ s. refl)
+            (stood_pass (c ∷ []) (v.attribute a ts ∷ []) h)
+
+pub more_attributes : (n m : ℕ) → Rebuild n (phrase n ∷ phrase m ∷ []) l.More (2 ∷ 2 ∷ []) → {a b : List SpannedTemplateToken} {x y : Phrase Part} → AttributesRowed n a x → Attributed m b y
+    → AttributesRowed n (a ++ (b ++ [])) (make_of l.More (2 ∷ 2 ∷ []) (x ∷ y ∷ []))
+more_attributes n m rebuild {a = a} {b = b} g h = (
+  g.0,
+  g.1 ++ (h.0 ∷ []),
+  g.2 ++ h.1,
+  attributes_last h.0 h.1 g.3 h.2,
+  back_of n (phrase n ∷ phrase m ∷ []) l.More (2 ∷ 2 ∷ []) rebuild (v.attributes (g.0 ∷ g.1) g.2 ∷ v.attribute h.0 h.1 ∷ []) (v.attributes (g.0 ∷ (g.1 ++ (h.0 ∷ []))) (g.2 ++ h.1)) (ap (λ z. g.2 ++ z) (append-nil h.1))
+      (of_two (λ ys. Makes (v.attributes (g.0 ∷ (g.1 ++ (h.0 ∷ []))) (g.2 ++ h.1)) (make_of l.More (2 ∷ 2 ∷ []) ys)) (makes g.0 g.1 g.2 h.0 h.1))
+      (more g.4.item (more h.3.item no_more)) (λ c p. tt) (λ c p. h.3.level _ _ ∙ g.4.level c p) (λ c p. tt),
+  begins_then a (b ++ []) g.5,
+)
+  where
+    makes : (a : Attr) (xs : List Attr) (ts : List TemplateToken) (b : Attr) (us : List TemplateToken) (c d : Phrase Part) → Stood (c ∷ d ∷ []) (v.attributes (a ∷ xs) ts ∷ v.attribute b us ∷ [])
+        → Makes (v.attributes (a ∷ (xs ++ (b ∷ []))) (ts ++ us)) (make_of l.More (2 ∷ 2 ∷ []) (c ∷ d ∷ []))
+    makes a xs ts b us c d h = go h.0.0 h.1.0.0
+      where
+        go : Stands c.part (v.attributes (a ∷ xs) ts) → Stands d.part (v.attribute b us) → Makes (v.attributes (a ∷ (xs ++ (b ∷ []))) (ts ++ us)) (make_of l.More (2 ∷ 2 ∷ []) (c ∷ d ∷ []))
+        go (v.some_attributes ys is p q) (v.an_attribute y at r s) =
+            makes_of l.More (2 ∷ 2 ∷ []) c (d ∷ []) (v.attributes (a ∷ (xs ++ (b ∷ []))) (ts ++ us)) (λ z. part.Attributes (ys ++ (y ∷ []))) (λ z i. lists.joined (is i) (at i))
+            (λ z. v.some_attributes (ys ++ (y ∷ [])) refl (none_fails_last ys y p r) (map-append (λ n. attribute_tree n.node) ys (y ∷ []) ∙ (λ i. q i ++ (s i ∷ [])))) (λ ps. refl) (λ z. refl)
+            (stood_pass (c ∷ d ∷ []) (v.attributes (a ∷ xs) ts ∷ v.attribute b us ∷ []) h)
+
+-- a part that may be absent
+pub attributes_are : (p : Part) (xs : List Attr) (ts : List TemplateToken) → Stands p (v.attributes xs ts) → attributes_tree (attributes_of p) ≡ xs
+attributes_are p xs ts (v.some_attributes ys e h q) = ap (λ z. attributes_tree (attributes_of z)) e ∙ q
+attributes_are p _ _ (v.no_attributes e) = ap (λ z. attributes_tree (attributes_of z)) e

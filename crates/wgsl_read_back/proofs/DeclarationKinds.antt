@@ -85,7 +85,7 @@ var_in n m rebuild {a = a} {b = b} {d = d} {x = x} {y = y} {z = z} {w = w} i j h
           (of_four (λ ys. Makes (v.kind (kinds.Var (Some t.0))) (make_of (l.Attribute label.VarIn) template_pattern ys)) (template_makes h.0 t.0 t.1))
           (more (mark_item f.Var a x i) (more (token_item 80 TemplateArgsStart b y j (start_of j.one.token j.class) refl)
           (list_more h.2 (token_item 81 TemplateArgsEnd d w k shut refl) (ap without_places (sym k.whole) ∙ ap (λ z. z ∷ []) shut) (closes refl) no_more)))
-          (λ c p. (refl, tt)) (λ c p. refl) (λ c p. tt),
+          (λ c p. ((h.2.ended _ _, refl), tt)) (λ c p. refl) (λ c p. tt),
     )
 
 pub pass_kinded : (n m : ℕ) → Rebuild n (phrase m ∷ []) l.Pass (2 ∷ []) → {u : List SpannedTemplateToken} {x : Phrase Part} → Kinded m u x → Kinded n (u ++ []) (make_of l.Pass (2 ∷ []) (x ∷ []))

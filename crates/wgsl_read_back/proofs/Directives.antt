@@ -2,7 +2,7 @@
 use Rattle.std.specs.Prelude.{if◌then◌else◌}
 use Rattle.std.specs.Str.{bytes_eq}
 use Rattle.wgsl_items.proofs.Members.{same_bytes}
-use Rattle.std.proofs.Common.{◌≡◌, refl, sym, ap, ◌∙◌, subst, ℕ, Bool, true, false, List, [], ◌∷◌, ◌++◌, append_assoc, append-nil, codes, Option, Some, None}
+use Rattle.std.proofs.Common.{◌≡◌, refl, sym, ap, ◌∙◌, ℕ, Bool, true, false, List, [], ◌∷◌, ◌++◌, append_assoc, append-nil, codes, Option, Some, None}
 use Rattle.wgsl_path.specs.Paths.{ident_of}
 use Rattle.wgsl_enumerations.specs.declared.words.DiagnosticSeverity.{DiagnosticSeverity}
 use Rattle.wgsl_enumerations.specs.declared.words.DiagnosticSeverity.TheVariants.{Error, Warning, Info, Off}
@@ -11,13 +11,11 @@ use Rattle.wgsl_token.specs.declared.token.Fixed.{Fixed}
 use Rattle.wgsl_token.specs.declared.token.Fixed.TheVariants as f
 use Rattle.wgsl_template_spec.specs.declared.token.TemplateToken.{TemplateToken}
 use Rattle.wgsl_template_spec.specs.declared.token.SpannedTemplateToken.{SpannedTemplateToken}
-use Rattle.wgsl_template_spec.specs.Kinds.{kind}
 use Rattle.wgsl_token_layout.specs.Laws.{without_places}
-use Rattle.wgsl_token_layout.specs.OptionalMarks.{Before, before, may_end_so, outer, groups, comma, AreAlike, same, first_has}
+use Rattle.wgsl_token_layout.specs.OptionalMarks.{Before, before, may_end_so, outer, comma, first_has}
 use Rattle.wgsl_imports.specs.declared.directive.GlobalDirective.TheVariants as directive
 use Rattle.wgsl_imports.specs.Tree.{Directive, diagnostic, enabling, requiring}
 use Rattle.wgsl_tree_tokens.specs.Tokens.{mark, word}
-use Rattle.wgsl_tree_tokens.specs.Printable.{AreSpelled}
 use Rattle.wgsl_tree_tokens.specs.Directives.{IsRule, one_name, two_names, more_names_tokens, names_tokens, setting_tokens, HasTokens, of_diagnostic, of_enable, of_requires}
 use Rattle.wgsl_tree_tokens.proofs.Expressions.{are_front, are_behind, are_both}
 use Rattle.wgsl_choices.specs.Choices.{severity_of}
@@ -33,11 +31,12 @@ use Rattle.wgsl_reading.specs.Failures.{part_severity, unknown_severity}
 use Rattle.wgsl_grammar_tables.specs.Classes.{fixed_class}
 use Rattle.wgsl_read_back.proofs.Views.{View, view_tokens, Stands, a_token, a_text, some_texts, a_directive}
 use Rattle.wgsl_read_back.proofs.Views as v
-use Rattle.wgsl_read_back.proofs.Items.{Item, Back, ListBack, OneToken, cuts, places_append, moved, MayEnd, comma_gone}
+use Rattle.wgsl_read_back.proofs.Items.{Item, Back, ListBack, OneToken, cuts, places_append, moved}
 use Rattle.wgsl_read_back.proofs.Rows.{concat, nil as no_more, more, list_more, RowBack, Fine, steps_row, spelled_row, stood_back, Stood, stood_pass, Makes, make_of, makes_of, makes_checked, made_severity_passes, Rebuild, back_of, of_one, of_two, of_three, of_six}
 use Rattle.wgsl_read_back.proofs.Places.{mark_of, word_of}
-use Rattle.wgsl_read_back.proofs.Families.{token_item, mark_item, pass_back}
+use Rattle.wgsl_read_back.proofs.Families.{token_item, mark_item}
 use Rattle.wgsl_read_back.proofs.Operands.{word_item, word_part}
+use Rattle.wgsl_read_back.proofs.Lists.{list_without, list_with}
 
 -- ---- what phrases are
 
@@ -55,7 +54,7 @@ abbrev pub NamesListed : ℕ → List SpannedTemplateToken → Phrase Part → T
 NamesListed n u x = (ys : List (List ℕ)) × ListBack n (v.texts ys) u x
 
 abbrev pub Controlled : ℕ → List SpannedTemplateToken → Phrase Part → Type 0
-Controlled n u x = (s : DiagnosticSeverity) × (rule : List ℕ) × (ts : List TemplateToken) × IsRule rule ts × Back n (v.directive (diagnostic [] s rule) (setting_tokens s ts)) u x
+Controlled n u x = (s : DiagnosticSeverity) × (rule : List ℕ) × (ts : List TemplateToken) × IsRule rule ts × Back n (v.setting (diagnostic [] s rule) (setting_tokens s ts)) u x
 
 abbrev pub Directed : ℕ → List SpannedTemplateToken → Phrase Part → Type 0
 Directed n u x = (d : Directive) × (ts : List TemplateToken) × HasTokens d ts × Back n (v.directive d ts) u x
@@ -139,50 +138,11 @@ more_enumerated n m rebuild {b = b} {y = y} g i h = (
 )
 
 pub names_without : (n m : ℕ) → Rebuild n (phrase m ∷ []) l.Pass (2 ∷ []) → {u : List SpannedTemplateToken} {x : Phrase Part} → Enumerated m u x → NamesListed n (u ++ []) (make_of l.Pass (2 ∷ []) (x ∷ []))
-names_without n m rebuild g =
-    let b = pass_back n m (v.texts (g.0 ∷ g.1)) rebuild g.2 in (
-      g.0 ∷ g.1,
-      record {
-        stands = b.item.stands;
-        passes = b.item.passes;
-        again = b.item.again;
-        spelled = b.item.spelled;
-        ending = λ d o. let q = b.item.steps d o in record {
-          last = q.last;
-          ended = b.ended d o;
-          cont = λ t ts us s may a. let P : List Bool → Type 0 = λ z. AreAlike (before t) (groups q.last z (kind t)) ts us in q.cont (t ∷ ts) (t ∷ us) (same t (subst P (sym (b.level d o)) a));
-        };
-      },
-    )
+names_without n m rebuild g = (g.0 ∷ g.1, list_without n m (v.texts (g.0 ∷ g.1)) rebuild g.2)
 
 pub names_with : (n m : ℕ) → Rebuild n (phrase m ∷ []) l.Pass (2 ∷ []) → {a b : List SpannedTemplateToken} {x y : Phrase Part} → Enumerated m a x → OneToken (fixed_class f.Comma) b y
     → NamesListed n (a ++ (b ++ [])) (make_of l.Pass (2 ∷ 1 ∷ []) (x ∷ y ∷ []))
-names_with n m rebuild {a = a} {b = b} {x = x} {y = y} g k =
-    let bare = pass_back n m (v.texts (g.0 ∷ g.1)) rebuild g.2 in
-    let made : Makes (v.texts (g.0 ∷ g.1)) (make_of l.Pass (2 ∷ 1 ∷ []) (x ∷ y ∷ [])) =
-    makes_of l.Pass (2 ∷ 1 ∷ []) x (y ∷ []) (v.texts (g.0 ∷ g.1)) (λ z. part.Texts (g.0 ∷ g.1)) (λ z. texts_part x.part (g.0 ∷ g.1) g.2.item.stands) (λ z. some_texts refl) (λ ps. refl) (λ z. refl) (g.2.item.passes, (ap (λ z. z.failure) (sym k.value), tt)) in (
-      g.0 ∷ g.1,
-      record {
-        stands = made.stands;
-        passes = made.passes;
-        again = bare.item.again;
-        spelled = λ h. g.2.item.spelled (are_front (without_places a) (without_places (b ++ [])) (subst AreSpelled (places_append a (b ++ [])) h));
-        ending = λ d o. let q = g.2.item.steps d o in record {
-          last = q.last;
-          ended = g.2.ended d o;
-          cont = λ t ts us s may h.
-              let P : List Bool → Type 0 = λ z. AreAlike (before t) (groups q.last z (kind t)) ts us in
-              let Q : List Bool → Type 0 = λ z. MayEnd s z in
-              moved (regroup t ts) refl (q.cont (comma ∷ t ∷ ts) (t ∷ us) (comma_gone q.last q.opened t ts us (g.2.ended d o) s (subst Q (sym (g.2.level d o)) may) (subst P (sym (g.2.level d o)) h)));
-        };
-      },
-    )
-  where
-    one_comma : without_places (b ++ []) ≡ comma ∷ []
-    one_comma = places_append b [] ∙ append-nil (without_places b) ∙ ap without_places (sym k.whole) ∙ ap (λ z. z ∷ []) (mark_of k.one.token f.Comma k.class)
-
-    regroup : (t : TemplateToken) (ts : List TemplateToken) → without_places a ++ (comma ∷ t ∷ ts) ≡ without_places (a ++ (b ++ [])) ++ (t ∷ ts)
-    regroup t ts = sym (ap (λ z. z ++ (t ∷ ts)) (places_append a (b ++ []) ∙ ap (λ z. without_places a ++ z) one_comma) ∙ append_assoc (without_places a) (comma ∷ []) (t ∷ ts))
+names_with n m rebuild g k = (g.0 ∷ g.1, list_with n m (v.texts (g.0 ∷ g.1)) rebuild g.2 k)
 
 -- ---- settings of diagnostics
 
@@ -247,18 +207,18 @@ severity_in_row : (m : ℕ) {c : List SpannedTemplateToken} {z : Phrase Part} (k
 severity_in_row m {c = c} {z = z} k h = found_severity (word_of k.one.token k.class).0 z.part (word_part z.part (word_of k.one.token k.class).0 (word_item c z k).stands) h
 
 module _ (n m : ℕ) (rebuild : Rebuild n (bare_row m) (l.Directive label.Diagnostic) bare_pattern) (s : DiagnosticSeverity) (rule : List ℕ) (ts : List TemplateToken) where
-  bare_makes : (a b c d e g : Phrase Part) → Stood (a ∷ b ∷ c ∷ d ∷ e ∷ g ∷ []) (bare_views s rule ts) → Makes (v.directive (diagnostic [] s rule) (setting_tokens s ts)) (make_of (l.Directive label.Diagnostic) bare_pattern (a ∷ b ∷ c ∷ d ∷ e ∷ g ∷ []))
+  bare_makes : (a b c d e g : Phrase Part) → Stood (a ∷ b ∷ c ∷ d ∷ e ∷ g ∷ []) (bare_views s rule ts) → Makes (v.setting (diagnostic [] s rule) (setting_tokens s ts)) (make_of (l.Directive label.Diagnostic) bare_pattern (a ∷ b ∷ c ∷ d ∷ e ∷ g ∷ []))
   bare_makes a b c d e g h =
       let is = word_part c.part (diagnostic_severity_text s) h.1.1.0.0 in
       let at = text_part e.part rule ts h.1.1.1.1.0.0 in
-      makes_checked (l.Directive label.Diagnostic) bare_pattern a (b ∷ c ∷ d ∷ e ∷ g ∷ []) (v.directive (diagnostic [] s rule) (setting_tokens s ts)) (λ z. setting s rule) (λ z. setting_is s rule c.part e.part is at) (λ z. a_directive _ refl refl)
+      makes_checked (l.Directive label.Diagnostic) bare_pattern a (b ∷ c ∷ d ∷ e ∷ g ∷ []) (v.setting (diagnostic [] s rule) (setting_tokens s ts)) (λ z. setting s rule) (λ z. setting_is s rule c.part e.part is at) (λ z. v.a_setting _ refl refl)
       (setting_passes s rule c.part e.part is at) (λ z. refl) (stood_pass (a ∷ b ∷ c ∷ d ∷ e ∷ g ∷ []) (bare_views s rule ts) h)
 
   bare_back : {u : List SpannedTemplateToken} {xs : List (Phrase Part)} → (r : RowBack (bare_row m) (bare_views s rule ts) u xs) → (fine : (b : Before) (o : List Bool) → Fine r b o) → ((b : Before) (o : List Bool) → (steps_row r b o (fine b o)).opened ≡ o)
-      → Back n (v.directive (diagnostic [] s rule) (setting_tokens s ts)) u (make_of (l.Directive label.Diagnostic) bare_pattern xs)
+      → Back n (v.setting (diagnostic [] s rule) (setting_tokens s ts)) u (make_of (l.Directive label.Diagnostic) bare_pattern xs)
   bare_back r fine level =
-      back_of n (bare_row m) (l.Directive label.Diagnostic) bare_pattern rebuild (bare_views s rule ts) (v.directive (diagnostic [] s rule) (setting_tokens s ts)) refl
-      (of_six (λ ys. Makes (v.directive (diagnostic [] s rule) (setting_tokens s ts)) (make_of (l.Directive label.Diagnostic) bare_pattern ys)) bare_makes) r fine level (λ b o. tt)
+      back_of n (bare_row m) (l.Directive label.Diagnostic) bare_pattern rebuild (bare_views s rule ts) (v.setting (diagnostic [] s rule) (setting_tokens s ts)) refl
+      (of_six (λ ys. Makes (v.setting (diagnostic [] s rule) (setting_tokens s ts)) (make_of (l.Directive label.Diagnostic) bare_pattern ys)) bare_makes) r fine level (λ b o. tt)
 
 pub setting_without : (n m : ℕ) → Rebuild n (bare_row m) (l.Directive label.Diagnostic) bare_pattern → {a b c d e g : List SpannedTemplateToken} {x1 x2 x3 x4 x5 x6 : Phrase Part}
     → OneToken (fixed_class f.Diagnostic) a x1 → OneToken (fixed_class f.ParenLeft) b x2 → OneToken 77 c x3 → OneToken (fixed_class f.Comma) d x4 → Ruled m e x5 → OneToken (fixed_class f.ParenRight) g x6
@@ -280,11 +240,11 @@ abbrev comma_views : DiagnosticSeverity → List ℕ → List TemplateToken → 
 comma_views s rule ts = v.token (mark f.Diagnostic) ∷ v.token (mark f.ParenLeft) ∷ v.token (word (diagnostic_severity_text s)) ∷ v.token comma ∷ v.text rule ts ∷ v.token comma ∷ v.token (mark f.ParenRight) ∷ []
 
 comma_makes : (s : DiagnosticSeverity) (rule : List ℕ) (ts : List TemplateToken) (a b c d e k g : Phrase Part) → Stood (a ∷ b ∷ c ∷ d ∷ e ∷ k ∷ g ∷ []) (comma_views s rule ts)
-    → Makes (v.directive (diagnostic [] s rule) (setting_tokens s ts)) (make_of (l.Directive label.Diagnostic) comma_pattern (a ∷ b ∷ c ∷ d ∷ e ∷ k ∷ g ∷ []))
+    → Makes (v.setting (diagnostic [] s rule) (setting_tokens s ts)) (make_of (l.Directive label.Diagnostic) comma_pattern (a ∷ b ∷ c ∷ d ∷ e ∷ k ∷ g ∷ []))
 comma_makes s rule ts a b c d e k g h =
     let is = word_part c.part (diagnostic_severity_text s) h.1.1.0.0 in
     let at = text_part e.part rule ts h.1.1.1.1.0.0 in
-    makes_checked (l.Directive label.Diagnostic) comma_pattern a (b ∷ c ∷ d ∷ e ∷ k ∷ g ∷ []) (v.directive (diagnostic [] s rule) (setting_tokens s ts)) (λ z. setting s rule) (λ z. setting_is s rule c.part e.part is at) (λ z. a_directive _ refl refl)
+    makes_checked (l.Directive label.Diagnostic) comma_pattern a (b ∷ c ∷ d ∷ e ∷ k ∷ g ∷ []) (v.setting (diagnostic [] s rule) (setting_tokens s ts)) (λ z. setting s rule) (λ z. setting_is s rule c.part e.part is at) (λ z. v.a_setting _ refl refl)
     (setting_passes s rule c.part e.part is at) (λ z. refl) (stood_pass (a ∷ b ∷ c ∷ d ∷ e ∷ k ∷ g ∷ []) (comma_views s rule ts) h)
 
 joined : {A : Type 0} (a b c d e w : List A) → (a ++ (b ++ (c ++ (d ++ (e ++ []))))) ++ w ≡ a ++ (b ++ (c ++ (d ++ (e ++ w))))
@@ -329,10 +289,10 @@ setting_with n m rebuild {a = a} {b = b} {c = c} {d = d} {e = e} {k = k} {g = g}
     whole : RowBack (comma_row m) (comma_views s.0 r.0 r.1) (a ++ (b ++ (c ++ (d ++ (e ++ (k ++ (g ++ []))))))) (x1 ∷ x2 ∷ x3 ∷ x4 ∷ x5 ∷ x6 ∷ x7 ∷ [])
     whole = more (mark_item f.Diagnostic a x1 i1) (more (mark_item f.ParenLeft b x2 i2) (more (severity_item c x3 i3 s.0 s.1) (more (mark_item f.Comma d x4 i4) (more r.3.item (more (mark_item f.Comma k x6 i6) (more (mark_item f.ParenRight g x7 i7) no_more))))))
 
-    made : Makes (v.directive (diagnostic [] s.0 r.0) (setting_tokens s.0 r.1)) (make_of (l.Directive label.Diagnostic) comma_pattern (x1 ∷ x2 ∷ x3 ∷ x4 ∷ x5 ∷ x6 ∷ x7 ∷ []))
+    made : Makes (v.setting (diagnostic [] s.0 r.0) (setting_tokens s.0 r.1)) (make_of (l.Directive label.Diagnostic) comma_pattern (x1 ∷ x2 ∷ x3 ∷ x4 ∷ x5 ∷ x6 ∷ x7 ∷ []))
     made = comma_makes s.0 r.0 r.1 x1 x2 x3 x4 x5 x6 x7 (stood_back whole)
 
-    bare : Back n (v.directive (diagnostic [] s.0 r.0) (setting_tokens s.0 r.1)) (a ++ (b ++ (c ++ (d ++ (e ++ (g ++ [])))))) (make_of (l.Directive label.Diagnostic) bare_pattern (x1 ∷ x2 ∷ x3 ∷ x4 ∷ x5 ∷ x7 ∷ []))
+    bare : Back n (v.setting (diagnostic [] s.0 r.0) (setting_tokens s.0 r.1)) (a ++ (b ++ (c ++ (d ++ (e ++ (g ++ [])))))) (make_of (l.Directive label.Diagnostic) bare_pattern (x1 ∷ x2 ∷ x3 ∷ x4 ∷ x5 ∷ x7 ∷ []))
     bare =
         bare_back n m rebuild s.0 r.0 r.1
         (more (mark_item f.Diagnostic a x1 i1) (more (mark_item f.ParenLeft b x2 i2) (more (severity_item c x3 i3 s.0 s.1) (more (mark_item f.Comma d x4 i4) (more r.3.item (more (mark_item f.ParenRight g x7 i7) no_more))))))
@@ -360,19 +320,19 @@ directive_of_setting n m rebuild {b = b} {y = y} g k = (
   diagnostic [] g.0 g.1,
   setting_tokens g.0 g.2 ++ (mark f.Semicolon ∷ []),
   of_diagnostic g.0 g.3,
-  back_of n (phrase m ∷ token (fixed_class f.Semicolon) ∷ []) l.Pass (2 ∷ 1 ∷ []) rebuild (v.directive (diagnostic [] g.0 g.1) (setting_tokens g.0 g.2) ∷ v.token (mark f.Semicolon) ∷ [])
+  back_of n (phrase m ∷ token (fixed_class f.Semicolon) ∷ []) l.Pass (2 ∷ 1 ∷ []) rebuild (v.setting (diagnostic [] g.0 g.1) (setting_tokens g.0 g.2) ∷ v.token (mark f.Semicolon) ∷ [])
       (v.directive (diagnostic [] g.0 g.1) (setting_tokens g.0 g.2 ++ (mark f.Semicolon ∷ []))) refl
       (of_two (λ ys. Makes (v.directive (diagnostic [] g.0 g.1) (setting_tokens g.0 g.2 ++ (mark f.Semicolon ∷ []))) (make_of l.Pass (2 ∷ 1 ∷ []) ys)) (makes (diagnostic [] g.0 g.1) (setting_tokens g.0 g.2)))
-      (more g.4.item (more (mark_item f.Semicolon b y k) no_more)) (λ c p. tt) (λ c p. g.4.level c p) (λ c p. tt),
+      (more g.4.item (more (mark_item f.Semicolon b y k) no_more)) (λ c p. tt) (λ c p. g.4.level c p) (λ c p. refl),
 )
   where
-    makes : (d : Directive) (ts : List TemplateToken) (a b : Phrase Part) → Stood (a ∷ b ∷ []) (v.directive d ts ∷ v.token (mark f.Semicolon) ∷ []) → Makes (v.directive d (ts ++ (mark f.Semicolon ∷ []))) (make_of l.Pass (2 ∷ 1 ∷ []) (a ∷ b ∷ []))
+    makes : (d : Directive) (ts : List TemplateToken) (a b : Phrase Part) → Stood (a ∷ b ∷ []) (v.setting d ts ∷ v.token (mark f.Semicolon) ∷ []) → Makes (v.directive d (ts ++ (mark f.Semicolon ∷ []))) (make_of l.Pass (2 ∷ 1 ∷ []) (a ∷ b ∷ []))
     makes d ts a b h = go h.0.0
       where
-        go : Stands a.part (v.directive d ts) → Makes (v.directive d (ts ++ (mark f.Semicolon ∷ []))) (make_of l.Pass (2 ∷ 1 ∷ []) (a ∷ b ∷ []))
-        go (a_directive y e p) =
+        go : Stands a.part (v.setting d ts) → Makes (v.directive d (ts ++ (mark f.Semicolon ∷ []))) (make_of l.Pass (2 ∷ 1 ∷ []) (a ∷ b ∷ []))
+        go (v.a_setting y e p) =
             makes_of l.Pass (2 ∷ 1 ∷ []) a (b ∷ []) (v.directive d (ts ++ (mark f.Semicolon ∷ []))) (λ z. part.Directive y) (λ z. e) (λ z. a_directive y refl p) (λ ps. refl) (λ z. refl)
-            (stood_pass (a ∷ b ∷ []) (v.directive d ts ∷ v.token (mark f.Semicolon) ∷ []) h)
+            (stood_pass (a ∷ b ∷ []) (v.setting d ts ∷ v.token (mark f.Semicolon) ∷ []) h)
 
 abbrev pub names_row : Fixed → ℕ → List Symbol
 names_row g m = token (fixed_class g) ∷ phrase m ∷ token (fixed_class f.Semicolon) ∷ []
@@ -391,7 +351,7 @@ enabled n m rebuild {a = a} {c = c} {x = x} {z = z} i g k =
           (of_three (λ ys. Makes (v.directive (enabling [] g.0) ts) (make_of (l.Directive label.Enable) (1 ∷ 2 ∷ 1 ∷ []) ys)) (λ d e h w.
           makes_of (l.Directive label.Enable) (1 ∷ 2 ∷ 1 ∷ []) d (e ∷ h ∷ []) (v.directive (enabling [] g.0) ts) (λ s. part.Directive (directive.Enable (record { attributes = []; extensions = g.0 }))) (λ s i. make.enable (texts_part e.part g.0 w.1.0.0 i ∷ []))
           (λ s. a_directive _ refl refl) (λ ps. refl) (λ s. refl) (stood_pass (d ∷ e ∷ h ∷ []) (v.token (mark f.Enable) ∷ v.texts g.0 ∷ v.token (mark f.Semicolon) ∷ []) w)))
-          (more (mark_item f.Enable a x i) (list_more g.1 (mark_item f.Semicolon c z k) (semicolon_tokens k) (cuts (λ xs. refl)) no_more)) (λ c p. (tt, tt)) (λ c p. refl) (λ c p. tt),
+          (more (mark_item f.Enable a x i) (list_more g.1 (mark_item f.Semicolon c z k) (semicolon_tokens k) (cuts (λ xs. refl)) no_more)) (λ c p. (tt, tt)) (λ c p. refl) (λ c p. refl),
     )
 
 pub required : (n m : ℕ) → Rebuild n (names_row f.Requires m) (l.Directive label.Requires) (1 ∷ 2 ∷ 1 ∷ []) → {a b c : List SpannedTemplateToken} {x y z : Phrase Part} → OneToken (fixed_class f.Requires) a x → NamesListed m b y → OneToken (fixed_class f.Semicolon) c z
@@ -405,5 +365,5 @@ required n m rebuild {a = a} {c = c} {x = x} {z = z} i g k =
           (of_three (λ ys. Makes (v.directive (requiring [] g.0) ts) (make_of (l.Directive label.Requires) (1 ∷ 2 ∷ 1 ∷ []) ys)) (λ d e h w.
           makes_of (l.Directive label.Requires) (1 ∷ 2 ∷ 1 ∷ []) d (e ∷ h ∷ []) (v.directive (requiring [] g.0) ts) (λ s. part.Directive (directive.Requires (record { attributes = []; extensions = g.0 })))
           (λ s i. make.requires_extensions (texts_part e.part g.0 w.1.0.0 i ∷ [])) (λ s. a_directive _ refl refl) (λ ps. refl) (λ s. refl) (stood_pass (d ∷ e ∷ h ∷ []) (v.token (mark f.Requires) ∷ v.texts g.0 ∷ v.token (mark f.Semicolon) ∷ []) w)))
-          (more (mark_item f.Requires a x i) (list_more g.1 (mark_item f.Semicolon c z k) (semicolon_tokens k) (cuts (λ xs. refl)) no_more)) (λ c p. (tt, tt)) (λ c p. refl) (λ c p. tt),
+          (more (mark_item f.Requires a x i) (list_more g.1 (mark_item f.Semicolon c z k) (semicolon_tokens k) (cuts (λ xs. refl)) no_more)) (λ c p. (tt, tt)) (λ c p. refl) (λ c p. refl),
     )

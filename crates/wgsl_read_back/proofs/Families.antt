@@ -1,4 +1,4 @@
--- What the productions of expressions make: what is printed of it derives it again.
+-- What phrases of expressions and types are, single tokens, and the productions that pass on and those of operators.
 use Rattle.std.proofs.Common.{◌≡◌, refl, sym, ap, ◌∙◌, subst, ℕ, Bool, true, not, ◌&&◌, ◌||◌, List, [], ◌∷◌, ◌++◌, append-nil, None}
 use Rattle.wgsl_operators.specs.declared.BinaryOperator.{BinaryOperator}
 use Rattle.wgsl_operators.specs.declared.BinaryOperator.TheVariants.{ShortCircuitOr}
@@ -31,7 +31,7 @@ use Rattle.wgsl_phrases.specs.declared.phrase.Phrase.{Phrase}
 use Rattle.wgsl_make_expressions.specs.Making as make
 use Rattle.wgsl_grammar_tables.specs.Classes.{fixed_class, class_of}
 use Rattle.wgsl_reading.specs.Failures.{made_failed}
-use Rattle.wgsl_read_back.proofs.Views.{View, view_tokens, Stands, a_token, an_ups, a_path, a_type, a_call, an_expression, some_expressions, a_text, some_texts, a_directive, a_kind, a_word, some_arguments, an_attribute, ends_as}
+use Rattle.wgsl_read_back.proofs.Views.{View, view_tokens, Stands, a_token, an_ups, a_path, a_type, a_call, an_expression, some_expressions, a_text, some_texts, a_directive, a_kind, a_word, some_arguments, an_attribute, some_attributes, no_attributes, a_source, no_source, some_steps, no_steps, a_content, a_tree, some_trees, an_importing, ends_as}
 use Rattle.wgsl_read_back.proofs.Views as v
 use Rattle.wgsl_read_back.proofs.Items.{cont_as, Item, Back, OneToken, token_again, token_steps}
 use Rattle.wgsl_read_back.proofs.Rows.{nil as no_more, more, Stood, stood_pass, Makes, make_of, makes_of, Rebuild, back_of, of_one, of_two, of_three}
@@ -67,6 +67,10 @@ token_item c t u x k is class = record {
 abbrev pub mark_item : (g : Fixed) (u : List SpannedTemplateToken) (x : Phrase Part) → OneToken (fixed_class g) u x → Item (token (fixed_class g)) (v.token (mark g)) u x
 mark_item g u x k = token_item (fixed_class g) (mark g) u x k (mark_of k.one.token g k.class) refl
 
+-- the tokens of a mark
+pub mark_tokens : (g : Fixed) {u : List SpannedTemplateToken} {x : Phrase Part} → OneToken (fixed_class g) u x → without_places u ≡ mark g ∷ []
+mark_tokens g k = ap without_places (sym k.whole) ∙ ap (λ z. z ∷ []) (mark_of k.one.token g k.class)
+
 -- ---- productions that pass on
 
 pub passed : {p : Part} {w : View} → Stands p w → made_failed l.Pass p ≡ None
@@ -85,9 +89,61 @@ passed (some_expressions ns e h) = ap (made_failed l.Pass) e
 passed (a_text e) = ap (made_failed l.Pass) e
 passed (some_texts e) = ap (made_failed l.Pass) e
 passed (a_directive y e h) = ap (made_failed l.Pass) e
+passed (v.a_setting y e h) = ap (made_failed l.Pass) e
 passed (a_word e) = ap (made_failed l.Pass) e
 passed (some_arguments ns e h) = ap (made_failed l.Pass) e
 passed (an_attribute y e h q) = ap (made_failed l.Pass) e ∙ h
+passed (some_attributes ys e h q) = ap (made_failed l.Pass) e
+passed (no_attributes e) = ap (made_failed l.Pass) e
+passed (a_source e) = ap (made_failed l.Pass) e
+passed (no_source e) = ap (made_failed l.Pass) e
+passed (some_steps e) = ap (made_failed l.Pass) e
+passed (no_steps e) = ap (made_failed l.Pass) e
+passed (a_content y e h) = ap (made_failed l.Pass) e
+passed (a_tree y e h) = ap (made_failed l.Pass) e
+passed (some_trees ys e h) = ap (made_failed l.Pass) e
+passed (an_importing y e h) = ap (made_failed l.Pass) e
+passed (v.a_value n e h) = ap (made_failed l.Pass) e
+passed (v.no_value e) = ap (made_failed l.Pass) e
+passed (v.a_typed y e h g) = ap (made_failed l.Pass) e
+passed (v.a_declared y e h g i j k) = ap (made_failed l.Pass) e
+passed (v.an_asserted y e h g) = ap (made_failed l.Pass) e
+passed (v.a_phony n e h) = ap (made_failed l.Pass) e
+passed (v.a_plain y e h) = ap (made_failed l.Pass) e
+passed (v.a_header y e h) = ap (made_failed l.Pass) e
+passed (v.no_header e) = ap (made_failed l.Pass) e
+passed (v.a_statement y e h) = ap (made_failed l.Pass) e
+passed (v.some_statements ys e h) = ap (made_failed l.Pass) e
+passed (v.no_statements e) = ap (made_failed l.Pass) e
+passed (v.a_block y e h) = ap (made_failed l.Pass) e
+passed (v.an_else y e h) = ap (made_failed l.Pass) e
+passed (v.no_else e) = ap (made_failed l.Pass) e
+passed (v.an_else_if y e h g) = ap (made_failed l.Pass) e
+passed (v.some_else_ifs ys e h) = ap (made_failed l.Pass) e
+passed (v.no_else_ifs e) = ap (made_failed l.Pass) e
+passed (v.a_selector y e h) = ap (made_failed l.Pass) e
+passed (v.some_selectors ys e h) = ap (made_failed l.Pass) e
+passed (v.a_clause y e h g) = ap (made_failed l.Pass) e
+passed (v.some_clauses ys e h) = ap (made_failed l.Pass) e
+passed (v.an_ending y e h) = ap (made_failed l.Pass) e
+passed (v.no_ending e) = ap (made_failed l.Pass) e
+passed (v.a_break_if y e h) = ap (made_failed l.Pass) e
+passed (v.no_break_if e) = ap (made_failed l.Pass) e
+passed (v.a_member y e h) = ap (made_failed l.Pass) e
+passed (v.some_members ys e h) = ap (made_failed l.Pass) e
+passed (v.a_parameter y e h) = ap (made_failed l.Pass) e
+passed (v.some_parameters ys e h) = ap (made_failed l.Pass) e
+passed (v.no_parameters e) = ap (made_failed l.Pass) e
+passed (v.a_result y e h g) = ap (made_failed l.Pass) e
+passed (v.no_result e) = ap (made_failed l.Pass) e
+passed (v.a_declaration y e h) = ap (made_failed l.Pass) e
+passed (v.some_declarations ys e h) = ap (made_failed l.Pass) e
+passed (v.no_declarations e) = ap (made_failed l.Pass) e
+passed (v.some_imports ys e h) = ap (made_failed l.Pass) e
+passed (v.no_imports e) = ap (made_failed l.Pass) e
+passed (v.some_directives ys e h) = ap (made_failed l.Pass) e
+passed (v.no_directives e) = ap (made_failed l.Pass) e
+passed (v.a_module y e h) = ap (made_failed l.Pass) e
 passed (a_kind {k = k} e) = ap (made_failed l.Pass) e ∙ none k
   where
     none : (k : DeclarationKind) → made_failed l.Pass (part.Kind k) ≡ None
@@ -163,18 +219,19 @@ unary_makes o e k a b h = go h.1.0.0
         (stood_pass (a ∷ b ∷ []) (v.token k ∷ v.expression e ∷ []) h)
 
 module _ (o : UnaryOperator) (n m : ℕ) (rebuild : Rebuild n (token (fixed_class (unary_sign o)) ∷ phrase m ∷ []) (l.Expression (label.Unary o)) (1 ∷ 2 ∷ [])) where
+  pub unary_back : {a b : List SpannedTemplateToken} {x y : Phrase Part} (e : Exp) → OneToken (fixed_class (unary_sign o)) a x → Back m (v.expression e) b y
+      → Back n (v.expression (unary o e)) (a ++ (b ++ [])) (make_of (l.Expression (label.Unary o)) (1 ∷ 2 ∷ []) (x ∷ y ∷ []))
+  unary_back {a = a} {x = x} e k g =
+      let sign = mark (unary_sign o) in
+      let row = more (mark_item (unary_sign o) a x k) (more g.item no_more) in
+      back_of n (token (fixed_class (unary_sign o)) ∷ phrase m ∷ []) (l.Expression (label.Unary o)) (1 ∷ 2 ∷ []) rebuild
+      (v.token sign ∷ v.expression e ∷ []) (v.expression (unary o e)) (ap (λ z. sign ∷ z) (append-nil (exp_tokens e)))
+      (of_two (λ ys. Makes (v.expression (unary o e)) (make_of (l.Expression (label.Unary o)) (1 ∷ 2 ∷ []) ys)) (unary_makes o e sign))
+      row
+      (λ c p. tt)
+      (λ c p. g.level _ _ ∙ unary_level o c p)
+      (λ c p. g.ended _ _)
+
   pub unary_expressed : {a b : List SpannedTemplateToken} {x y : Phrase Part} → OneToken (fixed_class (unary_sign o)) a x → Expressed m b y
       → Expressed n (a ++ (b ++ [])) (make_of (l.Expression (label.Unary o)) (1 ∷ 2 ∷ []) (x ∷ y ∷ []))
-  unary_expressed {a = a} {x = x} k g =
-      let sign = mark (unary_sign o) in
-      let row = more (mark_item (unary_sign o) a x k) (more g.2.item no_more) in (
-        unary o g.0,
-        g.1,
-        back_of n (token (fixed_class (unary_sign o)) ∷ phrase m ∷ []) (l.Expression (label.Unary o)) (1 ∷ 2 ∷ []) rebuild
-            (v.token sign ∷ v.expression g.0 ∷ []) (v.expression (unary o g.0)) (ap (λ z. sign ∷ z) (append-nil (exp_tokens g.0)))
-            (of_two (λ ys. Makes (v.expression (unary o g.0)) (make_of (l.Expression (label.Unary o)) (1 ∷ 2 ∷ []) ys)) (unary_makes o g.0 sign))
-            row
-            (λ c p. tt)
-            (λ c p. g.2.level _ _ ∙ unary_level o c p)
-            (λ c p. g.2.ended _ _),
-      )
+  unary_expressed k g = (unary o g.0, g.1, unary_back g.0 k g.2)

@@ -8,6 +8,7 @@ use Rattle.wgsl_token_layout.specs.OptionalMarks.{Before, before, ends_operand, 
 use Rattle.wgsl_tree_tokens.specs.Printable.{AreSpelled}
 use Rattle.wgsl_shift_reduce.specs.Grammars.{Symbol, token, phrase, Derives, a_token}
 use Rattle.wgsl_parts.specs.declared.part.Part.{Part}
+use Rattle.wgsl_leaves.specs.Leaves as leaves
 use Rattle.wgsl_phrases.specs.declared.phrase.Phrase.{Phrase}
 use Rattle.wgsl_grammar_tables.specs.Classes.{class_of}
 use Rattle.wgsl_reading.specs.Phrases.{leaf, grammar}
@@ -56,6 +57,18 @@ cont_then b o u v c p x y d q f h ts us a = moved (sym (append_assoc u x ts)) (s
 pub cont_as : (b : Before) (o : List Bool) (u v x y : List TemplateToken) (c : Before) (p : List Bool) → u ≡ x → v ≡ y → Cont b o u v c p → Cont b o x y c p
 cont_as b o u v x y c p e h f = let P : List TemplateToken × List TemplateToken → Type 0 = λ z. Cont b o z.0 z.1 c p in subst P (λ i. (e i, h i)) f
 
+-- ---- what tokens begin with
+
+-- first stands a mark that is in no expression
+abbrev pub BeginsOutside : List TemplateToken → Type 0
+BeginsOutside ts = (us : List TemplateToken) → begins_outside (ts ++ us) ≡ true
+
+pub begins_then : (u w : List SpannedTemplateToken) → BeginsOutside (without_places u) → BeginsOutside (without_places (u ++ w))
+begins_then u w h us = ap begins_outside (ap (λ z. z ++ us) (places_append u w) ∙ append_assoc (without_places u) (without_places w) us) ∙ h (without_places w ++ us)
+
+pub begins_append : (ts vs : List TemplateToken) → BeginsOutside ts → BeginsOutside (ts ++ vs)
+begins_append ts vs h us = ap begins_outside (append_assoc ts vs us) ∙ h (vs ++ us)
+
 -- ---- items
 
 pub record Again (s : Symbol) (v : View) (w : List SpannedTemplateToken) : Type 0 where
@@ -77,24 +90,23 @@ pub record Back (n : ℕ) (v : View) (u : List SpannedTemplateToken) (x : Phrase
   pub level : (b : Before) (o : List Bool) → (item.steps b o).opened ≡ o
   pub ended : (b : Before) (o : List Bool) → ends_as v (item.steps b o).last
 
--- What may stand behind a list that may end in a comma: what closes it, where it may, or what stands in no expression.
+-- What may stand behind a list that may end in a comma: what closes it, where it may and ends in an operand, or what stands in no expression.
 pub data Shuts (t : TemplateToken) : Type 0 where
   closes : is_closer (kind t) ≡ true → Shuts t
   cuts : ((ts : List TemplateToken) → begins_outside (t ∷ ts) ≡ true) → Shuts t
 
-abbrev pub MayEnd : {t : TemplateToken} → Shuts t → List Bool → Type 0
-MayEnd (closes e) o = may_end_so o ≡ true
-MayEnd (cuts h) o = Unit {0}
+abbrev pub MayEnd : {t : TemplateToken} → Shuts t → Before → List Bool → Type 0
+MayEnd (closes e) b o = (ends_operand b ≡ true) × (may_end_so o ≡ true)
+MayEnd (cuts h) b o = Unit {0}
 
-pub comma_gone : (b : Before) (o : List Bool) (t : TemplateToken) (ts us : List TemplateToken) → ends_operand b ≡ true → (s : Shuts t) → MayEnd s o → AreAlike (before t) (groups b o (kind t)) ts us → AreAlike b o (comma ∷ t ∷ ts) (t ∷ us)
-comma_gone b o t ts us e (closes c) may a = first_has t e may c a
-comma_gone b o t ts us e (cuts h) may a = first_extra comma refl (h us) (same t a)
+pub comma_gone : (b : Before) (o : List Bool) (t : TemplateToken) (ts us : List TemplateToken) → (s : Shuts t) → MayEnd s b o → AreAlike (before t) (groups b o (kind t)) ts us → AreAlike b o (comma ∷ t ∷ ts) (t ∷ us)
+comma_gone b o t ts us (closes c) may a = first_has t may.0 may.1 c a
+comma_gone b o t ts us (cuts h) may a = first_extra comma refl (h us) (same t a)
 
 -- A list, behind which stands what closes it: it may end in a comma, which is not printed.
 pub record Ending (b : Before) (o : List Bool) (u v : List TemplateToken) : Type 0 where
   pub last : Before
-  pub ended : ends_operand last ≡ true
-  pub cont : (t : TemplateToken) (ts us : List TemplateToken) → (s : Shuts t) → MayEnd s o → AreAlike (before t) (groups last o (kind t)) ts us → AreAlike b o (u ++ (t ∷ ts)) (v ++ (t ∷ us))
+  pub cont : (t : TemplateToken) (ts us : List TemplateToken) → (s : Shuts t) → MayEnd s last o → AreAlike (before t) (groups last o (kind t)) ts us → AreAlike b o (u ++ (t ∷ ts)) (v ++ (t ∷ us))
 
 pub record ListBack (n : ℕ) (v : View) (u : List SpannedTemplateToken) (x : Phrase Part) : Type 0 where
   pub stands : Stands x.part v
@@ -102,6 +114,16 @@ pub record ListBack (n : ℕ) (v : View) (u : List SpannedTemplateToken) (x : Ph
   pub again : (w : List SpannedTemplateToken) → without_places w ≡ view_tokens v → Again (phrase n) v w
   pub spelled : AreSpelled (without_places u) → AreSpelled (view_tokens v)
   pub ending : (b : Before) (o : List Bool) → Ending b o (without_places u) (view_tokens v)
+  pub ended : (b : Before) (o : List Bool) → ends_as v (ending b o).last
+
+-- A list whose last comma, there or not, is printed or not: what stands in no expression follows.
+pub record CutList (n : ℕ) (v : View) (u : List SpannedTemplateToken) (x : Phrase Part) : Type 0 where
+  pub stands : Stands x.part v
+  pub passes : x.failure ≡ None
+  pub again : (w : List SpannedTemplateToken) → without_places w ≡ view_tokens v → Again (phrase n) v w
+  pub spelled : AreSpelled (without_places u) → AreSpelled (view_tokens v)
+  pub last : Before → List Bool → Before
+  pub cont : (b : Before) (o : List Bool) (ts us : List TemplateToken) → begins_outside ts ≡ true → begins_outside us ≡ true → AreAlike (last b o) o ts us → AreAlike b o (without_places u ++ ts) (view_tokens v ++ us)
 
 -- a token
 pub record OneToken (c : ℕ) (u : List SpannedTemplateToken) (x : Phrase Part) : Type 0 where
@@ -115,7 +137,7 @@ token_again c t e [] h = absurd cc
 token_again c t e (k ∷ []) h =
     let is : k.token ≡ t = cc in
     let P : ℕ → Type 0 = λ z. Derives grammar (token z) (k ∷ []) (leaf k) in
-    record { value = leaf k; derives = subst P (ap class_of is ∙ e) (a_token k); stands = v.a_token (ap (λ z. (Rattle.wgsl_leaves.specs.Leaves.leaf z)) is); passes = refl }
+    record { value = leaf k; derives = subst P (ap class_of is ∙ e) (a_token k); stands = v.a_token (ap (λ z. leaves.leaf z) is); passes = refl }
 token_again c t e (k ∷ l ∷ w) h = absurd cc
 
 abbrev pub token_steps : (t : TemplateToken) (b : Before) (o : List Bool) → Steps b o (t ∷ []) (t ∷ [])

@@ -1,4 +1,4 @@
--- The productions of names, types, calls, operands and lists.
+-- The productions of names, types and calls.
 use Rattle.std.proofs.Common.{◌≡◌, refl, sym, ap, ◌∙◌, ℕ, suc, ◌+◌, arith, Bool, true, ◌&&◌, List, [], ◌∷◌, ◌++◌, append_assoc, append-nil, map, Option, Some, None}
 use Rattle.wgsl_path.specs.declared.span.Spanned.{Spanned}
 use Rattle.wgsl_path.specs.declared.path.PathOrigin.TheVariants.{Relative}
@@ -119,7 +119,7 @@ components_more : (cs : List (List ℕ)) (y : List ℕ) → components_tokens (c
 components_more [] y = refl
 components_more (c ∷ cs) y = ap (λ z. mark f.PathSeparator ∷ word c ∷ z) (components_more cs y)
 
-within_tokens : (q : Option ModulePath) (y : List ℕ) → path_tokens (make.path_within q y) ≡ qualifier_tokens q ++ (word y ∷ [])
+pub within_tokens : (q : Option ModulePath) (y : List ℕ) → path_tokens (make.path_within q y) ≡ qualifier_tokens q ++ (word y ∷ [])
 within_tokens None y = refl
 within_tokens (Some p) y =
     ap (λ z. origin_tokens p.origin ++ z) (components_more p.components y) ∙ sym (append_assoc (origin_tokens p.origin) (components_tokens p.components) (mark f.PathSeparator ∷ word y ∷ []))
@@ -222,7 +222,7 @@ template_typed n m i rebuild {b = b} {d = d} {y = y} {w = w} g j h k =
           (append_assoc (qualifier_tokens g.0) (word g.1 ∷ []) (TemplateArgsStart ∷ (exps_tokens (exps h.0) ++ (TemplateArgsEnd ∷ []))))
           (of_four (λ ys. Makes (v.type (templated g.0 g.1 (exps h.0))) (make_of (l.Name name.Templated) (2 ∷ 1 ∷ 2 ∷ 1 ∷ []) ys)) (makes g.0 g.1 h.0))
           (more g.2.item (more (token_item 80 TemplateArgsStart b y j (start_of j.one.token j.class) refl) (list_more h.2 (token_item 81 TemplateArgsEnd d w k shut refl) (ap without_places (sym k.whole) ∙ ap (λ z. z ∷ []) shut) (closes refl) no_more)))
-          (λ c p. (refl, tt)) (λ c p. g.2.level c p) (λ c p. refl),
+          (λ c p. ((h.2.ended _ _, refl), tt)) (λ c p. g.2.level c p) (λ c p. refl),
     )
   where
     makes : (q : Option ModulePath) (o : List ℕ) (es : List Exp) (a b c d : Phrase Part) → Stood (a ∷ b ∷ c ∷ d ∷ []) (v.path q o ∷ v.token TemplateArgsStart ∷ v.expressions es ∷ v.token TemplateArgsEnd ∷ [])
@@ -272,7 +272,7 @@ call_with n m i rebuild {b = b} {d = d} {y = y} {w = w} g j h k =
           (v.type g.0 ∷ v.token (mark f.ParenLeft) ∷ v.expressions h.0 ∷ v.token (mark f.ParenRight) ∷ []) (v.call g.0 (exps h.0)) refl
           (of_four (λ ys. Makes (v.call g.0 (exps h.0)) (make_of (l.Name name.Call) (2 ∷ 1 ∷ 2 ∷ 1 ∷ []) ys)) (makes g.0 h.0))
           (more g.2.item (more (mark_item f.ParenLeft b y j) (list_more h.2 (mark_item f.ParenRight d w k) (ap without_places (sym k.whole) ∙ ap (λ z. z ∷ []) shut) (closes refl) no_more)))
-          (λ c p. (ap is_callee (g.2.ended c p), tt)) (λ c p. g.2.level c p) (λ c p. refl),
+          (λ c p. ((h.2.ended _ _, ap is_callee (g.2.ended c p)), tt)) (λ c p. g.2.level c p) (λ c p. refl),
     )
   where
     makes : (t : Typ) (es : List Exp) (a b c d : Phrase Part) → Stood (a ∷ b ∷ c ∷ d ∷ []) (v.type t ∷ v.token (mark f.ParenLeft) ∷ v.expressions es ∷ v.token (mark f.ParenRight) ∷ [])

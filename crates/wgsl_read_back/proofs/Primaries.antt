@@ -1,15 +1,13 @@
 -- The productions of operands and of lists.
-use Rattle.std.proofs.Common.{◌≡◌, refl, sym, ap, ◌∙◌, subst, ℕ, Bool, true, false, not, ◌||◌, List, [], ◌∷◌, ◌++◌, append_assoc, append-nil, None}
+use Rattle.std.proofs.Common.{◌≡◌, refl, sym, ap, ◌∙◌, ℕ, Bool, true, false, not, ◌||◌, List, [], ◌∷◌, ◌++◌, append_assoc, append-nil}
 use Rattle.std.proofs.lemmas.List.{map-append}
 use Rattle.std.proofs.lemmas.Bool.{and_parts}
 use Rattle.wgsl_path.specs.Paths.{ident_of}
 use Rattle.wgsl_token.specs.declared.token.Fixed.TheVariants as f
-use Rattle.wgsl_template_spec.specs.declared.token.TemplateToken.{TemplateToken}
 use Rattle.wgsl_template_spec.specs.declared.token.TemplateToken.TheVariants.{Plain}
 use Rattle.wgsl_template_spec.specs.declared.token.SpannedTemplateToken.{SpannedTemplateToken}
 use Rattle.wgsl_template_spec.specs.Kinds.{kind}
-use Rattle.wgsl_token_layout.specs.Laws.{without_places}
-use Rattle.wgsl_token_layout.specs.OptionalMarks.{Before, before, is_callee, ends_operand, outer, groups, comma, AreAlike, same}
+use Rattle.wgsl_token_layout.specs.OptionalMarks.{Before, before, is_callee, ends_operand, outer, groups, comma}
 use Rattle.wgsl_expressions.specs.declared.expression.Expression.TheVariants as exp
 use Rattle.wgsl_expressions.specs.declared.expression.LiteralExpression.{LiteralExpression}
 use Rattle.wgsl_expressions.specs.declared.expression.LiteralExpression.TheVariants as lit
@@ -18,8 +16,7 @@ use Rattle.wgsl_expressions.specs.Tree.{Exp, literal, parenthesized, component, 
 use Rattle.wgsl_expressions.specs.View.{node_tree}
 use Rattle.wgsl_expressions.proofs.Trees.{tree_of_literal, tree_of_parenthesized, tree_of_component, tree_of_indexed, tree_of_call, tree_of_named}
 use Rattle.wgsl_tree_tokens.specs.Tokens.{mark, word, literal_token, exp_tokens, more_tokens, typ_tokens}
-use Rattle.wgsl_tree_tokens.specs.Printable.{AreSpelled, ends_in_number, is_apart, are_apart}
-use Rattle.wgsl_tree_tokens.proofs.Expressions.{are_front}
+use Rattle.wgsl_tree_tokens.specs.Printable.{ends_in_number, is_apart, are_apart}
 use Rattle.wgsl_shift_reduce.specs.Grammars.{token, phrase}
 use Rattle.wgsl_parts.specs.declared.part.Part.{Part}
 use Rattle.wgsl_parts.specs.declared.part.Part.TheVariants as part
@@ -32,10 +29,11 @@ use Rattle.wgsl_make_expressions.specs.Lists as lists
 use Rattle.wgsl_grammar_tables.specs.Classes.{fixed_class, class_of}
 use Rattle.wgsl_read_back.proofs.Views.{View, view_tokens, Stands, a_token, an_ups, a_path, a_type, a_call, an_expression, some_expressions, ends_as}
 use Rattle.wgsl_read_back.proofs.Views as v
-use Rattle.wgsl_read_back.proofs.Items.{places_append, OneToken, moved, MayEnd, comma_gone}
+use Rattle.wgsl_read_back.proofs.Items.{Back, OneToken}
 use Rattle.wgsl_read_back.proofs.Rows.{nil as no_more, more, Stood, stood_pass, Makes, make_of, makes_of, Rebuild, back_of, of_one, of_three, of_four}
-use Rattle.wgsl_read_back.proofs.Places.{mark_of, word_of, number_of}
-use Rattle.wgsl_read_back.proofs.Families.{Expressed, Single, Typed, token_item, mark_item, pass_back}
+use Rattle.wgsl_read_back.proofs.Places.{word_of, number_of}
+use Rattle.wgsl_read_back.proofs.Lists.{list_without, list_with}
+use Rattle.wgsl_read_back.proofs.Families.{Expressed, Single, Typed, token_item, mark_item}
 use Rattle.wgsl_read_back.proofs.Operands.{Called, Separated, Listed, both, word_item, word_part}
 
 -- ---- operands
@@ -124,17 +122,13 @@ called_single n m rebuild g = (
             makes_of (l.Expression label.Called) (2 ∷ []) a [] (v.expression (call t xs)) (λ z. part.Expression (record { node = exp.FunctionCall x; span = z }))
             (λ z i. make.called z (is i ∷ [])) (λ z. an_expression _ refl (tree_of_call x ∙ (λ i. call (p i) (q i)))) (λ ps. refl) (λ z. refl) (stood_pass (a ∷ []) (v.call t xs ∷ []) h)
 
-pub parenthesized_single : (n m : ℕ) → Rebuild n (token (fixed_class f.ParenLeft) ∷ phrase m ∷ token (fixed_class f.ParenRight) ∷ []) (l.Expression label.Parenthesized) (1 ∷ 2 ∷ 1 ∷ []) → {a b c : List SpannedTemplateToken} {x y z : Phrase Part}
-    → OneToken (fixed_class f.ParenLeft) a x → Expressed m b y → OneToken (fixed_class f.ParenRight) c z → Single n (a ++ (b ++ (c ++ []))) (make_of (l.Expression label.Parenthesized) (1 ∷ 2 ∷ 1 ∷ []) (x ∷ y ∷ z ∷ []))
-parenthesized_single n m rebuild {a = a} {c = c} {x = x} {z = z} i g j = (
-  parenthesized g.0,
-  g.1,
-  refl,
-  back_of n (token (fixed_class f.ParenLeft) ∷ phrase m ∷ token (fixed_class f.ParenRight) ∷ []) (l.Expression label.Parenthesized) (1 ∷ 2 ∷ 1 ∷ []) rebuild
-      (v.token (mark f.ParenLeft) ∷ v.expression g.0 ∷ v.token (mark f.ParenRight) ∷ []) (v.expression (parenthesized g.0)) refl
-      (of_three (λ ys. Makes (v.expression (parenthesized g.0)) (make_of (l.Expression label.Parenthesized) (1 ∷ 2 ∷ 1 ∷ []) ys)) (makes g.0))
-      (more (mark_item f.ParenLeft a x i) (more g.2.item (more (mark_item f.ParenRight c z j) no_more))) (λ d p. tt) (λ d p. ap outer (g.2.level (before (mark f.ParenLeft)) (is_callee d ∷ p))) (λ d p. refl),
-)
+pub parenthesized_back : (n m : ℕ) → Rebuild n (token (fixed_class f.ParenLeft) ∷ phrase m ∷ token (fixed_class f.ParenRight) ∷ []) (l.Expression label.Parenthesized) (1 ∷ 2 ∷ 1 ∷ []) → {a b c : List SpannedTemplateToken} {x y z : Phrase Part}
+    (e : Exp) → OneToken (fixed_class f.ParenLeft) a x → Back m (v.expression e) b y → OneToken (fixed_class f.ParenRight) c z → Back n (v.expression (parenthesized e)) (a ++ (b ++ (c ++ []))) (make_of (l.Expression label.Parenthesized) (1 ∷ 2 ∷ 1 ∷ []) (x ∷ y ∷ z ∷ []))
+parenthesized_back n m rebuild {a = a} {c = c} {x = x} {z = z} e i g j =
+    back_of n (token (fixed_class f.ParenLeft) ∷ phrase m ∷ token (fixed_class f.ParenRight) ∷ []) (l.Expression label.Parenthesized) (1 ∷ 2 ∷ 1 ∷ []) rebuild
+    (v.token (mark f.ParenLeft) ∷ v.expression e ∷ v.token (mark f.ParenRight) ∷ []) (v.expression (parenthesized e)) refl
+    (of_three (λ ys. Makes (v.expression (parenthesized e)) (make_of (l.Expression label.Parenthesized) (1 ∷ 2 ∷ 1 ∷ []) ys)) (makes e))
+    (more (mark_item f.ParenLeft a x i) (more g.item (more (mark_item f.ParenRight c z j) no_more))) (λ d p. tt) (λ d p. ap outer (g.level (before (mark f.ParenLeft)) (is_callee d ∷ p))) (λ d p. refl)
   where
     makes : (e : Exp) (a b c : Phrase Part) → Stood (a ∷ b ∷ c ∷ []) (v.token (mark f.ParenLeft) ∷ v.expression e ∷ v.token (mark f.ParenRight) ∷ []) → Makes (v.expression (parenthesized e)) (make_of (l.Expression label.Parenthesized) (1 ∷ 2 ∷ 1 ∷ []) (a ∷ b ∷ c ∷ []))
     makes e a b c h = go h.1.0.0
@@ -145,18 +139,18 @@ parenthesized_single n m rebuild {a = a} {c = c} {x = x} {z = z} i g j = (
             (λ z i. make.parenthesized z (is i ∷ [])) (λ z. an_expression _ refl (tree_of_parenthesized (record { expression = x }) ∙ ap parenthesized p)) (λ ps. refl) (λ z. refl)
             (stood_pass (a ∷ b ∷ c ∷ []) (v.token (mark f.ParenLeft) ∷ v.expression e ∷ v.token (mark f.ParenRight) ∷ []) h)
 
-pub component_single : (n m : ℕ) → Rebuild n (phrase m ∷ token (fixed_class f.Period) ∷ token 77 ∷ []) (l.Expression label.Component) (2 ∷ 1 ∷ 2 ∷ []) → {a b c : List SpannedTemplateToken} {x y z : Phrase Part}
-    → Single m a x → OneToken (fixed_class f.Period) b y → OneToken 77 c z → Single n (a ++ (b ++ (c ++ []))) (make_of (l.Expression label.Component) (2 ∷ 1 ∷ 2 ∷ []) (x ∷ y ∷ z ∷ []))
-component_single n m rebuild {b = b} {c = c} {y = y} {z = z} g i j =
-    let name = (word_of j.one.token j.class).0 in (
-      component g.0 name,
-      both (is_numeric g.0 || not (ends_in_number g.0)) (is_apart g.0) g.2 g.1,
-      refl,
-      back_of n (phrase m ∷ token (fixed_class f.Period) ∷ token 77 ∷ []) (l.Expression label.Component) (2 ∷ 1 ∷ 2 ∷ []) rebuild
-          (v.expression g.0 ∷ v.token (mark f.Period) ∷ v.token (word name) ∷ []) (v.expression (component g.0 name)) refl
-          (of_three (λ ys. Makes (v.expression (component g.0 name)) (make_of (l.Expression label.Component) (2 ∷ 1 ∷ 2 ∷ []) ys)) (makes g.0 name))
-          (more g.3.item (more (mark_item f.Period b y i) (more (word_item c z j) no_more))) (λ d p. tt) (λ d p. g.3.level d p) (λ d p. refl),
-    )
+pub parenthesized_single : (n m : ℕ) → Rebuild n (token (fixed_class f.ParenLeft) ∷ phrase m ∷ token (fixed_class f.ParenRight) ∷ []) (l.Expression label.Parenthesized) (1 ∷ 2 ∷ 1 ∷ []) → {a b c : List SpannedTemplateToken} {x y z : Phrase Part}
+    → OneToken (fixed_class f.ParenLeft) a x → Expressed m b y → OneToken (fixed_class f.ParenRight) c z → Single n (a ++ (b ++ (c ++ []))) (make_of (l.Expression label.Parenthesized) (1 ∷ 2 ∷ 1 ∷ []) (x ∷ y ∷ z ∷ []))
+parenthesized_single n m rebuild i g j = (parenthesized g.0, g.1, refl, parenthesized_back n m rebuild g.0 i g.2 j)
+
+pub component_back : (n m : ℕ) → Rebuild n (phrase m ∷ token (fixed_class f.Period) ∷ token 77 ∷ []) (l.Expression label.Component) (2 ∷ 1 ∷ 2 ∷ []) → {a b c : List SpannedTemplateToken} {x y z : Phrase Part}
+    (e : Exp) → Back m (v.expression e) a x → OneToken (fixed_class f.Period) b y → (j : OneToken 77 c z) → Back n (v.expression (component e (word_of j.one.token j.class).0)) (a ++ (b ++ (c ++ []))) (make_of (l.Expression label.Component) (2 ∷ 1 ∷ 2 ∷ []) (x ∷ y ∷ z ∷ []))
+component_back n m rebuild {b = b} {c = c} {y = y} {z = z} e g i j =
+    let name = (word_of j.one.token j.class).0 in
+    back_of n (phrase m ∷ token (fixed_class f.Period) ∷ token 77 ∷ []) (l.Expression label.Component) (2 ∷ 1 ∷ 2 ∷ []) rebuild
+    (v.expression e ∷ v.token (mark f.Period) ∷ v.token (word name) ∷ []) (v.expression (component e name)) refl
+    (of_three (λ ys. Makes (v.expression (component e name)) (make_of (l.Expression label.Component) (2 ∷ 1 ∷ 2 ∷ []) ys)) (makes e name))
+    (more g.item (more (mark_item f.Period b y i) (more (word_item c z j) no_more))) (λ d p. tt) (λ d p. g.level d p) (λ d p. refl)
   where
     makes : (e : Exp) (name : List ℕ) (a b c : Phrase Part) → Stood (a ∷ b ∷ c ∷ []) (v.expression e ∷ v.token (mark f.Period) ∷ v.token (word name) ∷ []) → Makes (v.expression (component e name)) (make_of (l.Expression label.Component) (2 ∷ 1 ∷ 2 ∷ []) (a ∷ b ∷ c ∷ []))
     makes e name a b c h = go h.0.0
@@ -167,19 +161,20 @@ component_single n m rebuild {b = b} {c = c} {y = y} {z = z} g i j =
             (λ z i. make.component z (is i ∷ word_part c.part name h.1.1.0.0 i ∷ [])) (λ z. an_expression _ refl (tree_of_component (record { base = x; component = ident_of name }) ∙ ap (λ d. component d name) p)) (λ ps. refl) (λ z. refl)
             (stood_pass (a ∷ b ∷ c ∷ []) (v.expression e ∷ v.token (mark f.Period) ∷ v.token (word name) ∷ []) h)
 
-pub indexed_single : (n m r : ℕ) → Rebuild n (phrase m ∷ token (fixed_class f.BracketLeft) ∷ phrase r ∷ token (fixed_class f.BracketRight) ∷ []) (l.Expression label.Indexed) (2 ∷ 1 ∷ 2 ∷ 1 ∷ [])
-    → {a b c d : List SpannedTemplateToken} {x y z w : Phrase Part} → Single m a x → OneToken (fixed_class f.BracketLeft) b y → Expressed r c z → OneToken (fixed_class f.BracketRight) d w
-    → Single n (a ++ (b ++ (c ++ (d ++ [])))) (make_of (l.Expression label.Indexed) (2 ∷ 1 ∷ 2 ∷ 1 ∷ []) (x ∷ y ∷ z ∷ w ∷ []))
-indexed_single n m r rebuild {b = b} {d = d} {y = y} {w = w} g i h j = (
-  indexed g.0 h.0,
-  both (is_apart g.0) (is_apart h.0) g.1 h.1,
-  refl,
-  back_of n (phrase m ∷ token (fixed_class f.BracketLeft) ∷ phrase r ∷ token (fixed_class f.BracketRight) ∷ []) (l.Expression label.Indexed) (2 ∷ 1 ∷ 2 ∷ 1 ∷ []) rebuild
-      (v.expression g.0 ∷ v.token (mark f.BracketLeft) ∷ v.expression h.0 ∷ v.token (mark f.BracketRight) ∷ []) (v.expression (indexed g.0 h.0)) refl
-      (of_four (λ ys. Makes (v.expression (indexed g.0 h.0)) (make_of (l.Expression label.Indexed) (2 ∷ 1 ∷ 2 ∷ 1 ∷ []) ys)) (makes g.0 h.0))
-      (more g.3.item (more (mark_item f.BracketLeft b y i) (more h.2.item (more (mark_item f.BracketRight d w j) no_more)))) (λ c p. tt)
-      (λ c p. ap outer (h.2.level (before (mark f.BracketLeft)) (false ∷ (g.3.item.steps c p).opened)) ∙ g.3.level c p) (λ c p. refl),
-)
+pub component_single : (n m : ℕ) → Rebuild n (phrase m ∷ token (fixed_class f.Period) ∷ token 77 ∷ []) (l.Expression label.Component) (2 ∷ 1 ∷ 2 ∷ []) → {a b c : List SpannedTemplateToken} {x y z : Phrase Part}
+    → Single m a x → OneToken (fixed_class f.Period) b y → OneToken 77 c z → Single n (a ++ (b ++ (c ++ []))) (make_of (l.Expression label.Component) (2 ∷ 1 ∷ 2 ∷ []) (x ∷ y ∷ z ∷ []))
+component_single n m rebuild g i j =
+    (component g.0 (word_of j.one.token j.class).0, both (is_numeric g.0 || not (ends_in_number g.0)) (is_apart g.0) g.2 g.1, refl, component_back n m rebuild g.0 g.3 i j)
+
+pub indexed_back : (n m r : ℕ) → Rebuild n (phrase m ∷ token (fixed_class f.BracketLeft) ∷ phrase r ∷ token (fixed_class f.BracketRight) ∷ []) (l.Expression label.Indexed) (2 ∷ 1 ∷ 2 ∷ 1 ∷ [])
+    → {a b c d : List SpannedTemplateToken} {x y z w : Phrase Part} (e k : Exp) → Back m (v.expression e) a x → OneToken (fixed_class f.BracketLeft) b y → Back r (v.expression k) c z → OneToken (fixed_class f.BracketRight) d w
+    → Back n (v.expression (indexed e k)) (a ++ (b ++ (c ++ (d ++ [])))) (make_of (l.Expression label.Indexed) (2 ∷ 1 ∷ 2 ∷ 1 ∷ []) (x ∷ y ∷ z ∷ w ∷ []))
+indexed_back n m r rebuild {b = b} {d = d} {y = y} {w = w} e k g i h j =
+    back_of n (phrase m ∷ token (fixed_class f.BracketLeft) ∷ phrase r ∷ token (fixed_class f.BracketRight) ∷ []) (l.Expression label.Indexed) (2 ∷ 1 ∷ 2 ∷ 1 ∷ []) rebuild
+    (v.expression e ∷ v.token (mark f.BracketLeft) ∷ v.expression k ∷ v.token (mark f.BracketRight) ∷ []) (v.expression (indexed e k)) refl
+    (of_four (λ ys. Makes (v.expression (indexed e k)) (make_of (l.Expression label.Indexed) (2 ∷ 1 ∷ 2 ∷ 1 ∷ []) ys)) (makes e k))
+    (more g.item (more (mark_item f.BracketLeft b y i) (more h.item (more (mark_item f.BracketRight d w j) no_more)))) (λ c p. tt)
+    (λ c p. ap outer (h.level (before (mark f.BracketLeft)) (false ∷ (g.item.steps c p).opened)) ∙ g.level c p) (λ c p. refl)
   where
     makes : (e k : Exp) (a b c d : Phrase Part) → Stood (a ∷ b ∷ c ∷ d ∷ []) (v.expression e ∷ v.token (mark f.BracketLeft) ∷ v.expression k ∷ v.token (mark f.BracketRight) ∷ [])
         → Makes (v.expression (indexed e k)) (make_of (l.Expression label.Indexed) (2 ∷ 1 ∷ 2 ∷ 1 ∷ []) (a ∷ b ∷ c ∷ d ∷ []))
@@ -190,6 +185,11 @@ indexed_single n m r rebuild {b = b} {d = d} {y = y} {w = w} g i h j = (
             makes_of (l.Expression label.Indexed) (2 ∷ 1 ∷ 2 ∷ 1 ∷ []) a (b ∷ c ∷ d ∷ []) (v.expression (indexed e k)) (λ z. part.Expression (record { node = exp.Indexing (record { base = x; index = y }); span = z }))
             (λ z i. make.indexed z (is i ∷ at i ∷ [])) (λ z. an_expression _ refl (tree_of_indexed (record { base = x; index = y }) ∙ (λ i. indexed (p i) (q i)))) (λ ps. refl) (λ z. refl)
             (stood_pass (a ∷ b ∷ c ∷ d ∷ []) (v.expression e ∷ v.token (mark f.BracketLeft) ∷ v.expression k ∷ v.token (mark f.BracketRight) ∷ []) h)
+
+pub indexed_single : (n m r : ℕ) → Rebuild n (phrase m ∷ token (fixed_class f.BracketLeft) ∷ phrase r ∷ token (fixed_class f.BracketRight) ∷ []) (l.Expression label.Indexed) (2 ∷ 1 ∷ 2 ∷ 1 ∷ [])
+    → {a b c d : List SpannedTemplateToken} {x y z w : Phrase Part} → Single m a x → OneToken (fixed_class f.BracketLeft) b y → Expressed r c z → OneToken (fixed_class f.BracketRight) d w
+    → Single n (a ++ (b ++ (c ++ (d ++ [])))) (make_of (l.Expression label.Indexed) (2 ∷ 1 ∷ 2 ∷ 1 ∷ []) (x ∷ y ∷ z ∷ w ∷ []))
+indexed_single n m r rebuild g i h j = (indexed g.0 h.0, both (is_apart g.0) (is_apart h.0) g.1 h.1, refl, indexed_back n m r rebuild g.0 h.0 g.3 i h.2 j)
 
 -- ---- lists
 
@@ -242,52 +242,8 @@ more_separated n m rebuild {b = b} {y = y} g i h = (
             (stood_pass (a ∷ b ∷ c ∷ []) (v.expressions (d ∷ ds) ∷ v.token comma ∷ v.expression e ∷ []) h)
 
 pub listed_without : (n m : ℕ) → Rebuild n (phrase m ∷ []) l.Pass (2 ∷ []) → {u : List SpannedTemplateToken} {x : Phrase Part} → Separated m u x → Listed n (u ++ []) (make_of l.Pass (2 ∷ []) (x ∷ []))
-listed_without n m rebuild g =
-    let b = pass_back n m (v.expressions (g.0 ∷ g.1)) rebuild g.3 in (
-      g.0 ∷ g.1,
-      g.2,
-      record {
-        stands = b.item.stands;
-        passes = b.item.passes;
-        again = b.item.again;
-        spelled = b.item.spelled;
-        ending = λ d o. let q = b.item.steps d o in record {
-          last = q.last;
-          ended = b.ended d o;
-          cont = λ t ts us s may a. let P : List Bool → Type 0 = λ z. AreAlike (before t) (groups q.last z (kind t)) ts us in q.cont (t ∷ ts) (t ∷ us) (same t (subst P (sym (b.level d o)) a));
-        };
-      },
-    )
+listed_without n m rebuild g = (g.0 ∷ g.1, g.2, list_without n m (v.expressions (g.0 ∷ g.1)) rebuild g.3)
 
 pub listed_with : (n m : ℕ) → Rebuild n (phrase m ∷ []) l.Pass (2 ∷ []) → {a b : List SpannedTemplateToken} {x y : Phrase Part} → Separated m a x → OneToken (fixed_class f.Comma) b y
     → Listed n (a ++ (b ++ [])) (make_of l.Pass (2 ∷ 1 ∷ []) (x ∷ y ∷ []))
-listed_with n m rebuild {a = a} {b = b} {x = x} {y = y} g k =
-    let bare = pass_back n m (v.expressions (g.0 ∷ g.1)) rebuild g.3 in
-    let made = makes (g.0 ∷ g.1) x y g.3.item.stands g.3.item.passes (ap (λ z. z.failure) (sym k.value)) in (
-      g.0 ∷ g.1,
-      g.2,
-      record {
-        stands = made.stands;
-        passes = made.passes;
-        again = bare.item.again;
-        spelled = λ h. g.3.item.spelled (are_front (without_places a) (without_places (b ++ [])) (subst AreSpelled (places_append a (b ++ [])) h));
-        ending = λ d o. let q = g.3.item.steps d o in record {
-          last = q.last;
-          ended = g.3.ended d o;
-          cont = λ t ts us s may h.
-              let P : List Bool → Type 0 = λ z. AreAlike (before t) (groups q.last z (kind t)) ts us in
-              let Q : List Bool → Type 0 = λ z. MayEnd s z in
-              moved (regroup t ts) refl (q.cont (comma ∷ t ∷ ts) (t ∷ us) (comma_gone q.last q.opened t ts us (g.3.ended d o) s (subst Q (sym (g.3.level d o)) may) (subst P (sym (g.3.level d o)) h)));
-        };
-      },
-    )
-  where
-    one_comma : without_places (b ++ []) ≡ comma ∷ []
-    one_comma = places_append b [] ∙ append-nil (without_places b) ∙ ap without_places (sym k.whole) ∙ ap (λ z. z ∷ []) (mark_of k.one.token f.Comma k.class)
-
-    regroup : (t : TemplateToken) (ts : List TemplateToken) → without_places a ++ (comma ∷ t ∷ ts) ≡ without_places (a ++ (b ++ [])) ++ (t ∷ ts)
-    regroup t ts = sym (ap (λ z. z ++ (t ∷ ts)) (places_append a (b ++ []) ∙ ap (λ z. without_places a ++ z) one_comma) ∙ append_assoc (without_places a) (comma ∷ []) (t ∷ ts))
-
-    makes : (es : List Exp) (x y : Phrase Part) → Stands x.part (v.expressions es) → x.failure ≡ None → y.failure ≡ None → Makes (v.expressions es) (make_of l.Pass (2 ∷ 1 ∷ []) (x ∷ y ∷ []))
-    makes es x y (some_expressions ns is p) h i =
-        makes_of l.Pass (2 ∷ 1 ∷ []) x (y ∷ []) (v.expressions es) (λ z. part.Expressions ns) (λ z. is) (λ z. some_expressions ns refl p) (λ ps. refl) (λ z. refl) (h, (i, tt))
+listed_with n m rebuild g k = (g.0 ∷ g.1, g.2, list_with n m (v.expressions (g.0 ∷ g.1)) rebuild g.3 k)

@@ -1,5 +1,5 @@
 -- What is printed of what a text derives is read as it again, from any start.
-use Rattle.std.proofs.Common.{◌≡◌, refl, sym, subst, ℕ, nat_lt, true, List, [], append-nil}
+use Rattle.std.proofs.Common.{◌≡◌, refl, sym, ◌∙◌, subst, ℕ, nat_lt, true, List, [], append-nil}
 use Rattle.wgsl_path.specs.declared.span.Span.{Span}
 use Rattle.wgsl_template_spec.specs.declared.token.TemplateToken.{TemplateToken}
 use Rattle.wgsl_template_spec.specs.declared.token.SpannedTemplateToken.{SpannedTemplateToken}
@@ -25,7 +25,8 @@ use Rattle.wgsl_reading.specs.Phrases.{grammar, number, tables_of}
 use Rattle.wgsl_reading.specs.Readings.{goal_of}
 use Rattle.wgsl_parser.specs.Texts.{IsParsed}
 use Rattle.wgsl_read_back.proofs.Views.{View, view_tokens, Stands}
-use Rattle.wgsl_read_back.proofs.Items.{Back}
+use Rattle.wgsl_read_back.proofs.Items.{Again, Back}
+use Rattle.wgsl_read_back.proofs.Pieces.{Lined}
 use Rattle.wgsl_read_back.proofs.Steps.{Good}
 use Rattle.wgsl_read_back.proofs.Derived.{derived}
 
@@ -34,7 +35,7 @@ use Rattle.wgsl_read_back.proofs.Derived.{derived}
 a_place : Span
 a_place = record { start = 0; end = 0 }
 
-token_of : (c : ℕ) → nat_lt c listed.class_count ≡ true → (k : SpannedTemplateToken) × (grammar.class_of k ≡ c)
+pub token_of : (c : ℕ) → nat_lt c listed.class_count ≡ true → (k : SpannedTemplateToken) × (grammar.class_of k ≡ c)
 token_of c lt = let e = examples.each_class c lt in (record { token = e.0; span = a_place }, e.1)
 
 -- what tokens derive is what is read
@@ -59,6 +60,14 @@ printed text ks lexed other k v x b laid =
     let alike = subst P (λ i. (append-nil (without_places ks) i, append-nil (view_tokens v) i)) (q.cont [] [] none) in
     laid_out_but_for_optional_marks text other ks (view_tokens v) lexed alike (laid spelled)
 
+-- the same where it begins and ends as a text does
+pub printed_line : (text : List ℕ) (ks : List SpannedTemplateToken) → IsLexed text ks → (other : List ℕ) (k : ℕ) (v : View) (x : Phrase Part) → Lined k v ks x → (AreSpelled (view_tokens v) → IsTextOf (view_tokens v) other) → Printed v other
+printed_line text ks lexed other k v x b laid =
+    let spelled = b.spelled (read_spelled at_start lexed.characters ks lexed.lexes.0 [] lexed.lexes.1 lexed.are_scalars) in
+    let P : List TemplateToken × List TemplateToken → Type 0 = λ z. AreAlike outside [] z.0 z.1 in
+    let alike = subst P (λ i. (append-nil (without_places ks) i, append-nil (view_tokens v) i)) (b.cont [] [] [] none) in
+    laid_out_but_for_optional_marks text other ks (view_tokens v) lexed alike (laid spelled)
+
 -- what a text derives from a start
 module _ (s : Start) (lt : nat_lt (number s) 7 ≡ true) (k : ℕ) (goal : goal_of s ≡ k) (text : List ℕ) (p : Part) (h : IsParsed s text p) where
   pub parsed_good : Good (phrase k) h.tokens h.part.phrase
@@ -72,10 +81,31 @@ module _ (s : Start) (lt : nat_lt (number s) 7 ≡ true) (k : ℕ) (goal : goal_
     pub parsed : IsParsed s other made
     pub stands : Stands made v
 
-  pub returned : (other : List ℕ) (v : View) → Back k v h.tokens h.part.phrase → (AreSpelled (view_tokens v) → IsTextOf (view_tokens v) other) → Returned other v
-  returned other v b laid =
-      let found = printed text h.tokens h.lexed other k v h.part.phrase b laid in
-      let again = b.item.again found.0 found.2 in
+  -- tokens that derive what stands for it
+  found_again : (other : List ℕ) (v : View) → (found : Printed v other) → Again (phrase k) v found.0 → Returned other v
+  found_again other v found again =
       let Q : ℕ → Type 0 = λ k. Derives grammar (phrase k) found.0 again.value in
       let read = is_read s lt found.0 again.value (subst Q (sym goal) again.derives) in
       record { made = again.value.part; parsed = record { tokens = found.0; lexed = found.1; part = record { phrase = again.value; derived = read; passed = again.passes; same = refl } }; stands = again.stands }
+
+  pub returned : (other : List ℕ) (v : View) → Back k v h.tokens h.part.phrase → (AreSpelled (view_tokens v) → IsTextOf (view_tokens v) other) → Returned other v
+  returned other v b laid = let found = printed text h.tokens h.lexed other k v h.part.phrase b laid in found_again other v found (b.item.again found.0 found.2)
+
+  pub returned_line : (other : List ℕ) (v : View) → Lined k v h.tokens h.part.phrase → (AreSpelled (view_tokens v) → IsTextOf (view_tokens v) other) → Returned other v
+  returned_line other v b laid = let found = printed_line text h.tokens h.lexed other k v h.part.phrase b laid in found_again other v found (b.again found.0 found.2)
+
+-- ---- from a tree to a tree
+
+-- Of a start: what its values are as parts, of which trees they are, and how these are printed.
+module _ {X T : Type 0} (s : Start) (lt : nat_lt (number s) 7 ≡ true) (k : ℕ) (goal : goal_of s ≡ k) (part : X → Part) (IsOf : X → T → Type 0) (text_of : T → List ℕ) where
+  -- What is printed of the tree of a value is read as it: the phrase stands for a tree, which is no other.
+  pub read_again : (text : List ℕ) (x : X) (t : T) (p : IsParsed s text (part x)) → ((y : X) → part y ≡ part x → y ≡ x) → ((u : T) → IsOf x u → u ≡ t) → (u : T) (v : View) → ((q : Part) → Stands q v → (y : X) × (q ≡ part y) × IsOf y u)
+      → Back k v p.tokens p.part.phrase → (AreSpelled (view_tokens v) → IsTextOf (view_tokens v) (text_of u)) → (y : X) × IsParsed s (text_of t) (part y) × IsOf y t
+  read_again text x t p one same u v value_in b laid =
+      let y = value_in p.part.phrase.part b.item.stands in
+      let P : X → Type 0 = λ z. IsOf z u in
+      let is = same u (subst P (one y.0 (sym y.1 ∙ sym p.part.same)) y.2) in
+      let r = returned s lt k goal text (part x) p (text_of u) v b laid in
+      let z = value_in r.made r.stands in
+      let Q : T → Type 0 = λ w. (y : X) × IsParsed s (text_of w) (part y) × IsOf y w in
+      subst Q is (z.0, subst (IsParsed s (text_of u)) z.1 r.parsed, z.2)

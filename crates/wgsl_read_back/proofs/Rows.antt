@@ -77,7 +77,7 @@ spelled_row (list_more {v = v} {t = t} {vs = vs} {u = u} {k = k} {w = w} l i e c
     (are_both (t ∷ []) (concat vs) (i.spelled (are_front (without_places k) (without_places w) behind)) (spelled_row r (are_behind (without_places k) (without_places w) behind)))
 
 -- the tokens of a list and what closes it
-pub closing : (b : Before) (o : List Bool) (u v : List TemplateToken) (t : TemplateToken) (x y : List TemplateToken) (d : Before) (q : List Bool) → (e : Ending b o u v) → (s : Shuts t) → MayEnd s o
+pub closing : (b : Before) (o : List Bool) (u v : List TemplateToken) (t : TemplateToken) (x y : List TemplateToken) (d : Before) (q : List Bool) → (e : Ending b o u v) → (s : Shuts t) → MayEnd s e.last o
     → Cont (before t) (groups e.last o (kind t)) x y d q → Cont b o (u ++ (t ∷ x)) (v ++ (t ∷ y)) d q
 closing b o u v t x y d q e s may f ts us a = moved (sym (append_assoc u (t ∷ x) ts)) (sym (append_assoc v (t ∷ y) us)) (e.cont t (x ++ ts) (y ++ us) s may (f ts us a))
 
@@ -85,7 +85,7 @@ closing b o u v t x y d q e s may f ts us a = moved (sym (append_assoc u (t ∷ 
 abbrev pub Fine : {ss : List Symbol} {vs : List View} {u : List SpannedTemplateToken} {xs : List (Phrase Part)} → RowBack ss vs u xs → Before → List Bool → Type 0
 Fine nil b o = Unit {0}
 Fine (more i r) b o = Fine r (i.steps b o).last (i.steps b o).opened
-Fine (list_more {t = t} l i e c r) b o = MayEnd c o × Fine r (before t) (groups (l.ending b o).last o (kind t))
+Fine (list_more {t = t} l i e c r) b o = MayEnd c (l.ending b o).last o × Fine r (before t) (groups (l.ending b o).last o (kind t))
 
 abbrev pub steps_row : {ss : List Symbol} {vs : List View} {u : List SpannedTemplateToken} {xs : List (Phrase Part)} → (r : RowBack ss vs u xs) → (b : Before) (o : List Bool) → Fine r b o → Steps b o (without_places u) (concat vs)
 steps_row nil b o fine = record { last = b; opened = o; cont = λ ts us a. a }

@@ -1,5 +1,5 @@
 -- What is printed is read back.
-use Rattle.std.specs.Prelude.{◌≡◌, ℕ, List, map, ◌++◌, codes, Option, Some, None}
+use Rattle.std.specs.Prelude.{◌≡◌, ℕ, List, map, ◌++◌, codes, Option, Some, None, Ok}
 use Rattle.std.specs.Option.{option_map}
 use Rattle.wgsl_path.specs.declared.span.Spanned.{Spanned}
 use Rattle.wgsl_expressions.specs.declared.expression.Expression.{Expression as Node}
@@ -18,13 +18,23 @@ use Rattle.wgsl_attributes.specs.Print.{arguments_text, attr_text}
 use Rattle.wgsl_attribute_words.specs.Attributes.{attribute_of}
 use Rattle.wgsl_expressions.specs.Print.{exp_text}
 use Rattle.wgsl_imports.specs.declared.directive.GlobalDirective.{GlobalDirective}
-use Rattle.wgsl_imports.specs.View.{directive_tree}
-use Rattle.wgsl_imports.specs.Print.{directive_text}
+use Rattle.wgsl_imports.specs.declared.import.ImportStatement.{ImportStatement}
+use Rattle.wgsl_imports.specs.View.{directive_tree, importing_tree}
+use Rattle.wgsl_imports.specs.Print.{directive_text, importing_text}
 use Rattle.wgsl_simple_statements.specs.declared.declaration.DeclarationKind.{DeclarationKind}
 use Rattle.wgsl_simple_statements.specs.Print.{kind_text}
+use Rattle.wgsl_declarations.specs.declared.declaration.GlobalDeclaration.{GlobalDeclaration}
+use Rattle.wgsl_declarations.specs.declared.unit.TranslationUnit.{TranslationUnit}
+use Rattle.wgsl_declarations.specs.Tree.{Decl}
+use Rattle.wgsl_declarations.specs.View.{declaration_tree, unit_tree}
+use Rattle.wgsl_declarations.specs.Print.{decl_text, unit_text}
+use Rattle.wgsl_statements.specs.declared.statement.Statement.{Statement as Code}
+use Rattle.wgsl_statements.specs.Tree.{Stm}
+use Rattle.wgsl_statements.specs.View.{statement_tree}
+use Rattle.wgsl_statements.specs.Print.{stm_text}
 use Rattle.wgsl_parts.specs.declared.part.Part.TheVariants as part
-use Rattle.wgsl_reading.specs.declared.driver.Start.TheVariants.{Expression, Directive, Kind}
-use Rattle.wgsl_parser.specs.Texts.{IsParsed}
+use Rattle.wgsl_reading.specs.declared.driver.Start.TheVariants.{Expression, Statement, Declaration, Directive, Import, Kind}
+use Rattle.wgsl_parser.specs.Texts.{IsParsed, ParsesModule}
 
 -- Where a text is an expression, what is printed of its tree is one, too, with the same tree but for places.
 abbrev pub ExpressionsAreReadBack : Type 0
@@ -35,6 +45,11 @@ ExpressionsAreReadBack = (text : List ℕ) (x : Spanned Node) → IsParsed Expre
 abbrev pub DirectivesAreReadBack : Type 0
 DirectivesAreReadBack = (text : List ℕ) (x : GlobalDirective) → IsParsed Directive text (part.Directive x)
     → (y : GlobalDirective) × IsParsed Directive (directive_text (directive_tree x)) (part.Directive y) × (directive_tree y ≡ directive_tree x)
+
+-- And what is printed of an import statement.
+abbrev pub ImportsAreReadBack : Type 0
+ImportsAreReadBack = (text : List ℕ) (x : ImportStatement) → IsParsed Import text (part.Import x)
+    → (y : ImportStatement) × IsParsed Import (importing_text (importing_tree x)) (part.Import y) × (importing_tree y ≡ importing_tree x)
 
 -- And what is printed of a kind of declaration, which has no places.
 abbrev pub KindsAreReadBack : Type 0
@@ -56,3 +71,21 @@ pub record AreAttribute (tokens : List SpannedTemplateToken) (x : Spanned Attrib
 abbrev pub AttributesAreReadBack : Type 0
 AttributesAreReadBack = (text : List ℕ) (tokens : List SpannedTemplateToken) (x : Spanned Attribute) → IsLexed text tokens → AreAttribute tokens x
     → (again : List SpannedTemplateToken) × IsLexed (attr_text (attribute_tree x.node)) again × (y : Spanned Attribute) × AreAttribute again y × (attribute_tree y.node ≡ attribute_tree x.node)
+
+-- Where a text is a statement, and not `;` alone, what is printed of its tree at any level is one, too, with the same tree.
+abbrev pub StatementsAreReadBack : Type 0
+StatementsAreReadBack = (text : List ℕ) (x : Spanned Code) (s : Stm) → IsParsed Statement text (part.Statement x) → statement_tree x.node ≡ Some s → (level : ℕ)
+    → (y : Spanned Code) × IsParsed Statement (stm_text level s) (part.Statement y) × (statement_tree y.node ≡ Some s)
+
+-- Where a text is a declaration of a module, and not `;` alone, what is printed of its tree is one, too, with the same tree.
+abbrev pub DeclarationsAreReadBack : Type 0
+DeclarationsAreReadBack = (text : List ℕ) (x : Spanned GlobalDeclaration) (d : Decl) → IsParsed Declaration text (part.Global x) → declaration_tree x.node ≡ Some d
+    → (y : Spanned GlobalDeclaration) × IsParsed Declaration (decl_text d) (part.Global y) × (declaration_tree y.node ≡ Some d)
+
+-- Where a text is a module, so is what is printed of its tree, with the same tree.
+abbrev pub ModulesAreReadBack : Type 0
+ModulesAreReadBack = (text : List ℕ) (x : TranslationUnit) → ParsesModule text (Ok x) → (y : TranslationUnit) × ParsesModule (unit_text (unit_tree x)) (Ok y) × (unit_tree y ≡ unit_tree x)
+
+-- A text is one module at most.
+abbrev pub TextsHaveOneModule : Type 0
+TextsHaveOneModule = (text : List ℕ) (a b : TranslationUnit) → ParsesModule text (Ok a) → ParsesModule text (Ok b) → a ≡ b

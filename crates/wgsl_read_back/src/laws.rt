@@ -1,6 +1,6 @@
 //! Laws of what is printed and read back. Each function states one, and does nothing.
 
-ghost use Rattle.wgsl_read_back.specs.Laws.{ExpressionsAreReadBack, DirectivesAreReadBack, KindsAreReadBack, AttributesArePrintedAsRead, AttributesAreReadBack};
+ghost use Rattle.wgsl_read_back.specs.Laws.{ExpressionsAreReadBack, StatementsAreReadBack, DeclarationsAreReadBack, ModulesAreReadBack, TextsHaveOneModule, DirectivesAreReadBack, ImportsAreReadBack, KindsAreReadBack, AttributesArePrintedAsRead, AttributesAreReadBack};
 
 /// Where a text is an expression, what is printed of its tree is one, too, with the same tree but for places.
 pub fn expressions_are_read_back()
@@ -10,6 +10,11 @@ pub fn expressions_are_read_back()
 /// The same of a directive.
 pub fn directives_are_read_back()
     ensures { DirectivesAreReadBack }
+{}
+
+/// The same of an import statement.
+pub fn imports_are_read_back()
+    ensures { ImportsAreReadBack }
 {}
 
 /// The same of a kind of declaration, as `var<storage, read_write>`.
@@ -25,4 +30,24 @@ pub fn attributes_are_printed_as_read()
 /// Where the tokens of a text are an attribute, so are those of what is printed of it, with the same tree but for places.
 pub fn attributes_are_read_back()
     ensures { AttributesAreReadBack }
+{}
+
+/// Where a text is a statement, and not `;` alone, what is printed of its tree at any level is one, too, with the same tree but for places.
+pub fn statements_are_read_back()
+    ensures { StatementsAreReadBack }
+{}
+
+/// The same of a declaration of a module.
+pub fn declarations_are_read_back()
+    ensures { DeclarationsAreReadBack }
+{}
+
+/// Where a text is a module, so is what is printed of its tree, with the same tree but for places.
+pub fn modules_are_read_back()
+    ensures { ModulesAreReadBack }
+{}
+
+/// A text is one module at most.
+pub fn texts_have_one_module()
+    ensures { TextsHaveOneModule }
 {}

@@ -12,7 +12,7 @@ use Rattle.wgsl_template_spec.specs.declared.token.TemplateToken.{TemplateToken}
 use Rattle.wgsl_template_spec.specs.declared.token.TemplateToken.TheVariants.{Plain, TemplateArgsStart, TemplateArgsEnd}
 use Rattle.wgsl_template_spec.specs.Kinds.{kind}
 use Rattle.wgsl_template_spec.specs.Tokens.{is_word, is_in_list, behind, start}
-use Rattle.wgsl_token_layout.specs.OptionalMarks.{Before, outside, fresh, behind_kind, before, is_callee, ends_operand, is_closer, outer, groups, may_end_so, comma, void, at_sign, is_any_word, may_go, begins_outside, AreAlike}
+use Rattle.wgsl_token_layout.specs.OptionalMarks.{Before, outside, fresh, behind_kind, before, is_callee, ends_operand, is_closer, outer, groups, may_end_so, comma, at_sign, is_any_word, may_go, may_go_outside, begins_outside, AreAlike}
 use Rattle.wgsl_token_layout.specs.OptionalMarks as t
 use Rattle.wgsl_token_layout.specs.Laws.{LaidOutButForOptionalMarks}
 use Rattle.wgsl_token_layout.proofs.Pieces.{less}
@@ -29,8 +29,8 @@ flipped (t.second_has x h g c a) = t.first_has x h g c (flipped a)
 flipped (t.first_extra x m s a) = t.second_extra x m s (flipped a)
 flipped (t.second_extra x m s a) = t.first_extra x m s (flipped a)
 flipped (t.same_attribute x m a) = t.same_attribute x m (flipped a)
-flipped (t.first_void a) = t.second_void (flipped a)
-flipped (t.second_void a) = t.first_void (flipped a)
+flipped (t.first_outside x m a) = t.second_outside x m (flipped a)
+flipped (t.second_outside x m a) = t.first_outside x m (flipped a)
 
 -- What is alike stays so where more marks may be left out
 
@@ -127,6 +127,11 @@ extra_onward c o (Plain (Fixed f.Colon)) ts e = onward c o (Plain (Fixed f.Colon
 extra_onward c o (Plain (Fixed f.Semicolon)) ts e = onward c o (Plain (Fixed f.Semicolon)) ts (and_false (is_own (c ∷ o)))
 extra_onward c o _ ts e = absurd cc
 
+outside_onward : (c : Bracket) (o : List Bracket) (x : TemplateToken) (ts : List TemplateToken) → may_go_outside x ≡ true → kinds_of (ahead (c ∷ o) (x ∷ ts)) ≡ k.Other ∷ kinds_of (ahead (c ∷ o) ts)
+outside_onward c o (Plain (Fixed f.Semicolon)) ts e = onward c o (Plain (Fixed f.Semicolon)) ts (and_false (is_own (c ∷ o)))
+outside_onward c o (Plain (Fixed f.Case)) ts e = onward c o (Plain (Fixed f.Case)) ts (and_false (is_own (c ∷ o)))
+outside_onward c o _ ts e = absurd cc
+
 extra_kind : (x : TemplateToken) → may_go x ≡ true → is_extra (kind x) ≡ true
 extra_kind (Plain (Fixed f.Comma)) e = refl
 extra_kind (Plain (Fixed f.Colon)) e = refl
@@ -167,10 +172,10 @@ ahead_alike (t.second_extra x m s a) [] = none
 ahead_alike (t.second_extra {ts = ts} {us = us} x m s a) (c ∷ o) = moved refl (sym (extra_onward c o x us m)) (second_extra (kind x) (extra_kind x m) (ahead_outside c o ts s) (ahead_alike a (c ∷ o)))
 ahead_alike (t.same_attribute x m a) [] = none
 ahead_alike (t.same_attribute {ts = ts} {us = us} x m a) (c ∷ o) = moved (sym (at_onward c o x ts)) (sym (at_onward c o x us)) cut
-ahead_alike (t.first_void a) [] = none
-ahead_alike (t.first_void {ts = ts} {us = us} a) (c ∷ o) = moved (sym (extra_onward c o void ts refl)) refl (first_void (ahead_alike a (c ∷ o)))
-ahead_alike (t.second_void a) [] = none
-ahead_alike (t.second_void {ts = ts} {us = us} a) (c ∷ o) = moved refl (sym (extra_onward c o void us refl)) (second_void (ahead_alike a (c ∷ o)))
+ahead_alike (t.first_outside x m a) [] = none
+ahead_alike (t.first_outside {ts = ts} {us = us} x m a) (c ∷ o) = moved (sym (outside_onward c o x ts m)) refl (first_void (ahead_alike a (c ∷ o)))
+ahead_alike (t.second_outside x m a) [] = none
+ahead_alike (t.second_outside {ts = ts} {us = us} x m a) (c ∷ o) = moved refl (sym (outside_onward c o x us m)) (second_void (ahead_alike a (c ∷ o)))
 
 -- where the one begins with a list, so does the other
 lists_over : {g : List Bool} {ts us : List TemplateToken} → AreAlike fresh g ts us → Lists us → Lists ts
@@ -222,6 +227,21 @@ extra_there w o (Plain (Fixed f.Comma)) ts e h = as_is (and_false (is_in_list o)
 extra_there w o (Plain (Fixed f.Colon)) ts e h = as_is (and_false (is_in_list o)) (and_false w) h
 extra_there w o (Plain (Fixed f.Semicolon)) ts e h = as_is (and_false (is_in_list o)) (and_false w) h
 extra_there w o _ ts e h = absurd cc
+
+outside_gone : (w : Bool) (o : List Bracket) (x : TemplateToken) (ts : List TemplateToken) → may_go_outside x ≡ true → Marked w o (x ∷ ts) → Marked false o ts
+outside_gone w o _ ts e (end inside h) = absurd cc
+outside_gone w o _ ts e (begin word list h) = absurd cc
+outside_gone w o (Plain (Fixed f.Semicolon)) ts e (less_sign word sign never h) = absurd cc
+outside_gone w o (Plain (Fixed f.Case)) ts e (less_sign word sign never h) = absurd cc
+outside_gone w o (Plain _) ts e (less_sign word sign never h) = absurd cc
+outside_gone w o (Plain (Fixed f.Semicolon)) ts e (as_is g q h) = h
+outside_gone w o (Plain (Fixed f.Case)) ts e (as_is g q h) = h
+outside_gone w o (Plain _) ts e (as_is g q h) = absurd cc
+
+outside_there : (w : Bool) (o : List Bracket) (x : TemplateToken) (ts : List TemplateToken) → may_go_outside x ≡ true → Marked false o ts → Marked w o (x ∷ ts)
+outside_there w o (Plain (Fixed f.Semicolon)) ts e h = as_is (and_false (is_in_list o)) (and_false w) h
+outside_there w o (Plain (Fixed f.Case)) ts e h = as_is (and_false (is_in_list o)) (and_false w) h
+outside_there w o _ ts e h = absurd cc
 
 outside_less : (u : Token) (ts : List TemplateToken) → begins_outside (Plain u ∷ ts) ≡ true → less u ≡ false
 outside_less (Fixed f.LessThan) ts e = absurd cc
@@ -276,10 +296,10 @@ marked_alike (t.second_has {ts = ts} {us = us} x i j c a) w o f h = comma_there 
 marked_alike (t.first_extra {ts = ts} {us = us} x m s a) w o f h = any_word false w o us s (marked_alike a false o (λ e. refl) (extra_gone w o x ts m h))
 marked_alike (t.second_extra {ts = ts} {us = us} x m s a) w o f h = extra_there w o x us m (marked_alike a false o (λ e. refl) (any_word w false o ts s h))
 marked_alike (t.same_attribute {ts = ts} {us = us} x m a) w o f h = at_step w o (x ∷ ts) (x ∷ us) (word_step false o x ts us m (λ v. marked_alike a v o (λ e. absurd cc))) h
-marked_alike (t.first_void {ts = ts} {us = us} a) w o f h =
-    let P : Bool → Type 0 = λ z. Marked z o us in subst P (sym (f refl)) (marked_alike a false o (λ e. refl) (extra_gone w o void ts refl h))
-marked_alike (t.second_void {ts = ts} {us = us} a) w o f h =
-    let P : Bool → Type 0 = λ z. Marked z o ts in extra_there w o void us refl (marked_alike a false o (λ e. refl) (subst P (f refl) h))
+marked_alike (t.first_outside {ts = ts} {us = us} x m a) w o f h =
+    let P : Bool → Type 0 = λ z. Marked z o us in subst P (sym (f refl)) (marked_alike a false o (λ e. refl) (outside_gone w o x ts m h))
+marked_alike (t.second_outside {ts = ts} {us = us} x m a) w o f h =
+    let P : Bool → Type 0 = λ z. Marked z o ts in outside_there w o x us m (marked_alike a false o (λ e. refl) (subst P (f refl) h))
 
 pub laid_out_but_for_optional_marks : LaidOutButForOptionalMarks
 laid_out_but_for_optional_marks text other tokens us l a t =

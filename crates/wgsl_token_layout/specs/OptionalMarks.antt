@@ -1,4 +1,4 @@
--- Tokens that differ in marks alone that may be left out: the last comma of a list, and `:` and `;` where a text may do without.
+-- Tokens that differ in marks alone that may be left out: the last comma of a list, and `:`, `;` and `case` where a text may do without.
 use Rattle.std.specs.Prelude.{◌≡◌, Bool, true, false, List, [], ◌∷◌}
 use Rattle.wgsl_token.specs.declared.token.Token.TheVariants.{Fixed, Identifier, Reserved}
 use Rattle.wgsl_token.specs.declared.token.Fixed.TheVariants as f
@@ -66,15 +66,18 @@ may_end_so (x ∷ xs) = x
 abbrev pub comma : TemplateToken
 comma = Plain (Fixed f.Comma)
 
-abbrev pub void : TemplateToken
-void = Plain (Fixed f.Semicolon)
-
 -- the marks that may be left out
 abbrev pub may_go : TemplateToken → Bool
 may_go (Plain (Fixed f.Comma)) = true
 may_go (Plain (Fixed f.Colon)) = true
 may_go (Plain (Fixed f.Semicolon)) = true
 may_go _ = false
+
+-- what may be left out behind what stands in no expression: any `;` or `case` (the grammar leaves out a `;` alone, and `case` before `default` alone)
+abbrev pub may_go_outside : TemplateToken → Bool
+may_go_outside (Plain (Fixed f.Semicolon)) = true
+may_go_outside (Plain (Fixed f.Case)) = true
+may_go_outside _ = false
 
 -- A mark stands first that is in no expression: where a list ends without a bracket, and where `:` or `;` may be left out.
 abbrev pub begins_outside : List TemplateToken → Bool
@@ -125,7 +128,7 @@ abbrev pub at_sign : TemplateToken
 at_sign = Plain (Fixed f.Attr)
 
 -- The same tokens but for marks that may be left out, of either: a comma before what closes arguments or a template list; a mark before
--- what stands in no expression; a `;` behind what stands in none. The word of an attribute may have arguments, whatever word it is.
+-- what stands in no expression; a `;` or `case` behind what stands in none. The word of an attribute may have arguments, whatever word it is.
 pub data AreAlike : Before → List Bool → List TemplateToken → List TemplateToken → Type 0 where
   none : {b : Before} {opened : List Bool} → AreAlike b opened [] []
   same : {b : Before} {opened : List Bool} {ts us : List TemplateToken} (t : TemplateToken) → AreAlike (before t) (groups b opened (kind t)) ts us → AreAlike b opened (t ∷ ts) (t ∷ us)
@@ -136,5 +139,5 @@ pub data AreAlike : Before → List Bool → List TemplateToken → List Templat
   first_extra : {b : Before} {opened : List Bool} {ts us : List TemplateToken} (t : TemplateToken) → may_go t ≡ true → begins_outside us ≡ true → AreAlike b opened ts us → AreAlike b opened (t ∷ ts) us
   second_extra : {b : Before} {opened : List Bool} {ts us : List TemplateToken} (t : TemplateToken) → may_go t ≡ true → begins_outside ts ≡ true → AreAlike b opened ts us → AreAlike b opened ts (t ∷ us)
   same_attribute : {b : Before} {opened : List Bool} {ts us : List TemplateToken} (t : TemplateToken) → is_any_word t ≡ true → AreAlike callee opened ts us → AreAlike b opened (at_sign ∷ t ∷ ts) (at_sign ∷ t ∷ us)
-  first_void : {opened : List Bool} {ts us : List TemplateToken} → AreAlike outside opened ts us → AreAlike outside opened (void ∷ ts) us
-  second_void : {opened : List Bool} {ts us : List TemplateToken} → AreAlike outside opened ts us → AreAlike outside opened ts (void ∷ us)
+  first_outside : {opened : List Bool} {ts us : List TemplateToken} (t : TemplateToken) → may_go_outside t ≡ true → AreAlike outside opened ts us → AreAlike outside opened (t ∷ ts) us
+  second_outside : {opened : List Bool} {ts us : List TemplateToken} (t : TemplateToken) → may_go_outside t ≡ true → AreAlike outside opened ts us → AreAlike outside opened ts (t ∷ us)

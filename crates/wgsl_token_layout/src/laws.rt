@@ -12,7 +12,8 @@ pub fn laid_out_alike()
     ensures { LaidOutAlike }
 {}
 
-/// The same, where the tokens differ in marks that may be left out: last commas of lists, and `:` and `;` where a text may do without.
+/// The same, where the tokens differ in marks that may be left out: last commas of lists, and `:`, `;` and
+/// `case` where a text may do without.
 pub fn laid_out_but_for_optional_marks()
     ensures { LaidOutButForOptionalMarks }
 {}

@@ -54,7 +54,7 @@ space_inside space (Some mode) s =
       starts = λ rest. plain_start (p.characters ++ comma.characters) (62 ∷ rest) (begins_then p.characters comma.characters p.begins);
     }
 
-kind_run : (k : DeclarationKind) → AreSpelled (kind_tokens k) → Run ends_word (kind_tokens k) (kind_text k)
+pub kind_run : (k : DeclarationKind) → AreSpelled (kind_tokens k) → Run ends_word (kind_tokens k) (kind_text k)
 unfolding angled
 kind_run kinds.Const s = leaf_run const_leaf
 kind_run kinds.Override s = leaf_run override_leaf

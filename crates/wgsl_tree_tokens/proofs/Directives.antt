@@ -102,7 +102,7 @@ names_line xs p s =
     let spaced = run_then (sign_run lays_space refl) all (λ rest ok. free (all.characters ++ rest)) in
     run_then p spaced (λ rest ok. at_space false (all.characters ++ rest))
 
-directive_run : (d : Directive) (ts : List TemplateToken) → HasTokens d ts → AreSpelled ts → Run (begins_with_none []) ts (directive_text d)
+pub directive_run : (d : Directive) (ts : List TemplateToken) → HasTokens d ts → AreSpelled ts → Run (begins_with_none []) ts (directive_text d)
 directive_run _ _ (of_diagnostic severity {rule = rule} {ts = ts} is) s = setting_run severity rule ts is s
 directive_run _ _ (of_enable names) s = run_as refl (sym (append_assoc (codes "enable ") (names_text names) (codes ";\n"))) (names_line names (leaf_run enable_leaf) s.1)
 directive_run _ _ (of_requires names) s = run_as refl (sym (append_assoc (codes "requires ") (names_text names) (codes ";\n"))) (names_line names (leaf_run requires_leaf) s.1)

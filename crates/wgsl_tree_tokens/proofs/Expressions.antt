@@ -366,7 +366,7 @@ unfolding angled angled_run
 at_angle p rest = at_less false ((p.run.characters ++ codes ">") ++ rest)
 
 mutual
-  exp_phrase : (e : Exp) → AreSpelled (exp_tokens e) → is_apart e ≡ true → Phrase (ends (ends_in_number e)) (exp_tokens e) (exp_text e)
+  pub exp_phrase : (e : Exp) → AreSpelled (exp_tokens e) → is_apart e ≡ true → Phrase (ends (ends_in_number e)) (exp_tokens e) (exp_text e)
   exp_phrase (literal l) s h = leaf_phrase (literal_leaf l s.0)
   exp_phrase (parenthesized x) s h =
       let p = exp_phrase x (are_front (exp_tokens x) (mark f.ParenRight ∷ []) s.1) h in
@@ -426,7 +426,7 @@ mutual
         follows = λ b rest ok. at_comma b ((codes " " ++ p.run.characters) ++ rest);
       }
 
-  typ_phrase : (t : Typ) → AreSpelled (typ_tokens t) → type_is_apart t ≡ true → Phrase ends_word (typ_tokens t) (typ_text t)
+  pub typ_phrase : (t : Typ) → AreSpelled (typ_tokens t) → type_is_apart t ≡ true → Phrase ends_word (typ_tokens t) (typ_text t)
   typ_phrase (simple path name) s h = name_phrase path name (are_front (qualifier_tokens path) (word name ∷ []) s) (are_behind (qualifier_tokens path) (word name ∷ []) s).0
   typ_phrase (templated path name xs) s h =
       let all : List TemplateToken = word name ∷ TemplateArgsStart ∷ (exps_tokens xs ++ (TemplateArgsEnd ∷ [])) in

@@ -23,11 +23,11 @@ use Rattle.wgsl_tree_tokens.proofs.Expressions.{Run, run_then, run_as, sign_run,
 use Rattle.wgsl_tree_tokens.proofs.Directives.{line_end, at_semicolon}
 use Rattle.wgsl_tree_tokens.proofs.Attributes.{keyword_of, attribute_run}
 
-lays_brace_left : Lays (begins_with_none []) (codes "{") (mark f.BraceLeft ∷ [])
+pub lays_brace_left : Lays (begins_with_none []) (codes "{") (mark f.BraceLeft ∷ [])
 unfolding unicode_ident
 lays_brace_left = lays_sign f.BraceLeft 123 refl [] refl refl refl refl refl
 
-lays_brace_right : Lays (begins_with_none []) (codes "}") (mark f.BraceRight ∷ [])
+pub lays_brace_right : Lays (begins_with_none []) (codes "}") (mark f.BraceRight ∷ [])
 unfolding unicode_ident
 lays_brace_right = lays_sign f.BraceRight 125 refl [] refl refl refl refl refl
 
@@ -35,7 +35,7 @@ at_brace_right : (rest : List ℕ) → ends_word (125 ∷ rest) ≡ true
 unfolding unicode_ident
 at_brace_right rest = refl
 
-nothing_run : Run (begins_with_none []) [] []
+pub nothing_run : Run (begins_with_none []) [] []
 nothing_run = record { characters = []; spells = spells_ascii [] refl; lays = lays_nothing }
 
 -- ---- attributes, a space behind each
@@ -113,7 +113,7 @@ qualifier_run (Some p) s =
     let path = path_phrase p (are_front (path_tokens p) (mark f.PathSeparator ∷ []) s) in
     run_then path.run (sign_run lays_separator refl) (λ rest ok. at_colon (58 ∷ rest))
 
-import_run : (i : Importing) (ts : List TemplateToken) → ImportTokens i ts → AreSpelled ts → Run (begins_with_none []) ts (importing_text i)
+pub import_run : (i : Importing) (ts : List TemplateToken) → ImportTokens i ts → AreSpelled ts → Run (begins_with_none []) ts (importing_text i)
 import_run i _ (an_import {ts = ts} h) s =
     let behind = are_behind ts (import_rest i) s in
     let p = attributes_run i.attributes ts h (are_front ts (import_rest i) s) in

@@ -1,0 +1,24 @@
+//! Why a module has no text.
+
+use std::alloc::AllocError;
+use wgsl_items::Text;
+
+/// Why a module has no text.
+#[derive(Debug, Drop, PartialEq)]
+pub enum Unprintable {
+    /// No text derives the module. The name is that of the first declaration that no text derives, if there is one and it has a name.
+    Node(Option<Text>),
+    /// Memory was refused. This says nothing of the module.
+    OutOfMemory,
+}
+
+impl From<AllocError> for Unprintable {
+    ghost use Rattle.std.specs.Prelude.{◌≡◌};
+    ghost use Rattle.wgsl_check_unit.specs.declared.error.Unprintable.TheVariants.{OutOfMemory};
+
+    ghost from_gives = { λ _ error. error ≡ OutOfMemory };
+
+    fn from(_error: AllocError) -> Unprintable {
+        Unprintable::OutOfMemory
+    }
+}

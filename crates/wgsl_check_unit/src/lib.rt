@@ -1,0 +1,10 @@
+//! Whether some text derives a module: it is printed, and what is printed is parsed.
+#![tactic(auto)]
+
+mod check;
+mod derivable;
+mod error;
+mod told;
+
+pub use check::{check_unit, print_checked};
+pub use error::Unprintable;

@@ -1,0 +1,4 @@
+pub mod Simple
+pub mod Statements
+pub mod Declarations
+pub mod Laws

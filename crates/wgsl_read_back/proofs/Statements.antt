@@ -1,0 +1,235 @@
+-- The productions of statements: of those in which pieces may be absent, whichever of them are there (`StatementSteps` has each case).
+use Rattle.std.proofs.Common.{◌≡◌, refl, sym, ap, ◌∙◌, subst, ℕ, Bool, true, List, [], ◌∷◌, ◌++◌, append_assoc, append-nil, map, Option, Some, None}
+use Rattle.std.specs.Option.{option_map}
+use Rattle.wgsl_path.specs.declared.span.Spanned.{Spanned}
+use Rattle.wgsl_token.specs.declared.token.Fixed.TheVariants as f
+use Rattle.wgsl_template_spec.specs.declared.token.TemplateToken.{TemplateToken}
+use Rattle.wgsl_template_spec.specs.declared.token.SpannedTemplateToken.{SpannedTemplateToken}
+use Rattle.wgsl_token_layout.specs.Laws.{without_places}
+use Rattle.wgsl_token_layout.specs.OptionalMarks.{Before, outside}
+use Rattle.wgsl_expressions.specs.Tree.{Exp}
+use Rattle.wgsl_expressions.specs.View.{node_tree}
+use Rattle.wgsl_attributes.specs.Tree.{Attr}
+use Rattle.wgsl_simple_statements.specs.Tree as s
+use Rattle.wgsl_statements.specs.declared.statement.Statement.{Statement}
+use Rattle.wgsl_statements.specs.declared.statement.Statement.TheVariants as statement
+use Rattle.wgsl_statements.specs.declared.statement.ElseClauseOf.{ElseClauseOf}
+use Rattle.wgsl_statements.specs.declared.statement.ElseIfClauseOf.{ElseIfClauseOf}
+use Rattle.wgsl_statements.specs.Tree.{simple, compound_statement, if_statement, switch_statement, loop_statement, for_statement, while_statement, Stms, Block, block, Elses, no_else, else_clause, else_if_clause, Clauses, Continuing, Part as HeaderPart, absent, present}
+use Rattle.wgsl_statements.specs.View.{statement_tree, block_tree, elses_layer, continuing_layer, part_layer, part as header_part}
+use Rattle.wgsl_statements.proofs.Trees.{tree_of_void, tree_of_compound, tree_of_if, tree_of_switch, tree_of_loop, tree_of_for, tree_of_while}
+use Rattle.wgsl_tree_tokens.specs.Tokens.{mark, exp_tokens}
+use Rattle.wgsl_tree_tokens.specs.Printable.{is_apart}
+use Rattle.wgsl_tree_tokens.specs.Imports.{AttributesTokens}
+use Rattle.wgsl_module_tokens.specs.Simple.{SimpleTokens, value_tokens, value_is_apart}
+use Rattle.wgsl_module_tokens.specs.Statements.{PartTokens, no_part, a_part, in_braces, StmTokens, a_simple, a_compound, an_if, a_switch, a_loop, a_for, a_while, StmsTokens, BlockTokens, ElsesTokens, ClausesTokens, ContinuingTokens}
+use Rattle.wgsl_module_tokens.specs.Statements as m
+use Rattle.wgsl_shift_reduce.specs.Grammars.{Symbol, token, phrase}
+use Rattle.wgsl_parts.specs.Reading.{attributes_of, expression_in}
+use Rattle.wgsl_parts.specs.declared.part.Part.{Part}
+use Rattle.wgsl_parts.specs.declared.label.Label.TheVariants as l
+use Rattle.wgsl_parts.specs.declared.label.StatementLabel.TheVariants as label
+use Rattle.wgsl_phrases.specs.declared.phrase.Phrase.{Phrase}
+use Rattle.wgsl_phrases.specs.Gathering.{either}
+use Rattle.wgsl_make_declarations.specs.Reading.{statement_in, else_in, continuing_in, statements_of, else_ifs_of}
+use Rattle.wgsl_make_declarations.specs.Statements as make
+use Rattle.wgsl_grammar_tables.specs.Classes.{fixed_class}
+use Rattle.wgsl_read_back.proofs.Views.{View, view_tokens, Stands, an_expression, a_value, no_value, a_plain, a_header, no_header, a_statement, a_block, an_else, some_else_ifs, some_clauses, an_ending}
+use Rattle.wgsl_read_back.proofs.Views as v
+use Rattle.wgsl_read_back.proofs.Items.{OneToken}
+use Rattle.wgsl_read_back.proofs.Rows.{make_of, Rebuild}
+use Rattle.wgsl_read_back.proofs.Pieces.{StandAll, Pieces, end, a_mark, Fine, pieces_steps, Made, made_as, made_of_parts, pieces_back, of_no_part, of_one_part, of_three_parts, of_four_parts, of_five_parts, phrase_back}
+use Rattle.wgsl_read_back.proofs.Pieces as p
+use Rattle.wgsl_read_back.proofs.Families.{mark_item, mark_tokens}
+use Rattle.wgsl_read_back.proofs.AttributeRows.{attributes_are}
+use Rattle.wgsl_read_back.proofs.Plain.{PlainStated}
+use Rattle.wgsl_read_back.proofs.Blocks.{Blocked, StatementRead, a_stated, a_void, ElseIfsTokens, no_else_ifs, else_ifs_and}
+use Rattle.wgsl_read_back.proofs.Clauses.{statements_are}
+
+-- ---- a `;` alone, and statements that end in one
+
+pub void_statement : (n : ℕ) → {u : List SpannedTemplateToken} {x : Phrase Part} → OneToken (fixed_class f.Semicolon) u x → StatementRead n (u ++ []) (make_of (l.Statement label.VoidStatement) (1 ∷ []) (x ∷ []))
+void_statement n {u = u} {x = x} k =
+    let y : Spanned Statement = record { node = statement.Void; span = x.span } in
+    a_void y refl tree_of_void (passes x (ap (λ z. z.failure) (sym k.value))) (ap without_places (append-nil u) ∙ mark_tokens f.Semicolon k)
+  where
+    passes : (x : Phrase Part) → x.failure ≡ None → (make_of (l.Statement label.VoidStatement) (1 ∷ []) (x ∷ [])).failure ≡ None
+    passes x e = ap (λ z. either z None) e
+
+pub plain_statement : (n m : ℕ) → Rebuild n (phrase m ∷ token (fixed_class f.Semicolon) ∷ []) (l.Statement label.PlainStatement) (2 ∷ 1 ∷ []) → {a b : List SpannedTemplateToken} {x y : Phrase Part} → PlainStated m a x → OneToken (fixed_class f.Semicolon) b y
+    → StatementRead n (a ++ (b ++ [])) (make_of (l.Statement label.PlainStatement) (2 ∷ 1 ∷ []) (x ∷ y ∷ []))
+plain_statement n m rebuild {b = b} {y = y} g k =
+    let ts : List TemplateToken = g.1 ++ (mark f.Semicolon ∷ []) in
+    a_stated (a_simple g.2)
+    (pieces_back n (phrase m ∷ token (fixed_class f.Semicolon) ∷ []) (2 ∷ 1 ∷ []) (phrase m) (token (fixed_class f.Semicolon) ∷ []) (2 ∷ 1 ∷ []) (l.Statement label.PlainStatement) rebuild (v.statement (simple g.0) ts) (p.a_part g.3 (a_mark (mark_item f.Semicolon b y k) end)) refl
+    (makes g.0 g.1 ts) (λ b o. tt) (λ b o. refl) (λ b o. refl))
+  where
+    makes : (x : s.Simple) (ts us : List TemplateToken) (qs : List Part) → StandAll qs (v.plain x ts ∷ []) → Made (l.Statement label.PlainStatement) qs (v.statement (simple x) us)
+    makes x ts us = of_one_part (λ qs. Made (l.Statement label.PlainStatement) qs (v.statement (simple x) us)) go
+      where
+        go : (q : Part) → Stands q (v.plain x ts) → Made (l.Statement label.PlainStatement) (q ∷ []) (v.statement (simple x) us)
+        go q (a_plain y is tree) = made_as (l.Statement label.PlainStatement) (q ∷ []) (v.statement (simple x) us) (λ z. make.statement_at z y) (λ z i. make.placed z (is i ∷ [])) (λ z. a_statement _ refl tree) (λ z. refl) refl
+
+pub compound : (n m : ℕ) → Rebuild n (phrase m ∷ []) (l.Statement label.Compound) (2 ∷ []) → {u : List SpannedTemplateToken} {x : Phrase Part} → Blocked m u x → StatementRead n (u ++ []) (make_of (l.Statement label.Compound) (2 ∷ []) (x ∷ []))
+compound n m rebuild g =
+    a_stated (a_compound g.2)
+    (phrase_back n m (l.Statement label.Compound) rebuild (v.statement (compound_statement g.0) g.1) g.4 (append-nil g.1) (makes g.0 g.1) (λ b o. g.4.ended b o))
+  where
+    makes : (b : Block) (ts : List TemplateToken) (q : Part) → Stands q (v.block b ts) → Made (l.Statement label.Compound) (q ∷ []) (v.statement (compound_statement b) ts)
+    makes b ts q (a_block y is tree) =
+        made_as (l.Statement label.Compound) (q ∷ []) (v.statement (compound_statement b) ts) (λ z. make.statement_at z (statement.Compound y)) (λ z i. make.compound z (is i ∷ [])) (λ z. a_statement _ refl (tree_of_compound y ∙ (λ i. Some (compound_statement (tree i))))) (λ z. refl) refl
+
+-- ---- `if`
+
+abbrev pub elses_of : List (Exp × Block) → Option Block → Elses
+elses_of [] None = no_else
+elses_of [] (Some b) = else_clause b
+elses_of ((e, b) ∷ es) o = else_if_clause e b (elses_of es o)
+
+pub data OtherwiseTokens : Option Block → List TemplateToken → Type 0 where
+  nothing_else : OtherwiseTokens None []
+  else_tokens : {b : Block} {ts : List TemplateToken} → BlockTokens b ts → OtherwiseTokens (Some b) (mark f.Else ∷ ts)
+
+elses_tokens : {es : List (Exp × Block)} {o : Option Block} {ts us : List TemplateToken} → ElseIfsTokens es ts → OtherwiseTokens o us → ElsesTokens (elses_of es o) (ts ++ us)
+elses_tokens no_else_ifs nothing_else = m.none
+elses_tokens no_else_ifs (else_tokens h) = m.otherwise h
+elses_tokens {o = o} {us = ws} (else_ifs_and {e = e} {b = b} {es = es} {ts = ts} {us = us} i j k) h =
+    subst (ElsesTokens (else_if_clause e b (elses_of es o)))
+    (λ q. mark f.Else ∷ mark f.If ∷ ((ap (λ z. exp_tokens e ++ z) (sym (append_assoc ts us ws)) ∙ sym (append_assoc (exp_tokens e) (ts ++ us) ws) ∙ ap (λ z. z ++ ws) (sym (append_assoc (exp_tokens e) ts us))) q))
+    (m.else_if i j (elses_tokens k h))
+
+abbrev body_tree : ElseClauseOf Statement → Block
+body_tree c = block_tree c.body
+
+layer_is : (ys : List (ElseIfClauseOf Statement)) (last : Option (ElseClauseOf Statement)) → elses_layer statement_tree ys last ≡ elses_of (map (λ y. (node_tree y.expression, block_tree y.body)) ys) (option_map body_tree last)
+layer_is [] None = refl
+layer_is [] (Some c) = refl
+layer_is (y ∷ ys) last = ap (λ z. else_if_clause (node_tree y.expression) (block_tree y.body) z) (layer_is ys last)
+
+else_ifs_are : (p : Part) (es : List (Exp × Block)) (ts : List TemplateToken) → Stands p (v.else_ifs es ts) → map (λ y. (node_tree y.expression, block_tree y.body)) (else_ifs_of p) ≡ es
+else_ifs_are p es ts (some_else_ifs ys is trees) = ap (λ z. map (λ y. (node_tree y.expression, block_tree y.body)) (else_ifs_of z)) is ∙ trees
+else_ifs_are p _ _ (v.no_else_ifs is) = ap (λ z. map (λ y. (node_tree y.expression, block_tree y.body)) (else_ifs_of z)) is
+
+else_is : (p : Part) (o : Option Block) (ts : List TemplateToken) → Stands p (v.otherwise o ts) → option_map body_tree (else_in p) ≡ o
+else_is p _ ts (an_else y is tree) = ap (λ z. option_map body_tree (else_in z)) is ∙ ap Some tree
+else_is p _ _ (v.no_else is) = ap (λ z. option_map body_tree (else_in z)) is
+
+if_made : (xs : List Attr) (e : Exp) (b : Block) (es : List (Exp × Block)) (o : Option Block) (ts us vs ws zs : List TemplateToken) (qs : List Part)
+    → StandAll qs (v.attributes xs ts ∷ v.expression e ∷ v.block b us ∷ v.else_ifs es vs ∷ v.otherwise o ws ∷ []) → Made (l.Statement label.If) qs (v.statement (if_statement xs e b (elses_of es o)) zs)
+if_made xs e b es o ts us vs ws zs = of_five_parts (λ qs. Made (l.Statement label.If) qs (v.statement (if_statement xs e b (elses_of es o)) zs)) go
+  where
+    go : (p q r x y : Part) → Stands p (v.attributes xs ts) → Stands q (v.expression e) → Stands r (v.block b us) → Stands x (v.else_ifs es vs) → Stands y (v.otherwise o ws) → Made (l.Statement label.If) (p ∷ q ∷ r ∷ x ∷ y ∷ []) (v.statement (if_statement xs e b (elses_of es o)) zs)
+    go p q r x y h (an_expression n is same) (a_block k at tree) g i =
+        made_as (l.Statement label.If) (p ∷ q ∷ r ∷ x ∷ y ∷ []) (v.statement (if_statement xs e b (elses_of es o)) zs)
+        (λ z. make.statement_at z (statement.If (record { attributes = attributes_of p; if_clause = record { expression = n; body = k }; else_if_clauses = else_ifs_of x; else_clause = else_in y })))
+        (λ z j. make.if_statement z (p ∷ is j ∷ at j ∷ x ∷ y ∷ []))
+        (λ z. a_statement _ refl (tree_of_if (record { attributes = attributes_of p; if_clause = record { expression = n; body = k }; else_if_clauses = else_ifs_of x; else_clause = else_in y })
+        ∙ (λ j. Some (if_statement (attributes_are p xs ts h j) (same j) (tree j) ((layer_is (else_ifs_of x) (else_in y) ∙ (λ k. elses_of (else_ifs_are x es vs g k) (else_is y o ws i k))) j)))))
+        (λ z. refl) refl
+
+pub if_of : (n : ℕ) {ss : List Symbol} {ns : List ℕ} {r : Symbol} {rs : List Symbol} {ms : List ℕ} (rebuild : Rebuild n (r ∷ rs) (l.Statement label.If) ms) {u : List SpannedTemplateToken} {x : Phrase Part} {ys : List (Phrase Part)} {xs : List Attr} {e : Exp} {b : Block} {es : List (Exp × Block)} {o : Option Block}
+    (ts us vs ws tail : List TemplateToken) → tail ≡ us ++ (vs ++ ws) → AttributesTokens xs ts → is_apart e ≡ true → BlockTokens b us → ElseIfsTokens es vs → OtherwiseTokens o ws
+    → (p : Pieces ss ns (r ∷ rs) ms (ts ++ (mark f.If ∷ (exp_tokens e ++ tail))) (v.attributes xs ts ∷ v.expression e ∷ v.block b us ∷ v.else_ifs es vs ∷ v.otherwise o ws ∷ []) u (x ∷ ys)) → (fine : (b : Before) (q : List Bool) → Fine p b q)
+    → ((b : Before) (q : List Bool) → (pieces_steps p b q (fine b q)).opened ≡ q) → ((b : Before) (q : List Bool) → (pieces_steps p b q (fine b q)).last ≡ outside) → StatementRead n u (make_of (l.Statement label.If) ns (x ∷ ys))
+if_of n {ss = ss} {ns = ns} {r = r} {rs = rs} {ms = ms} rebuild {xs = xs} {e = e} {b = b} {es = es} {o = o} ts us vs ws tail same h i j k q p fine level ended =
+    let zs : List TemplateToken = ts ++ (mark f.If ∷ (exp_tokens e ++ (us ++ (vs ++ ws)))) in
+    a_stated (an_if h i j (elses_tokens k q)) (pieces_back n ss ns r rs ms (l.Statement label.If) rebuild (v.statement (if_statement xs e b (elses_of es o)) zs) p (ap (λ z. ts ++ (mark f.If ∷ (exp_tokens e ++ z))) same) (if_made xs e b es o ts us vs ws zs) fine level ended)
+
+-- ---- `switch`
+
+switch_made : (xs inner : List Attr) (e : Exp) (cs : Clauses) (ts us vs zs : List TemplateToken) (qs : List Part) → StandAll qs (v.attributes xs ts ∷ v.expression e ∷ v.attributes inner us ∷ v.clauses cs vs ∷ []) → Made (l.Statement label.Switch) qs (v.statement (switch_statement xs e inner cs) zs)
+switch_made xs inner e cs ts us vs zs = of_four_parts (λ qs. Made (l.Statement label.Switch) qs (v.statement (switch_statement xs e inner cs) zs)) go
+  where
+    go : (p q r x : Part) → Stands p (v.attributes xs ts) → Stands q (v.expression e) → Stands r (v.attributes inner us) → Stands x (v.clauses cs vs) → Made (l.Statement label.Switch) (p ∷ q ∷ r ∷ x ∷ []) (v.statement (switch_statement xs e inner cs) zs)
+    go p q r x h (an_expression n is same) g (some_clauses ys at cases) =
+        made_as (l.Statement label.Switch) (p ∷ q ∷ r ∷ x ∷ []) (v.statement (switch_statement xs e inner cs) zs)
+        (λ z. make.statement_at z (statement.Switch (record { attributes = attributes_of p; expression = n; body_attributes = attributes_of r; clauses = ys }))) (λ z j. make.switch_statement z (p ∷ is j ∷ r ∷ at j ∷ []))
+        (λ z. a_statement _ refl (tree_of_switch (record { attributes = attributes_of p; expression = n; body_attributes = attributes_of r; clauses = ys }) ∙ (λ j. Some (switch_statement (attributes_are p xs ts h j) (same j) (attributes_are r inner us g j) (cases j))))) (λ z. refl) refl
+
+pub switch_of : (n : ℕ) {ss : List Symbol} {ns : List ℕ} {r : Symbol} {rs : List Symbol} {ms : List ℕ} (rebuild : Rebuild n (r ∷ rs) (l.Statement label.Switch) ms) {u : List SpannedTemplateToken} {x : Phrase Part} {ys : List (Phrase Part)} {xs inner : List Attr} {e : Exp} {cs : Clauses} (ts us vs : List TemplateToken)
+    → AttributesTokens xs ts → is_apart e ≡ true → AttributesTokens inner us → ClausesTokens cs vs → (p : Pieces ss ns (r ∷ rs) ms (ts ++ (mark f.Switch ∷ (exp_tokens e ++ (us ++ in_braces vs)))) (v.attributes xs ts ∷ v.expression e ∷ v.attributes inner us ∷ v.clauses cs vs ∷ []) u (x ∷ ys))
+    → (fine : (b : Before) (q : List Bool) → Fine p b q) → ((b : Before) (q : List Bool) → (pieces_steps p b q (fine b q)).opened ≡ q) → ((b : Before) (q : List Bool) → (pieces_steps p b q (fine b q)).last ≡ outside) → StatementRead n u (make_of (l.Statement label.Switch) ns (x ∷ ys))
+switch_of n {ss = ss} {ns = ns} {r = r} {rs = rs} {ms = ms} rebuild {xs = xs} {inner = inner} {e = e} {cs = cs} ts us vs h i j k p fine level ended =
+    let zs : List TemplateToken = ts ++ (mark f.Switch ∷ (exp_tokens e ++ (us ++ in_braces vs))) in
+    a_stated (a_switch h i j k) (pieces_back n ss ns r rs ms (l.Statement label.Switch) rebuild (v.statement (switch_statement xs e inner cs) zs) p refl (switch_made xs inner e cs ts us vs zs) fine level ended)
+
+-- ---- `loop`
+
+continuing_is : (p : Part) (c : Continuing) (ts : List TemplateToken) → Stands p (v.ending c ts) → continuing_layer statement_tree (continuing_in p) ≡ c
+continuing_is p c ts (an_ending y is tree) = ap (λ z. continuing_layer statement_tree (continuing_in z)) is ∙ tree
+continuing_is p _ _ (v.no_ending is) = ap (λ z. continuing_layer statement_tree (continuing_in z)) is
+
+loop_made : (xs inner : List Attr) (body : Stms) (c : Continuing) (ts us vs ws zs : List TemplateToken) (qs : List Part) → StandAll qs (v.attributes xs ts ∷ v.attributes inner us ∷ v.statements body vs ∷ v.ending c ws ∷ []) → Made (l.Statement label.Loop) qs (v.statement (loop_statement xs (block inner body) c) zs)
+loop_made xs inner body c ts us vs ws zs = of_four_parts (λ qs. Made (l.Statement label.Loop) qs (v.statement (loop_statement xs (block inner body) c) zs)) (λ p q r x h g i k.
+    made_as (l.Statement label.Loop) (p ∷ q ∷ r ∷ x ∷ []) (v.statement (loop_statement xs (block inner body) c) zs)
+    (λ z. make.statement_at z (statement.Loop (record { attributes = attributes_of p; body = record { attributes = attributes_of q; statements = statements_of r }; continuing = continuing_in x }))) (λ z. refl)
+    (λ z. a_statement _ refl (tree_of_loop (record { attributes = attributes_of p; body = record { attributes = attributes_of q; statements = statements_of r }; continuing = continuing_in x })
+    ∙ (λ j. Some (loop_statement (attributes_are p xs ts h j) (block (attributes_are q inner us g j) (statements_are r body vs i j)) (continuing_is x c ws k j))))) (λ z. refl) refl)
+
+pub loop_of : (n : ℕ) {ss : List Symbol} {ns : List ℕ} {r : Symbol} {rs : List Symbol} {ms : List ℕ} (rebuild : Rebuild n (r ∷ rs) (l.Statement label.Loop) ms) {u : List SpannedTemplateToken} {x : Phrase Part} {ys : List (Phrase Part)} {xs inner : List Attr} {body : Stms} {c : Continuing} (ts us vs ws : List TemplateToken)
+    → AttributesTokens xs ts → AttributesTokens inner us → StmsTokens body vs → ContinuingTokens c ws
+    → (p : Pieces ss ns (r ∷ rs) ms (ts ++ (mark f.Loop ∷ (us ++ (mark f.BraceLeft ∷ (vs ++ (ws ++ (mark f.BraceRight ∷ []))))))) (v.attributes xs ts ∷ v.attributes inner us ∷ v.statements body vs ∷ v.ending c ws ∷ []) u (x ∷ ys)) → (fine : (b : Before) (q : List Bool) → Fine p b q)
+    → ((b : Before) (q : List Bool) → (pieces_steps p b q (fine b q)).opened ≡ q) → ((b : Before) (q : List Bool) → (pieces_steps p b q (fine b q)).last ≡ outside) → StatementRead n u (make_of (l.Statement label.Loop) ns (x ∷ ys))
+loop_of n {ss = ss} {ns = ns} {r = r} {rs = rs} {ms = ms} rebuild {xs = xs} {inner = inner} {body = body} {c = c} ts us vs ws h i j k p fine level ended =
+    let zs : List TemplateToken = ts ++ (mark f.Loop ∷ (us ++ in_braces (vs ++ ws))) in
+    a_stated (a_loop h i j k)
+    (pieces_back n ss ns r rs ms (l.Statement label.Loop) rebuild (v.statement (loop_statement xs (block inner body) c) zs) p (ap (λ z. ts ++ (mark f.Loop ∷ (us ++ (mark f.BraceLeft ∷ z)))) (sym (append_assoc vs ws (mark f.BraceRight ∷ [])))) (loop_made xs inner body c ts us vs ws zs) fine level ended)
+
+-- ---- `for` and `while`
+
+abbrev pub head_tree : Option s.Simple → HeaderPart
+head_tree None = absent
+head_tree (Some x) = present (simple x)
+
+head_is : (p : Part) (o : Option s.Simple) (ts : List TemplateToken) → Stands p (v.header o ts) → part_layer statement_tree (statement_in p) ≡ head_tree o
+head_is p _ ts (a_header y is tree) = ap (λ z. part_layer statement_tree (statement_in z)) is ∙ ap header_part tree
+head_is p _ _ (no_header is) = ap (λ z. part_layer statement_tree (statement_in z)) is
+
+condition_is : (p : Part) (o : Option Exp) → Stands p (v.value o) → option_map node_tree (expression_in p) ≡ o
+condition_is p _ (a_value n is same) = ap (λ z. option_map node_tree (expression_in z)) is ∙ ap Some same
+condition_is p _ (no_value is) = ap (λ z. option_map node_tree (expression_in z)) is
+
+for_made : (xs : List Attr) (first : Option s.Simple) (e : Option Exp) (update : Option s.Simple) (b : Block) (ts us vs ws zs : List TemplateToken) (qs : List Part)
+    → StandAll qs (v.attributes xs ts ∷ v.header first us ∷ v.value e ∷ v.header update vs ∷ v.block b ws ∷ []) → Made (l.Statement label.For) qs (v.statement (for_statement xs (head_tree first) e (head_tree update) b) zs)
+for_made xs first e update b ts us vs ws zs = of_five_parts (λ qs. Made (l.Statement label.For) qs (v.statement (for_statement xs (head_tree first) e (head_tree update) b) zs)) go
+  where
+    go : (p q r x y : Part) → Stands p (v.attributes xs ts) → Stands q (v.header first us) → Stands r (v.value e) → Stands x (v.header update vs) → Stands y (v.block b ws)
+        → Made (l.Statement label.For) (p ∷ q ∷ r ∷ x ∷ y ∷ []) (v.statement (for_statement xs (head_tree first) e (head_tree update) b) zs)
+    go p q r x y h g i j (a_block k at tree) =
+        made_as (l.Statement label.For) (p ∷ q ∷ r ∷ x ∷ y ∷ []) (v.statement (for_statement xs (head_tree first) e (head_tree update) b) zs)
+        (λ z. make.statement_at z (statement.For (record { attributes = attributes_of p; initializer = statement_in q; condition = expression_in r; update = statement_in x; body = k }))) (λ z n. make.for_statement z (p ∷ q ∷ r ∷ x ∷ at n ∷ []))
+        (λ z. a_statement _ refl (tree_of_for (record { attributes = attributes_of p; initializer = statement_in q; condition = expression_in r; update = statement_in x; body = k })
+        ∙ (λ n. Some (for_statement (attributes_are p xs ts h n) (head_is q first us g n) (condition_is r e i n) (head_is x update vs j n) (tree n))))) (λ z. refl) refl
+
+pub data HeadTokens : Option s.Simple → List TemplateToken → Type 0 where
+  no_head : HeadTokens None []
+  a_head : {x : s.Simple} {ts : List TemplateToken} → SimpleTokens x ts → HeadTokens (Some x) ts
+
+head_tokens : {o : Option s.Simple} {ts : List TemplateToken} → HeadTokens o ts → PartTokens (head_tree o) ts
+head_tokens no_head = no_part
+head_tokens (a_head h) = a_part h
+
+pub for_of : (n : ℕ) {ss : List Symbol} {ns : List ℕ} {r : Symbol} {rs : List Symbol} {ms : List ℕ} (rebuild : Rebuild n (r ∷ rs) (l.Statement label.For) ms) {u : List SpannedTemplateToken} {x : Phrase Part} {ys : List (Phrase Part)} {xs : List Attr} {first update : Option s.Simple} {e : Option Exp} {b : Block} (ts us vs ws : List TemplateToken)
+    → AttributesTokens xs ts → HeadTokens first us → value_is_apart e ≡ true → HeadTokens update vs → BlockTokens b ws
+    → (p : Pieces ss ns (r ∷ rs) ms (ts ++ (mark f.For ∷ mark f.ParenLeft ∷ (us ++ (mark f.Semicolon ∷ (value_tokens e ++ (mark f.Semicolon ∷ (vs ++ (mark f.ParenRight ∷ (ws ++ []))))))))) (v.attributes xs ts ∷ v.header first us ∷ v.value e ∷ v.header update vs ∷ v.block b ws ∷ []) u (x ∷ ys))
+    → (fine : (b : Before) (q : List Bool) → Fine p b q) → ((b : Before) (q : List Bool) → (pieces_steps p b q (fine b q)).opened ≡ q) → ((b : Before) (q : List Bool) → (pieces_steps p b q (fine b q)).last ≡ outside) → StatementRead n u (make_of (l.Statement label.For) ns (x ∷ ys))
+for_of n {ss = ss} {ns = ns} {r = r} {rs = rs} {ms = ms} rebuild {xs = xs} {first = first} {update = update} {e = e} {b = b} ts us vs ws h i j k g p fine level ended =
+    let zs : List TemplateToken = ts ++ (mark f.For ∷ mark f.ParenLeft ∷ (us ++ (mark f.Semicolon ∷ (value_tokens e ++ (mark f.Semicolon ∷ (vs ++ (mark f.ParenRight ∷ ws))))))) in
+    a_stated (a_for h (head_tokens i) j (head_tokens k) g)
+    (pieces_back n ss ns r rs ms (l.Statement label.For) rebuild (v.statement (for_statement xs (head_tree first) e (head_tree update) b) zs) p (ap (λ z. ts ++ (mark f.For ∷ mark f.ParenLeft ∷ (us ++ (mark f.Semicolon ∷ (value_tokens e ++ (mark f.Semicolon ∷ (vs ++ (mark f.ParenRight ∷ z)))))))) (append-nil ws))
+    (for_made xs first e update b ts us vs ws zs) fine level ended)
+
+while_made : (xs : List Attr) (e : Exp) (b : Block) (ts us zs : List TemplateToken) (qs : List Part) → StandAll qs (v.attributes xs ts ∷ v.expression e ∷ v.block b us ∷ []) → Made (l.Statement label.While) qs (v.statement (while_statement xs e b) zs)
+while_made xs e b ts us zs = of_three_parts (λ qs. Made (l.Statement label.While) qs (v.statement (while_statement xs e b) zs)) go
+  where
+    go : (p q r : Part) → Stands p (v.attributes xs ts) → Stands q (v.expression e) → Stands r (v.block b us) → Made (l.Statement label.While) (p ∷ q ∷ r ∷ []) (v.statement (while_statement xs e b) zs)
+    go p q r h (an_expression n is same) (a_block k at tree) =
+        made_as (l.Statement label.While) (p ∷ q ∷ r ∷ []) (v.statement (while_statement xs e b) zs) (λ z. make.statement_at z (statement.While (record { attributes = attributes_of p; condition = n; body = k }))) (λ z j. make.while_statement z (p ∷ is j ∷ at j ∷ []))
+        (λ z. a_statement _ refl (tree_of_while (record { attributes = attributes_of p; condition = n; body = k }) ∙ (λ j. Some (while_statement (attributes_are p xs ts h j) (same j) (tree j))))) (λ z. refl) refl
+
+pub while_of : (n : ℕ) {ss : List Symbol} {ns : List ℕ} {r : Symbol} {rs : List Symbol} {ms : List ℕ} (rebuild : Rebuild n (r ∷ rs) (l.Statement label.While) ms) {u : List SpannedTemplateToken} {x : Phrase Part} {ys : List (Phrase Part)} {xs : List Attr} {e : Exp} {b : Block} (ts us : List TemplateToken)
+    → AttributesTokens xs ts → is_apart e ≡ true → BlockTokens b us → (p : Pieces ss ns (r ∷ rs) ms (ts ++ (mark f.While ∷ (exp_tokens e ++ (us ++ [])))) (v.attributes xs ts ∷ v.expression e ∷ v.block b us ∷ []) u (x ∷ ys)) → (fine : (b : Before) (q : List Bool) → Fine p b q)
+    → ((b : Before) (q : List Bool) → (pieces_steps p b q (fine b q)).opened ≡ q) → ((b : Before) (q : List Bool) → (pieces_steps p b q (fine b q)).last ≡ outside) → StatementRead n u (make_of (l.Statement label.While) ns (x ∷ ys))
+while_of n {ss = ss} {ns = ns} {r = r} {rs = rs} {ms = ms} rebuild {xs = xs} {e = e} {b = b} ts us h i j p fine level ended =
+    let zs : List TemplateToken = ts ++ (mark f.While ∷ (exp_tokens e ++ us)) in
+    a_stated (a_while h i j) (pieces_back n ss ns r rs ms (l.Statement label.While) rebuild (v.statement (while_statement xs e b) zs) p (ap (λ z. ts ++ (mark f.While ∷ (exp_tokens e ++ z))) (append-nil us)) (while_made xs e b ts us zs) fine level ended)
