@@ -2,7 +2,6 @@
 
 use std::alloc::AllocError;
 use wesl_cond::CondCompError;
-use wgsl_check_unit::Unprintable;
 use wgsl_items::Text;
 use wgsl_parser::Error;
 
@@ -15,7 +14,7 @@ pub enum PrecompileError {
     Syntax(Error),
     /// The first error of its conditions.
     Condition(CondCompError),
-    /// No text derives what is left. The name is that of the first declaration that no text derives, if there is one and it has a name.
+    /// What is left is printed as a text that doesn't say it. The name is that of the first structure without members, if there is one.
     Unprintable(Option<Text>),
 }
 
@@ -27,19 +26,5 @@ impl From<AllocError> for PrecompileError {
 
     fn from(_error: AllocError) -> PrecompileError {
         PrecompileError::OutOfMemory
-    }
-}
-
-impl From<Unprintable> for PrecompileError {
-    ghost use Rattle.std.specs.Prelude.{◌≡◌};
-    ghost use Rattle.weslc_precompile.specs.Precompiling.{unprintable_as};
-
-    ghost from_gives = { λ value error. error ≡ unprintable_as value };
-
-    fn from(value: Unprintable) -> PrecompileError {
-        match value {
-            Unprintable::Node(name) => PrecompileError::Unprintable(name),
-            Unprintable::OutOfMemory => PrecompileError::OutOfMemory,
-        }
     }
 }

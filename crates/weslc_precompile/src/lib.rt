@@ -2,6 +2,7 @@
 #![tactic(auto)]
 
 mod error;
+mod print;
 mod text;
 
 pub use error::PrecompileError;

@@ -5,9 +5,9 @@ ghost use Rattle.wgsl_declarations.specs.View.{unit_tree};
 ghost use Rattle.weslc_precompile.specs.Precompiling.{Says, Precompiles, Fixes, refused_as};
 
 use crate::error::PrecompileError;
+use crate::print::print_back;
 use std::alloc::Global;
 use wesl_cond::{CondCompError, Features, run};
-use wgsl_check_unit::print_checked;
 use wgsl_declarations::TranslationUnit;
 use wgsl_parser::{Error, ErrorKind, parse_str};
 
@@ -28,7 +28,7 @@ fn fix(
 }
 
 /// The text of what is left of a module.
-#[tactic(auto, using(crate::proofs::Steps::fix_refused, crate::proofs::Steps::fixed_printed, crate::proofs::Steps::fixed_refused))]
+#[tactic(auto, using(crate::proofs::Steps::fix_refused))]
 fn left_text(
     alloc: Global,
     unit: TranslationUnit,
@@ -40,7 +40,7 @@ fn left_text(
 {
     let mut unit = unit;
     fix(alloc, &mut unit, features)?;
-    Ok(print_checked(alloc, unit)?)
+    print_back(alloc, unit)
 }
 
 fn refusal(error: Error) -> PrecompileError
@@ -55,7 +55,7 @@ fn refusal(error: Error) -> PrecompileError
 /// Fixes feature flags ahead in the text of a module, and prints what is left (WESL, "Conditional Translation"). What is printed says what is left:
 /// it is parsed again to see that.
 ///
-/// An error is the fault of the text, the first error of its conditions, or that no text derives what is left; or memory was refused.
+/// An error is the fault of the text, the first error of its conditions, or that what is left has no text; or memory was refused.
 #[tactic(auto, using(crate::proofs::Steps::fault_told))]
 pub fn precompile(alloc: Global, text: &str, features: &Features) -> Result<String, PrecompileError>
     ensures { Precompiles features.now text.now result }
