@@ -14,7 +14,7 @@ use stream::{Sink, Source};
 use weslc_bundle::serve_bundle;
 
 /// The files of calls.
-const CALLS: [&str; 7] = [
+const CALLS: [&str; 8] = [
     "types.txt",
     "pairs.txt",
     "part.txt",
@@ -22,6 +22,7 @@ const CALLS: [&str; 7] = [
     "parser.txt",
     "places.txt",
     "lists.txt",
+    "trees.txt",
 ];
 
 /// The files of inputs of the program, each a list.

@@ -14,7 +14,8 @@ pub enum PrecompileError {
     Syntax(Error),
     /// The first error of its conditions.
     Condition(CondCompError),
-    /// What is left is printed as a text that doesn't say it. The name is that of the first structure without members, if there is one.
+    /// No text derives what is left. The name is what `check_unit` tells of it: that of the first node that no text derives, or of the
+    /// declaration that holds it, if there is one.
     Unprintable(Option<Text>),
 }
 

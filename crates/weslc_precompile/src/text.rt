@@ -2,7 +2,8 @@
 
 ghost use Rattle.std.specs.Prelude.{◌≡◌};
 ghost use Rattle.wgsl_declarations.specs.View.{unit_tree};
-ghost use Rattle.weslc_precompile.specs.Precompiling.{Says, Precompiles, Fixes, refused_as};
+ghost use Rattle.wgsl_check_unit.specs.Derivable.{Says};
+ghost use Rattle.weslc_precompile.specs.Precompiling.{Precompiles, Fixes, refused_as};
 
 use crate::error::PrecompileError;
 use crate::print::print_back;
@@ -55,7 +56,8 @@ fn refusal(error: Error) -> PrecompileError
 /// Fixes feature flags ahead in the text of a module, and prints what is left (WESL, "Conditional Translation"). What is printed says what is left:
 /// it is parsed again to see that.
 ///
-/// An error is the fault of the text, the first error of its conditions, or that what is left has no text; or memory was refused.
+/// An error is the fault of the text, the first error of its conditions, or that no text derives what is left, as `check_unit` tells it; or
+/// memory was refused.
 #[tactic(auto, using(crate::proofs::Steps::fault_told))]
 pub fn precompile(alloc: Global, text: &str, features: &Features) -> Result<String, PrecompileError>
     ensures { Precompiles features.now text.now result }

@@ -2,7 +2,6 @@
 use Rattle.std.proofs.Common.{◌≡◌, refl, sym, ap, ◌∙◌, subst, ℕ, suc, ◌+◌, ◌<◌, length, drop, get_or, drop-cons, add-one, List, [], ◌∷◌, Bool, true, false, ◌⊎◌, inl, inr, Option, Some, None, Result, Ok, Err, String, string_bytes, Decides, IfOk, ◌≤◌}
 use Rattle.std.specs.List.{cons_option}
 use Rattle.std.proofs.lemmas.List.{drop_all}
-use Rattle.std.specs.Option.{option_and_then}
 use Rattle.std.specs.declared.alloc.Global.{Global}
 use Rattle.wgsl_declarations.specs.declared.unit.TranslationUnit.{TranslationUnit}
 use Rattle.wgsl_declarations.specs.Tree.{Decl, UnitTree}
@@ -19,9 +18,8 @@ use Rattle.wgsl_parser.proofs.Once.{module_apart}
 use Rattle.wgsl_read_back.proofs.ModuleLaws.{modules_are_read_back}
 use Rattle.wgsl_read_back.proofs.One.{texts_have_one_module}
 use Rattle.wgsl_check_unit.specs.declared.error.Unprintable.{Unprintable}
-use Rattle.wgsl_check_unit.specs.declared.error.Unprintable.TheVariants.{Node}
 use Rattle.wgsl_check_unit.specs.Derivable as told
-use Rattle.wgsl_check_unit.specs.Derivable.{Says, SaysTree, IsDerivable, alone, decl_name, IsTold, here, later, Checks, Prints}
+use Rattle.wgsl_check_unit.specs.Derivable.{Says, SaysTree, IsDerivable, holds, IsToldIn, IsTold, here, later, Checks, Prints}
 
 -- what some text derives, its printed text does
 printed_says : (u : UnitTree) → IsDerivable u → SaysTree (unit_text u) u
@@ -54,58 +52,52 @@ by_fault text u e is (inr memory) other = absurd (other (ap (λ x. x.kind) memor
 
 -- ---- the first declaration that no text derives
 
-abbrev holding : Spanned GlobalDeclaration → TranslationUnit
-holding d = record { imports = []; global_directives = []; global_declarations = d ∷ [] }
-
-abbrev holds_tree : Option Decl → UnitTree
-holds_tree o = record { imports = []; directives = []; declarations = cons_option o [] }
-
 blank : IsBlank []
 blank = record { characters = []; are_scalars = refl; spell = refl; lexes = (start, nothing) }
 
 -- a `;` alone is a module
-empty_derivable : IsDerivable (holds_tree None)
+empty_derivable : IsDerivable (holds None)
 empty_derivable = ([], record { unit = empty_unit; says = inr (blank, refl); tree = refl })
 
-front : (ds : List (Spanned GlobalDeclaration)) (k : ℕ) (d : Spanned GlobalDeclaration) → k < length ds → d ≡ get_or ds k d → drop k ds ≡ d ∷ drop (k + 1) ds
+pub front : {A : Type 0} (ds : List A) (k : ℕ) (d : A) → k < length ds → d ≡ get_or ds k d → drop k ds ≡ d ∷ drop (k + 1) ds
 front ds k d h is = drop-cons ds k d h ∙ ap (λ x. x ∷ drop (suc k) ds) (sym is) ∙ ap (λ n. d ∷ drop n ds) (sym (add-one k))
 
 -- of the declarations from a place on
 abbrev pub Leads : List (Spanned GlobalDeclaration) → ℕ → Type 0
 Leads ds k = (name : Option (List ℕ)) → IsTold (declarations_tree (drop k ds)) name → IsTold (declarations_tree ds) name
 
-never : {b : Bool} → b ≡ true → b ≡ false → ⊥
+pub never : {b : Bool} → b ≡ true → b ≡ false → ⊥
 never e h = let wrong : true ≡ false = sym e ∙ h in cc
 
-module _ (ds : List (Spanned GlobalDeclaration)) (k : ℕ) (d : Spanned GlobalDeclaration) (within : k < length ds) (is : d ≡ get_or ds k d) (leads : Leads ds k) (unit : TranslationUnit) (alone_is : unit ≡ holding d) (b : Bool) (test : Decides b (IsDerivable (unit_tree unit))) where
+module _ (ds : List (Spanned GlobalDeclaration)) (k : ℕ) (d : Spanned GlobalDeclaration) (within : k < length ds) (is : d ≡ get_or ds k d) (leads : Leads ds k) (made : GlobalDeclaration) (same : made ≡ d.node) (b : Bool) (test : Decides b (IsDerivable (holds (declaration_tree made)))) where
   told_so : {name : Option (List ℕ)} → IsTold (cons_option (declaration_tree d.node) (declarations_tree (drop (k + 1) ds))) name → IsTold (declarations_tree ds) name
   told_so {name = name} h = leads name (let P : List (Spanned GlobalDeclaration) → Type 0 = λ z. IsTold (declarations_tree z) name in subst P (sym (front ds k d within is)) h)
 
-  pub told_here : b ≡ false → (name : Option (List ℕ)) → name ≡ option_and_then decl_name (declaration_tree d.node) → IsTold (declarations_tree ds) name
-  told_here off name same = told_so (go (declaration_tree d.node) refl)
+  pub told_here : b ≡ false → (name : Option (List ℕ)) → IsToldIn (declaration_tree d.node) name → IsTold (declarations_tree ds) name
+  told_here off name named = told_so (go (declaration_tree d.node) refl)
     where
-      none : IsDerivable (holds_tree (declaration_tree d.node)) → ⊥
-      none h = let P : TranslationUnit → Type 0 = λ z. IsDerivable (unit_tree z) in never (test.1 (subst P (sym alone_is) h)) off
+      none : IsDerivable (holds (declaration_tree d.node)) → ⊥
+      none h = let P : GlobalDeclaration → Type 0 = λ z. IsDerivable (holds (declaration_tree z)) in never (test.1 (subst P (sym same) h)) off
 
       go : (o : Option Decl) → declaration_tree d.node ≡ o → IsTold (cons_option (declaration_tree d.node) (declarations_tree (drop (k + 1) ds))) name
-      go None e = absurd (none (let P : Option Decl → Type 0 = λ z. IsDerivable (holds_tree z) in subst P (sym e) empty_derivable))
+      go None e = absurd (none (let P : Option Decl → Type 0 = λ z. IsDerivable (holds z) in subst P (sym e) empty_derivable))
       go (Some t) e =
           let P : Option Decl → Type 0 = λ z. IsTold (cons_option z (declarations_tree (drop (k + 1) ds))) name in
-          let Q : Option (List ℕ) → Type 0 = λ z. IsTold (t ∷ declarations_tree (drop (k + 1) ds)) z in
-          let R : Option Decl → Type 0 = λ z. IsDerivable (holds_tree z) → ⊥ in
-          subst P (sym e) (subst Q (sym (same ∙ ap (option_and_then decl_name) e)) (here (subst R e none)))
+          let Q : Option Decl → Type 0 = λ z. IsToldIn z name in
+          let R : Option Decl → Type 0 = λ z. IsDerivable (holds z) → ⊥ in
+          subst P (sym e) (here (subst R e none) (subst Q e named))
 
   pub told_later : b ≡ true → Leads ds (k + 1)
   told_later on name h = told_so (go (declaration_tree d.node) refl)
     where
-      some : IsDerivable (holds_tree (declaration_tree d.node))
-      some = let P : TranslationUnit → Type 0 = λ z. IsDerivable (unit_tree z) in subst P alone_is (test.0 on)
+      some : IsDerivable (holds (declaration_tree d.node))
+      some = let P : GlobalDeclaration → Type 0 = λ z. IsDerivable (holds (declaration_tree z)) in subst P same (test.0 on)
 
       go : (o : Option Decl) → declaration_tree d.node ≡ o → IsTold (cons_option (declaration_tree d.node) (declarations_tree (drop (k + 1) ds))) name
       go None e = let P : Option Decl → Type 0 = λ z. IsTold (cons_option z (declarations_tree (drop (k + 1) ds))) name in subst P (sym e) h
       go (Some t) e =
           let P : Option Decl → Type 0 = λ z. IsTold (cons_option z (declarations_tree (drop (k + 1) ds))) name in
-          let R : Option Decl → Type 0 = λ z. IsDerivable (holds_tree z) in
+          let R : Option Decl → Type 0 = λ z. IsDerivable (holds z) in
           subst P (sym e) (later (subst R e some) h)
 
 -- where there is none

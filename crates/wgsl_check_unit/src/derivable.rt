@@ -1,13 +1,15 @@
 //! Modules whose printed text is parsed.
 
 ghost use Rattle.std.specs.Prelude.{◌≡◌, Decides, IfOk};
-ghost use Rattle.wgsl_declarations.specs.View.{unit_tree};
+ghost use Rattle.wgsl_declarations.specs.View.{declaration_tree, unit_tree};
 ghost use Rattle.wgsl_declarations.specs.Print.{unit_text};
-ghost use Rattle.wgsl_check_unit.specs.Derivable.{IsDerivable};
+ghost use Rattle.wgsl_check_unit.specs.Derivable.{IsDerivable, holds};
 
 use std::alloc::{AllocError, Global};
-use wgsl_declarations::TranslationUnit;
+use wgsl_declarations::{GlobalDeclaration, TranslationUnit};
+use wgsl_items::FromIn;
 use wgsl_parser::{ErrorKind, parse_str};
+use wgsl_path::Spanned;
 use wgsl_voids::remove_voids;
 
 /// Whether another module stands for the same tree. Both lose their empty items.
@@ -41,8 +43,21 @@ pub(crate) fn is_said(
     }
 }
 
+/// Whether some text derives the module of a declaration alone.
+pub(crate) fn is_derivable_alone(
+    alloc: Global,
+    declaration: GlobalDeclaration,
+) -> Result<bool, AllocError>
+    ensures { IfOk result (λ derivable. Decides derivable (IsDerivable (holds (declaration_tree declaration)))) }
+{
+    let mut unit = TranslationUnit::new(alloc);
+    unit.global_declarations
+        .push(Spanned::from_in(alloc, declaration)?)?;
+    is_derivable(alloc, unit)
+}
+
 /// Whether some text derives a module.
-pub(crate) fn is_derivable(alloc: Global, unit: TranslationUnit) -> Result<bool, AllocError>
+fn is_derivable(alloc: Global, unit: TranslationUnit) -> Result<bool, AllocError>
     ensures { IfOk result (λ derivable. Decides derivable (IsDerivable (unit_tree unit))) }
 {
     let mut unit = unit;

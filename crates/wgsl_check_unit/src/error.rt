@@ -6,7 +6,8 @@ use wgsl_items::Text;
 /// Why a module has no text.
 #[derive(Debug, Drop, PartialEq)]
 pub enum Unprintable {
-    /// No text derives the module. The name is that of the first declaration that no text derives, if there is one and it has a name.
+    /// No text derives the module. The name is that of the first node that no text derives, in the order of the text, though one derives
+    /// each of its parts; or that of the declaration that holds it, where the node has no name. `check_unit` tells which nodes have names.
     Node(Option<Text>),
     /// Memory was refused. This says nothing of the module.
     OutOfMemory,

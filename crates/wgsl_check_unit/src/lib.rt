@@ -4,6 +4,8 @@
 mod check;
 mod derivable;
 mod error;
+mod named;
+mod placed;
 mod told;
 
 pub use check::{check_unit, print_checked};

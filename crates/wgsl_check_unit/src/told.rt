@@ -1,23 +1,16 @@
-//! The first declaration that no text derives.
+//! What is told of a module that no text derives.
 
-ghost use Rattle.std.specs.Prelude.{◌≡◌, ◌∷◌, [], IfOk};
+ghost use Rattle.std.specs.Prelude.{◌≡◌, IfOk};
 ghost use Rattle.std.specs.Option.{option_copied, option_and_then};
 ghost use Rattle.wgsl_declarations.specs.View.{declaration_tree, declarations_tree};
-ghost use Rattle.wgsl_check_unit.specs.Derivable.{decl_name, IsTold};
+ghost use Rattle.wgsl_check_unit.specs.Derivable.{decl_name, IsTold, IsToldIn};
 
-use crate::derivable::is_derivable;
+use crate::derivable::is_derivable_alone;
+use crate::named::named;
 use std::alloc::{AllocError, Global};
-use wgsl_declarations::{GlobalDeclaration, GlobalDeclarationNode, TranslationUnit};
+use wgsl_declarations::{GlobalDeclaration, GlobalDeclarationNode};
 use wgsl_items::{CloneIn, Text};
-
-/// The module of one declaration.
-fn alone(alloc: Global, declaration: &GlobalDeclarationNode) -> Result<TranslationUnit, AllocError>
-    ensures { IfOk result (λ unit. unit ≡ record { imports = []; global_directives = []; global_declarations = declaration.now ∷ [] }) }
-{
-    let mut unit = TranslationUnit::new(alloc);
-    unit.global_declarations.push(declaration.clone_in(alloc)?)?;
-    Ok(unit)
-}
+use wgsl_nodes_in_order::find_nodes;
 
 /// The name of a declaration.
 fn name(declaration: &GlobalDeclaration) -> Option<&str>
@@ -33,17 +26,15 @@ fn name(declaration: &GlobalDeclaration) -> Option<&str>
     }
 }
 
-/// A copy of a name.
-fn copied(alloc: Global, name: Option<&str>) -> Result<Option<Text>, AllocError>
-    ensures { IfOk result (λ copy. copy ≡ option_copied name.entry) }
+/// The name of the first node of a declaration that no text derives, else the declaration's.
+fn told_in(alloc: Global, declaration: &GlobalDeclaration) -> Result<Option<Text>, AllocError>
+    ensures { IfOk result (IsToldIn (declaration_tree declaration.now)) }
 {
-    match name {
-        Some(name) => Ok(Some(Text::from_str(alloc, name)?)),
-        None => Ok(None),
-    }
+    let nodes = find_nodes(alloc, declaration)?;
+    named(alloc, nodes.as_slice(), name(declaration))
 }
 
-/// The name of the first declaration that no text derives.
+/// The name of the first node that no text derives, in the first declaration that no text derives.
 pub(crate) fn told(
     alloc: Global,
     declarations: &[GlobalDeclarationNode],
@@ -51,8 +42,8 @@ pub(crate) fn told(
     ensures { IfOk result (λ name. IsTold (declarations_tree declarations.now) name) }
 {
     for declaration in declarations {
-        if !is_derivable(alloc, alone(alloc, declaration)?)? {
-            return copied(alloc, name(declaration.node()));
+        if !is_derivable_alone(alloc, declaration.node().clone_in(alloc)?)? {
+            return told_in(alloc, declaration.node());
         }
     }
     Ok(None)

@@ -1,13 +1,14 @@
 //! What each call answers: the tree's text, with `\n` for each line's end, or the error's kind and place. A fault's call
-//! answers `none` in place of the tree's text. Tokens and template lists have calls of their own.
+//! answers `none` in place of the tree's text. Tokens, template lists and modules with another name have calls of their own.
 
-use crate::{lists, places};
+use crate::{lists, made, places};
 use std::alloc::{AllocError, Global};
 use std::fmt::{Display, Write};
 use wgsl_parser::{
     Error, check_str, parse_declaration, parse_declaration_kind, parse_directive, parse_expression,
     parse_import, parse_statement, parse_str,
 };
+use wgsl_part::{NarrowError, narrow};
 
 /// The text before the first tab, and the text behind it.
 pub fn cut(text: &str) -> (&str, &str) {
@@ -28,7 +29,24 @@ pub fn answer(alloc: Global, case: &str) -> Result<String, AllocError> {
         "fault" => fault(alloc, text),
         "told" => places::told(alloc, text),
         "source" => places::with_source(alloc, text),
+        "narrowed" => narrowed(alloc, text),
+        "made" => {
+            let (text, name) = cut(text);
+            made::answer(alloc, text, name)
+        }
         call => lists::answer(alloc, call, text),
+    }
+}
+
+/// What is printed of a module as a unit of the part.
+fn narrowed(alloc: Global, text: &str) -> Result<String, AllocError> {
+    match parse_str(alloc, text) {
+        Ok(unit) => match narrow(alloc, &unit) {
+            Ok(unit) => on_one_line(alloc, &unit),
+            Err(NarrowError::Unsupported) => String::from_str(alloc, "unsupported"),
+            Err(NarrowError::OutOfMemory) => Err(AllocError),
+        },
+        Err(error) => told(alloc, error),
     }
 }
 

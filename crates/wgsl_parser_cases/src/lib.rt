@@ -4,6 +4,7 @@
 mod answers;
 mod escapes;
 mod lists;
+mod made;
 mod places;
 
 pub use answers::answer;

@@ -1,0 +1,10 @@
+//! The nodes of a declaration, in the order in which they end in its text.
+#![tactic(auto)]
+
+mod find;
+mod find_declarations;
+mod find_statements;
+mod node;
+
+pub use find_declarations::find_nodes;
+pub use node::NodeRef;

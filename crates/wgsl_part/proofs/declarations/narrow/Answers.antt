@@ -1,0 +1,6 @@
+use Rattle.wgsl_declarations.specs.View as whole
+use Rattle.wgsl_part.proofs.Lying.{narrows}
+use Rattle.wgsl_part.proofs.declarations.narrow.Goals as goal
+
+pub returns : goal.returns
+returns c = narrows (whole.unit_tree c.args.unit.now) c.narrowed.result c.narrowed.ensures

@@ -1,0 +1,8 @@
+use Rattle.std.proofs.Common.{◌≡◌, drop, map}
+use Rattle.wgsl_declarations.specs.View as whole
+use Rattle.wgsl_part.specs.Trees.{parameters_tree}
+use Rattle.wgsl_part.specs.Narrowing.{each, narrow_param, in_front}
+use Rattle.wgsl_part.proofs.declarations.narrow_parameters.Given as goal
+
+abbrev pub invariant-loop-parameter : goal.invariant-loop-parameter
+invariant-loop-parameter l = in_front (parameters_tree l.narrowed) (each narrow_param (map whole.parameter_tree (drop l.parameter-index l.parameters))) ≡ each narrow_param (map whole.parameter_tree l.parameters)

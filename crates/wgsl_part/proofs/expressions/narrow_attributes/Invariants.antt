@@ -1,0 +1,8 @@
+use Rattle.std.proofs.Common.{◌≡◌, drop}
+use Rattle.wgsl_attributes.specs.View as whole
+use Rattle.wgsl_syntax.specs.View.{attributes_tree}
+use Rattle.wgsl_part.specs.Narrowing.{narrow_attrs, in_front}
+use Rattle.wgsl_part.proofs.expressions.narrow_attributes.Given as goal
+
+abbrev pub invariant-loop-attribute : goal.invariant-loop-attribute
+invariant-loop-attribute l = in_front (attributes_tree l.narrowed) (narrow_attrs (whole.attributes_tree (drop l.attribute-index l.attributes))) ≡ narrow_attrs (whole.attributes_tree l.attributes)

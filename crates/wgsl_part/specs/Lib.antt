@@ -1,0 +1,4 @@
+pub mod Widening
+pub mod Trees
+pub mod Narrowing
+pub mod Laws

@@ -1,0 +1,10 @@
+//! The trees of the part of the language (`wgsl_syntax`), among the trees of the whole language.
+#![tactic(auto)]
+
+mod declarations;
+mod error;
+mod expressions;
+pub mod laws;
+
+pub use declarations::narrow;
+pub use error::NarrowError;
