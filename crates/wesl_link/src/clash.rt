@@ -1,10 +1,10 @@
 //! Names of the linked unit that are read otherwise than meant.
 
-ghost use Rattle.std.specs.Prelude.{◌≡◌, Some, None, IfOk, OnOk, if◌then◌else◌, ◌++◌, string_bytes};
+ghost use Rattle.std.specs.Prelude.{◌≡◌, [], Some, None, IfOk, OnOk, if◌then◌else◌, ◌++◌, string_bytes};
 ghost use Rattle.std.specs.BTreeMap.{IsOrdered};
 ghost use Rattle.std.specs.String.{string_cmp};
 ghost use Rattle.wgsl_syntax.specs.View.{declaration_tree};
-ghost use Rattle.wesl_link_spec.specs.Occurrences.{locals};
+ghost use Rattle.wesl_link_spec.specs.Occurrences.{locals, names_before, names_behind, names_in_body};
 ghost use Rattle.wesl_link.specs.Clashing as spec;
 ghost use Rattle.wesl_link.specs.Clashing.{sharing_at, sharing_in};
 ghost use Rattle.wesl_reach.specs.Closing.{held_at};
@@ -177,23 +177,58 @@ impl Resolutions {
     ) -> Result<Option<Text>, AllocError>
         ensures { IfOk result (λ clash. clash ≡ spec.declaration_clash (sharing_at sharing.now) (printed_names self.now «module».now) name.now (declaration_tree declaration.now)) }
     {
-        let outside = Scope::module(alloc);
         let before = names_before(alloc, declaration)?;
-        let clash = self.first_clash(alloc, sharing, module, &outside, before.as_slice())?;
-        if clash.is_some() {
-            return Ok(clash);
+        match self.clash_within(alloc, sharing, module, Scope::module(alloc), before)? {
+            Some(clash) => Ok(Some(clash)),
+            None if is_shared(sharing, name) => Ok(Some(Text::from_str(alloc, name)?)),
+            None => self.clash_behind(alloc, sharing, module, declaration),
         }
-        if is_shared(sharing, name) {
-            return Ok(Some(Text::from_str(alloc, name)?));
-        }
+    }
+
+    /// The first name that clashes behind a declaration's own name: in the scope of the module, then in the body.
+    fn clash_behind(
+        &self,
+        alloc: Global,
+        sharing: &Sharing<'_>,
+        module: &Module,
+        declaration: &GlobalDeclaration,
+    ) -> Result<Option<Text>, AllocError>
+        ensures { IfOk result (λ clash. clash ≡ spec.or_else (spec.names_clash (sharing_at sharing.now) (printed_names self.now «module».now) [] (names_behind (declaration_tree declaration.now)))
+            (spec.names_clash (sharing_at sharing.now) (printed_names self.now «module».now) (locals (declaration_tree declaration.now)) (names_in_body (declaration_tree declaration.now)))) }
+    {
         let behind = names_behind(alloc, declaration)?;
-        let clash = self.first_clash(alloc, sharing, module, &outside, behind.as_slice())?;
-        if clash.is_some() {
-            return Ok(clash);
+        match self.clash_within(alloc, sharing, module, Scope::module(alloc), behind)? {
+            Some(clash) => Ok(Some(clash)),
+            None => self.clash_in_body(alloc, sharing, module, declaration),
         }
-        let body = scope_of(alloc, declaration)?;
+    }
+
+    fn clash_in_body(
+        &self,
+        alloc: Global,
+        sharing: &Sharing<'_>,
+        module: &Module,
+        declaration: &GlobalDeclaration,
+    ) -> Result<Option<Text>, AllocError>
+        ensures { IfOk result (λ clash. clash ≡ spec.names_clash (sharing_at sharing.now) (printed_names self.now «module».now) (locals (declaration_tree declaration.now)) (names_in_body (declaration_tree declaration.now))) }
+    {
         let inside = names_in_body(alloc, declaration)?;
-        self.first_clash(alloc, sharing, module, &body, inside.as_slice())
+        let body = scope_of(alloc, declaration)?;
+        self.clash_within(alloc, sharing, module, body, inside)
+    }
+
+    /// The first of the names of a scope that clashes there.
+    fn clash_within(
+        &self,
+        alloc: Global,
+        sharing: &Sharing<'_>,
+        module: &Module,
+        scope: Scope<'_>,
+        names: Vec<&str>,
+    ) -> Result<Option<Text>, AllocError>
+        ensures { IfOk result (λ clash. clash ≡ spec.names_clash (sharing_at sharing.now) (printed_names self.now «module».now) scope.entry (texts names.entry.items)) }
+    {
+        self.first_clash(alloc, sharing, module, &scope, names.as_slice())
     }
 
     fn first_clash(

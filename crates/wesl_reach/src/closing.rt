@@ -396,11 +396,11 @@ fn ask(alloc: Global, asked: &mut Asked, target: &Target) -> Result<(), AllocErr
     ensures by_import { (ms : LoadedModules) → IsNamedInTable ms target.now.path → AreAskedByImport ms asked.old → OnOk result (AreAskedByImport ms asked.new) }
     ensures asks { OnOk result ((s : Sought) → asks asked.new s ≡ asks_too (string_bytes target.now.printed_path) target.now.item asked.old s) }
 {
+    let key = target.printed_path.clone()?;
+    let item = String::from_str(alloc, target.item.as_str())?;
     let mut module = take_asked(alloc, asked, target)?;
-    module
-        .names
-        .insert(String::from_str(alloc, target.item.as_str())?)?;
-    asked.insert(target.printed_path.clone()?, module)?;
+    module.names.insert(item)?;
+    drop(asked.insert(key, module)?);
     Ok(())
 }
 

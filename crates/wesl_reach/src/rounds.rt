@@ -50,6 +50,7 @@ pub fn load_reached<R: Resolver>(
     ensures same_names { R.display_names resolver.new ≡ R.display_names resolver.old }
 {
     if max_modules == 0 {
+        drop(unit);
         return Err(ImportError::TooManyModules(path.clone_in(alloc)?));
     }
     let root = path.to_string(alloc)?;
@@ -212,6 +213,6 @@ fn insert_module(
 ) -> Result<(), AllocError>
     ensures { OnOk result (IsInsertedAt modules.old text.now «module» modules.new) }
 {
-    modules.insert(String::from_str(alloc, text)?, module)?;
+    drop(modules.insert(String::from_str(alloc, text)?, module)?);
     Ok(())
 }

@@ -12,7 +12,7 @@ ghost use Rattle.wesl_rename.specs.Renaming.{renamed_at};
 use crate::naming::{BodyNaming, Naming};
 use crate::scope::Scope;
 use std::alloc::{AllocError, Global};
-use wgsl_items::{Boxed, CloneIn, Items, Text};
+use wgsl_items::{Boxed, CloneIn, Items, Text, both, three};
 use wgsl_path::{Ident, Spanned};
 use wgsl_syntax::{
     Attribute, AttributeNode, Attributes, BinaryExpression, CompoundStatement, Declaration,
@@ -52,10 +52,14 @@ fn renamed_value<N: Naming>(
 ) -> Result<Declaration, AllocError>
     ensures { IfOk result (λ renamed. declaration_tree (global.Declaration renamed) ≡ spec.renamed_declaration (N.gives naming.now) (declaration_tree (global.Declaration declaration.now))) }
 {
-    let attributes = renamed_attributes(alloc, naming, &declaration.attributes)?;
-    let ident = renamed_ident(alloc, naming, &declaration.ident)?;
-    let ty = renamed_maybe(alloc, naming, &declaration.ty)?;
-    let initializer = renamed_maybe_node(alloc, naming, &declaration.initializer)?;
+    let attributes = renamed_attributes(alloc, naming, &declaration.attributes);
+    let ident = renamed_ident(alloc, naming, &declaration.ident);
+    let ty = renamed_maybe(alloc, naming, &declaration.ty);
+    let initializer = renamed_maybe_node(alloc, naming, &declaration.initializer);
+    let ((attributes, ident), (ty, initializer)) = both(
+        both(attributes, ident),
+        both(ty, initializer),
+    )?;
     Ok(Declaration {
         attributes,
         kind: declaration.kind,
@@ -85,12 +89,17 @@ fn renamed_function<N: Naming + Copy>(
 ) -> Result<Function, AllocError>
     ensures { IfOk result (λ renamed. declaration_tree (global.Function renamed) ≡ spec.renamed_declaration (N.gives naming) (declaration_tree (global.Function function.now))) }
 {
-    let attributes = renamed_attributes(alloc, &naming, &function.attributes)?;
-    let ident = renamed_ident(alloc, &naming, &function.ident)?;
-    let parameters = renamed_parameters(alloc, &naming, function.parameters.as_slice())?;
-    let return_attributes = renamed_attributes(alloc, &naming, &function.return_attributes)?;
-    let return_type = renamed_maybe(alloc, &naming, &function.return_type)?;
-    let body = renamed_body(alloc, naming, function)?;
+    let attributes = renamed_attributes(alloc, &naming, &function.attributes);
+    let ident = renamed_ident(alloc, &naming, &function.ident);
+    let parameters = renamed_parameters(alloc, &naming, function.parameters.as_slice());
+    let return_attributes = renamed_attributes(alloc, &naming, &function.return_attributes);
+    let return_type = renamed_maybe(alloc, &naming, &function.return_type);
+    let body = renamed_body(alloc, naming, function);
+    let before = three(attributes, ident, parameters);
+    let behind = three(return_attributes, return_type, body);
+    let ((attributes, ident, parameters), (return_attributes, return_type, body)) = both(
+        before, behind,
+    )?;
     Ok(Function {
         attributes,
         ident,
@@ -138,10 +147,14 @@ fn renamed_parameter<N: Naming>(
 ) -> Result<FormalParameter, AllocError>
     ensures { IfOk result (λ renamed. parameter_tree renamed ≡ spec.renamed_parameter (N.gives naming.now) (parameter_tree parameter.now)) }
 {
+    let attributes = renamed_attributes(alloc, naming, &parameter.attributes);
+    let ident = parameter.ident.clone_in(alloc);
+    let ty = renamed_type(alloc, naming, &parameter.ty);
+    let (attributes, ident, ty) = three(attributes, ident, ty)?;
     Ok(FormalParameter {
-        attributes: renamed_attributes(alloc, naming, &parameter.attributes)?,
-        ident: parameter.ident.clone_in(alloc)?,
-        ty: renamed_type(alloc, naming, &parameter.ty)?,
+        attributes,
+        ident,
+        ty,
     })
 }
 

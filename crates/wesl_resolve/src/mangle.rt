@@ -1,7 +1,7 @@
 //! Names of items that tell apart the modules that declare them.
 
-ghost use Rattle.std.specs.Prelude.{◌≡◌, ◌++◌, IfOk, OnOk};
-ghost use Rattle.wesl_resolve.specs.Mangling.{mangled, mangled_origin, escaped, more_supers};
+ghost use Rattle.std.specs.Prelude.{◌≡◌, ◌++◌, ◌∷◌, IfOk, OnOk};
+ghost use Rattle.wesl_resolve.specs.Mangling.{mangled, mangled_origin, escaped, escaped_parts, more_supers};
 
 use std::alloc::{AllocError, Global};
 use wgsl_items::Text;
@@ -18,15 +18,28 @@ impl EscapeMangler {
         ensures { IfOk result (λ name. name ≡ mangled path.now item.now) }
     {
         let mut name = Text::new(alloc);
-        push_origin(alloc, &mut name, &path.origin)?;
-        for component in path.components.as_slice() {
-            name.push_str("_")?;
-            push_escaped(alloc, &mut name, component.as_str())?;
-        }
-        name.push_str("_")?;
-        push_escaped(alloc, &mut name, item)?;
+        push_path(alloc, &mut name, path)?;
+        push_part(alloc, &mut name, item)?;
         Ok(name)
     }
+}
+
+fn push_path(alloc: Global, name: &mut Text, path: &ModulePath) -> Result<(), AllocError>
+    ensures { OnOk result (name.new ≡ name.old ++ mangled_origin path.now.origin ++ escaped_parts path.now.components) }
+{
+    push_origin(alloc, name, &path.origin)?;
+    for component in path.components.as_slice() {
+        push_part(alloc, name, component.as_str())?;
+    }
+    Ok(())
+}
+
+/// A part of a name, behind `_`.
+fn push_part(alloc: Global, name: &mut Text, part: &str) -> Result<(), AllocError>
+    ensures { OnOk result (name.new ≡ name.old ++ 95 ∷ escaped part.now) }
+{
+    name.push_str("_")?;
+    push_escaped(alloc, name, part)
 }
 
 fn push_origin(alloc: Global, name: &mut Text, origin: &PathOrigin) -> Result<(), AllocError>

@@ -88,12 +88,11 @@ impl BasicSourceMap {
         ensures sources { self.new.sources ≡ self.old.sources }
         ensures default_source { self.new.default_source ≡ self.old.default_source }
     {
-        let value = SourceDecl {
-            module: module.clone_in(self.alloc)?,
-            item: Text::from_str(self.alloc, item)?,
-        };
-        self.decls
-            .insert(String::from_str(self.alloc, decl)?, value)?;
+        let key = String::from_str(self.alloc, decl)?;
+        let item = Text::from_str(self.alloc, item)?;
+        let module = module.clone_in(self.alloc)?;
+        let value = SourceDecl { module, item };
+        drop(self.decls.insert(key, value)?);
         Ok(())
     }
 
@@ -112,7 +111,7 @@ impl BasicSourceMap {
         ensures default_source { self.new.default_source ≡ self.old.default_source }
     {
         let value = Source { text, display_name };
-        self.sources.insert(path.to_string(self.alloc)?, value)?;
+        drop(self.sources.insert(path.to_string(self.alloc)?, value)?);
         Ok(())
     }
 

@@ -1,14 +1,10 @@
 -- The table of a module's names, an entry after another.
 use Rattle.std.proofs.Common.{◌≡◌, ◌≢◌, refl, sym, ap, ◌∙◌, subst, ℕ, zero, suc, ◌+◌, ◌<◌, ◌≤◌, List, [], ◌∷◌, ◌++◌, take, drop, get_or, length, map, Bool, true, false, Option, Some, None, Result, Ok, Err, arith, add-one, length-append, drop-cons}
-use Rattle.std.specs.Prelude.{if◌then◌else◌, string_bytes}
+use Rattle.std.specs.Prelude.{if◌then◌else◌}
 use Rattle.std.specs.Option.{option_map, is_some}
 use Rattle.std.specs.Str.{bytes_eq}
-use Rattle.std.specs.String.{string_eq}
-use Rattle.std.specs.HashMap.{get_by_text, Updates}
+use Rattle.std.specs.HashMap.{get_by_text}
 use Rattle.std.specs.Cmp.Lexicographic.{nat_list_eq_equiv}
-use Rattle.std.specs.declared.string.String.{String}
-use Rattle.std.specs.declared.alloc.Global.{Global}
-use Rattle.std.proofs.lemmas.Map.Text.{hash_map_updates_text}
 use Rattle.std.proofs.lemmas.List.{take_more, get_or-map, get_or_append_left, get_or-append-add, length-map, map-append, take_all, drop_all}
 use Rattle.wgsl_path.specs.declared.path.ModulePath.{ModulePath}
 use Rattle.wgsl_path.specs.declared.span.Spanned.{Spanned}
@@ -34,12 +30,9 @@ pub none_of : (o : Option Meaning) → is_some o ≡ false → option_map known_
 none_of (Some m) e = absurd (cc)
 none_of None e = refl
 
-pub updated : (old new : Table) (key : String Global) (m : Meaning) (x : Name) → string_bytes key ≡ x → Updates string_eq old new key (Some m)
+pub updated : (old new : Table) (m : Meaning) (x : Name) → ((y : Name) → get_by_text new y ≡ (if bytes_eq x y then Some m else get_by_text old y))
     → (y : Name) → option_map known_of (get_by_text new y) ≡ (if bytes_eq x y then Some (known_of m) else option_map known_of (get_by_text old y))
-updated old new key m x e h y =
-    ap (option_map known_of) (hash_map_updates_text (string_bytes key) old new (Some m) h y)
-    ∙ spread (bytes_eq (string_bytes key) y) m (get_by_text old y)
-    ∙ ap (λ t. if bytes_eq t y then Some (known_of m) else option_map known_of (get_by_text old y)) e
+updated old new m x h y = ap (option_map known_of) (h y) ∙ spread (bytes_eq x y) m (get_by_text old y)
 
 -- ---- lists of entries
 

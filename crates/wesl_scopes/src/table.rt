@@ -1,6 +1,9 @@
 //! The table of a module's names.
 
-ghost use Rattle.std.specs.Prelude.{◌≡◌, Some, IfOk};
+ghost use Rattle.std.specs.Prelude.{◌≡◌, Some, IfOk, OnOk, if◌then◌else◌};
+ghost use Rattle.std.specs.HashMap.{get_by_text};
+ghost use Rattle.std.specs.Str.{bytes_eq};
+ghost use Rattle.wesl_link_spec.specs.Occurrences.{Name};
 ghost use Rattle.wgsl_syntax.specs.View.{unit_tree, import_tree};
 ghost use Rattle.wesl_link_spec.specs.Modules as spec;
 ghost use Rattle.wesl_scopes.specs.Meanings.{Adds, Tabulates, known_of, import_known};
@@ -43,10 +46,24 @@ fn add_meaning(
     ensures { Adds path.now meanings.old name.now (known_of meaning) result meanings.new }
 {
     if meanings.contains_key(name) {
+        drop(meaning);
         let name = Text::from_str(alloc, name)?;
         return Err(ImportError::DuplicateSymbol(path.clone_in(alloc)?, name));
     }
-    meanings.insert(String::from_str(alloc, name)?, meaning)?;
+    put(alloc, meanings, name, meaning)?;
+    Ok(())
+}
+
+/// Puts a value under a name.
+fn put<V: Drop>(
+    alloc: Global,
+    table: &mut HashMap<String, V>,
+    name: &str,
+    value: V,
+) -> Result<(), AllocError>
+    ensures { OnOk result ((x : Name) → get_by_text table.new x ≡ (if bytes_eq name.now x then Some value else get_by_text table.old x)) }
+{
+    table.insert(String::from_str(alloc, name)?, value)?;
     Ok(())
 }
 

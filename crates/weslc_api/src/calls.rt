@@ -9,8 +9,9 @@ ghost use Rattle.weslc_linking.specs.Answers.{RefusesToLink, RefusesToCompile, I
 
 use std::alloc::Global;
 use wesl_link::{BasicSourceMap, Resolver};
+use weslc_compiled::compile_unit;
 use weslc_linking::{CompileError, Linked, Options, linked_unit, load_and_map, print_held};
-use weslc_unit::{PrintError, compile_unit};
+use weslc_unit::PrintError;
 use wgsl_path::ModulePath;
 
 /// One text without imports that declares what the kept names of the root reach, and the map from it back to the modules;

@@ -9,8 +9,11 @@ use wgsl_check_unit::{Unprintable, print_checked};
 use wgsl_declarations::TranslationUnit;
 
 /// The text of a module, which says it.
-pub(crate) fn print_back(alloc: Global, unit: TranslationUnit) -> Result<String, PrecompileError>
-    ensures { PrintsBack (unit_tree unit) result }
+pub(crate) fn print_back(
+    alloc: Global,
+    unit: &mut TranslationUnit,
+) -> Result<String, PrecompileError>
+    ensures { PrintsBack (unit_tree unit.old) result }
 {
     match print_checked(alloc, unit) {
         Ok(printed) => Ok(printed),

@@ -2,7 +2,7 @@
 
 ghost use Rattle.std.specs.Prelude.{◌≡◌};
 ghost use Rattle.wgsl_declarations.specs.View.{unit_tree};
-ghost use Rattle.wgsl_check_unit.specs.Derivable.{Says};
+ghost use Rattle.wgsl_derivable.specs.Derivable.{Says};
 ghost use Rattle.weslc_precompile.specs.Precompiling.{Precompiles, Fixes, refused_as};
 
 use crate::error::PrecompileError;
@@ -32,15 +32,14 @@ fn fix(
 #[tactic(auto, using(crate::proofs::Steps::fix_refused))]
 fn left_text(
     alloc: Global,
-    unit: TranslationUnit,
+    unit: &mut TranslationUnit,
     features: &Features,
     text: &str,
 ) -> Result<String, PrecompileError>
-    requires { Says text.now unit }
+    requires { Says text.now unit.old }
     ensures { Precompiles features.now text.now result }
 {
-    let mut unit = unit;
-    fix(alloc, &mut unit, features)?;
+    fix(alloc, unit, features)?;
     print_back(alloc, unit)
 }
 
@@ -63,7 +62,7 @@ pub fn precompile(alloc: Global, text: &str, features: &Features) -> Result<Stri
     ensures { Precompiles features.now text.now result }
 {
     match parse_str(alloc, text) {
-        Ok(unit) => left_text(alloc, unit, features, text),
+        Ok(mut unit) => left_text(alloc, &mut unit, features, text),
         Err(error) => Err(refusal(error)),
     }
 }

@@ -14,7 +14,7 @@ use Rattle.wesl_validate.specs.First.{first}
 use Rattle.wesl_validate.specs.Faults.{IsFaultless, IsFirstFault}
 use Rattle.wesl_validate.specs.Clearness.{unclear}
 use Rattle.wgsl_lower_expressions.specs.Lowered.{Lowers}
-use Rattle.wgsl_lower.specs.Keeps.{Keeps}
+use Rattle.wgsl_lower.specs.Keeps.{AreClear, Keeps}
 use Rattle.weslc_unit.specs.declared.error.UnitRefusal.{UnitRefusal}
 use Rattle.weslc_unit.specs.declared.error.UnitRefusal.TheVariants.{Validate, UnclearName, Eval, Unprintable, OutOfMemory}
 use Rattle.weslc_unit.specs.declared.error.PrintError.{PrintError}
@@ -54,6 +54,14 @@ pub record IsCompiled (steps : ℕ) (unit : UnitTree) (text : List ℕ) : Type 0
   pub whole : text ≡ unit_text low
   pub reads : IsTextOf low text
   pub keeps : Keeps unit.declarations low.declarations
+
+-- the text of what a unit is lowered to, where the unit is valid or not
+pub record IsLoweredText (steps : ℕ) (unit : UnitTree) (text : List ℕ) : Type 0 where
+  pub low : UnitTree
+  pub lowered : Lowers steps unit (Ok low)
+  pub whole : text ≡ unit_text low
+  pub reads : IsTextOf low text
+  pub keeps : AreClear unit.declarations → Keeps unit.declarations low.declarations
 
 -- ---- what is told where a text is not read back
 
@@ -95,6 +103,14 @@ RefusesValues steps unit OutOfMemory = ⊤
 RefusesValues steps unit (Validate f) = ⊥
 RefusesValues steps unit (UnclearName x) = ⊥
 RefusesValues steps unit (Unprintable x) = ⊥
+
+-- a fault of a value, or that no text stands for what the unit is lowered to
+abbrev pub RefusesLowering : ℕ → UnitTree → UnitRefusal → Type 0
+RefusesLowering steps unit (Eval r) = Lowers steps unit (Err r)
+RefusesLowering steps unit (Unprintable x) = (low : UnitTree) × Lowers steps unit (Ok low) × (IsTextOf low (unit_text low) → ⊥) × IsToldOfAll low.declarations x
+RefusesLowering steps unit OutOfMemory = ⊤
+RefusesLowering steps unit (Validate f) = ⊥
+RefusesLowering steps unit (UnclearName x) = ⊥
 
 -- memory aside, what is printed of the unit is not read as the unit
 abbrev pub IsUnprintable : UnitTree → PrintError → Type 0

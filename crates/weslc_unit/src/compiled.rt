@@ -1,40 +1,17 @@
-//! What is compiled of a linked unit.
+//! The text of what a linked unit is lowered to.
 
-ghost use Rattle.std.specs.Prelude.{Ok, OnOk, IfOk, IfErr, string_bytes};
+ghost use Rattle.std.specs.Prelude.{Ok, IfOk, IfErr, string_bytes};
 ghost use Rattle.wgsl_syntax.specs.View.{unit_tree};
 ghost use Rattle.wgsl_lower.specs.Keeps.{AreClear, Keeps};
 ghost use Rattle.wgsl_lower_expressions.specs.Lowered.{Lowers};
-ghost use Rattle.weslc_unit.specs.Compiled.{IsValid, IsClear, IsCompiled, RefusesInvalid, RefusesUnclear, RefusesValues, Refuses};
+ghost use Rattle.weslc_unit.specs.Compiled.{RefusesValues, IsLoweredText, RefusesLowering};
 
 use crate::error::{PrintError, UnitRefusal};
 use crate::printed::print_unit;
 use std::alloc::Global;
-use wesl_validate::{unclear_name, validate_wesl};
-use wgsl_builtin::builtin_names;
 use wgsl_items::OrOutOfMemory;
 use wgsl_lower::lower;
 use wgsl_syntax::TranslationUnit;
-
-fn check_valid(alloc: Global, unit: &TranslationUnit) -> Result<(), UnitRefusal>
-    ensures ok { OnOk result (IsValid (unit_tree unit.now)) }
-    ensures refusal { IfErr result (RefusesInvalid (unit_tree unit.now)) }
-{
-    match validate_wesl(alloc, unit, builtin_names()) {
-        Ok(()) => Ok(()),
-        Err(OrOutOfMemory::Error(fault)) => Err(UnitRefusal::Validate(fault)),
-        Err(OrOutOfMemory::OutOfMemory) => Err(UnitRefusal::OutOfMemory),
-    }
-}
-
-fn check_clear(alloc: Global, unit: &TranslationUnit) -> Result<(), UnitRefusal>
-    ensures ok { OnOk result (IsClear (unit_tree unit.now)) }
-    ensures refusal { IfErr result (RefusesUnclear (unit_tree unit.now)) }
-{
-    match unclear_name(alloc, unit, builtin_names())? {
-        None => Ok(()),
-        Some(name) => Err(UnitRefusal::UnclearName(name)),
-    }
-}
 
 fn lowered(
     alloc: Global,
@@ -52,19 +29,16 @@ fn lowered(
     }
 }
 
-/// The text of what a linked unit is lowered to, or the unit's first fault: of validation, then a name that is unclear, then
-/// of a const or of what is rewritten, then that no text stands for what is left. Each evaluation of an expression or a declaration
-/// may take `max_steps` steps.
-pub fn compile_unit(
+/// The text of what a unit is lowered to, or its first fault: of a const or of what is rewritten, then that no text stands for what is
+/// left. Each evaluation of an expression or a declaration may take `max_steps` steps.
+pub fn print_lowered(
     alloc: Global,
     unit: &TranslationUnit,
     max_steps: u64,
 ) -> Result<String, UnitRefusal>
-    ensures text { IfOk result (λ text. IsCompiled max_steps (unit_tree unit.now) (string_bytes text)) }
-    ensures refusal { IfErr result (Refuses max_steps (unit_tree unit.now)) }
+    ensures text { IfOk result (λ text. IsLoweredText max_steps (unit_tree unit.now) (string_bytes text)) }
+    ensures refusal { IfErr result (RefusesLowering max_steps (unit_tree unit.now)) }
 {
-    check_valid(alloc, unit)?;
-    check_clear(alloc, unit)?;
     let low = lowered(alloc, unit, max_steps)?;
     match print_unit(alloc, &low) {
         Ok(text) => Ok(text),

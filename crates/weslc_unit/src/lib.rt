@@ -1,4 +1,4 @@
-//! From a linked unit to the text that stands for it: validation, clear names, lowering, and a text that reads back.
+//! From a linked unit to the text that stands for what it is lowered to, and what is said of compiled units.
 #![tactic(auto)]
 
 mod compiled;
@@ -6,7 +6,7 @@ mod error;
 pub mod laws;
 mod printed;
 
-pub use compiled::compile_unit;
+pub use compiled::print_lowered;
 pub use error::{PrintError, UnitRefusal};
 pub use printed::{print_declaration, print_unit};
 pub use wesl_validate::{ValidateError, ValidateFault};

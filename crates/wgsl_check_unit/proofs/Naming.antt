@@ -1,33 +1,31 @@
 -- The first node that no text derives.
-use Rattle.std.proofs.Common.{◌≡◌, sym, subst, ℕ, ◌+◌, ◌<◌, ◌≤◌, length, drop, get_or, List, ◌∷◌, Bool, true, false, Option, Some, Decides}
+use Rattle.std.proofs.Common.{◌≡◌, sym, subst, ℕ, ◌+◌, ◌<◌, ◌≤◌, length, drop, get_or, List, ◌∷◌, Bool, true, false, Option, Decides}
 use Rattle.std.specs.Option.{option_or}
 use Rattle.std.proofs.lemmas.List.{drop_all}
-use Rattle.wgsl_declarations.specs.declared.declaration.GlobalDeclaration.{GlobalDeclaration}
-use Rattle.wgsl_declarations.specs.Tree.{Decl}
-use Rattle.wgsl_declarations.specs.View.{declaration_tree}
 use Rattle.wgsl_nodes_in_order.specs.declared.node.NodeRef.{NodeRef}
 use Rattle.wgsl_nodes_in_order.specs.Found.{node_of, nodes}
-use Rattle.wgsl_check_unit.specs.Placed.{holding, node_name}
-use Rattle.wgsl_check_unit.specs.Derivable.{IsDerivable, holds, IsNamed, whole_is, node_is, further}
-use Rattle.wgsl_check_unit.proofs.Deciding.{front, never}
+use Rattle.wgsl_derivable.specs.Placed.{holding}
+use Rattle.wgsl_derivable.specs.Derivable.{IsDerivable, alone}
+use Rattle.wgsl_check_unit.specs.Names.{node_name}
+use Rattle.wgsl_check_unit.specs.Telling.{IsNamed, whole_is, node_is, further}
+use Rattle.wgsl_check_unit.proofs.Telling.{front, never}
 
 -- of the nodes from a place on
 abbrev pub Follows : Option (List ℕ) → List NodeRef → ℕ → Type 0
 Follows whole refs k = (name : Option (List ℕ)) → IsNamed whole (nodes (drop k refs)) name → IsNamed whole (nodes refs) name
 
-module _ (whole : Option (List ℕ)) (refs : List NodeRef) (k : ℕ) (r : NodeRef) (within : k < length refs) (is : r ≡ get_or refs k r) (follows : Follows whole refs k) (made : GlobalDeclaration) (made_is : declaration_tree made ≡ Some (holding (node_of r))) (b : Bool) (test : Decides b (IsDerivable (holds (declaration_tree made)))) where
+module _ (whole : Option (List ℕ)) (refs : List NodeRef) (k : ℕ) (r : NodeRef) (within : k < length refs) (is : r ≡ get_or refs k r) (follows : Follows whole refs k) (b : Bool) (test : Decides b (IsDerivable (alone (holding (node_of r))))) where
   named_so : {name : Option (List ℕ)} → IsNamed whole (node_of r ∷ nodes (drop (k + 1) refs)) name → IsNamed whole (nodes refs) name
   named_so {name = name} h = follows name (let P : List NodeRef → Type 0 = λ z. IsNamed whole (nodes z) name in subst P (sym (front refs k r within is)) h)
 
   pub named_here : b ≡ false → (name : Option (List ℕ)) → name ≡ option_or (node_name (node_of r)) whole → IsNamed whole (nodes refs) name
   named_here off name same = named_so (
       let P : Option (List ℕ) → Type 0 = λ z. IsNamed whole (node_of r ∷ nodes (drop (k + 1) refs)) z in
-      let Q : Option Decl → Type 0 = λ z. IsDerivable (holds z) → ⊥ in
-      subst P (sym same) (node_is (subst Q made_is (λ h. never (test.1 h) off)))
+      subst P (sym same) (node_is (λ h. never (test.1 h) off))
       )
 
   pub named_further : b ≡ true → Follows whole refs (k + 1)
-  named_further on name h = named_so (let P : Option Decl → Type 0 = λ z. IsDerivable (holds z) in further (subst P made_is (test.0 on)) h)
+  named_further on name h = named_so (further (test.0 on) h)
 
 -- where there is none
 pub named_whole : (whole : Option (List ℕ)) (refs : List NodeRef) (k : ℕ) → Follows whole refs k → length refs ≤ k → (name : Option (List ℕ)) → name ≡ whole → IsNamed whole (nodes refs) name

@@ -1,2 +1,2 @@
-pub mod Placed
-pub mod Derivable
+pub mod Names
+pub mod Telling

@@ -1,11 +1,9 @@
-//! Whether some text derives a module: it is printed, and what is printed is parsed.
+//! Whether some text derives a module, and if none does, the first node that none derives.
 #![tactic(auto)]
 
 mod check;
-mod derivable;
 mod error;
 mod named;
-mod placed;
 mod told;
 
 pub use check::{check_unit, print_checked};

@@ -4,12 +4,11 @@ ghost use Rattle.std.specs.Prelude.{◌≡◌, ◌∷◌, [], IfOk};
 ghost use Rattle.std.specs.Option.{option_copied, option_or};
 ghost use Rattle.wgsl_statements.specs.View.{statement_tree, stms};
 ghost use Rattle.wgsl_nodes_in_order.specs.Found as found;
-ghost use Rattle.wgsl_check_unit.specs.Placed as names;
-ghost use Rattle.wgsl_check_unit.specs.Derivable.{IsNamed};
+ghost use Rattle.wgsl_check_unit.specs.Names as names;
+ghost use Rattle.wgsl_check_unit.specs.Telling.{IsNamed};
 
-use crate::derivable::is_derivable_alone;
-use crate::placed::placed;
 use std::alloc::{AllocError, Global};
+use wgsl_derivable::is_node_derivable;
 use wgsl_items::Text;
 use wgsl_nodes_in_order::NodeRef;
 use wgsl_statements::Statement;
@@ -68,7 +67,7 @@ pub(crate) fn named(
     ensures { IfOk result (λ name. IsNamed (option_copied whole.entry) (found.nodes nodes.now) name) }
 {
     for node in nodes {
-        if !is_derivable_alone(alloc, placed(alloc, *node)?)? {
+        if !is_node_derivable(alloc, *node)? {
             return copied(alloc, either(node_name(*node), whole));
         }
     }

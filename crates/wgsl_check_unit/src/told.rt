@@ -3,13 +3,14 @@
 ghost use Rattle.std.specs.Prelude.{◌≡◌, IfOk};
 ghost use Rattle.std.specs.Option.{option_copied, option_and_then};
 ghost use Rattle.wgsl_declarations.specs.View.{declaration_tree, declarations_tree};
-ghost use Rattle.wgsl_check_unit.specs.Derivable.{decl_name, IsTold, IsToldIn};
+ghost use Rattle.wgsl_check_unit.specs.Names.{decl_name};
+ghost use Rattle.wgsl_check_unit.specs.Telling.{IsTold, IsToldIn};
 
-use crate::derivable::is_derivable_alone;
 use crate::named::named;
 use std::alloc::{AllocError, Global};
 use wgsl_declarations::{GlobalDeclaration, GlobalDeclarationNode};
-use wgsl_items::{CloneIn, Text};
+use wgsl_derivable::is_declaration_derivable;
+use wgsl_items::Text;
 use wgsl_nodes_in_order::find_nodes;
 
 /// The name of a declaration.
@@ -42,7 +43,7 @@ pub(crate) fn told(
     ensures { IfOk result (λ name. IsTold (declarations_tree declarations.now) name) }
 {
     for declaration in declarations {
-        if !is_derivable_alone(alloc, declaration.node().clone_in(alloc)?)? {
+        if !is_declaration_derivable(alloc, declaration.node())? {
             return told_in(alloc, declaration.node());
         }
     }

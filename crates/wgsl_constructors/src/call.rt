@@ -27,6 +27,15 @@ pub(crate) fn types_of(alloc: Global, args: &[Instance]) -> Result<Items<Type>, 
     Ok(types)
 }
 
+/// The value of a type, which it takes, that is built of arguments.
+fn build_of(alloc: Global, ty: Type, args: &[Instance]) -> Result<Instance, Error>
+    ensures { Answers (spec.built ty args.now) result }
+{
+    let built = build(alloc, &ty, args);
+    drop(ty);
+    built
+}
+
 /// What the constructor of a name gives. It makes the type that `type_ctor` makes of the arguments' types, and what that refuses is
 /// refused. Without arguments it is the type's zero value. A scalar is cast: a Bool to 1 or 0, a number to whether it is nonzero,
 /// and between `i32` and `u32` the bits stay. A vector's components are cast, where one stands for all, and an array's elements are
@@ -40,8 +49,9 @@ pub fn call_ctor(
     ensures { spec.Constructs (AnswersCall name.now (builtin_name name.now) (option_copied template.entry)) args.now result }
 {
     let types = types_of(alloc, args)?;
-    let ty = type_ctor(alloc, name, template, types.as_slice())?;
-    build(alloc, &ty, args)
+    let ty = type_ctor(alloc, name, template, types.as_slice());
+    drop(types);
+    build_of(alloc, ty?, args)
 }
 
 /// `bool`: of nothing `false`, of one scalar whether it is nonzero. Any other list is `Signature`.
@@ -76,8 +86,9 @@ pub fn vec(
     ensures { spec.Constructs (AnswersMade (codes "vec" ++ decimal n) None (constructor.Vector n (option_copied template.entry))) args.now result }
 {
     let types = types_of(alloc, args)?;
-    let ty = vec_t(alloc, n, template, types.as_slice())?;
-    build(alloc, &ty, args)
+    let ty = vec_t(alloc, n, template, types.as_slice());
+    drop(types);
+    build_of(alloc, ty?, args)
 }
 
 /// `array`, with a template or without one: of its elements, converted to the template's type or else to their common type. An array
@@ -90,6 +101,7 @@ pub fn array(
     ensures { spec.Constructs (AnswersMade (codes "array") None (constructor.Array (option_copied template.entry))) args.now result }
 {
     let types = types_of(alloc, args)?;
-    let ty = array_t(alloc, template, types.as_slice())?;
-    build(alloc, &ty, args)
+    let ty = array_t(alloc, template, types.as_slice());
+    drop(types);
+    build_of(alloc, ty?, args)
 }

@@ -1,5 +1,6 @@
 //! The constructor of a struct (WGSL, "Structure Types", "Value Constructor Built-in Functions").
 
+ghost use Rattle.std.specs.Prelude.{[]};
 ghost use Rattle.wgsl_instance.specs.Answer.{Answers};
 ghost use Rattle.wgsl_constructors.specs.Built as spec;
 
@@ -32,15 +33,27 @@ fn convert_members(
     Ok(values)
 }
 
+/// The zero value of a struct.
+fn zero_struct(alloc: Global, ty: &StructType) -> Result<Instance, Error>
+    ensures { Answers (spec.built_struct ty.now []) result }
+{
+    let ty = Type::Struct(Boxed::new(alloc, ty.clone(alloc)?)?);
+    let zero = Instance::zero_value(alloc, &ty);
+    drop(ty);
+    zero
+}
+
 fn build_struct(alloc: Global, ty: &StructType, args: &[Instance]) -> Result<Instance, Error>
     ensures { Answers (spec.built_struct ty.now args.now) result }
 {
-    let own = ty.clone(alloc)?;
     if args.is_empty() {
-        return Instance::zero_value(alloc, &Type::Struct(Boxed::new(alloc, own)?));
+        return zero_struct(alloc, ty);
     }
     let members = convert_members(alloc, ty.members.as_slice(), args)?;
-    Ok(Instance::Struct(StructInstance { ty: own, members }))
+    Ok(Instance::Struct(StructInstance {
+        ty: ty.clone(alloc)?,
+        members,
+    }))
 }
 
 /// A struct's value: of nothing its zero value, else of a value for each member, converted to the member's type. Another number of
@@ -49,6 +62,8 @@ pub fn struct_ctor(alloc: Global, ty: &StructType, args: &[Instance]) -> Result<
     ensures { spec.ConstructsStruct ty.now args.now result }
 {
     let types = types_of(alloc, args)?;
-    typecheck_struct_ctor(alloc, ty, types.as_slice())?;
+    let checked = typecheck_struct_ctor(alloc, ty, types.as_slice());
+    drop(types);
+    checked?;
     build_struct(alloc, ty, args)
 }

@@ -1,6 +1,6 @@
 //! Implicit conversions of values (WGSL, "Conversion Rank").
 
-ghost use Rattle.std.specs.Prelude.{◌≡◌, Ok, Err, IfOk};
+ghost use Rattle.std.specs.Prelude.{◌≡◌, Ok, Err};
 ghost use Rattle.std.specs.Option.{option_copied};
 ghost use Rattle.wgsl_shader_type.specs.Literal.{zero_fault};
 ghost use Rattle.wgsl_scalar.specs.Conversions as scalars;
@@ -9,7 +9,7 @@ ghost use Rattle.wgsl_instance.specs.Answer.{Answers, then_with, collected};
 ghost use Rattle.wgsl_instance.specs.Converted as spec;
 
 use crate::tree::{ArrayInstance, Instance, VecInstance};
-use std::alloc::{AllocError, Global};
+use std::alloc::Global;
 use wgsl_items::{Items, Text};
 use wgsl_scalar::{IntegerType, ScalarType, convert_scalar};
 use wgsl_shader_type::{Error, LiteralInstance, Type};
@@ -52,9 +52,9 @@ pub fn unsupported<T: Drop>(alloc: Global, ty: &Type) -> Result<T, Error>
     ensures { Answers (Err (zero_fault ty.now)) result }
 {
     match ty {
-        Type::AbstractFloat => Err(todo_type(alloc, "AbstractFloat")?),
-        Type::F32 => Err(todo_type(alloc, "f32")?),
-        Type::F16 => Err(todo_type(alloc, "f16")?),
+        Type::AbstractFloat => todo_type(alloc, "AbstractFloat"),
+        Type::F32 => todo_type(alloc, "f32"),
+        Type::F16 => todo_type(alloc, "f16"),
         _ => {
             let ty = ty.clone(alloc)?;
             Err(Error::NotScalar(ty))
@@ -63,11 +63,11 @@ pub fn unsupported<T: Drop>(alloc: Global, ty: &Type) -> Result<T, Error>
 }
 
 /// The refusal of a type that isn't supported.
-fn todo_type(alloc: Global, text: &str) -> Result<Error, AllocError>
-    ensures { IfOk result (λ error. error ≡ Error.Todo text.now) }
+fn todo_type<T: Drop>(alloc: Global, text: &str) -> Result<T, Error>
+    ensures { Answers (Err (Error.Todo text.now)) result }
 {
     let name = Text::from_str(alloc, text)?;
-    Ok(Error::Todo(name))
+    Err(Error::Todo(name))
 }
 
 fn convert_literal(alloc: Global, ty: &Type, value: LiteralInstance) -> Result<Instance, Error>
@@ -127,10 +127,13 @@ impl Instance {
         ensures { Answers (spec.converted self.now ty.now) result }
     {
         let own = self.ty(alloc)?;
-        if own == *ty {
+        let is_same = own == *ty;
+        let is_convertible = own.is_convertible_to(ty);
+        drop(own);
+        if is_same {
             return Ok(self.clone(alloc)?);
         }
-        if own.is_convertible_to(ty) {
+        if is_convertible {
             return convert_parts(alloc, self, ty);
         }
         mismatch(alloc, self, ty)

@@ -8,7 +8,7 @@ ghost use Rattle.wgsl_instance.specs.Answer.{Answers, collected};
 ghost use Rattle.wgsl_instance.specs.Typed as typed;
 ghost use Rattle.wgsl_instance.specs.Parts as spec;
 
-use crate::selector::{in_range, is_rgba, is_xyzw, letter_index, member_position, no_component};
+use crate::selector::{component_error, in_range, is_rgba, is_xyzw, letter_index, member_position};
 use crate::tree::{
     ArrayInstance, Instance, PtrInstance, RefInstance, Step, StructInstance, VecInstance,
 };
@@ -93,7 +93,8 @@ fn swizzled(alloc: Global, vector: &VecInstance, name: &str) -> Result<Instance,
     ensures { Answers (spec.swizzled vector.now name.now) result }
 {
     if !is_swizzle(name.as_bytes()) {
-        return no_component(alloc, &vector.ty(alloc)?, name);
+        let ty = vector.ty(alloc)?;
+        return component_error(alloc, ty, name);
     }
     let components = all_lettered(alloc, vector, name.as_bytes())?;
     Ok(of_components(vector.ty, components))
@@ -114,7 +115,7 @@ fn member_of(alloc: Global, value: &StructInstance, name: &str) -> Result<Instan
         Some(member) => Ok(member.clone(alloc)?),
         None => {
             let ty = value.ty.clone(alloc)?;
-            no_component(alloc, &Type::Struct(Boxed::new(alloc, ty)?), name)
+            component_error(alloc, Type::Struct(Boxed::new(alloc, ty)?), name)
         }
     }
 }
@@ -215,7 +216,7 @@ impl Instance {
         match self {
             Instance::Struct(value) => member_of(alloc, value, name),
             Instance::Vec(value) => swizzled(alloc, value, name),
-            _ => no_component(alloc, &self.ty(alloc)?, name),
+            _ => component_error(alloc, self.ty(alloc)?, name),
         }
     }
 

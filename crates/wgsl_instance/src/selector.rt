@@ -63,6 +63,18 @@ pub fn no_component<T: Drop>(alloc: Global, ty: &Type, name: &str) -> Result<T, 
     ensures { Answers (Err (spec.no_component ty.now name.now)) result }
 {
     let ty = ty.clone(alloc)?;
-    let name = Text::from_str(alloc, name)?;
-    Err(Error::Component(ty, name))
+    component_error(alloc, ty, name)
+}
+
+/// The refusal of a name that is no component or member of a type, which it takes.
+pub(crate) fn component_error<T: Drop>(alloc: Global, ty: Type, name: &str) -> Result<T, Error>
+    ensures { Answers (Err (spec.no_component ty name.now)) result }
+{
+    match Text::from_str(alloc, name) {
+        Ok(name) => Err(Error::Component(ty, name)),
+        Err(error) => {
+            drop(ty);
+            Err(Error::from(error))
+        }
+    }
 }

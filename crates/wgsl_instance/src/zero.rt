@@ -75,7 +75,7 @@ fn zero_vector(alloc: Global, count: u8, component: &Type) -> Result<Instance, E
 {
     if count < 2 || count > 4 {
         let component = component.clone(alloc)?;
-        return not_constructible(alloc, &Type::Vec(count, Boxed::new(alloc, component)?));
+        return Err(Error::NotConstructible(Type::Vec(count, Boxed::new(alloc, component)?)));
     }
     let zero = LiteralInstance::zero_value(alloc, component)?;
     Ok(splat(alloc, count, zero)?)
@@ -121,10 +121,12 @@ fn zero_array(alloc: Global, element: &Type, count: Option<usize>) -> Result<Ins
     ensures { Answers (spec.zero_array element.now count (spec.zero_value element.now)) result }
 {
     let Some(count) = count else {
-        return not_constructible(alloc, &unsized_array(alloc, element)?);
+        return Err(Error::NotConstructible(unsized_array(alloc, element)?));
     };
     let zero = Instance::zero_value(alloc, element)?;
-    Ok(filled_array(alloc, element, count, &zero)?)
+    let filled = filled_array(alloc, element, count, &zero);
+    drop(zero);
+    Ok(filled?)
 }
 
 #[cycle(zero)]

@@ -182,8 +182,23 @@ fn check_types(
 ) -> Result<(), Error>
     ensures { spec.ChecksTypes operator left.now right.now result }
 {
-    type_binary_op(alloc, operator, left, right)?;
+    drop(type_binary_op(alloc, operator, left, right)?);
     Ok(())
+}
+
+/// Whether a type and an operand's type have a result.
+fn check_right(
+    alloc: Global,
+    operator: BinaryOperator,
+    left: &Type,
+    right: &Instance,
+) -> Result<(), Error>
+    ensures { spec.ChecksTypes operator left.now (type_of right.now) result }
+{
+    let right = right.ty(alloc)?;
+    let checked = check_types(alloc, operator, left, &right);
+    drop(right);
+    checked
 }
 
 /// Whether the operands' types have a result.
@@ -196,8 +211,9 @@ fn check_operands(
     ensures { spec.ChecksTypes operator (type_of left.now) (type_of right.now) result }
 {
     let left = left.ty(alloc)?;
-    let right = right.ty(alloc)?;
-    check_types(alloc, operator, &left, &right)
+    let checked = check_right(alloc, operator, &left, right);
+    drop(left);
+    checked
 }
 
 /// The value of an operator between two values, on scalars, componentwise on vectors of one length, and for `+ - * / %` on a

@@ -64,7 +64,9 @@ fn check_type(alloc: Global, operator: UnaryOperator, operand: &Instance) -> Res
     ensures { spec.ChecksUnary operator operand.now result }
 {
     let ty = operand.ty(alloc)?;
-    type_unary_op(alloc, operator, &ty)?;
+    let found = type_unary_op(alloc, operator, &ty);
+    drop(ty);
+    drop(found?);
     Ok(())
 }
 

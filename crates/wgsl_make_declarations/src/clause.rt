@@ -5,8 +5,8 @@ ghost use Rattle.wgsl_make_declarations.specs.Statements as making;
 
 use crate::take::{break_if, selectors, statements};
 use std::alloc::{AllocError, Global};
-use wgsl_items::{Boxed, Items};
-use wgsl_parts::take::{attributes, block, both, end, ended, expression, three};
+use wgsl_items::{Boxed, Items, both, three};
+use wgsl_parts::take::{attributes, block, end, ended, expression};
 use wgsl_parts::{ClauseLabel, Part, Stack};
 use wgsl_simple_statements::{BreakIfStatement, CaseSelector};
 use wgsl_statements::{CompoundStatement, ContinuingStatement, ElseIfClause, SwitchClause};

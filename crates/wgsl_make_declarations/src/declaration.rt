@@ -9,10 +9,8 @@ use wgsl_attributes::Attributes;
 use wgsl_declarations::{
     FormalParameter, Function, GlobalDeclaration, Struct, StructMember, TranslationUnit, TypeAlias,
 };
-use wgsl_items::{Boxed, Items};
-use wgsl_parts::take::{
-    assertion, attributes, block, both, declaration, end, ended, ident, three, ty,
-};
+use wgsl_items::{Boxed, Items, both, three};
+use wgsl_parts::take::{assertion, attributes, block, declaration, end, ended, ident, ty};
 use wgsl_parts::{DeclarationLabel, FunctionResult, Part, Stack};
 use wgsl_path::{Span, Spanned};
 use wgsl_simple_statements::Declaration;

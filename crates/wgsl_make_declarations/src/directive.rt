@@ -8,8 +8,8 @@ use std::alloc::{AllocError, Global};
 use wgsl_choices::severity;
 use wgsl_enumerations::DiagnosticSeverity;
 use wgsl_imports::{DiagnosticDirective, EnableDirective, GlobalDirective, RequiresDirective};
-use wgsl_items::{Boxed, Items};
-use wgsl_parts::take::{both, ended, ident};
+use wgsl_items::{Boxed, Items, both};
+use wgsl_parts::take::{ended, ident};
 use wgsl_parts::{DirectiveLabel, Part, Stack};
 
 fn severity_or_off(word: &str) -> DiagnosticSeverity

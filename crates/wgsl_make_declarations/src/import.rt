@@ -6,8 +6,8 @@ ghost use Rattle.wgsl_make_declarations.specs.Imports as making;
 use crate::take::{content, names, path, source, texts, trees};
 use std::alloc::{AllocError, Global};
 use wgsl_imports::{Import, ImportContent, ImportItem, ImportStatement};
-use wgsl_items::{Boxed, Items};
-use wgsl_parts::take::{attributes, both, end, ended, ident, three, ups};
+use wgsl_items::{Boxed, Items, both, three};
+use wgsl_parts::take::{attributes, end, ended, ident, ups};
 use wgsl_parts::{ImportLabel, Part, Stack};
 use wgsl_path::{ModulePath, PathOrigin};
 

@@ -5,10 +5,8 @@ ghost use Rattle.wgsl_make_declarations.specs.Statements as making;
 
 use crate::take::{clauses, continuing, else_ifs, otherwise, plain, statement, statements};
 use std::alloc::{AllocError, Global};
-use wgsl_items::Boxed;
-use wgsl_parts::take::{
-    attributes, block, both, end, ended, expression, optional_expression, three,
-};
+use wgsl_items::{Boxed, both, three};
+use wgsl_parts::take::{attributes, block, end, ended, expression, optional_expression};
 use wgsl_parts::{Part, Stack, StatementLabel};
 use wgsl_path::{Span, Spanned};
 use wgsl_statements::{

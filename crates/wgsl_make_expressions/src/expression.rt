@@ -9,8 +9,8 @@ use wgsl_expressions::{
     BinaryExpression, Expression, IndexingExpression, NamedComponentExpression,
     ParenthesizedExpression, TypeExpression, UnaryExpression,
 };
-use wgsl_items::{Boxed, Text};
-use wgsl_parts::take::{both, call, end, ended, expression, ident, ty};
+use wgsl_items::{Boxed, Text, both};
+use wgsl_parts::take::{call, end, ended, expression, ident, ty};
 use wgsl_parts::{ExpressionLabel, Part, QualifiedName, Stack};
 use wgsl_path::{Ident, Span, Spanned};
 

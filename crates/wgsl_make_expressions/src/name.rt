@@ -7,8 +7,8 @@ use crate::path::{template, within};
 use crate::take::{list, path};
 use std::alloc::{AllocError, Global};
 use wgsl_expressions::{FunctionCall, TypeExpression};
-use wgsl_items::{Boxed, Items};
-use wgsl_parts::take::{both, end, ended, expressions, ident, ty, ups};
+use wgsl_items::{Boxed, Items, both};
+use wgsl_parts::take::{end, ended, expressions, ident, ty, ups};
 use wgsl_parts::{NameLabel, Part, QualifiedName, Stack};
 use wgsl_path::{Ident, ModulePath, PathOrigin};
 

@@ -4,10 +4,8 @@ ghost use Rattle.std.specs.Prelude.{◌≡◌, IfOk};
 ghost use Rattle.wgsl_make_expressions.specs.Values as making;
 
 use std::alloc::{AllocError, Global};
-use wgsl_items::{Boxed, Items};
-use wgsl_parts::take::{
-    assertion, both, call, declaration, end, ended, expression, optional_expression,
-};
+use wgsl_items::{Boxed, Items, both};
+use wgsl_parts::take::{assertion, call, declaration, end, ended, expression, optional_expression};
 use wgsl_parts::{Part, PlainLabel, Stack};
 use wgsl_simple_statements::{
     AssignmentStatement, BreakStatement, ContinueStatement, DecrementStatement, DiscardStatement,

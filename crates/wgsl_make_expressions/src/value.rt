@@ -6,8 +6,8 @@ ghost use Rattle.wgsl_make_expressions.specs.Values as making;
 use crate::take::{kind, typed_name};
 use std::alloc::{AllocError, Global};
 use wgsl_expressions::ExpressionNode;
-use wgsl_items::{Boxed, Items};
-use wgsl_parts::take::{both, ended, expression, ident, three, ty};
+use wgsl_items::{Boxed, Items, both, three};
+use wgsl_parts::take::{ended, expression, ident, ty};
 use wgsl_parts::{Part, Stack, TypedName, ValueLabel};
 use wgsl_simple_statements::{ConstAssert, Declaration, DeclarationKind};
 

@@ -26,6 +26,7 @@ pub fn operation_fault(alloc: Global, error: Error) -> OrOutOfMemory<Fault>
     ensures { spec.IsOperationFault error result }
 {
     if matches!(error, Error::OutOfMemory) {
+        drop(error);
         return OrOutOfMemory::OutOfMemory;
     }
     match Boxed::new(alloc, error) {

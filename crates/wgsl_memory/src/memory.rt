@@ -74,7 +74,10 @@ fn has_stored_type(
 ) -> Result<bool, AllocError>
     ensures { IfOk result (λ has. has ≡ spec.has_stored_type reference.now value.now) }
 {
-    Ok(value.ty(alloc)? == reference.ty)
+    let own = value.ty(alloc)?;
+    let has = own == reference.ty;
+    drop(own);
+    Ok(has)
 }
 
 fn read_cells(alloc: Global, cells: &[Instance], reference: &RefInstance) -> Result<Instance, Error>
@@ -93,7 +96,7 @@ fn read_cells(alloc: Global, cells: &[Instance], reference: &RefInstance) -> Res
 fn drop_last(cells: &mut Items<Instance>)
     ensures { cells.new ≡ take (length cells.old - 1) cells.old }
 {
-    cells.pop();
+    drop(cells.pop());
 }
 
 fn truncate_cells(cells: &mut Items<Instance>, len: usize)
@@ -160,7 +163,11 @@ impl Memory {
         ensures { Answers (spec.loaded self.now value) result }
     {
         match value {
-            Instance::Ref(reference) => read_cells(alloc, self.cells.as_slice(), &reference),
+            Instance::Ref(reference) => {
+                let read = read_cells(alloc, self.cells.as_slice(), &reference);
+                drop(reference);
+                read
+            }
             other => Ok(other),
         }
     }
@@ -179,15 +186,26 @@ impl Memory {
         ensures unchanged { OnErr result (self.new ≡ self.old) }
     {
         if !is_write(reference.access) {
+            drop(value);
             return Err(Error::NotWrite);
         }
-        if !has_stored_type(alloc, reference, &value)? {
-            return write_mismatch(alloc, reference, &value);
-        }
-        if self.put(reference, value) {
-            Ok(())
-        } else {
-            no_place(alloc, self.cells.as_slice(), reference)
+        match has_stored_type(alloc, reference, &value) {
+            Ok(true) => {
+                if self.put(reference, value) {
+                    Ok(())
+                } else {
+                    no_place(alloc, self.cells.as_slice(), reference)
+                }
+            }
+            Ok(false) => {
+                let refused = write_mismatch(alloc, reference, &value);
+                drop(value);
+                refused
+            }
+            Err(error) => {
+                drop(value);
+                Err(Error::from(error))
+            }
         }
     }
 

@@ -44,7 +44,12 @@ fn read_step(
             rest,
         ),
         (Step::Component(i), Instance::Vec(x)) => match x.components.get(i) {
-            Some(component) => read_path(alloc, &Instance::Literal(*component), rest),
+            Some(component) => {
+                let literal = Instance::Literal(*component);
+                let found = read_path(alloc, &literal, rest);
+                drop(literal);
+                found
+            }
             None => Ok(None),
         },
         _ => Ok(None),
@@ -74,7 +79,7 @@ fn put(whole: &mut Instance, path: &[Step], value: Instance) -> bool
 {
     match path.split_first() {
         None => {
-            *whole = value;
+            drop(std::mem::replace(whole, value));
             true
         }
         Some((step, rest)) => put_step(whole, *step, rest, value),
@@ -89,7 +94,11 @@ fn put_step(whole: &mut Instance, step: Step, rest: &[Step], value: Instance) ->
     match step {
         Step::Member(i) => put_member(whole, i, rest, value),
         Step::Element(i) => put_element(whole, i, rest, value),
-        Step::Component(i) => put_in_vector(whole, i, component_value(rest, &value)),
+        Step::Component(i) => {
+            let scalar = component_value(rest, &value);
+            drop(value);
+            put_in_vector(whole, i, scalar)
+        }
     }
 }
 
@@ -101,7 +110,10 @@ fn put_member(whole: &mut Instance, at: usize, path: &[Step], value: Instance) -
 {
     match whole {
         Instance::Struct(x) => put_part(&mut x.members, at, path, value),
-        _ => false,
+        _ => {
+            drop(value);
+            false
+        }
     }
 }
 
@@ -113,7 +125,10 @@ fn put_element(whole: &mut Instance, at: usize, path: &[Step], value: Instance) 
 {
     match whole {
         Instance::Array(x) => put_part(&mut x.components, at, path, value),
-        _ => false,
+        _ => {
+            drop(value);
+            false
+        }
     }
 }
 
@@ -142,6 +157,7 @@ pub(crate) fn put_part(
     if at < parts.len() {
         put(parts.get_mut(at), path, value)
     } else {
+        drop(value);
         false
     }
 }

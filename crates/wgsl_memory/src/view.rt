@@ -169,7 +169,12 @@ fn count_in_part(whole: &Instance, step: Step, rest: &[Step]) -> Option<usize>
             rest,
         ),
         (Step::Component(i), Instance::Vec(x)) => match x.components.get(i) {
-            Some(component) => count_at(&Instance::Literal(*component), rest),
+            Some(component) => {
+                let literal = Instance::Literal(*component);
+                let count = count_at(&literal, rest);
+                drop(literal);
+                count
+            }
             None => None,
         },
         _ => None,

@@ -47,12 +47,13 @@ fn named(cursor: &mut Cursor<'_>, word: Word) -> Result<ExpressionNode, ParseFai
     ensures shrinks { length cursor.new ≤ length cursor.old }
 {
     let Word { name, span } = word;
-    let ty = type_named(name);
     let Some(_opening) = cursor.eat(Fixed::ParenLeft) else {
+        let ty = type_named(name);
         return Ok(Spanned::new(cursor.alloc(), Expression::TypeOrIdentifier(ty), span)?);
     };
     let arguments = arguments(cursor)?;
     let close = cursor.expect(Fixed::ParenRight)?;
+    let ty = type_named(name);
     let call = Boxed::new(cursor.alloc(), FunctionCallOf { ty, arguments })?;
     let tree = Expression::FunctionCall(call);
     Ok(Spanned::new(cursor.alloc(), tree, span.across(close))?)

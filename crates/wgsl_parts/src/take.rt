@@ -41,32 +41,6 @@ pub fn misfit<T>(_part: Part) -> Result<T, AllocError>
     Err(AllocError)
 }
 
-/// Both of what was taken.
-pub fn both<A: Drop, B: Drop>(
-    a: Result<A, AllocError>,
-    b: Result<B, AllocError>,
-) -> Result<(A, B), AllocError>
-    ensures { IfOk result (λ pair. (a ≡ Ok pair.0) × (b ≡ Ok pair.1)) }
-{
-    let a = a?;
-    let b = b?;
-    Ok((a, b))
-}
-
-/// All three.
-pub fn three<A: Drop, B: Drop, C: Drop>(
-    a: Result<A, AllocError>,
-    b: Result<B, AllocError>,
-    c: Result<C, AllocError>,
-) -> Result<(A, B, C), AllocError>
-    ensures { IfOk result (λ taken. (a ≡ Ok taken.0) × (b ≡ Ok taken.1) × (c ≡ Ok taken.2)) }
-{
-    let a = a?;
-    let b = b?;
-    let c = c?;
-    Ok((a, b, c))
-}
-
 /// What was taken, if no part is left.
 pub fn ended<T: Drop>(
     taken: Result<T, AllocError>,

@@ -8,7 +8,7 @@ use crate::statement::{
     WhileStatement,
 };
 use std::alloc::{AllocError, Global};
-use wgsl_items::{Boxed, CloneIn, Items};
+use wgsl_items::{Boxed, CloneIn, Items, both, three};
 use wgsl_path::Spanned;
 
 #[cycle(copy)]
@@ -40,9 +40,12 @@ fn copied(statement: &Statement, alloc: Global) -> Result<Statement, AllocError>
 fn copied_compound(x: &CompoundStatement, alloc: Global) -> Result<CompoundStatement, AllocError>
     ensures { IfOk result (λ copy. copy ≡ x.now) }
 {
+    let attributes = x.attributes.clone_in(alloc);
+    let statements = copied_nodes(x.statements.as_slice(), alloc);
+    let (attributes, statements) = both(attributes, statements)?;
     Ok(CompoundStatement {
-        attributes: x.attributes.clone_in(alloc)?,
-        statements: copied_nodes(x.statements.as_slice(), alloc)?,
+        attributes,
+        statements,
     })
 }
 
@@ -100,11 +103,21 @@ fn copied_else_ifs(
 fn copied_switch(x: &SwitchStatement, alloc: Global) -> Result<Boxed<SwitchStatement>, AllocError>
     ensures { IfOk result (λ copy. copy ≡ x.now) }
 {
+    let attributes = x.attributes.clone_in(alloc);
+    let expression = x.expression.clone_in(alloc);
+    let body_attributes = x.body_attributes.clone_in(alloc);
+    let clauses = copied_clauses(x.clauses.as_slice(), alloc);
+    let front = both(attributes, expression);
+    let ((attributes, expression), body_attributes, clauses) = three(
+        front,
+        body_attributes,
+        clauses,
+    )?;
     let copy = SwitchStatement {
-        attributes: x.attributes.clone_in(alloc)?,
-        expression: x.expression.clone_in(alloc)?,
-        body_attributes: x.body_attributes.clone_in(alloc)?,
-        clauses: copied_clauses(x.clauses.as_slice(), alloc)?,
+        attributes,
+        expression,
+        body_attributes,
+        clauses,
     };
     Boxed::new(alloc, copy)
 }
@@ -149,12 +162,19 @@ fn copied_loop(x: &LoopStatement, alloc: Global) -> Result<Boxed<LoopStatement>,
 fn copied_for(x: &ForStatement, alloc: Global) -> Result<Boxed<ForStatement>, AllocError>
     ensures { IfOk result (λ copy. copy ≡ x.now) }
 {
+    let attributes = x.attributes.clone_in(alloc);
+    let initializer = copied_part(&x.initializer, alloc);
+    let condition = x.condition.clone_in(alloc);
+    let update = copied_part(&x.update, alloc);
+    let body = copied_compound(&x.body, alloc);
+    let header = three(initializer, condition, update);
+    let (attributes, (initializer, condition, update), body) = three(attributes, header, body)?;
     let copy = ForStatement {
-        attributes: x.attributes.clone_in(alloc)?,
-        initializer: copied_part(&x.initializer, alloc)?,
-        condition: x.condition.clone_in(alloc)?,
-        update: copied_part(&x.update, alloc)?,
-        body: copied_compound(&x.body, alloc)?,
+        attributes,
+        initializer,
+        condition,
+        update,
+        body,
     };
     Boxed::new(alloc, copy)
 }
@@ -179,12 +199,18 @@ fn copied_part(
 fn copied_while(x: &WhileStatement, alloc: Global) -> Result<Boxed<WhileStatement>, AllocError>
     ensures { IfOk result (λ copy. copy ≡ x.now) }
 {
-    let copy = WhileStatement {
-        attributes: x.attributes.clone_in(alloc)?,
-        condition: x.condition.clone_in(alloc)?,
-        body: copied_compound(&x.body, alloc)?,
-    };
-    Boxed::new(alloc, copy)
+    let attributes = x.attributes.clone_in(alloc);
+    let condition = x.condition.clone_in(alloc);
+    let body = copied_compound(&x.body, alloc);
+    let (attributes, condition, body) = three(attributes, condition, body)?;
+    Boxed::new(
+        alloc,
+        WhileStatement {
+            attributes,
+            condition,
+            body,
+        },
+    )
 }
 
 impl CloneIn for Statement {

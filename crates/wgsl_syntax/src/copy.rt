@@ -11,7 +11,7 @@ use crate::import::{ImportContent, ImportItem, ImportStatement};
 use crate::statement::{CompoundStatement, ReturnStatement, Statement};
 use crate::unit::TranslationUnit;
 use std::alloc::{AllocError, Global};
-use wgsl_items::{Boxed, CloneIn, Items};
+use wgsl_items::{Boxed, CloneIn, Items, both, three};
 use wgsl_path::Spanned;
 
 #[cycle(copy)]
@@ -204,35 +204,58 @@ impl CloneIn for CompoundStatement {
 
 impl CloneIn for FormalParameter {
     fn clone_in(&self, alloc: Global) -> Result<FormalParameter, AllocError> {
+        let attributes = self.attributes.clone_in(alloc);
+        let ident = self.ident.clone_in(alloc);
+        let ty = self.ty.clone_in(alloc);
+        let (attributes, ident, ty) = three(attributes, ident, ty)?;
         Ok(FormalParameter {
-            attributes: self.attributes.clone_in(alloc)?,
-            ident: self.ident.clone_in(alloc)?,
-            ty: self.ty.clone_in(alloc)?,
+            attributes,
+            ident,
+            ty,
         })
     }
 }
 
 impl CloneIn for Declaration {
     fn clone_in(&self, alloc: Global) -> Result<Declaration, AllocError> {
+        let attributes = self.attributes.clone_in(alloc);
+        let ident = self.ident.clone_in(alloc);
+        let ty = self.ty.clone_in(alloc);
+        let initializer = self.initializer.clone_in(alloc);
+        let ((attributes, ident), (ty, initializer)) = both(
+            both(attributes, ident),
+            both(ty, initializer),
+        )?;
         Ok(Declaration {
-            attributes: self.attributes.clone_in(alloc)?,
+            attributes,
             kind: self.kind,
-            ident: self.ident.clone_in(alloc)?,
-            ty: self.ty.clone_in(alloc)?,
-            initializer: self.initializer.clone_in(alloc)?,
+            ident,
+            ty,
+            initializer,
         })
     }
 }
 
 impl CloneIn for Function {
     fn clone_in(&self, alloc: Global) -> Result<Function, AllocError> {
+        let attributes = self.attributes.clone_in(alloc);
+        let ident = self.ident.clone_in(alloc);
+        let parameters = self.parameters.clone_in(alloc);
+        let return_attributes = self.return_attributes.clone_in(alloc);
+        let return_type = self.return_type.clone_in(alloc);
+        let body = self.body.clone_in(alloc);
+        let before = three(attributes, ident, parameters);
+        let behind = three(return_attributes, return_type, body);
+        let ((attributes, ident, parameters), (return_attributes, return_type, body)) = both(
+            before, behind,
+        )?;
         Ok(Function {
-            attributes: self.attributes.clone_in(alloc)?,
-            ident: self.ident.clone_in(alloc)?,
-            parameters: self.parameters.clone_in(alloc)?,
-            return_attributes: self.return_attributes.clone_in(alloc)?,
-            return_type: self.return_type.clone_in(alloc)?,
-            body: self.body.clone_in(alloc)?,
+            attributes,
+            ident,
+            parameters,
+            return_attributes,
+            return_type,
+            body,
         })
     }
 }
@@ -267,10 +290,14 @@ impl CloneIn for ImportContent {
 
 impl CloneIn for ImportStatement {
     fn clone_in(&self, alloc: Global) -> Result<ImportStatement, AllocError> {
+        let attributes = self.attributes.clone_in(alloc);
+        let path = self.path.clone_in(alloc);
+        let content = self.content.clone_in(alloc);
+        let (attributes, path, content) = three(attributes, path, content)?;
         Ok(ImportStatement {
-            attributes: self.attributes.clone_in(alloc)?,
-            path: self.path.clone_in(alloc)?,
-            content: self.content.clone_in(alloc)?,
+            attributes,
+            path,
+            content,
         })
     }
 }

@@ -457,10 +457,10 @@ fn scalar_answer(
     ensures { spec.AnswersMade name.now (option_copied params.entry) (Constructor.Scalar scalar) args.now result }
 {
     if takes_one(args) {
-        Ok(scalar)
-    } else {
-        Err(call(alloc, name, params, args)?)
+        return Ok(scalar);
     }
+    drop(scalar);
+    Err(call(alloc, name, params, args)?)
 }
 
 /// The constructor of a name without a template.
@@ -549,7 +549,12 @@ fn named_constructor(
 {
     match template {
         None => plain_constructor(alloc, name, builtin_name(name)),
-        Some(params) => templated_constructor(alloc, name, &builtin_name(name), params),
+        Some(params) => {
+            let builtin = builtin_name(name);
+            let made = templated_constructor(alloc, name, &builtin, params);
+            drop(builtin);
+            made
+        }
     }
 }
 
@@ -565,15 +570,16 @@ fn constructor_answer(
 {
     match by {
         Constructor::Scalar(scalar) => scalar_answer(alloc, name, params, scalar, args),
-        Constructor::Vector(n, template) => vector_answer(
-            alloc,
-            name,
-            params,
-            n,
-            template.as_ref(),
-            args,
-        ),
-        Constructor::Array(template) => array_answer(alloc, name, params, template.as_ref(), args),
+        Constructor::Vector(n, template) => {
+            let made = vector_answer(alloc, name, params, n, template.as_ref(), args);
+            drop(template);
+            made
+        }
+        Constructor::Array(template) => {
+            let made = array_answer(alloc, name, params, template.as_ref(), args);
+            drop(template);
+            made
+        }
     }
 }
 

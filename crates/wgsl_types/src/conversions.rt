@@ -27,6 +27,25 @@ fn convert_both<T: Convert>(
     }
 }
 
+/// Two things at the common type of one type and the second thing's, or nothing where these have none.
+fn convert_with<T: Convert>(
+    alloc: Global,
+    first: &T,
+    second: &T,
+    first_type: &Type,
+) -> Result<Option<(T, T)>, AllocError>
+    ensures { IfOk result (λ found. found
+        ≡ both_converted T.converted T.converted first.now second.now (common_of first_type.now (T.type_of second.now))) }
+{
+    let second_type = second.ty(alloc)?;
+    let found = match convert_ty(first_type, &second_type) {
+        Some(common) => convert_both(alloc, first, second, common),
+        None => Ok(None),
+    };
+    drop(second_type);
+    found
+}
+
 /// Two things at the common type of theirs, or nothing where they have none.
 pub fn convert<T: Convert>(
     alloc: Global,
@@ -37,11 +56,9 @@ pub fn convert<T: Convert>(
         ≡ both_converted T.converted T.converted first.now second.now (common_of (T.type_of first.now) (T.type_of second.now))) }
 {
     let first_type = first.ty(alloc)?;
-    let second_type = second.ty(alloc)?;
-    match convert_ty(&first_type, &second_type) {
-        Some(common) => convert_both(alloc, first, second, common),
-        None => Ok(None),
-    }
+    let found = convert_with(alloc, first, second, &first_type);
+    drop(first_type);
+    found
 }
 
 /// Two things with their inner types converted to a type, or nothing where one doesn't convert.
@@ -62,6 +79,25 @@ fn convert_both_inner<T: Convert, U: Convert>(
     }
 }
 
+/// Two things with their inner types converted to the common type of one type and the second thing's inner type, or nothing where these have none.
+fn convert_inner_with<T: Convert, U: Convert>(
+    alloc: Global,
+    first: &T,
+    second: &U,
+    first_type: &Type,
+) -> Result<Option<(T, U)>, AllocError>
+    ensures { IfOk result (λ found. found
+        ≡ both_converted T.inner_converted U.inner_converted first.now second.now (common_of first_type.now (U.inner_type_of second.now))) }
+{
+    let second_type = second.inner_ty(alloc)?;
+    let found = match convert_ty(first_type, &second_type) {
+        Some(common) => convert_both_inner(alloc, first, second, common),
+        None => Ok(None),
+    };
+    drop(second_type);
+    found
+}
+
 /// Two things with their inner types converted to the common type of these, or nothing where they have none.
 pub fn convert_inner<T: Convert, U: Convert>(
     alloc: Global,
@@ -72,11 +108,9 @@ pub fn convert_inner<T: Convert, U: Convert>(
         ≡ both_converted T.inner_converted U.inner_converted first.now second.now (common_of (T.inner_type_of first.now) (U.inner_type_of second.now))) }
 {
     let first_type = first.inner_ty(alloc)?;
-    let second_type = second.inner_ty(alloc)?;
-    match convert_ty(&first_type, &second_type) {
-        Some(common) => convert_both_inner(alloc, first, second, common),
-        None => Ok(None),
-    }
+    let found = convert_inner_with(alloc, first, second, &first_type);
+    drop(first_type);
+    found
 }
 
 /// Each thing at a type, or nothing where one doesn't convert.

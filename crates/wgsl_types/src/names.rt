@@ -95,8 +95,9 @@ fn vector_type(alloc: Global, n: u8, params: &[TpltParam]) -> Result<Type, Error
     ensures { spec.AnswersType (codes "vec") (BuiltinName.Vector n None) (Some params.now) result }
 {
     let read = VecTemplate::parse(alloc, params)?;
-    let made = read.ty(alloc, n)?;
-    Ok(made)
+    let made = read.ty(alloc, n);
+    drop(read);
+    Ok(made?)
 }
 
 /// The type of `array` with a template.
@@ -104,8 +105,9 @@ fn array_type(alloc: Global, params: &[TpltParam]) -> Result<Type, Error>
     ensures { spec.AnswersType (codes "array") BuiltinName.Array (Some params.now) result }
 {
     let read = ArrayTemplate::parse(alloc, params)?;
-    let made = read.ty(alloc)?;
-    Ok(made)
+    let made = read.ty(alloc);
+    drop(read);
+    Ok(made?)
 }
 
 /// The type of `ptr` with a template.
@@ -113,8 +115,9 @@ fn pointer_type(alloc: Global, params: &[TpltParam]) -> Result<Type, Error>
     ensures { spec.AnswersType (codes "ptr") BuiltinName.Pointer (Some params.now) result }
 {
     let read = PtrTemplate::parse(alloc, params)?;
-    let made = read.ty(alloc)?;
-    Ok(made)
+    let made = read.ty(alloc);
+    drop(read);
+    Ok(made?)
 }
 
 /// The type of a name with a template.
@@ -155,6 +158,11 @@ pub fn builtin_type(
 {
     match template {
         None => plain_type(alloc, name, builtin_name(name)),
-        Some(params) => templated_type(alloc, name, &builtin_name(name), params),
+        Some(params) => {
+            let builtin = builtin_name(name);
+            let made = templated_type(alloc, name, &builtin, params);
+            drop(builtin);
+            made
+        }
     }
 }

@@ -108,8 +108,8 @@ fn written_signed(alloc: Global, z: i32, span: Span) -> Result<Expression, Alloc
 fn equals_zero(alloc: Global, number: Expression, span: Span) -> Result<Expression, AllocError>
     ensures { IfOk result (λ e. tree e ≡ equals_zero (tree number)) }
 {
-    let left = Spanned::new(alloc, abstract_literal(0), span)?;
     let right = Spanned::new(alloc, number, span)?;
+    let left = Spanned::new(alloc, abstract_literal(0), span)?;
     let comparison = Expression::Binary(BinaryExpression {
         operator: BinaryOperator::Equality,
         left,

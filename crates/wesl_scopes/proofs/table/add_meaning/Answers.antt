@@ -5,5 +5,5 @@ use Rattle.wesl_scopes.proofs.table.add_meaning.Goals as goal
 pub returns : goal.returns
 returns c = (
   none_of _ (sym c.contains_key.ensures ∙ c.if-contains_key.false),
-  updated c.args.meanings.now c.insert.new.self c.in_ok-from_str.field-0 c.args.meaning c.args.name.now c.in_ok-from_str.ensures.ok c.in_ok-insert.ensures.updates,
+  updated c.args.meanings.now c.put.new.table c.args.meaning c.args.name.now c.in_ok-put.ensures,
 )

@@ -1,7 +1,7 @@
 use Rattle.std.proofs.Common.{ℕ, List, drop, Option}
 use Rattle.std.specs.Option.{option_copied}
 use Rattle.wgsl_nodes_in_order.specs.Found.{nodes}
-use Rattle.wgsl_check_unit.specs.Derivable.{IsNamed}
+use Rattle.wgsl_check_unit.specs.Telling.{IsNamed}
 use Rattle.wgsl_check_unit.proofs.named.named.Given as goal
 
 abbrev pub invariant-loop-node : goal.invariant-loop-node

@@ -1,6 +1,6 @@
 use Rattle.std.proofs.Common.{ℕ, List, drop, Option}
 use Rattle.wgsl_declarations.specs.View.{declarations_tree}
-use Rattle.wgsl_check_unit.specs.Derivable.{IsTold}
+use Rattle.wgsl_check_unit.specs.Telling.{IsTold}
 use Rattle.wgsl_check_unit.proofs.told.told.Given as goal
 
 abbrev pub invariant-loop-declaration : goal.invariant-loop-declaration

@@ -41,7 +41,7 @@ named-returns-in_err-new-2-clause-parses t c = exhausts c.from_residual-in_err-n
 
 pub named-returns-clause-parses : goal.named-returns-clause-parses
 named-returns-clause-parses t c =
-    rw (c.in_ok-new-2.ensures, c.in_ok-call.ensures, c.across.ensures, c.type_named-ty.ensures)
+    rw (c.in_ok-new-2.ensures, c.in_ok-call.ensures, c.across.ensures, c.type_named-ty-2.ensures)
     (search (outcomes, marks, c.in-Some.ensures, c.in_ok-arguments.ensures, c.in_ok-close.ensures))
 
 pub unary-returns-in_default-clause-parses : goal.unary-returns-in_default-clause-parses

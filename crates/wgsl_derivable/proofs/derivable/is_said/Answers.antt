@@ -1,8 +1,8 @@
 -- A text that is a module, and one that has a fault.
 use Rattle.std.proofs.Common.{refl}
 use Rattle.wgsl_declarations.specs.View.{unit_tree}
-use Rattle.wgsl_check_unit.proofs.Deciding.{by_module, by_fault}
-use Rattle.wgsl_check_unit.proofs.derivable.is_said.Goals as goal
+use Rattle.wgsl_derivable.proofs.Deciding.{by_module, by_fault}
+use Rattle.wgsl_derivable.proofs.derivable.is_said.Goals as goal
 
 pub returns-in-Ok-clause-said : goal.returns-in-Ok-clause-said
 returns-in-Ok-clause-said c = by_module c.args.printed.now (unit_tree c.args.unit.now) c.in-Ok.other c.is_same.result c.requires c.in-Ok.ensures c.is_same.ensures.same

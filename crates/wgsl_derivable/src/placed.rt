@@ -7,7 +7,7 @@ ghost use Rattle.wgsl_statements.specs.View.{statement_tree, stms};
 ghost use Rattle.wgsl_declarations.specs.View.{declaration_tree, member_tree, parameter_tree};
 ghost use Rattle.wgsl_nodes_in_order.specs.Nodes.{attribute_node, expression_node, type_node, statement_node, member_node, parameter_node};
 ghost use Rattle.wgsl_nodes_in_order.specs.Found.{node_of};
-ghost use Rattle.wgsl_check_unit.specs.Placed.{empty_function, holding};
+ghost use Rattle.wgsl_derivable.specs.Placed.{empty_function, holding};
 
 use std::alloc::{AllocError, Global};
 use wgsl_attributes::Attribute;
@@ -15,7 +15,7 @@ use wgsl_declarations::{
     FormalParameter, Function, GlobalDeclaration, Struct, StructMember, TypeAlias,
 };
 use wgsl_expressions::{Expression, TypeExpression};
-use wgsl_items::{CloneIn, FromIn, Text};
+use wgsl_items::{CloneIn, FromIn, Items, Text};
 use wgsl_nodes_in_order::NodeRef;
 use wgsl_path::{Ident, Spanned};
 use wgsl_simple_statements::ConstAssert;
@@ -30,10 +30,10 @@ fn function(alloc: Global) -> Result<Function, AllocError>
 fn with_attribute(alloc: Global, attribute: &Attribute) -> Result<GlobalDeclaration, AllocError>
     ensures { IfOk result (λ made. declaration_tree made ≡ Some (holding (attribute_node (attribute_tree attribute.now)))) }
 {
+    let mut attributes = Items::new(alloc);
+    attributes.push(Spanned::from_in(alloc, attribute.clone_in(alloc)?)?)?;
     let mut holder = function(alloc)?;
-    holder
-        .attributes
-        .push(Spanned::from_in(alloc, attribute.clone_in(alloc)?)?)?;
+    holder.attributes = attributes;
     Ok(GlobalDeclaration::Function(holder))
 }
 
@@ -54,21 +54,20 @@ fn with_type(alloc: Global, ty: &TypeExpression) -> Result<GlobalDeclaration, Al
 fn with_statement(alloc: Global, statement: &Statement) -> Result<GlobalDeclaration, AllocError>
     ensures { IfOk result (λ made. declaration_tree made ≡ Some (holding (statement_node (stms (statement_tree statement.now ∷ []))))) }
 {
+    let mut statements = Items::new(alloc);
+    statements.push(Spanned::from_in(alloc, statement.clone_in(alloc)?)?)?;
     let mut holder = function(alloc)?;
-    holder
-        .body
-        .statements
-        .push(Spanned::from_in(alloc, statement.clone_in(alloc)?)?)?;
+    holder.body.statements = statements;
     Ok(GlobalDeclaration::Function(holder))
 }
 
 fn with_member(alloc: Global, member: &StructMember) -> Result<GlobalDeclaration, AllocError>
     ensures { IfOk result (λ made. declaration_tree made ≡ Some (holding (member_node (member_tree member.now)))) }
 {
+    let mut members = Items::new(alloc);
+    members.push(Spanned::from_in(alloc, member.clone_in(alloc)?)?)?;
     let mut holder = Struct::new(alloc, Ident::new(Text::from_str(alloc, "s")?));
-    holder
-        .members
-        .push(Spanned::from_in(alloc, member.clone_in(alloc)?)?)?;
+    holder.members = members;
     Ok(GlobalDeclaration::Struct(holder))
 }
 
@@ -78,8 +77,10 @@ fn with_parameter(
 ) -> Result<GlobalDeclaration, AllocError>
     ensures { IfOk result (λ made. declaration_tree made ≡ Some (holding (parameter_node (parameter_tree parameter.now)))) }
 {
+    let mut parameters = Items::new(alloc);
+    parameters.push(parameter.clone_in(alloc)?)?;
     let mut holder = function(alloc)?;
-    holder.parameters.push(parameter.clone_in(alloc)?)?;
+    holder.parameters = parameters;
     Ok(GlobalDeclaration::Function(holder))
 }
 

@@ -1,0 +1,105 @@
+//! Modules whose printed text is parsed.
+
+ghost use Rattle.std.specs.Prelude.{◌≡◌, Decides, IfOk};
+ghost use Rattle.wgsl_declarations.specs.View.{declaration_tree, unit_tree};
+ghost use Rattle.wgsl_declarations.specs.Print.{unit_text};
+ghost use Rattle.wgsl_nodes_in_order.specs.Found.{node_of};
+ghost use Rattle.wgsl_derivable.specs.Placed.{holding};
+ghost use Rattle.wgsl_derivable.specs.Derivable.{IsDerivable, IsPrinted, alone, at_most_one};
+
+use crate::placed::placed;
+use std::alloc::{AllocError, Global};
+use wgsl_declarations::{GlobalDeclaration, TranslationUnit};
+use wgsl_items::{CloneIn, FromIn};
+use wgsl_nodes_in_order::NodeRef;
+use wgsl_parser::{ErrorKind, parse_str};
+use wgsl_path::Spanned;
+use wgsl_voids::remove_voids;
+
+/// Whether another module stands for the same tree. Both lose their empty items.
+#[tactic(auto, using(wgsl_tree_equality::proofs::Modules::units_decide_once))]
+fn is_same(unit: &mut TranslationUnit, other: TranslationUnit) -> bool
+    ensures same { Decides result (unit_tree unit.old ≡ unit_tree other) }
+    ensures tree { unit_tree unit.new ≡ unit_tree unit.old }
+{
+    let mut other = other;
+    remove_voids(unit);
+    remove_voids(&mut other);
+    *unit == other
+}
+
+/// Whether some text derives a module, by its printed text. The module loses its empty items.
+fn is_said(alloc: Global, printed: &str, unit: &mut TranslationUnit) -> Result<bool, AllocError>
+    requires { printed.now ≡ unit_text (unit_tree unit.old) }
+    ensures said { IfOk result (λ said. Decides said (IsDerivable (unit_tree unit.old))) }
+    ensures tree { unit_tree unit.new ≡ unit_tree unit.old }
+{
+    match parse_str(alloc, printed) {
+        Ok(other) => Ok(is_same(unit, other)),
+        Err(error) => match error.kind {
+            ErrorKind::OutOfMemory => Err(AllocError),
+            _ => Ok(false),
+        },
+    }
+}
+
+/// The printed text of a module, where some text derives the module. That is so exactly where the printed text does. The module loses its
+/// empty items.
+#[tactic(auto, using(crate::proofs::Deciding::printed_so))]
+pub fn print_derivable(
+    alloc: Global,
+    unit: &mut TranslationUnit,
+) -> Result<Option<String>, AllocError>
+    ensures printed { IfOk result (IsPrinted (unit_tree unit.old)) }
+    ensures tree { unit_tree unit.new ≡ unit_tree unit.old }
+{
+    let printed = unit.to_string(alloc)?;
+    if is_said(alloc, printed.as_str(), unit)? {
+        Ok(Some(printed))
+    } else {
+        Ok(None)
+    }
+}
+
+/// Whether some text derives a module. The module loses its empty items.
+fn is_derivable_as_it_is(alloc: Global, unit: &mut TranslationUnit) -> Result<bool, AllocError>
+    ensures { IfOk result (λ derivable. Decides derivable (IsDerivable (unit_tree unit.old))) }
+{
+    let printed = unit.to_string(alloc)?;
+    is_said(alloc, printed.as_str(), unit)
+}
+
+/// Whether some text derives a module.
+pub fn is_derivable(alloc: Global, unit: &TranslationUnit) -> Result<bool, AllocError>
+    ensures { IfOk result (λ derivable. Decides derivable (IsDerivable (unit_tree unit.now))) }
+{
+    let mut copy = unit.clone_in(alloc)?;
+    is_derivable_as_it_is(alloc, &mut copy)
+}
+
+/// Whether some text derives the module of a declaration alone.
+fn is_derivable_alone(alloc: Global, declaration: GlobalDeclaration) -> Result<bool, AllocError>
+    ensures { IfOk result (λ derivable. Decides derivable (IsDerivable (at_most_one (declaration_tree declaration)))) }
+{
+    let mut unit = TranslationUnit::new(alloc);
+    unit.global_declarations
+        .push(Spanned::from_in(alloc, declaration)?)?;
+    is_derivable_as_it_is(alloc, &mut unit)
+}
+
+/// Whether some text derives the module of a declaration alone.
+pub fn is_declaration_derivable(
+    alloc: Global,
+    declaration: &GlobalDeclaration,
+) -> Result<bool, AllocError>
+    ensures { IfOk result (λ derivable. Decides derivable (IsDerivable (at_most_one (declaration_tree declaration.now)))) }
+{
+    is_derivable_alone(alloc, declaration.clone_in(alloc)?)
+}
+
+/// Whether some text derives the module of a declaration that holds a node alone.
+pub fn is_node_derivable(alloc: Global, node: NodeRef) -> Result<bool, AllocError>
+    ensures { IfOk result (λ derivable. Decides derivable (IsDerivable (alone (holding (node_of node.entry))))) }
+{
+    is_derivable_alone(alloc, placed(alloc, node)?)
+}

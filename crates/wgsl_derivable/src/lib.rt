@@ -1,0 +1,7 @@
+//! Whether some text derives a module: it is printed, and what is printed is parsed.
+#![tactic(auto)]
+
+mod derivable;
+mod placed;
+
+pub use derivable::{is_declaration_derivable, is_derivable, is_node_derivable, print_derivable};
