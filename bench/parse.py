@@ -1,17 +1,18 @@
 #!/usr/bin/env python3
 """Times the parser of all of WGSL on text that looks like shaders, and shows how its time and memory grow.
 
-usage: bench/parse.py PROGRAM      PROGRAM is a built crates/wgsl_parser_cases/out/wgsl_parser_cases
+usage: bench/parse.py PROGRAM      PROGRAM is a built crates/weslc_cases/out/weslc_cases
 
-The program of the parser's cases reads one case from `texts.txt` in an empty folder: a module of the wanted size on one line, of which
-it tells whether it has a fault. So a time holds reading the file, and lexing, parsing and dropping the module."""
+The program of cases reads one case: a module of the wanted size on one line, of which it tells whether it has a fault. So a time holds
+reading the file, and lexing, parsing and dropping the module."""
 import os
-import pathlib
 import resource
 import subprocess
 import sys
 import tempfile
 import time
+
+from one_case import fill
 
 FUNCTION = """@compute @workgroup_size(8, 8, 1) fn main_%d(@builtin(global_invocation_id) id: vec3<u32>, @location(0) weight: f32) -> @location(1) vec4<f32> {
  var sum = vec4<f32>(0.0, 0.0, 0.0, 1.0); let width = params.size.x * 2u + 1u; const scale: f32 = 0.25;
@@ -38,12 +39,12 @@ def module(size):
 
 def timed(program, text):
     with tempfile.TemporaryDirectory() as folder:
-        (pathlib.Path(folder) / "texts.txt").write_text(f"fault\tmodule\t{text}\tnone\n")
+        fill(folder, f"fault\tmodule\t{text}\tnone")
         begin = time.monotonic()
         child = subprocess.Popen([program], cwd=folder, stdout=subprocess.PIPE, text=True)
         out, _ = child.communicate()
         seconds = time.monotonic() - begin
-    assert out == "texts.txt: 1 cases\n", out[-300:]
+    assert "parser.txt: 1 cases\n" in out and "answers" not in out, out[-300:]
     return seconds
 
 

@@ -1,10 +1,10 @@
 #!/usr/bin/env python3
 """Times `precompile` on text that looks like shaders with conditions, beside parsing the same text alone.
 
-usage: bench/precompile.py WESLC PARSE         the built programs crates/weslc/out/weslc and crates/wgsl_parser_cases/out/wgsl_parser_cases
+usage: bench/precompile.py WESLC PARSE         the built programs crates/weslc/out/weslc and crates/weslc_cases/out/weslc_cases
 
 The first reads a bundle with one module of so many declarations: it parses the module, fixes its flags, prints what is left, and parses that.
-The second reads one case from `texts.txt` in an empty folder, and tells whether the same text has a fault."""
+The second reads one case alone, and tells whether the same text has a fault."""
 import json
 import os
 import resource
@@ -12,7 +12,8 @@ import subprocess
 import sys
 import tempfile
 import time
-import pathlib
+
+from one_case import fill
 
 FOUR = """@if(fast && !debug) @compute @workgroup_size(8, 8, 1) fn main_%d(@builtin(global_invocation_id) id: vec3<u32>, @if(debug) @location(0) w: f32) {
  var sum = vec4<f32>(0.0, 0.0, 0.0, 1.0); let width = params.size.x * 2u + 1u;
@@ -40,8 +41,7 @@ def bundle(text):
 def timed(program, given="", case=""):
     """The least time of three runs, the peak of memory in bytes, and what is written."""
     with tempfile.TemporaryDirectory() as folder:
-        pathlib.Path(folder, "texts.txt").write_text(case + "\n", encoding="utf-8")
-        pathlib.Path(folder, "places.txt").write_text("", encoding="utf-8")
+        fill(folder, case)
         best, peak = None, 0
         for _ in range(3):
             started = time.perf_counter()

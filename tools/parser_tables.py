@@ -246,8 +246,11 @@ class Arrays:
 
     def write_states(self):
         a = self.automaton
-        steps = [sorted(self.code(symbol) * 1024 + to for symbol, to in row.items()) for row in a.steps]
-        self.rows("For each state the codes of the symbols that lead on, times 1024, and the states that they lead to.", "STEPS", "u32", steps)
+        # Nonterminals first: behind an operand alone its state is asked for some twelve times, a token's once.
+        is_token = lambda step: step // 1024 % 2 == 0
+        steps = [sorted((self.code(symbol) * 1024 + to for symbol, to in row.items()), key=lambda it: (is_token(it), it)) for row in a.steps]
+        about = "For each state the codes of the symbols that lead on, times 1024, and the states that they lead to; nonterminals come first."
+        self.rows(about, "STEPS", "u32", steps)
         self.rows("For each state the rules that it may reduce by.", "FINALS", "u16", a.finals)
         kernels = [[p * 16 + read for p, read in kernel] for kernel in a.kernels]
         self.rows("For each state the rules that are under way in it, times 16, and how many symbols were read.", "KERNEL", "u16", kernels)

@@ -3,6 +3,7 @@
 
 mod copy;
 mod declaration;
+mod list;
 mod making;
 mod print;
 mod print_unit;
@@ -12,4 +13,5 @@ pub use declaration::{
     FormalParameter, Function, GlobalDeclaration, GlobalDeclarationNode, Struct, StructMember,
     StructMemberNode, TypeAlias,
 };
+pub use list::retain_declarations;
 pub use unit::TranslationUnit;

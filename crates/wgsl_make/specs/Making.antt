@@ -4,13 +4,13 @@ use Rattle.wgsl_path.specs.declared.span.Span.{Span}
 use Rattle.wgsl_parts.specs.declared.part.Part.{Part}
 use Rattle.wgsl_parts.specs.declared.label.Label.{Label}
 use Rattle.wgsl_parts.specs.declared.label.Label.TheVariants as label
-use Rattle.wgsl_make_expressions.specs.Lists.{pass, make_first, make_more}
-use Rattle.wgsl_make_expressions.specs.Making.{make_name, make_expression}
-use Rattle.wgsl_make_declarations.specs.Attributes.{make_attribute}
-use Rattle.wgsl_make_expressions.specs.Values.{make_value, make_plain}
-use Rattle.wgsl_make_declarations.specs.Statements.{make_statement, make_clause}
-use Rattle.wgsl_make_declarations.specs.Imports.{make_import, make_directive}
-use Rattle.wgsl_make_declarations.specs.Declarations.{make_declaration}
+use Rattle.wgsl_parts.specs.Lists.{pass, make_first, make_more}
+use Rattle.wgsl_parts.specs.Making.{make_name, make_expression}
+use Rattle.wgsl_make.specs.Attributes.{make_attribute}
+use Rattle.wgsl_parts.specs.Values.{make_value, make_plain}
+use Rattle.wgsl_make.specs.Statements.{make_statement, make_clause}
+use Rattle.wgsl_make.specs.Imports.{make_import, make_directive}
+use Rattle.wgsl_make.specs.Declarations.{make_declaration}
 
 -- what the production of this label makes of its parts, where the phrase has this extent
 abbrev pub make : Label → Span → List Part → Part

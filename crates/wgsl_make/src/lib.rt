@@ -1,42 +1,14 @@
-//! What a parser makes of the parts of a phrase as it reduces.
+//! What a parser makes of the parts of a phrase as it reduces: what `wgsl_parts` makes of those of expressions, and here what the productions
+//! of attributes, statements, imports, directives, declarations and modules make.
 #![tactic(auto)]
 
-ghost use Rattle.std.specs.Prelude.{◌≡◌, IfOk};
-ghost use Rattle.wgsl_make.specs.Making as making;
+mod attribute;
+mod clause;
+mod declaration;
+mod directive;
+mod import;
+mod production;
+mod statement;
+mod take;
 
-use std::alloc::{AllocError, Global};
-use wgsl_make_declarations::{
-    make_attribute, make_clause, make_declaration, make_directive, make_import, make_statement,
-};
-use wgsl_make_expressions::{
-    make_expression, make_first, make_more, make_name, make_plain, make_value, pass,
-};
-use wgsl_parts::{Label, Part, Stack};
-use wgsl_path::Span;
-
-/// What the production of this label makes of its parts, where the phrase has this extent. It takes what it needs off the parts. Parts
-/// that do not fit, and more `super` than a `usize` counts, are answered as if memory were refused.
-pub fn make(
-    alloc: Global,
-    label: Label,
-    span: Span,
-    parts: &mut Stack<Part>,
-) -> Result<Part, AllocError>
-    ensures { IfOk result (λ part. part ≡ making.make label span parts.old) }
-{
-    match label {
-        Label::Pass => pass(parts),
-        Label::First => make_first(alloc, parts),
-        Label::More => make_more(parts),
-        Label::Name(label) => make_name(alloc, label, parts),
-        Label::Expression(label) => make_expression(alloc, label, span, parts),
-        Label::Attribute(label) => make_attribute(alloc, label, span, parts),
-        Label::Value(label) => make_value(alloc, label, parts),
-        Label::Plain(label) => make_plain(alloc, label, parts),
-        Label::Statement(label) => make_statement(alloc, label, span, parts),
-        Label::Clause(label) => make_clause(alloc, label, parts),
-        Label::Import(label) => make_import(alloc, label, parts),
-        Label::Directive(label) => make_directive(alloc, label, parts),
-        Label::Declaration(label) => make_declaration(alloc, label, span, parts),
-    }
-}
+pub use production::make;

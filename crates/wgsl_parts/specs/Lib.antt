@@ -1,1 +1,4 @@
 pub mod Reading
+pub mod Making
+pub mod Values
+pub mod Lists

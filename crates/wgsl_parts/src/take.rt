@@ -4,13 +4,13 @@
 ghost use Rattle.std.specs.Prelude.{◌≡◌, ◌∷◌, [], IfOk, Ok};
 ghost use Rattle.wgsl_parts.specs.Reading.{TakesAs, expression_in, expressions_of, attributes_of};
 
-use crate::part::Part;
+use crate::part::{Part, QualifiedName, TypedName};
 use std::alloc::{AllocError, Global};
 use wgsl_attributes::Attributes;
-use wgsl_expressions::{ExpressionNode, FunctionCall, TypeExpression};
+use wgsl_expressions::{ExpressionNode, FunctionCall, LiteralExpression, TypeExpression};
 use wgsl_items::{Boxed, Items};
 use wgsl_path::Ident;
-use wgsl_simple_statements::{ConstAssert, Declaration};
+use wgsl_simple_statements::{ConstAssert, Declaration, DeclarationKind};
 use wgsl_stack::Stack;
 use wgsl_statements::CompoundStatement;
 
@@ -157,6 +157,52 @@ pub fn attributes(alloc: Global, parts: &mut Stack<Part>) -> Result<Attributes, 
     match first(parts)? {
         Part::Absent => Ok(Items::new(alloc)),
         Part::Attributes(xs) => Ok(xs),
+        other => misfit(other),
+    }
+}
+
+pub(crate) fn literal(parts: &mut Stack<Part>) -> Result<LiteralExpression, AllocError>
+    ensures { IfOk result (λ x. parts.old ≡ Part.Literal x ∷ parts.new) }
+{
+    match first(parts)? {
+        Part::Literal(x) => Ok(x),
+        other => misfit(other),
+    }
+}
+
+pub(crate) fn path(parts: &mut Stack<Part>) -> Result<QualifiedName, AllocError>
+    ensures { IfOk result (λ x. parts.old ≡ Part.Path x ∷ parts.new) }
+{
+    match first(parts)? {
+        Part::Path(x) => Ok(x),
+        other => misfit(other),
+    }
+}
+
+/// Expressions that are never absent.
+pub(crate) fn list(parts: &mut Stack<Part>) -> Result<Items<ExpressionNode>, AllocError>
+    ensures { IfOk result (λ xs. parts.old ≡ Part.Expressions xs ∷ parts.new) }
+{
+    match first(parts)? {
+        Part::Expressions(xs) => Ok(xs),
+        other => misfit(other),
+    }
+}
+
+pub(crate) fn kind(parts: &mut Stack<Part>) -> Result<DeclarationKind, AllocError>
+    ensures { IfOk result (λ x. parts.old ≡ Part.Kind x ∷ parts.new) }
+{
+    match first(parts)? {
+        Part::Kind(x) => Ok(x),
+        other => misfit(other),
+    }
+}
+
+pub(crate) fn typed_name(parts: &mut Stack<Part>) -> Result<TypedName, AllocError>
+    ensures { IfOk result (λ x. parts.old ≡ Part.Typed x ∷ parts.new) }
+{
+    match first(parts)? {
+        Part::Typed(x) => Ok(x),
         other => misfit(other),
     }
 }

@@ -32,9 +32,9 @@ use Rattle.wgsl_parts.specs.declared.label.Label.{Label}
 use Rattle.wgsl_parts.specs.declared.label.Label.TheVariants as l
 use Rattle.wgsl_parts.specs.declared.label.AttributeLabel.TheVariants as label
 use Rattle.wgsl_phrases.specs.declared.phrase.Phrase.{Phrase}
-use Rattle.wgsl_make_declarations.specs.Attributes as make
-use Rattle.wgsl_make_declarations.specs.Attributes.{checked}
-use Rattle.wgsl_make_expressions.specs.Lists as lists
+use Rattle.wgsl_make.specs.Attributes as make
+use Rattle.wgsl_make.specs.Attributes.{checked}
+use Rattle.wgsl_parts.specs.Lists as lists
 use Rattle.wgsl_reading.specs.Failures.{attribute_failed, made_failed}
 use Rattle.wgsl_reading.specs.Phrases.{grammar}
 use Rattle.wgsl_grammar_tables.specs.Classes.{fixed_class}

@@ -22,7 +22,7 @@ use Rattle.wgsl_parts.specs.declared.part.Part.TheVariants as part
 use Rattle.wgsl_parts.specs.declared.label.Label.TheVariants as l
 use Rattle.wgsl_parts.specs.declared.label.AttributeLabel.TheVariants as label
 use Rattle.wgsl_phrases.specs.declared.phrase.Phrase.{Phrase}
-use Rattle.wgsl_make_declarations.specs.Attributes as make
+use Rattle.wgsl_make.specs.Attributes as make
 use Rattle.wgsl_reading.specs.Failures.{made_failed}
 use Rattle.wgsl_grammar_tables.specs.Classes.{fixed_class}
 use Rattle.wgsl_read_back.proofs.Views.{View, view_tokens, Stands, a_token, some_expressions, a_kind}

@@ -25,8 +25,8 @@ use Rattle.wgsl_parts.specs.declared.part.Part.TheVariants as part
 use Rattle.wgsl_parts.specs.declared.label.Label.TheVariants as l
 use Rattle.wgsl_parts.specs.declared.label.DirectiveLabel.TheVariants as label
 use Rattle.wgsl_phrases.specs.declared.phrase.Phrase.{Phrase}
-use Rattle.wgsl_make_declarations.specs.Imports as make
-use Rattle.wgsl_make_expressions.specs.Lists as lists
+use Rattle.wgsl_make.specs.Imports as make
+use Rattle.wgsl_parts.specs.Lists as lists
 use Rattle.wgsl_reading.specs.Failures.{part_severity, unknown_severity}
 use Rattle.wgsl_grammar_tables.specs.Classes.{fixed_class}
 use Rattle.wgsl_read_back.proofs.Views.{View, view_tokens, Stands, a_token, a_text, some_texts, a_directive}

@@ -26,8 +26,8 @@ use Rattle.wgsl_parts.specs.declared.part.Part.TheVariants as part
 use Rattle.wgsl_parts.specs.declared.label.Label.TheVariants as l
 use Rattle.wgsl_parts.specs.declared.label.DeclarationLabel.TheVariants as label
 use Rattle.wgsl_phrases.specs.declared.phrase.Phrase.{Phrase}
-use Rattle.wgsl_make_declarations.specs.Declarations as make
-use Rattle.wgsl_make_expressions.specs.Lists as lists
+use Rattle.wgsl_make.specs.Declarations as make
+use Rattle.wgsl_parts.specs.Lists as lists
 use Rattle.wgsl_reading.specs.Failures.{made_failed}
 use Rattle.wgsl_reading.specs.Phrases.{grammar}
 use Rattle.wgsl_grammar_tables.specs.Classes.{fixed_class}

@@ -31,8 +31,8 @@ use Rattle.wgsl_parts.specs.declared.label.Label.TheVariants as l
 use Rattle.wgsl_parts.specs.declared.label.StatementLabel.TheVariants as label
 use Rattle.wgsl_phrases.specs.declared.phrase.Phrase.{Phrase}
 use Rattle.wgsl_phrases.specs.Gathering.{either}
-use Rattle.wgsl_make_declarations.specs.Reading.{statement_in, else_in, continuing_in, statements_of, else_ifs_of}
-use Rattle.wgsl_make_declarations.specs.Statements as make
+use Rattle.wgsl_make.specs.Reading.{statement_in, else_in, continuing_in, statements_of, else_ifs_of}
+use Rattle.wgsl_make.specs.Statements as make
 use Rattle.wgsl_grammar_tables.specs.Classes.{fixed_class}
 use Rattle.wgsl_read_back.proofs.Views.{View, view_tokens, Stands, an_expression, a_value, no_value, a_plain, a_header, no_header, a_statement, a_block, an_else, some_else_ifs, some_clauses, an_ending}
 use Rattle.wgsl_read_back.proofs.Views as v

@@ -1,5 +1,5 @@
 -- The grammar: its rules, and what tokens and phrases stand for.
-use Rattle.std.specs.Prelude.{ℕ, suc, Bool, true, false, if◌then◌else◌, List, Option, Some, None}
+use Rattle.std.specs.Prelude.{◌≡◌, ℕ, suc, Bool, true, false, if◌then◌else◌, List, [], ◌∷◌, Option, Some, None}
 use Rattle.wgsl_template_spec.specs.declared.token.SpannedTemplateToken.{SpannedTemplateToken}
 use Rattle.wgsl_shift_reduce.specs.Grammars.{Grammar}
 use Rattle.wgsl_shift_reduce.specs.Machine.{Tables}
@@ -63,6 +63,11 @@ made label (Some e) parts = record {
 
 abbrev pub make : ℕ → List (Phrase Part) → Phrase Part
 make p xs = made (label_at p) (extent_from None xs) (chosen Absent (pattern_at p) xs)
+
+-- a rule of one symbol, which makes nothing new of it
+pub record IsPass (p : ℕ) : Type 0 where
+  pub label : label_at p ≡ l.Pass
+  pub pattern : pattern_at p ≡ 2 ∷ []
 
 -- WGSL, "Grammar", and WESL's imports
 abbrev pub grammar : Grammar SpannedTemplateToken (Phrase Part)

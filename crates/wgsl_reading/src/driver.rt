@@ -1,10 +1,10 @@
 //! The driver of the parser.
 
-ghost use Rattle.std.specs.Prelude.{◌≡◌, ◌<◌, ◌+◌, Some, None, if◌then◌else◌, IfOk, IsTrue};
+ghost use Rattle.std.specs.Prelude.{◌≡◌, ◌<◌, ◌+◌, [], ◌∷◌, Some, None, if◌then◌else◌, IfOk, IsTrue};
 ghost use Rattle.wgsl_phrases.specs.declared.phrase.Phrase as declared_phrase;
 ghost use Rattle.std.specs.Option.{option_copied};
 ghost use Rattle.wgsl_shift_reduce.specs.Machine.{ahead_of};
-ghost use Rattle.wgsl_reading.specs.Phrases.{grammar, import_nests, made, make, name_nests, nests, number};
+ghost use Rattle.wgsl_reading.specs.Phrases.{IsPass, grammar, import_nests, made, make, name_nests, nests, number};
 
 use crate::failure::{failure_at, made_failed, severity_failed};
 use std::alloc::{AllocError, Global};
@@ -132,6 +132,13 @@ fn made(
     })
 }
 
+/// Whether a rule has one symbol and passes its tree on.
+fn is_pass(rule: u16) -> bool
+    ensures { IsTrue result → IsPass rule }
+{
+    matches!(rule_label(rule), Label::Pass) && matches!(rule_pattern(rule), [2])
+}
+
 impl Driver for Reader {
     type Token = SpannedTemplateToken;
 
@@ -171,5 +178,14 @@ impl Driver for Reader {
     {
         let (extent, parts) = gathered(self.alloc, rule_pattern(rule), parts)?;
         made(self.alloc, rule_label(rule), extent, parts)
+    }
+
+    /// A rule that passes its one symbol on changes nothing but that a check of what it passes on is made again, which can fail for
+    /// attributes and templates of `var` alone.
+    #[tactic(auto, using(crate::proofs::Passing::passed_on))]
+    fn passes(&self, rule: u16, part: &Phrase<Part>) -> bool
+        ensures { IsTrue result → make rule (part.now ∷ []) ≡ part.now }
+    {
+        is_pass(rule) && made_failed(Label::Pass, &part.part).is_none()
     }
 }

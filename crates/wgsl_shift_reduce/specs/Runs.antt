@@ -14,6 +14,12 @@ pub record IsShift {T V : Type 0} (g : Grammar T V) (to : ℕ) (es fs : List (En
   pub taken : u ≡ token ∷ v
   pub put : fs ≡ record { state = to; value = g.leaf token } ∷ es
 
+-- A rule makes this tree of so many parts, which were taken from the stack.
+pub record IsMade {T V : Type 0} (g : Grammar T V) (p count : ℕ) (es below : List (Entry V)) (x : V) : Type 0 where
+  pub values : List V
+  pub parts : popped count es [] ≡ (below, values)
+  pub is : x ≡ g.make p values
+
 module _ {T V : Type 0} (g : Grammar T V) (a : Tables) (from : ℕ) where
   -- The parts of a rule were taken from the stack, and its tree put there.
   pub record IsReduction (p : ℕ) (es fs : List (Entry V)) : Type 0 where

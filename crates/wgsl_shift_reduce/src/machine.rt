@@ -1,10 +1,10 @@
 //! The parser: it shifts tokens and reduces what it has read, by the tables of a driver.
 
-ghost use Rattle.std.specs.Prelude.{◌≡◌, [], ◌∷◌, length, Some, IfOk, MatchOption};
+ghost use Rattle.std.specs.Prelude.{◌≡◌, [], ◌∷◌, length, Some, IfOk, IsTrue, MatchOption};
 ghost use Rattle.std.specs.Option.{option_copied};
 ghost use Rattle.wgsl_shift_reduce.specs.Grammars.{Rule, Grammar, phrase};
 ghost use Rattle.wgsl_shift_reduce.specs.Machine.{Tables, action, top, popped, ahead, ahead_of};
-ghost use Rattle.wgsl_shift_reduce.specs.Runs.{IsShift, IsReduction, Advances, Said};
+ghost use Rattle.wgsl_shift_reduce.specs.Runs.{IsShift, IsMade, IsReduction, Advances, Said};
 
 use std::alloc::{AllocError, Global};
 use wgsl_stack::Stack;
@@ -99,6 +99,10 @@ pub trait Driver {
     /// The tree that a rule makes of its parts, of which the first is uppermost.
     fn make(&self, rule: u16, parts: Stack<Self::Value>) -> Result<Self::Value, AllocError>
         ensures { IfOk result (λ x. x ≡ grammar.make rule parts) };
+
+    /// Whether a rule that is made of one symbol is known to make its tree of it as it stands. It needs no memory then.
+    fn passes(&self, rule: u16, part: &Self::Value) -> bool
+        ensures { IsTrue result → grammar.make rule (part.now ∷ []) ≡ part.now };
 }
 
 /// The state that a parser is in, which began in the first.
@@ -147,6 +151,43 @@ fn taken<V: Drop>(
     Ok(parts)
 }
 
+/// The tree that a rule makes of the uppermost symbol, which is taken from the stack.
+fn made_of_one<D: Driver>(
+    driver: &D,
+    alloc: Global,
+    rule: u16,
+    stack: &mut Stack<Entry<D::Value>>,
+) -> Result<D::Value, AllocError>
+    ensures { IfOk result (IsMade D.grammar rule 1 stack.old stack.new) }
+{
+    let Some(Entry { value, .. }) = stack.pop() else {
+        return Err(AllocError);
+    };
+    if driver.passes(rule, &value) {
+        return Ok(value);
+    }
+    let mut parts = Stack::new(alloc);
+    parts.push(value)?;
+    driver.make(rule, parts)
+}
+
+/// The tree that a rule makes of so many of the uppermost symbols, which are taken from the stack.
+fn made<D: Driver>(
+    driver: &D,
+    alloc: Global,
+    rule: u16,
+    count: usize,
+    stack: &mut Stack<Entry<D::Value>>,
+) -> Result<D::Value, AllocError>
+    ensures { IfOk result (IsMade D.grammar rule count stack.old stack.new) }
+{
+    if count == 1 {
+        return made_of_one(driver, alloc, rule, stack);
+    }
+    let parts = taken(alloc, count, stack)?;
+    driver.make(rule, parts)
+}
+
 /// Makes a phrase of the uppermost symbols.
 fn reduce<D: Driver>(
     driver: &D,
@@ -160,11 +201,10 @@ fn reduce<D: Driver>(
     let Some(shape) = driver.shape(rule) else {
         return Err(AllocError);
     };
-    let parts = taken(alloc, shape.length, stack)?;
+    let value = made(driver, alloc, rule, shape.length, stack)?;
     let Some(to) = driver.state_behind(state_of(from, stack), shape.left) else {
         return Err(AllocError);
     };
-    let value = driver.make(rule, parts)?;
     stack.push(Entry { state: to, value })
 }
 

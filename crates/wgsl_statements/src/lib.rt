@@ -3,10 +3,12 @@
 
 mod copy;
 mod display;
+mod list;
 mod making;
 mod print;
 mod statement;
 
+pub use list::{clear_statement, retain_statements};
 pub use print::{write_block, write_statement};
 pub use statement::{
     CompoundStatement, CompoundStatementOf, ConstAssertStatement, ContinuingStatement,

@@ -8,7 +8,7 @@ use wgsl_items::Items;
 use wgsl_statements::{
     CompoundStatement, ContinuingStatement, ElseClause, ElseIfClause, ForStatement, IfClause,
     IfStatement, LoopStatement, Statement, StatementNode, SwitchClause, SwitchStatement,
-    WhileStatement,
+    WhileStatement, clear_statement, retain_statements,
 };
 
 /// Whether it is a `;` alone.
@@ -75,7 +75,7 @@ fn remove_inside(nodes: &mut Items<StatementNode>)
 fn keep(nodes: &mut Items<StatementNode>)
     ensures { nodes.new ≡ kept nodes.old }
 {
-    nodes.retain(|node| !is_empty(node.node()));
+    retain_statements(nodes, |node| !is_empty(node.node()));
 }
 
 #[cycle(voids)]
@@ -192,7 +192,7 @@ fn keep_part(part: &mut Option<StatementNode>)
         Some(node) => is_empty(node.node()),
     };
     if is_void {
-        *part = None;
+        clear_statement(part);
     }
 }
 

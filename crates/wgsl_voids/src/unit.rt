@@ -7,7 +7,9 @@ ghost use Rattle.wgsl_voids_spec.specs.Counts.{voids_in_unit};
 ghost use Rattle.wgsl_voids_spec.specs.Units.{is_empty_declaration, declaration_without_voids, node_without_voids, kept_declarations, unit_without_voids};
 
 use crate::statements::remove_voids_in_block;
-use wgsl_declarations::{GlobalDeclaration, GlobalDeclarationNode, TranslationUnit};
+use wgsl_declarations::{
+    GlobalDeclaration, GlobalDeclarationNode, TranslationUnit, retain_declarations,
+};
 use wgsl_items::Items;
 
 /// Whether it is a `;` alone.
@@ -50,7 +52,7 @@ fn remove_inside(declarations: &mut Items<GlobalDeclarationNode>)
 fn keep(declarations: &mut Items<GlobalDeclarationNode>)
     ensures { declarations.new ≡ kept_declarations declarations.old }
 {
-    declarations.retain(|declaration| !is_empty(declaration.node()));
+    retain_declarations(declarations, |declaration| !is_empty(declaration.node()));
 }
 
 /// Removes each empty item of a module, at every depth. It needs no memory. The module stands for the same tree, so that it is

@@ -1,0 +1,19 @@
+//! Lists from which declarations are dropped. Crates above that drop declarations by this call alone need no proof of their own of the drop
+//! of a declaration and of all that it owns.
+
+ghost use Rattle.std.specs.Fn.{CalledAt};
+ghost use Rattle.std.specs.List.Retain.{IsFiltered};
+
+use crate::declaration::GlobalDeclarationNode;
+use wgsl_items::Items;
+
+/// Keeps, in order, the declarations at which the closure returns `true`, and drops the others.
+pub fn retain_declarations<F: FnMut(&GlobalDeclarationNode) -> bool>(
+    declarations: &mut Items<GlobalDeclarationNode>,
+    f: F,
+)
+    requires { F.IsAlwaysCallable f }
+    ensures { IsFiltered (CalledAt F.FnMut) f declarations.old declarations.new }
+{
+    declarations.retain(f);
+}

@@ -1,0 +1,74 @@
+//! Directives.
+
+ghost use Rattle.std.specs.Prelude.{◌≡◌, IfOk};
+ghost use Rattle.wgsl_make.specs.Imports as making;
+
+use crate::take::{text, texts};
+use std::alloc::{AllocError, Global};
+use wgsl_choices::severity;
+use wgsl_enumerations::DiagnosticSeverity;
+use wgsl_imports::{DiagnosticDirective, EnableDirective, GlobalDirective, RequiresDirective};
+use wgsl_items::{Boxed, Items, both};
+use wgsl_parts::take::{ended, ident};
+use wgsl_parts::{DirectiveLabel, Part, Stack};
+
+fn severity_or_off(word: &str) -> DiagnosticSeverity
+    ensures { result ≡ making.severity_or_off word.now }
+{
+    match severity(word) {
+        Some(severity) => severity,
+        None => DiagnosticSeverity::Off,
+    }
+}
+
+/// What the production of this label makes of its parts. Parts that do not fit are answered as if memory were refused.
+pub fn make_directive(
+    alloc: Global,
+    label: DirectiveLabel,
+    parts: &mut Stack<Part>,
+) -> Result<Part, AllocError>
+    ensures { IfOk result (λ part. part ≡ making.make_directive label parts.old) }
+{
+    match label {
+        DirectiveLabel::Rule | DirectiveLabel::Extension => {
+            let name = ended(ident(parts), parts)?;
+            Ok(Part::Text(name.into_name()))
+        }
+        DirectiveLabel::RuleOf => {
+            let name = ident(parts);
+            let rule = ident(parts);
+            let (name, rule) = ended(both(name, rule), parts)?;
+            let mut whole = name.into_name();
+            whole.push_str(".")?;
+            whole.push_str(rule.as_str())?;
+            Ok(Part::Text(whole))
+        }
+        DirectiveLabel::Diagnostic => {
+            let word = ident(parts);
+            let rule_name = text(parts);
+            let (word, rule_name) = ended(both(word, rule_name), parts)?;
+            let diagnostic = GlobalDirective::Diagnostic(DiagnosticDirective {
+                attributes: Items::new(alloc),
+                severity: severity_or_off(word.as_str()),
+                rule_name,
+            });
+            Ok(Part::Directive(Boxed::new(alloc, diagnostic)?))
+        }
+        DirectiveLabel::Enable => {
+            let extensions = ended(texts(parts), parts)?;
+            let names = GlobalDirective::Enable(EnableDirective {
+                attributes: Items::new(alloc),
+                extensions,
+            });
+            Ok(Part::Directive(Boxed::new(alloc, names)?))
+        }
+        DirectiveLabel::Requires => {
+            let extensions = ended(texts(parts), parts)?;
+            let names = GlobalDirective::Requires(RequiresDirective {
+                attributes: Items::new(alloc),
+                extensions,
+            });
+            Ok(Part::Directive(Boxed::new(alloc, names)?))
+        }
+    }
+}

@@ -1,0 +1,310 @@
+//! Parts that only attributes, statements, imports and declarations have.
+
+ghost use Rattle.std.specs.Prelude.{◌≡◌, ◌∷◌, IfOk};
+ghost use Rattle.wgsl_parts.specs.Reading.{TakesAs};
+ghost use Rattle.wgsl_make.specs.Reading.{arguments_in, statement_in, else_in, continuing_in, break_if_in, statements_of, else_ifs_of, path_in, names_of, parameters_of, imports_of, directives_of, globals_of, return_attributes_of, return_type_in};
+
+use std::alloc::{AllocError, Global};
+use wgsl_attributes::Attributes;
+use wgsl_declarations::{FormalParameter, GlobalDeclarationNode, StructMemberNode};
+use wgsl_expressions::{ExpressionNode, TypeExpression};
+use wgsl_imports::{GlobalDirective, Import, ImportContent, ImportStatement};
+use wgsl_items::{Boxed, Items, Text};
+use wgsl_parts::take::{first, misfit};
+use wgsl_parts::{FunctionResult, Part, Stack};
+use wgsl_path::ModulePath;
+use wgsl_simple_statements::{BreakIfStatement, CaseSelector};
+use wgsl_statements::{
+    ContinuingStatement, ElseClause, ElseIfClause, Statement, StatementNode, SwitchClause,
+};
+
+pub(crate) fn word(parts: &mut Stack<Part>) -> Result<Text, AllocError>
+    ensures { IfOk result (λ x. parts.old ≡ Part.Word x ∷ parts.new) }
+{
+    match first(parts)? {
+        Part::Word(x) => Ok(x),
+        other => misfit(other),
+    }
+}
+
+pub(crate) fn reserved(parts: &mut Stack<Part>) -> Result<Text, AllocError>
+    ensures { IfOk result (λ x. parts.old ≡ Part.Reserved x ∷ parts.new) }
+{
+    match first(parts)? {
+        Part::Reserved(x) => Ok(x),
+        other => misfit(other),
+    }
+}
+
+pub(crate) fn list(parts: &mut Stack<Part>) -> Result<Items<ExpressionNode>, AllocError>
+    ensures { IfOk result (λ x. parts.old ≡ Part.Expressions x ∷ parts.new) }
+{
+    match first(parts)? {
+        Part::Expressions(x) => Ok(x),
+        other => misfit(other),
+    }
+}
+
+/// It may be absent.
+pub(crate) fn arguments(
+    parts: &mut Stack<Part>,
+) -> Result<Option<Items<ExpressionNode>>, AllocError>
+    ensures { IfOk result (λ x. TakesAs arguments_in parts.old x parts.new) }
+{
+    match first(parts)? {
+        Part::Absent => Ok(None),
+        Part::Arguments(x) => Ok(Some(x)),
+        other => misfit(other),
+    }
+}
+
+pub(crate) fn plain(parts: &mut Stack<Part>) -> Result<Boxed<Statement>, AllocError>
+    ensures { IfOk result (λ x. parts.old ≡ Part.Plain x ∷ parts.new) }
+{
+    match first(parts)? {
+        Part::Plain(x) => Ok(x),
+        other => misfit(other),
+    }
+}
+
+pub(crate) fn clauses(parts: &mut Stack<Part>) -> Result<Items<SwitchClause>, AllocError>
+    ensures { IfOk result (λ x. parts.old ≡ Part.Clauses x ∷ parts.new) }
+{
+    match first(parts)? {
+        Part::Clauses(x) => Ok(x),
+        other => misfit(other),
+    }
+}
+
+pub(crate) fn selectors(parts: &mut Stack<Part>) -> Result<Items<CaseSelector>, AllocError>
+    ensures { IfOk result (λ x. parts.old ≡ Part.Selectors x ∷ parts.new) }
+{
+    match first(parts)? {
+        Part::Selectors(x) => Ok(x),
+        other => misfit(other),
+    }
+}
+
+/// It may be absent.
+pub(crate) fn statement(parts: &mut Stack<Part>) -> Result<Option<StatementNode>, AllocError>
+    ensures { IfOk result (λ x. TakesAs statement_in parts.old x parts.new) }
+{
+    match first(parts)? {
+        Part::Absent => Ok(None),
+        Part::Statement(x) => Ok(Some(x)),
+        other => misfit(other),
+    }
+}
+
+/// It may be absent.
+pub(crate) fn otherwise(parts: &mut Stack<Part>) -> Result<Option<ElseClause>, AllocError>
+    ensures { IfOk result (λ x. TakesAs else_in parts.old x parts.new) }
+{
+    match first(parts)? {
+        Part::Absent => Ok(None),
+        Part::Block(x) => Ok(Some(ElseClause { body: x })),
+        other => misfit(other),
+    }
+}
+
+/// It may be absent.
+pub(crate) fn continuing(parts: &mut Stack<Part>) -> Result<Option<ContinuingStatement>, AllocError>
+    ensures { IfOk result (λ x. TakesAs continuing_in parts.old x parts.new) }
+{
+    match first(parts)? {
+        Part::Absent => Ok(None),
+        Part::Continuing(x) => Ok(Some(x.into_inner())),
+        other => misfit(other),
+    }
+}
+
+/// It may be absent.
+pub(crate) fn break_if(parts: &mut Stack<Part>) -> Result<Option<BreakIfStatement>, AllocError>
+    ensures { IfOk result (λ x. TakesAs break_if_in parts.old x parts.new) }
+{
+    match first(parts)? {
+        Part::Absent => Ok(None),
+        Part::BreakIf(x) => Ok(Some(x)),
+        other => misfit(other),
+    }
+}
+
+/// It may be absent.
+pub(crate) fn statements(
+    alloc: Global,
+    parts: &mut Stack<Part>,
+) -> Result<Items<StatementNode>, AllocError>
+    ensures { IfOk result (λ xs. TakesAs statements_of parts.old xs parts.new) }
+{
+    match first(parts)? {
+        Part::Absent => Ok(Items::new(alloc)),
+        Part::Statements(xs) => Ok(xs),
+        other => misfit(other),
+    }
+}
+
+/// It may be absent.
+pub(crate) fn else_ifs(
+    alloc: Global,
+    parts: &mut Stack<Part>,
+) -> Result<Items<ElseIfClause>, AllocError>
+    ensures { IfOk result (λ xs. TakesAs else_ifs_of parts.old xs parts.new) }
+{
+    match first(parts)? {
+        Part::Absent => Ok(Items::new(alloc)),
+        Part::ElseIfs(xs) => Ok(xs),
+        other => misfit(other),
+    }
+}
+
+pub(crate) fn source(parts: &mut Stack<Part>) -> Result<ModulePath, AllocError>
+    ensures { IfOk result (λ x. parts.old ≡ Part.ModulePath x ∷ parts.new) }
+{
+    match first(parts)? {
+        Part::ModulePath(x) => Ok(x),
+        other => misfit(other),
+    }
+}
+
+pub(crate) fn text(parts: &mut Stack<Part>) -> Result<Text, AllocError>
+    ensures { IfOk result (λ x. parts.old ≡ Part.Text x ∷ parts.new) }
+{
+    match first(parts)? {
+        Part::Text(x) => Ok(x),
+        other => misfit(other),
+    }
+}
+
+pub(crate) fn texts(parts: &mut Stack<Part>) -> Result<Items<Text>, AllocError>
+    ensures { IfOk result (λ x. parts.old ≡ Part.Texts x ∷ parts.new) }
+{
+    match first(parts)? {
+        Part::Texts(x) => Ok(x),
+        other => misfit(other),
+    }
+}
+
+pub(crate) fn content(parts: &mut Stack<Part>) -> Result<ImportContent, AllocError>
+    ensures { IfOk result (λ x. parts.old ≡ Part.Content x ∷ parts.new) }
+{
+    match first(parts)? {
+        Part::Content(x) => Ok(x),
+        other => misfit(other),
+    }
+}
+
+pub(crate) fn trees(parts: &mut Stack<Part>) -> Result<Items<Import>, AllocError>
+    ensures { IfOk result (λ x. parts.old ≡ Part.Trees x ∷ parts.new) }
+{
+    match first(parts)? {
+        Part::Trees(x) => Ok(x),
+        other => misfit(other),
+    }
+}
+
+/// It may be absent.
+pub(crate) fn path(
+    alloc: Global,
+    parts: &mut Stack<Part>,
+) -> Result<Option<Boxed<ModulePath>>, AllocError>
+    ensures { IfOk result (λ x. TakesAs path_in parts.old x parts.new) }
+{
+    match first(parts)? {
+        Part::Absent => Ok(None),
+        Part::ModulePath(x) => Ok(Some(Boxed::new(alloc, x)?)),
+        other => misfit(other),
+    }
+}
+
+/// It may be absent.
+pub(crate) fn names(alloc: Global, parts: &mut Stack<Part>) -> Result<Items<Text>, AllocError>
+    ensures { IfOk result (λ xs. TakesAs names_of parts.old xs parts.new) }
+{
+    match first(parts)? {
+        Part::Absent => Ok(Items::new(alloc)),
+        Part::Texts(xs) => Ok(xs),
+        other => misfit(other),
+    }
+}
+
+pub(crate) fn members(parts: &mut Stack<Part>) -> Result<Items<StructMemberNode>, AllocError>
+    ensures { IfOk result (λ x. parts.old ≡ Part.Members x ∷ parts.new) }
+{
+    match first(parts)? {
+        Part::Members(x) => Ok(x),
+        other => misfit(other),
+    }
+}
+
+/// It may be absent.
+pub(crate) fn parameters(
+    alloc: Global,
+    parts: &mut Stack<Part>,
+) -> Result<Items<FormalParameter>, AllocError>
+    ensures { IfOk result (λ xs. TakesAs parameters_of parts.old xs parts.new) }
+{
+    match first(parts)? {
+        Part::Absent => Ok(Items::new(alloc)),
+        Part::Parameters(xs) => Ok(xs),
+        other => misfit(other),
+    }
+}
+
+/// It may be absent.
+pub(crate) fn imports(
+    alloc: Global,
+    parts: &mut Stack<Part>,
+) -> Result<Items<ImportStatement>, AllocError>
+    ensures { IfOk result (λ xs. TakesAs imports_of parts.old xs parts.new) }
+{
+    match first(parts)? {
+        Part::Absent => Ok(Items::new(alloc)),
+        Part::Imports(xs) => Ok(xs),
+        other => misfit(other),
+    }
+}
+
+/// It may be absent.
+pub(crate) fn directives(
+    alloc: Global,
+    parts: &mut Stack<Part>,
+) -> Result<Items<GlobalDirective>, AllocError>
+    ensures { IfOk result (λ xs. TakesAs directives_of parts.old xs parts.new) }
+{
+    match first(parts)? {
+        Part::Absent => Ok(Items::new(alloc)),
+        Part::Directives(xs) => Ok(xs),
+        other => misfit(other),
+    }
+}
+
+/// It may be absent.
+pub(crate) fn globals(
+    alloc: Global,
+    parts: &mut Stack<Part>,
+) -> Result<Items<GlobalDeclarationNode>, AllocError>
+    ensures { IfOk result (λ xs. TakesAs globals_of parts.old xs parts.new) }
+{
+    match first(parts)? {
+        Part::Absent => Ok(Items::new(alloc)),
+        Part::Globals(xs) => Ok(xs),
+        other => misfit(other),
+    }
+}
+
+/// The attributes and the type of a function's result, which may be absent.
+pub(crate) fn returned(
+    alloc: Global,
+    parts: &mut Stack<Part>,
+) -> Result<(Attributes, Option<TypeExpression>), AllocError>
+    ensures { IfOk result (λ found. (part : _) × (parts.old ≡ part ∷ parts.new) × (found.0 ≡ return_attributes_of part) × (found.1 ≡ return_type_in part)) }
+{
+    match first(parts)? {
+        Part::Absent => Ok((Items::new(alloc), None)),
+        Part::Result(x) => {
+            let FunctionResult { attributes, ty } = x.into_inner();
+            Ok((attributes, Some(ty)))
+        }
+        other => misfit(other),
+    }
+}

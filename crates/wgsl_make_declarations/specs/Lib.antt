@@ -1,5 +1,0 @@
-pub mod Reading
-pub mod Attributes
-pub mod Statements
-pub mod Imports
-pub mod Declarations
