@@ -82,17 +82,17 @@ module _ (s : Start) (lt : nat_lt (number s) 7 ≡ true) (k : ℕ) (goal : goal_
     pub stands : Stands made v
 
   -- tokens that derive what stands for it
-  found_again : (other : List ℕ) (v : View) → (found : Printed v other) → Again (phrase k) v found.0 → Returned other v
-  found_again other v found again =
-      let Q : ℕ → Type 0 = λ k. Derives grammar (phrase k) found.0 again.value in
-      let read = is_read s lt found.0 again.value (subst Q (sym goal) again.derives) in
-      record { made = again.value.part; parsed = record { tokens = found.0; lexed = found.1; part = record { phrase = again.value; derived = read; passed = again.passes; same = refl } }; stands = again.stands }
+  pub found_again : (other : List ℕ) (v : View) (tokens : List SpannedTemplateToken) → IsLexed other tokens → Again (phrase k) v tokens → Returned other v
+  found_again other v tokens lexed again =
+      let Q : ℕ → Type 0 = λ k. Derives grammar (phrase k) tokens again.value in
+      let read = is_read s lt tokens again.value (subst Q (sym goal) again.derives) in
+      record { made = again.value.part; parsed = record { tokens = tokens; lexed = lexed; part = record { phrase = again.value; derived = read; passed = again.passes; same = refl } }; stands = again.stands }
 
   pub returned : (other : List ℕ) (v : View) → Back k v h.tokens h.part.phrase → (AreSpelled (view_tokens v) → IsTextOf (view_tokens v) other) → Returned other v
-  returned other v b laid = let found = printed text h.tokens h.lexed other k v h.part.phrase b laid in found_again other v found (b.item.again found.0 found.2)
+  returned other v b laid = let found = printed text h.tokens h.lexed other k v h.part.phrase b laid in found_again other v found.0 found.1 (b.item.again found.0 found.2)
 
   pub returned_line : (other : List ℕ) (v : View) → Lined k v h.tokens h.part.phrase → (AreSpelled (view_tokens v) → IsTextOf (view_tokens v) other) → Returned other v
-  returned_line other v b laid = let found = printed_line text h.tokens h.lexed other k v h.part.phrase b laid in found_again other v found (b.again found.0 found.2)
+  returned_line other v b laid = let found = printed_line text h.tokens h.lexed other k v h.part.phrase b laid in found_again other v found.0 found.1 (b.again found.0 found.2)
 
 -- ---- from a tree to a tree
 

@@ -6,6 +6,7 @@ use Rattle.wgsl_expressions.specs.declared.expression.Expression.{Expression as 
 use Rattle.wgsl_expressions.specs.View.{node_tree}
 use Rattle.wgsl_template_spec.specs.declared.token.SpannedTemplateToken.{SpannedTemplateToken}
 use Rattle.wgsl_template_spec.specs.Tokens.{IsLexed}
+use Rattle.wgsl_token_layout.specs.Laws.{without_places}
 use Rattle.wgsl_shift_reduce.specs.Grammars.{phrase, Derives}
 use Rattle.wgsl_grammar_tables.specs.Nonterminals as n
 use Rattle.wgsl_grammar_tables.specs.Expansion.{plain}
@@ -85,6 +86,11 @@ DeclarationsAreReadBack = (text : List ℕ) (x : Spanned GlobalDeclaration) (d :
 -- Where a text is a module, so is what is printed of its tree, with the same tree.
 abbrev pub ModulesAreReadBack : Type 0
 ModulesAreReadBack = (text : List ℕ) (x : TranslationUnit) → ParsesModule text (Ok x) → (y : TranslationUnit) × ParsesModule (unit_text (unit_tree x)) (Ok y) × (unit_tree y ≡ unit_tree x)
+
+-- Where two texts have the same tokens but for their places, and one is a module, so is the other, with the same tree.
+abbrev pub SameTokensAreTheSameModule : Type 0
+SameTokensAreTheSameModule = (text other : List ℕ) (tokens again : List SpannedTemplateToken) (x : TranslationUnit) → IsLexed text tokens → IsLexed other again → without_places again ≡ without_places tokens → ParsesModule text (Ok x)
+    → (y : TranslationUnit) × ParsesModule other (Ok y) × (unit_tree y ≡ unit_tree x)
 
 -- A text is one module at most.
 abbrev pub TextsHaveOneModule : Type 0
