@@ -41,7 +41,7 @@ use Rattle.wgsl_read_back.proofs.Returned.{parsed_good, found_again, returned_li
 pub goal_is_declaration : goal_of Declaration ≡ plain n.Declaration
 goal_is_declaration = goal_is 3
 
-declaration_of : (p : Part) (d : Decl) (ts : List TemplateToken) → Stands p (v.declaration d ts) → (y : Spanned GlobalDeclaration) × (p ≡ part.Global y) × (declaration_tree y.node ≡ Some d)
+pub declaration_of : (p : Part) (d : Decl) (ts : List TemplateToken) → Stands p (v.declaration d ts) → (y : Spanned GlobalDeclaration) × (p ≡ part.Global y) × (declaration_tree y.node ≡ Some d)
 declaration_of p d ts (a_declaration y is q) = (y, is, q)
 
 abbrev pub DeclaredAs : Decl → Type 0
@@ -127,10 +127,10 @@ module _ (text other : List ℕ) (again : List SpannedTemplateToken) (x : Transl
 
 -- ---- statements
 
-goal_is_statement : goal_of Statement ≡ plain n.Statement
+pub goal_is_statement : goal_of Statement ≡ plain n.Statement
 goal_is_statement = goal_is 2
 
-statement_of : (p : Part) (s : Stm) (ts : List TemplateToken) → Stands p (v.statement s ts) → (y : Spanned Code) × (p ≡ part.Statement y) × (statement_tree y.node ≡ Some s)
+pub statement_of : (p : Part) (s : Stm) (ts : List TemplateToken) → Stands p (v.statement s ts) → (y : Spanned Code) × (p ≡ part.Statement y) × (statement_tree y.node ≡ Some s)
 statement_of p s ts (a_statement y is q) = (y, is, q)
 
 abbrev StatedAs : Stm → ℕ → Type 0

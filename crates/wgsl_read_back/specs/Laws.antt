@@ -34,6 +34,7 @@ use Rattle.wgsl_statements.specs.Tree.{Stm}
 use Rattle.wgsl_statements.specs.View.{statement_tree}
 use Rattle.wgsl_statements.specs.Print.{stm_text}
 use Rattle.wgsl_parts.specs.declared.part.Part.TheVariants as part
+use Rattle.wgsl_reading.specs.declared.driver.Start.{Start}
 use Rattle.wgsl_reading.specs.declared.driver.Start.TheVariants.{Expression, Statement, Declaration, Directive, Import, Kind}
 use Rattle.wgsl_parser.specs.Texts.{IsParsed, ParsesModule}
 
@@ -91,6 +92,21 @@ ModulesAreReadBack = (text : List ℕ) (x : TranslationUnit) → ParsesModule te
 abbrev pub SameTokensAreTheSameModule : Type 0
 SameTokensAreTheSameModule = (text other : List ℕ) (tokens again : List SpannedTemplateToken) (x : TranslationUnit) → IsLexed text tokens → IsLexed other again → without_places again ≡ without_places tokens → ParsesModule text (Ok x)
     → (y : TranslationUnit) × ParsesModule other (Ok y) × (unit_tree y ≡ unit_tree x)
+
+-- The same of what a text is from another start, by what it is as a part and its tree.
+abbrev pub SameTokensAreTheSame : {X T : Type 0} → Start → (X → Part) → (X → T) → Type 0
+SameTokensAreTheSame {X = X} s as_part tree = (text other : List ℕ) (tokens again : List SpannedTemplateToken) (x : X) → IsLexed text tokens → IsLexed other again → without_places again ≡ without_places tokens → IsParsed s text (as_part x)
+    → (y : X) × IsParsed s other (as_part y) × (tree y ≡ tree x)
+
+-- Of expressions, statements, declarations, also of `;` alone, which stands for no tree, directives, import statements and kinds of declarations.
+abbrev pub SameTokensAreTheSameParts : Type 0
+SameTokensAreTheSameParts =
+    SameTokensAreTheSame Expression part.Expression node_tree
+    × SameTokensAreTheSame Statement part.Statement (λ (x : Spanned Code). statement_tree x.node)
+    × SameTokensAreTheSame Declaration part.Global (λ (x : Spanned GlobalDeclaration). declaration_tree x.node)
+    × SameTokensAreTheSame Directive part.Directive directive_tree
+    × SameTokensAreTheSame Import part.Import importing_tree
+    × SameTokensAreTheSame Kind part.Kind (λ (x : DeclarationKind). x)
 
 -- A text is one module at most.
 abbrev pub TextsHaveOneModule : Type 0
