@@ -41,7 +41,7 @@ use Rattle.wgsl_grammar_tables.specs.Classes.{fixed_class}
 use Rattle.wgsl_read_back.proofs.Views.{View, NoneFails, view_tokens, Stands, a_token, a_word, some_expressions, some_arguments, ends_as}
 use Rattle.wgsl_read_back.proofs.Views as v
 use Rattle.wgsl_read_back.proofs.Items.{BeginsOutside, begins_then, Again, Item, Back, OneToken, Steps, cont_as, split, places_append, moved, closes}
-use Rattle.wgsl_read_back.proofs.Rows.{concat, nil as no_more, more, list_more, RowBack, again_row, row_of, Fine, steps_row, spelled_row, stood_back, stood_again, Stood, stood_pass, Makes, make_of, makes_of, made_check_passes, Rebuild, back_of, of_one, of_two, of_three}
+use Rattle.wgsl_read_back.proofs.Rows.{concat, nil as no_more, more, list_more, RowBack, again_row, likewise_row, made_again, Fine, steps_row, spelled_row, stood_back, Stood, stood_pass, Makes, make_of, makes_of, made_check_passes, Rebuild, back_of, of_one, of_two, of_three}
 use Rattle.wgsl_read_back.proofs.Places.{mark_of, word_of, reserved_of}
 use Rattle.wgsl_read_back.proofs.Families.{token_item, mark_item}
 use Rattle.wgsl_read_back.proofs.Operands.{Listed, word_item, word_part}
@@ -107,6 +107,7 @@ pub record ArgumentsBack (n : ℕ) (v : View) (u : List SpannedTemplateToken) (x
   pub stands : Stands x.part v
   pub passes : x.failure ≡ None
   pub again : (w : List SpannedTemplateToken) → without_places w ≡ view_tokens v → Again (phrase n) v w
+  pub likewise : (w : List SpannedTemplateToken) → without_places w ≡ without_places u → Again (phrase n) v w
   pub spelled : AreSpelled (without_places u) → AreSpelled (view_tokens v)
   pub steps : (o : List Bool) → Steps callee o (without_places u) (view_tokens v)
   pub level : (o : List Bool) → (steps o).opened ≡ o
@@ -121,10 +122,8 @@ module _ (n : ℕ) (ss : List Symbol) (label : Label) (pattern : List ℕ) (rebu
       let one = makes xs (stood_back r) in record {
         stands = one.stands;
         passes = one.passes;
-        again = λ w e.
-            let q = again_row r w (e ∙ sym tokens) in
-            let m = makes q.values (stood_again q.row) in
-            record { value = make_of label pattern q.values; derives = rebuild w q.values (row_of q.row); stands = m.stands; passes = m.passes };
+        again = λ w e. made_again n ss label pattern rebuild vs v makes w (again_row r w (e ∙ sym tokens));
+        likewise = λ w e. made_again n ss label pattern rebuild vs v makes w (likewise_row r w e);
         spelled = λ h. subst AreSpelled tokens (spelled_row r h);
         steps = λ o. let q = steps_row r callee o (fine o) in record {
           last = q.last;
@@ -235,6 +234,7 @@ full_attribute n m r rebuild {a = a} {b = b} {c = c} {x = x} {y = y} {z = z} i g
       stands = one.stands;
       passes = one.passes;
       again = again;
+      likewise = likewise;
       spelled = λ s.
           let all = subst AreSpelled (places_append a (b ++ (c ++ [])) ∙ ap (λ z. without_places a ++ z) (places_append b (c ++ []) ∙ ap (λ z. without_places b ++ z) (places_append c [] ∙ append-nil (without_places c)))) s in
           let behind = are_behind (without_places a) (without_places b ++ without_places c) all in
@@ -266,18 +266,25 @@ full_attribute n m r rebuild {a = a} {b = b} {c = c} {x = x} {y = y} {z = z} i g
     one : Makes (v.attribute found.0 ts) (make_of (l.Attribute label.Attribute) (1 ∷ 2 ∷ 2 ∷ []) (x ∷ y ∷ z ∷ []))
     one = full_makes g.0 g.1 h.0 found.0 ts found.1 x y z ((at.stands, at.passes), ((g.3.item.stands, g.3.item.passes), ((h.2.stands, h.2.passes), tt)))
 
+    found_row : (w p q k : List SpannedTemplateToken) → p ++ (q ++ k) ≡ w → Again (token (fixed_class f.Attr)) (v.token (mark f.Attr)) p → Again (phrase m) (v.attribute_word g.0 g.1) q → Again (phrase r) (v.arguments h.0) k → Again (phrase n) (v.attribute found.0 ts) w
+    found_row w p q k whole one two three =
+        let made = full_makes g.0 g.1 h.0 found.0 ts found.1 one.value two.value three.value ((one.stands, one.passes), ((two.stands, two.passes), ((three.stands, three.passes), tt))) in
+        let row : Row grammar (attribute_row m r) (p ++ (q ++ (k ++ []))) (one.value ∷ two.value ∷ three.value ∷ []) = next one.derives (next two.derives (next three.derives done)) in
+        let P : List SpannedTemplateToken → Type 0 = λ z. Again (phrase n) (v.attribute found.0 ts) z in
+        subst P (ap (λ z. p ++ (q ++ z)) (append-nil k) ∙ whole)
+        (record { value = make_of (l.Attribute label.Attribute) (1 ∷ 2 ∷ 2 ∷ []) (one.value ∷ two.value ∷ three.value ∷ []); derives = rebuild _ _ row; stands = made.stands; passes = made.passes })
+
     again : (w : List SpannedTemplateToken) → without_places w ≡ ts → Again (phrase n) (v.attribute found.0 ts) w
     again w e =
         let p = split w (mark f.Attr ∷ []) (g.1 ∷ arguments_tokens (Some h.0)) e in
         let q = split p.rest (g.1 ∷ []) (arguments_tokens (Some h.0)) p.rest_is in
-        let one = at.again p.front p.front_is in
-        let two = g.3.item.again q.front q.front_is in
-        let three = h.2.again q.rest q.rest_is in
-        let made = full_makes g.0 g.1 h.0 found.0 ts found.1 one.value two.value three.value ((one.stands, one.passes), ((two.stands, two.passes), ((three.stands, three.passes), tt))) in
-        let row : Row grammar (attribute_row m r) (p.front ++ (q.front ++ (q.rest ++ []))) (one.value ∷ two.value ∷ three.value ∷ []) = next one.derives (next two.derives (next three.derives done)) in
-        let P : List SpannedTemplateToken → Type 0 = λ z. Again (phrase n) (v.attribute found.0 ts) z in
-        subst P (ap (λ z. p.front ++ z) (ap (λ z. q.front ++ z) (append-nil q.rest) ∙ q.whole) ∙ p.whole)
-        (record { value = make_of (l.Attribute label.Attribute) (1 ∷ 2 ∷ 2 ∷ []) (one.value ∷ two.value ∷ three.value ∷ []); derives = rebuild _ _ row; stands = made.stands; passes = made.passes })
+        found_row w p.front q.front q.rest (ap (λ z. p.front ++ z) q.whole ∙ p.whole) (at.again p.front p.front_is) (g.3.item.again q.front q.front_is) (h.2.again q.rest q.rest_is)
+
+    likewise : (w : List SpannedTemplateToken) → without_places w ≡ without_places (a ++ (b ++ (c ++ []))) → Again (phrase n) (v.attribute found.0 ts) w
+    likewise w e =
+        let p = split w (without_places a) (without_places (b ++ (c ++ []))) (e ∙ places_append a (b ++ (c ++ []))) in
+        let q = split p.rest (without_places b) (without_places (c ++ [])) (p.rest_is ∙ places_append b (c ++ [])) in
+        found_row w p.front q.front q.rest (ap (λ z. p.front ++ z) q.whole ∙ p.whole) (at.likewise p.front p.front_is) (g.3.item.likewise q.front q.front_is) (h.2.likewise q.rest (q.rest_is ∙ ap without_places (append-nil c)))
 
     source : (us : List TemplateToken) → mark f.Attr ∷ g.1 ∷ (without_places c ++ us) ≡ without_places (a ++ (b ++ (c ++ []))) ++ us
     source us =

@@ -14,26 +14,32 @@ use Rattle.wgsl_tree_tokens.specs.Tokens.{mark, exp_tokens}
 use Rattle.wgsl_tree_tokens.specs.Printable.{is_apart}
 use Rattle.wgsl_module_tokens.specs.Simple.{case_tokens, selector_is_apart, selectors_are_apart}
 use Rattle.wgsl_module_tokens.specs.Statements.{BreakIfTokens, StmTokens, StmsTokens, BlockTokens, ClausesTokens, ContinuingTokens}
+use Rattle.wgsl_shift_reduce.specs.Grammars.{phrase}
 use Rattle.wgsl_parts.specs.declared.part.Part.{Part}
 use Rattle.wgsl_parts.specs.declared.part.Part.TheVariants as part
 use Rattle.wgsl_phrases.specs.declared.phrase.Phrase.{Phrase}
 use Rattle.wgsl_read_back.proofs.Views as v
-use Rattle.wgsl_read_back.proofs.Items.{BeginsOutside, Back, CutList}
+use Rattle.wgsl_read_back.proofs.Items.{BeginsOutside, Back, CutList, AgainAs}
 use Rattle.wgsl_read_back.proofs.Pieces.{Lined, Vanished}
 
 -- a block, before which a mark may be left out
 abbrev pub Blocked : ℕ → List SpannedTemplateToken → Phrase Part → Type 0
 Blocked n u x = (b : Block) × (ts : List TemplateToken) × BlockTokens b ts × BeginsOutside ts × Back n (v.block b ts) u x × BeginsOutside (without_places u)
 
+-- a part is a `;` alone
+abbrev pub IsVoidStatement : Part → Type 0
+IsVoidStatement p = (y : Spanned Statement) × (p ≡ part.Statement y) × (statement_tree y.node ≡ None)
+
 -- a statement, or a `;` alone, of which nothing is printed
 pub data StatementRead (n : ℕ) (u : List SpannedTemplateToken) (x : Phrase Part) : Type 0 where
   a_stated : {s : Stm} {ts : List TemplateToken} → StmTokens s ts → Back n (v.statement s ts) u x → StatementRead n u x
-  a_void : (y : Spanned Statement) → x.part ≡ part.Statement y → statement_tree y.node ≡ None → x.failure ≡ None → without_places u ≡ mark f.Semicolon ∷ [] → StatementRead n u x
+  a_void : (y : Spanned Statement) → x.part ≡ part.Statement y → statement_tree y.node ≡ None → x.failure ≡ None → without_places u ≡ mark f.Semicolon ∷ []
+      → ((w : List SpannedTemplateToken) → without_places w ≡ without_places u → AgainAs (phrase n) IsVoidStatement w) → StatementRead n u x
 
 -- some in a row
 pub data StatementsRead (n : ℕ) (u : List SpannedTemplateToken) (x : Phrase Part) : Type 0 where
   some_stated : {s : Stm} {ss : Stms} {ts : List TemplateToken} → StmsTokens (cons s ss) ts → Lined n (v.statements (cons s ss) ts) u x → StatementsRead n u x
-  all_void : (ys : List (Spanned Statement)) → x.part ≡ part.Statements ys → statements_tree ys ≡ nil → Vanished (v.statements nil []) u x → StatementsRead n u x
+  all_void : (ys : List (Spanned Statement)) → x.part ≡ part.Statements ys → statements_tree ys ≡ nil → Vanished n (v.statements nil []) u x → StatementsRead n u x
 
 -- `else` and a block
 abbrev pub Otherwise : ℕ → List SpannedTemplateToken → Phrase Part → Type 0

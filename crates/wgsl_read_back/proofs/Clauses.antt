@@ -45,7 +45,7 @@ use Rattle.wgsl_read_back.proofs.Views.{View, view_tokens, Stands, an_expression
 use Rattle.wgsl_read_back.proofs.Views as v
 use Rattle.wgsl_read_back.proofs.Items.{BeginsOutside, begins_then, Back, CutList, OneToken, Again}
 use Rattle.wgsl_read_back.proofs.Rows.{make_of, Rebuild}
-use Rattle.wgsl_read_back.proofs.Pieces.{StandAll, Pieces, end, a_mark, a_part, some_lines, a_cut_list, outside_gone, mark_added, Fine, pieces_steps, Lined, lined_of, again_of, Made, made_as, pieces_back, pieces_lined, of_no_part, of_one_part, of_two_parts, of_three_parts, more_back, phrase_back}
+use Rattle.wgsl_read_back.proofs.Pieces.{StandAll, Pieces, end, a_mark, a_part, some_lines, a_cut_list, outside_gone, mark_added, Fine, pieces_steps, Lined, lined_of, again_of, likewise_of, Made, made_as, pieces_back, pieces_lined, of_no_part, of_one_part, of_two_parts, of_three_parts, more_back, phrase_back}
 use Rattle.wgsl_read_back.proofs.Families.{Expressed, mark_item, mark_tokens}
 use Rattle.wgsl_read_back.proofs.Operands.{both}
 use Rattle.wgsl_read_back.proofs.Lists.{separated_back, cut_without, cut_with}
@@ -80,15 +80,15 @@ block_made xs ss ts us vs = of_two_parts (λ qs. Made (l.Clause label.Block) qs 
     made_as (l.Clause label.Block) (p ∷ q ∷ []) (v.block (block xs ss) vs) (λ s. part.Block (record { attributes = attributes_of p; statements = statements_of q })) (λ s. refl)
     (λ s. a_block _ refl (λ i. block (attributes_are p xs ts h i) (statements_are q ss us g i))) (λ s. refl) refl)
 
-pub block_of : (n : ℕ) {ss : List Symbol} {ns : List ℕ} {r : Symbol} {rs : List Symbol} {ms : List ℕ} (rebuild : Rebuild n (r ∷ rs) (l.Clause label.Block) ms) {u : List SpannedTemplateToken} {x : Phrase Part} {ys : List (Phrase Part)} {xs : List Attr} {body : Stms} (ts us : List TemplateToken)
+pub block_of : (n : ℕ) {ss : List Symbol} {ns : List ℕ} {r : Symbol} {rs : List Symbol} {ms : List ℕ} (read : Rebuild n ss (l.Clause label.Block) ns) (rebuild : Rebuild n (r ∷ rs) (l.Clause label.Block) ms) {u : List SpannedTemplateToken} {x : Phrase Part} {ys : List (Phrase Part)} {xs : List Attr} {body : Stms} (ts us : List TemplateToken)
     → AttributesTokens xs ts → StmsTokens body us → (p : Pieces ss ns (r ∷ rs) ms (ts ++ in_braces us) (v.attributes xs ts ∷ v.statements body us ∷ []) u (x ∷ ys)) → (fine : (b : Before) (o : List Bool) → Fine p b o)
     → ((b : Before) (o : List Bool) → (pieces_steps p b o (fine b o)).opened ≡ o) → ((b : Before) (o : List Bool) → (pieces_steps p b o (fine b o)).last ≡ outside) → BeginsOutside (without_places u) → Blocked n u (make_of (l.Clause label.Block) ns (x ∷ ys))
-block_of n {ss = ss} {ns = ns} {r = r} {rs = rs} {ms = ms} rebuild {xs = xs} {body = body} ts us h g p fine level ended begins = (
+block_of n {ss = ss} {ns = ns} {r = r} {rs = rs} {ms = ms} read rebuild {xs = xs} {body = body} ts us h g p fine level ended begins = (
   block xs body,
   ts ++ in_braces us,
   tokens_of_block h g,
   brace_begins us h,
-  pieces_back n ss ns r rs ms (l.Clause label.Block) rebuild (v.block (block xs body) (ts ++ in_braces us)) p refl (block_made xs body ts us (ts ++ in_braces us)) fine level ended,
+  pieces_back n ss ns r rs ms (l.Clause label.Block) read rebuild (v.block (block xs body) (ts ++ in_braces us)) p refl (block_made xs body ts us (ts ++ in_braces us)) fine level ended,
   begins,
 )
 
@@ -100,7 +100,7 @@ else_block n m rebuild {a = a} {x = x} k g = (
   g.0,
   g.1,
   g.2,
-  pieces_back n (token (fixed_class f.Else) ∷ phrase m ∷ []) (1 ∷ 2 ∷ []) (token (fixed_class f.Else)) (phrase m ∷ []) (1 ∷ 2 ∷ []) l.Pass rebuild (v.otherwise (Some g.0) (mark f.Else ∷ g.1)) (a_mark (mark_item f.Else a x k) (a_part g.4 end))
+  pieces_back n (token (fixed_class f.Else) ∷ phrase m ∷ []) (1 ∷ 2 ∷ []) (token (fixed_class f.Else)) (phrase m ∷ []) (1 ∷ 2 ∷ []) l.Pass rebuild rebuild (v.otherwise (Some g.0) (mark f.Else ∷ g.1)) (a_mark (mark_item f.Else a x k) (a_part g.4 end))
       (ap (λ z. mark f.Else ∷ z) (append-nil g.1)) (makes g.0 g.1 (mark f.Else ∷ g.1)) (λ b o. tt) (λ b o. refl) (λ b o. g.4.ended _ _),
 )
   where
@@ -121,7 +121,7 @@ else_if_read n m r rebuild {a = a} {b = b} {x = x} {y = y} i j e g = (
   g.1,
   e.1,
   g.2,
-  pieces_back n (else_if_row m r) (1 ∷ 1 ∷ 2 ∷ 2 ∷ []) (token (fixed_class f.Else)) (token (fixed_class f.If) ∷ phrase m ∷ phrase r ∷ []) (1 ∷ 1 ∷ 2 ∷ 2 ∷ []) (l.Clause label.ElseIf) rebuild (v.else_if e.0 g.0 (else_if_tokens e.0 g.1))
+  pieces_back n (else_if_row m r) (1 ∷ 1 ∷ 2 ∷ 2 ∷ []) (token (fixed_class f.Else)) (token (fixed_class f.If) ∷ phrase m ∷ phrase r ∷ []) (1 ∷ 1 ∷ 2 ∷ 2 ∷ []) (l.Clause label.ElseIf) rebuild rebuild (v.else_if e.0 g.0 (else_if_tokens e.0 g.1))
       (a_mark (mark_item f.Else a x i) (a_mark (mark_item f.If b y j) (a_part e.2 (a_part g.4 end)))) (λ i. mark f.Else ∷ mark f.If ∷ (exp_tokens e.0 ++ append-nil g.1 i)) (makes e.0 g.0 g.1 (else_if_tokens e.0 g.1)) (λ b o. tt) (λ b o. refl) (λ b o. g.4.ended _ _),
 )
   where
@@ -173,7 +173,7 @@ pub default_selected : (n : ℕ) → Rebuild n (token (fixed_class f.Default) �
 default_selected n rebuild {u = u} {x = x} k = (
   default_selector,
   refl,
-  pieces_back n (token (fixed_class f.Default) ∷ []) (1 ∷ []) (token (fixed_class f.Default)) [] (1 ∷ []) (l.Clause label.DefaultSelector) rebuild (v.selector default_selector) (a_mark (mark_item f.Default u x k) end) refl
+  pieces_back n (token (fixed_class f.Default) ∷ []) (1 ∷ []) (token (fixed_class f.Default)) [] (1 ∷ []) (l.Clause label.DefaultSelector) rebuild rebuild (v.selector default_selector) (a_mark (mark_item f.Default u x k) end) refl
       (of_no_part (λ qs. Made (l.Clause label.DefaultSelector) qs (v.selector default_selector))
       (made_as (l.Clause label.DefaultSelector) [] (v.selector default_selector) (λ s. part.Selector selectors.Default) (λ s. refl) (λ s. a_selector selectors.Default refl refl) (λ s. refl) refl)) (λ b o. tt) (λ b o. refl) (λ b o. tt),
 )
@@ -227,8 +227,8 @@ more_selectors n m rebuild g k h = (
 pub selectors_without : (n m : ℕ) → Rebuild n (phrase m ∷ []) l.Pass (2 ∷ []) → {u : List SpannedTemplateToken} {x : Phrase Part} → SelectorsSeparated m u x → SelectorsListed n (u ++ []) (make_of l.Pass (2 ∷ []) (x ∷ []))
 selectors_without n m rebuild g = (g.0, g.1, g.2, cut_without n m (v.selectors (g.0 ∷ g.1)) rebuild g.3)
 
-pub selectors_with : (n m : ℕ) → Rebuild n (phrase m ∷ []) l.Pass (2 ∷ []) → {a b : List SpannedTemplateToken} {x y : Phrase Part} → SelectorsSeparated m a x → OneToken (fixed_class f.Comma) b y → SelectorsListed n (a ++ (b ++ [])) (make_of l.Pass (2 ∷ 1 ∷ []) (x ∷ y ∷ []))
-selectors_with n m rebuild g k = (g.0, g.1, g.2, cut_with n m (v.selectors (g.0 ∷ g.1)) rebuild g.3 k)
+pub selectors_with : (n m : ℕ) → Rebuild n (phrase m ∷ token (fixed_class f.Comma) ∷ []) l.Pass (2 ∷ 1 ∷ []) → Rebuild n (phrase m ∷ []) l.Pass (2 ∷ []) → {a b : List SpannedTemplateToken} {x y : Phrase Part} → SelectorsSeparated m a x → OneToken (fixed_class f.Comma) b y → SelectorsListed n (a ++ (b ++ [])) (make_of l.Pass (2 ∷ 1 ∷ []) (x ∷ y ∷ []))
+selectors_with n m read rebuild g k = (g.0, g.1, g.2, cut_with n m (v.selectors (g.0 ∷ g.1)) read rebuild g.3 k)
 
 -- ---- what ends a loop
 
@@ -240,7 +240,7 @@ break_if_read n m rebuild {a = a} {b = b} {d = d} {x = x} {y = y} {w = w} i j e 
       o,
       ts,
       tokens_of_break_if e.1,
-      pieces_back n (token (fixed_class f.Break) ∷ token (fixed_class f.If) ∷ phrase m ∷ token (fixed_class f.Semicolon) ∷ []) (1 ∷ 1 ∷ 2 ∷ 1 ∷ []) (token (fixed_class f.Break)) (token (fixed_class f.If) ∷ phrase m ∷ token (fixed_class f.Semicolon) ∷ []) (1 ∷ 1 ∷ 2 ∷ 1 ∷ []) (l.Clause label.BreakIf) rebuild (v.break_if (Some o) ts)
+      pieces_back n (token (fixed_class f.Break) ∷ token (fixed_class f.If) ∷ phrase m ∷ token (fixed_class f.Semicolon) ∷ []) (1 ∷ 1 ∷ 2 ∷ 1 ∷ []) (token (fixed_class f.Break)) (token (fixed_class f.If) ∷ phrase m ∷ token (fixed_class f.Semicolon) ∷ []) (1 ∷ 1 ∷ 2 ∷ 1 ∷ []) (l.Clause label.BreakIf) rebuild rebuild (v.break_if (Some o) ts)
           (a_mark (mark_item f.Break a x i) (a_mark (mark_item f.If b y j) (a_part e.2 (a_mark (mark_item f.Semicolon d w k) end)))) refl (makes e.0 ts) (λ b o. tt) (λ b o. refl) (λ b o. refl),
     )
   where
@@ -257,15 +257,15 @@ continuing_made xs ss o ts us vs ws = of_three_parts (λ qs. Made (l.Clause labe
     (λ s. part.Continuing (record { attributes = []; body = record { attributes = attributes_of p; statements = statements_of q }; break_if = break_if_in r })) (λ s. refl)
     (λ s. an_ending _ refl (λ i. continuing_statement [] (block (attributes_are p xs ts h i) (statements_are q ss us g i)) (break_if_is r o vs k i))) (λ s. refl) refl)
 
-pub continuing_of : (n : ℕ) {ss : List Symbol} {ns : List ℕ} {r : Symbol} {rs : List Symbol} {ms : List ℕ} (rebuild : Rebuild n (r ∷ rs) (l.Clause label.Continuing) ms) {u : List SpannedTemplateToken} {x : Phrase Part} {ys : List (Phrase Part)} {xs : List Attr} {body : Stms} {o : Option BreakIf} (ts us vs : List TemplateToken)
+pub continuing_of : (n : ℕ) {ss : List Symbol} {ns : List ℕ} {r : Symbol} {rs : List Symbol} {ms : List ℕ} (read : Rebuild n ss (l.Clause label.Continuing) ns) (rebuild : Rebuild n (r ∷ rs) (l.Clause label.Continuing) ms) {u : List SpannedTemplateToken} {x : Phrase Part} {ys : List (Phrase Part)} {xs : List Attr} {body : Stms} {o : Option BreakIf} (ts us vs : List TemplateToken)
     → AttributesTokens xs ts → StmsTokens body us → BreakIfTokens o vs → (p : Pieces ss ns (r ∷ rs) ms (mark f.Continuing ∷ (ts ++ (mark f.BraceLeft ∷ (us ++ (vs ++ (mark f.BraceRight ∷ [])))))) (v.attributes xs ts ∷ v.statements body us ∷ v.break_if o vs ∷ []) u (x ∷ ys))
     → (fine : (b : Before) (q : List Bool) → Fine p b q) → ((b : Before) (q : List Bool) → (pieces_steps p b q (fine b q)).opened ≡ q) → ((b : Before) (q : List Bool) → (pieces_steps p b q (fine b q)).last ≡ outside) → Continued n u (make_of (l.Clause label.Continuing) ns (x ∷ ys))
-continuing_of n {ss = ss} {ns = ns} {r = r} {rs = rs} {ms = ms} rebuild {xs = xs} {body = body} {o = o} ts us vs h g k p fine level ended =
+continuing_of n {ss = ss} {ns = ns} {r = r} {rs = rs} {ms = ms} read rebuild {xs = xs} {body = body} {o = o} ts us vs h g k p fine level ended =
     let ws : List TemplateToken = mark f.Continuing ∷ (ts ++ in_braces (us ++ vs)) in (
       continuing_statement [] (block xs body) o,
       ws,
       an_end h g k,
-      pieces_back n ss ns r rs ms (l.Clause label.Continuing) rebuild (v.ending (continuing_statement [] (block xs body) o) ws) p (ap (λ z. mark f.Continuing ∷ (ts ++ (mark f.BraceLeft ∷ z))) (sym (append_assoc us vs (mark f.BraceRight ∷ []))))
+      pieces_back n ss ns r rs ms (l.Clause label.Continuing) read rebuild (v.ending (continuing_statement [] (block xs body) o) ws) p (ap (λ z. mark f.Continuing ∷ (ts ++ (mark f.BraceLeft ∷ z))) (sym (append_assoc us vs (mark f.BraceRight ∷ []))))
           (continuing_made xs body o ts us vs ws) fine level ended,
     )
 
@@ -310,18 +310,18 @@ module _ (n m : ℕ) (colon : Rebuild n (default_row m) (l.Clause label.Default)
     g.1,
     refl,
     g.2,
-    pieces_lined n (default_row m) (1 ∷ 1 ∷ 2 ∷ []) (token (fixed_class f.Default)) (token (fixed_class f.Colon) ∷ phrase m ∷ []) (1 ∷ 1 ∷ 2 ∷ []) (l.Clause label.Default) colon (v.clause (default_selector ∷ []) g.0 (clause_tokens (default_selector ∷ []) g.1))
+    pieces_lined n (default_row m) (1 ∷ 1 ∷ 2 ∷ []) (token (fixed_class f.Default)) (token (fixed_class f.Colon) ∷ phrase m ∷ []) (1 ∷ 1 ∷ 2 ∷ []) (l.Clause label.Default) colon colon (v.clause (default_selector ∷ []) g.0 (clause_tokens (default_selector ∷ []) g.1))
         (a_mark (mark_item f.Default a x i) (a_mark (mark_item f.Colon b y k) (a_part g.4 end))) (ap (λ z. mark f.Default ∷ mark f.Colon ∷ z) (append-nil g.1)) (default_made g.0 g.1 (clause_tokens (default_selector ∷ []) g.1)) (λ o. tt) (λ o. refl) (λ o. g.4.ended _ _),
   )
 
-  pub default_without : {a c : List SpannedTemplateToken} {x z : Phrase Part} → OneToken (fixed_class f.Default) a x → Blocked m c z → Claused n (a ++ (c ++ [])) (make_of (l.Clause label.Default) (1 ∷ 2 ∷ []) (x ∷ z ∷ []))
-  default_without {a = a} {c = c} {x = x} i g = (
+  pub default_without : Rebuild n (bare_default_row m) (l.Clause label.Default) (1 ∷ 2 ∷ []) → {a c : List SpannedTemplateToken} {x z : Phrase Part} → OneToken (fixed_class f.Default) a x → Blocked m c z → Claused n (a ++ (c ++ [])) (make_of (l.Clause label.Default) (1 ∷ 2 ∷ []) (x ∷ z ∷ []))
+  default_without read {a = a} {c = c} {x = x} i g = (
     default_selector ∷ [],
     g.0,
     g.1,
     refl,
     g.2,
-    pieces_lined n (bare_default_row m) (1 ∷ 2 ∷ []) (token (fixed_class f.Default)) (token (fixed_class f.Colon) ∷ phrase m ∷ []) (1 ∷ 1 ∷ 2 ∷ []) (l.Clause label.Default) colon (v.clause (default_selector ∷ []) g.0 (clause_tokens (default_selector ∷ []) g.1))
+    pieces_lined n (bare_default_row m) (1 ∷ 2 ∷ []) (token (fixed_class f.Default)) (token (fixed_class f.Colon) ∷ phrase m ∷ []) (1 ∷ 1 ∷ 2 ∷ []) (l.Clause label.Default) read colon (v.clause (default_selector ∷ []) g.0 (clause_tokens (default_selector ∷ []) g.1))
         (a_mark (mark_item f.Default a x i) (mark_added (mark f.Colon) colon_spelled refl (begins_then c [] g.5) (a_part g.4 end))) (ap (λ z. mark f.Default ∷ mark f.Colon ∷ z) (append-nil g.1)) (default_made g.0 g.1 (clause_tokens (default_selector ∷ []) g.1)) (λ o. tt) (λ o. refl) (λ o. g.4.ended _ _),
   )
 
@@ -335,25 +335,26 @@ module _ (n m : ℕ) (colon : Rebuild n (default_row m) (l.Clause label.Default)
   default_again : {b : Block} {ts : List TemplateToken} {c : List SpannedTemplateToken} {z : Phrase Part} → Back m (v.block b ts) c z → (w : List SpannedTemplateToken) → without_places w ≡ clause_tokens (default_selector ∷ []) ts
       → Again (phrase n) (v.clause (default_selector ∷ []) b (clause_tokens (default_selector ∷ []) ts)) w
   default_again {b = b} {ts = ts} g =
-      again_of n (default_row m) (1 ∷ 1 ∷ 2 ∷ []) (token (fixed_class f.Default)) (token (fixed_class f.Colon) ∷ phrase m ∷ []) (1 ∷ 1 ∷ 2 ∷ []) (l.Clause label.Default) colon (v.clause (default_selector ∷ []) b (clause_tokens (default_selector ∷ []) ts))
+      again_of n (default_row m) (1 ∷ 1 ∷ 2 ∷ []) (token (fixed_class f.Default)) (token (fixed_class f.Colon) ∷ phrase m ∷ []) (1 ∷ 1 ∷ 2 ∷ []) (l.Clause label.Default) colon colon (v.clause (default_selector ∷ []) b (clause_tokens (default_selector ∷ []) ts))
       (a_mark (mark_item f.Default _ _ (written f.Default)) (a_mark (mark_item f.Colon _ _ (written f.Colon)) (a_part g end))) (ap (λ z. mark f.Default ∷ mark f.Colon ∷ z) (append-nil ts)) (default_made b ts (clause_tokens (default_selector ∷ []) ts))
 
   module _ (r : ℕ) (cased : Rebuild n (case_row m r) (l.Clause label.Case) (1 ∷ 2 ∷ 1 ∷ 2 ∷ [])) where
     -- of a clause that is printed with `case`
-    case_lined : {ss : List Symbol} {ns : List ℕ} {u : List SpannedTemplateToken} {x : Phrase Part} {ys : List (Phrase Part)} (xs : List Selector) (b : Block) (ts : List TemplateToken) → mark f.Case ∷ selectors_tokens xs ≡ case_tokens xs
+    case_lined : {ss : List Symbol} {ns : List ℕ} → Rebuild n ss (l.Clause label.Case) ns → {u : List SpannedTemplateToken} {x : Phrase Part} {ys : List (Phrase Part)} (xs : List Selector) (b : Block) (ts : List TemplateToken) → mark f.Case ∷ selectors_tokens xs ≡ case_tokens xs
         → (p : Pieces ss ns (case_row m r) (1 ∷ 2 ∷ 1 ∷ 2 ∷ []) (mark f.Case ∷ (selectors_tokens xs ++ (mark f.Colon ∷ (ts ++ [])))) (v.selectors xs ∷ v.block b ts ∷ []) u (x ∷ ys)) → (fine : (o : List Bool) → Fine p outside o)
         → ((o : List Bool) → (pieces_steps p outside o (fine o)).opened ≡ o) → ((o : List Bool) → (pieces_steps p outside o (fine o)).last ≡ outside) → Lined n (v.clause xs b (clause_tokens xs ts)) u (make_of (l.Clause label.Case) ns (x ∷ ys))
-    case_lined {ss = ss} {ns = ns} xs b ts same p fine level ended =
-        pieces_lined n ss ns (token (fixed_class f.Case)) (phrase r ∷ token (fixed_class f.Colon) ∷ phrase m ∷ []) (1 ∷ 2 ∷ 1 ∷ 2 ∷ []) (l.Clause label.Case) cased (v.clause xs b (clause_tokens xs ts)) p
+    case_lined {ss = ss} {ns = ns} read xs b ts same p fine level ended =
+        pieces_lined n ss ns (token (fixed_class f.Case)) (phrase r ∷ token (fixed_class f.Colon) ∷ phrase m ∷ []) (1 ∷ 2 ∷ 1 ∷ 2 ∷ []) (l.Clause label.Case) read cased (v.clause xs b (clause_tokens xs ts)) p
         ((λ i. mark f.Case ∷ (selectors_tokens xs ++ (mark f.Colon ∷ append-nil ts i))) ∙ ap (λ z. z ++ (mark f.Colon ∷ ts)) same) (case_made xs b ts (clause_tokens xs ts)) fine level ended
 
     -- of one that is not
-    lone_lined : {ss rs : List Symbol} {ns ms : List ℕ} {u : List SpannedTemplateToken} {x : Phrase Part} {ys : List (Phrase Part)} {c : List SpannedTemplateToken} {z : Phrase Part} (b : Block) (ts : List TemplateToken) → Back m (v.block b ts) c z
+    lone_lined : {ss rs : List Symbol} {ns ms : List ℕ} → Rebuild n ss (l.Clause label.Case) ns → {u : List SpannedTemplateToken} {x : Phrase Part} {ys : List (Phrase Part)} {c : List SpannedTemplateToken} {z : Phrase Part} (b : Block) (ts : List TemplateToken) → Back m (v.block b ts) c z
         → (p : Pieces ss ns rs ms (mark f.Default ∷ (mark f.Colon ∷ (ts ++ []))) (v.selectors (default_selector ∷ []) ∷ v.block b ts ∷ []) u (x ∷ ys)) → (fine : (o : List Bool) → Fine p outside o)
         → ((o : List Bool) → (pieces_steps p outside o (fine o)).opened ≡ o) → ((o : List Bool) → (pieces_steps p outside o (fine o)).last ≡ outside)
         → Lined n (v.clause (default_selector ∷ []) b (clause_tokens (default_selector ∷ []) ts)) u (make_of (l.Clause label.Case) ns (x ∷ ys))
-    lone_lined {ns = ns} b ts g p fine level ended =
-        lined_of (l.Clause label.Case) ns (v.clause (default_selector ∷ []) b (clause_tokens (default_selector ∷ []) ts)) p (ap (λ z. mark f.Default ∷ mark f.Colon ∷ z) (append-nil ts)) (case_made (default_selector ∷ []) b ts (clause_tokens (default_selector ∷ []) ts)) (default_again g) fine level ended
+    lone_lined {ss = ss} {ns = ns} read b ts g p fine level ended =
+        lined_of (l.Clause label.Case) ns (v.clause (default_selector ∷ []) b (clause_tokens (default_selector ∷ []) ts)) p (ap (λ z. mark f.Default ∷ mark f.Colon ∷ z) (append-nil ts)) (case_made (default_selector ∷ []) b ts (clause_tokens (default_selector ∷ []) ts)) (default_again g)
+        (likewise_of n ss ns (l.Clause label.Case) read (v.clause (default_selector ∷ []) b (clause_tokens (default_selector ∷ []) ts)) p (case_made (default_selector ∷ []) b ts (clause_tokens (default_selector ∷ []) ts))) fine level ended
 
     pub case_with : {a b c d : List SpannedTemplateToken} {x y z w : Phrase Part} → OneToken (fixed_class f.Case) a x → SelectorsListed r b y → OneToken (fixed_class f.Colon) c z → Blocked m d w
         → Claused n (a ++ (b ++ (c ++ (d ++ [])))) (make_of (l.Clause label.Case) (1 ∷ 2 ∷ 1 ∷ 2 ∷ []) (x ∷ y ∷ z ∷ w ∷ []))
@@ -361,25 +362,25 @@ module _ (n m : ℕ) (colon : Rebuild n (default_row m) (l.Clause label.Default)
       where
         lined : (q : Selector) (qs : List Selector) → CutList r (v.selectors (q ∷ qs)) b y → Lined n (v.clause (q ∷ qs) g.0 (clause_tokens (q ∷ qs) g.1)) (a ++ (b ++ (c ++ (d ++ [])))) (make_of (l.Clause label.Case) (1 ∷ 2 ∷ 1 ∷ 2 ∷ []) (x ∷ y ∷ z ∷ w ∷ []))
         lined default_selector [] h =
-            lone_lined g.0 g.1 g.4 (outside_gone (mark f.Case) (mark_item f.Case a x i) (mark_tokens f.Case i) refl (a_cut_list h (mark_begins f.Colon (λ us. refl) c (d ++ []) k) (λ us. refl) (a_mark (mark_item f.Colon c z k) (a_part g.4 end))))
+            lone_lined cased g.0 g.1 g.4 (outside_gone (mark f.Case) (mark_item f.Case a x i) (mark_tokens f.Case i) refl (a_cut_list h (mark_begins f.Colon (λ us. refl) c (d ++ []) k) (λ us. refl) (a_mark (mark_item f.Colon c z k) (a_part g.4 end))))
             (λ o. (refl, tt)) (λ o. refl) (λ o. g.4.ended _ _)
         lined default_selector (p ∷ ps) h =
-            case_lined (default_selector ∷ p ∷ ps) g.0 g.1 refl (a_mark (mark_item f.Case a x i) (a_cut_list h (mark_begins f.Colon (λ us. refl) c (d ++ []) k) (λ us. refl) (a_mark (mark_item f.Colon c z k) (a_part g.4 end)))) (λ o. tt) (λ o. refl) (λ o. g.4.ended _ _)
+            case_lined cased (default_selector ∷ p ∷ ps) g.0 g.1 refl (a_mark (mark_item f.Case a x i) (a_cut_list h (mark_begins f.Colon (λ us. refl) c (d ++ []) k) (λ us. refl) (a_mark (mark_item f.Colon c z k) (a_part g.4 end)))) (λ o. tt) (λ o. refl) (λ o. g.4.ended _ _)
         lined (selected e) qs h =
-            case_lined (selected e ∷ qs) g.0 g.1 refl (a_mark (mark_item f.Case a x i) (a_cut_list h (mark_begins f.Colon (λ us. refl) c (d ++ []) k) (λ us. refl) (a_mark (mark_item f.Colon c z k) (a_part g.4 end)))) (λ o. tt) (λ o. refl) (λ o. g.4.ended _ _)
+            case_lined cased (selected e ∷ qs) g.0 g.1 refl (a_mark (mark_item f.Case a x i) (a_cut_list h (mark_begins f.Colon (λ us. refl) c (d ++ []) k) (λ us. refl) (a_mark (mark_item f.Colon c z k) (a_part g.4 end)))) (λ o. tt) (λ o. refl) (λ o. g.4.ended _ _)
 
-    pub case_without : {a b d : List SpannedTemplateToken} {x y w : Phrase Part} → OneToken (fixed_class f.Case) a x → SelectorsListed r b y → Blocked m d w
+    pub case_without : Rebuild n (bare_case_row m r) (l.Clause label.Case) (1 ∷ 2 ∷ 2 ∷ []) → {a b d : List SpannedTemplateToken} {x y w : Phrase Part} → OneToken (fixed_class f.Case) a x → SelectorsListed r b y → Blocked m d w
         → Claused n (a ++ (b ++ (d ++ []))) (make_of (l.Clause label.Case) (1 ∷ 2 ∷ 2 ∷ []) (x ∷ y ∷ w ∷ []))
-    case_without {a = a} {b = b} {d = d} {x = x} {y = y} {w = w} i s g = (s.0 ∷ s.1, g.0, g.1, s.2, g.2, lined s.0 s.1 s.3)
+    case_without read {a = a} {b = b} {d = d} {x = x} {y = y} {w = w} i s g = (s.0 ∷ s.1, g.0, g.1, s.2, g.2, lined s.0 s.1 s.3)
       where
         lined : (q : Selector) (qs : List Selector) → CutList r (v.selectors (q ∷ qs)) b y → Lined n (v.clause (q ∷ qs) g.0 (clause_tokens (q ∷ qs) g.1)) (a ++ (b ++ (d ++ []))) (make_of (l.Clause label.Case) (1 ∷ 2 ∷ 2 ∷ []) (x ∷ y ∷ w ∷ []))
         lined default_selector [] h =
-            lone_lined g.0 g.1 g.4 (outside_gone (mark f.Case) (mark_item f.Case a x i) (mark_tokens f.Case i) refl (a_cut_list h (begins_then d [] g.5) (λ us. refl) (mark_added (mark f.Colon) colon_spelled refl (begins_then d [] g.5) (a_part g.4 end))))
+            lone_lined read g.0 g.1 g.4 (outside_gone (mark f.Case) (mark_item f.Case a x i) (mark_tokens f.Case i) refl (a_cut_list h (begins_then d [] g.5) (λ us. refl) (mark_added (mark f.Colon) colon_spelled refl (begins_then d [] g.5) (a_part g.4 end))))
             (λ o. (refl, tt)) (λ o. refl) (λ o. g.4.ended _ _)
         lined default_selector (p ∷ ps) h =
-            case_lined (default_selector ∷ p ∷ ps) g.0 g.1 refl (a_mark (mark_item f.Case a x i) (a_cut_list h (begins_then d [] g.5) (λ us. refl) (mark_added (mark f.Colon) colon_spelled refl (begins_then d [] g.5) (a_part g.4 end)))) (λ o. tt) (λ o. refl) (λ o. g.4.ended _ _)
+            case_lined read (default_selector ∷ p ∷ ps) g.0 g.1 refl (a_mark (mark_item f.Case a x i) (a_cut_list h (begins_then d [] g.5) (λ us. refl) (mark_added (mark f.Colon) colon_spelled refl (begins_then d [] g.5) (a_part g.4 end)))) (λ o. tt) (λ o. refl) (λ o. g.4.ended _ _)
         lined (selected e) qs h =
-            case_lined (selected e ∷ qs) g.0 g.1 refl (a_mark (mark_item f.Case a x i) (a_cut_list h (begins_then d [] g.5) (λ us. refl) (mark_added (mark f.Colon) colon_spelled refl (begins_then d [] g.5) (a_part g.4 end)))) (λ o. tt) (λ o. refl) (λ o. g.4.ended _ _)
+            case_lined read (selected e ∷ qs) g.0 g.1 refl (a_mark (mark_item f.Case a x i) (a_cut_list h (begins_then d [] g.5) (λ us. refl) (mark_added (mark f.Colon) colon_spelled refl (begins_then d [] g.5) (a_part g.4 end)))) (λ o. tt) (λ o. refl) (λ o. g.4.ended _ _)
 
 -- ---- clauses in a row
 
@@ -406,7 +407,7 @@ first_clause n m rebuild g =
       switch_clause g.0 g.1 no_clauses,
       ts,
       clause_alone g.0 g.1 g.2 g.3 g.4,
-      pieces_lined n (phrase m ∷ []) (2 ∷ []) (phrase m) [] (2 ∷ []) l.First rebuild (v.clauses (switch_clause g.0 g.1 no_clauses) ts) (some_lines g.5 end) (append-nil ts) (makes g.0 g.1 ts) (λ o. (refl, tt)) (λ o. refl) (λ o. refl),
+      pieces_lined n (phrase m ∷ []) (2 ∷ []) (phrase m) [] (2 ∷ []) l.First rebuild rebuild (v.clauses (switch_clause g.0 g.1 no_clauses) ts) (some_lines g.5 end) (append-nil ts) (makes g.0 g.1 ts) (λ o. (refl, tt)) (λ o. refl) (λ o. refl),
     )
   where
     makes : (xs : List Selector) (b : Block) (ts : List TemplateToken) (qs : List Part) → StandAll qs (v.clause xs b ts ∷ []) → Made l.First qs (v.clauses (switch_clause xs b no_clauses) ts)
@@ -422,7 +423,7 @@ more_clauses n m rebuild g h =
       clauses_last g.0 h.0 h.1,
       g.1 ++ ts,
       clauses_tokens_last h.0 h.1 h.2 g.2 h.3 h.4,
-      pieces_lined n (phrase n ∷ phrase m ∷ []) (2 ∷ 2 ∷ []) (phrase n) (phrase m ∷ []) (2 ∷ 2 ∷ []) l.More rebuild (v.clauses (clauses_last g.0 h.0 h.1) (g.1 ++ ts)) (some_lines g.3 (some_lines h.5 end)) (ap (λ z. g.1 ++ z) (append-nil ts)) (makes g.0 g.1 h.0 h.1 ts)
+      pieces_lined n (phrase n ∷ phrase m ∷ []) (2 ∷ 2 ∷ []) (phrase n) (phrase m ∷ []) (2 ∷ 2 ∷ []) l.More rebuild rebuild (v.clauses (clauses_last g.0 h.0 h.1) (g.1 ++ ts)) (some_lines g.3 (some_lines h.5 end)) (ap (λ z. g.1 ++ z) (append-nil ts)) (makes g.0 g.1 h.0 h.1 ts)
           (λ o. (refl, (refl, tt))) (λ o. refl) (λ o. refl),
     )
   where

@@ -1,5 +1,5 @@
 -- The productions of declarations of a module.
-use Rattle.std.proofs.Common.{◌≡◌, refl, ap, ◌∙◌, ℕ, Bool, List, [], ◌∷◌, ◌++◌, append-nil, Option, Some, None}
+use Rattle.std.proofs.Common.{◌≡◌, refl, ap, ◌∙◌, subst, ℕ, Bool, List, [], ◌∷◌, ◌++◌, append-nil, Option, Some, None}
 use Rattle.wgsl_path.specs.declared.span.Spanned.{Spanned}
 use Rattle.wgsl_path.specs.Paths.{ident_of}
 use Rattle.wgsl_token.specs.declared.token.Fixed.TheVariants as f
@@ -21,20 +21,21 @@ use Rattle.wgsl_tree_tokens.specs.Imports.{AttributesTokens, no_attributes}
 use Rattle.wgsl_module_tokens.specs.Simple.{declared_tokens, asserted_tokens}
 use Rattle.wgsl_module_tokens.specs.Statements.{in_braces, BlockTokens}
 use Rattle.wgsl_module_tokens.specs.Declarations.{ParametersTokens, no_parameters, ResultTokens, no_result, a_result, DeclTokens, a_variable, an_alias, a_structure, a_function, an_assertion}
-use Rattle.wgsl_shift_reduce.specs.Grammars.{Symbol, token, phrase}
+use Rattle.wgsl_shift_reduce.specs.Grammars.{Symbol, token, phrase, Derives, done, next}
 use Rattle.wgsl_parts.specs.Reading.{attributes_of}
 use Rattle.wgsl_parts.specs.declared.part.Part.{Part}
 use Rattle.wgsl_parts.specs.declared.part.Part.TheVariants as part
 use Rattle.wgsl_parts.specs.declared.label.Label.TheVariants as l
 use Rattle.wgsl_parts.specs.declared.label.DeclarationLabel.TheVariants as label
 use Rattle.wgsl_phrases.specs.declared.phrase.Phrase.{Phrase}
+use Rattle.wgsl_reading.specs.Phrases.{grammar}
 use Rattle.wgsl_phrases.specs.Gathering.{either}
 use Rattle.wgsl_make.specs.Declarations as make
 use Rattle.wgsl_make.specs.Reading.{parameters_of, return_attributes_of, return_type_in}
 use Rattle.wgsl_grammar_tables.specs.Classes.{fixed_class}
 use Rattle.wgsl_read_back.proofs.Views.{View, Stands, a_type, a_declared, an_asserted, some_members, a_block, a_declaration}
 use Rattle.wgsl_read_back.proofs.Views as v
-use Rattle.wgsl_read_back.proofs.Items.{places_append, begins_then, Back, OneToken, closes}
+use Rattle.wgsl_read_back.proofs.Items.{places_append, begins_then, AgainAs, Back, OneToken, closes}
 use Rattle.wgsl_read_back.proofs.Rows.{make_of, Rebuild}
 use Rattle.wgsl_read_back.proofs.Pieces.{Pieces, Fine, pieces_steps, end, a_mark, a_leaf, a_part, a_list, a_cut_list, no_part, Made, made_as, pieces_back, of_one_part, of_two_parts, of_five_parts}
 use Rattle.wgsl_read_back.proofs.Places.{word_of}
@@ -48,6 +49,10 @@ use Rattle.wgsl_read_back.proofs.Members.{MembersListed}
 
 -- ---- what phrases are
 
+-- a part is a `;` alone
+abbrev pub IsVoidDeclaration : Part → Type 0
+IsVoidDeclaration p = (y : Spanned GlobalDeclaration) × (p ≡ part.Global y) × (declaration_tree y.node ≡ None)
+
 -- `;` alone, which is no declaration
 pub record IsVoid (n : ℕ) (u : List SpannedTemplateToken) (x : Phrase Part) : Type 0 where
   pub node : Spanned GlobalDeclaration
@@ -55,6 +60,7 @@ pub record IsVoid (n : ℕ) (u : List SpannedTemplateToken) (x : Phrase Part) : 
   pub void : declaration_tree node.node ≡ None
   pub passes : x.failure ≡ None
   pub tokens : without_places u ≡ mark f.Semicolon ∷ []
+  pub likewise : (w : List SpannedTemplateToken) → without_places w ≡ without_places u → AgainAs (phrase n) IsVoidDeclaration w
 
 pub data Declared (n : ℕ) (u : List SpannedTemplateToken) (x : Phrase Part) : Type 0 where
   declares : (d : Decl) (ts : List TemplateToken) → DeclTokens d ts → Back n (v.declaration d ts) u x → Declared n u x
@@ -63,13 +69,22 @@ pub data Declared (n : ℕ) (u : List SpannedTemplateToken) (x : Phrase Part) : 
 abbrev a_semicolon : List TemplateToken
 a_semicolon = mark f.Semicolon ∷ []
 
-pub void_declared : (n : ℕ) → {u : List SpannedTemplateToken} {x : Phrase Part} → OneToken (fixed_class f.Semicolon) u x → Declared n (u ++ []) (make_of (l.Declaration label.VoidDeclaration) (1 ∷ []) (x ∷ []))
-void_declared n {u = u} {x = x} k = is_void (record {
+pub void_declared : (n : ℕ) → Rebuild n (token (fixed_class f.Semicolon) ∷ []) (l.Declaration label.VoidDeclaration) (1 ∷ []) → {u : List SpannedTemplateToken} {x : Phrase Part} → OneToken (fixed_class f.Semicolon) u x
+    → Declared n (u ++ []) (make_of (l.Declaration label.VoidDeclaration) (1 ∷ []) (x ∷ []))
+void_declared n rebuild {u = u} {x = x} k = is_void (record {
   node = record { node = code.Void; span = x.span };
   part_is = refl;
   void = refl;
   passes = ap (λ z. either z None) (mark_item f.Semicolon u x k).passes;
   tokens = places_append u [] ∙ append-nil (without_places u) ∙ mark_tokens f.Semicolon k;
+  likewise = λ w e.
+      let a = (mark_item f.Semicolon u x k).likewise w (e ∙ ap without_places (append-nil u)) in
+      let P : List SpannedTemplateToken → Type 0 = λ z. Derives grammar (phrase n) z (make_of (l.Declaration label.VoidDeclaration) (1 ∷ []) (a.value ∷ [])) in record {
+        value = make_of (l.Declaration label.VoidDeclaration) (1 ∷ []) (a.value ∷ []);
+        derives = subst P (append-nil w) (rebuild (w ++ []) (a.value ∷ []) (next a.derives done));
+        is = (record { node = code.Void; span = a.value.span }, refl, refl);
+        passes = ap (λ z. either z None) a.passes;
+      };
 })
 
 -- ---- values
@@ -92,7 +107,7 @@ global_bare n m rebuild {b = b} {y = y} g i =
     let d = variable [] g.0 g.1 g.2 g.3 in
     let ts = declared_tokens g.0 g.1 g.2 g.3 ++ a_semicolon in
     declares d ts (a_variable g.0 g.1 no_attributes g.4 g.5)
-    (pieces_back n (ended_row m) (0 ∷ 2 ∷ 1 ∷ []) (phrase m) (token (fixed_class f.Semicolon) ∷ []) (0 ∷ 2 ∷ 1 ∷ []) (l.Declaration label.Global) rebuild (v.declaration d ts)
+    (pieces_back n (ended_row m) (0 ∷ 2 ∷ 1 ∷ []) (phrase m) (token (fixed_class f.Semicolon) ∷ []) (0 ∷ 2 ∷ 1 ∷ []) (l.Declaration label.Global) rebuild rebuild (v.declaration d ts)
     (no_part (v.attributes [] []) (v.no_attributes refl) (a_part g.6 (a_mark (mark_item f.Semicolon b y i) end))) refl
     (of_two_parts (λ qs. Made (l.Declaration label.Global) qs (v.declaration d ts)) (global_makes [] [] g.0 g.1 g.2 g.3 ts)) (λ c o. tt) (λ c o. refl) (λ c o. refl))
 
@@ -102,7 +117,7 @@ global_attributed n r m rebuild {b = b} {y = y} h g i =
     let d = variable (h.0 ∷ h.1) g.0 g.1 g.2 g.3 in
     let ts = h.2 ++ (declared_tokens g.0 g.1 g.2 g.3 ++ a_semicolon) in
     declares d ts (a_variable g.0 g.1 h.3 g.4 g.5)
-    (pieces_back n (attributes_ended_row r m) (2 ∷ 2 ∷ 1 ∷ []) (phrase r) (ended_row m) (2 ∷ 2 ∷ 1 ∷ []) (l.Declaration label.Global) rebuild (v.declaration d ts)
+    (pieces_back n (attributes_ended_row r m) (2 ∷ 2 ∷ 1 ∷ []) (phrase r) (ended_row m) (2 ∷ 2 ∷ 1 ∷ []) (l.Declaration label.Global) rebuild rebuild (v.declaration d ts)
     (a_part h.4 (a_part g.6 (a_mark (mark_item f.Semicolon b y i) end))) refl
     (of_two_parts (λ qs. Made (l.Declaration label.Global) qs (v.declaration d ts)) (global_makes (h.0 ∷ h.1) h.2 g.0 g.1 g.2 g.3 ts)) (λ c o. tt) (λ c o. refl) (λ c o. refl))
 
@@ -117,7 +132,7 @@ const_declared n m rebuild {b = b} {y = y} g i =
     let d = variable [] g.0 g.1 g.2 g.3 in
     let ts = declared_tokens g.0 g.1 g.2 g.3 ++ a_semicolon in
     declares d ts (a_variable g.0 g.1 no_attributes g.4 g.5)
-    (pieces_back n (ended_row m) (2 ∷ 1 ∷ []) (phrase m) (token (fixed_class f.Semicolon) ∷ []) (2 ∷ 1 ∷ []) (l.Declaration label.GlobalConst) rebuild (v.declaration d ts)
+    (pieces_back n (ended_row m) (2 ∷ 1 ∷ []) (phrase m) (token (fixed_class f.Semicolon) ∷ []) (2 ∷ 1 ∷ []) (l.Declaration label.GlobalConst) rebuild rebuild (v.declaration d ts)
     (a_part g.6 (a_mark (mark_item f.Semicolon b y i) end)) refl (of_one_part (λ qs. Made (l.Declaration label.GlobalConst) qs (v.declaration d ts)) (const_makes g.0 g.1 g.2 g.3 ts)) (λ c o. tt) (λ c o. refl) (λ c o. refl))
 
 assertion_makes : (e : Exp) (us : List TemplateToken) (q : Part) → Stands q (v.asserted e) → Made (l.Declaration label.GlobalAssertion) (q ∷ []) (v.declaration (assertion [] e) us)
@@ -131,7 +146,7 @@ assertion_declared n m rebuild {b = b} {y = y} g i =
     let d = assertion [] g.0 in
     let ts = asserted_tokens g.0 ++ a_semicolon in
     declares d ts (an_assertion no_attributes g.1)
-    (pieces_back n (ended_row m) (2 ∷ 1 ∷ []) (phrase m) (token (fixed_class f.Semicolon) ∷ []) (2 ∷ 1 ∷ []) (l.Declaration label.GlobalAssertion) rebuild (v.declaration d ts)
+    (pieces_back n (ended_row m) (2 ∷ 1 ∷ []) (phrase m) (token (fixed_class f.Semicolon) ∷ []) (2 ∷ 1 ∷ []) (l.Declaration label.GlobalAssertion) rebuild rebuild (v.declaration d ts)
     (a_part g.2 (a_mark (mark_item f.Semicolon b y i) end)) refl (of_one_part (λ qs. Made (l.Declaration label.GlobalAssertion) qs (v.declaration d ts)) (assertion_makes g.0 ts)) (λ c o. tt) (λ c o. refl) (λ c o. refl))
 
 -- ---- other names for types
@@ -147,7 +162,7 @@ alias_declared n m rebuild {a = a} {b = b} {c = c} {e = e} {x = x} {y = y} {z = 
     let d = alias [] name g.0 in
     let ts = mark f.Alias ∷ word name ∷ mark f.Equal ∷ (typ_tokens g.0 ++ a_semicolon) in
     declares d ts (an_alias name no_attributes g.1)
-    (pieces_back n (alias_row m) (1 ∷ 2 ∷ 1 ∷ 2 ∷ 1 ∷ []) (token (fixed_class f.Alias)) (token 77 ∷ token (fixed_class f.Equal) ∷ ended_row m) (1 ∷ 2 ∷ 1 ∷ 2 ∷ 1 ∷ []) (l.Declaration label.Alias) rebuild (v.declaration d ts)
+    (pieces_back n (alias_row m) (1 ∷ 2 ∷ 1 ∷ 2 ∷ 1 ∷ []) (token (fixed_class f.Alias)) (token 77 ∷ token (fixed_class f.Equal) ∷ ended_row m) (1 ∷ 2 ∷ 1 ∷ 2 ∷ 1 ∷ []) (l.Declaration label.Alias) rebuild rebuild (v.declaration d ts)
     (a_mark (mark_item f.Alias a x i) (a_leaf (word_item b y j) (a_mark (mark_item f.Equal c z p) (a_part g.2 (a_mark (mark_item f.Semicolon e k r) end))))) refl
     (of_two_parts (λ qs. Made (l.Declaration label.Alias) qs (v.declaration d ts)) (makes name g.0 ts)) (λ c o. tt) (λ c o. refl) (λ c o. refl))
   where
@@ -169,7 +184,7 @@ structure_declared n m rebuild {a = a} {b = b} {c = c} {e = e} {x = x} {y = y} {
     let d = structure [] name g.0 in
     let ts = mark f.Struct ∷ word name ∷ in_braces g.1 in
     declares d ts (a_structure name no_attributes g.2)
-    (pieces_back n (structure_row m) (1 ∷ 2 ∷ 1 ∷ 2 ∷ 1 ∷ []) (token (fixed_class f.Struct)) (token 77 ∷ token (fixed_class f.BraceLeft) ∷ phrase m ∷ token (fixed_class f.BraceRight) ∷ []) (1 ∷ 2 ∷ 1 ∷ 2 ∷ 1 ∷ []) (l.Declaration label.Struct) rebuild
+    (pieces_back n (structure_row m) (1 ∷ 2 ∷ 1 ∷ 2 ∷ 1 ∷ []) (token (fixed_class f.Struct)) (token 77 ∷ token (fixed_class f.BraceLeft) ∷ phrase m ∷ token (fixed_class f.BraceRight) ∷ []) (1 ∷ 2 ∷ 1 ∷ 2 ∷ 1 ∷ []) (l.Declaration label.Struct) rebuild rebuild
     (v.declaration d ts)
     (a_mark (mark_item f.Struct a x i) (a_leaf (word_item b y j) (a_mark (mark_item f.BraceLeft c z p)
     (a_cut_list g.3 (begins_then e [] (λ us. ap (λ z. begins_outside (z ++ us)) (mark_tokens f.BraceRight r))) (λ us. refl) (a_mark (mark_item f.BraceRight e k r) end))))) refl
@@ -204,7 +219,7 @@ module _ (xs : List Attr) (ts : List TemplateToken) (y : List ℕ) (ps : List Pa
       → ((d : Before) (o : List Bool) → (pieces_steps p d o (fine d o)).opened ≡ o) → ((d : Before) (o : List Bool) → (pieces_steps p d o (fine d o)).last ≡ outside) → Declared n u (make_of (l.Declaration label.Function) ns (x ∷ zs))
   function_of n c ss ns rebuild h k j i p fine level ended =
       declares (function xs y ps rs t b) (function_tokens ts y us vs ws) (a_function y h k j i)
-      (pieces_back n (c ∷ ss) ns c ss ns (l.Declaration label.Function) rebuild (v.declaration (function xs y ps rs t b) (function_tokens ts y us vs ws)) p (ap (λ z. function_tokens ts y us vs z) (append-nil ws))
+      (pieces_back n (c ∷ ss) ns c ss ns (l.Declaration label.Function) rebuild rebuild (v.declaration (function xs y ps rs t b) (function_tokens ts y us vs ws)) p (ap (λ z. function_tokens ts y us vs z) (append-nil ws))
       (of_five_parts (λ qs. Made (l.Declaration label.Function) qs (v.declaration (function xs y ps rs t b) (function_tokens ts y us vs ws))) (function_makes (function_tokens ts y us vs ws))) fine level ended)
 
 -- a result, or none

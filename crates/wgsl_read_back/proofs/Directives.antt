@@ -32,7 +32,7 @@ use Rattle.wgsl_grammar_tables.specs.Classes.{fixed_class}
 use Rattle.wgsl_read_back.proofs.Views.{View, view_tokens, Stands, a_token, a_text, some_texts, a_directive}
 use Rattle.wgsl_read_back.proofs.Views as v
 use Rattle.wgsl_read_back.proofs.Items.{Item, Back, ListBack, OneToken, cuts, places_append, moved}
-use Rattle.wgsl_read_back.proofs.Rows.{concat, nil as no_more, more, list_more, RowBack, Fine, steps_row, spelled_row, stood_back, Stood, stood_pass, Makes, make_of, makes_of, makes_checked, made_severity_passes, Rebuild, back_of, of_one, of_two, of_three, of_six}
+use Rattle.wgsl_read_back.proofs.Rows.{concat, nil as no_more, more, list_more, RowBack, likewise_row, made_again, Fine, steps_row, spelled_row, stood_back, Stood, stood_pass, Makes, make_of, makes_of, makes_checked, made_severity_passes, Rebuild, back_of, of_one, of_two, of_three, of_six, of_seven}
 use Rattle.wgsl_read_back.proofs.Places.{mark_of, word_of}
 use Rattle.wgsl_read_back.proofs.Families.{token_item, mark_item}
 use Rattle.wgsl_read_back.proofs.Operands.{word_item, word_part}
@@ -140,9 +140,9 @@ more_enumerated n m rebuild {b = b} {y = y} g i h = (
 pub names_without : (n m : ℕ) → Rebuild n (phrase m ∷ []) l.Pass (2 ∷ []) → {u : List SpannedTemplateToken} {x : Phrase Part} → Enumerated m u x → NamesListed n (u ++ []) (make_of l.Pass (2 ∷ []) (x ∷ []))
 names_without n m rebuild g = (g.0 ∷ g.1, list_without n m (v.texts (g.0 ∷ g.1)) rebuild g.2)
 
-pub names_with : (n m : ℕ) → Rebuild n (phrase m ∷ []) l.Pass (2 ∷ []) → {a b : List SpannedTemplateToken} {x y : Phrase Part} → Enumerated m a x → OneToken (fixed_class f.Comma) b y
+pub names_with : (n m : ℕ) → Rebuild n (phrase m ∷ token (fixed_class f.Comma) ∷ []) l.Pass (2 ∷ 1 ∷ []) → Rebuild n (phrase m ∷ []) l.Pass (2 ∷ []) → {a b : List SpannedTemplateToken} {x y : Phrase Part} → Enumerated m a x → OneToken (fixed_class f.Comma) b y
     → NamesListed n (a ++ (b ++ [])) (make_of l.Pass (2 ∷ 1 ∷ []) (x ∷ y ∷ []))
-names_with n m rebuild g k = (g.0 ∷ g.1, list_with n m (v.texts (g.0 ∷ g.1)) rebuild g.2 k)
+names_with n m read rebuild g k = (g.0 ∷ g.1, list_with n m (v.texts (g.0 ∷ g.1)) read rebuild g.2 k)
 
 -- ---- settings of diagnostics
 
@@ -252,11 +252,11 @@ joined a b c d e w =
     append_assoc a (b ++ (c ++ (d ++ (e ++ [])))) w
     ∙ ap (λ z. a ++ z) (append_assoc b (c ++ (d ++ (e ++ []))) w ∙ ap (λ z. b ++ z) (append_assoc c (d ++ (e ++ [])) w ∙ ap (λ z. c ++ z) (append_assoc d (e ++ []) w ∙ ap (λ z. d ++ z) (append_assoc e [] w))))
 
-pub setting_with : (n m : ℕ) → Rebuild n (bare_row m) (l.Directive label.Diagnostic) bare_pattern → {a b c d e k g : List SpannedTemplateToken} {x1 x2 x3 x4 x5 x6 x7 : Phrase Part}
+pub setting_with : (n m : ℕ) → Rebuild n (comma_row m) (l.Directive label.Diagnostic) comma_pattern → Rebuild n (bare_row m) (l.Directive label.Diagnostic) bare_pattern → {a b c d e k g : List SpannedTemplateToken} {x1 x2 x3 x4 x5 x6 x7 : Phrase Part}
     → OneToken (fixed_class f.Diagnostic) a x1 → OneToken (fixed_class f.ParenLeft) b x2 → OneToken 77 c x3 → OneToken (fixed_class f.Comma) d x4 → Ruled m e x5 → OneToken (fixed_class f.Comma) k x6 → OneToken (fixed_class f.ParenRight) g x7
     → (make_of (l.Directive label.Diagnostic) comma_pattern (x1 ∷ x2 ∷ x3 ∷ x4 ∷ x5 ∷ x6 ∷ x7 ∷ [])).failure ≡ None
     → Controlled n (a ++ (b ++ (c ++ (d ++ (e ++ (k ++ (g ++ []))))))) (make_of (l.Directive label.Diagnostic) comma_pattern (x1 ∷ x2 ∷ x3 ∷ x4 ∷ x5 ∷ x6 ∷ x7 ∷ []))
-setting_with n m rebuild {a = a} {b = b} {c = c} {d = d} {e = e} {k = k} {g = g} {x1 = x1} {x2 = x2} {x3 = x3} {x4 = x4} {x5 = x5} {x6 = x6} {x7 = x7} i1 i2 i3 i4 r i6 i7 pass = (
+setting_with n m read rebuild {a = a} {b = b} {c = c} {d = d} {e = e} {k = k} {g = g} {x1 = x1} {x2 = x2} {x3 = x3} {x4 = x4} {x5 = x5} {x6 = x6} {x7 = x7} i1 i2 i3 i4 r i6 i7 pass = (
   s.0,
   r.0,
   r.1,
@@ -266,6 +266,9 @@ setting_with n m rebuild {a = a} {b = b} {c = c} {d = d} {e = e} {k = k} {g = g}
       stands = made.stands;
       passes = made.passes;
       again = bare.item.again;
+      likewise = λ w h.
+          made_again n (comma_row m) (l.Directive label.Diagnostic) comma_pattern read (comma_views s.0 r.0 r.1) (v.setting (diagnostic [] s.0 r.0) (setting_tokens s.0 r.1))
+          (of_seven (λ ys. Makes (v.setting (diagnostic [] s.0 r.0) (setting_tokens s.0 r.1)) (make_of (l.Directive label.Diagnostic) comma_pattern ys)) (comma_makes s.0 r.0 r.1)) w (likewise_row whole w h);
       spelled = λ h. let z = spelled_row whole h in
           (z.0, (z.1.0, (z.1.1.0, (z.1.1.1.0, are_both r.1 (mark f.ParenRight ∷ []) (are_front r.1 (comma ∷ mark f.ParenRight ∷ []) z.1.1.1.1) (are_behind r.1 (comma ∷ mark f.ParenRight ∷ []) z.1.1.1.1).1))));
       steps = λ o p. let q = steps_row front o p tt in record {

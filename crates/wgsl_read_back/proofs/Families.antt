@@ -56,6 +56,7 @@ token_item c t u x k is class = record {
   stands = a_token (ap (λ z. z.part) (sym k.value) ∙ ap leaves.leaf is);
   passes = ap (λ z. z.failure) (sym k.value);
   again = token_again c t class;
+  likewise = λ w e. token_again c t class w (e ∙ ap without_places (sym k.whole) ∙ ap (λ z. z ∷ []) is);
   spelled = λ h. subst AreSpelled (ap without_places (sym k.whole) ∙ ap (λ z. z ∷ []) is) h;
   steps = λ b o. record {
     last = before t;

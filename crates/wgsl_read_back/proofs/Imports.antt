@@ -100,7 +100,7 @@ from_package n rebuild {a = a} {b = b} {x = x} {y = s} i j =
     let y = (word_of i.one.token i.class).0 in
     let q : ModulePath = record { origin = Package y; components = [] } in (
       q,
-      pieces_back n step_row (2 ∷ 1 ∷ []) (token 77) (token (fixed_class f.PathSeparator) ∷ []) (2 ∷ 1 ∷ []) (l.Import label.FromPackage) rebuild (v.source (Some q))
+      pieces_back n step_row (2 ∷ 1 ∷ []) (token 77) (token (fixed_class f.PathSeparator) ∷ []) (2 ∷ 1 ∷ []) (l.Import label.FromPackage) rebuild rebuild (v.source (Some q))
           (a_leaf (word_item a x i) (a_mark (mark_item f.PathSeparator b s j) end)) refl
           (of_one_part (λ qs. Made (l.Import label.FromPackage) qs (v.source (Some q))) (λ p h. made_as (l.Import label.FromPackage) (p ∷ []) (v.source (Some q)) (λ s. part.ModulePath q) (λ s k. make.from_package (word_part p y h k ∷ [])) (λ s. a_source refl) (λ s. refl) refl))
           (λ c o. tt) (λ c o. refl) (λ c o. tt),
@@ -110,7 +110,7 @@ pub from_own : (n : ℕ) → Rebuild n own_row (l.Import label.FromOwn) (1 ∷ 1
     → Sourced n (a ++ (b ++ [])) (make_of (l.Import label.FromOwn) (1 ∷ 1 ∷ []) (x ∷ y ∷ []))
 from_own n rebuild {a = a} {b = b} {x = x} {y = y} i j = (
   root_path,
-  pieces_back n own_row (1 ∷ 1 ∷ []) (token (fixed_class f.Package)) (token (fixed_class f.PathSeparator) ∷ []) (1 ∷ 1 ∷ []) (l.Import label.FromOwn) rebuild (v.source (Some root_path))
+  pieces_back n own_row (1 ∷ 1 ∷ []) (token (fixed_class f.Package)) (token (fixed_class f.PathSeparator) ∷ []) (1 ∷ 1 ∷ []) (l.Import label.FromOwn) rebuild rebuild (v.source (Some root_path))
       (a_mark (mark_item f.Package a x i) (a_mark (mark_item f.PathSeparator b y j) end)) refl
       (of_no_part (λ qs. Made (l.Import label.FromOwn) qs (v.source (Some root_path))) (made_as (l.Import label.FromOwn) [] (v.source (Some root_path)) (λ s. part.ModulePath root_path) (λ s. refl) (λ s. a_source refl) (λ s. refl) refl))
       (λ c o. tt) (λ c o. refl) (λ c o. tt),
@@ -132,7 +132,7 @@ from_within n m rebuild {b = b} {c = c} {y = s} {z = z} g i j =
     let y = (word_of i.one.token i.class).0 in
     let q = with_names g.0 (y ∷ []) in (
       q,
-      pieces_back n (further_row m) (2 ∷ 2 ∷ 1 ∷ []) (phrase m) step_row (2 ∷ 2 ∷ 1 ∷ []) (l.Import label.FromWithin) rebuild (v.source (Some q))
+      pieces_back n (further_row m) (2 ∷ 2 ∷ 1 ∷ []) (phrase m) step_row (2 ∷ 2 ∷ 1 ∷ []) (l.Import label.FromWithin) rebuild rebuild (v.source (Some q))
           (a_part g.1 (a_leaf (word_item b s i) (a_mark (mark_item f.PathSeparator c z j) end))) (tokens g.0 y)
           (of_two_parts (λ qs. Made (l.Import label.FromWithin) qs (v.source (Some q))) (λ p r h k. made_as (l.Import label.FromWithin) (p ∷ r ∷ []) (v.source (Some q)) (λ s. part.ModulePath q) (λ s i. make.from_within (source_part p g.0 h i ∷ word_part r y k i ∷ [])) (λ s. a_source refl) (λ s. refl) refl))
           (λ d o. tt) (λ d o. refl) (λ d o. tt),
@@ -149,7 +149,7 @@ first_step n rebuild {a = a} {b = b} {x = x} {y = s} i j =
     let y = (word_of i.one.token i.class).0 in (
       y,
       [],
-      pieces_back n step_row (2 ∷ 1 ∷ []) (token 77) (token (fixed_class f.PathSeparator) ∷ []) (2 ∷ 1 ∷ []) (l.Import label.FirstStep) rebuild (v.steps (y ∷ []))
+      pieces_back n step_row (2 ∷ 1 ∷ []) (token 77) (token (fixed_class f.PathSeparator) ∷ []) (2 ∷ 1 ∷ []) (l.Import label.FirstStep) rebuild rebuild (v.steps (y ∷ []))
           (a_leaf (word_item a x i) (a_mark (mark_item f.PathSeparator b s j) end)) refl
           (of_one_part (λ qs. Made (l.Import label.FirstStep) qs (v.steps (y ∷ []))) (λ p h. made_as (l.Import label.FirstStep) (p ∷ []) (v.steps (y ∷ [])) (λ s. part.Texts (y ∷ [])) (λ s k. make.first_step (word_part p y h k ∷ [])) (λ s. some_steps refl) (λ s. refl) refl))
           (λ c o. tt) (λ c o. refl) (λ c o. tt),
@@ -166,7 +166,7 @@ next_step n m rebuild {b = b} {c = c} {y = s} {z = z} g i j =
     let ys : List (List ℕ) = g.1 ++ (y ∷ []) in (
       g.0,
       ys,
-      pieces_back n (further_row m) (2 ∷ 2 ∷ 1 ∷ []) (phrase m) step_row (2 ∷ 2 ∷ 1 ∷ []) (l.Import label.NextStep) rebuild (v.steps (g.0 ∷ ys))
+      pieces_back n (further_row m) (2 ∷ 2 ∷ 1 ∷ []) (phrase m) step_row (2 ∷ 2 ∷ 1 ∷ []) (l.Import label.NextStep) rebuild rebuild (v.steps (g.0 ∷ ys))
           (a_part g.2 (a_leaf (word_item b s i) (a_mark (mark_item f.PathSeparator c z j) end))) (steps_last (g.0 ∷ g.1) y)
           (of_two_parts (λ qs. Made (l.Import label.NextStep) qs (v.steps (g.0 ∷ ys))) (λ p r h k. made_as (l.Import label.NextStep) (p ∷ r ∷ []) (v.steps (g.0 ∷ ys)) (λ s. part.Texts (g.0 ∷ ys)) (λ s i. make.next_step (steps_part p g.0 g.1 h i ∷ word_part r y k i ∷ [])) (λ s. some_steps refl) (λ s. refl) refl))
           (λ d o. tt) (λ d o. refl) (λ d o. tt),
@@ -179,7 +179,7 @@ item_read n rebuild {u = u} {x = x} i =
     let y = (word_of i.one.token i.class).0 in
     let c : Content = item y None in (
       c,
-      pieces_back n (token 77 ∷ []) (2 ∷ []) (token 77) [] (2 ∷ []) (l.Import label.Item) rebuild (v.content c) (a_leaf (word_item u x i) end) refl
+      pieces_back n (token 77 ∷ []) (2 ∷ []) (token 77) [] (2 ∷ []) (l.Import label.Item) rebuild rebuild (v.content c) (a_leaf (word_item u x i) end) refl
           (of_one_part (λ qs. Made (l.Import label.Item) qs (v.content c)) (λ p h.
           made_as (l.Import label.Item) (p ∷ []) (v.content c) (λ s. part.Content (content.Item (record { ident = ident_of y; rename = None }))) (λ s k. make.item (word_part p y h k ∷ [])) (λ s. a_content _ refl (tree_of_item (record { ident = ident_of y; rename = None }))) (λ s. refl) refl))
           (λ d o. tt) (λ d o. refl) (λ d o. tt),
@@ -195,7 +195,7 @@ renamed_read n rebuild {a = a} {b = b} {c = e} {x = x} {y = s} {z = z} i j k =
     let r = (word_of k.one.token k.class).0 in
     let c : Content = item y (Some r) in (
       c,
-      pieces_back n renamed_row (2 ∷ 1 ∷ 2 ∷ []) (token 77) (token (fixed_class f.As) ∷ token 77 ∷ []) (2 ∷ 1 ∷ 2 ∷ []) (l.Import label.Renamed) rebuild (v.content c)
+      pieces_back n renamed_row (2 ∷ 1 ∷ 2 ∷ []) (token 77) (token (fixed_class f.As) ∷ token 77 ∷ []) (2 ∷ 1 ∷ 2 ∷ []) (l.Import label.Renamed) rebuild rebuild (v.content c)
           (a_leaf (word_item a x i) (a_mark (mark_item f.As b s j) (a_leaf (word_item e z k) end))) refl
           (of_two_parts (λ qs. Made (l.Import label.Renamed) qs (v.content c)) (λ p q h g.
           made_as (l.Import label.Renamed) (p ∷ q ∷ []) (v.content c) (λ s. part.Content (content.Item (record { ident = ident_of y; rename = Some (ident_of r) }))) (λ s i. make.renamed (word_part p y h i ∷ word_part q r g i ∷ []))
@@ -210,7 +210,7 @@ pub collection_read : (n m : ℕ) → Rebuild n (collection_row m) (l.Import lab
     → Contained n (a ++ (b ++ (c ++ []))) (make_of (l.Import label.Collection) (1 ∷ 2 ∷ 1 ∷ []) (x ∷ y ∷ z ∷ []))
 collection_read n m rebuild {a = a} {c = c} {x = x} {z = z} i g k = (
   collection (imps g.0),
-  pieces_back n (collection_row m) (1 ∷ 2 ∷ 1 ∷ []) (token (fixed_class f.BraceLeft)) (phrase m ∷ token (fixed_class f.BraceRight) ∷ []) (1 ∷ 2 ∷ 1 ∷ []) (l.Import label.Collection) rebuild (v.content (collection (imps g.0)))
+  pieces_back n (collection_row m) (1 ∷ 2 ∷ 1 ∷ []) (token (fixed_class f.BraceLeft)) (phrase m ∷ token (fixed_class f.BraceRight) ∷ []) (1 ∷ 2 ∷ 1 ∷ []) (l.Import label.Collection) rebuild rebuild (v.content (collection (imps g.0)))
       (a_mark (mark_item f.BraceLeft a x i) (a_list g.1 (mark_item f.BraceRight c z k) (mark_tokens f.BraceRight k) (cuts (λ us. refl)) end)) refl
       (of_one_part (λ qs. Made (l.Import label.Collection) qs (v.content (collection (imps g.0)))) (makes g.0))
       (λ d o. (tt, tt)) (λ d o. refl) (λ d o. tt),
@@ -232,7 +232,7 @@ tree_makes path c p k h (a_content y e q) =
 pub tree_alone : (n m : ℕ) → Rebuild n (phrase m ∷ []) (l.Import label.Tree) (0 ∷ 2 ∷ []) → {u : List SpannedTemplateToken} {x : Phrase Part} → Contained m u x → Treed n (u ++ []) (make_of (l.Import label.Tree) (0 ∷ 2 ∷ []) (x ∷ []))
 tree_alone n m rebuild g = (
   imp [] g.0,
-  pieces_back n (phrase m ∷ []) (0 ∷ 2 ∷ []) (phrase m) [] (0 ∷ 2 ∷ []) (l.Import label.Tree) rebuild (v.tree (imp [] g.0)) (no_part (v.steps []) (no_steps refl) (a_part g.1 end)) (append-nil (content_tokens g.0))
+  pieces_back n (phrase m ∷ []) (0 ∷ 2 ∷ []) (phrase m) [] (0 ∷ 2 ∷ []) (l.Import label.Tree) rebuild rebuild (v.tree (imp [] g.0)) (no_part (v.steps []) (no_steps refl) (a_part g.1 end)) (append-nil (content_tokens g.0))
       (of_two_parts (λ qs. Made (l.Import label.Tree) qs (v.tree (imp [] g.0))) (tree_makes [] g.0)) (λ c o. tt) (λ c o. refl) (λ c o. tt),
 )
 
@@ -240,7 +240,7 @@ pub tree_further : (n m r : ℕ) → Rebuild n (phrase m ∷ phrase r ∷ []) (l
     → Treed n (a ++ (b ++ [])) (make_of (l.Import label.Tree) (2 ∷ 2 ∷ []) (x ∷ y ∷ []))
 tree_further n m r rebuild h g = (
   imp (h.0 ∷ h.1) g.0,
-  pieces_back n (phrase m ∷ phrase r ∷ []) (2 ∷ 2 ∷ []) (phrase m) (phrase r ∷ []) (2 ∷ 2 ∷ []) (l.Import label.Tree) rebuild (v.tree (imp (h.0 ∷ h.1) g.0)) (a_part h.2 (a_part g.1 end))
+  pieces_back n (phrase m ∷ phrase r ∷ []) (2 ∷ 2 ∷ []) (phrase m) (phrase r ∷ []) (2 ∷ 2 ∷ []) (l.Import label.Tree) rebuild rebuild (v.tree (imp (h.0 ∷ h.1) g.0)) (a_part h.2 (a_part g.1 end))
       (ap (λ z. steps_tokens (h.0 ∷ h.1) ++ z) (append-nil (content_tokens g.0))) (of_two_parts (λ qs. Made (l.Import label.Tree) qs (v.tree (imp (h.0 ∷ h.1) g.0))) (tree_makes (h.0 ∷ h.1) g.0)) (λ c o. tt) (λ c o. refl) (λ c o. tt),
 )
 
@@ -287,9 +287,9 @@ more_trees n m rebuild {b = b} {y = y} g i h = (
 pub trees_without : (n m : ℕ) → Rebuild n (phrase m ∷ []) l.Pass (2 ∷ []) → {u : List SpannedTemplateToken} {x : Phrase Part} → TreesSeparated m u x → TreesListed n (u ++ []) (make_of l.Pass (2 ∷ []) (x ∷ []))
 trees_without n m rebuild g = (g.0 ∷ g.1, list_without n m (v.trees (g.0 ∷ g.1)) rebuild g.2)
 
-pub trees_with : (n m : ℕ) → Rebuild n (phrase m ∷ []) l.Pass (2 ∷ []) → {a b : List SpannedTemplateToken} {x y : Phrase Part} → TreesSeparated m a x → OneToken (fixed_class f.Comma) b y
+pub trees_with : (n m : ℕ) → Rebuild n (phrase m ∷ token (fixed_class f.Comma) ∷ []) l.Pass (2 ∷ 1 ∷ []) → Rebuild n (phrase m ∷ []) l.Pass (2 ∷ []) → {a b : List SpannedTemplateToken} {x y : Phrase Part} → TreesSeparated m a x → OneToken (fixed_class f.Comma) b y
     → TreesListed n (a ++ (b ++ [])) (make_of l.Pass (2 ∷ 1 ∷ []) (x ∷ y ∷ []))
-trees_with n m rebuild g k = (g.0 ∷ g.1, list_with n m (v.trees (g.0 ∷ g.1)) rebuild g.2 k)
+trees_with n m read rebuild g k = (g.0 ∷ g.1, list_with n m (v.trees (g.0 ∷ g.1)) read rebuild g.2 k)
 
 -- ---- import statements
 
@@ -325,7 +325,7 @@ import_plain n m rebuild {a = a} {c = c} {x = x} {z = z} i g k =
       tree,
       ts,
       an_import no_attributes,
-      pieces_back n (plain_row m) (0 ∷ 1 ∷ 0 ∷ 2 ∷ 1 ∷ []) (token (fixed_class f.Import)) (content_row m) (0 ∷ 1 ∷ 0 ∷ 2 ∷ 1 ∷ []) (l.Import label.Import) rebuild (v.importing tree ts)
+      pieces_back n (plain_row m) (0 ∷ 1 ∷ 0 ∷ 2 ∷ 1 ∷ []) (token (fixed_class f.Import)) (content_row m) (0 ∷ 1 ∷ 0 ∷ 2 ∷ 1 ∷ []) (l.Import label.Import) rebuild rebuild (v.importing tree ts)
           (no_part (v.attributes [] []) (v.no_attributes refl) (a_mark (mark_item f.Import a x i) (no_part (v.source None) (no_source refl) (a_part g.1 (a_mark (mark_item f.Semicolon c z k) end))))) refl
           (of_three_parts (λ qs. Made (l.Import label.Import) qs (v.importing tree ts)) (import_makes [] [] None g.0 ts)) (λ d o. tt) (λ d o. refl) (λ d o. refl),
     )
@@ -338,7 +338,7 @@ import_from n s m rebuild {a = a} {d = d} {x = x} {w = w} i h g k =
       tree,
       ts,
       an_import no_attributes,
-      pieces_back n (from_row s m) (0 ∷ 1 ∷ 2 ∷ 2 ∷ 1 ∷ []) (token (fixed_class f.Import)) (phrase s ∷ content_row m) (0 ∷ 1 ∷ 2 ∷ 2 ∷ 1 ∷ []) (l.Import label.Import) rebuild (v.importing tree ts)
+      pieces_back n (from_row s m) (0 ∷ 1 ∷ 2 ∷ 2 ∷ 1 ∷ []) (token (fixed_class f.Import)) (phrase s ∷ content_row m) (0 ∷ 1 ∷ 2 ∷ 2 ∷ 1 ∷ []) (l.Import label.Import) rebuild rebuild (v.importing tree ts)
           (no_part (v.attributes [] []) (v.no_attributes refl) (a_mark (mark_item f.Import a x i) (a_part h.1 (a_part g.1 (a_mark (mark_item f.Semicolon d w k) end))))) refl
           (of_three_parts (λ qs. Made (l.Import label.Import) qs (v.importing tree ts)) (import_makes [] [] (Some h.0) g.0 ts)) (λ e o. tt) (λ e o. refl) (λ e o. refl),
     )
@@ -352,7 +352,7 @@ import_attributed n r m rebuild {a = a} {c = c} {x = x} {z = z} t i g k =
       tree,
       ts,
       an_import t.3,
-      pieces_back n (attributes_plain_row r m) (2 ∷ 1 ∷ 0 ∷ 2 ∷ 1 ∷ []) (phrase r) (plain_row m) (2 ∷ 1 ∷ 0 ∷ 2 ∷ 1 ∷ []) (l.Import label.Import) rebuild (v.importing tree ts)
+      pieces_back n (attributes_plain_row r m) (2 ∷ 1 ∷ 0 ∷ 2 ∷ 1 ∷ []) (phrase r) (plain_row m) (2 ∷ 1 ∷ 0 ∷ 2 ∷ 1 ∷ []) (l.Import label.Import) rebuild rebuild (v.importing tree ts)
           (a_part t.4 (a_mark (mark_item f.Import a x i) (no_part (v.source None) (no_source refl) (a_part g.1 (a_mark (mark_item f.Semicolon c z k) end))))) refl
           (of_three_parts (λ qs. Made (l.Import label.Import) qs (v.importing tree ts)) (import_makes (t.0 ∷ t.1) t.2 None g.0 ts)) (λ d o. tt) (λ d o. refl) (λ d o. refl),
     )
@@ -366,7 +366,7 @@ import_attributed_from n r s m rebuild {a = a} {d = d} {x = x} {w = w} t i h g k
       tree,
       ts,
       an_import t.3,
-      pieces_back n (attributes_from_row r s m) (2 ∷ 1 ∷ 2 ∷ 2 ∷ 1 ∷ []) (phrase r) (from_row s m) (2 ∷ 1 ∷ 2 ∷ 2 ∷ 1 ∷ []) (l.Import label.Import) rebuild (v.importing tree ts)
+      pieces_back n (attributes_from_row r s m) (2 ∷ 1 ∷ 2 ∷ 2 ∷ 1 ∷ []) (phrase r) (from_row s m) (2 ∷ 1 ∷ 2 ∷ 2 ∷ 1 ∷ []) (l.Import label.Import) rebuild rebuild (v.importing tree ts)
           (a_part t.4 (a_mark (mark_item f.Import a x i) (a_part h.1 (a_part g.1 (a_mark (mark_item f.Semicolon d w k) end))))) refl
           (of_three_parts (λ qs. Made (l.Import label.Import) qs (v.importing tree ts)) (import_makes (t.0 ∷ t.1) t.2 (Some h.0) g.0 ts)) (λ e o. tt) (λ e o. refl) (λ e o. refl),
     )

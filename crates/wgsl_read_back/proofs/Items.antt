@@ -1,5 +1,5 @@
 -- A symbol of a row and what stands there: what is printed of it derives it again.
-use Rattle.std.proofs.Common.{◌≡◌, refl, sym, ap, ◌∙◌, subst, ℕ, Bool, true, List, [], ◌∷◌, ◌++◌, append_assoc, None}
+use Rattle.std.proofs.Common.{◌≡◌, refl, sym, ap, ◌∙◌, subst, ℕ, Bool, true, List, [], ◌∷◌, ◌++◌, append_assoc, append-nil, None}
 use Rattle.wgsl_template_spec.specs.declared.token.TemplateToken.{TemplateToken}
 use Rattle.wgsl_template_spec.specs.declared.token.SpannedTemplateToken.{SpannedTemplateToken}
 use Rattle.wgsl_template_spec.specs.Kinds.{kind}
@@ -36,6 +36,10 @@ split (k ∷ w) (t ∷ ts) us e =
     let tails : without_places w ≡ ts ++ us = cc in
     let s = split w ts us tails in
     record { front = k ∷ s.front; rest = s.rest; whole = ap (λ x. k ∷ x) s.whole; front_is = (λ i. same i ∷ s.front_is i); rest_is = s.rest_is }
+
+-- at the tokens of two phrases
+pub split_two : (a b w : List SpannedTemplateToken) → without_places w ≡ without_places (a ++ (b ++ [])) → Split w (without_places a) (without_places b)
+split_two a b w e = split w (without_places a) (without_places b) (e ∙ places_append a (b ++ []) ∙ ap (λ z. without_places a ++ without_places z) (append-nil b))
 
 -- ---- last commas
 
@@ -77,10 +81,19 @@ pub record Again (s : Symbol) (v : View) (w : List SpannedTemplateToken) : Type 
   pub stands : Stands value.part v
   pub passes : value.failure ≡ None
 
+-- the same of a part of which there is no view
+pub record AgainAs (s : Symbol) (IsSo : Part → Type 0) (w : List SpannedTemplateToken) : Type 0 where
+  pub value : Phrase Part
+  pub derives : Derives grammar s w value
+  pub is : IsSo value.part
+  pub passes : value.failure ≡ None
+
 pub record Item (s : Symbol) (v : View) (u : List SpannedTemplateToken) (x : Phrase Part) : Type 0 where
   pub stands : Stands x.part v
   pub passes : x.failure ≡ None
   pub again : (w : List SpannedTemplateToken) → without_places w ≡ view_tokens v → Again s v w
+  -- so do tokens that are those that were read
+  pub likewise : (w : List SpannedTemplateToken) → without_places w ≡ without_places u → Again s v w
   pub spelled : AreSpelled (without_places u) → AreSpelled (view_tokens v)
   pub steps : (b : Before) (o : List Bool) → Steps b o (without_places u) (view_tokens v)
 
@@ -112,6 +125,7 @@ pub record ListBack (n : ℕ) (v : View) (u : List SpannedTemplateToken) (x : Ph
   pub stands : Stands x.part v
   pub passes : x.failure ≡ None
   pub again : (w : List SpannedTemplateToken) → without_places w ≡ view_tokens v → Again (phrase n) v w
+  pub likewise : (w : List SpannedTemplateToken) → without_places w ≡ without_places u → Again (phrase n) v w
   pub spelled : AreSpelled (without_places u) → AreSpelled (view_tokens v)
   pub ending : (b : Before) (o : List Bool) → Ending b o (without_places u) (view_tokens v)
   pub ended : (b : Before) (o : List Bool) → ends_as v (ending b o).last
@@ -121,6 +135,7 @@ pub record CutList (n : ℕ) (v : View) (u : List SpannedTemplateToken) (x : Phr
   pub stands : Stands x.part v
   pub passes : x.failure ≡ None
   pub again : (w : List SpannedTemplateToken) → without_places w ≡ view_tokens v → Again (phrase n) v w
+  pub likewise : (w : List SpannedTemplateToken) → without_places w ≡ without_places u → Again (phrase n) v w
   pub spelled : AreSpelled (without_places u) → AreSpelled (view_tokens v)
   pub last : Before → List Bool → Before
   pub cont : (b : Before) (o : List Bool) (ts us : List TemplateToken) → begins_outside ts ≡ true → begins_outside us ≡ true → AreAlike (last b o) o ts us → AreAlike b o (without_places u ++ ts) (view_tokens v ++ us)

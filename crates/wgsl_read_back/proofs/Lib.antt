@@ -33,3 +33,4 @@ pub mod Returned
 pub mod ModuleLaws
 pub mod One
 pub mod Whole
+pub mod Same

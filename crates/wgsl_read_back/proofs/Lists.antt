@@ -14,9 +14,9 @@ use Rattle.wgsl_parts.specs.declared.label.Label.TheVariants as l
 use Rattle.wgsl_phrases.specs.declared.phrase.Phrase.{Phrase}
 use Rattle.wgsl_grammar_tables.specs.Classes.{fixed_class}
 use Rattle.wgsl_read_back.proofs.Views.{View, view_tokens, Stands, ends_as}
-use Rattle.wgsl_read_back.proofs.Items.{Back, ListBack, CutList, OneToken, places_append, moved, MayEnd, comma_gone}
+use Rattle.wgsl_read_back.proofs.Items.{Again, Back, ListBack, CutList, OneToken, places_append, moved, MayEnd, comma_gone}
 use Rattle.wgsl_read_back.proofs.Rows.{Makes, make_of, makes_of, Rebuild}
-use Rattle.wgsl_read_back.proofs.Pieces.{end, a_mark, a_part, Made, pieces_back, of_two_parts}
+use Rattle.wgsl_read_back.proofs.Pieces.{end, a_mark, a_part, Made, made_as, likewise_of, pieces_back, of_one_part, of_two_parts}
 use Rattle.wgsl_read_back.proofs.Families.{mark_item, mark_tokens, passed, pass_back}
 
 -- ---- one more behind some and a comma
@@ -25,7 +25,7 @@ pub separated_back : (n m : ℕ) → Rebuild n (phrase n ∷ token (fixed_class 
     → view_tokens v ++ (comma ∷ (view_tokens w ++ [])) ≡ view_tokens z → ((p q : Part) → Stands p v → Stands q w → Made l.More (p ∷ q ∷ []) z) → ((d : Before) (o : List Bool) → ends_as z (h.item.steps d o).last)
     → Back n z (a ++ (b ++ (c ++ []))) (make_of l.More (2 ∷ 1 ∷ 2 ∷ []) (x ∷ k ∷ y ∷ []))
 separated_back n m rebuild z {b = b} {k = k} g i h tokens makes ended =
-    pieces_back n (phrase n ∷ token (fixed_class f.Comma) ∷ phrase m ∷ []) (2 ∷ 1 ∷ 2 ∷ []) (phrase n) (token (fixed_class f.Comma) ∷ phrase m ∷ []) (2 ∷ 1 ∷ 2 ∷ []) l.More rebuild z (a_part g (a_mark (mark_item f.Comma b k i) (a_part h end))) tokens
+    pieces_back n (phrase n ∷ token (fixed_class f.Comma) ∷ phrase m ∷ []) (2 ∷ 1 ∷ 2 ∷ []) (phrase n) (token (fixed_class f.Comma) ∷ phrase m ∷ []) (2 ∷ 1 ∷ 2 ∷ []) l.More rebuild rebuild z (a_part g (a_mark (mark_item f.Comma b k i) (a_part h end))) tokens
     (of_two_parts (λ qs. Made l.More qs z) makes) (λ d o. tt) (λ d o. refl) (λ d o. ended _ _)
 
 -- ---- a list that may end in a comma
@@ -36,6 +36,7 @@ list_without n m v rebuild g =
       stands = b.item.stands;
       passes = b.item.passes;
       again = b.item.again;
+      likewise = b.item.likewise;
       spelled = b.item.spelled;
       ending = λ d o. let q = b.item.steps d o in record {
         last = q.last;
@@ -55,14 +56,22 @@ comma_behind a b k ts = sym (ap (λ z. z ++ ts) (places_append a (b ++ []) ∙ a
 comma_made : (v : View) {m : ℕ} {a b : List SpannedTemplateToken} {x y : Phrase Part} → Back m v a x → OneToken (fixed_class f.Comma) b y → Makes v (make_of l.Pass (2 ∷ 1 ∷ []) (x ∷ y ∷ []))
 comma_made v {x = x} {y = y} g k = makes_of l.Pass (2 ∷ 1 ∷ []) x (y ∷ []) v (λ z. x.part) (λ z. refl) (λ z. g.item.stands) (λ ps. refl) (λ z. passed g.item.stands) (g.item.passes, (ap (λ z. z.failure) (sym k.value), tt))
 
-pub list_with : (n m : ℕ) (v : View) → Rebuild n (phrase m ∷ []) l.Pass (2 ∷ []) → {a b : List SpannedTemplateToken} {x y : Phrase Part} → Back m v a x → OneToken (fixed_class f.Comma) b y
+-- and where one was read, one is read again
+with_comma : (n m : ℕ) (v : View) → Rebuild n (phrase m ∷ token (fixed_class f.Comma) ∷ []) l.Pass (2 ∷ 1 ∷ []) → {a b : List SpannedTemplateToken} {x y : Phrase Part} → Back m v a x → OneToken (fixed_class f.Comma) b y
+    → (w : List SpannedTemplateToken) → without_places w ≡ without_places (a ++ (b ++ [])) → Again (phrase n) v w
+with_comma n m v read {b = b} {y = y} g k =
+    likewise_of n (phrase m ∷ token (fixed_class f.Comma) ∷ []) (2 ∷ 1 ∷ []) l.Pass read v (a_part g (a_mark (mark_item f.Comma b y k) end))
+    (of_one_part (λ qs. Made l.Pass qs v) (λ p h. made_as l.Pass (p ∷ []) v (λ z. p) (λ z. refl) (λ z. h) (λ z. passed h) refl))
+
+pub list_with : (n m : ℕ) (v : View) → Rebuild n (phrase m ∷ token (fixed_class f.Comma) ∷ []) l.Pass (2 ∷ 1 ∷ []) → Rebuild n (phrase m ∷ []) l.Pass (2 ∷ []) → {a b : List SpannedTemplateToken} {x y : Phrase Part} → Back m v a x → OneToken (fixed_class f.Comma) b y
     → ListBack n v (a ++ (b ++ [])) (make_of l.Pass (2 ∷ 1 ∷ []) (x ∷ y ∷ []))
-list_with n m v rebuild {a = a} {b = b} {x = x} {y = y} g k =
+list_with n m v read rebuild {a = a} {b = b} {x = x} {y = y} g k =
     let bare = pass_back n m v rebuild g in
     let made = comma_made v g k in record {
       stands = made.stands;
       passes = made.passes;
       again = bare.item.again;
+      likewise = with_comma n m v read g k;
       spelled = λ h. g.item.spelled (are_front (without_places a) (without_places (b ++ [])) (subst AreSpelled (places_append a (b ++ [])) h));
       ending = λ d o. let q = g.item.steps d o in record {
         last = q.last;
@@ -82,16 +91,17 @@ level_cont h b o ts us a = let P : List Bool → Type 0 = λ z. AreAlike (h.item
 pub cut_without : (n m : ℕ) (v : View) → Rebuild n (phrase m ∷ []) l.Pass (2 ∷ []) → {u : List SpannedTemplateToken} {x : Phrase Part} → Back m v u x → CutList n v (u ++ []) (make_of l.Pass (2 ∷ []) (x ∷ []))
 cut_without n m v rebuild g =
     let b = pass_back n m v rebuild g in
-    record { stands = b.item.stands; passes = b.item.passes; again = b.item.again; spelled = b.item.spelled; last = λ d o. (b.item.steps d o).last; cont = λ d o ts us e h a. level_cont b d o ts us a }
+    record { stands = b.item.stands; passes = b.item.passes; again = b.item.again; likewise = b.item.likewise; spelled = b.item.spelled; last = λ d o. (b.item.steps d o).last; cont = λ d o ts us e h a. level_cont b d o ts us a }
 
-pub cut_with : (n m : ℕ) (v : View) → Rebuild n (phrase m ∷ []) l.Pass (2 ∷ []) → {a b : List SpannedTemplateToken} {x y : Phrase Part} → Back m v a x → OneToken (fixed_class f.Comma) b y
+pub cut_with : (n m : ℕ) (v : View) → Rebuild n (phrase m ∷ token (fixed_class f.Comma) ∷ []) l.Pass (2 ∷ 1 ∷ []) → Rebuild n (phrase m ∷ []) l.Pass (2 ∷ []) → {a b : List SpannedTemplateToken} {x y : Phrase Part} → Back m v a x → OneToken (fixed_class f.Comma) b y
     → CutList n v (a ++ (b ++ [])) (make_of l.Pass (2 ∷ 1 ∷ []) (x ∷ y ∷ []))
-cut_with n m v rebuild {a = a} {b = b} {x = x} {y = y} g k =
+cut_with n m v read rebuild {a = a} {b = b} {x = x} {y = y} g k =
     let bare = pass_back n m v rebuild g in
     let made = comma_made v g k in record {
       stands = made.stands;
       passes = made.passes;
       again = bare.item.again;
+      likewise = with_comma n m v read g k;
       spelled = λ h. g.item.spelled (are_front (without_places a) (without_places (b ++ [])) (subst AreSpelled (places_append a (b ++ [])) h));
       last = λ d o. (g.item.steps d o).last;
       cont = λ d o ts us e h z. moved (comma_behind a b k ts) refl (level_cont g d o (comma ∷ ts) us (first_extra comma refl h z));

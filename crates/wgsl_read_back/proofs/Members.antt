@@ -35,7 +35,7 @@ use Rattle.wgsl_read_back.proofs.Views.{View, Stands, a_type, a_member, some_mem
 use Rattle.wgsl_read_back.proofs.Views as v
 use Rattle.wgsl_read_back.proofs.Items.{places_append, split, moved, Again, Back, CutList, OneToken, token_again}
 use Rattle.wgsl_read_back.proofs.Rows.{make_of, makes_of, Rebuild}
-use Rattle.wgsl_read_back.proofs.Pieces.{end, a_mark, a_part, Made, made_as, made_of_parts, pieces_back, of_one_part, phrase_back}
+use Rattle.wgsl_read_back.proofs.Pieces.{end, a_mark, a_part, Made, made_as, made_of_parts, likewise_of, pieces_back, of_one_part, phrase_back}
 use Rattle.wgsl_read_back.proofs.Families.{mark_item}
 use Rattle.wgsl_read_back.proofs.Operands.{word_part}
 use Rattle.wgsl_read_back.proofs.AttributeRows.{attributes_are}
@@ -155,8 +155,8 @@ abbrev level_cont : {n : ℕ} {ms : List Member} {ts : List TemplateToken} {u : 
     → AreAlike b o (without_places u ++ xs) (ts ++ us)
 level_cont h b o xs us a = let P : List Bool → Type 0 = λ z. AreAlike (h.item.steps b o).last z xs us in (h.item.steps b o).cont xs us (subst P (sym (h.level b o)) a)
 
-pub members_without : (n m : ℕ) → Rebuild n (comma_row m) l.Pass (2 ∷ 1 ∷ []) → {u : List SpannedTemplateToken} {x : Phrase Part} → MembersSeparated m u x → MembersListed n (u ++ []) (make_of l.Pass (2 ∷ []) (x ∷ []))
-members_without n m rebuild {u = u} {x = x} g =
+pub members_without : (n m : ℕ) → Rebuild n (phrase m ∷ []) l.Pass (2 ∷ []) → Rebuild n (comma_row m) l.Pass (2 ∷ 1 ∷ []) → {u : List SpannedTemplateToken} {x : Phrase Part} → MembersSeparated m u x → MembersListed n (u ++ []) (make_of l.Pass (2 ∷ []) (x ∷ []))
+members_without n m read rebuild {u = u} {x = x} g =
     let made = made_of_parts l.Pass (2 ∷ []) x [] (v.members g.0 (g.1 ++ a_comma)) (comma_makes g.0 g.1 (g.1 ++ a_comma) x.part g.3.item.stands) (g.3.item.passes, tt) in
     let same : without_places (u ++ []) ≡ without_places u = places_append u [] ∙ append-nil (without_places u) in (
       g.0,
@@ -166,6 +166,7 @@ members_without n m rebuild {u = u} {x = x} g =
         stands = made.stands;
         passes = made.passes;
         again = members_again n m rebuild g.0 g.1 g.3;
+        likewise = likewise_of n (phrase m ∷ []) (2 ∷ []) l.Pass read (v.members g.0 (g.1 ++ a_comma)) (a_part g.3 end) (of_one_part (λ qs. Made l.Pass qs (v.members g.0 (g.1 ++ a_comma))) (comma_makes g.0 g.1 (g.1 ++ a_comma)));
         spelled = λ h. are_both g.1 a_comma (g.3.item.spelled (subst AreSpelled same h)) (comma_spelled, tt);
         last = λ b o. (g.3.item.steps b o).last;
         cont = λ b o ts us e h a. moved (ap (λ z. z ++ ts) (sym same)) (sym (append_assoc g.1 a_comma us)) (level_cont g.3 b o ts (mark f.Comma ∷ us) (second_extra (mark f.Comma) refl e a));
@@ -174,9 +175,9 @@ members_without n m rebuild {u = u} {x = x} g =
 
 pub members_with : (n m : ℕ) → Rebuild n (comma_row m) l.Pass (2 ∷ 1 ∷ []) → {a b : List SpannedTemplateToken} {x y : Phrase Part} → MembersSeparated m a x → OneToken (fixed_class f.Comma) b y
     → MembersListed n (a ++ (b ++ [])) (make_of l.Pass (2 ∷ 1 ∷ []) (x ∷ y ∷ []))
-members_with n m rebuild {a = a} {b = b} {x = x} {y = y} g k = (g.0, g.1 ++ a_comma, g.2, record { stands = whole.item.stands; passes = whole.item.passes; again = whole.item.again; spelled = whole.item.spelled; last = λ d o. (whole.item.steps d o).last; cont = λ d o ts us e h z. level_cont whole d o ts us z })
+members_with n m rebuild {a = a} {b = b} {x = x} {y = y} g k = (g.0, g.1 ++ a_comma, g.2, record { stands = whole.item.stands; passes = whole.item.passes; again = whole.item.again; likewise = whole.item.likewise; spelled = whole.item.spelled; last = λ d o. (whole.item.steps d o).last; cont = λ d o ts us e h z. level_cont whole d o ts us z })
   where
     whole : Back n (v.members g.0 (g.1 ++ a_comma)) (a ++ (b ++ [])) (make_of l.Pass (2 ∷ 1 ∷ []) (x ∷ y ∷ []))
     whole =
-        pieces_back n (comma_row m) (2 ∷ 1 ∷ []) (phrase m) (token (fixed_class f.Comma) ∷ []) (2 ∷ 1 ∷ []) l.Pass rebuild (v.members g.0 (g.1 ++ a_comma)) (a_part g.3 (a_mark (mark_item f.Comma b y k) end)) refl
+        pieces_back n (comma_row m) (2 ∷ 1 ∷ []) (phrase m) (token (fixed_class f.Comma) ∷ []) (2 ∷ 1 ∷ []) l.Pass rebuild rebuild (v.members g.0 (g.1 ++ a_comma)) (a_part g.3 (a_mark (mark_item f.Comma b y k) end)) refl
         (of_one_part (λ qs. Made l.Pass qs (v.members g.0 (g.1 ++ a_comma))) (comma_makes g.0 g.1 (g.1 ++ a_comma))) (λ d o. tt) (λ d o. refl) (λ d o. tt)

@@ -27,12 +27,12 @@ use Rattle.wgsl_phrases.specs.declared.phrase.Phrase.{Phrase}
 use Rattle.wgsl_parts.specs.Lists as lists
 use Rattle.wgsl_read_back.proofs.Views.{Stands, an_importing, some_imports, a_directive, some_directives, a_declaration, some_declarations}
 use Rattle.wgsl_read_back.proofs.Views as v
-use Rattle.wgsl_read_back.proofs.Items.{places_append, moved, Back}
+use Rattle.wgsl_read_back.proofs.Items.{places_append, split_two, moved, Back}
 use Rattle.wgsl_read_back.proofs.Rows.{make_of, Rebuild}
-use Rattle.wgsl_read_back.proofs.Pieces.{Lined, Vanished, end, a_part, some_lines, Made, made_as, made_of_parts, pieces_lined, of_one_part, of_two_parts, more_back, phrase_back}
+use Rattle.wgsl_read_back.proofs.Pieces.{Lined, Vanished, end, a_part, some_lines, Made, made_as, made_of_parts, pieces_lined, of_one_part, of_two_parts, more_back, phrase_back, again_one, again_two}
 use Rattle.wgsl_read_back.proofs.Imports.{Imported}
 use Rattle.wgsl_read_back.proofs.Directives.{Directed}
-use Rattle.wgsl_read_back.proofs.Declarations.{IsVoid, Declared, declares, is_void}
+use Rattle.wgsl_read_back.proofs.Declarations.{IsVoid, IsVoidDeclaration, Declared, declares, is_void}
 
 -- one more behind some
 row_last : {A : Type 0} {has : A → List TemplateToken → Type 0} {xs : List A} {ts : List TemplateToken} (x : A) (us : List TemplateToken) → RowTokens has xs ts → has x us → RowTokens has (xs ++ (x ∷ [])) (ts ++ (us ++ []))
@@ -111,7 +111,7 @@ more_directives n m rebuild h g =
 
 -- Those of which none is printed, and others.
 pub data DeclarationsRowed (n : ℕ) (u : List SpannedTemplateToken) (x : Phrase Part) : Type 0 where
-  all_void : (ys : List (Spanned GlobalDeclaration)) → x.part ≡ part.Globals ys → declarations_tree ys ≡ [] → Vanished (v.declarations [] []) u x → DeclarationsRowed n u x
+  all_void : (ys : List (Spanned GlobalDeclaration)) → x.part ≡ part.Globals ys → declarations_tree ys ≡ [] → Vanished n (v.declarations [] []) u x → DeclarationsRowed n u x
   some_declared : (d : Decl) (ds : List Decl) (ts : List TemplateToken) → RowTokens DeclTokens (d ∷ ds) ts → Lined n (v.declarations (d ∷ ds) ts) u x → DeclarationsRowed n u x
 
 tree_last : (ys : List (Spanned GlobalDeclaration)) (y : Spanned GlobalDeclaration) → declarations_tree (ys ++ (y ∷ [])) ≡ declarations_tree ys ++ cons_option (declaration_tree y.node) []
@@ -129,15 +129,22 @@ void_tokens {u = u} g = places_append u [] ∙ append-nil (without_places u) ∙
 void_gone : {m : ℕ} {u : List SpannedTemplateToken} {x : Phrase Part} → IsVoid m u x → (o : List Bool) (xs us : List TemplateToken) → AreAlike outside o xs us → AreAlike outside o (without_places (u ++ []) ++ xs) us
 void_gone g o xs us a = moved (ap (λ z. z ++ xs) (sym (void_tokens g))) refl (first_outside (mark f.Semicolon) refl a)
 
-first_void : {m : ℕ} {u : List SpannedTemplateToken} {x : Phrase Part} → IsVoid m u x → Made l.First (x.part ∷ []) (v.declarations [] [])
-first_void {x = x} g =
-    made_as l.First (x.part ∷ []) (v.declarations [] []) (λ s. part.Globals (g.node ∷ [])) (λ s i. lists.started (g.part_is i)) (λ s. some_declarations (g.node ∷ []) refl (ap (λ o. cons_option o []) g.void)) (λ s. refl) refl
+first_void : (p : Part) → IsVoidDeclaration p → Made l.First (p ∷ []) (v.declarations [] [])
+first_void p g =
+    made_as l.First (p ∷ []) (v.declarations [] []) (λ s. part.Globals (g.0 ∷ [])) (λ s i. lists.started (g.1 i)) (λ s. some_declarations (g.0 ∷ []) refl (ap (λ o. cons_option o []) g.2)) (λ s. refl) refl
 
-more_void : {m : ℕ} {u : List SpannedTemplateToken} {x : Phrase Part} → IsVoid m u x → (p : Part) (ys : List (Spanned GlobalDeclaration)) (ds : List Decl) (ts : List TemplateToken) → p ≡ part.Globals ys → declarations_tree ys ≡ ds
-    → Made l.More (p ∷ x.part ∷ []) (v.declarations ds ts)
-more_void {x = x} g p ys ds ts is e =
-    made_as l.More (p ∷ x.part ∷ []) (v.declarations ds ts) (λ s. part.Globals (ys ++ (g.node ∷ []))) (λ s i. lists.joined (is i) (g.part_is i))
-    (λ s. some_declarations _ refl (tree_last ys g.node ∙ (λ i. e i ++ cons_option (g.void i) []) ∙ append-nil ds)) (λ s. refl) refl
+more_void : (q : Part) → IsVoidDeclaration q → (p : Part) (ys : List (Spanned GlobalDeclaration)) (ds : List Decl) (ts : List TemplateToken) → p ≡ part.Globals ys → declarations_tree ys ≡ ds → Made l.More (p ∷ q ∷ []) (v.declarations ds ts)
+more_void q g p ys ds ts is e =
+    made_as l.More (p ∷ q ∷ []) (v.declarations ds ts) (λ s. part.Globals (ys ++ (g.0 ∷ []))) (λ s i. lists.joined (is i) (g.1 i))
+    (λ s. some_declarations _ refl (tree_last ys g.0 ∙ (λ i. e i ++ cons_option (g.2 i) []) ∙ append-nil ds)) (λ s. refl) refl
+
+-- some of them in a row are there
+not_absent : (ys : List (Spanned GlobalDeclaration)) (p : Part) → p ≡ part.Globals ys → p ≡ part.Absent → ⊥
+not_absent ys p e h = let wrong : part.Globals ys ≡ part.Absent = sym e ∙ h in cc
+
+voids : (p : Part) → Stands p (v.declarations [] []) → (p ≡ part.Absent → ⊥) → (ys : List (Spanned GlobalDeclaration)) × (p ≡ part.Globals ys) × (declarations_tree ys ≡ [])
+voids p (some_declarations ys is trees) there = (ys, is, trees)
+voids p (v.no_declarations is) there = absurd (there is)
 
 more_makes : (ys : List (Spanned GlobalDeclaration)) (ds : List Decl) (d : Decl) (us ts : List TemplateToken) (p q : Part) → p ≡ part.Globals ys → declarations_tree ys ≡ ds → Stands q (v.declaration d us) → Made l.More (p ∷ q ∷ []) (v.declarations (ds ++ (d ∷ [])) ts)
 more_makes ys ds d us ts p q is e (a_declaration y at h) =
@@ -150,7 +157,7 @@ globals_are p d ds ts (some_declarations ys is e) = (ys, is, e)
 first_line : (n m : ℕ) → Rebuild n (phrase m ∷ []) l.First (2 ∷ []) → {u : List SpannedTemplateToken} {x : Phrase Part} (d : Decl) (ts : List TemplateToken) → Back m (v.declaration d ts) u x
     → Lined n (v.declarations (d ∷ []) (ts ++ [])) (u ++ []) (make_of l.First (2 ∷ []) (x ∷ []))
 first_line n m rebuild d ts b =
-    pieces_lined n (phrase m ∷ []) (2 ∷ []) (phrase m) [] (2 ∷ []) l.First rebuild (v.declarations (d ∷ []) (ts ++ [])) (a_part b end) refl
+    pieces_lined n (phrase m ∷ []) (2 ∷ []) (phrase m) [] (2 ∷ []) l.First rebuild rebuild (v.declarations (d ∷ []) (ts ++ [])) (a_part b end) refl
     (of_one_part (λ qs. Made l.First qs (v.declarations (d ∷ []) (ts ++ []))) (makes d ts (ts ++ []))) (λ o. tt) (λ o. refl) (λ o. b.ended outside o)
   where
     makes : (d : Decl) (us ts : List TemplateToken) (q : Part) → Stands q (v.declaration d us) → Made l.First (q ∷ []) (v.declarations (d ∷ []) ts)
@@ -159,9 +166,18 @@ first_line n m rebuild d ts b =
 
 pub first_declaration : (n m : ℕ) → Rebuild n (phrase m ∷ []) l.First (2 ∷ []) → {u : List SpannedTemplateToken} {x : Phrase Part} → Declared m u x → DeclarationsRowed n (u ++ []) (make_of l.First (2 ∷ []) (x ∷ []))
 first_declaration n m rebuild (declares d ts h b) = some_declared d [] (ts ++ []) (row_and h row_end) (first_line n m rebuild d ts b)
-first_declaration n m rebuild {x = x} (is_void g) =
-    let made = made_of_parts l.First (2 ∷ []) x [] (v.declarations [] []) (first_void g) (g.passes, tt) in
-    all_void (g.node ∷ []) (ap lists.started g.part_is) (ap (λ o. cons_option o []) g.void) (record { stands = made.stands; absent = v.no_declarations refl; passes = made.passes; cont = void_gone g })
+first_declaration n m rebuild {u = u} {x = x} (is_void g) =
+    let made = made_of_parts l.First (2 ∷ []) x [] (v.declarations [] []) (first_void x.part (g.node, g.part_is, g.void)) (g.passes, tt) in
+    all_void (g.node ∷ []) (ap lists.started g.part_is) (ap (λ o. cons_option o []) g.void) (record {
+      stands = made.stands;
+      absent = v.no_declarations refl;
+      passes = made.passes;
+      likewise = λ w e. let a = g.likewise w (e ∙ ap without_places (append-nil u)) in record {
+        again = again_one n m l.First rebuild (v.declarations [] []) w a.value a.derives a.passes (first_void a.value.part a.is);
+        there = not_absent (a.is.0 ∷ []) (make_of l.First (2 ∷ []) (a.value ∷ [])).part (ap lists.started a.is.1);
+      };
+      cont = void_gone g;
+    })
 
 -- tokens one behind the other
 behind_tokens : (a b : List SpannedTemplateToken) (xs : List TemplateToken) → without_places a ++ (without_places b ++ xs) ≡ without_places (a ++ b) ++ xs
@@ -171,11 +187,19 @@ behind_tokens a b xs = sym (append_assoc (without_places a) (without_places b) x
 pub more_declarations : (n m : ℕ) → Rebuild n (phrase n ∷ phrase m ∷ []) l.More (2 ∷ 2 ∷ []) → Rebuild n (phrase m ∷ []) l.First (2 ∷ []) → {a b : List SpannedTemplateToken} {x y : Phrase Part}
     → DeclarationsRowed n a x → Declared m b y → DeclarationsRowed n (a ++ (b ++ [])) (make_of l.More (2 ∷ 2 ∷ []) (x ∷ y ∷ []))
 more_declarations n m rebuild first {a = a} {b = b} {x = x} {y = y} (all_void ys is none h) (is_void g) =
-    let made = made_of_parts l.More (2 ∷ 2 ∷ []) x (y ∷ []) (v.declarations [] []) (more_void g x.part ys [] [] is none) (h.passes, (g.passes, tt)) in
+    let made = made_of_parts l.More (2 ∷ 2 ∷ []) x (y ∷ []) (v.declarations [] []) (more_void y.part (g.node, g.part_is, g.void) x.part ys [] [] is none) (h.passes, (g.passes, tt)) in
     all_void (ys ++ (g.node ∷ [])) (λ i. lists.joined (is i) (g.part_is i)) (tree_last ys g.node ∙ (λ i. none i ++ cons_option (g.void i) [])) (record {
       stands = made.stands;
       absent = v.no_declarations refl;
       passes = made.passes;
+      likewise = λ w e.
+          let q = split_two a b w e in
+          let c = h.likewise q.front q.front_is in
+          let d = g.likewise q.rest q.rest_is in
+          let held = voids c.again.value.part c.again.stands c.there in record {
+            again = again_two n n m l.More rebuild (v.declarations [] []) q.front q.rest w q.whole c.again.value d.value c.again.derives d.derives c.again.passes d.passes (more_void d.value.part d.is c.again.value.part held.0 [] [] held.1 held.2);
+            there = not_absent (held.0 ++ (d.is.0 ∷ [])) (make_of l.More (2 ∷ 2 ∷ []) (c.again.value ∷ d.value ∷ [])).part (λ i. lists.joined (held.1 i) (d.is.1 i));
+          };
       cont = λ o xs us z. moved (behind_tokens a (b ++ []) xs) refl (h.cont o (without_places (b ++ []) ++ xs) us (void_gone g o xs us z));
     })
 more_declarations n m rebuild first {a = a} {b = b} {x = x} {y = y} (all_void ys is none h) (declares d ts k g) =
@@ -185,21 +209,34 @@ more_declarations n m rebuild first {a = a} {b = b} {x = x} {y = y} (all_void ys
       stands = made.stands;
       passes = made.passes;
       again = line.again;
+      likewise = λ w e.
+          let q = split_two a b w e in
+          let c = h.likewise q.front q.front_is in
+          let f = g.item.likewise q.rest q.rest_is in
+          let held = voids c.again.value.part c.again.stands c.there in
+          again_two n n m l.More rebuild (v.declarations (d ∷ []) (ts ++ [])) q.front q.rest w q.whole c.again.value f.value c.again.derives f.derives c.again.passes f.passes
+          (more_makes held.0 [] d ts (ts ++ []) c.again.value.part f.value.part held.1 held.2 f.stands);
       spelled = λ s. line.spelled (are_behind (without_places a) (without_places (b ++ [])) (subst AreSpelled (places_append a (b ++ [])) s));
       cont = λ o xs us z. moved (behind_tokens a (b ++ []) xs) refl (h.cont o (without_places (b ++ []) ++ xs) ((ts ++ []) ++ us) (line.cont o xs us z));
     })
 more_declarations n m rebuild first {a = a} {b = b} {x = x} {y = y} (some_declared d ds ts k h) (is_void g) =
     let p = globals_are x.part d ds ts h.stands in
-    let made = made_of_parts l.More (2 ∷ 2 ∷ []) x (y ∷ []) (v.declarations (d ∷ ds) ts) (more_void g x.part p.0 (d ∷ ds) ts p.1 p.2) (h.passes, (g.passes, tt)) in
+    let made = made_of_parts l.More (2 ∷ 2 ∷ []) x (y ∷ []) (v.declarations (d ∷ ds) ts) (more_void y.part (g.node, g.part_is, g.void) x.part p.0 (d ∷ ds) ts p.1 p.2) (h.passes, (g.passes, tt)) in
     some_declared d ds ts k (record {
       stands = made.stands;
       passes = made.passes;
       again = h.again;
+      likewise = λ w e.
+          let q = split_two a b w e in
+          let c = h.likewise q.front q.front_is in
+          let f = g.likewise q.rest q.rest_is in
+          let held = globals_are c.value.part d ds ts c.stands in
+          again_two n n m l.More rebuild (v.declarations (d ∷ ds) ts) q.front q.rest w q.whole c.value f.value c.derives f.derives c.passes f.passes (more_void f.value.part f.is c.value.part held.0 (d ∷ ds) ts held.1 held.2);
       spelled = λ s. h.spelled (are_front (without_places a) (without_places (b ++ [])) (subst AreSpelled (places_append a (b ++ [])) s));
       cont = λ o xs us z. moved (behind_tokens a (b ++ []) xs) refl (h.cont o (without_places (b ++ []) ++ xs) us (void_gone g o xs us z));
     })
 more_declarations n m rebuild first (some_declared d ds ts k h) (declares e us i g) =
     some_declared d (ds ++ (e ∷ [])) (ts ++ (us ++ [])) (row_last e us k i)
-    (pieces_lined n (phrase n ∷ phrase m ∷ []) (2 ∷ 2 ∷ []) (phrase n) (phrase m ∷ []) (2 ∷ 2 ∷ []) l.More rebuild (v.declarations (d ∷ (ds ++ (e ∷ []))) (ts ++ (us ++ []))) (some_lines h (a_part g end)) refl
+    (pieces_lined n (phrase n ∷ phrase m ∷ []) (2 ∷ 2 ∷ []) (phrase n) (phrase m ∷ []) (2 ∷ 2 ∷ []) l.More rebuild rebuild (v.declarations (d ∷ (ds ++ (e ∷ []))) (ts ++ (us ++ []))) (some_lines h (a_part g end)) refl
     (of_two_parts (λ qs. Made l.More qs (v.declarations (d ∷ (ds ++ (e ∷ []))) (ts ++ (us ++ [])))) (λ p q w z.
     let s = globals_are p d ds ts w in more_makes s.0 (d ∷ ds) e us (ts ++ (us ++ [])) p q s.1 s.2 z)) (λ o. (refl, tt)) (λ o. refl) (λ o. g.ended outside o))

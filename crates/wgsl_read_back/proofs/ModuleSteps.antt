@@ -23,7 +23,7 @@ use Rattle.wgsl_read_back.proofs.Steps.{good_end, good_next, Is, As, Makes}
 -- `;` alone: row decl.VoidDeclaration n.Declaration
 
 pub s_void_declared : (k : ℕ) → Is Declared k → Makes k (token (fixed_class f.Semicolon) ∷ []) (l.Declaration decl.VoidDeclaration) (1 ∷ [])
-s_void_declared k out rebuild _ _ (good_next _ i good_end) = out _ _ (void_declared k i)
+s_void_declared k out rebuild _ _ (good_next _ i good_end) = out _ _ (void_declared k rebuild i)
 
 -- decl.Global, of n.Var and of n.Override, each without attributes and then with them
 
@@ -153,7 +153,7 @@ s_more_declarations k m out b a first rebuild _ _ (good_next _ g (good_next _ h 
 -- in_a_list n.Member: without a last comma, and with it (the phrase is derived again with the comma)
 
 pub s_members_without : (k m : ℕ) → Is MembersListed k → As MembersSeparated m → Rebuild k (comma_row m) l.Pass (2 ∷ 1 ∷ []) → Makes k (phrase m ∷ []) l.Pass (2 ∷ [])
-s_members_without k m out a closed rebuild _ _ (good_next _ h good_end) = out _ _ (members_without k m closed (a _ _ h))
+s_members_without k m out a closed rebuild _ _ (good_next _ h good_end) = out _ _ (members_without k m rebuild closed (a _ _ h))
 
 pub s_members_with : (k m : ℕ) → Is MembersListed k → As MembersSeparated m → Makes k (comma_row m) l.Pass (2 ∷ 1 ∷ [])
 s_members_with k m out a rebuild _ _ (good_next _ h (good_next _ i good_end)) = out _ _ (members_with k m rebuild (a _ _ h) i)
@@ -172,7 +172,7 @@ pub s_parameters_without : (k m : ℕ) → Is ParametersListed k → As Paramete
 s_parameters_without k m out a rebuild _ _ (good_next _ h good_end) = out _ _ (parameters_without k m rebuild (a _ _ h))
 
 pub s_parameters_with : (k m : ℕ) → Is ParametersListed k → As ParametersSeparated m → Rebuild k (phrase m ∷ []) l.Pass (2 ∷ []) → Makes k (phrase m ∷ token (fixed_class f.Comma) ∷ []) l.Pass (2 ∷ 1 ∷ [])
-s_parameters_with k m out a bare rebuild _ _ (good_next _ h (good_next _ i good_end)) = out _ _ (parameters_with k m bare (a _ _ h) i)
+s_parameters_with k m out a bare rebuild _ _ (good_next _ h (good_next _ i good_end)) = out _ _ (parameters_with k m rebuild bare (a _ _ h) i)
 
 -- with_commas n.Parameter
 

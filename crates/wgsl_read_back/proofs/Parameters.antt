@@ -124,7 +124,7 @@ module _ (view : List Attr → List ℕ → Typ → List TemplateToken → View)
         tokens = [];
         has = no_attributes;
         apart = g.1;
-        back = pieces_back n (typed_row m) (0 ∷ 2 ∷ 1 ∷ 2 ∷ []) (token 77) (token (fixed_class f.Colon) ∷ phrase m ∷ []) (0 ∷ 2 ∷ 1 ∷ 2 ∷ []) label rebuild (view [] name g.0 us)
+        back = pieces_back n (typed_row m) (0 ∷ 2 ∷ 1 ∷ 2 ∷ []) (token 77) (token (fixed_class f.Colon) ∷ phrase m ∷ []) (0 ∷ 2 ∷ 1 ∷ 2 ∷ []) label rebuild rebuild (view [] name g.0 us)
             (no_part (v.attributes [] []) (v.no_attributes refl) (a_leaf (word_item a x k) (a_mark (mark_item f.Colon b y i) (a_part g.2 end)))) (typed_end [] name g.0 ∙ tokens [] name g.0 us)
             (of_three_parts (λ qs. Made label qs (view [] name g.0 us)) (makes [] [] name g.0 us)) (λ d o. tt) (λ d o. refl) (λ d o. ends [] name g.0 us _ (g.2.ended _ _));
       }
@@ -141,7 +141,7 @@ module _ (view : List Attr → List ℕ → Typ → List TemplateToken → View)
         tokens = h.2;
         has = h.3;
         apart = g.1;
-        back = pieces_back n (attributes_typed_row r m) (2 ∷ 2 ∷ 1 ∷ 2 ∷ []) (phrase r) (typed_row m) (2 ∷ 2 ∷ 1 ∷ 2 ∷ []) label rebuild (view xs name g.0 us)
+        back = pieces_back n (attributes_typed_row r m) (2 ∷ 2 ∷ 1 ∷ 2 ∷ []) (phrase r) (typed_row m) (2 ∷ 2 ∷ 1 ∷ 2 ∷ []) label rebuild rebuild (view xs name g.0 us)
             (a_part h.4 (a_leaf (word_item a x k) (a_mark (mark_item f.Colon b y i) (a_part g.2 end)))) (typed_end h.2 name g.0 ∙ tokens xs name g.0 us)
             (of_three_parts (λ qs. Made label qs (view xs name g.0 us)) (makes xs h.2 name g.0 us)) (λ d o. tt) (λ d o. refl) (λ d o. ends xs name g.0 us _ (g.2.ended _ _));
       }
@@ -207,9 +207,9 @@ more_parameters n m rebuild h i g =
 pub parameters_without : (n m : ℕ) → Rebuild n (phrase m ∷ []) l.Pass (2 ∷ []) → {u : List SpannedTemplateToken} {x : Phrase Part} → ParametersSeparated m u x → ParametersListed n (u ++ []) (make_of l.Pass (2 ∷ []) (x ∷ []))
 parameters_without n m rebuild g = (g.0 ∷ g.1, g.2, g.3, list_without n m (v.parameters (g.0 ∷ g.1) g.2) rebuild g.4)
 
-pub parameters_with : (n m : ℕ) → Rebuild n (phrase m ∷ []) l.Pass (2 ∷ []) → {a b : List SpannedTemplateToken} {x y : Phrase Part} → ParametersSeparated m a x → OneToken (fixed_class f.Comma) b y
+pub parameters_with : (n m : ℕ) → Rebuild n (phrase m ∷ token (fixed_class f.Comma) ∷ []) l.Pass (2 ∷ 1 ∷ []) → Rebuild n (phrase m ∷ []) l.Pass (2 ∷ []) → {a b : List SpannedTemplateToken} {x y : Phrase Part} → ParametersSeparated m a x → OneToken (fixed_class f.Comma) b y
     → ParametersListed n (a ++ (b ++ [])) (make_of l.Pass (2 ∷ 1 ∷ []) (x ∷ y ∷ []))
-parameters_with n m rebuild g k = (g.0 ∷ g.1, g.2, g.3, list_with n m (v.parameters (g.0 ∷ g.1) g.2) rebuild g.4 k)
+parameters_with n m read rebuild g k = (g.0 ∷ g.1, g.2, g.3, list_with n m (v.parameters (g.0 ∷ g.1) g.2) read rebuild g.4 k)
 
 -- ---- results
 
@@ -226,7 +226,7 @@ result_bare n m rebuild {a = a} {x = x} i g = record {
   tokens = [];
   has = no_attributes;
   apart = g.1;
-  back = pieces_back n (result_row m) (1 ∷ 0 ∷ 2 ∷ []) (token (fixed_class f.Arrow)) (phrase m ∷ []) (1 ∷ 0 ∷ 2 ∷ []) (l.Declaration label.Result) rebuild (v.returned [] (Some g.0) (mark f.Arrow ∷ typ_tokens g.0))
+  back = pieces_back n (result_row m) (1 ∷ 0 ∷ 2 ∷ []) (token (fixed_class f.Arrow)) (phrase m ∷ []) (1 ∷ 0 ∷ 2 ∷ []) (l.Declaration label.Result) rebuild rebuild (v.returned [] (Some g.0) (mark f.Arrow ∷ typ_tokens g.0))
       (a_mark (mark_item f.Arrow a x i) (no_part (v.attributes [] []) (v.no_attributes refl) (a_part g.2 end))) (ap (λ z. mark f.Arrow ∷ z) (append-nil (typ_tokens g.0)))
       (of_two_parts (λ qs. Made (l.Declaration label.Result) qs (v.returned [] (Some g.0) (mark f.Arrow ∷ typ_tokens g.0))) (result_makes [] [] g.0 (mark f.Arrow ∷ typ_tokens g.0)))
       (λ d o. tt) (λ d o. refl) (λ d o. tt);
@@ -241,7 +241,7 @@ result_attributed n r m rebuild {a = a} {x = x} i h g =
       tokens = h.2;
       has = h.3;
       apart = g.1;
-      back = pieces_back n (attributes_result_row r m) (1 ∷ 2 ∷ 2 ∷ []) (token (fixed_class f.Arrow)) (phrase r ∷ phrase m ∷ []) (1 ∷ 2 ∷ 2 ∷ []) (l.Declaration label.Result) rebuild (v.returned (h.0 ∷ h.1) (Some g.0) ts)
+      back = pieces_back n (attributes_result_row r m) (1 ∷ 2 ∷ 2 ∷ []) (token (fixed_class f.Arrow)) (phrase r ∷ phrase m ∷ []) (1 ∷ 2 ∷ 2 ∷ []) (l.Declaration label.Result) rebuild rebuild (v.returned (h.0 ∷ h.1) (Some g.0) ts)
           (a_mark (mark_item f.Arrow a x i) (a_part h.4 (a_part g.2 end))) (ap (λ z. mark f.Arrow ∷ (h.2 ++ z)) (append-nil (typ_tokens g.0)))
           (of_two_parts (λ qs. Made (l.Declaration label.Result) qs (v.returned (h.0 ∷ h.1) (Some g.0) ts)) (result_makes (h.0 ∷ h.1) h.2 g.0 ts)) (λ d o. tt) (λ d o. refl) (λ d o. tt);
     }

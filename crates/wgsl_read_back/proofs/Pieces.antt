@@ -1,6 +1,6 @@
 -- Rows in which pieces may be absent, vanish, or be added where they are printed: what a production makes is said of its parts alone,
 -- whichever of them are there.
-use Rattle.std.proofs.Common.{◌≡◌, refl, sym, ap, ◌∙◌, subst, ℕ, Bool, true, List, [], ◌∷◌, ◌++◌, append_assoc, None}
+use Rattle.std.proofs.Common.{◌≡◌, refl, sym, ap, ◌∙◌, subst, ℕ, Bool, true, List, [], ◌∷◌, ◌++◌, append_assoc, append-nil, None}
 use Rattle.wgsl_path.specs.declared.span.Span.{Span}
 use Rattle.wgsl_template_spec.specs.declared.token.TemplateToken.{TemplateToken}
 use Rattle.wgsl_template_spec.specs.declared.token.SpannedTemplateToken.{SpannedTemplateToken}
@@ -9,7 +9,7 @@ use Rattle.wgsl_token_layout.specs.Laws.{without_places}
 use Rattle.wgsl_token_layout.specs.OptionalMarks.{Before, outside, before, groups, may_go, may_go_outside, AreAlike, first_extra, second_extra, first_outside}
 use Rattle.wgsl_tree_tokens.specs.Printable.{AreSpelled}
 use Rattle.wgsl_tree_tokens.proofs.Expressions.{are_front, are_behind, are_both}
-use Rattle.wgsl_shift_reduce.specs.Grammars.{Symbol, token, phrase, Row, done, next}
+use Rattle.wgsl_shift_reduce.specs.Grammars.{Symbol, token, phrase, Derives, Row, done, next}
 use Rattle.wgsl_parts.specs.declared.part.Part.{Part}
 use Rattle.wgsl_parts.specs.declared.part.Part.TheVariants.{Absent}
 use Rattle.wgsl_parts.specs.declared.label.Label.{Label}
@@ -32,14 +32,21 @@ pub record Lined (n : ℕ) (v : View) (u : List SpannedTemplateToken) (x : Phras
   pub stands : Stands x.part v
   pub passes : x.failure ≡ None
   pub again : (w : List SpannedTemplateToken) → without_places w ≡ view_tokens v → Again (phrase n) v w
+  pub likewise : (w : List SpannedTemplateToken) → without_places w ≡ without_places u → Again (phrase n) v w
   pub spelled : AreSpelled (without_places u) → AreSpelled (view_tokens v)
   pub cont : (o : List Bool) → Cont outside o (without_places u) (view_tokens v) outside o
 
+-- A phrase that is there, though it stands for what an absent part stands for.
+pub record Here (n : ℕ) (v : View) (w : List SpannedTemplateToken) : Type 0 where
+  pub again : Again (phrase n) v w
+  pub there : again.value.part ≡ Absent → ⊥
+
 -- A phrase of which nothing is printed: it stands for what an absent part stands for.
-pub record Vanished (v : View) (u : List SpannedTemplateToken) (x : Phrase Part) : Type 0 where
+pub record Vanished (n : ℕ) (v : View) (u : List SpannedTemplateToken) (x : Phrase Part) : Type 0 where
   pub stands : Stands x.part v
   pub absent : Stands Absent v
   pub passes : x.failure ≡ None
+  pub likewise : (w : List SpannedTemplateToken) → without_places w ≡ without_places u → Here n v w
   pub cont : (o : List Bool) (ts us : List TemplateToken) → AreAlike outside o ts us → AreAlike outside o (without_places u ++ ts) us
 
 -- ---- pieces
@@ -76,7 +83,7 @@ pub data Pieces : List Symbol → List ℕ → List Symbol → List ℕ → List
   -- what isn't there, and what won't be
   no_part : {ss rs : List Symbol} {ns ms : List ℕ} {ts : List TemplateToken} {ps : List View} {w : List SpannedTemplateToken} {xs : List (Phrase Part)} (v : View) → Stands Absent v
       → Pieces ss ns rs ms ts ps w xs → Pieces ss (0 ∷ ns) rs (0 ∷ ms) ts (v ∷ ps) w xs
-  a_vanished : {n : ℕ} {ss rs : List Symbol} {ns ms : List ℕ} {v : View} {ts : List TemplateToken} {ps : List View} {u w : List SpannedTemplateToken} {x : Phrase Part} {xs : List (Phrase Part)} → Vanished v u x
+  a_vanished : {n : ℕ} {ss rs : List Symbol} {ns ms : List ℕ} {v : View} {ts : List TemplateToken} {ps : List View} {u w : List SpannedTemplateToken} {x : Phrase Part} {xs : List (Phrase Part)} → Vanished n v u x
       → Pieces ss ns rs ms ts ps w xs → Pieces (phrase n ∷ ss) (2 ∷ ns) rs (0 ∷ ms) ts (v ∷ ps) (u ++ w) (x ∷ xs)
   -- a mark that is not printed, before what stands in no expression or behind it, and one that is printed
   mark_gone : {s : Symbol} {ss rs : List Symbol} {ns ms : List ℕ} (t : TemplateToken) {ts : List TemplateToken} {ps : List View} {u w : List SpannedTemplateToken} {x : Phrase Part} {xs : List (Phrase Part)} → Item s (view.token t) u x → without_places u ≡ t ∷ []
@@ -155,6 +162,51 @@ pieces_again (a_vanished h r) w e = let q = pieces_again r w e in record { value
 pieces_again (mark_gone t i e m g r) w h = pieces_again r w h
 pieces_again (outside_gone t i e m r) w h = pieces_again r w h
 pieces_again (mark_added t {ts = ts} k m g r) w e = let p = split w (t ∷ []) ts e in with_symbol w p (token_again (class_of t) t refl p.front p.front_is) (pieces_again r p.rest p.rest_is)
+
+-- ---- derived as it was read
+
+-- tokens that are those that were read are such a row, too
+pub pieces_likewise : {ss rs : List Symbol} {ns ms : List ℕ} {ts : List TemplateToken} {ps : List View} {u : List SpannedTemplateToken} {xs : List (Phrase Part)} → Pieces ss ns rs ms ts ps u xs → (w : List SpannedTemplateToken) → without_places w ≡ without_places u → RowOf ss ns ps w
+pieces_likewise end [] e = record { values = []; row = done; stand = tt; pass = tt }
+pieces_likewise end (k ∷ w) e = absurd cc
+pieces_likewise (a_mark {u = a} {w = b} i r) w e = let p = split w (without_places a) (without_places b) (e ∙ places_append a b) in with_symbol w p (i.likewise p.front p.front_is) (pieces_likewise r p.rest p.rest_is)
+pieces_likewise (a_leaf {u = a} {w = b} i r) w e = let p = split w (without_places a) (without_places b) (e ∙ places_append a b) in with_part w p (i.likewise p.front p.front_is) (pieces_likewise r p.rest p.rest_is)
+pieces_likewise (a_part {u = a} {w = b} h r) w e = let p = split w (without_places a) (without_places b) (e ∙ places_append a b) in with_part w p (h.item.likewise p.front p.front_is) (pieces_likewise r p.rest p.rest_is)
+pieces_likewise (a_part_as {u = a} {w = b} z f h r) w e =
+    let p = split w (without_places a) (without_places b) (e ∙ places_append a b) in
+    let q = h.item.likewise p.front p.front_is in
+    with_part w p (record { value = q.value; derives = q.derives; stands = f q.value.part q.stands; passes = q.passes }) (pieces_likewise r p.rest p.rest_is)
+pieces_likewise (some_lines {u = a} {w = b} h r) w e = let p = split w (without_places a) (without_places b) (e ∙ places_append a b) in with_part w p (h.likewise p.front p.front_is) (pieces_likewise r p.rest p.rest_is)
+pieces_likewise (a_list {u = a} {k = k} {w = b} l i c h r) w e =
+    let p = split w (without_places a) (without_places (k ++ b)) (e ∙ places_append a (k ++ b)) in
+    let q = split p.rest (without_places k) (without_places b) (p.rest_is ∙ places_append k b) in
+    with_part w p (l.likewise p.front p.front_is) (with_symbol p.rest q (i.likewise q.front q.front_is) (pieces_likewise r q.rest q.rest_is))
+pieces_likewise (a_cut_list {u = a} {w = b} l h g r) w e = let p = split w (without_places a) (without_places b) (e ∙ places_append a b) in with_part w p (l.likewise p.front p.front_is) (pieces_likewise r p.rest p.rest_is)
+pieces_likewise (no_part v h r) w e = let q = pieces_likewise r w e in record { values = q.values; row = q.row; stand = (h, q.stand); pass = q.pass }
+pieces_likewise (a_vanished {u = a} {w = b} h r) w e = let p = split w (without_places a) (without_places b) (e ∙ places_append a b) in with_part w p (h.likewise p.front p.front_is).again (pieces_likewise r p.rest p.rest_is)
+pieces_likewise (mark_gone t {u = a} {w = b} i h m g r) w e = let p = split w (without_places a) (without_places b) (e ∙ places_append a b) in with_symbol w p (i.likewise p.front p.front_is) (pieces_likewise r p.rest p.rest_is)
+pieces_likewise (outside_gone t {u = a} {w = b} i h m r) w e = let p = split w (without_places a) (without_places b) (e ∙ places_append a b) in with_symbol w p (i.likewise p.front p.front_is) (pieces_likewise r p.rest p.rest_is)
+pieces_likewise (mark_added t k m g r) w e = pieces_likewise r w e
+
+-- what is read of no symbols is of no phrases
+no_phrases : {ss rs : List Symbol} {ns ms : List ℕ} {ts : List TemplateToken} {ps : List View} {u : List SpannedTemplateToken} {xs : List (Phrase Part)} → Pieces ss ns rs ms ts ps u xs → ss ≡ [] → xs ≡ []
+no_phrases end e = refl
+no_phrases (a_mark i r) e = absurd cc
+no_phrases (a_leaf i r) e = absurd cc
+no_phrases (a_part b r) e = absurd cc
+no_phrases (a_part_as z f b r) e = absurd cc
+no_phrases (some_lines b r) e = absurd cc
+no_phrases (a_list l i c h r) e = absurd cc
+no_phrases (a_cut_list l h g r) e = absurd cc
+no_phrases (no_part v h r) e = no_phrases r e
+no_phrases (a_vanished h r) e = absurd cc
+no_phrases (mark_gone t i h m g r) e = absurd cc
+no_phrases (outside_gone t i h m r) e = absurd cc
+no_phrases (mark_added t k m g r) e = no_phrases r e
+
+no_symbols : {ss : List Symbol} {w : List SpannedTemplateToken} {xs : List (Phrase Part)} → Row grammar ss w xs → xs ≡ [] → ss ≡ []
+no_symbols done e = refl
+no_symbols (next d r) e = absurd cc
 
 -- ---- spelled
 
@@ -274,13 +326,14 @@ made_of_parts label pattern x xs v m pass = makes_checked label pattern x xs v (
 
 -- A phrase of these pieces, by what it is derived again.
 pub lined_of : {n : ℕ} (label : Label) (pattern : List ℕ) {ss rs : List Symbol} {ms : List ℕ} {ts : List TemplateToken} {ps : List View} {u : List SpannedTemplateToken} {x : Phrase Part} {xs : List (Phrase Part)} (v : View) → (p : Pieces ss pattern rs ms ts ps u (x ∷ xs)) → ts ≡ view_tokens v
-    → ((qs : List Part) → StandAll qs ps → Made label qs v) → ((w : List SpannedTemplateToken) → without_places w ≡ view_tokens v → Again (phrase n) v w) → (fine : (o : List Bool) → Fine p outside o) → ((o : List Bool) → (pieces_steps p outside o (fine o)).opened ≡ o)
+    → ((qs : List Part) → StandAll qs ps → Made label qs v) → ((w : List SpannedTemplateToken) → without_places w ≡ view_tokens v → Again (phrase n) v w) → ((w : List SpannedTemplateToken) → without_places w ≡ without_places u → Again (phrase n) v w) → (fine : (o : List Bool) → Fine p outside o) → ((o : List Bool) → (pieces_steps p outside o (fine o)).opened ≡ o)
     → ((o : List Bool) → (pieces_steps p outside o (fine o)).last ≡ outside) → Lined n v u (make_of label pattern (x ∷ xs))
-lined_of label pattern {ts = ts} {u = u} {x = x} {xs = xs} v p tokens makes again fine level ended =
+lined_of label pattern {ts = ts} {u = u} {x = x} {xs = xs} v p tokens makes again likewise fine level ended =
     let one = made_of_parts label pattern x xs v (makes (chosen Absent pattern (x ∷ xs)) (parts_stand p)) (parts_pass p) in record {
       stands = one.stands;
       passes = one.passes;
       again = again;
+      likewise = likewise;
       spelled = λ h. subst AreSpelled tokens (pieces_spelled p h);
       cont = λ o.
           let q = pieces_steps p outside o (fine o) in
@@ -288,7 +341,22 @@ lined_of label pattern {ts = ts} {u = u} {x = x} {xs = xs} v p tokens makes agai
           subst P (λ i. (ended o i, level o i)) (cont_as outside o (without_places u) ts (without_places u) (view_tokens v) q.last q.opened refl tokens q.cont);
     }
 
-module _ (n : ℕ) (ss : List Symbol) (ns : List ℕ) (r : Symbol) (rs : List Symbol) (ms : List ℕ) (label : Label) (rebuild : Rebuild n (r ∷ rs) label ms) where
+-- the phrase that tokens are which are those that were read
+pub likewise_of : (n : ℕ) (ss : List Symbol) (ns : List ℕ) (label : Label) → Rebuild n ss label ns → {rs : List Symbol} {ms : List ℕ} {ts : List TemplateToken} {ps : List View} {u : List SpannedTemplateToken} {x : Phrase Part} {xs : List (Phrase Part)} (v : View) → Pieces ss ns rs ms ts ps u (x ∷ xs)
+    → ((qs : List Part) → StandAll qs ps → Made label qs v) → (w : List SpannedTemplateToken) → without_places w ≡ without_places u → Again (phrase n) v w
+likewise_of n ss ns label read {ps = ps} {x = x} {xs = xs} v p makes w e = go (pieces_likewise p w e)
+  where
+    made : (values : List (Phrase Part)) → Row grammar ss w values → StandAll (chosen Absent ns values) ps → AllPass values → Again (phrase n) v w
+    made [] row stand pass = absurd (let wrong : x ∷ xs ≡ [] = no_phrases p (no_symbols row refl) in cc)
+    made (y ∷ ys) row stand pass =
+        let m = made_of_parts label ns y ys v (makes (chosen Absent ns (y ∷ ys)) stand) pass in
+        record { value = make_of label ns (y ∷ ys); derives = read w (y ∷ ys) row; stands = m.stands; passes = m.passes }
+
+    go : RowOf ss ns ps w → Again (phrase n) v w
+    go q = made q.values q.row q.stand q.pass
+
+-- By the rule that was read, and that by which the phrase is derived again.
+module _ (n : ℕ) (ss : List Symbol) (ns : List ℕ) (r : Symbol) (rs : List Symbol) (ms : List ℕ) (label : Label) (read : Rebuild n ss label ns) (rebuild : Rebuild n (r ∷ rs) label ms) where
   pub again_of : {ts : List TemplateToken} {ps : List View} {u : List SpannedTemplateToken} {xs : List (Phrase Part)} (v : View) → Pieces ss ns (r ∷ rs) ms ts ps u xs → ts ≡ view_tokens v → ((qs : List Part) → StandAll qs ps → Made label qs v)
       → (w : List SpannedTemplateToken) → without_places w ≡ view_tokens v → Again (phrase n) v w
   again_of {ps = ps} v p tokens makes w e = go (pieces_again p w (e ∙ sym tokens))
@@ -311,6 +379,7 @@ module _ (n : ℕ) (ss : List Symbol) (ns : List ℕ) (r : Symbol) (rs : List Sy
           stands = one.stands;
           passes = one.passes;
           again = again_of v p tokens makes;
+          likewise = likewise_of n ss ns label read v p makes;
           spelled = λ h. subst AreSpelled tokens (pieces_spelled p h);
           steps = λ b o. let q = pieces_steps p b o (fine b o) in record {
             last = q.last;
@@ -326,7 +395,7 @@ module _ (n : ℕ) (ss : List Symbol) (ns : List ℕ) (r : Symbol) (rs : List Sy
   pub pieces_lined : {ts : List TemplateToken} {ps : List View} {u : List SpannedTemplateToken} {x : Phrase Part} {xs : List (Phrase Part)} (v : View) → (p : Pieces ss ns (r ∷ rs) ms ts ps u (x ∷ xs)) → ts ≡ view_tokens v
       → ((qs : List Part) → StandAll qs ps → Made label qs v) → (fine : (o : List Bool) → Fine p outside o) → ((o : List Bool) → (pieces_steps p outside o (fine o)).opened ≡ o)
       → ((o : List Bool) → (pieces_steps p outside o (fine o)).last ≡ outside) → Lined n v u (make_of label ns (x ∷ xs))
-  pieces_lined v p tokens makes fine level ended = lined_of label ns v p tokens makes (again_of v p tokens makes) fine level ended
+  pieces_lined v p tokens makes fine level ended = lined_of label ns v p tokens makes (again_of v p tokens makes) (likewise_of n ss ns label read v p makes) fine level ended
 
 -- ---- so many parts
 
@@ -363,9 +432,24 @@ of_six_parts P f (a ∷ qs) h = of_five_parts (λ ps. P (a ∷ ps)) (λ b c d e 
 pub phrase_back : (n m : ℕ) (label : Label) → Rebuild n (phrase m ∷ []) label (2 ∷ []) → {v : View} (w : View) {u : List SpannedTemplateToken} {x : Phrase Part} → (h : Back m v u x) → view_tokens v ++ [] ≡ view_tokens w
     → ((p : Part) → Stands p v → Made label (p ∷ []) w) → ((b : Before) (o : List Bool) → ends_as w (h.item.steps b o).last) → Back n w (u ++ []) (make_of label (2 ∷ []) (x ∷ []))
 phrase_back n m label rebuild w h tokens makes ended =
-    pieces_back n (phrase m ∷ []) (2 ∷ []) (phrase m) [] (2 ∷ []) label rebuild w (a_part h end) tokens (of_one_part (λ qs. Made label qs w) makes) (λ b o. tt) (λ b o. refl) ended
+    pieces_back n (phrase m ∷ []) (2 ∷ []) (phrase m) [] (2 ∷ []) label rebuild rebuild w (a_part h end) tokens (of_one_part (λ qs. Made label qs w) makes) (λ b o. tt) (λ b o. refl) ended
 
 pub more_back : (n m : ℕ) → Rebuild n (phrase n ∷ phrase m ∷ []) l.More (2 ∷ 2 ∷ []) → {v w : View} (z : View) {a b : List SpannedTemplateToken} {x y : Phrase Part} → Back n v a x → (h : Back m w b y) → view_tokens v ++ (view_tokens w ++ []) ≡ view_tokens z
     → ((p q : Part) → Stands p v → Stands q w → Made l.More (p ∷ q ∷ []) z) → ((c : Before) (o : List Bool) → ends_as z (h.item.steps c o).last) → Back n z (a ++ (b ++ [])) (make_of l.More (2 ∷ 2 ∷ []) (x ∷ y ∷ []))
 more_back n m rebuild z g h tokens makes ended =
-    pieces_back n (phrase n ∷ phrase m ∷ []) (2 ∷ 2 ∷ []) (phrase n) (phrase m ∷ []) (2 ∷ 2 ∷ []) l.More rebuild z (a_part g (a_part h end)) tokens (of_two_parts (λ qs. Made l.More qs z) makes) (λ b o. tt) (λ b o. refl) (λ b o. ended _ _)
+    pieces_back n (phrase n ∷ phrase m ∷ []) (2 ∷ 2 ∷ []) (phrase n) (phrase m ∷ []) (2 ∷ 2 ∷ []) l.More rebuild rebuild z (a_part g (a_part h end)) tokens (of_two_parts (λ qs. Made l.More qs z) makes) (λ b o. tt) (λ b o. refl) (λ b o. ended _ _)
+
+-- ---- phrases that were found, as a row
+
+abbrev pub again_one : (n m : ℕ) (label : Label) → Rebuild n (phrase m ∷ []) label (2 ∷ []) → (v : View) (w : List SpannedTemplateToken) (x : Phrase Part) → Derives grammar (phrase m) w x → x.failure ≡ None → Made label (x.part ∷ []) v → Again (phrase n) v w
+again_one n m label rebuild v w x d pass made =
+    let one = made_of_parts label (2 ∷ []) x [] v made (pass, tt) in
+    let P : List SpannedTemplateToken → Type 0 = λ z. Derives grammar (phrase n) z (make_of label (2 ∷ []) (x ∷ [])) in
+    record { value = make_of label (2 ∷ []) (x ∷ []); derives = subst P (append-nil w) (rebuild (w ++ []) (x ∷ []) (next d done)); stands = one.stands; passes = one.passes }
+
+abbrev pub again_two : (n m k : ℕ) (label : Label) → Rebuild n (phrase m ∷ phrase k ∷ []) label (2 ∷ 2 ∷ []) → (v : View) (a b w : List SpannedTemplateToken) → a ++ b ≡ w → (x y : Phrase Part) → Derives grammar (phrase m) a x → Derives grammar (phrase k) b y → x.failure ≡ None → y.failure ≡ None
+    → Made label (x.part ∷ y.part ∷ []) v → Again (phrase n) v w
+again_two n m k label rebuild v a b w whole x y d e pass behind made =
+    let one = made_of_parts label (2 ∷ 2 ∷ []) x (y ∷ []) v made (pass, (behind, tt)) in
+    let P : List SpannedTemplateToken → Type 0 = λ z. Derives grammar (phrase n) z (make_of label (2 ∷ 2 ∷ []) (x ∷ y ∷ [])) in
+    record { value = make_of label (2 ∷ 2 ∷ []) (x ∷ y ∷ []); derives = subst P (ap (λ z. a ++ z) (append-nil b) ∙ whole) (rebuild (a ++ (b ++ [])) (x ∷ y ∷ []) (next d (next e done))); stands = one.stands; passes = one.passes }

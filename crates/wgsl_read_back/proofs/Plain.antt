@@ -117,7 +117,7 @@ indexed_placed n m r rebuild g i h j = (indexed g.0 h.0, both (is_apart g.0) (is
 pub phony_alone : (n : ℕ) → Rebuild n (token (fixed_class f.Underscore) ∷ []) (l.Expression elabel.Underscore) (1 ∷ []) → {u : List SpannedTemplateToken} {x : Phrase Part} → OneToken (fixed_class f.Underscore) u x
     → Phony n (u ++ []) (make_of (l.Expression elabel.Underscore) (1 ∷ []) (x ∷ []))
 phony_alone n rebuild {u = u} {x = x} k =
-    pieces_back n (token (fixed_class f.Underscore) ∷ []) (1 ∷ []) (token (fixed_class f.Underscore)) [] (1 ∷ []) (l.Expression elabel.Underscore) rebuild v.phony (a_mark (mark_item f.Underscore u x k) end) refl
+    pieces_back n (token (fixed_class f.Underscore) ∷ []) (1 ∷ []) (token (fixed_class f.Underscore)) [] (1 ∷ []) (l.Expression elabel.Underscore) rebuild rebuild v.phony (a_mark (mark_item f.Underscore u x k) end) refl
     (of_no_part (λ qs. Made (l.Expression elabel.Underscore) qs v.phony)
     (made_as (l.Expression elabel.Underscore) [] v.phony (λ z. part.Expression (record { node = exp.TypeOrIdentifier (record { path = None; ident = ident_of (codes "_"); template_args = None }); span = z })) (λ z. refl)
     (λ z. a_phony _ refl (tree_of_named (record { path = None; ident = ident_of (codes "_"); template_args = None }))) (λ z. refl) refl)) (λ b o. tt) (λ b o. refl) (λ b o. tt)
@@ -139,7 +139,7 @@ word_stated g which y x has is tree level n rebuild {u = u} {z = z} k = (
   x,
   mark g ∷ [],
   has,
-  pieces_back n (token (fixed_class g) ∷ []) (1 ∷ []) (token (fixed_class g)) [] (1 ∷ []) (l.Plain which) rebuild (v.plain x (mark g ∷ [])) (a_mark (mark_item g u z k) end) refl
+  pieces_back n (token (fixed_class g) ∷ []) (1 ∷ []) (token (fixed_class g)) [] (1 ∷ []) (l.Plain which) rebuild rebuild (v.plain x (mark g ∷ [])) (a_mark (mark_item g u z k) end) refl
       (of_no_part (λ qs. Made (l.Plain which) qs (v.plain x (mark g ∷ []))) (plain_made which [] y x (mark g ∷ []) is tree)) (λ b o. tt) level (λ b o. tt),
 )
 
@@ -187,7 +187,7 @@ assigned o n m r rebuild {b = b} {y = y} g k h =
       s.assignment [] o g.0 h.0,
       ts,
       t.assigned o (t.place g.1) h.1,
-      pieces_back n (assignment_row o m r) (2 ∷ 1 ∷ 2 ∷ []) (phrase m) (token (fixed_class (assignment_sign o)) ∷ phrase r ∷ []) (2 ∷ 1 ∷ 2 ∷ []) (l.Plain (label.Assignment o)) rebuild (v.plain (s.assignment [] o g.0 h.0) ts)
+      pieces_back n (assignment_row o m r) (2 ∷ 1 ∷ 2 ∷ []) (phrase m) (token (fixed_class (assignment_sign o)) ∷ phrase r ∷ []) (2 ∷ 1 ∷ 2 ∷ []) (l.Plain (label.Assignment o)) rebuild rebuild (v.plain (s.assignment [] o g.0 h.0) ts)
           (a_part g.3 (a_mark (mark_item (assignment_sign o) b y k) (a_part h.2 end))) (λ i. exp_tokens g.0 ++ (mark (assignment_sign o) ∷ append-nil (exp_tokens h.0) i)) (makes g.0 h.0 ts) (λ b p. tt) (λ b p. assignment_level o _ p) (λ b p. tt),
     )
   where
@@ -204,7 +204,7 @@ phony_assigned n m r rebuild {b = b} {y = y} g k h =
       s.assignment [] Equal (name_exp (codes "_")) h.0,
       ts,
       t.assigned Equal t.phony h.1,
-      pieces_back n (assignment_row Equal m r) (2 ∷ 1 ∷ 2 ∷ []) (phrase m) (token (fixed_class f.Equal) ∷ phrase r ∷ []) (2 ∷ 1 ∷ 2 ∷ []) (l.Plain (label.Assignment Equal)) rebuild (v.plain (s.assignment [] Equal (name_exp (codes "_")) h.0) ts)
+      pieces_back n (assignment_row Equal m r) (2 ∷ 1 ∷ 2 ∷ []) (phrase m) (token (fixed_class f.Equal) ∷ phrase r ∷ []) (2 ∷ 1 ∷ 2 ∷ []) (l.Plain (label.Assignment Equal)) rebuild rebuild (v.plain (s.assignment [] Equal (name_exp (codes "_")) h.0) ts)
           (a_part g (a_mark (mark_item f.Equal b y k) (a_part h.2 end))) (λ i. mark f.Underscore ∷ mark f.Equal ∷ append-nil (exp_tokens h.0) i) (makes h.0 ts) (λ b p. tt) (λ b p. refl) (λ b p. tt),
     )
   where
@@ -223,7 +223,7 @@ incremented n m rebuild {b = b} {y = y} g k =
       s.increment [] g.0,
       ts,
       t.incremented g.2 g.1,
-      pieces_back n (phrase m ∷ token (fixed_class f.PlusPlus) ∷ []) (2 ∷ 1 ∷ []) (phrase m) (token (fixed_class f.PlusPlus) ∷ []) (2 ∷ 1 ∷ []) (l.Plain label.Increment) rebuild (v.plain (s.increment [] g.0) ts) (a_part g.3 (a_mark (mark_item f.PlusPlus b y k) end)) refl
+      pieces_back n (phrase m ∷ token (fixed_class f.PlusPlus) ∷ []) (2 ∷ 1 ∷ []) (phrase m) (token (fixed_class f.PlusPlus) ∷ []) (2 ∷ 1 ∷ []) (l.Plain label.Increment) rebuild rebuild (v.plain (s.increment [] g.0) ts) (a_part g.3 (a_mark (mark_item f.PlusPlus b y k) end)) refl
           (makes g.0 ts) (λ b p. tt) (λ b p. refl) (λ b p. tt),
     )
   where
@@ -241,7 +241,7 @@ decremented n m rebuild {b = b} {y = y} g k =
       s.decrement [] g.0,
       ts,
       t.decremented g.2 g.1,
-      pieces_back n (phrase m ∷ token (fixed_class f.MinusMinus) ∷ []) (2 ∷ 1 ∷ []) (phrase m) (token (fixed_class f.MinusMinus) ∷ []) (2 ∷ 1 ∷ []) (l.Plain label.Decrement) rebuild (v.plain (s.decrement [] g.0) ts) (a_part g.3 (a_mark (mark_item f.MinusMinus b y k) end)) refl
+      pieces_back n (phrase m ∷ token (fixed_class f.MinusMinus) ∷ []) (2 ∷ 1 ∷ []) (phrase m) (token (fixed_class f.MinusMinus) ∷ []) (2 ∷ 1 ∷ []) (l.Plain label.Decrement) rebuild rebuild (v.plain (s.decrement [] g.0) ts) (a_part g.3 (a_mark (mark_item f.MinusMinus b y k) end)) refl
           (makes g.0 ts) (λ b p. tt) (λ b p. refl) (λ b p. tt),
     )
   where
@@ -270,7 +270,7 @@ return_alone n rebuild {u = u} {x = x} k = (
   s.returning [] None,
   mark f.Return ∷ [],
   t.returns refl,
-  pieces_back n (token (fixed_class f.Return) ∷ []) (1 ∷ 0 ∷ []) (token (fixed_class f.Return)) [] (1 ∷ 0 ∷ []) (l.Plain label.Return) rebuild (v.plain (s.returning [] None) (mark f.Return ∷ [])) (a_mark (mark_item f.Return u x k) (no_part (v.value None) (no_value refl) end)) refl
+  pieces_back n (token (fixed_class f.Return) ∷ []) (1 ∷ 0 ∷ []) (token (fixed_class f.Return)) [] (1 ∷ 0 ∷ []) (l.Plain label.Return) rebuild rebuild (v.plain (s.returning [] None) (mark f.Return ∷ [])) (a_mark (mark_item f.Return u x k) (no_part (v.value None) (no_value refl) end)) refl
       (returned_makes None (mark f.Return ∷ [])) (λ b o. tt) (λ b o. refl) (λ b o. tt),
 )
 
@@ -281,7 +281,7 @@ return_with n m rebuild {a = a} {x = x} k h =
       s.returning [] (Some h.0),
       ts,
       t.returns h.1,
-      pieces_back n (token (fixed_class f.Return) ∷ phrase m ∷ []) (1 ∷ 2 ∷ []) (token (fixed_class f.Return)) (phrase m ∷ []) (1 ∷ 2 ∷ []) (l.Plain label.Return) rebuild (v.plain (s.returning [] (Some h.0)) ts)
+      pieces_back n (token (fixed_class f.Return) ∷ phrase m ∷ []) (1 ∷ 2 ∷ []) (token (fixed_class f.Return)) (phrase m ∷ []) (1 ∷ 2 ∷ []) (l.Plain label.Return) rebuild rebuild (v.plain (s.returning [] (Some h.0)) ts)
           (a_mark (mark_item f.Return a x k) (a_part_as (v.value (Some h.0)) (value_of_expression h.0) h.2 end)) (ap (λ z. mark f.Return ∷ z) (append-nil (exp_tokens h.0))) (returned_makes (Some h.0) ts) (λ b o. tt) (λ b o. refl) (λ b o. tt),
     )
 

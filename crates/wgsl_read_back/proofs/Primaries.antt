@@ -244,6 +244,6 @@ more_separated n m rebuild {b = b} {y = y} g i h = (
 pub listed_without : (n m : ℕ) → Rebuild n (phrase m ∷ []) l.Pass (2 ∷ []) → {u : List SpannedTemplateToken} {x : Phrase Part} → Separated m u x → Listed n (u ++ []) (make_of l.Pass (2 ∷ []) (x ∷ []))
 listed_without n m rebuild g = (g.0 ∷ g.1, g.2, list_without n m (v.expressions (g.0 ∷ g.1)) rebuild g.3)
 
-pub listed_with : (n m : ℕ) → Rebuild n (phrase m ∷ []) l.Pass (2 ∷ []) → {a b : List SpannedTemplateToken} {x y : Phrase Part} → Separated m a x → OneToken (fixed_class f.Comma) b y
+pub listed_with : (n m : ℕ) → Rebuild n (phrase m ∷ token (fixed_class f.Comma) ∷ []) l.Pass (2 ∷ 1 ∷ []) → Rebuild n (phrase m ∷ []) l.Pass (2 ∷ []) → {a b : List SpannedTemplateToken} {x y : Phrase Part} → Separated m a x → OneToken (fixed_class f.Comma) b y
     → Listed n (a ++ (b ++ [])) (make_of l.Pass (2 ∷ 1 ∷ []) (x ∷ y ∷ []))
-listed_with n m rebuild g k = (g.0 ∷ g.1, g.2, list_with n m (v.expressions (g.0 ∷ g.1)) rebuild g.3 k)
+listed_with n m read rebuild g k = (g.0 ∷ g.1, g.2, list_with n m (v.expressions (g.0 ∷ g.1)) read rebuild g.3 k)

@@ -1,5 +1,5 @@
 -- What is printed of what a text derives is read as it again, from any start.
-use Rattle.std.proofs.Common.{◌≡◌, refl, sym, ◌∙◌, subst, ℕ, nat_lt, true, List, [], append-nil}
+use Rattle.std.proofs.Common.{◌≡◌, refl, sym, ◌∙◌, subst, ℕ, nat_lt, true, List, [], append-nil, None}
 use Rattle.wgsl_path.specs.declared.span.Span.{Span}
 use Rattle.wgsl_template_spec.specs.declared.token.TemplateToken.{TemplateToken}
 use Rattle.wgsl_template_spec.specs.declared.token.SpannedTemplateToken.{SpannedTemplateToken}
@@ -68,6 +68,14 @@ printed_line text ks lexed other k v x b laid =
     let alike = subst P (λ i. (append-nil (without_places ks) i, append-nil (view_tokens v) i)) (b.cont [] [] [] none) in
     laid_out_but_for_optional_marks text other ks (view_tokens v) lexed alike (laid spelled)
 
+-- a text whose tokens are a phrase, from a start
+module _ (s : Start) (lt : nat_lt (number s) 7 ≡ true) (k : ℕ) (goal : goal_of s ≡ k) where
+  pub parsed_as : (other : List ℕ) (tokens : List SpannedTemplateToken) → IsLexed other tokens → (value : Phrase Part) → Derives grammar (phrase k) tokens value → value.failure ≡ None → IsParsed s other value.part
+  parsed_as other tokens lexed value derives passes =
+      let Q : ℕ → Type 0 = λ k. Derives grammar (phrase k) tokens value in
+      let read = is_read s lt tokens value (subst Q (sym goal) derives) in
+      record { tokens = tokens; lexed = lexed; part = record { phrase = value; derived = read; passed = passes; same = refl } }
+
 -- what a text derives from a start
 module _ (s : Start) (lt : nat_lt (number s) 7 ≡ true) (k : ℕ) (goal : goal_of s ≡ k) (text : List ℕ) (p : Part) (h : IsParsed s text p) where
   pub parsed_good : Good (phrase k) h.tokens h.part.phrase
@@ -82,17 +90,14 @@ module _ (s : Start) (lt : nat_lt (number s) 7 ≡ true) (k : ℕ) (goal : goal_
     pub stands : Stands made v
 
   -- tokens that derive what stands for it
-  found_again : (other : List ℕ) (v : View) → (found : Printed v other) → Again (phrase k) v found.0 → Returned other v
-  found_again other v found again =
-      let Q : ℕ → Type 0 = λ k. Derives grammar (phrase k) found.0 again.value in
-      let read = is_read s lt found.0 again.value (subst Q (sym goal) again.derives) in
-      record { made = again.value.part; parsed = record { tokens = found.0; lexed = found.1; part = record { phrase = again.value; derived = read; passed = again.passes; same = refl } }; stands = again.stands }
+  pub found_again : (other : List ℕ) (v : View) (tokens : List SpannedTemplateToken) → IsLexed other tokens → Again (phrase k) v tokens → Returned other v
+  found_again other v tokens lexed again = record { made = again.value.part; parsed = parsed_as s lt k goal other tokens lexed again.value again.derives again.passes; stands = again.stands }
 
   pub returned : (other : List ℕ) (v : View) → Back k v h.tokens h.part.phrase → (AreSpelled (view_tokens v) → IsTextOf (view_tokens v) other) → Returned other v
-  returned other v b laid = let found = printed text h.tokens h.lexed other k v h.part.phrase b laid in found_again other v found (b.item.again found.0 found.2)
+  returned other v b laid = let found = printed text h.tokens h.lexed other k v h.part.phrase b laid in found_again other v found.0 found.1 (b.item.again found.0 found.2)
 
   pub returned_line : (other : List ℕ) (v : View) → Lined k v h.tokens h.part.phrase → (AreSpelled (view_tokens v) → IsTextOf (view_tokens v) other) → Returned other v
-  returned_line other v b laid = let found = printed_line text h.tokens h.lexed other k v h.part.phrase b laid in found_again other v found (b.again found.0 found.2)
+  returned_line other v b laid = let found = printed_line text h.tokens h.lexed other k v h.part.phrase b laid in found_again other v found.0 found.1 (b.again found.0 found.2)
 
 -- ---- from a tree to a tree
 

@@ -65,6 +65,25 @@ again_row (list_more {n = n} {s = s} {ss = ss} {v = v} {t = t} {vs = vs} l i e c
     let P : List SpannedTemplateToken → Type 0 = λ z. RowFound (phrase n ∷ s ∷ ss) (v ∷ token t ∷ vs) z in
     subst P (ap (λ z. p.front ++ z) m.whole ∙ p.whole) (record { values = a.value ∷ b.value ∷ q.values; row = more_again a (more_again b q.row) })
 
+-- tokens that are those that were read are such a row, too
+pub likewise_row : {ss : List Symbol} {vs : List View} {u : List SpannedTemplateToken} {xs : List (Phrase Part)} → RowBack ss vs u xs → (w : List SpannedTemplateToken) → without_places w ≡ without_places u → RowFound ss vs w
+likewise_row nil [] e = record { values = []; row = nil_again }
+likewise_row nil (k ∷ w) e = absurd cc
+likewise_row (more {s = s} {ss = ss} {v = v} {vs = vs} {u = u} {w = b} i r) w e =
+    let p = split w (without_places u) (without_places b) (e ∙ places_append u b) in
+    let a = i.likewise p.front p.front_is in
+    let q = likewise_row r p.rest p.rest_is in
+    let P : List SpannedTemplateToken → Type 0 = λ z. RowFound (s ∷ ss) (v ∷ vs) z in
+    subst P p.whole (record { values = a.value ∷ q.values; row = more_again a q.row })
+likewise_row (list_more {n = n} {s = s} {ss = ss} {v = v} {t = t} {vs = vs} {u = u} {k = k} {w = b} l i e c r) w h =
+    let p = split w (without_places u) (without_places (k ++ b)) (h ∙ places_append u (k ++ b)) in
+    let a = l.likewise p.front p.front_is in
+    let m = split p.rest (without_places k) (without_places b) (p.rest_is ∙ places_append k b) in
+    let d = i.likewise m.front m.front_is in
+    let q = likewise_row r m.rest m.rest_is in
+    let P : List SpannedTemplateToken → Type 0 = λ z. RowFound (phrase n ∷ s ∷ ss) (v ∷ token t ∷ vs) z in
+    subst P (ap (λ z. p.front ++ z) m.whole ∙ p.whole) (record { values = a.value ∷ d.value ∷ q.values; row = more_again a (more_again d q.row) })
+
 pub spelled_row : {ss : List Symbol} {vs : List View} {u : List SpannedTemplateToken} {xs : List (Phrase Part)} → RowBack ss vs u xs → AreSpelled (without_places u) → AreSpelled (concat vs)
 spelled_row nil h = tt
 spelled_row (more {v = v} {vs = vs} {u = u} {w = w} i r) h =
@@ -249,6 +268,12 @@ abbrev pub Rebuild : ℕ → List Symbol → Label → List ℕ → Type 0
 Rebuild n ss label pattern = (w : List SpannedTemplateToken) (ys : List (Phrase Part)) → Row grammar ss w ys → Derives grammar (phrase n) w (make_of label pattern ys)
 
 module _ (n : ℕ) (ss : List Symbol) (label : Label) (pattern : List ℕ) (rebuild : Rebuild n ss label pattern) where
+  -- what is made of a row that was found
+  pub made_again : (vs : List View) (v : View) → ((ys : List (Phrase Part)) → Stood ys vs → Makes v (make_of label pattern ys)) → (w : List SpannedTemplateToken) → RowFound ss vs w → Again (phrase n) v w
+  made_again vs v makes w q =
+      let m = makes q.values (stood_again q.row) in
+      record { value = make_of label pattern q.values; derives = rebuild w q.values (row_of q.row); stands = m.stands; passes = m.passes }
+
   pub back_of : {u : List SpannedTemplateToken} {xs : List (Phrase Part)} (vs : List View) (v : View) → concat vs ≡ view_tokens v → ((ys : List (Phrase Part)) → Stood ys vs → Makes v (make_of label pattern ys))
       → (r : RowBack ss vs u xs) → (fine : (b : Before) (o : List Bool) → Fine r b o) → ((b : Before) (o : List Bool) → (steps_row r b o (fine b o)).opened ≡ o) → ((b : Before) (o : List Bool) → ends_as v (steps_row r b o (fine b o)).last)
       → Back n v u (make_of label pattern xs)
@@ -257,10 +282,8 @@ module _ (n : ℕ) (ss : List Symbol) (label : Label) (pattern : List ℕ) (rebu
         item = record {
           stands = one.stands;
           passes = one.passes;
-          again = λ w e.
-              let q = again_row r w (e ∙ sym tokens) in
-              let m = makes q.values (stood_again q.row) in
-              record { value = make_of label pattern q.values; derives = rebuild w q.values (row_of q.row); stands = m.stands; passes = m.passes };
+          again = λ w e. made_again vs v makes w (again_row r w (e ∙ sym tokens));
+          likewise = λ w e. made_again vs v makes w (likewise_row r w e);
           spelled = λ h. subst AreSpelled tokens (spelled_row r h);
           steps = λ b o. let q = steps_row r b o (fine b o) in record {
             last = q.last;
@@ -313,3 +336,8 @@ pub of_six : {v w x z k m : View} (P : List (Phrase Part) → Type 0) → ((a b 
     → Stood ys (v ∷ w ∷ x ∷ z ∷ k ∷ m ∷ []) → P ys
 of_six P f [] h = absurd h
 of_six P f (a ∷ ys) h = of_five (λ zs. P (a ∷ zs)) (λ b c d e g i. f a b c d e g (h.0, i)) ys h.1
+
+pub of_seven : {v w x z k m p : View} (P : List (Phrase Part) → Type 0) → ((a b c d e g h : Phrase Part) → Stood (a ∷ b ∷ c ∷ d ∷ e ∷ g ∷ h ∷ []) (v ∷ w ∷ x ∷ z ∷ k ∷ m ∷ p ∷ []) → P (a ∷ b ∷ c ∷ d ∷ e ∷ g ∷ h ∷ [])) → (ys : List (Phrase Part))
+    → Stood ys (v ∷ w ∷ x ∷ z ∷ k ∷ m ∷ p ∷ []) → P ys
+of_seven P f [] h = absurd h
+of_seven P f (a ∷ ys) h = of_six (λ zs. P (a ∷ zs)) (λ b c d e g k i. f a b c d e g k (h.0, i)) ys h.1

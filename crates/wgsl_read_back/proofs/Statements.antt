@@ -1,6 +1,7 @@
 -- The productions of statements: of those in which pieces may be absent, whichever of them are there (`StatementSteps` has each case).
 use Rattle.std.proofs.Common.{◌≡◌, refl, sym, ap, ◌∙◌, subst, ℕ, Bool, true, List, [], ◌∷◌, ◌++◌, append_assoc, append-nil, map, Option, Some, None}
 use Rattle.std.specs.Option.{option_map}
+use Rattle.wgsl_path.specs.declared.span.Span.{Span}
 use Rattle.wgsl_path.specs.declared.span.Spanned.{Spanned}
 use Rattle.wgsl_token.specs.declared.token.Fixed.TheVariants as f
 use Rattle.wgsl_template_spec.specs.declared.token.TemplateToken.{TemplateToken}
@@ -24,44 +25,57 @@ use Rattle.wgsl_tree_tokens.specs.Imports.{AttributesTokens}
 use Rattle.wgsl_module_tokens.specs.Simple.{SimpleTokens, value_tokens, value_is_apart}
 use Rattle.wgsl_module_tokens.specs.Statements.{PartTokens, no_part, a_part, in_braces, StmTokens, a_simple, a_compound, an_if, a_switch, a_loop, a_for, a_while, StmsTokens, BlockTokens, ElsesTokens, ClausesTokens, ContinuingTokens}
 use Rattle.wgsl_module_tokens.specs.Statements as m
-use Rattle.wgsl_shift_reduce.specs.Grammars.{Symbol, token, phrase}
+use Rattle.wgsl_shift_reduce.specs.Grammars.{Symbol, token, phrase, Derives, done, next}
 use Rattle.wgsl_parts.specs.Reading.{attributes_of, expression_in}
 use Rattle.wgsl_parts.specs.declared.part.Part.{Part}
 use Rattle.wgsl_parts.specs.declared.label.Label.TheVariants as l
 use Rattle.wgsl_parts.specs.declared.label.StatementLabel.TheVariants as label
 use Rattle.wgsl_phrases.specs.declared.phrase.Phrase.{Phrase}
+use Rattle.wgsl_reading.specs.Phrases.{grammar}
 use Rattle.wgsl_phrases.specs.Gathering.{either}
 use Rattle.wgsl_make.specs.Reading.{statement_in, else_in, continuing_in, statements_of, else_ifs_of}
 use Rattle.wgsl_make.specs.Statements as make
 use Rattle.wgsl_grammar_tables.specs.Classes.{fixed_class}
 use Rattle.wgsl_read_back.proofs.Views.{View, view_tokens, Stands, an_expression, a_value, no_value, a_plain, a_header, no_header, a_statement, a_block, an_else, some_else_ifs, some_clauses, an_ending}
 use Rattle.wgsl_read_back.proofs.Views as v
-use Rattle.wgsl_read_back.proofs.Items.{OneToken}
+use Rattle.wgsl_read_back.proofs.Items.{OneToken, AgainAs}
 use Rattle.wgsl_read_back.proofs.Rows.{make_of, Rebuild}
 use Rattle.wgsl_read_back.proofs.Pieces.{StandAll, Pieces, end, a_mark, Fine, pieces_steps, Made, made_as, made_of_parts, pieces_back, of_no_part, of_one_part, of_three_parts, of_four_parts, of_five_parts, phrase_back}
 use Rattle.wgsl_read_back.proofs.Pieces as p
 use Rattle.wgsl_read_back.proofs.Families.{mark_item, mark_tokens}
 use Rattle.wgsl_read_back.proofs.AttributeRows.{attributes_are}
 use Rattle.wgsl_read_back.proofs.Plain.{PlainStated}
-use Rattle.wgsl_read_back.proofs.Blocks.{Blocked, StatementRead, a_stated, a_void, ElseIfsTokens, no_else_ifs, else_ifs_and}
+use Rattle.wgsl_read_back.proofs.Blocks.{Blocked, StatementRead, a_stated, a_void, IsVoidStatement, ElseIfsTokens, no_else_ifs, else_ifs_and}
 use Rattle.wgsl_read_back.proofs.Clauses.{statements_are}
 
 -- ---- a `;` alone, and statements that end in one
 
-pub void_statement : (n : ℕ) → {u : List SpannedTemplateToken} {x : Phrase Part} → OneToken (fixed_class f.Semicolon) u x → StatementRead n (u ++ []) (make_of (l.Statement label.VoidStatement) (1 ∷ []) (x ∷ []))
-void_statement n {u = u} {x = x} k =
-    let y : Spanned Statement = record { node = statement.Void; span = x.span } in
-    a_void y refl tree_of_void (passes x (ap (λ z. z.failure) (sym k.value))) (ap without_places (append-nil u) ∙ mark_tokens f.Semicolon k)
+pub void_statement : (n : ℕ) → Rebuild n (token (fixed_class f.Semicolon) ∷ []) (l.Statement label.VoidStatement) (1 ∷ []) → {u : List SpannedTemplateToken} {x : Phrase Part} → OneToken (fixed_class f.Semicolon) u x
+    → StatementRead n (u ++ []) (make_of (l.Statement label.VoidStatement) (1 ∷ []) (x ∷ []))
+void_statement n rebuild {u = u} {x = x} k = a_void (void x.span) refl tree_of_void (passes x (ap (λ z. z.failure) (sym k.value))) (ap without_places (append-nil u) ∙ mark_tokens f.Semicolon k) likewise
   where
+    void : Span → Spanned Statement
+    void s = record { node = statement.Void; span = s }
+
     passes : (x : Phrase Part) → x.failure ≡ None → (make_of (l.Statement label.VoidStatement) (1 ∷ []) (x ∷ [])).failure ≡ None
     passes x e = ap (λ z. either z None) e
+
+    likewise : (w : List SpannedTemplateToken) → without_places w ≡ without_places (u ++ []) → AgainAs (phrase n) IsVoidStatement w
+    likewise w e =
+        let a = (mark_item f.Semicolon u x k).likewise w (e ∙ ap without_places (append-nil u)) in
+        let P : List SpannedTemplateToken → Type 0 = λ z. Derives grammar (phrase n) z (make_of (l.Statement label.VoidStatement) (1 ∷ []) (a.value ∷ [])) in record {
+          value = make_of (l.Statement label.VoidStatement) (1 ∷ []) (a.value ∷ []);
+          derives = subst P (append-nil w) (rebuild (w ++ []) (a.value ∷ []) (next a.derives done));
+          is = (void a.value.span, refl, tree_of_void);
+          passes = passes a.value a.passes;
+        }
 
 pub plain_statement : (n m : ℕ) → Rebuild n (phrase m ∷ token (fixed_class f.Semicolon) ∷ []) (l.Statement label.PlainStatement) (2 ∷ 1 ∷ []) → {a b : List SpannedTemplateToken} {x y : Phrase Part} → PlainStated m a x → OneToken (fixed_class f.Semicolon) b y
     → StatementRead n (a ++ (b ++ [])) (make_of (l.Statement label.PlainStatement) (2 ∷ 1 ∷ []) (x ∷ y ∷ []))
 plain_statement n m rebuild {b = b} {y = y} g k =
     let ts : List TemplateToken = g.1 ++ (mark f.Semicolon ∷ []) in
     a_stated (a_simple g.2)
-    (pieces_back n (phrase m ∷ token (fixed_class f.Semicolon) ∷ []) (2 ∷ 1 ∷ []) (phrase m) (token (fixed_class f.Semicolon) ∷ []) (2 ∷ 1 ∷ []) (l.Statement label.PlainStatement) rebuild (v.statement (simple g.0) ts) (p.a_part g.3 (a_mark (mark_item f.Semicolon b y k) end)) refl
+    (pieces_back n (phrase m ∷ token (fixed_class f.Semicolon) ∷ []) (2 ∷ 1 ∷ []) (phrase m) (token (fixed_class f.Semicolon) ∷ []) (2 ∷ 1 ∷ []) (l.Statement label.PlainStatement) rebuild rebuild (v.statement (simple g.0) ts) (p.a_part g.3 (a_mark (mark_item f.Semicolon b y k) end)) refl
     (makes g.0 g.1 ts) (λ b o. tt) (λ b o. refl) (λ b o. refl))
   where
     makes : (x : s.Simple) (ts us : List TemplateToken) (qs : List Part) → StandAll qs (v.plain x ts ∷ []) → Made (l.Statement label.PlainStatement) qs (v.statement (simple x) us)
@@ -127,13 +141,13 @@ if_made xs e b es o ts us vs ws zs = of_five_parts (λ qs. Made (l.Statement lab
         ∙ (λ j. Some (if_statement (attributes_are p xs ts h j) (same j) (tree j) ((layer_is (else_ifs_of x) (else_in y) ∙ (λ k. elses_of (else_ifs_are x es vs g k) (else_is y o ws i k))) j)))))
         (λ z. refl) refl
 
-pub if_of : (n : ℕ) {ss : List Symbol} {ns : List ℕ} {r : Symbol} {rs : List Symbol} {ms : List ℕ} (rebuild : Rebuild n (r ∷ rs) (l.Statement label.If) ms) {u : List SpannedTemplateToken} {x : Phrase Part} {ys : List (Phrase Part)} {xs : List Attr} {e : Exp} {b : Block} {es : List (Exp × Block)} {o : Option Block}
+pub if_of : (n : ℕ) {ss : List Symbol} {ns : List ℕ} {r : Symbol} {rs : List Symbol} {ms : List ℕ} (read : Rebuild n ss (l.Statement label.If) ns) (rebuild : Rebuild n (r ∷ rs) (l.Statement label.If) ms) {u : List SpannedTemplateToken} {x : Phrase Part} {ys : List (Phrase Part)} {xs : List Attr} {e : Exp} {b : Block} {es : List (Exp × Block)} {o : Option Block}
     (ts us vs ws tail : List TemplateToken) → tail ≡ us ++ (vs ++ ws) → AttributesTokens xs ts → is_apart e ≡ true → BlockTokens b us → ElseIfsTokens es vs → OtherwiseTokens o ws
     → (p : Pieces ss ns (r ∷ rs) ms (ts ++ (mark f.If ∷ (exp_tokens e ++ tail))) (v.attributes xs ts ∷ v.expression e ∷ v.block b us ∷ v.else_ifs es vs ∷ v.otherwise o ws ∷ []) u (x ∷ ys)) → (fine : (b : Before) (q : List Bool) → Fine p b q)
     → ((b : Before) (q : List Bool) → (pieces_steps p b q (fine b q)).opened ≡ q) → ((b : Before) (q : List Bool) → (pieces_steps p b q (fine b q)).last ≡ outside) → StatementRead n u (make_of (l.Statement label.If) ns (x ∷ ys))
-if_of n {ss = ss} {ns = ns} {r = r} {rs = rs} {ms = ms} rebuild {xs = xs} {e = e} {b = b} {es = es} {o = o} ts us vs ws tail same h i j k q p fine level ended =
+if_of n {ss = ss} {ns = ns} {r = r} {rs = rs} {ms = ms} read rebuild {xs = xs} {e = e} {b = b} {es = es} {o = o} ts us vs ws tail same h i j k q p fine level ended =
     let zs : List TemplateToken = ts ++ (mark f.If ∷ (exp_tokens e ++ (us ++ (vs ++ ws)))) in
-    a_stated (an_if h i j (elses_tokens k q)) (pieces_back n ss ns r rs ms (l.Statement label.If) rebuild (v.statement (if_statement xs e b (elses_of es o)) zs) p (ap (λ z. ts ++ (mark f.If ∷ (exp_tokens e ++ z))) same) (if_made xs e b es o ts us vs ws zs) fine level ended)
+    a_stated (an_if h i j (elses_tokens k q)) (pieces_back n ss ns r rs ms (l.Statement label.If) read rebuild (v.statement (if_statement xs e b (elses_of es o)) zs) p (ap (λ z. ts ++ (mark f.If ∷ (exp_tokens e ++ z))) same) (if_made xs e b es o ts us vs ws zs) fine level ended)
 
 -- ---- `switch`
 
@@ -146,12 +160,12 @@ switch_made xs inner e cs ts us vs zs = of_four_parts (λ qs. Made (l.Statement 
         (λ z. make.statement_at z (statement.Switch (record { attributes = attributes_of p; expression = n; body_attributes = attributes_of r; clauses = ys }))) (λ z j. make.switch_statement z (p ∷ is j ∷ r ∷ at j ∷ []))
         (λ z. a_statement _ refl (tree_of_switch (record { attributes = attributes_of p; expression = n; body_attributes = attributes_of r; clauses = ys }) ∙ (λ j. Some (switch_statement (attributes_are p xs ts h j) (same j) (attributes_are r inner us g j) (cases j))))) (λ z. refl) refl
 
-pub switch_of : (n : ℕ) {ss : List Symbol} {ns : List ℕ} {r : Symbol} {rs : List Symbol} {ms : List ℕ} (rebuild : Rebuild n (r ∷ rs) (l.Statement label.Switch) ms) {u : List SpannedTemplateToken} {x : Phrase Part} {ys : List (Phrase Part)} {xs inner : List Attr} {e : Exp} {cs : Clauses} (ts us vs : List TemplateToken)
+pub switch_of : (n : ℕ) {ss : List Symbol} {ns : List ℕ} {r : Symbol} {rs : List Symbol} {ms : List ℕ} (read : Rebuild n ss (l.Statement label.Switch) ns) (rebuild : Rebuild n (r ∷ rs) (l.Statement label.Switch) ms) {u : List SpannedTemplateToken} {x : Phrase Part} {ys : List (Phrase Part)} {xs inner : List Attr} {e : Exp} {cs : Clauses} (ts us vs : List TemplateToken)
     → AttributesTokens xs ts → is_apart e ≡ true → AttributesTokens inner us → ClausesTokens cs vs → (p : Pieces ss ns (r ∷ rs) ms (ts ++ (mark f.Switch ∷ (exp_tokens e ++ (us ++ in_braces vs)))) (v.attributes xs ts ∷ v.expression e ∷ v.attributes inner us ∷ v.clauses cs vs ∷ []) u (x ∷ ys))
     → (fine : (b : Before) (q : List Bool) → Fine p b q) → ((b : Before) (q : List Bool) → (pieces_steps p b q (fine b q)).opened ≡ q) → ((b : Before) (q : List Bool) → (pieces_steps p b q (fine b q)).last ≡ outside) → StatementRead n u (make_of (l.Statement label.Switch) ns (x ∷ ys))
-switch_of n {ss = ss} {ns = ns} {r = r} {rs = rs} {ms = ms} rebuild {xs = xs} {inner = inner} {e = e} {cs = cs} ts us vs h i j k p fine level ended =
+switch_of n {ss = ss} {ns = ns} {r = r} {rs = rs} {ms = ms} read rebuild {xs = xs} {inner = inner} {e = e} {cs = cs} ts us vs h i j k p fine level ended =
     let zs : List TemplateToken = ts ++ (mark f.Switch ∷ (exp_tokens e ++ (us ++ in_braces vs))) in
-    a_stated (a_switch h i j k) (pieces_back n ss ns r rs ms (l.Statement label.Switch) rebuild (v.statement (switch_statement xs e inner cs) zs) p refl (switch_made xs inner e cs ts us vs zs) fine level ended)
+    a_stated (a_switch h i j k) (pieces_back n ss ns r rs ms (l.Statement label.Switch) read rebuild (v.statement (switch_statement xs e inner cs) zs) p refl (switch_made xs inner e cs ts us vs zs) fine level ended)
 
 -- ---- `loop`
 
@@ -166,14 +180,14 @@ loop_made xs inner body c ts us vs ws zs = of_four_parts (λ qs. Made (l.Stateme
     (λ z. a_statement _ refl (tree_of_loop (record { attributes = attributes_of p; body = record { attributes = attributes_of q; statements = statements_of r }; continuing = continuing_in x })
     ∙ (λ j. Some (loop_statement (attributes_are p xs ts h j) (block (attributes_are q inner us g j) (statements_are r body vs i j)) (continuing_is x c ws k j))))) (λ z. refl) refl)
 
-pub loop_of : (n : ℕ) {ss : List Symbol} {ns : List ℕ} {r : Symbol} {rs : List Symbol} {ms : List ℕ} (rebuild : Rebuild n (r ∷ rs) (l.Statement label.Loop) ms) {u : List SpannedTemplateToken} {x : Phrase Part} {ys : List (Phrase Part)} {xs inner : List Attr} {body : Stms} {c : Continuing} (ts us vs ws : List TemplateToken)
+pub loop_of : (n : ℕ) {ss : List Symbol} {ns : List ℕ} {r : Symbol} {rs : List Symbol} {ms : List ℕ} (read : Rebuild n ss (l.Statement label.Loop) ns) (rebuild : Rebuild n (r ∷ rs) (l.Statement label.Loop) ms) {u : List SpannedTemplateToken} {x : Phrase Part} {ys : List (Phrase Part)} {xs inner : List Attr} {body : Stms} {c : Continuing} (ts us vs ws : List TemplateToken)
     → AttributesTokens xs ts → AttributesTokens inner us → StmsTokens body vs → ContinuingTokens c ws
     → (p : Pieces ss ns (r ∷ rs) ms (ts ++ (mark f.Loop ∷ (us ++ (mark f.BraceLeft ∷ (vs ++ (ws ++ (mark f.BraceRight ∷ []))))))) (v.attributes xs ts ∷ v.attributes inner us ∷ v.statements body vs ∷ v.ending c ws ∷ []) u (x ∷ ys)) → (fine : (b : Before) (q : List Bool) → Fine p b q)
     → ((b : Before) (q : List Bool) → (pieces_steps p b q (fine b q)).opened ≡ q) → ((b : Before) (q : List Bool) → (pieces_steps p b q (fine b q)).last ≡ outside) → StatementRead n u (make_of (l.Statement label.Loop) ns (x ∷ ys))
-loop_of n {ss = ss} {ns = ns} {r = r} {rs = rs} {ms = ms} rebuild {xs = xs} {inner = inner} {body = body} {c = c} ts us vs ws h i j k p fine level ended =
+loop_of n {ss = ss} {ns = ns} {r = r} {rs = rs} {ms = ms} read rebuild {xs = xs} {inner = inner} {body = body} {c = c} ts us vs ws h i j k p fine level ended =
     let zs : List TemplateToken = ts ++ (mark f.Loop ∷ (us ++ in_braces (vs ++ ws))) in
     a_stated (a_loop h i j k)
-    (pieces_back n ss ns r rs ms (l.Statement label.Loop) rebuild (v.statement (loop_statement xs (block inner body) c) zs) p (ap (λ z. ts ++ (mark f.Loop ∷ (us ++ (mark f.BraceLeft ∷ z)))) (sym (append_assoc vs ws (mark f.BraceRight ∷ [])))) (loop_made xs inner body c ts us vs ws zs) fine level ended)
+    (pieces_back n ss ns r rs ms (l.Statement label.Loop) read rebuild (v.statement (loop_statement xs (block inner body) c) zs) p (ap (λ z. ts ++ (mark f.Loop ∷ (us ++ (mark f.BraceLeft ∷ z)))) (sym (append_assoc vs ws (mark f.BraceRight ∷ [])))) (loop_made xs inner body c ts us vs ws zs) fine level ended)
 
 -- ---- `for` and `while`
 
@@ -209,14 +223,14 @@ head_tokens : {o : Option s.Simple} {ts : List TemplateToken} → HeadTokens o t
 head_tokens no_head = no_part
 head_tokens (a_head h) = a_part h
 
-pub for_of : (n : ℕ) {ss : List Symbol} {ns : List ℕ} {r : Symbol} {rs : List Symbol} {ms : List ℕ} (rebuild : Rebuild n (r ∷ rs) (l.Statement label.For) ms) {u : List SpannedTemplateToken} {x : Phrase Part} {ys : List (Phrase Part)} {xs : List Attr} {first update : Option s.Simple} {e : Option Exp} {b : Block} (ts us vs ws : List TemplateToken)
+pub for_of : (n : ℕ) {ss : List Symbol} {ns : List ℕ} {r : Symbol} {rs : List Symbol} {ms : List ℕ} (read : Rebuild n ss (l.Statement label.For) ns) (rebuild : Rebuild n (r ∷ rs) (l.Statement label.For) ms) {u : List SpannedTemplateToken} {x : Phrase Part} {ys : List (Phrase Part)} {xs : List Attr} {first update : Option s.Simple} {e : Option Exp} {b : Block} (ts us vs ws : List TemplateToken)
     → AttributesTokens xs ts → HeadTokens first us → value_is_apart e ≡ true → HeadTokens update vs → BlockTokens b ws
     → (p : Pieces ss ns (r ∷ rs) ms (ts ++ (mark f.For ∷ mark f.ParenLeft ∷ (us ++ (mark f.Semicolon ∷ (value_tokens e ++ (mark f.Semicolon ∷ (vs ++ (mark f.ParenRight ∷ (ws ++ []))))))))) (v.attributes xs ts ∷ v.header first us ∷ v.value e ∷ v.header update vs ∷ v.block b ws ∷ []) u (x ∷ ys))
     → (fine : (b : Before) (q : List Bool) → Fine p b q) → ((b : Before) (q : List Bool) → (pieces_steps p b q (fine b q)).opened ≡ q) → ((b : Before) (q : List Bool) → (pieces_steps p b q (fine b q)).last ≡ outside) → StatementRead n u (make_of (l.Statement label.For) ns (x ∷ ys))
-for_of n {ss = ss} {ns = ns} {r = r} {rs = rs} {ms = ms} rebuild {xs = xs} {first = first} {update = update} {e = e} {b = b} ts us vs ws h i j k g p fine level ended =
+for_of n {ss = ss} {ns = ns} {r = r} {rs = rs} {ms = ms} read rebuild {xs = xs} {first = first} {update = update} {e = e} {b = b} ts us vs ws h i j k g p fine level ended =
     let zs : List TemplateToken = ts ++ (mark f.For ∷ mark f.ParenLeft ∷ (us ++ (mark f.Semicolon ∷ (value_tokens e ++ (mark f.Semicolon ∷ (vs ++ (mark f.ParenRight ∷ ws))))))) in
     a_stated (a_for h (head_tokens i) j (head_tokens k) g)
-    (pieces_back n ss ns r rs ms (l.Statement label.For) rebuild (v.statement (for_statement xs (head_tree first) e (head_tree update) b) zs) p (ap (λ z. ts ++ (mark f.For ∷ mark f.ParenLeft ∷ (us ++ (mark f.Semicolon ∷ (value_tokens e ++ (mark f.Semicolon ∷ (vs ++ (mark f.ParenRight ∷ z)))))))) (append-nil ws))
+    (pieces_back n ss ns r rs ms (l.Statement label.For) read rebuild (v.statement (for_statement xs (head_tree first) e (head_tree update) b) zs) p (ap (λ z. ts ++ (mark f.For ∷ mark f.ParenLeft ∷ (us ++ (mark f.Semicolon ∷ (value_tokens e ++ (mark f.Semicolon ∷ (vs ++ (mark f.ParenRight ∷ z)))))))) (append-nil ws))
     (for_made xs first e update b ts us vs ws zs) fine level ended)
 
 while_made : (xs : List Attr) (e : Exp) (b : Block) (ts us zs : List TemplateToken) (qs : List Part) → StandAll qs (v.attributes xs ts ∷ v.expression e ∷ v.block b us ∷ []) → Made (l.Statement label.While) qs (v.statement (while_statement xs e b) zs)
@@ -227,9 +241,9 @@ while_made xs e b ts us zs = of_three_parts (λ qs. Made (l.Statement label.Whil
         made_as (l.Statement label.While) (p ∷ q ∷ r ∷ []) (v.statement (while_statement xs e b) zs) (λ z. make.statement_at z (statement.While (record { attributes = attributes_of p; condition = n; body = k }))) (λ z j. make.while_statement z (p ∷ is j ∷ at j ∷ []))
         (λ z. a_statement _ refl (tree_of_while (record { attributes = attributes_of p; condition = n; body = k }) ∙ (λ j. Some (while_statement (attributes_are p xs ts h j) (same j) (tree j))))) (λ z. refl) refl
 
-pub while_of : (n : ℕ) {ss : List Symbol} {ns : List ℕ} {r : Symbol} {rs : List Symbol} {ms : List ℕ} (rebuild : Rebuild n (r ∷ rs) (l.Statement label.While) ms) {u : List SpannedTemplateToken} {x : Phrase Part} {ys : List (Phrase Part)} {xs : List Attr} {e : Exp} {b : Block} (ts us : List TemplateToken)
+pub while_of : (n : ℕ) {ss : List Symbol} {ns : List ℕ} {r : Symbol} {rs : List Symbol} {ms : List ℕ} (read : Rebuild n ss (l.Statement label.While) ns) (rebuild : Rebuild n (r ∷ rs) (l.Statement label.While) ms) {u : List SpannedTemplateToken} {x : Phrase Part} {ys : List (Phrase Part)} {xs : List Attr} {e : Exp} {b : Block} (ts us : List TemplateToken)
     → AttributesTokens xs ts → is_apart e ≡ true → BlockTokens b us → (p : Pieces ss ns (r ∷ rs) ms (ts ++ (mark f.While ∷ (exp_tokens e ++ (us ++ [])))) (v.attributes xs ts ∷ v.expression e ∷ v.block b us ∷ []) u (x ∷ ys)) → (fine : (b : Before) (q : List Bool) → Fine p b q)
     → ((b : Before) (q : List Bool) → (pieces_steps p b q (fine b q)).opened ≡ q) → ((b : Before) (q : List Bool) → (pieces_steps p b q (fine b q)).last ≡ outside) → StatementRead n u (make_of (l.Statement label.While) ns (x ∷ ys))
-while_of n {ss = ss} {ns = ns} {r = r} {rs = rs} {ms = ms} rebuild {xs = xs} {e = e} {b = b} ts us h i j p fine level ended =
+while_of n {ss = ss} {ns = ns} {r = r} {rs = rs} {ms = ms} read rebuild {xs = xs} {e = e} {b = b} ts us h i j p fine level ended =
     let zs : List TemplateToken = ts ++ (mark f.While ∷ (exp_tokens e ++ us)) in
-    a_stated (a_while h i j) (pieces_back n ss ns r rs ms (l.Statement label.While) rebuild (v.statement (while_statement xs e b) zs) p (ap (λ z. ts ++ (mark f.While ∷ (exp_tokens e ++ z))) (append-nil us)) (while_made xs e b ts us zs) fine level ended)
+    a_stated (a_while h i j) (pieces_back n ss ns r rs ms (l.Statement label.While) read rebuild (v.statement (while_statement xs e b) zs) p (ap (λ z. ts ++ (mark f.While ∷ (exp_tokens e ++ z))) (append-nil us)) (while_made xs e b ts us zs) fine level ended)

@@ -289,7 +289,7 @@ s_listed_without k m out a rebuild _ _ (good_next _ h good_end) = out _ _ (liste
 
 -- (the phrase is derived again without the comma)
 pub s_listed_with : (k m : ℕ) → Is Listed k → As Separated m → Rebuild k (phrase m ∷ []) l.Pass (2 ∷ []) → Makes k (phrase m ∷ token (fixed_class f.Comma) ∷ []) l.Pass (2 ∷ 1 ∷ [])
-s_listed_with k m out a bare rebuild _ _ (good_next _ h (good_next _ i good_end)) = out _ _ (listed_with k m bare (a _ _ h) i)
+s_listed_with k m out a bare rebuild _ _ (good_next _ h (good_next _ i good_end)) = out _ _ (listed_with k m rebuild bare (a _ _ h) i)
 
 -- directives
 
@@ -307,7 +307,7 @@ s_setting k m out a rebuild _ _ (good_next _ h (good_next _ i (good_next _ j (go
 
 -- (the phrase is derived again without the comma)
 pub s_setting_with : (k m : ℕ) → Is Controlled k → As Ruled m → Rebuild k (bare_row m) (l.Directive dir.Diagnostic) bare_pattern → MakesWhen k (comma_row m) (l.Directive dir.Diagnostic) comma_pattern
-s_setting_with k m out a bare rebuild _ _ (good_next _ h (good_next _ i (good_next _ j (good_next _ g (good_next _ r (good_next _ c (good_next _ e good_end))))))) pass = out _ _ (setting_with k m bare h i j g (a _ _ r) c e pass)
+s_setting_with k m out a bare rebuild _ _ (good_next _ h (good_next _ i (good_next _ j (good_next _ g (good_next _ r (good_next _ c (good_next _ e good_end))))))) pass = out _ _ (setting_with k m rebuild bare h i j g (a _ _ r) c e pass)
 
 pub s_directive : (k m : ℕ) → Is Directed k → As Controlled m → Makes k (phrase m ∷ token (fixed_class f.Semicolon) ∷ []) l.Pass (2 ∷ 1 ∷ [])
 s_directive k m out a rebuild _ _ (good_next _ h (good_next _ i good_end)) = out _ _ (directive_of_setting k m rebuild (a _ _ h) i)
@@ -328,7 +328,7 @@ pub s_names_without : (k m : ℕ) → Is NamesListed k → As Enumerated m → M
 s_names_without k m out a rebuild _ _ (good_next _ h good_end) = out _ _ (names_without k m rebuild (a _ _ h))
 
 pub s_names_with : (k m : ℕ) → Is NamesListed k → As Enumerated m → Rebuild k (phrase m ∷ []) l.Pass (2 ∷ []) → Makes k (phrase m ∷ token (fixed_class f.Comma) ∷ []) l.Pass (2 ∷ 1 ∷ [])
-s_names_with k m out a bare rebuild _ _ (good_next _ h (good_next _ i good_end)) = out _ _ (names_with k m bare (a _ _ h) i)
+s_names_with k m out a bare rebuild _ _ (good_next _ h (good_next _ i good_end)) = out _ _ (names_with k m rebuild bare (a _ _ h) i)
 
 -- what declarations of values begin with
 
@@ -424,7 +424,7 @@ pub s_trees_without : (k m : ℕ) → Is TreesListed k → As TreesSeparated m �
 s_trees_without k m out a rebuild _ _ (good_next _ h good_end) = out _ _ (trees_without k m rebuild (a _ _ h))
 
 pub s_trees_with : (k m : ℕ) → Is TreesListed k → As TreesSeparated m → Rebuild k (phrase m ∷ []) l.Pass (2 ∷ []) → Makes k (phrase m ∷ token (fixed_class f.Comma) ∷ []) l.Pass (2 ∷ 1 ∷ [])
-s_trees_with k m out a bare rebuild _ _ (good_next _ h (good_next _ i good_end)) = out _ _ (trees_with k m bare (a _ _ h) i)
+s_trees_with k m out a bare rebuild _ _ (good_next _ h (good_next _ i good_end)) = out _ _ (trees_with k m rebuild bare (a _ _ h) i)
 
 pub s_import_plain : (k m : ℕ) → Is Imported k → As Contained m → Makes k (plain_row m) (l.Import imp.Import) (0 ∷ 1 ∷ 0 ∷ 2 ∷ 1 ∷ [])
 s_import_plain k m out a rebuild _ _ (good_next _ i (good_next _ h (good_next _ j good_end))) = out _ _ (import_plain k m rebuild i (a _ _ h) j)

@@ -133,7 +133,7 @@ s_headed k m out q0 rebuild _ _ (good_next _ z0 good_end) = out _ _ (headed k m 
 -- statements
 
 pub s_void_statement : (k : ℕ) → Is StatementRead k → Makes k (token (fixed_class f.Semicolon) ∷ []) (l.Statement label.VoidStatement) (1 ∷ [])
-s_void_statement k out rebuild _ _ (good_next _ z0 good_end) = out _ _ (void_statement k z0)
+s_void_statement k out rebuild _ _ (good_next _ z0 good_end) = out _ _ (void_statement k rebuild z0)
 
 pub s_plain_statement : (k m : ℕ) → Is StatementRead k → As PlainStated m → Makes k (phrase m ∷ token (fixed_class f.Semicolon) ∷ []) (l.Statement label.PlainStatement) (2 ∷ 1 ∷ [])
 s_plain_statement k m out q0 rebuild _ _ (good_next _ z0 (good_next _ z1 good_end)) = out _ _ (plain_statement k m rebuild (q0 _ _ z0) z1)
@@ -156,13 +156,13 @@ pub s_selector : (k m : ℕ) → Is Selected k → As Expressed m → Makes k (p
 s_selector k m out q0 rebuild _ _ (good_next _ z0 good_end) = out _ _ (expression_selected k m rebuild (q0 _ _ z0))
 
 pub s_case : (k m r : ℕ) → Is Claused k → As SelectorsListed r → As Blocked m → Rebuild k (default_row m) (l.Clause clause.Default) (1 ∷ 1 ∷ 2 ∷ []) → Rebuild k (case_row m r) (l.Clause clause.Case) (1 ∷ 2 ∷ 1 ∷ 2 ∷ []) → Makes k (bare_case_row m r) (l.Clause clause.Case) (1 ∷ 2 ∷ 2 ∷ [])
-s_case k m r out q0 q1 alone cased rebuild _ _ (good_next _ z0 (good_next _ z1 (good_next _ z2 good_end))) = out _ _ (case_without k m alone r cased z0 (q0 _ _ z1) (q1 _ _ z2))
+s_case k m r out q0 q1 alone cased rebuild _ _ (good_next _ z0 (good_next _ z1 (good_next _ z2 good_end))) = out _ _ (case_without k m alone r cased rebuild z0 (q0 _ _ z1) (q1 _ _ z2))
 
 pub s_case_colon : (k m r : ℕ) → Is Claused k → As SelectorsListed r → As Blocked m → Rebuild k (default_row m) (l.Clause clause.Default) (1 ∷ 1 ∷ 2 ∷ []) → Makes k (case_row m r) (l.Clause clause.Case) (1 ∷ 2 ∷ 1 ∷ 2 ∷ [])
 s_case_colon k m r out q0 q1 alone rebuild _ _ (good_next _ z0 (good_next _ z1 (good_next _ z2 (good_next _ z3 good_end)))) = out _ _ (case_with k m alone r rebuild z0 (q0 _ _ z1) z2 (q1 _ _ z3))
 
 pub s_default : (k m : ℕ) → Is Claused k → As Blocked m → Rebuild k (default_row m) (l.Clause clause.Default) (1 ∷ 1 ∷ 2 ∷ []) → Makes k (bare_default_row m) (l.Clause clause.Default) (1 ∷ 2 ∷ [])
-s_default k m out q0 alone rebuild _ _ (good_next _ z0 (good_next _ z1 good_end)) = out _ _ (default_without k m alone z0 (q0 _ _ z1))
+s_default k m out q0 alone rebuild _ _ (good_next _ z0 (good_next _ z1 good_end)) = out _ _ (default_without k m alone rebuild z0 (q0 _ _ z1))
 
 pub s_default_colon : (k m : ℕ) → Is Claused k → As Blocked m → Makes k (default_row m) (l.Clause clause.Default) (1 ∷ 1 ∷ 2 ∷ [])
 s_default_colon k m out q0 rebuild _ _ (good_next _ z0 (good_next _ z1 (good_next _ z2 good_end))) = out _ _ (default_with k m rebuild z0 z1 (q0 _ _ z2))
@@ -200,4 +200,4 @@ pub s_selectors_without : (k m : ℕ) → Is SelectorsListed k → As SelectorsS
 s_selectors_without k m out q0 rebuild _ _ (good_next _ z0 good_end) = out _ _ (selectors_without k m rebuild (q0 _ _ z0))
 
 pub s_selectors_with : (k m : ℕ) → Is SelectorsListed k → As SelectorsSeparated m → Rebuild k (phrase m ∷ []) l.Pass (2 ∷ []) → Makes k (phrase m ∷ token (fixed_class f.Comma) ∷ []) l.Pass (2 ∷ 1 ∷ [])
-s_selectors_with k m out q0 bare rebuild _ _ (good_next _ z0 (good_next _ z1 good_end)) = out _ _ (selectors_with k m bare (q0 _ _ z0) z1)
+s_selectors_with k m out q0 bare rebuild _ _ (good_next _ z0 (good_next _ z1 good_end)) = out _ _ (selectors_with k m rebuild bare (q0 _ _ z0) z1)

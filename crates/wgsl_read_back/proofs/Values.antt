@@ -53,7 +53,7 @@ typed_alone n rebuild {u = u} {x = x} k =
       y,
       None,
       refl,
-      pieces_back n (token 77 ∷ []) (2 ∷ []) (token 77) [] (2 ∷ []) (l.Value label.Typed) rebuild (v.typed y None) (a_leaf (word_item u x k) end) refl (makes y) (λ b o. tt) (λ b o. refl) (λ b o. tt),
+      pieces_back n (token 77 ∷ []) (2 ∷ []) (token 77) [] (2 ∷ []) (l.Value label.Typed) rebuild rebuild (v.typed y None) (a_leaf (word_item u x k) end) refl (makes y) (λ b o. tt) (λ b o. refl) (λ b o. tt),
     )
   where
     makes : (y : List ℕ) (qs : List Part) → StandAll qs (v.token (word y) ∷ []) → Made (l.Value label.Typed) qs (v.typed y None)
@@ -67,7 +67,7 @@ typed_as n m rebuild {a = a} {b = b} {x = x} {y = y} k i g =
       name,
       Some g.0,
       g.1,
-      pieces_back n (token 77 ∷ token (fixed_class f.Colon) ∷ phrase m ∷ []) (2 ∷ 1 ∷ 2 ∷ []) (token 77) (token (fixed_class f.Colon) ∷ phrase m ∷ []) (2 ∷ 1 ∷ 2 ∷ []) (l.Value label.TypedAs) rebuild (v.typed name (Some g.0))
+      pieces_back n (token 77 ∷ token (fixed_class f.Colon) ∷ phrase m ∷ []) (2 ∷ 1 ∷ 2 ∷ []) (token 77) (token (fixed_class f.Colon) ∷ phrase m ∷ []) (2 ∷ 1 ∷ 2 ∷ []) (l.Value label.TypedAs) rebuild rebuild (v.typed name (Some g.0))
           (a_leaf (word_item a x k) (a_mark (mark_item f.Colon b y i) (a_part g.2 end))) (ap (λ z. word name ∷ mark f.Colon ∷ z) (append-nil (typ_tokens g.0))) (makes name g.0) (λ b o. tt) (λ b o. refl) (λ b o. tt),
     )
   where
@@ -90,7 +90,7 @@ variable_alone n m r rebuild g h = (
   None,
   h.2,
   refl,
-  pieces_back n (phrase m ∷ phrase r ∷ []) (2 ∷ 2 ∷ []) (phrase m) (phrase r ∷ []) (2 ∷ 2 ∷ []) (l.Value label.Var) rebuild (v.declared g.0 h.0 h.1 None) (a_part g.1 (a_part h.3 end)) refl (makes g.0 h.0 h.1) (λ b o. tt) (λ b o. refl) (λ b o. tt),
+  pieces_back n (phrase m ∷ phrase r ∷ []) (2 ∷ 2 ∷ []) (phrase m) (phrase r ∷ []) (2 ∷ 2 ∷ []) (l.Value label.Var) rebuild rebuild (v.declared g.0 h.0 h.1 None) (a_part g.1 (a_part h.3 end)) refl (makes g.0 h.0 h.1) (λ b o. tt) (λ b o. refl) (λ b o. tt),
 )
   where
     makes : (k : DeclarationKind) (y : List ℕ) (t : Option Typ) (qs : List Part) → StandAll qs (v.kind k ∷ v.typed y t ∷ []) → Made (l.Value label.Var) qs (v.declared k y t None)
@@ -109,7 +109,7 @@ var_set n m r e rebuild {c = c} {z = z} g h i p = (
   Some p.0,
   h.2,
   p.1,
-  pieces_back n (phrase m ∷ phrase r ∷ token (fixed_class f.Equal) ∷ phrase e ∷ []) (2 ∷ 2 ∷ 1 ∷ 2 ∷ []) (phrase m) (phrase r ∷ token (fixed_class f.Equal) ∷ phrase e ∷ []) (2 ∷ 2 ∷ 1 ∷ 2 ∷ []) (l.Value label.VarSet) rebuild (v.declared g.0 h.0 h.1 (Some p.0))
+  pieces_back n (phrase m ∷ phrase r ∷ token (fixed_class f.Equal) ∷ phrase e ∷ []) (2 ∷ 2 ∷ 1 ∷ 2 ∷ []) (phrase m) (phrase r ∷ token (fixed_class f.Equal) ∷ phrase e ∷ []) (2 ∷ 2 ∷ 1 ∷ 2 ∷ []) (l.Value label.VarSet) rebuild rebuild (v.declared g.0 h.0 h.1 (Some p.0))
       (a_part g.1 (a_part h.3 (a_mark (mark_item f.Equal c z i) (a_part p.2 end)))) (λ i. kind_tokens g.0 ++ (word h.0 ∷ (annotation_tokens h.1 ++ (mark f.Equal ∷ append-nil (exp_tokens p.0) i)))) (makes g.0 h.0 h.1 p.0) (λ b o. tt) (λ b o. refl) (λ b o. tt),
 )
   where
@@ -135,7 +135,7 @@ value_set g k which tokens makes level n r e rebuild {a = a} {c = c} {x = x} {z 
   Some p.0,
   h.2,
   p.1,
-  pieces_back n (set_row g r e) (1 ∷ 2 ∷ 1 ∷ 2 ∷ []) (token (fixed_class g)) (phrase r ∷ token (fixed_class f.Equal) ∷ phrase e ∷ []) (1 ∷ 2 ∷ 1 ∷ 2 ∷ []) (l.Value which) rebuild (v.declared k h.0 h.1 (Some p.0))
+  pieces_back n (set_row g r e) (1 ∷ 2 ∷ 1 ∷ 2 ∷ []) (token (fixed_class g)) (phrase r ∷ token (fixed_class f.Equal) ∷ phrase e ∷ []) (1 ∷ 2 ∷ 1 ∷ 2 ∷ []) (l.Value which) rebuild rebuild (v.declared k h.0 h.1 (Some p.0))
       (a_mark (mark_item g a x j) (a_part h.3 (a_mark (mark_item f.Equal c z i) (a_part p.2 end)))) (λ i. sym tokens i ++ (word h.0 ∷ (annotation_tokens h.1 ++ (mark f.Equal ∷ append-nil (exp_tokens p.0) i))))
       (of_two_parts (λ qs. Made (l.Value which) qs (v.declared k h.0 h.1 (Some p.0))) (makes h.0 h.1 p.0)) (λ b o. tt) (λ b o. level b o) (λ b o. tt),
 )
@@ -162,7 +162,7 @@ override_alone n r rebuild {a = a} {x = x} j h = (
   None,
   h.2,
   refl,
-  pieces_back n (token (fixed_class f.Override) ∷ phrase r ∷ []) (1 ∷ 2 ∷ []) (token (fixed_class f.Override)) (phrase r ∷ []) (1 ∷ 2 ∷ []) (l.Value label.Override) rebuild (v.declared kinds.Override h.0 h.1 None) (a_mark (mark_item f.Override a x j) (a_part h.3 end)) refl
+  pieces_back n (token (fixed_class f.Override) ∷ phrase r ∷ []) (1 ∷ 2 ∷ []) (token (fixed_class f.Override)) (phrase r ∷ []) (1 ∷ 2 ∷ []) (l.Value label.Override) rebuild rebuild (v.declared kinds.Override h.0 h.1 None) (a_mark (mark_item f.Override a x j) (a_part h.3 end)) refl
       (makes h.0 h.1) (λ b o. tt) (λ b o. refl) (λ b o. tt),
 )
   where
@@ -180,7 +180,7 @@ pub assertion : (n m : ℕ) → Rebuild n (token (fixed_class f.ConstAssert) ∷
 assertion n m rebuild {a = a} {x = x} j h = (
   h.0,
   h.1,
-  pieces_back n (token (fixed_class f.ConstAssert) ∷ phrase m ∷ []) (1 ∷ 2 ∷ []) (token (fixed_class f.ConstAssert)) (phrase m ∷ []) (1 ∷ 2 ∷ []) (l.Value label.Assertion) rebuild (v.asserted h.0) (a_mark (mark_item f.ConstAssert a x j) (a_part h.2 end))
+  pieces_back n (token (fixed_class f.ConstAssert) ∷ phrase m ∷ []) (1 ∷ 2 ∷ []) (token (fixed_class f.ConstAssert)) (phrase m ∷ []) (1 ∷ 2 ∷ []) (l.Value label.Assertion) rebuild rebuild (v.asserted h.0) (a_mark (mark_item f.ConstAssert a x j) (a_part h.2 end))
       (ap (λ z. mark f.ConstAssert ∷ z) (append-nil (exp_tokens h.0))) (makes h.0) (λ b o. tt) (λ b o. refl) (λ b o. h.2.ended _ _),
 )
   where

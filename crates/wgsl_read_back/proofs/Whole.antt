@@ -46,10 +46,10 @@ use Rattle.wgsl_read_back.proofs.Returned.{parsed_good, printed, read_again}
 
 -- ---- expressions
 
-goal_is_expression : goal_of Expression ≡ plain n.Expression
+pub goal_is_expression : goal_of Expression ≡ plain n.Expression
 goal_is_expression = goal_is 1
 
-expression_of : (p : Part) (e : Exp) → Stands p (v.expression e) → (y : Spanned Node) × (p ≡ part.Expression y) × (node_tree y ≡ e)
+pub expression_of : (p : Part) (e : Exp) → Stands p (v.expression e) → (y : Spanned Node) × (p ≡ part.Expression y) × (node_tree y ≡ e)
 expression_of p e (an_expression y is q) = (y, is, q)
 
 pub expressions_are_read_back : ExpressionsAreReadBack
@@ -60,10 +60,10 @@ expressions_are_read_back text x p =
 
 -- ---- directives
 
-goal_is_directive : goal_of Directive ≡ plain n.Directive
+pub goal_is_directive : goal_of Directive ≡ plain n.Directive
 goal_is_directive = goal_is 4
 
-directive_of : (p : Part) (d : DirectiveTree) (ts : List TemplateToken) → Stands p (v.directive d ts) → (y : GlobalDirective) × (p ≡ part.Directive y) × (directive_tree y ≡ d)
+pub directive_of : (p : Part) (d : DirectiveTree) (ts : List TemplateToken) → Stands p (v.directive d ts) → (y : GlobalDirective) × (p ≡ part.Directive y) × (directive_tree y ≡ d)
 directive_of p d ts (a_directive y is q) = (y, is, q)
 
 pub directives_are_read_back : DirectivesAreReadBack
@@ -74,10 +74,10 @@ directives_are_read_back text x p =
 
 -- ---- import statements
 
-goal_is_import : goal_of Import ≡ plain n.Import
+pub goal_is_import : goal_of Import ≡ plain n.Import
 goal_is_import = goal_is 5
 
-import_of : (p : Part) (i : Importing) (ts : List TemplateToken) → Stands p (v.importing i ts) → (y : ImportStatement) × (p ≡ part.Import y) × (importing_tree y ≡ i)
+pub import_of : (p : Part) (i : Importing) (ts : List TemplateToken) → Stands p (v.importing i ts) → (y : ImportStatement) × (p ≡ part.Import y) × (importing_tree y ≡ i)
 import_of p i ts (an_importing y is q) = (y, is, q)
 
 pub imports_are_read_back : ImportsAreReadBack
@@ -88,10 +88,10 @@ imports_are_read_back text x p =
 
 -- ---- kinds of declarations
 
-goal_is_kind : goal_of Kind ≡ plain n.Kind
+pub goal_is_kind : goal_of Kind ≡ plain n.Kind
 goal_is_kind = goal_is 6
 
-kind_of : (p : Part) (k : DeclarationKind) → Stands p (v.kind k) → (y : DeclarationKind) × (p ≡ part.Kind y) × (y ≡ k)
+pub kind_of : (p : Part) (k : DeclarationKind) → Stands p (v.kind k) → (y : DeclarationKind) × (p ≡ part.Kind y) × (y ≡ k)
 kind_of p k (a_kind is) = (k, is, refl)
 
 pub kinds_are_read_back : KindsAreReadBack

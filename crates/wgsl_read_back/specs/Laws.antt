@@ -6,6 +6,7 @@ use Rattle.wgsl_expressions.specs.declared.expression.Expression.{Expression as 
 use Rattle.wgsl_expressions.specs.View.{node_tree}
 use Rattle.wgsl_template_spec.specs.declared.token.SpannedTemplateToken.{SpannedTemplateToken}
 use Rattle.wgsl_template_spec.specs.Tokens.{IsLexed}
+use Rattle.wgsl_token_layout.specs.Laws.{without_places}
 use Rattle.wgsl_shift_reduce.specs.Grammars.{phrase, Derives}
 use Rattle.wgsl_grammar_tables.specs.Nonterminals as n
 use Rattle.wgsl_grammar_tables.specs.Expansion.{plain}
@@ -33,6 +34,7 @@ use Rattle.wgsl_statements.specs.Tree.{Stm}
 use Rattle.wgsl_statements.specs.View.{statement_tree}
 use Rattle.wgsl_statements.specs.Print.{stm_text}
 use Rattle.wgsl_parts.specs.declared.part.Part.TheVariants as part
+use Rattle.wgsl_reading.specs.declared.driver.Start.{Start}
 use Rattle.wgsl_reading.specs.declared.driver.Start.TheVariants.{Expression, Statement, Declaration, Directive, Import, Kind}
 use Rattle.wgsl_parser.specs.Texts.{IsParsed, ParsesModule}
 
@@ -85,6 +87,26 @@ DeclarationsAreReadBack = (text : List ℕ) (x : Spanned GlobalDeclaration) (d :
 -- Where a text is a module, so is what is printed of its tree, with the same tree.
 abbrev pub ModulesAreReadBack : Type 0
 ModulesAreReadBack = (text : List ℕ) (x : TranslationUnit) → ParsesModule text (Ok x) → (y : TranslationUnit) × ParsesModule (unit_text (unit_tree x)) (Ok y) × (unit_tree y ≡ unit_tree x)
+
+-- Where two texts have the same tokens but for their places, and one is a module, so is the other, with the same tree.
+abbrev pub SameTokensAreTheSameModule : Type 0
+SameTokensAreTheSameModule = (text other : List ℕ) (tokens again : List SpannedTemplateToken) (x : TranslationUnit) → IsLexed text tokens → IsLexed other again → without_places again ≡ without_places tokens → ParsesModule text (Ok x)
+    → (y : TranslationUnit) × ParsesModule other (Ok y) × (unit_tree y ≡ unit_tree x)
+
+-- The same of what a text is from another start, by what it is as a part and its tree.
+abbrev pub SameTokensAreTheSame : {X T : Type 0} → Start → (X → Part) → (X → T) → Type 0
+SameTokensAreTheSame {X = X} s as_part tree = (text other : List ℕ) (tokens again : List SpannedTemplateToken) (x : X) → IsLexed text tokens → IsLexed other again → without_places again ≡ without_places tokens → IsParsed s text (as_part x)
+    → (y : X) × IsParsed s other (as_part y) × (tree y ≡ tree x)
+
+-- Of expressions, statements, declarations, also of `;` alone, which stands for no tree, directives, import statements and kinds of declarations.
+abbrev pub SameTokensAreTheSameParts : Type 0
+SameTokensAreTheSameParts =
+    SameTokensAreTheSame Expression part.Expression node_tree
+    × SameTokensAreTheSame Statement part.Statement (λ (x : Spanned Code). statement_tree x.node)
+    × SameTokensAreTheSame Declaration part.Global (λ (x : Spanned GlobalDeclaration). declaration_tree x.node)
+    × SameTokensAreTheSame Directive part.Directive directive_tree
+    × SameTokensAreTheSame Import part.Import importing_tree
+    × SameTokensAreTheSame Kind part.Kind (λ (x : DeclarationKind). x)
 
 -- A text is one module at most.
 abbrev pub TextsHaveOneModule : Type 0

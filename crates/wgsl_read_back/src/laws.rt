@@ -1,6 +1,6 @@
 //! Laws of what is printed and read back. Each function states one, and does nothing.
 
-ghost use Rattle.wgsl_read_back.specs.Laws.{ExpressionsAreReadBack, StatementsAreReadBack, DeclarationsAreReadBack, ModulesAreReadBack, TextsHaveOneModule, DirectivesAreReadBack, ImportsAreReadBack, KindsAreReadBack, AttributesArePrintedAsRead, AttributesAreReadBack};
+ghost use Rattle.wgsl_read_back.specs.Laws.{ExpressionsAreReadBack, StatementsAreReadBack, DeclarationsAreReadBack, ModulesAreReadBack, SameTokensAreTheSameModule, SameTokensAreTheSameParts, TextsHaveOneModule, DirectivesAreReadBack, ImportsAreReadBack, KindsAreReadBack, AttributesArePrintedAsRead, AttributesAreReadBack};
 
 /// Where a text is an expression, what is printed of its tree is one, too, with the same tree but for places.
 pub fn expressions_are_read_back()
@@ -45,6 +45,16 @@ pub fn declarations_are_read_back()
 /// Where a text is a module, so is what is printed of its tree, with the same tree but for places.
 pub fn modules_are_read_back()
     ensures { ModulesAreReadBack }
+{}
+
+/// Where two texts have the same tokens but for their places, and one is a module, so is the other, with the same tree but for places.
+pub fn same_tokens_are_the_same_module()
+    ensures { SameTokensAreTheSameModule }
+{}
+
+/// The same of expressions, statements, declarations, directives, import statements and kinds of declarations.
+pub fn same_tokens_are_the_same_parts()
+    ensures { SameTokensAreTheSameParts }
 {}
 
 /// A text is one module at most.

@@ -1,0 +1,5 @@
+use Rattle.wgsl_read_back.proofs.Same as whole
+use Rattle.wgsl_read_back.proofs.laws.same_tokens_are_the_same_parts.Goals as goal
+
+pub returns : goal.returns
+returns c = whole.same_tokens_are_the_same_parts
