@@ -32,5 +32,6 @@ pub mod Derived
 pub mod Returned
 pub mod ModuleLaws
 pub mod One
+pub mod Apart
 pub mod Whole
 pub mod Same

@@ -76,7 +76,7 @@ empty_read : ReadAs (unit [] [] [])
 empty_read = (empty_unit, inr (blank, refl), refl)
 
 module _ (text : List ℕ) (x : TranslationUnit) (p : IsParsed Module text (part.Module x)) where
-  unit_is : (t : UnitTree) (ts : List TemplateToken) → Stands p.part.phrase.part (v.module_tree t ts) → t ≡ unit_tree x
+  pub unit_is : (t : UnitTree) (ts : List TemplateToken) → Stands p.part.phrase.part (v.module_tree t ts) → t ≡ unit_tree x
   unit_is t ts h =
       let y = module_in p.part.phrase.part t ts h in
       let same : part.Module y.0 ≡ part.Module x = sym y.1 ∙ sym p.part.same in

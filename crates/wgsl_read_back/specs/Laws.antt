@@ -1,7 +1,10 @@
 -- What is printed is read back.
 use Rattle.std.specs.Prelude.{◌≡◌, ℕ, List, map, ◌++◌, codes, Option, Some, None, Ok}
+use Rattle.std.specs.List.{Contains}
 use Rattle.std.specs.Option.{option_map}
 use Rattle.wgsl_path.specs.declared.span.Spanned.{Spanned}
+use Rattle.wgsl_path.specs.declared.path.ModulePath.{ModulePath}
+use Rattle.wgsl_path.specs.Paths.{path_text}
 use Rattle.wgsl_expressions.specs.declared.expression.Expression.{Expression as Node}
 use Rattle.wgsl_expressions.specs.View.{node_tree}
 use Rattle.wgsl_template_spec.specs.declared.token.SpannedTemplateToken.{SpannedTemplateToken}
@@ -20,6 +23,7 @@ use Rattle.wgsl_attribute_words.specs.Attributes.{attribute_of}
 use Rattle.wgsl_expressions.specs.Print.{exp_text}
 use Rattle.wgsl_imports.specs.declared.directive.GlobalDirective.{GlobalDirective}
 use Rattle.wgsl_imports.specs.declared.import.ImportStatement.{ImportStatement}
+use Rattle.wgsl_imports.specs.Tree.{Importing}
 use Rattle.wgsl_imports.specs.View.{directive_tree, importing_tree}
 use Rattle.wgsl_imports.specs.Print.{directive_text, importing_text}
 use Rattle.wgsl_simple_statements.specs.declared.declaration.DeclarationKind.{DeclarationKind}
@@ -111,3 +115,8 @@ SameTokensAreTheSameParts =
 -- A text is one module at most.
 abbrev pub TextsHaveOneModule : Type 0
 TextsHaveOneModule = (text : List ℕ) (a b : TranslationUnit) → ParsesModule text (Ok a) → ParsesModule text (Ok b) → a ≡ b
+
+-- Imports of texts that name modules by paths that print alike name them by one path.
+abbrev pub ImportsOfTextsAreApart : Type 0
+ImportsOfTextsAreApart = (one other : List ℕ) (x y : TranslationUnit) → ParsesModule one (Ok x) → ParsesModule other (Ok y) → (i j : Importing) (a b : ModulePath)
+    → Contains (unit_tree x).imports i → Contains (unit_tree y).imports j → i.path ≡ Some a → j.path ≡ Some b → path_text a ≡ path_text b → a ≡ b

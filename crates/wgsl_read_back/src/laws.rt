@@ -1,6 +1,6 @@
 //! Laws of what is printed and read back. Each function states one, and does nothing.
 
-ghost use Rattle.wgsl_read_back.specs.Laws.{ExpressionsAreReadBack, StatementsAreReadBack, DeclarationsAreReadBack, ModulesAreReadBack, SameTokensAreTheSameModule, SameTokensAreTheSameParts, TextsHaveOneModule, DirectivesAreReadBack, ImportsAreReadBack, KindsAreReadBack, AttributesArePrintedAsRead, AttributesAreReadBack};
+ghost use Rattle.wgsl_read_back.specs.Laws.{ExpressionsAreReadBack, StatementsAreReadBack, DeclarationsAreReadBack, ModulesAreReadBack, SameTokensAreTheSameModule, SameTokensAreTheSameParts, TextsHaveOneModule, ImportsOfTextsAreApart, DirectivesAreReadBack, ImportsAreReadBack, KindsAreReadBack, AttributesArePrintedAsRead, AttributesAreReadBack};
 
 /// Where a text is an expression, what is printed of its tree is one, too, with the same tree but for places.
 pub fn expressions_are_read_back()
@@ -60,4 +60,9 @@ pub fn same_tokens_are_the_same_parts()
 /// A text is one module at most.
 pub fn texts_have_one_module()
     ensures { TextsHaveOneModule }
+{}
+
+/// Imports of texts that name modules by paths that print alike name them by one path.
+pub fn imports_of_texts_are_apart()
+    ensures { ImportsOfTextsAreApart }
 {}
