@@ -1,5 +1,5 @@
 -- Sources that agree on what is asked of one of them get the same answer.
-use Rattle.std.proofs.Common.{◌≡◌, inl, inr, ℕ, List, Result, Ok, Err, refl, sym, ap, ◌∙◌, subst}
+use Rattle.std.proofs.Common.{◌≡◌, inl, inr, ℕ, List, Option, Result, Ok, Err, refl, sym, ap, ◌∙◌, subst}
 use Rattle.wgsl_syntax.specs.Tree.{UnitTree}
 use Rattle.wgsl_syntax.specs.Print.{unit_text}
 use Rattle.wesl_resolve.specs.Found.{unit_of}
@@ -16,14 +16,16 @@ use Rattle.wesl_meaning.proofs.Agreement.{holds_of_alike_modules}
 use Rattle.wesl_meaning.proofs.Clashes.{clashes_are_one}
 use Rattle.wesl_meaning.proofs.Loading.{loaded_modules}
 use Rattle.wesl_link.specs.Recording.{Telling}
-use Rattle.weslc_unit.specs.Compiled.{IsTextOf, IsCompiled, IsToldOfAll, Refuses}
+use Rattle.wgsl_part_texts.specs.Texts.{IsTextOf, IsUnprintable}
+use Rattle.wgsl_part_texts.proofs.Laws.{units_are_told_once}
+use Rattle.weslc_unit.specs.Compiled.{IsCompiled, Refuses}
 use Rattle.weslc_unit.specs.declared.error.UnitRefusal.{UnitRefusal}
 use Rattle.weslc_unit.specs.declared.error.UnitRefusal.TheVariants as of
-use Rattle.weslc_unit.proofs.Once.{compiled_once, refused_once, compiled_or_refused, told_once}
+use Rattle.weslc_unit.proofs.Once.{compiled_once, refused_once, compiled_or_refused}
 use Rattle.weslc_laws.specs.Headline.{IsLinkedFrom}
 use Rattle.weslc_linking.specs.Answers.{AreLoadedFrom, IsRefusedLoading, IsFirstClashFrom, RefusesLinking}
 use Rattle.weslc_linking.specs.Mapped.{TellsHeld}
-use Rattle.weslc_linking.specs.Told.{about_name, Tells}
+use Rattle.weslc_linking.specs.Told.{about_name, about_maybe, Tells}
 use Rattle.weslc_linking.specs.declared.error.ResolveKind.TheVariants.{ModuleNotFound}
 use Rattle.weslc_linking.specs.declared.error.ImportKind.TheVariants.{DuplicateSymbol, MissingDecl, Private}
 use Rattle.weslc_linking.specs.declared.error.CompileError.{CompileError}
@@ -32,7 +34,7 @@ use Rattle.weslc_agreement.specs.Asked.{AgreesOnAsked, HasAskedUnits}
 use Rattle.weslc_agreement.specs.Answers.{SameAnswer, TellTheSame, IsCompiledAnswer, IsLinkedAnswer, CompiledAlike, LinkedAlike}
 use Rattle.weslc_agreement.proofs.Units.{units_are_one}
 use Rattle.weslc_agreement.proofs.Outcomes.{refused_outcome, loaded_outcome, same_outcome, loaded_alike, kept_are_one}
-use Rattle.weslc_agreement.proofs.Told.{refused_first, refused_last, TellsLoading, loading_told, clash_told, tell_alike, refusal_told, names_same}
+use Rattle.weslc_agreement.proofs.Told.{refused_first, refused_last, TellsLoading, loading_told, clash_told, tell_alike, refusal_told, maybe_same}
 
 -- ---- what is answered of a linked unit
 
@@ -48,7 +50,7 @@ OfCompiling steps modules root keep linked (Err e) = (tell : Telling) × (refusa
 -- by `link`: its text, or that it has none
 abbrev OfLinking : Saying
 OfLinking modules root keep linked (Ok text) = (text ≡ unit_text linked) × IsTextOf linked text
-OfLinking modules root keep linked (Err e) = (x : Name) × (e ≡ Unprintable (about_name x)) × (IsTextOf linked (unit_text linked) → ⊥) × IsToldOfAll linked.declarations x
+OfLinking modules root keep linked (Err e) = (x : Option Name) × (e ≡ Unprintable (about_maybe x)) × IsUnprintable linked x
 
 -- the same is answered of alike modules
 abbrev IsOne : Saying → Type 0
@@ -69,10 +71,10 @@ compiling_is_one steps root modules others alike keep linked (Err e) (Err f) (te
 
 linking_is_one : IsOne OfLinking
 linking_is_one root modules others alike keep linked (Ok text) (Ok more) a b = a.0 ∙ sym b.0
-linking_is_one root modules others alike keep linked (Ok text) (Err e) a (x, is, unread, told) = absurd (unread (subst (IsTextOf linked) a.0 a.1))
-linking_is_one root modules others alike keep linked (Err e) (Ok text) (x, is, unread, told) b = absurd (unread (subst (IsTextOf linked) b.0 b.1))
-linking_is_one root modules others alike keep linked (Err e) (Err f) (x, is, unread, told) (y, it, unlike, said) =
-    subst (λ z. TellTheSame z f) (sym is) (subst (TellTheSame (Unprintable (about_name x))) (sym it) (names_same x y (told_once linked.declarations x y told said)))
+linking_is_one root modules others alike keep linked (Ok text) (Err e) a (x, is, refused) = absurd (refused.no_text (text, a.1))
+linking_is_one root modules others alike keep linked (Err e) (Ok text) (x, is, refused) b = absurd (refused.no_text (text, b.1))
+linking_is_one root modules others alike keep linked (Err e) (Err f) (x, is, refused) (y, it, stopped) =
+    subst (λ z. TellTheSame z f) (sym is) (subst (TellTheSame (Unprintable (about_maybe x))) (sym it) (maybe_same x y (units_are_told_once linked x y refused stopped)))
 
 -- ---- where a run ends
 
@@ -106,7 +108,7 @@ compiling_ends found root asked max steps (Err e) (inr u) = with_a_unit u.linked
 linking_ends : (found : Sources) (root : Path) (asked : List Name) (max : ℕ) (answer : Result (List ℕ) CompileError) → IsLinkedAnswer found root asked max answer → Ends OfLinking found root asked max answer
 linking_ends found root asked max (Ok text) is = with_a_unit is.linked is.from (is.whole, is.reads)
 linking_ends found root asked max (Err e) (inl refused) = refused_ends OfLinking found root asked max e refused
-linking_ends found root asked max (Err e) (inr u) = with_a_unit u.linked u.from (u.name, u.told, u.unread, u.named)
+linking_ends found root asked max (Err e) (inr u) = with_a_unit u.linked u.from (u.name, u.told, u.unprintable)
 
 -- ---- two runs
 

@@ -1,30 +1,18 @@
 -- What is answered for handed-in texts counts their tokens alone.
-use Rattle.std.proofs.Common.{◌≡◌, List, ℕ, Option, Some, None, sym, ◌∙◌}
-use Rattle.wgsl_lex.proofs.Once.{lexed_once}
-use Rattle.wgsl_parse.proofs.Texts as parsing
+use Rattle.std.proofs.Common.{◌≡◌, List, ℕ, Option, Some, None, sym, ap, ◌∙◌}
 use Rattle.wgsl_syntax.specs.Tree.{UnitTree}
-use Rattle.wgsl_round_trip.specs.Printing.{StandsFor}
-use Rattle.wgsl_round_trip.specs.Same.{HaveSameTokens}
-use Rattle.wgsl_round_trip.proofs.Apart.{imports_of_texts_are_apart}
-use Rattle.wgsl_round_trip.proofs.Same.{same_tokens_stand_for_the_same}
+use Rattle.wgsl_part_texts.specs.Texts.{IsTextOf, IsUnitOfPart}
+use Rattle.wgsl_part_texts.specs.Laws.{HaveSameTokens}
+use Rattle.wgsl_part_texts.proofs.Laws.{texts_have_one_unit, texts_are_one_thing, same_tokens_are_the_same_unit, imports_of_texts_are_apart}
 use Rattle.wesl_resolve.specs.Found.{Answer, unit_of, not_found, faulty, unsupported}
 use Rattle.wesl_link_spec.specs.Occurrences.{Name}
 use Rattle.wesl_link_spec.specs.Modules.{Path}
 use Rattle.wesl_meaning.specs.Determined.{IsFunctional}
-use Rattle.weslc_unit.specs.Compiled.{IsTextOf}
 use Rattle.weslc_linking.specs.Stored.{text_at, Says, SaysOnly, found_in}
 use Rattle.weslc_linking.specs.declared.resolver.VirtualResolver.{VirtualResolver}
 use Rattle.weslc_agreement.specs.Asked.{HasAskedUnits}
 use Rattle.weslc_agreement.specs.Texts.{added, AreOfSameTokens, HaveTheSameTokens, AddedImportsAreApart, SameTokensCompileAlike, SameTokensLinkAlike}
 use Rattle.weslc_agreement.proofs.Texts.{compiled_texts_are_one, linked_texts_are_one}
-
--- ---- a text that is read as a unit stands for it
-
-text_of : (text : List ℕ) (u : UnitTree) → StandsFor text u → IsTextOf u text
-text_of text u s = (s.unit, record { tokens = s.tokens; lexed = s.lexed; stands = s.derived }, s.same)
-
-stands_for : (text : List ℕ) (u : UnitTree) → IsTextOf u text → StandsFor text u
-stands_for text u is = record { tokens = is.1.tokens; unit = is.0; lexed = is.1.lexed; derived = is.1.stands; same = is.2 }
 
 -- ---- what is found
 
@@ -37,29 +25,23 @@ added_once : (r : VirtualResolver) → IsFunctional (added r)
 added_once r p = found_once (text_at r p)
 
 -- a unit by its text
-found_text : (o : Option (List ℕ)) (u : UnitTree) → found_in o (unit_of u) → (text : List ℕ) × StandsFor text u
+found_text : (o : Option (List ℕ)) (u : UnitTree) → found_in o (unit_of u) → (text : List ℕ) × IsTextOf u text
 found_text None u is = absurd (cc)
-found_text (Some text) u is = (text, stands_for text u is.says)
+found_text (Some text) u is = (text, is.says.is_text)
 
 -- ---- texts with the same tokens
-
-turned : (one other : List ℕ) → HaveSameTokens one other → HaveSameTokens other one
-turned one other h = record { ones = h.others; others = h.ones; one_lexed = h.other_lexed; other_lexed = h.one_lexed; same = sym h.same }
-
-read_too : (one other : List ℕ) → HaveSameTokens one other → (u : UnitTree) → IsTextOf u one → IsTextOf u other
-read_too one other same u is = text_of other u (same_tokens_stand_for_the_same one other same u (stands_for one u is))
 
 says_too : (one other : List ℕ) → HaveSameTokens one other → (u : UnitTree) → SaysOnly one (unit_of u) → SaysOnly other (unit_of u)
 says_too one other same u s = record { says = is; only = only }
   where
-    is : IsTextOf u other
-    is = read_too one other same u s.says
+    is : IsUnitOfPart other u
+    is = record { is_text = same_tokens_are_the_same_unit one other same u s.says.is_text; in_part = s.says.in_part }
 
     only : (b : Answer) → Says other b → b ≡ unit_of u
-    only (unit_of v) it = s.only (unit_of v) (read_too other one (turned one other same) v it)
+    only (unit_of v) it = ap unit_of (texts_have_one_unit other v u it.is_text is.is_text)
     only not_found none = absurd none
-    only (faulty e) ((f, fault), whole) = absurd (parsing.apart (lexed_once other) is.1 fault)
-    only unsupported ((f, fault), whole) = absurd (parsing.apart (lexed_once other) is.1 fault)
+    only (faulty e) fault = absurd (texts_are_one_thing.1 other u e is fault)
+    only unsupported beyond = absurd (texts_are_one_thing.0 other u is beyond)
 
 found_too : (o p : Option (List ℕ)) → AreOfSameTokens o p → (u : UnitTree) → found_in o (unit_of u) → found_in p (unit_of u)
 found_too None None same u is = is

@@ -14,7 +14,7 @@ use Rattle.weslc_unit.specs.Once.{SameRefusal}
 use Rattle.weslc_unit.specs.declared.error.UnitRefusal.{UnitRefusal}
 use Rattle.weslc_unit.specs.declared.error.UnitRefusal.TheVariants as of
 use Rattle.weslc_linking.specs.Mapped.{IsTold, TellsHeld}
-use Rattle.weslc_linking.specs.Told.{about_module, about_item, about_name, about_declaration, fault_name, TellsOfFault, TellsOfEvaluation, Tells}
+use Rattle.weslc_linking.specs.Told.{about_module, about_item, about_name, about_maybe, about_declaration, fault_name, TellsOfFault, TellsOfEvaluation, Tells}
 use Rattle.weslc_linking.specs.declared.error.ResolveKind.TheVariants.{ModuleNotFound}
 use Rattle.weslc_linking.specs.declared.error.ImportKind.TheVariants.{DuplicateSymbol, MissingDecl, Private}
 use Rattle.weslc_linking.specs.declared.error.CompileError.{CompileError}
@@ -52,8 +52,11 @@ modules_same m n e = record { same_module = e; same_declaration = refl; same_nam
 items_same : (m n : ModulePath) (x : Name) → path_text m ≡ path_text n → SameContext (about_item m x) (about_item n x)
 items_same m n x e = record { same_module = e; same_declaration = refl; same_name = refl }
 
-pub names_same : (x y : Name) → x ≡ y → SameContext (about_name x) (about_name y)
-names_same x y e = record { same_module = tt; same_declaration = refl; same_name = ap Some e }
+pub maybe_same : (x y : Option Name) → x ≡ y → SameContext (about_maybe x) (about_maybe y)
+maybe_same x y e = record { same_module = tt; same_declaration = refl; same_name = e }
+
+names_same : (x y : Name) → x ≡ y → SameContext (about_name x) (about_name y)
+names_same x y e = maybe_same (Some x) (Some y) (ap Some e)
 
 -- the errors are these
 told_by : (e f g h : CompileError) → e ≡ g → f ≡ h → TellTheSame g h → TellTheSame e f
@@ -128,7 +131,7 @@ abbrev error_of : Telling → UnitRefusal → CompileError
 error_of tell (of.Validate f) = Validate (about_declaration (tell f.declaration) (Some f.name)) f.kind
 error_of tell (of.UnclearName x) = UnclearName (about_name x)
 error_of tell (of.Eval r) = Eval (about_declaration (tell r.declaration) (fault_name r.fault)) r.fault
-error_of tell (of.Unprintable x) = Unprintable (about_name x)
+error_of tell (of.Unprintable x) = Unprintable (about_maybe x)
 error_of tell of.OutOfMemory = OutOfMemory
 
 fault_tells : (tell : Telling) (f : ValidateFault) (e : CompileError) → TellsOfFault tell f e → (e ≡ OutOfMemory) ⊎ (e ≡ error_of tell (of.Validate f))
@@ -188,7 +191,7 @@ errors_same tell more alike (of.Eval r) of.OutOfMemory same = tt
 errors_same tell more alike (of.Unprintable x) (of.Validate g) same = absurd same
 errors_same tell more alike (of.Unprintable x) (of.UnclearName y) same = absurd same
 errors_same tell more alike (of.Unprintable x) (of.Eval q) same = absurd same
-errors_same tell more alike (of.Unprintable x) (of.Unprintable y) same = names_same x y same
+errors_same tell more alike (of.Unprintable x) (of.Unprintable y) same = maybe_same x y same
 errors_same tell more alike (of.Unprintable x) of.OutOfMemory same = tt
 errors_same tell more alike of.OutOfMemory q same = tt
 

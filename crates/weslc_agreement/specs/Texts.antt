@@ -1,6 +1,6 @@
 -- Texts that are answered for the same units, and for texts with the same tokens.
 use Rattle.std.specs.Prelude.{◌≡◌, ⊤, ℕ, List, Option, Some, None}
-use Rattle.wgsl_round_trip.specs.Same.{HaveSameTokens}
+use Rattle.wgsl_part_texts.specs.Laws.{HaveSameTokens}
 use Rattle.wesl_link_spec.specs.Occurrences.{Name}
 use Rattle.wesl_link_spec.specs.Modules.{Path}
 use Rattle.wesl_link_spec.specs.Rounds.{Sources}

@@ -10,8 +10,8 @@ ghost use Rattle.weslc_linking.specs.Answers.{RefusesToLink, RefusesToCompile, I
 use std::alloc::Global;
 use wesl_link::{BasicSourceMap, Resolver};
 use weslc_compiled::compile_unit;
-use weslc_linking::{CompileError, Linked, Options, linked_unit, load_and_map, print_held};
-use weslc_unit::PrintError;
+use weslc_linking::{CompileError, Linked, Options, linked_unit};
+use wgsl_part_texts::{PrintError, print_part};
 use wgsl_path::ModulePath;
 
 /// One text without imports that declares what the kept names of the root reach, and the map from it back to the modules;
@@ -32,9 +32,8 @@ pub fn link<R: Resolver>(
     ensures same_texts { SameTexts (R.texts resolver.old) (R.texts resolver.new) }
     ensures same_names { R.display_names resolver.new ≡ R.display_names resolver.old }
 {
-    let (resolutions, map) = load_and_map(alloc, resolver, root, options)?;
-    let held = resolutions.held_declarations(alloc)?;
-    match print_held(alloc, &resolutions, held.as_slice()) {
+    let Linked { unit, map } = linked_unit(alloc, resolver, root, options)?;
+    match print_part(alloc, unit) {
         Ok(text) => Ok((text, map)),
         Err(PrintError::Unprintable(name)) => Err(CompileError::unprintable(name)),
         Err(PrintError::OutOfMemory) => Err(CompileError::OutOfMemory),

@@ -20,5 +20,5 @@ pub refused : (steps : ℕ) (unit : UnitTree) (refusal : UnitRefusal) → IsVali
 refused steps unit (Validate f) valid clear h = absurd h
 refused steps unit (UnclearName x) valid clear h = absurd h
 refused steps unit (Eval r) valid clear h = (valid, clear, h)
-refused steps unit (Unprintable x) valid clear (low, lowers, unread, told) = (low, record { valid = valid; clear = clear; lowered = lowers }, unread, told)
+refused steps unit (Unprintable x) valid clear (low, lowers, unprintable) = (low, record { valid = valid; clear = clear; lowered = lowers }, unprintable)
 refused steps unit OutOfMemory valid clear h = tt

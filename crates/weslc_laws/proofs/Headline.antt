@@ -1,12 +1,6 @@
 -- What is linked and compiled is of its sources.
 use Rattle.std.proofs.Common.{◌≡◌, ℕ, List, Ok, ap, ◌∙◌}
-use Rattle.wgsl_token.specs.declared.token.SpannedToken.{SpannedToken}
-use Rattle.wgsl_syntax.specs.declared.unit.TranslationUnit.{TranslationUnit}
 use Rattle.wgsl_syntax.specs.Tree.{UnitTree}
-use Rattle.wgsl_syntax.specs.View.{unit_tree}
-use Rattle.wgsl_lex.specs.Tokens.{IsLexed}
-use Rattle.wgsl_grammar.specs.Declarations.{IsUnit}
-use Rattle.wgsl_round_trip.specs.Printing.{StandsFor}
 use Rattle.wgsl_lower_expressions.specs.Lowered.{Lowers}
 use Rattle.wgsl_lower.specs.Keeps.{AreClear}
 use Rattle.wesl_resolve.specs.Found.{unit_of}
@@ -26,10 +20,6 @@ use Rattle.weslc_laws.specs.Compiled.{AreCompiled}
 use Rattle.weslc_laws.specs.Headline.{AreKept, IsLinkedFrom, RunsAsSources, RunsExactlyAsSources, CompiledTextsAreOfTheirSources, LinkedTextsAreOfTheirSources}
 use Rattle.weslc_laws.proofs.Runs.{sources_run_in_the_lowered_unit, linked_unit_runs_exactly}
 use Rattle.weslc_laws.proofs.Declared.{declares_held_functions}
-
--- a text that lexes and parses to a unit with this tree stands for it
-pub stands_for : (text : List ℕ) (tokens : List SpannedToken) (unit : TranslationUnit) (tree : UnitTree) → IsLexed text tokens → IsUnit tokens unit → unit_tree unit ≡ tree → StandsFor text tree
-stands_for text tokens unit tree lexed derived same = record { tokens = tokens; unit = unit; lexed = lexed; derived = derived; same = same }
 
 module _ (sources : Sources) (root : Path) (keep : List Name) where
   -- where one answer is found at each path, there is one list of kept names
@@ -76,20 +66,20 @@ module _ (sources : Sources) (root : Path) (keep : List Name) where
     }
 
 pub compiled_texts_are_of_their_sources : (sources : Sources) → CompiledTextsAreOfTheirSources sources
-compiled_texts_are_of_their_sources sources root keep max linked lowered from clear steps is text stands = record {
+compiled_texts_are_of_their_sources sources root keep max linked lowered from clear steps is text reads = record {
   linked = linked;
   from = from;
   lowered = lowered;
   steps = steps;
   is_lowered = is;
-  stands = stands;
+  reads = reads;
   keeps = runs_as_sources sources root keep max linked lowered from clear steps is;
 }
 
 pub linked_texts_are_of_their_sources : (sources : Sources) → LinkedTextsAreOfTheirSources sources
-linked_texts_are_of_their_sources sources root keep max linked from text stands = record {
+linked_texts_are_of_their_sources sources root keep max linked from text reads = record {
   linked = linked;
   from = from;
-  stands = stands;
+  reads = reads;
   keeps = runs_exactly_as_sources sources root keep max linked from;
 }

@@ -1,14 +1,9 @@
 -- What compiled modules are, and what is kept of their runs.
-use Rattle.std.specs.Prelude.{◌≡◌, ℕ, List, Option, Ok, ◌↔◌}
+use Rattle.std.specs.Prelude.{ℕ, List, Option, Ok, ◌↔◌}
 use Rattle.std.specs.List.{Contains}
-use Rattle.wgsl_token.specs.declared.token.SpannedToken.{SpannedToken}
-use Rattle.wgsl_syntax.specs.declared.unit.TranslationUnit.{TranslationUnit}
 use Rattle.wgsl_syntax.specs.Tree.{UnitTree}
-use Rattle.wgsl_syntax.specs.View.{unit_tree}
 use Rattle.wgsl_syntax.specs.Print.{unit_text}
-use Rattle.wgsl_lex.specs.Tokens.{IsLexed}
-use Rattle.wgsl_grammar.specs.Declarations.{IsUnit}
-use Rattle.wgsl_round_trip.specs.Printing.{StandsFor}
+use Rattle.wgsl_part_texts.specs.Texts.{IsTextOf}
 use Rattle.wesl_link_spec.specs.Occurrences.{Name}
 use Rattle.wesl_link_spec.specs.Modules.{Path, Modules}
 use Rattle.wgsl_instance.specs.declared.tree.Instance.{Instance}
@@ -42,20 +37,21 @@ abbrev pub SourcesRunInTheLoweredUnit : Type 0
 SourcesRunInTheLoweredUnit = (modules : Modules) (root : Path) (keep : List Name) (lowered : UnitTree) → AreCompiled modules root keep lowered
     → RunsAsItsSources modules root keep lowered
 
--- The program of a text is that of the unit that its tokens derive, by scope alone.
+-- The program of a text is that of the unit as which the text is read, by scope alone. So where a text of the lowered unit is read as a unit, runs
+-- end well there.
 abbrev pub CompiledTextRunsAsItsSources : Type 0
 CompiledTextRunsAsItsSources = (modules : Modules) (root : Path) (keep : List Name) (lowered : UnitTree) → AreCompiled modules root keep lowered
-    → (text : List ℕ) (tokens : List SpannedToken) (unit : TranslationUnit) → IsLexed text tokens → IsUnit tokens unit → unit_tree unit ≡ lowered
-    → RunsAsItsSources modules root keep (unit_tree unit)
+    → (text : List ℕ) → IsTextOf lowered text → (unit : UnitTree) → IsTextOf unit text → RunsAsItsSources modules root keep unit
 
--- Where some text derives the lowered unit, its printed text derives it too.
+-- The printed text of the lowered unit is read as it, and runs end well in each unit as which it is read.
 pub record PrintsWell (modules : Modules) (root : Path) (keep : List Name) (lowered : UnitTree) : Type 0 where
-  pub stands : StandsFor (unit_text lowered) lowered
-  pub runs : RunsAsItsSources modules root keep (unit_tree stands.unit)
+  pub reads : IsTextOf lowered (unit_text lowered)
+  pub runs : (unit : UnitTree) → IsTextOf unit (unit_text lowered) → RunsAsItsSources modules root keep unit
 
+-- So it is where some text is read as the lowered unit.
 abbrev pub PrintedTextRunsAsItsSources : Type 0
 PrintedTextRunsAsItsSources = (modules : Modules) (root : Path) (keep : List Name) (lowered : UnitTree) → AreCompiled modules root keep lowered
-    → (text : List ℕ) → StandsFor text lowered → PrintsWell modules root keep lowered
+    → (text : List ℕ) → IsTextOf lowered text → PrintsWell modules root keep lowered
 
 -- Every run of a kept name ends well in the plain unit exactly where it does in the modules, with the same answer, for each number of
 -- steps that is allowed.
@@ -66,5 +62,4 @@ RunsExactlyAsItsSources modules root keep unit = (p : Program) → IsProgramIn m
 -- So it is with a text of the linked unit.
 abbrev pub LinkedTextRunsAsItsSources : Type 0
 LinkedTextRunsAsItsSources = (modules : Modules) (root : Path) (keep : List Name) (linked : UnitTree) → AreLinkedWell modules root keep linked
-    → (text : List ℕ) (tokens : List SpannedToken) (unit : TranslationUnit) → IsLexed text tokens → IsUnit tokens unit → unit_tree unit ≡ linked
-    → RunsExactlyAsItsSources modules root keep (unit_tree unit)
+    → (text : List ℕ) → IsTextOf linked text → (unit : UnitTree) → IsTextOf unit text → RunsExactlyAsItsSources modules root keep unit

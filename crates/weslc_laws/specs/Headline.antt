@@ -1,7 +1,7 @@
 -- What linking and compiling give of what is found at the paths of modules: one text that runs as its sources do.
 use Rattle.std.specs.Prelude.{◌≡◌, ℕ, List, Ok}
 use Rattle.wgsl_syntax.specs.Tree.{UnitTree}
-use Rattle.wgsl_round_trip.specs.Printing.{StandsFor}
+use Rattle.wgsl_part_texts.specs.Texts.{IsTextOf}
 use Rattle.wesl_resolve.specs.Found.{unit_of}
 use Rattle.wesl_link_spec.specs.Occurrences.{Name}
 use Rattle.wesl_link_spec.specs.Modules.{Path, Modules}
@@ -50,22 +50,22 @@ module _ (sources : Sources) (root : Path) (keep : List Name) (max : ℕ) where
     pub lowered : UnitTree
     pub steps : ℕ
     pub is_lowered : Lowers steps linked (Ok lowered)
-    pub stands : StandsFor text lowered
+    pub reads : IsTextOf lowered text
     pub keeps : RunsAsSources from.modules root from.kept linked lowered
 
   -- a text of what is linked from them
   pub record IsLinkedTextFrom (text : List ℕ) : Type 0 where
     pub linked : UnitTree
     pub from : IsLinkedFrom sources root keep max linked
-    pub stands : StandsFor text linked
+    pub reads : IsTextOf linked text
     pub keeps : RunsExactlyAsSources from.modules root from.kept linked
 
--- Whatever is found at each path: what is linked, lowered with clear names, and stands in a text, is compiled from its sources.
+-- Whatever is found at each path: a text that is read as what is linked and lowered, with clear names, is compiled from its sources.
 abbrev pub CompiledTextsAreOfTheirSources : Sources → Type 0
 CompiledTextsAreOfTheirSources sources = (root : Path) (keep : List Name) (max : ℕ) (linked lowered : UnitTree) → IsLinkedFrom sources root keep max linked
-    → AreClear linked.declarations → (steps : ℕ) → Lowers steps linked (Ok lowered) → (text : List ℕ) → StandsFor text lowered → IsCompiledFrom sources root keep max text
+    → AreClear linked.declarations → (steps : ℕ) → Lowers steps linked (Ok lowered) → (text : List ℕ) → IsTextOf lowered text → IsCompiledFrom sources root keep max text
 
--- and what is linked and stands in a text, is linked from its sources
+-- and one that is read as what is linked, is linked from its sources
 abbrev pub LinkedTextsAreOfTheirSources : Sources → Type 0
 LinkedTextsAreOfTheirSources sources = (root : Path) (keep : List Name) (max : ℕ) (linked : UnitTree) → IsLinkedFrom sources root keep max linked
-    → (text : List ℕ) → StandsFor text linked → IsLinkedTextFrom sources root keep max text
+    → (text : List ℕ) → IsTextOf linked text → IsLinkedTextFrom sources root keep max text

@@ -11,7 +11,7 @@ pub fn sources_run_in_the_lowered_unit()
     ensures { SourcesRunInTheLoweredUnit }
 {}
 
-/// A run that ends well in the modules, ends well in a text of the lowered unit with the same answer, in no more steps.
+/// A run that ends well in the modules, ends well in each unit as which a text of the lowered unit is read, with the same answer, in no more steps.
 pub fn compiled_text_runs_as_its_sources()
     ensures { CompiledTextRunsAsItsSources }
 {}
@@ -26,7 +26,8 @@ pub fn compiled_units_declare_held_functions()
     ensures { CompiledUnitsDeclareHeldFunctions }
 {}
 
-/// A run ends well in a text of the linked unit exactly where it does in the modules, with the same answer, for each number of steps that is allowed.
+/// A run ends well in each unit as which a text of the linked unit is read exactly where it does in the modules, with the same answer, for each
+/// number of steps that is allowed.
 pub fn linked_text_runs_as_its_sources()
     ensures { LinkedTextRunsAsItsSources }
 {}

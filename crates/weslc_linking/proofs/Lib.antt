@@ -6,4 +6,3 @@ pub mod Mapping
 pub mod Texts
 pub mod Recorded
 pub mod Located
-pub mod Printed

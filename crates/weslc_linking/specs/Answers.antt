@@ -1,5 +1,5 @@
 -- What the calls answer.
-use Rattle.std.specs.Prelude.{◌≡◌, ◌⊎◌, ⊤, ℕ, List, [], ◌∷◌, Some, Ok, Err, string_bytes}
+use Rattle.std.specs.Prelude.{◌≡◌, ◌⊎◌, ⊤, ℕ, List, [], ◌∷◌, Option, Some, Ok, Err, string_bytes}
 use Rattle.wgsl_path.specs.declared.path.ModulePath.{ModulePath}
 use Rattle.wgsl_path.specs.Paths.{path_text}
 use Rattle.wgsl_syntax.specs.Tree.{UnitTree}
@@ -17,7 +17,9 @@ use Rattle.wgsl_programs.specs.Programs.{Program}
 use Rattle.wesl_meaning.specs.Executions.{IsProgramIn}
 use Rattle.wesl_reach.specs.Resolved.{modules_of, IsResolved}
 use Rattle.wesl_link.specs.declared.rounds.Resolutions.{Resolutions}
-use Rattle.weslc_unit.specs.Compiled.{IsTextOf, IsToldOfAll, IsCompiled, Refuses}
+use Rattle.wgsl_part_texts.specs.Texts as part
+use Rattle.wgsl_part_texts.specs.Texts.{IsTextOf}
+use Rattle.weslc_unit.specs.Compiled.{IsCompiled, Refuses}
 use Rattle.weslc_unit.specs.Located.{declaration_of}
 use Rattle.weslc_unit.specs.declared.error.UnitRefusal.{UnitRefusal}
 use Rattle.weslc_laws.specs.Headline.{AreKept, IsLinkedFrom, RunsAsSources, RunsExactlyAsSources}
@@ -27,7 +29,7 @@ use Rattle.wesl_resolve.specs.declared.source_map.BasicSourceMap.{BasicSourceMap
 use Rattle.wesl_resolve.specs.SourceMaps.{decl_at, source_at}
 use Rattle.wesl_link.specs.Recording.{AreTold}
 use Rattle.weslc_linking.specs.Mapped.{Texts, HasText, HasDefault, nothing_told, TellsHeld, IsLocated}
-use Rattle.weslc_linking.specs.Told.{about_module, about_item, about_name, Tells}
+use Rattle.weslc_linking.specs.Told.{about_module, about_item, about_name, about_maybe, Tells}
 use Rattle.weslc_linking.specs.declared.error.ResolveKind.TheVariants.{ModuleNotFound}
 use Rattle.weslc_linking.specs.declared.error.ImportKind.TheVariants.{DuplicateSymbol, MissingDecl, Private}
 use Rattle.weslc_linking.specs.declared.error.CompileError.{CompileError}
@@ -102,15 +104,14 @@ module _ (found : Sources) (root : Path) (asked : List Name) (max : ℕ) where
   RefusesLinking (Eval c fault) = ⊥
   RefusesLinking (Unprintable c) = ⊥
 
-  -- The linked unit is not read from its text. Of its first declaration that isn't read from its own text, the reserved word at the
-  -- fault is told, else the declaration's name.
+  -- No text is read as the linked unit. Of its first declaration that no text derives, the first node that no text derives is told by its
+  -- name, else by the declaration's.
   pub record IsUnprintable (e : CompileError) : Type 0 where
     pub linked : UnitTree
     pub from : IsLinkedFrom found root asked max linked
-    pub unread : IsTextOf linked (unit_text linked) → ⊥
-    pub name : Name
-    pub named : IsToldOfAll linked.declarations name
-    pub told : e ≡ Unprintable (about_name name)
+    pub name : Option Name
+    pub unprintable : part.IsUnprintable linked name
+    pub told : e ≡ Unprintable (about_maybe name)
 
   -- what linking, and printing what is linked, is refused for
   abbrev pub RefusesToLink : CompileError → Type 0

@@ -6,15 +6,12 @@ use Rattle.std.specs.Str.{bytes_eq}
 use Rattle.std.specs.HashMap.{values}
 use Rattle.wgsl_path.specs.Paths.{path_text}
 use Rattle.wgsl_path.specs.declared.path.ModulePath.{ModulePath}
-use Rattle.wgsl_token.specs.declared.error.Error.{Error as PartError}
-use Rattle.wgsl_parse.specs.Texts.{IsFaultOf}
-use Rattle.wgsl_declarations.specs.declared.unit.TranslationUnit.{TranslationUnit as WholeUnit}
-use Rattle.wgsl_parser.specs.Texts.{ParsesModule, IsModuleFault}
+use Rattle.wgsl_parser.specs.Texts.{IsModuleFault}
 use Rattle.wgsl_syntax.specs.Tree.{UnitTree}
 use Rattle.wesl_resolve.specs.Found.{Answer, unit_of, not_found, faulty, unsupported}
 use Rattle.wesl_resolve.specs.declared.error.ResolveError.{ResolveError}
 use Rattle.wesl_resolve.specs.declared.error.ResolveError.TheVariants.{ModuleNotFound, Syntax, Unsupported, OutOfMemory}
-use Rattle.weslc_unit.specs.Compiled.{IsTextOf}
+use Rattle.wgsl_part_texts.specs.Texts.{IsUnitOfPart, IsBeyondPart}
 use Rattle.weslc_linking.specs.declared.resolver.VirtualModule.{VirtualModule}
 use Rattle.weslc_linking.specs.declared.resolver.VirtualResolver.{VirtualResolver}
 
@@ -44,21 +41,13 @@ text_among (m ∷ ms) p = if bytes_eq (path_text m.0) p then Some m.1 else text_
 abbrev pub text_at : VirtualResolver → List ℕ → Option (List ℕ)
 text_at r p = text_among (texts_added r) p
 
--- The part of the language that is linked has no module with this text: the part's grammar has a fault there.
-abbrev pub IsBeyondPart : List ℕ → Type 0
-IsBeyondPart text = (f : PartError) × IsFaultOf text f
-
--- The text is a module of the whole language.
-abbrev pub IsWholeModule : List ℕ → Type 0
-IsWholeModule text = (unit : WholeUnit) × ParsesModule text (Ok unit)
-
--- What a text says. A module of the part is a unit. Any other text is no module of the whole language, and has the fault that the
--- whole grammar finds; or it is one, and uses what is not supported yet.
+-- What a text says: a unit of the part of the language that is linked; or its first fault, where it is no module; or that it is a module, and
+-- uses what is not supported yet.
 abbrev pub Says : List ℕ → Answer → Type 0
-Says text (unit_of u) = IsTextOf u text
+Says text (unit_of u) = IsUnitOfPart text u
 Says text not_found = ⊥
-Says text (faulty e) = IsBeyondPart text × IsModuleFault text e
-Says text unsupported = IsBeyondPart text × IsWholeModule text
+Says text (faulty e) = IsModuleFault text e
+Says text unsupported = IsBeyondPart text
 
 -- this, and nothing else
 pub record SaysOnly (text : List ℕ) (a : Answer) : Type 0 where
@@ -92,11 +81,3 @@ TellsStored r path (Err (ModuleNotFound p)) = (p ≡ path) × (text_at r (path_t
 TellsStored r path (Err (Syntax p e)) = ⊥
 TellsStored r path (Err (Unsupported p)) = ⊥
 TellsStored r path (Err OutOfMemory) = ⊤
-
--- memory aside, what is told of a text that is no module of the part: its fault in the whole language, or that it uses what is not
--- supported yet
-abbrev pub TellsBeyond : List ℕ → ModulePath → ResolveError → Type 0
-TellsBeyond text path (Syntax p e) = (p ≡ path) × IsModuleFault text e
-TellsBeyond text path (Unsupported p) = (p ≡ path) × IsWholeModule text
-TellsBeyond text path OutOfMemory = ⊤
-TellsBeyond text path (ModuleNotFound p) = ⊥

@@ -30,8 +30,12 @@ about_module m = record { «module» = Some m; decl = None; name = None }
 abbrev pub about_item : ModulePath → Name → ErrorContext
 about_item m x = record { «module» = Some m; decl = None; name = Some x }
 
+-- of the linked unit, with a name if there is one
+abbrev pub about_maybe : Option Name → ErrorContext
+about_maybe x = record { «module» = None; decl = None; name = x }
+
 abbrev pub about_name : Name → ErrorContext
-about_name x = record { «module» = None; decl = None; name = Some x }
+about_name x = about_maybe (Some x)
 
 -- a declaration of the linked unit, by what is told of its name: the module that has it and its name there
 abbrev pub about_declaration : Option Source → Option Name → ErrorContext
@@ -102,5 +106,5 @@ abbrev pub Tells : Telling → UnitRefusal → CompileError → Type 0
 Tells tell (of.Validate f) e = TellsOfFault tell f e
 Tells tell (of.UnclearName x) e = e ≡ UnclearName (about_name x)
 Tells tell (of.Eval r) e = TellsOfEvaluation tell r e
-Tells tell (of.Unprintable x) e = e ≡ Unprintable (about_name x)
+Tells tell (of.Unprintable x) e = e ≡ Unprintable (about_maybe x)
 Tells tell of.OutOfMemory e = e ≡ OutOfMemory

@@ -3,7 +3,7 @@
 ghost use Rattle.std.specs.Prelude.{◌≡◌, IfOk, IfSome, MatchOption};
 ghost use Rattle.std.specs.Option.{option_copied};
 ghost use Rattle.wesl_resolve.specs.SourceMaps.{decl_at};
-ghost use Rattle.weslc_linking.specs.Told.{context_of, about_module, about_item, about_name, about_declaration, Tells, TellsOfFault, TellsOfEvaluation, fault_name};
+ghost use Rattle.weslc_linking.specs.Told.{context_of, about_module, about_item, about_name, about_maybe, about_declaration, Tells, TellsOfFault, TellsOfEvaluation, fault_name};
 
 use std::alloc::{AllocError, AllocFailed, Global};
 use std::fmt;
@@ -91,10 +91,16 @@ impl ErrorContext {
     fn of_name(name: Text) -> ErrorContext
         ensures { result ≡ about_name name }
     {
+        ErrorContext::of_maybe(Some(name))
+    }
+
+    fn of_maybe(name: Option<Text>) -> ErrorContext
+        ensures { result ≡ about_maybe name }
+    {
         ErrorContext {
             module: None,
             decl: None,
-            name: Some(name),
+            name,
         }
     }
 
@@ -162,10 +168,10 @@ impl CompileError {
         CompileError::NameClash(ErrorContext::of_name(name))
     }
 
-    pub fn unprintable(name: Text) -> CompileError
-        ensures { result ≡ CompileError.Unprintable (about_name name) }
+    pub fn unprintable(name: Option<Text>) -> CompileError
+        ensures { result ≡ CompileError.Unprintable (about_maybe name) }
     {
-        CompileError::Unprintable(ErrorContext::of_name(name))
+        CompileError::Unprintable(ErrorContext::of_maybe(name))
     }
 
     /// The refusal of a linked unit, with its declaration as the module names it that declares it.
@@ -178,9 +184,7 @@ impl CompileError {
                 name,
             )),
             UnitRefusal::Eval(refusal) => CompileError::of_evaluation(alloc, map, refusal),
-            UnitRefusal::Unprintable(name) => CompileError::Unprintable(ErrorContext::of_name(
-                name,
-            )),
+            UnitRefusal::Unprintable(name) => CompileError::unprintable(name),
             UnitRefusal::OutOfMemory => CompileError::OutOfMemory,
         }
     }

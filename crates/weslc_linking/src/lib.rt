@@ -1,7 +1,6 @@
 //! What the calls of `weslc` are made of: errors, options, resolvers over texts in memory, and modules that are loaded, mapped and linked.
 #![tactic(auto)]
 
-mod beyond;
 mod error;
 mod linking;
 mod options;
@@ -9,7 +8,7 @@ mod recording;
 mod resolver;
 
 pub use error::{CompileError, ErrorContext, ImportKind, ResolveKind};
-pub use linking::{Linked, linked_unit, load_and_map, print_held};
+pub use linking::{Linked, linked_unit};
 pub use options::Options;
 pub use recording::RecordingResolver;
 pub use resolver::VirtualResolver;

@@ -1,9 +1,8 @@
-//! Modules that are loaded, mapped, linked and printed.
+//! Modules that are loaded, mapped and linked.
 
-ghost use Rattle.std.specs.Prelude.{◌≡◌, ◌<◌, List, [], ◌∷◌, map, IfOk, IfErr, OnOk, string_bytes};
+ghost use Rattle.std.specs.Prelude.{◌≡◌, ◌<◌, List, [], ◌∷◌, map, IfOk, IfErr, OnOk};
 ghost use Rattle.wgsl_path.specs.Paths.{path_text};
 ghost use Rattle.wgsl_syntax.specs.View.{unit_tree};
-ghost use Rattle.wgsl_syntax.specs.Print.{unit_text};
 ghost use Rattle.wesl_resolve.specs.Found.{unit_of, SameAnswers, SameTexts, HasAsked};
 ghost use Rattle.wesl_link_spec.specs.Occurrences.{Name};
 ghost use Rattle.wgsl_path.specs.declared.path.ModulePath.{ModulePath as Path};
@@ -11,15 +10,12 @@ ghost use Rattle.weslc_laws.specs.Headline.{IsLinkedFrom};
 ghost use Rattle.weslc_linking.specs.Mapped.{IsFound, AreAllFound, AreFound, HasText, HaveTexts, HasOnly, AddsOnly, HasNames, HasDefault};
 ghost use Rattle.weslc_linking.specs.Asked.{AreAsked, AreAskedAsLoaded};
 ghost use Rattle.wesl_reach.specs.Asking.{AsksForOne};
-ghost use Rattle.wesl_link.specs.Assembling.{linked_of};
-ghost use Rattle.weslc_unit.specs.Compiled as of_unit;
 ghost use Rattle.weslc_linking.specs.Answers.{RefusesLinking, AreTablesOf, IsMapped, TellsTables, IsToldFrom};
 
 use crate::error::CompileError;
 use crate::options::Options;
 use std::alloc::Global;
-use wesl_link::{BasicSourceMap, HeldDeclaration, Resolutions, Resolver, resolve_lazy};
-use weslc_unit::{PrintError, print_declaration};
+use wesl_link::{BasicSourceMap, Resolutions, Resolver, resolve_lazy};
 use wgsl_path::ModulePath;
 use wgsl_syntax::TranslationUnit;
 
@@ -28,27 +24,6 @@ use wgsl_syntax::TranslationUnit;
 pub struct Linked {
     pub unit: TranslationUnit,
     pub map: BasicSourceMap,
-}
-
-/// The text of held declarations under their new names, where it is read as their unit. Each is renamed, printed and let go
-/// before the next.
-pub fn print_held(
-    alloc: Global,
-    resolutions: &Resolutions,
-    held: &[HeldDeclaration<'_>],
-) -> Result<String, PrintError>
-    ensures text { IfOk result (λ text. string_bytes text ≡ unit_text (linked_of resolutions.now.modules resolutions.now.held held.now)) }
-    ensures read { IfOk result (λ text. of_unit.IsTextOf (linked_of resolutions.now.modules resolutions.now.held held.now) (string_bytes text)) }
-    ensures refusal { IfErr result (of_unit.IsUnprintable (linked_of resolutions.now.modules resolutions.now.held held.now)) }
-    ensures told { IfErr result (of_unit.TellsOf (linked_of resolutions.now.modules resolutions.now.held held.now).declarations) }
-{
-    let mut text = String::new(alloc);
-    for declaration in held {
-        let linked = resolutions.linked_declaration(alloc, *declaration)?;
-        let printed = print_declaration(alloc, &linked)?;
-        text.push_str(printed.as_str())?;
-    }
-    Ok(text)
 }
 
 /// What is linked, or the first fault of linking: too many modules, one that isn't found, one whose text is no module's, a
@@ -76,7 +51,7 @@ pub fn linked_unit<R: Resolver>(
 }
 
 /// The modules that the kept names of the root lead to, where no name clashes, and the map of what is linked of them.
-pub fn load_and_map<R: Resolver>(
+fn load_and_map<R: Resolver>(
     alloc: Global,
     resolver: &mut R,
     root: &ModulePath,

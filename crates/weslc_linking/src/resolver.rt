@@ -2,12 +2,11 @@
 
 ghost use Rattle.weslc_linking.specs.Keyed.{AreKeyed};
 
-use crate::beyond::refusal;
 use indexmap::IndexMap;
 use std::alloc::{AllocError, Global};
 use wesl_link::{ResolveError, Resolver};
 use wgsl_items::{CloneIn, Text};
-use wgsl_parse::{ErrorKind, parse_str};
+use wgsl_part_texts::{PartError, parse_part};
 use wgsl_path::ModulePath;
 use wgsl_syntax::TranslationUnit;
 
@@ -104,12 +103,14 @@ impl Resolver for VirtualResolver {
         path: &ModulePath,
     ) -> Result<TranslationUnit, ResolveError> {
         let text = self.get_module(path)?;
-        match parse_str(alloc, text) {
+        match parse_part(alloc, text) {
             Ok(unit) => Ok(unit),
-            Err(error) => match error.kind {
-                ErrorKind::OutOfMemory => Err(ResolveError::OutOfMemory),
-                _ => Err(refusal(alloc, path, text)?),
-            },
+            Err(PartError::Syntax(error)) => Err(ResolveError::Syntax(
+                path.clone_in(alloc)?,
+                error,
+            )),
+            Err(PartError::Unsupported) => Err(ResolveError::Unsupported(path.clone_in(alloc)?)),
+            Err(PartError::OutOfMemory) => Err(ResolveError::OutOfMemory),
         }
     }
 

@@ -1,8 +1,3 @@
 pub mod ClearLemmas
 pub mod Once
-pub mod ByDeclarations
-pub mod AloneLemmas
 pub mod Located
-pub mod Places
-pub mod PrintedLemmas
-pub mod ToldLemmas

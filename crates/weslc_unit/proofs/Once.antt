@@ -1,9 +1,9 @@
 -- A unit is compiled or refused in one way: each refusal says that the steps before it went well, and each step is determined.
 use Rattle.std.proofs.Common.{◌≡◌, ◌⊎◌, inl, inr, ℕ, ◌<◌, List, [], Some, None, Ok, Err, refl, sym, ap, ◌∙◌, subst}
-use Rattle.std.specs.Prelude.{slice_get, slice_range}
+use Rattle.std.specs.Prelude.{slice_get}
 use Rattle.std.proofs.lemmas.Bool.{cases_order}
-use Rattle.wgsl_syntax.specs.Tree.{Decl, UnitTree as Module}
-use Rattle.wgsl_syntax.specs.Print.{decl_text, unit_text}
+use Rattle.wgsl_syntax.specs.Tree.{UnitTree as Module}
+use Rattle.wgsl_syntax.specs.Print.{unit_text}
 use Rattle.wgsl_builtin.specs.Names.{Name}
 use Rattle.wgsl_builtin.specs.Builtin.{builtin_names}
 use Rattle.wesl_validate.specs.declared.error.ValidateError.TheVariants.{Cycle}
@@ -16,8 +16,9 @@ use Rattle.wgsl_lower_expressions.specs.Lowered.{Lowers}
 use Rattle.wgsl_lower.proofs.Once.{lowered_once}
 use Rattle.wesl_validate.specs.Faults.{fault, IsFaultless, IsFirstFault, duplicate, undefined, miscall, ring}
 use Rattle.weslc_unit.specs.declared.error.UnitRefusal.TheVariants.{Validate, UnclearName, Eval, Unprintable, OutOfMemory}
-use Rattle.weslc_unit.specs.Compiled.{IsLowered, IsTextOf, IsCompiled, declared_name, IsToldOf, reserved_word, the_name, IsToldOfAll, nothing, of_first, of_later}
-use Rattle.weslc_unit.proofs.ToldLemmas.{one_fault}
+use Rattle.wgsl_part_texts.specs.Texts.{IsTextOf, IsUnprintable}
+use Rattle.wgsl_part_texts.proofs.Laws.{units_are_told_once}
+use Rattle.weslc_unit.specs.Compiled.{IsLowered, IsCompiled}
 use Rattle.weslc_unit.specs.Once.{CompiledOnce, RefusedOnce, CompiledOrRefused}
 
 -- ---- the first of a list
@@ -79,24 +80,6 @@ same_low steps unit low other a b = let is : Ok low ≡ Ok other = lowered_once 
 not_refused : (steps : ℕ) (unit low : Module) (r : DeclarationFault) → IsLowered steps unit low → Lowers steps unit (Err r) → ⊥
 not_refused steps unit low r a h = let is : Ok low ≡ Err r = lowered_once steps unit (Ok low) (Err r) a.lowered h in cc
 
-reads_back : (steps : ℕ) (unit : Module) (text : List ℕ) (c : IsCompiled steps unit text) → IsTextOf c.low (unit_text c.low)
-reads_back steps unit text c = subst (IsTextOf c.low) c.whole c.reads
-
--- ---- what is told where a text is not read back
-
-told_of_once : (text name x y : List ℕ) → IsToldOf text name x → IsToldOf text name y → x ≡ y
-told_of_once text name _ _ (reserved_word e a i) (reserved_word f b j) = ap (λ g. slice_range text g.span.start g.span.end) (one_fault text e f a b)
-told_of_once text name _ _ (reserved_word e a i) (the_name fails) = absurd (fails e a i)
-told_of_once text name _ _ (the_name fails) (reserved_word f b j) = absurd (fails f b j)
-told_of_once text name _ _ (the_name fails) (the_name more) = refl
-
-pub told_once : (ds : List Decl) (x y : List ℕ) → IsToldOfAll ds x → IsToldOfAll ds y → x ≡ y
-told_once _ _ _ nothing nothing = refl
-told_once _ x y (of_first {d = d} fails t) (of_first more r) = told_of_once (decl_text d) (declared_name d) x y t r
-told_once _ x y (of_first fails t) (of_later is r) = absurd (fails is)
-told_once _ x y (of_later is t) (of_first fails r) = absurd (fails is)
-told_once _ x y (of_later {ds = ds} is t) (of_later more r) = told_once ds x y t r
-
 -- ---- the laws
 
 pub compiled_once : CompiledOnce
@@ -122,7 +105,7 @@ refused_once steps unit (Unprintable x) (Validate g) a b = absurd (faultless_or_
 refused_once steps unit (Unprintable x) (UnclearName y) a b = absurd (none _ y a.1.clear b.1)
 refused_once steps unit (Unprintable x) (Eval q) a b = absurd (not_refused steps unit a.0 q a.1 b.2)
 refused_once steps unit (Unprintable x) (Unprintable y) a b =
-    told_once a.0.declarations x y a.3 (subst (λ low. IsToldOfAll low.declarations y) (same_low steps unit b.0 a.0 b.1 a.1) b.3)
+    units_are_told_once a.0 x y a.2 (subst (λ low. IsUnprintable low y) (same_low steps unit b.0 a.0 b.1 a.1) b.2)
 refused_once steps unit (Unprintable x) OutOfMemory a b = tt
 refused_once steps unit OutOfMemory q a b = tt
 
@@ -131,5 +114,5 @@ compiled_or_refused steps unit text (Validate f) a b = absurd (faultless_or_faul
 compiled_or_refused steps unit text (UnclearName x) a b = absurd (none _ x a.lowered.clear b.1)
 compiled_or_refused steps unit text (Eval r) a b = absurd (not_refused steps unit a.low r a.lowered b.2)
 compiled_or_refused steps unit text (Unprintable x) a b =
-    absurd (b.2 (subst (λ l. IsTextOf l (unit_text l)) (same_low steps unit a.low b.0 a.lowered b.1) (reads_back steps unit text a)))
+    absurd (b.2.no_text (text, subst (λ l. IsTextOf l text) (same_low steps unit a.low b.0 a.lowered b.1) a.reads))
 compiled_or_refused steps unit text OutOfMemory a b = refl

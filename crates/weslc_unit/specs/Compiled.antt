@@ -1,14 +1,8 @@
 -- What is compiled of a linked unit, and the first refusal (this project's own order: validation, clear names, values, text).
-use Rattle.std.specs.Prelude.{◌≡◌, ◌≢◌, ⊤, List, ℕ, [], ◌∷◌, Some, Result, Ok, Err, slice_range}
-use Rattle.wgsl_token.specs.declared.error.Error.{Error}
-use Rattle.wgsl_token.specs.declared.error.ErrorKind.TheVariants.{ReservedWord}
-use Rattle.wgsl_syntax.specs.declared.unit.TranslationUnit.{TranslationUnit}
-use Rattle.wgsl_syntax.specs.Tree.{Decl, UnitTree}
-use Rattle.wgsl_syntax.specs.View.{unit_tree}
-pub use Rattle.wgsl_syntax.specs.Names.{declared_name}
-use Rattle.wgsl_syntax.specs.Print.{decl_text, unit_text}
-use Rattle.wgsl_parse.specs.Texts.{Derives, IsFaultOf}
-use Rattle.wgsl_round_trip.specs.Printing.{alone}
+use Rattle.std.specs.Prelude.{◌≡◌, ⊤, List, ℕ, [], Some, Ok, Err}
+use Rattle.wgsl_syntax.specs.Tree.{UnitTree}
+use Rattle.wgsl_syntax.specs.Print.{unit_text}
+use Rattle.wgsl_part_texts.specs.Texts.{IsTextOf, IsUnprintable}
 use Rattle.wgsl_builtin.specs.Builtin.{builtin_names}
 use Rattle.wesl_validate.specs.First.{first}
 use Rattle.wesl_validate.specs.Faults.{IsFaultless, IsFirstFault}
@@ -17,8 +11,6 @@ use Rattle.wgsl_lower_expressions.specs.Lowered.{Lowers}
 use Rattle.wgsl_lower.specs.Keeps.{AreClear, Keeps}
 use Rattle.weslc_unit.specs.declared.error.UnitRefusal.{UnitRefusal}
 use Rattle.weslc_unit.specs.declared.error.UnitRefusal.TheVariants.{Validate, UnclearName, Eval, Unprintable, OutOfMemory}
-use Rattle.weslc_unit.specs.declared.error.PrintError.{PrintError}
-use Rattle.weslc_unit.specs.declared.error.PrintError.TheVariants as print
 
 -- ---- the steps
 
@@ -35,14 +27,6 @@ pub record IsLowered (steps : ℕ) (unit low : UnitTree) : Type 0 where
   pub valid : IsValid unit
   pub clear : IsClear unit
   pub lowered : Lowers steps unit (Ok low)
-
--- the text is read as this tree
-abbrev pub IsTextOf : UnitTree → List ℕ → Type 0
-IsTextOf meant text = (unit : TranslationUnit) × Derives text unit × (unit_tree unit ≡ meant)
-
--- the text of a declaration is read as that declaration alone
-abbrev pub IsReadAlone : Decl → Type 0
-IsReadAlone d = IsTextOf (alone d) (decl_text d)
 
 -- ---- what is answered
 
@@ -62,24 +46,6 @@ pub record IsLoweredText (steps : ℕ) (unit : UnitTree) (text : List ℕ) : Typ
   pub whole : text ≡ unit_text low
   pub reads : IsTextOf low text
   pub keeps : AreClear unit.declarations → Keeps unit.declarations low.declarations
-
--- ---- what is told where a text is not read back
-
--- What is told of a declaration with this text and name: the reserved word where the text is at fault there, else the name.
-pub data IsToldOf (text name : List ℕ) : List ℕ → Type 0 where
-  reserved_word : (e : Error) → IsFaultOf text e → e.kind ≡ ReservedWord → IsToldOf text name (slice_range text e.span.start e.span.end)
-  the_name : ((e : Error) → IsFaultOf text e → e.kind ≢ ReservedWord) → IsToldOf text name name
-
--- What is told of declarations: of the first that is not read from its own text. Where each is read, nothing.
-pub data IsToldOfAll : List Decl → List ℕ → Type 0 where
-  nothing : IsToldOfAll [] []
-  of_first : {d : Decl} {ds : List Decl} {x : List ℕ} → (IsReadAlone d → ⊥) → IsToldOf (decl_text d) (declared_name d) x → IsToldOfAll (d ∷ ds) x
-  of_later : {d : Decl} {ds : List Decl} {x : List ℕ} → IsReadAlone d → IsToldOfAll ds x → IsToldOfAll (d ∷ ds) x
-
--- memory aside, this is told of the declarations
-abbrev pub TellsOf : List Decl → PrintError → Type 0
-TellsOf ds (print.Unprintable x) = IsToldOfAll ds x
-TellsOf ds print.OutOfMemory = ⊤
 
 -- ---- what is refused: each case after those before it don't hold
 
@@ -107,19 +73,14 @@ RefusesValues steps unit (Unprintable x) = ⊥
 -- a fault of a value, or that no text stands for what the unit is lowered to
 abbrev pub RefusesLowering : ℕ → UnitTree → UnitRefusal → Type 0
 RefusesLowering steps unit (Eval r) = Lowers steps unit (Err r)
-RefusesLowering steps unit (Unprintable x) = (low : UnitTree) × Lowers steps unit (Ok low) × (IsTextOf low (unit_text low) → ⊥) × IsToldOfAll low.declarations x
+RefusesLowering steps unit (Unprintable x) = (low : UnitTree) × Lowers steps unit (Ok low) × IsUnprintable low x
 RefusesLowering steps unit OutOfMemory = ⊤
 RefusesLowering steps unit (Validate f) = ⊥
 RefusesLowering steps unit (UnclearName x) = ⊥
-
--- memory aside, what is printed of the unit is not read as the unit
-abbrev pub IsUnprintable : UnitTree → PrintError → Type 0
-IsUnprintable unit (print.Unprintable x) = IsTextOf unit (unit_text unit) → ⊥
-IsUnprintable unit print.OutOfMemory = ⊤
 
 abbrev pub Refuses : ℕ → UnitTree → UnitRefusal → Type 0
 Refuses steps unit (Validate f) = IsFirstFault unit builtin_names f
 Refuses steps unit (UnclearName x) = IsValid unit × (first (unclear unit builtin_names) ≡ Some x)
 Refuses steps unit (Eval r) = IsValid unit × IsClear unit × Lowers steps unit (Err r)
-Refuses steps unit (Unprintable x) = (low : UnitTree) × IsLowered steps unit low × (IsTextOf low (unit_text low) → ⊥) × IsToldOfAll low.declarations x
+Refuses steps unit (Unprintable x) = (low : UnitTree) × IsLowered steps unit low × IsUnprintable low x
 Refuses steps unit OutOfMemory = ⊤

@@ -6,11 +6,11 @@ ghost use Rattle.wgsl_lower.specs.Keeps.{AreClear, Keeps};
 ghost use Rattle.wgsl_lower_expressions.specs.Lowered.{Lowers};
 ghost use Rattle.weslc_unit.specs.Compiled.{RefusesValues, IsLoweredText, RefusesLowering};
 
-use crate::error::{PrintError, UnitRefusal};
-use crate::printed::print_unit;
+use crate::error::UnitRefusal;
 use std::alloc::Global;
 use wgsl_items::OrOutOfMemory;
 use wgsl_lower::lower;
+use wgsl_part_texts::{PrintError, print_part};
 use wgsl_syntax::TranslationUnit;
 
 fn lowered(
@@ -40,7 +40,7 @@ pub fn print_lowered(
     ensures refusal { IfErr result (RefusesLowering max_steps (unit_tree unit.now)) }
 {
     let low = lowered(alloc, unit, max_steps)?;
-    match print_unit(alloc, &low) {
+    match print_part(alloc, low) {
         Ok(text) => Ok(text),
         Err(PrintError::Unprintable(name)) => Err(UnitRefusal::Unprintable(name)),
         Err(PrintError::OutOfMemory) => Err(UnitRefusal::OutOfMemory),

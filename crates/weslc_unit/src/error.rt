@@ -18,22 +18,10 @@ pub enum UnitRefusal {
     /// A const has no value, or what is rewritten is at fault.
     #[error("an evaluation goes wrong")]
     Eval(DeclarationFault),
-    /// What is compiled has no text: of its first declaration that isn't read from its own text, the reserved word at the
-    /// text's fault, else the declaration's name.
-    #[error("no text stands for {0}")]
-    Unprintable(Text),
-    /// Memory was refused. This says nothing of the unit.
-    #[error("out of memory")]
-    OutOfMemory,
-}
-
-/// Why a unit is not printed.
-#[derive(Debug, Drop, Message)]
-pub enum PrintError {
-    /// No text stands for the unit: of its first declaration that isn't read from its own text, the reserved word at the
-    /// text's fault, else the declaration's name.
-    #[error("no text stands for {0}")]
-    Unprintable(Text),
+    /// No text derives what is compiled. The name is that of the first node that no text derives, in the order of the text, though one derives
+    /// each of its parts; or that of the declaration that holds it, where the node has no name.
+    #[error("no text stands for what is compiled")]
+    Unprintable(Option<Text>),
     /// Memory was refused. This says nothing of the unit.
     #[error("out of memory")]
     OutOfMemory,
@@ -47,16 +35,5 @@ impl From<AllocError> for UnitRefusal {
 
     fn from(_: AllocError) -> UnitRefusal {
         UnitRefusal::OutOfMemory
-    }
-}
-
-impl From<AllocError> for PrintError {
-    ghost use Rattle.std.specs.Prelude.{◌≡◌};
-    ghost use Rattle.weslc_unit.specs.declared.error.PrintError.TheVariants.{OutOfMemory};
-
-    ghost from_gives = { λ _ e. e ≡ OutOfMemory };
-
-    fn from(_: AllocError) -> PrintError {
-        PrintError::OutOfMemory
     }
 }

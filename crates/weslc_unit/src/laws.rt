@@ -1,6 +1,5 @@
 //! Laws of compiled units. Each function states its law and does nothing.
 
-ghost use Rattle.weslc_unit.specs.ByDeclarations.{ReadByDeclarations};
 ghost use Rattle.weslc_unit.specs.Located.{RefusalsAreInDeclarations};
 ghost use Rattle.weslc_unit.specs.Once.{CompiledOnce, RefusedOnce, CompiledOrRefused};
 
@@ -22,9 +21,4 @@ pub fn refusals_are_in_declarations()
 /// A unit that is compiled is refused for memory alone.
 pub fn compiled_or_refused()
     ensures { CompiledOrRefused }
-{}
-
-/// The text of declarations is read as them exactly where the text of each is read as that declaration alone.
-pub fn read_by_declarations()
-    ensures { ReadByDeclarations }
 {}

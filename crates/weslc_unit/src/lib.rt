@@ -4,10 +4,8 @@
 mod compiled;
 mod error;
 pub mod laws;
-mod printed;
 
 pub use compiled::print_lowered;
-pub use error::{PrintError, UnitRefusal};
-pub use printed::{print_declaration, print_unit};
+pub use error::UnitRefusal;
 pub use wesl_validate::{ValidateError, ValidateFault};
 pub use wgsl_eval::{DeclarationFault, Fault, NameFault};

@@ -7,12 +7,12 @@ use std::collections::HashMap;
 use std::fmt::{Debug, Display};
 use wesl_validate::{ValidateFault, unclear_name, validate_wesl};
 use weslc_compiled::compile_unit;
-use weslc_unit::{UnitRefusal, print_declaration, print_unit};
+use weslc_unit::UnitRefusal;
 use wgsl_builtin::builtin_names;
 use wgsl_eval::{Declarations, Fault, Scope, Values, eval_ty, eval_value};
-use wgsl_items::{Items, OrOutOfMemory, Text};
+use wgsl_items::{CloneIn, Items, OrOutOfMemory, Text};
 use wgsl_lower::lower;
-use wgsl_parse::parse_str;
+use wgsl_part_texts::{PrintError, parse_part, print_part};
 use wgsl_scalar::{IntegerType, ScalarType};
 use wgsl_shader_type::LiteralInstance;
 use wgsl_syntax::{
@@ -59,6 +59,23 @@ impl Tell for ValidateFault {
     }
 }
 
+/// What is told of a unit that has no text.
+fn textless(alloc: Global, name: &Option<Text>) -> Result<String, AllocError> {
+    match name {
+        Some(name) => format!(in alloc; "no text stands for {}", name.as_str()),
+        None => String::from_str(alloc, "no text stands for it"),
+    }
+}
+
+impl Tell for PrintError {
+    fn tell(&self, alloc: Global) -> Result<String, AllocError> {
+        match self {
+            PrintError::Unprintable(name) => textless(alloc, name),
+            PrintError::OutOfMemory => Err(AllocError),
+        }
+    }
+}
+
 impl Tell for UnitRefusal {
     fn tell(&self, alloc: Global) -> Result<String, AllocError> {
         match self {
@@ -66,6 +83,7 @@ impl Tell for UnitRefusal {
                 let fault = found.fault.tell(alloc)?;
                 format!(in alloc; "{fault} in `{}`", found.declaration.as_str())
             }
+            UnitRefusal::Unprintable(name) => textless(alloc, name),
             refusal => refusal.to_string(alloc),
         }
     }
@@ -76,17 +94,6 @@ fn agree<T: PartialEq + Drop>(left: Option<T>, right: Option<T>) -> bool {
     match (&left, &right) {
         (Some(left), Some(right)) => *left == *right,
         _ => false,
-    }
-}
-
-/// The text of what a call gives, or of its refusal.
-fn told<T: Display + Drop, E: Display + Drop>(
-    alloc: Global,
-    answer: Result<T, E>,
-) -> Result<String, AllocError> {
-    match answer {
-        Ok(given) => given.to_string(alloc),
-        Err(error) => error.to_string(alloc),
     }
 }
 
@@ -105,7 +112,7 @@ fn maybe<T: Display + Drop>(
 fn reads_back(alloc: Global, unit: &TranslationUnit, text: &str) -> bool {
     agree(
         lower(alloc, unit, MAX_STEPS).ok(),
-        parse_str(alloc, text).ok(),
+        parse_part(alloc, text).ok(),
     )
 }
 
@@ -130,12 +137,24 @@ fn refused<E: Tell + Drop>(alloc: Global, answer: Result<(), E>) -> Result<Strin
     }
 }
 
-/// The text of the last declaration, or its refusal.
-fn last_printed(alloc: Global, unit: &TranslationUnit) -> Result<String, AllocError> {
-    match unit.global_declarations.as_slice().last() {
-        Some(last) => told(alloc, print_declaration(alloc, last.node())),
-        None => String::from_str(alloc, "no declaration"),
+/// The text of a unit, or its refusal.
+fn printed(alloc: Global, unit: TranslationUnit) -> Result<String, AllocError> {
+    match print_part(alloc, unit) {
+        Ok(text) => Ok(text),
+        Err(error) => error.tell(alloc),
     }
+}
+
+/// The text of the last declaration alone, or its refusal.
+fn last_printed(alloc: Global, unit: &TranslationUnit) -> Result<String, AllocError> {
+    let mut alone = TranslationUnit {
+        imports: Items::new(alloc),
+        global_declarations: Items::new(alloc),
+    };
+    if let Some(last) = unit.global_declarations.as_slice().last() {
+        alone.global_declarations.push(last.clone_in(alloc)?)?;
+    }
+    printed(alloc, alone)
 }
 
 /// Adds `fn NAME() {}`, maybe under a name that no text has.
@@ -237,7 +256,7 @@ fn of_unit(alloc: Global, call: &str, unit: &TranslationUnit) -> Result<String, 
         "validate_wesl" => refused(alloc, validate_wesl(alloc, unit, builtin_names())),
         "unclear_name" => maybe(alloc, unclear_name(alloc, unit, builtin_names())),
         "print_declaration" => last_printed(alloc, unit),
-        "print_unit" => told(alloc, print_unit(alloc, unit)),
+        "print_unit" => printed(alloc, unit.clone_in(alloc)?),
         call => first_evaluated(alloc, call, unit),
     }
 }
@@ -272,5 +291,5 @@ fn of_read<T: Called + Drop, E: Display + Drop>(
 /// What a call on the unit of a text gives. A second text is the name of a function that is added.
 pub fn answer(alloc: Global, call: &str, with: &str) -> Result<String, AllocError> {
     let (text, function) = cut(with);
-    of_read(alloc, call, function, parse_str(alloc, text))
+    of_read(alloc, call, function, parse_part(alloc, text))
 }

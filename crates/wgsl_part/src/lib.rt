@@ -4,7 +4,9 @@
 mod declarations;
 mod error;
 mod expressions;
+mod in_part;
 pub mod laws;
 
 pub use declarations::narrow;
 pub use error::NarrowError;
+pub use in_part::is_in_part;

@@ -1,0 +1,5 @@
+pub mod Reading
+pub mod Printing
+pub mod Laws
+pub mod Told
+pub mod Widened

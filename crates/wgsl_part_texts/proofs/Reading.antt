@@ -1,0 +1,40 @@
+-- What is parsed of a text, and that it is one thing.
+use Rattle.std.proofs.Common.{◌≡◌, inl, inr, sym, ap, ◌∙◌, ℕ, List, true, false, Result, Ok, Err}
+use Rattle.wgsl_error.specs.declared.error.ErrorKind.TheVariants as kind
+use Rattle.wgsl_error.specs.declared.error.Error.{Error}
+use Rattle.wgsl_declarations.specs.declared.unit.TranslationUnit.{TranslationUnit as Module}
+use Rattle.wgsl_declarations.specs.View as whole
+use Rattle.wgsl_parser.specs.Texts.{ParsesModule, IsModuleFault}
+use Rattle.wgsl_syntax.specs.declared.unit.TranslationUnit.{TranslationUnit}
+use Rattle.wgsl_syntax.specs.View.{unit_tree}
+use Rattle.wgsl_part.specs.InPart.{is_unit}
+use Rattle.wgsl_part.specs.Narrowing.{Narrows}
+use Rattle.wgsl_part.specs.declared.error.NarrowError.{NarrowError}
+use Rattle.wgsl_part.specs.declared.error.NarrowError.TheVariants as narrowing
+use Rattle.wgsl_part.proofs.Lying.{one_unit}
+use Rattle.wgsl_part_texts.specs.declared.error.PartError.{PartError}
+use Rattle.wgsl_part_texts.specs.declared.error.PartError.TheVariants as refusal
+use Rattle.wgsl_part_texts.specs.Texts.{Parses, Finds, of_narrowing}
+
+pub found : (module_ : Module) (u : TranslationUnit) → Narrows (whole.unit_tree module_) (Ok u) → is_unit (unit_tree u) ≡ true → Finds module_ (Ok u)
+found m u is there = (is, there)
+
+pub more_than_part : (module_ : Module) (u : TranslationUnit) → Narrows (whole.unit_tree module_) (Ok u) → is_unit (unit_tree u) ≡ false → Finds module_ (Err refusal.Unsupported)
+more_than_part m u is not_there v lies v_in =
+    let same : v ≡ unit_tree u = one_unit v (unit_tree u) (lies ∙ sym is) in
+    let wrong : is_unit v ≡ false = ap is_unit same ∙ not_there in absurd (cc)
+
+pub none_found : (module_ : Module) (e : NarrowError) → Narrows (whole.unit_tree module_) (Err e) → Finds module_ (Err (of_narrowing e))
+none_found m narrowing.Unsupported none v lies v_in = none v lies
+none_found m narrowing.OutOfMemory none = tt
+
+pub parsed : (text : List ℕ) (module_ : Module) (r : Result TranslationUnit PartError) → ParsesModule text (Ok module_) → Finds module_ r → Parses text r
+parsed text m (Ok u) says (is, there) = record { is_text = record { unit = m; says = says; tree = sym is }; in_part = there }
+parsed text m (Err (refusal.Syntax e)) says wrong = absurd wrong
+parsed text m (Err refusal.Unsupported) says none = record { unit = m; says = says; beyond = none }
+parsed text m (Err refusal.OutOfMemory) says none = tt
+
+-- an error of another kind than want of memory is the fault of the text
+pub whole_fault : (text : List ℕ) (e : Error) → (e.kind ≡ kind.OutOfMemory → ⊥) → ParsesModule text (Err e) → IsModuleFault text e
+whole_fault text e other (inl fault) = fault
+whole_fault text e other (inr memory) = absurd (other (ap (λ (x : Error). x.kind) memory))

@@ -1,0 +1,15 @@
+//! Texts of the part of the language that `link` and `compile` read: modules that are parsed as units of the part, and units that are
+//! printed, by the whole grammar.
+#![tactic(auto)]
+
+mod declarations;
+mod error;
+mod expressions;
+pub mod laws;
+mod parse;
+mod print;
+
+pub use declarations::widen;
+pub use error::{PartError, PrintError};
+pub use parse::parse_part;
+pub use print::print_part;

@@ -1,0 +1,38 @@
+//! Texts parsed as units of the part.
+
+ghost use Rattle.wgsl_part_texts.specs.Texts.{Parses, Finds};
+
+use crate::error::PartError;
+use std::alloc::Global;
+use wgsl_declarations as whole;
+use wgsl_parser::{ErrorKind, parse_str};
+use wgsl_part::{is_in_part, narrow};
+use wgsl_syntax::TranslationUnit;
+
+/// The unit of the part that a module is.
+#[tactic(auto, using(crate::proofs::Reading::found, crate::proofs::Reading::more_than_part, crate::proofs::Reading::none_found))]
+fn unit_of(alloc: Global, module: &whole::TranslationUnit) -> Result<TranslationUnit, PartError>
+    ensures { Finds module.now result }
+{
+    let unit = narrow(alloc, module)?;
+    if is_in_part(&unit) {
+        Ok(unit)
+    } else {
+        Err(PartError::Unsupported)
+    }
+}
+
+/// The unit of the part of which this is a text, or the first fault of the text, or that it is a module which uses what is beyond the part.
+/// Places are those in the text, in bytes.
+#[tactic(auto, using(crate::proofs::Reading::parsed, crate::proofs::Reading::whole_fault))]
+pub fn parse_part(alloc: Global, text: &str) -> Result<TranslationUnit, PartError>
+    ensures { Parses text.now result }
+{
+    match parse_str(alloc, text) {
+        Ok(module) => unit_of(alloc, &module),
+        Err(error) => match error.kind {
+            ErrorKind::OutOfMemory => Err(PartError::OutOfMemory),
+            _ => Err(PartError::Syntax(error)),
+        },
+    }
+}

@@ -1,0 +1,26 @@
+//! Units of the part that are printed.
+
+ghost use Rattle.wgsl_syntax.specs.View.{unit_tree};
+ghost use Rattle.wgsl_part_texts.specs.Texts.{Prints};
+
+use crate::declarations::widen;
+use crate::error::PrintError;
+use std::alloc::Global;
+use wgsl_check_unit::{Unprintable, print_checked};
+use wgsl_syntax::TranslationUnit;
+
+/// The text of a unit, which is read as that unit. Where no text is, it says so, and names the first node that no text derives, or the
+/// declaration that holds it.
+#[tactic(auto, using(crate::proofs::Printing::printed, crate::proofs::Printing::refused))]
+pub fn print_part(alloc: Global, unit: TranslationUnit) -> Result<String, PrintError>
+    ensures { Prints (unit_tree unit) result }
+{
+    let widened = widen(alloc, &unit);
+    drop(unit);
+    let mut module = widened?;
+    match print_checked(alloc, &mut module) {
+        Ok(text) => Ok(text),
+        Err(Unprintable::Node(name)) => Err(PrintError::Unprintable(name)),
+        Err(Unprintable::OutOfMemory) => Err(PrintError::OutOfMemory),
+    }
+}
