@@ -3,3 +3,4 @@ pub mod Printing
 pub mod Laws
 pub mod Told
 pub mod Widened
+pub mod Steps

@@ -1,4 +1,0 @@
-pub mod Terminals
-pub mod Expressions
-pub mod Attributes
-pub mod Declarations

@@ -1,0 +1,12 @@
+use Rattle.std.proofs.Common.{ap, ◌∙◌, map, Some}
+use Rattle.wgsl_statements.specs.View as whole
+use Rattle.wgsl_statements.specs.View.{stms}
+use Rattle.wgsl_syntax.specs.View.{statement_tree}
+use Rattle.wgsl_part.specs.Widening.{widen_stm}
+use Rattle.wgsl_part_texts.proofs.Widened.{all_of, stms_of}
+use Rattle.wgsl_part_texts.proofs.declarations.widen_statements.Goals as goal
+
+pub returns : goal.returns
+returns c =
+    ap stms (all_of (λ s. Some (widen_stm s)) (λ n. statement_tree n.node) (λ n. whole.statement_tree n.node) c.args.nodes.now c.loop-node.node-index c.loop-node.widened c.loop-node-test.false c.loop-node.invariant)
+    ∙ stms_of (map (λ n. statement_tree n.node) c.args.nodes.now)

@@ -1,4 +1,0 @@
-//! Laws of what the crates below define. Each is the contract of a function that does nothing.
-#![tactic(auto)]
-
-pub mod laws;
