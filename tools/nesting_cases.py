@@ -3,8 +3,8 @@
 
 usage: tools/nesting_cases.py
 
-`link` and `compile` take 2,000 parentheses and operators up to a `;`; one more is refused as memory is. `precompile` takes trees of 1,000
-levels, of which a declaration needs some. So each case that is taken shows that the deepest walk of its command fits the stack. What a case wants follows from how texts are printed."""
+`link` and `compile` take 2,000 parentheses and operators up to a `;`; one more is refused as memory is. `precompile` takes trees of 4,200
+levels, of which a declaration needs some and a call two. So each case that is taken shows that the deepest walk of its command fits the stack. What a case wants follows from how texts are printed."""
 import json
 import os
 
@@ -18,6 +18,12 @@ def shapes(depth):
     yield "a product", "x" + " * 1" * depth
     yield "parentheses", "(" * depth + "x" + ")" * depth
     yield "minus signs", "- " * (depth - 1) + "-x"
+
+
+def levels(depth):
+    """Expressions of so many levels, or one more: their names and texts."""
+    yield from shapes(depth)
+    yield "calls", "f(" * (depth // 2) + "x" + ")" * (depth // 2)
 
 
 def case(name, command, text, answer, keep):
@@ -45,10 +51,10 @@ def cases():
             for shape, expression in shapes(depth):
                 text, printed = function(expression)
                 yield case(f"{command}: {shape} of {depth}", command, text, printed if depth == 1999 else None, ["g"])
-    for depth in (990, 1001):
-        for shape, expression in shapes(depth):
+    for depth in (4190, 4201):
+        for shape, expression in levels(depth):
             text, printed = constant(expression)
-            yield case(f"precompile: {shape} of {depth}", "precompile", text, printed if depth == 990 else None, [])
+            yield case(f"precompile: {shape} of {depth}", "precompile", text, printed if depth == 4190 else None, [])
 
 
 with open(PATH, "w", encoding="utf-8") as file:

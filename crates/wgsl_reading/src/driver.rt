@@ -19,7 +19,7 @@ use wgsl_stack::Stack;
 use wgsl_template_spec::SpannedTemplateToken;
 
 /// How deep trees may be nested. A deeper one is refused as if memory were: what walks trees takes room on the call stack at each level.
-pub const MAX_DEPTH: u32 = 1000;
+pub const MAX_DEPTH: u32 = 4200;
 
 /// What a text or some tokens are read as.
 #[derive(Clone, Copy, Debug, PartialEq, Eq)]
