@@ -3,8 +3,8 @@
 
 usage: tools/nesting_cases.py
 
-`link` and `compile` take 2,000 parentheses and operators up to a `;`; one more is refused as memory is. `precompile` takes trees of 4,200
-levels, of which a declaration needs some and a call two. So each case that is taken shows that the deepest walk of its command fits the stack. What a case wants follows from how texts are printed."""
+Each command takes trees of 4,200 levels, of which a declaration needs some and a call two; deeper ones are refused as memory is. So each
+case that is taken shows that the deepest walk of its command fits the stack. What a case wants follows from how texts are printed."""
 import json
 import os
 
@@ -12,18 +12,13 @@ PATH = os.path.join(os.path.dirname(os.path.dirname(os.path.realpath(__file__)))
 REFUSED = "error: OutOfMemory - - - -\n"
 
 
-def shapes(depth):
-    """Expressions of so many nested signs: their names and texts."""
+def levels(depth):
+    """Expressions of so many levels, or one more: their names and texts."""
     yield "a sum", "x" + " + 1" * depth
     yield "a product", "x" + " * 1" * depth
     yield "parentheses", "(" * depth + "x" + ")" * depth
     yield "minus signs", "- " * (depth - 1) + "-x"
-
-
-def levels(depth):
-    """Expressions of so many levels, or one more: their names and texts."""
-    yield from shapes(depth)
-    yield "calls", "f(" * (depth // 2) + "x" + ")" * (depth // 2)
+    yield "calls", "i32(" * (depth // 2) + "x" + ")" * (depth // 2)
 
 
 def case(name, command, text, answer, keep):
@@ -45,16 +40,14 @@ def constant(expression):
 
 
 def cases():
-    for command in ("link", "compile"):
-        # of the 2,000 one is the parenthesis before the function's parameter
-        for depth in (1999, 2000):
-            for shape, expression in shapes(depth):
-                text, printed = function(expression)
-                yield case(f"{command}: {shape} of {depth}", command, text, printed if depth == 1999 else None, ["g"])
     for depth in (4190, 4201):
         for shape, expression in levels(depth):
+            fits = depth == 4190
+            for command in ("link", "compile"):
+                text, printed = function(expression)
+                yield case(f"{command}: {shape} of {depth}", command, text, printed if fits else None, ["g"])
             text, printed = constant(expression)
-            yield case(f"precompile: {shape} of {depth}", "precompile", text, printed if depth == 4190 else None, [])
+            yield case(f"precompile: {shape} of {depth}", "precompile", text, printed if fits else None, [])
 
 
 with open(PATH, "w", encoding="utf-8") as file:
