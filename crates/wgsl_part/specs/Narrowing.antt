@@ -1,4 +1,4 @@
--- The tree of the part that a tree of the whole language is, where it is one.
+-- The tree of a unit that a tree of the whole language is, where it is one.
 use Rattle.std.specs.Prelude.{◌≡◌, ⊤, ℕ, List, [], ◌∷◌, ◌++◌, Option, Some, None, Result, Ok, Err}
 use Rattle.std.specs.Option.{option_map, option_zip}
 use Rattle.wgsl_syntax.specs.declared.expression.LiteralExpression.{LiteralExpression}
@@ -140,7 +140,7 @@ AnswersOptional tree narrow o (Ok x) = maybe narrow o ≡ Some (option_map tree 
 AnswersOptional tree narrow o (Err Unsupported) = maybe narrow o ≡ None
 AnswersOptional tree narrow o (Err OutOfMemory) = ⊤
 
--- Memory aside: a unit of the part that the module is, or there is none.
+-- Memory aside: a unit that the module is, or there is none.
 abbrev pub Narrows : decl.UnitTree → Result TranslationUnit NarrowError → Type 0
 Narrows u (Ok unit) = widen_unit (unit_tree unit) ≡ u
 Narrows u (Err Unsupported) = (v : UnitTree) → widen_unit v ≡ u → ⊥

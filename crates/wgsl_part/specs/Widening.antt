@@ -1,5 +1,4 @@
--- The trees of the part of the language among those of the whole language: what a tree of the part is there. A tree of the whole language lies in
--- the part where some tree of the part is it.
+-- The trees of `wgsl_syntax` among those of the whole language: what each of them is there.
 use Rattle.std.specs.Prelude.{List, [], ◌∷◌, map}
 use Rattle.std.specs.Option.{option_map}
 use Rattle.wgsl_syntax.specs.declared.expression.LiteralExpression.{LiteralExpression}

@@ -1,4 +1,4 @@
-//! Statements, declarations, imports and modules of the part.
+//! Statements, declarations and imports of units, and units.
 
 ghost use Rattle.std.specs.Prelude.{map, Some};
 ghost use Rattle.wgsl_statements.specs.View as whole_statements;
@@ -260,7 +260,8 @@ fn narrowed(alloc: Global, unit: &whole::TranslationUnit) -> Result<TranslationU
     })
 }
 
-/// The unit of the part that a module of the whole language is, places too; or an error, where no unit of the part is it.
+/// The unit that a module of the whole language is, places too; or an error, where no unit is it. It may hold more than the part of the language
+/// that `link` and `compile` read.
 #[tactic(auto, using(crate::proofs::Lying::narrows))]
 pub fn narrow(alloc: Global, unit: &whole::TranslationUnit) -> Result<TranslationUnit, NarrowError>
     ensures { Narrows (whole.unit_tree unit.now) result }

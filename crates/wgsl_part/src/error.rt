@@ -5,7 +5,7 @@ use std::alloc::AllocError;
 /// Why a module is not narrowed.
 #[derive(Clone, Copy, Debug, PartialEq)]
 pub enum NarrowError {
-    /// It uses what the trees of the part have not.
+    /// It uses what no unit has.
     Unsupported,
     /// Memory was refused. This says nothing of the module.
     OutOfMemory,

@@ -1,4 +1,4 @@
-//! Expressions, types and attributes of the part.
+//! Expressions, types and attributes of units.
 
 ghost use Rattle.std.specs.Prelude.{map};
 ghost use Rattle.std.specs.Option.{option_map};

@@ -1,4 +1,5 @@
-//! The trees of the part of the language (`wgsl_syntax`), among the trees of the whole language.
+//! Units, the trees of `wgsl_syntax`, among the trees of the whole language; and whether a unit has nothing but the part of the language that
+//! `link` and `compile` read.
 #![tactic(auto)]
 
 mod declarations;

@@ -1,4 +1,4 @@
-//! Statements, declarations, imports and units of the part as those of the whole language.
+//! Statements, declarations and imports of units, and units, as those of the whole language.
 
 ghost use Rattle.std.specs.Prelude.{◌≡◌, ◌∷◌, [], Some, map, IfOk};
 ghost use Rattle.wgsl_statements.specs.View as whole_statements;
@@ -228,7 +228,7 @@ fn widen_imports(
     Ok(widened)
 }
 
-/// The module of the whole language that a unit of the part is, places too.
+/// The module of the whole language that a unit is, places too.
 pub fn widen(alloc: Global, unit: &TranslationUnit) -> Result<whole::TranslationUnit, AllocError>
     ensures { IfOk result (λ w. whole.unit_tree w ≡ widen_unit (unit_tree unit.now)) }
 {

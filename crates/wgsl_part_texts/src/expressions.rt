@@ -1,4 +1,4 @@
-//! Expressions, types and attributes of the part as those of the whole language.
+//! Expressions, types and attributes of units as those of the whole language.
 
 ghost use Rattle.std.specs.Prelude.{◌≡◌, map, IfOk};
 ghost use Rattle.std.specs.Option.{option_map};

@@ -1,4 +1,4 @@
-//! Units of the part that are printed.
+//! Units that are printed.
 
 ghost use Rattle.wgsl_syntax.specs.View.{unit_tree};
 ghost use Rattle.wgsl_part_texts.specs.Texts.{Prints};
