@@ -17,7 +17,7 @@ use Rattle.wesl_meaning.proofs.Clashes.{clashes_are_one}
 use Rattle.wesl_meaning.proofs.Loading.{loaded_modules}
 use Rattle.wesl_link.specs.Recording.{Telling}
 use Rattle.wgsl_part_texts.specs.Texts.{IsTextOf, IsUnprintable}
-use Rattle.wgsl_part_texts.proofs.Laws.{units_are_told_once}
+use Rattle.wgsl_part_texts.proofs.Whole.{units_are_told_once}
 use Rattle.weslc_unit.specs.Compiled.{IsCompiled, Refuses}
 use Rattle.weslc_unit.specs.declared.error.UnitRefusal.{UnitRefusal}
 use Rattle.weslc_unit.specs.declared.error.UnitRefusal.TheVariants as of

@@ -3,7 +3,7 @@ use Rattle.std.proofs.Common.{◌≡◌, List, ℕ, Option, Some, None, sym, ap,
 use Rattle.wgsl_syntax.specs.Tree.{UnitTree}
 use Rattle.wgsl_part_texts.specs.Texts.{IsTextOf, IsUnitOfPart}
 use Rattle.wgsl_part_texts.specs.Laws.{HaveSameTokens}
-use Rattle.wgsl_part_texts.proofs.Laws.{texts_have_one_unit, texts_are_one_thing, same_tokens_are_the_same_unit, imports_of_texts_are_apart}
+use Rattle.wgsl_part_texts.proofs.Whole.{texts_have_one_unit, texts_are_one_thing, same_tokens_are_the_same_unit, imports_of_texts_are_apart}
 use Rattle.wesl_resolve.specs.Found.{Answer, unit_of, not_found, faulty, unsupported}
 use Rattle.wesl_link_spec.specs.Occurrences.{Name}
 use Rattle.wesl_link_spec.specs.Modules.{Path}

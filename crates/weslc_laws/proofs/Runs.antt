@@ -3,7 +3,7 @@ use Rattle.std.proofs.Common.{List, Ok, subst}
 use Rattle.wgsl_syntax.specs.Tree.{UnitTree}
 use Rattle.wgsl_syntax.specs.Print.{unit_text}
 use Rattle.wgsl_lower.proofs.Whole.{keeps_if}
-use Rattle.wgsl_part_texts.proofs.Laws.{texts_have_one_unit, units_are_read_back}
+use Rattle.wgsl_part_texts.proofs.Whole.{texts_have_one_unit, units_are_read_back}
 use Rattle.wesl_link_spec.specs.Modules.{Path, Modules}
 use Rattle.wesl_meaning.specs.Runs.{AreLinkedWell}
 use Rattle.wesl_link_spec.specs.Occurrences.{Name}

@@ -17,7 +17,7 @@ use Rattle.wgsl_lower.proofs.Once.{lowered_once}
 use Rattle.wesl_validate.specs.Faults.{fault, IsFaultless, IsFirstFault, duplicate, undefined, miscall, ring}
 use Rattle.weslc_unit.specs.declared.error.UnitRefusal.TheVariants.{Validate, UnclearName, Eval, Unprintable, OutOfMemory}
 use Rattle.wgsl_part_texts.specs.Texts.{IsTextOf, IsUnprintable}
-use Rattle.wgsl_part_texts.proofs.Laws.{units_are_told_once}
+use Rattle.wgsl_part_texts.proofs.Whole.{units_are_told_once}
 use Rattle.weslc_unit.specs.Compiled.{IsLowered, IsCompiled}
 use Rattle.weslc_unit.specs.Once.{CompiledOnce, RefusedOnce, CompiledOrRefused}
 

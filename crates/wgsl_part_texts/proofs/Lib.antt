@@ -1,6 +1,6 @@
 pub mod Reading
 pub mod Printing
-pub mod Laws
+pub mod Whole
 pub mod Told
 pub mod Widened
 pub mod Steps

@@ -25,7 +25,7 @@ more_than_part m u is not_there v lies v_in =
     let wrong : is_unit v ≡ false = ap is_unit same ∙ not_there in absurd (cc)
 
 pub none_found : (module_ : Module) (e : NarrowError) → Narrows (whole.unit_tree module_) (Err e) → Finds module_ (Err (of_narrowing e))
-none_found m narrowing.Unsupported none v lies v_in = none v lies
+none_found m narrowing.Unsupported none = λ v lies _. none v lies
 none_found m narrowing.OutOfMemory none = tt
 
 pub parsed : (text : List ℕ) (module_ : Module) (r : Result TranslationUnit PartError) → ParsesModule text (Ok module_) → Finds module_ r → Parses text r

@@ -1,4 +1,4 @@
-use Rattle.wgsl_part_texts.proofs.Laws as law
+use Rattle.wgsl_part_texts.proofs.Whole as law
 use Rattle.wgsl_part_texts.proofs.laws.same_tokens_are_the_same_unit.Goals as goal
 
 pub returns : goal.returns
