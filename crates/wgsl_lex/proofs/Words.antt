@@ -1,16 +1,10 @@
 -- The table of words.
-use Rattle.std.specs.Prelude.{not, Option, Some, None, Result, Ok, Err, MatchResult, is_none}
+use Rattle.std.specs.Prelude.{not, nat_lt, Option, Some, None, is_none}
 use Rattle.std.proofs.Math.Utf8.{encode}
-use Rattle.std.proofs.Common.{◌≡◌, ℕ, zero, suc, ◌+◌, ◌<◌, ◌≤◌, Bool, true, false, ◌||◌, ◌⊎◌, inl, inr, List, [], ◌∷◌, length, get_or, refl, sym, ◌∙◌, ap, arith}
+use Rattle.std.proofs.Common.{◌≡◌, ℕ, zero, suc, ◌%◌, ◌<◌, Bool, true, false, ◌||◌, inl, inr, List, [], ◌∷◌, length, get_or, map, refl, sym, ◌∙◌, ap, arith}
 use Rattle.std.specs.List.{list_all, list_any}
-use Rattle.std.specs.List.Sorted.{IsSortedBy, IsBinarySearchResult}
-use Rattle.std.specs.declared.cmp.Ordering.TheVariants.{Equal}
-use Rattle.std.specs.Ordering.{is_lt, is_eq, nat_cmp}
 use Rattle.std.specs.Str.{bytes_eq, encode_utf8_all}
-use Rattle.std.specs.Cmp.Lexicographic.{slice_cmp}
-use Rattle.std.proofs.lemmas.Cmp.{nat_list_cmp_total}
-use Rattle.std.proofs.lemmas.List.Sorted.{searchable_from_sorted}
-use Rattle.std.proofs.lemmas.Map.Text.{is_eq-slice_cmp}
+use Rattle.std.proofs.lemmas.Bool.{ltb-true}
 use Rattle.std.proofs.lemmas.Slice.Eq.{bytes_eq-Decides}
 use Rattle.std.proofs.lemmas.Str.{encodes_same}
 use Rattle.unicode_ident.proofs.Computing.{unicode_ident}
@@ -19,61 +13,12 @@ use Rattle.wgsl_token.specs.declared.token.Token.TheVariants.{Fixed, Identifier,
 use Rattle.wgsl_token.specs.Spelling.{spelling}
 use Rattle.wgsl_lex.specs.declared.word.TheConstants.{WORDS}
 use Rattle.wgsl_lex.specs.Tokens.{all_fixed, fixed_of, reserved_words, is_reserved, is_word, begins_with_two_underscores, word_token, token_form}
-use Rattle.wgsl_lex.specs.Rows.{ascends, IsFound, found, missing}
+use Rattle.wgsl_lex.specs.declared.rows.TheConstants.{ROWS}
+use Rattle.wgsl_lex.specs.Rows.{row, IsRow, is_there, is_other}
 use Rattle.wgsl_lex.specs.Pieces.{IsListed, listed, unlisted, is_meaning, is_listable}
 use Rattle.wgsl_lex.proofs.Bools.{not_both}
 use Rattle.wgsl_lex.proofs.Tables.{fixed_passes, no_fixed, fixed_of-spelling}
 use Rattle.wgsl_items.proofs.Bools.{and_both as both, or_cases as either, false_if as fails}
-
--- A binary search of a table in order
-
-not_true : (b : Bool) → not b ≡ true → b ≡ false
-not_true true e = sym e
-not_true false e = refl
-
-nowhere : {X : Type 0} (p : X → Bool) (xs : List X) → ((k : ℕ) (d : X) → k < length xs → p (get_or xs k d) ≡ false) → list_any p xs ≡ false
-nowhere p [] h = refl
-nowhere p (x ∷ xs) h =
-    let here : p x ≡ false = h 0 x (omega arith) in
-    rw here (nowhere p xs (λ k d l. h (suc k) d (omega arith)))
-
-module _ {X : Type 0} (spelled : X → List ℕ) where
-  before : X → X → Bool
-  before a b = is_lt (slice_cmp nat_cmp (spelled a) (spelled b))
-
-  ascending : (xs : List X) → ascends spelled xs ≡ true → (k : ℕ) (d : X) → k + 1 < length xs → before (get_or xs (k + 1) d) (get_or xs k d) ≡ false
-  unfolding ascends before
-  ascending [] e k d h = absurd (omega arith)
-  ascending (x ∷ []) e k d h = absurd (omega arith)
-  ascending (x ∷ y ∷ xs) e zero d h = not_true _ (both (not (before y x)) (ascends spelled (y ∷ xs)) e).0
-  ascending (x ∷ y ∷ xs) e (suc k) d h =
-      let one : suc k + 1 ≡ suc (k + 1) = omega arith in
-      ap (λ n. before (get_or (x ∷ y ∷ xs) n d) (get_or (y ∷ xs) k d)) one ∙ ascending (y ∷ xs) (both (not (before y x)) (ascends spelled (y ∷ xs)) e).1 k d (omega arith)
-
-  table_sorted : (xs : List X) → ascends spelled xs ≡ true → IsSortedBy (λ a b. is_lt (slice_cmp nat_cmp (spelled a) (spelled b))) xs
-  unfolding before
-  table_sorted xs e = λ k d low h. ascending xs e k d h
-
-  module _ (word : List ℕ) where
-    equal_spelled : (e : X) → slice_cmp nat_cmp (spelled e) word ≡ Equal → spelled e ≡ word
-    equal_spelled e h = (bytes_eq-Decides (spelled e) word).0 (sym (is_eq-slice_cmp (spelled e) word) ∙ ap is_eq h)
-
-    other_spelled : (e : X) → is_eq (slice_cmp nat_cmp (spelled e) word) ≡ false → bytes_eq (spelled e) word ≡ false
-    other_spelled e h = sym (is_eq-slice_cmp (spelled e) word) ∙ h
-
-    pub searched_table : (xs : List X) (r : Result ℕ ℕ) → ascends spelled xs ≡ true → IsBinarySearchResult (λ e. slice_cmp nat_cmp (spelled e) word) xs r
-        → MatchResult r (λ at. (d : X) → spelled (get_or xs at d) ≡ word) (λ _. list_any (λ e. bytes_eq (spelled e) word) xs ≡ false)
-    searched_table xs (Ok at) up h = λ d. equal_spelled (get_or xs at d) (h d)
-    searched_table xs (Err at) up h =
-        let parts = h (searchable_from_sorted nat_list_cmp_total spelled xs word (table_sorted xs up)) in
-        nowhere (λ e. bytes_eq (spelled e) word) xs
-        (λ k d l. elim (side k at) [
-          | inl low ↦ other_spelled (get_or xs k d) (ap is_eq (parts.0 k d (omega arith) low))
-          | inr high ↦ other_spelled (get_or xs k d) (ap is_eq (parts.1 k d high l))
-        ])
-      where
-        side : (k i : ℕ) → (k < i) ⊎ (i ≤ k)
-        side k i = search arith
 
 -- What the rows say
 
@@ -129,6 +74,35 @@ rows_listable = refl
 
 pub not_listable : (word : List ℕ) → is_listable word ≡ false → has_row word ≡ false
 not_listable word fail = fails (has_row word) (λ there. not_both (is_listable word) (any_passes (λ e. e.0.now) is_listable WORDS word rows_listable there) fail)
+
+-- each word of the table stands in the row of its place
+abbrev stands_in_row : List ℕ → Bool
+stands_in_row word = bytes_eq (get_or (map (λ e. e.0.now) WORDS) (row word) []) word
+
+rows_placed : list_all (λ e. stands_in_row e.0.now) WORDS ≡ true
+rows_placed = refl
+
+mapped_there : {X : Type 0} (f : X → List ℕ) (xs : List X) (k : ℕ) (d : X) → k < length xs → get_or (map f xs) k [] ≡ f (get_or xs k d)
+mapped_there f [] k d h = absurd (omega arith)
+mapped_there f (x ∷ xs) zero d h = refl
+mapped_there f (x ∷ xs) (suc k) d h = mapped_there f xs k d (omega arith)
+
+rows_within : list_all (λ k. nat_lt k 172) ROWS ≡ true
+rows_within = refl
+
+-- each row is one of the table
+pub row_within : (k n d : ℕ) → k ≡ n % 1024 → get_or ROWS k d < 172
+row_within k n d e = ltb-true (get_or ROWS k d) 172 (at_row (λ i. nat_lt i 172) ROWS rows_within k d (omega arith))
+
+-- what a table that agrees with `WORDS` has in that row
+pub listed_from : {X : Type 0} (spelled : X → List ℕ) (fixed : X → Option FixedToken) (xs : List X) (k : ℕ) (word : List ℕ) (answer : Option (Option FixedToken)) → list_all (λ e. is_meaning (spelled e) (fixed e)) xs ≡ true
+    → map spelled xs ≡ map (λ e. e.0.now) WORDS → k ≡ row word → k < length xs → IsRow spelled fixed xs k word answer → IsListed word answer
+listed_from spelled fixed xs k word _ mean agree e within (is_there d same) =
+    listed (ap (λ w. is_meaning w (fixed (get_or xs k d))) (sym ((bytes_eq-Decides (spelled (get_or xs k d)) word).0 same)) ∙ at_row (λ r. is_meaning (spelled r) (fixed r)) xs mean k d within)
+listed_from spelled fixed xs k word _ mean agree e within (is_other d other) =
+    let here : get_or (map (λ r. r.0.now) WORDS) (row word) [] ≡ spelled (get_or xs k d) = ap (λ l. get_or l (row word) []) (sym agree) ∙ ap (λ j. get_or (map spelled xs) j []) (sym e) ∙ mapped_there spelled xs k d within in
+    let there : stands_in_row word ≡ false = ap (λ w. bytes_eq w word) here ∙ other in
+    unlisted (fails (has_row word) (λ h. not_both (stands_in_row word) (any_passes (λ r. r.0.now) stands_in_row WORDS word rows_placed h) there))
 
 reserved_passes : (p : List ℕ → Bool) → list_all p reserved_words ≡ true → (cs : List ℕ) → is_reserved cs ≡ true → p cs ≡ true
 unfolding is_reserved
@@ -191,13 +165,6 @@ module _ (cs b : List ℕ) (text : b ≡ encode_utf8_all cs) where
       not_both (has_row cs) (reserved_passes has_row reserved_have_rows cs r) (ap has_row (sym (text ∙ own)) ∙ none))
       in
       word_is_token cs unfixed w ∙ ap Some (rw (u, unreserved) (ap Identifier (sym text)))
-
--- a table that agrees with `WORDS`
-pub listed_from : {X : Type 0} (spelled : X → List ℕ) (fixed : X → Option FixedToken) (xs : List X) (word : List ℕ) (answer : Option (Option FixedToken)) → list_all (λ e. is_meaning (spelled e) (fixed e)) xs ≡ true
-    → (list_any (λ e. bytes_eq (spelled e) word) xs ≡ false → has_row word ≡ false) → IsFound spelled fixed xs word answer → IsListed word answer
-listed_from spelled fixed xs word _ right same (found k d within is) =
-    listed (ap (λ w. is_meaning w (fixed (get_or xs k d))) (sym is) ∙ at_row (λ e. is_meaning (spelled e) (fixed e)) xs right k d within)
-listed_from spelled fixed xs word _ right same (missing none) = unlisted (same none)
 
 pub listed_right : (b : List ℕ) (answer : Option FixedToken) → IsListed b (Some answer) → is_meaning b answer ≡ true
 listed_right b _ (listed right) = right

@@ -1,5 +1,5 @@
 -- What stands at the front of some characters.
-use Rattle.std.specs.Prelude.{◌≡◌, ◌≢◌, ℕ, ◌≤◌, ◌<◌, ◌+◌, Bool, true, false, ◌&&◌, ◌||◌, ◌==◌, not, nat_lt, if◌then◌else◌, ◌++◌, List, [], ◌∷◌, length, take, drop, Option, Some, None, MatchOption, is_none}
+use Rattle.std.specs.Prelude.{◌≡◌, ◌≢◌, ℕ, ◌≤◌, ◌<◌, ◌+◌, Bool, true, false, ◌&&◌, ◌||◌, ◌==◌, nat_lt, if◌then◌else◌, ◌++◌, List, [], ◌∷◌, length, take, drop, Option, Some, None, MatchOption, is_none}
 use Rattle.std.specs.List.{list_any}
 use Rattle.std.specs.Char.{is_ascii_digit, is_ascii_hexdigit}
 use Rattle.std.specs.Str.{bytes_eq}
@@ -158,9 +158,9 @@ abbrev pub is_meaning : List ℕ → Option Fixed → Bool
 is_meaning word (Some fixed) = bytes_eq (spelling fixed) word
 is_meaning word None = is_reserved word && is_none (fixed_of word)
 
--- two bytes at least, and no digit among them
+-- from two to sixteen bytes
 abbrev pub is_listable : List ℕ → Bool
-is_listable word = nat_lt 1 (length word) && not (list_any is_ascii_digit word)
+is_listable word = nat_lt 1 (length word) && nat_lt (length word) 17
 
 -- what the table has of a word: its meaning, or no row
 pub data IsListed (word : List ℕ) : Option (Option Fixed) → Type 0 where

@@ -1,17 +1,18 @@
--- Tables of words in order.
-use Rattle.std.specs.Prelude.{◌≡◌, ℕ, ◌<◌, Bool, true, false, ◌&&◌, not, List, [], ◌∷◌, length, Option, Some, None}
-use Rattle.std.specs.List.{list_any, slice_index_or}
-use Rattle.std.specs.Ordering.{is_lt, nat_cmp}
-use Rattle.std.specs.Cmp.Lexicographic.{slice_cmp}
+-- Where words stand in the table.
+use Rattle.std.specs.Prelude.{◌≡◌, ℕ, ◌+◌, ◌-◌, ◌*◌, ◌/◌, ◌%◌, true, false, List, length, slice_index, Option, Some, None}
+use Rattle.std.specs.List.{slice_index_or}
 use Rattle.std.specs.Str.{bytes_eq}
+use Rattle.wgsl_lex.specs.declared.rows.TheConstants.{ROWS}
 
--- no row is spelled below the one before it
-unfoldable pub ascends : {X : Type 0} → (X → List ℕ) → List X → Bool
-ascends spelled [] = true
-ascends spelled (x ∷ []) = true
-ascends spelled (x ∷ y ∷ xs) = not (is_lt (slice_cmp nat_cmp (spelled y) (spelled x))) && ascends spelled (y ∷ xs)
+-- a number that no two words of the table share
+abbrev pub place : List ℕ → ℕ
+place word = (850 * slice_index word 0 + 900 * slice_index word (length word / 2) + 431 * slice_index word (length word - 1) + 635 * length word) % 1024
 
--- what a row that is spelled so has, if there is one
-pub data IsFound {X V : Type 0} (spelled : X → List ℕ) (value : X → V) (table : List X) (word : List ℕ) : Option V → Type 0 where
-  found : (k : ℕ) (d : X) → k < length table → spelled (slice_index_or table k d) ≡ word → IsFound spelled value table word (Some (value (slice_index_or table k d)))
-  missing : list_any (λ x. bytes_eq (spelled x) word) table ≡ false → IsFound spelled value table word None
+-- the row of the word that has this place
+abbrev pub row : List ℕ → ℕ
+row word = slice_index ROWS (place word)
+
+-- what that row of a table has, if it is spelled so
+pub data IsRow {X V : Type 0} (spelled : X → List ℕ) (value : X → V) (table : List X) (k : ℕ) (word : List ℕ) : Option V → Type 0 where
+  is_there : (d : X) → bytes_eq (spelled (slice_index_or table k d)) word ≡ true → IsRow spelled value table k word (Some (value (slice_index_or table k d)))
+  is_other : (d : X) → bytes_eq (spelled (slice_index_or table k d)) word ≡ false → IsRow spelled value table k word None

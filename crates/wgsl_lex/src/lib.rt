@@ -7,6 +7,7 @@ pub mod laws;
 mod lexer;
 mod number;
 mod piece;
+mod rows;
 mod run;
 mod symbol;
 mod trivia;

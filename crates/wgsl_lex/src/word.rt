@@ -1,14 +1,14 @@
 //! Words (WGSL, "Identifiers", "Keywords" and "Reserved Words").
 
-ghost use Rattle.std.specs.Prelude.{◌≡◌, ◌∷◌, true, Some, IfOk};
+ghost use Rattle.std.specs.Prelude.{◌≡◌, ◌<◌, ◌+◌, ◌∷◌, true, length, take, Some, IfOk, IsTrue};
 ghost use Rattle.std.specs.Str.{encode_utf8_all};
 ghost use Rattle.wgsl_lex.specs.Tokens.{is_word, begins_with_two_underscores, token_form};
-ghost use Rattle.wgsl_lex.specs.Rows.{ascends, IsFound};
-ghost use Rattle.std.specs.List.{list_any};
-ghost use Rattle.std.specs.Char.{is_ascii_digit};
+ghost use Rattle.wgsl_lex.specs.Rows.{IsRow};
 ghost use Rattle.wgsl_lex.specs.Pieces.{IsListed, is_listable, opens_word, begins_with_continue};
 
+use crate::rows::row;
 use std::alloc::{AllocError, Global};
+use std::str;
 use unicode_ident::{is_xid_continue, is_xid_start};
 use wgsl_items::Text;
 use wgsl_token::{Fixed, Token};
@@ -193,7 +193,7 @@ static WORDS: [(&str, Option<Fixed>); 172] = [
 pub(crate) fn begins_word(first: char, behind: &[char]) -> bool
     ensures { result ≡ opens_word first behind.now }
 {
-    is_xid_start(first) | ((first == '_') & continues_word(behind))
+    is_xid_start(first) || (first == '_' && continues_word(behind))
 }
 
 /// Whether the first of these characters continues a word.
@@ -239,35 +239,58 @@ fn listed(word: &str) -> Option<Option<Fixed>>
     if !is_listable(word) {
         return None;
     }
-    found(&WORDS, word)
+    found(&WORDS, row(word), word)
 }
 
-/// Whether a word is spelled as those of the table are: in two bytes at least, and without digits.
+/// What a row of a table has, if it is this word's.
+fn found(table: &[(&str, Option<Fixed>)], at: usize, word: &str) -> Option<Option<Fixed>>
+    requires { at < length table.now }
+    ensures { IsRow (λ entry. entry.0.now) (λ entry. entry.1) table.now at word.now result }
+{
+    let entry = table[at];
+    if entry.0 == word { Some(entry.1) } else { None }
+}
+
+/// Whether a word is as long as one of the table may be.
 fn is_listable(word: &str) -> bool
     ensures { result ≡ is_listable word.now }
 {
-    word.len() > 1 && !has_digit(word)
-}
-
-fn has_digit(word: &str) -> bool
-    ensures { result ≡ list_any is_ascii_digit word.now }
-{
-    word.as_bytes().iter().any(|byte| byte.is_ascii_digit())
-}
-
-/// What a table in order has of a word.
-fn found(table: &[(&str, Option<Fixed>)], word: &str) -> Option<Option<Fixed>>
-    requires { ascends (λ entry. entry.0.now) table.now ≡ true }
-    ensures { IsFound (λ entry. entry.0.now) (λ entry. entry.1) table.now word.now result }
-{
-    match table.binary_search_by_key(&word, |entry| entry.0) {
-        Ok(at) => Some(table[at].1),
-        Err(_) => None,
-    }
+    word.len() > 1 && word.len() < 17
 }
 
 /// The text that some characters spell.
 pub(crate) fn text_of(alloc: Global, first: char, behind: &[char]) -> Result<Text, AllocError>
+    ensures { IfOk result (λ text. text ≡ encode_utf8_all (first ∷ behind.now)) }
+{
+    let mut bytes = [0; 16];
+    if spell(&mut bytes, first, behind)
+        && let Ok(text) = str::from_utf8(&bytes[..behind.len() + 1])
+    {
+        return Text::from_str(alloc, text);
+    }
+    joined(alloc, first, behind)
+}
+
+/// Writes a character and those behind it to the front, if they are in ASCII and fit.
+fn spell(bytes: &mut [u8; 16], first: char, behind: &[char]) -> bool
+    ensures within { IsTrue result → length behind.now < 16 }
+    ensures text { IsTrue result → take (length behind.now + 1) bytes.new ≡ encode_utf8_all (first ∷ behind.now) }
+{
+    if behind.len() > 15 || !first.is_ascii() {
+        return false;
+    }
+    bytes[0] = first as u8;
+    for (at, character) in behind.iter().enumerate() {
+        if !character.is_ascii() {
+            return false;
+        }
+        bytes[at + 1] = *character as u8;
+    }
+    true
+}
+
+/// The same, one character after another.
+fn joined(alloc: Global, first: char, behind: &[char]) -> Result<Text, AllocError>
     ensures { IfOk result (λ text. text ≡ encode_utf8_all (first ∷ behind.now)) }
 {
     let mut text = Text::new(alloc);

@@ -1,3 +1,4 @@
+pub mod Blanks
 pub mod Entries
 pub mod Here
 pub mod Reading

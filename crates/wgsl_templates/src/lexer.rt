@@ -11,6 +11,7 @@ use crate::recognize::Recognizer;
 use crate::table::table_of;
 use std::alloc::{AllocError, Global};
 use wgsl_items::Items;
+use wgsl_lex::is_blankspace;
 use wgsl_path::Span;
 use wgsl_template_spec::{Bracket, SpannedTemplateToken, TemplateToken};
 use wgsl_token::{Fixed, Token};
@@ -47,6 +48,11 @@ fn lex_characters<P: Pieces>(
     let mut after_word = false;
     let mut at = 0;
     while let Some((first, behind)) = rest.split_first() {
+        if is_blankspace(*first) {
+            at += first.len_utf8();
+            rest = behind;
+            continue;
+        }
         let TemplatePiece { length, token } = next(
             pieces,
             rest,

@@ -81,7 +81,7 @@ pub(crate) fn opens<P: Pieces, R: Recognizer>(
     requires covered { length behind.now ≤ length table.now }
     ensures { IfOk result (Opens behind.now) }
 {
-    let mut limit: usize = 16;
+    let mut limit: usize = 2;
     for _ in 0..32 {
         let front = inside(alloc, pieces, behind, table, false, limit)?;
         match recognizer.recognize(front.kinds.as_slice())? {

@@ -2,7 +2,7 @@ use Rattle.std.proofs.Common.{◌++◌, take, ◌∙◌, ap, sym, append_assoc}
 use Rattle.std.specs.Char.{encode_utf8}
 use Rattle.std.specs.Str.{encode_utf8_all}
 use Rattle.wgsl_lex.proofs.Sizes.{encodes_more}
-use Rattle.wgsl_lex.proofs.word.text_of.Goals as goal
+use Rattle.wgsl_lex.proofs.word.joined.Goals as goal
 
 pub loop-character-preserved : goal.loop-character-preserved
 loop-character-preserved c =
