@@ -1,6 +1,6 @@
 -- Blankspace before a token.
 use Rattle.std.specs.Prelude.{None}
-use Rattle.std.proofs.Common.{◌≡◌, ℕ, ◌+◌, Bool, true, List, [], ◌∷◌, ◌++◌, length, take, drop, refl, sym, ◌∙◌, ap, arith, append-nil, length-append}
+use Rattle.std.proofs.Common.{◌≡◌, ℕ, ◌+◌, Bool, true, List, [], ◌∷◌, length, take, drop, refl, sym, ◌∙◌, ap, append-nil, length-append}
 use Rattle.std.specs.Char.{encode_utf8, len_utf8}
 use Rattle.std.specs.Str.{encode_utf8_all}
 use Rattle.std.proofs.lemmas.Str.{length-encode}
@@ -12,8 +12,8 @@ use Rattle.wgsl_templates.specs.Steps.{state}
 use Rattle.wgsl_templates.proofs.Here.{here_trivia}
 use Rattle.wgsl_templates.proofs.Reading.{IsLexedTo, lex_trivia}
 
-pub size_first : (c : ℕ) (cs : List ℕ) → size (c ∷ cs) ≡ len_utf8 c + size cs
-size_first c cs = length-append (encode_utf8 c) (encode_utf8_all cs) ∙ ap (λ n. n + size cs) (length-encode c)
+pub size_first : (cs : List ℕ) (c : ℕ) (following : List ℕ) → cs ≡ c ∷ following → size cs ≡ len_utf8 c + size following
+size_first cs c following is = ap size is ∙ length-append (encode_utf8 c) (encode_utf8_all following) ∙ ap (λ n. n + size following) (length-encode c)
 
 size_one : (c : ℕ) → size (c ∷ []) ≡ len_utf8 c
 size_one c = ap length (append-nil (encode_utf8 c)) ∙ length-encode c

@@ -1,18 +1,17 @@
 use Rattle.std.proofs.Common.{arith, length, sym, ap}
-use Rattle.wgsl_lex.specs.Tokens.{size}
 use Rattle.wgsl_lex.proofs.Sizes.{size_parts}
 use Rattle.wgsl_templates.proofs.Reading.{lex_start, lex_trivia, lex_token, lex_all, stands_more}
 use Rattle.wgsl_templates.proofs.Blanks.{size_first, lex_blank}
 use Rattle.wgsl_templates.proofs.lexer.lex_characters.Goals as goal
 
 pub overflow_add-at : goal.overflow_add-at
-overflow_add-at g c = omega (arith, c.loop-first.invariant.ends, ap size c.in-Some.ensures.cases.0, size_first _ _, c.len_utf8.ensures.value)
+overflow_add-at g c = omega (arith, c.loop-first.invariant.ends, size_first _ _ _ c.in-Some.ensures.cases.0, c.len_utf8-at.ensures.value)
 
 pub loop-first-smaller-then-is_blankspace : goal.loop-first-smaller-then-is_blankspace
 loop-first-smaller-then-is_blankspace g c = omega (arith, ap length c.in-Some.ensures.cases.0)
 
 pub loop-first-preserved-then-is_blankspace : goal.loop-first-preserved-then-is_blankspace
-loop-first-preserved-then-is_blankspace g c = lex_blank _ _ _ _ _ _ _ c.loop-first.invariant _ _ c.in-Some.ensures.cases.0 (sym c.if-is_blankspace.ensures) _ c.len_utf8.ensures.value
+loop-first-preserved-then-is_blankspace g c = lex_blank _ _ _ _ _ _ _ c.loop-first.invariant _ _ c.in-Some.ensures.cases.0 (sym c.if-is_blankspace.ensures) _ c.len_utf8-at.ensures.value
 
 pub size_of-requires : goal.size_of-requires
 size_of-requires g c = omega (arith, c.loop-first.invariant.ends, size_parts _ _ _ _ c.split_at.ensures.front c.split_at.ensures.back)
