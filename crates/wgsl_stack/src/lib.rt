@@ -2,8 +2,10 @@
 #![tactic(auto)]
 
 ghost use Rattle.std.specs.Prelude.{◌≡◌, [], ◌∷◌, length, MatchOption, OnOk, OnErr};
-ghost use Rattle.std.specs.Option.{option_copied};
-ghost use Rattle.wgsl_stack.specs.Tops.{first};
+ghost use Rattle.std.specs.Option.{option_copied, option_copied_mut};
+ghost use Rattle.std.specs.Borrow.{sem, LendsIf};
+ghost use Rattle.wgsl_stack.specs.Tops.{first, second, with_first};
+ghost use Rattle.wgsl_stack.specs.contracts.Stack.{the_row};
 
 use std::alloc::{AllocError, Global};
 use std::marker::Model;
@@ -57,6 +59,24 @@ impl<T> Stack<T> {
         self.items.last()
     }
 
+    /// The value below the uppermost.
+    pub fn below_top(&self) -> Option<&T>
+        ensures { option_copied result ≡ second self.now }
+    {
+        match self.items.as_slice() {
+            [.., below, _] => Some(below),
+            _ => None,
+        }
+    }
+
+    /// The uppermost value, to be changed in place.
+    pub fn top_mut(&mut self) -> Option<&mut T>
+        ensures* writes_back { sem 𝓛 (LendsIf (the_row T.row) T.row self.entry result (with_first self.old) self.old) }
+        ensures value { option_copied_mut result ≡ first self.old }
+    {
+        self.items.last_mut()
+    }
+
     /// The uppermost value, taken off.
     pub fn pop(&mut self) -> Option<T>
         ensures { MatchOption result ((self.old ≡ []) × (self.new ≡ [])) (λ x. self.old ≡ x ∷ self.new) }
@@ -66,12 +86,20 @@ impl<T> Stack<T> {
 }
 
 impl<T: Drop> Stack<T> {
+    /// Takes all values off and drops them. The room stays.
+    pub fn clear(&mut self)
+        ensures { self.new ≡ [] }
+    {
+        self.items.clear();
+    }
+
     /// Puts a value on top. Where memory is refused the stack is unchanged and the value dropped.
     pub fn push(&mut self, item: T) -> Result<(), AllocError>
         ensures ok { OnOk result (self.new ≡ item ∷ self.old) }
         ensures err { OnErr result (self.new ≡ self.old) }
     {
-        self.items.push(item)?;
+        self.items.reserve(1)?;
+        self.items.push_reserved(item);
         Ok(())
     }
 }
