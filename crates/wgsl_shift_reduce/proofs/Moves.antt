@@ -1,20 +1,27 @@
 -- Steps of the code, as steps of a run.
-use Rattle.std.proofs.Common.{◌≡◌, ◌∙◌, refl, sym, ap, subst, ℕ, suc, ◌-◌, ◌<◌, ◌+◌, List, [], ◌∷◌, Option, arith}
+use Rattle.std.proofs.Common.{◌≡◌, ◌∙◌, refl, sym, ap, subst, ℕ, List, [], ◌∷◌, Option, Some}
 use Rattle.wgsl_shift_reduce.specs.declared.machine.Action.{Action}
 use Rattle.wgsl_shift_reduce.specs.declared.machine.Action.TheVariants.{Shift, Reduce, Accept}
 use Rattle.wgsl_shift_reduce.specs.declared.machine.Entry.{Entry}
-use Rattle.wgsl_shift_reduce.specs.Grammars.{Grammar}
-use Rattle.wgsl_shift_reduce.specs.Machine.{Tables, action, top, popped, ahead, ahead_of, Outcome, read, Comes, shifted, reduced, accepted}
-use Rattle.wgsl_stack.specs.Tops.{first}
-use Rattle.wgsl_shift_reduce.specs.Runs.{IsShift, IsReduction}
+use Rattle.wgsl_shift_reduce.specs.Grammars.{phrase, Grammar}
+use Rattle.wgsl_shift_reduce.specs.Machine.{Tables, action, top, below_top, ahead, ahead_of, Outcome, read, Comes, shifted, reduced, accepted}
+use Rattle.wgsl_stack.specs.Tops.{first, with_first}
+use Rattle.wgsl_shift_reduce.proofs.Stacks.{some_is}
+use Rattle.wgsl_shift_reduce.specs.Runs.{IsShift, IsPassed, IsReduction}
 
-popped_one : {V : Type 0} (n m : ℕ) (es : List (Entry V)) (xs : List V) (e : Entry V) → n ≡ suc m → popped m es (e.value ∷ xs) ≡ popped n (e ∷ es) xs
-popped_one n m es xs e is = ap (λ k. popped k (e ∷ es) xs) (sym is)
-
-pub popped_next : {V : Type 0} (n i : ℕ) (old new : List (Entry V)) (xs ys : List V) (e : Entry V) → i < n → old ≡ e ∷ new → ys ≡ e.value ∷ xs
-    → popped (n - (i + 1)) new ys ≡ popped (n - i) old xs
-popped_next n i old new xs ys e within is are =
-    ap (λ l. popped (n - (i + 1)) new l) are ∙ popped_one (n - i) (n - (i + 1)) new xs e (omega (arith, within)) ∙ ap (λ l. popped (n - i) l xs) (sym is)
+pub passed : {V : Type 0} (a : Tables) (from left to : ℕ) (es : List (Entry V)) (e : Entry V) → Some e ≡ first es → a.step (below_top from es) (phrase left) ≡ Some to
+    → IsPassed a from left es (with_first es (record { state = to; value = e.value }))
+passed a from left to [] e is step = absurd cc
+passed a from left to (x ∷ es) e is step =
+    let same : e ≡ x = some_is is in
+    record {
+      entry = x;
+      below = es;
+      was = refl;
+      to = to;
+      step = step;
+      put = ap (λ (y : Entry _). record { state = to; value = y.value } ∷ es) same;
+    }
 
 ahead_first : {T V : Type 0} (g : Grammar T V) (u : List T) → ahead_of g (first u) ≡ ahead g u
 ahead_first g [] = refl

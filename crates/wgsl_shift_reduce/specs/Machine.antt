@@ -31,6 +31,11 @@ abbrev pub top : {V : Type 0} → ℕ → List (Entry V) → ℕ
 top from [] = from
 top from (e ∷ es) = e.state
 
+-- the state below the uppermost symbol
+abbrev pub below_top : {V : Type 0} → ℕ → List (Entry V) → ℕ
+below_top from [] = from
+below_top from (e ∷ es) = top from es
+
 -- the stack without its uppermost entries, and their trees, before some others
 abbrev pub popped : {V : Type 0} → ℕ → List (Entry V) → List V → List (Entry V) × List V
 popped zero es xs = (es, xs)

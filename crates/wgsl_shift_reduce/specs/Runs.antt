@@ -20,6 +20,20 @@ pub record IsMade {T V : Type 0} (g : Grammar T V) (p count : ℕ) (es below : L
   pub parts : popped count es [] ≡ (below, values)
   pub is : x ≡ g.make p values
 
+-- A rule makes of the uppermost tree alone that tree.
+abbrev pub PassesOn : {T V : Type 0} → Grammar T V → ℕ → List (Entry V) → Type 0
+PassesOn g p [] = ⊥
+PassesOn g p (e ∷ es) = g.make p (e.value ∷ []) ≡ e.value
+
+-- The uppermost symbol became a phrase of a nonterminal, with its tree as it stands.
+pub record IsPassed {V : Type 0} (a : Tables) (from left : ℕ) (es fs : List (Entry V)) : Type 0 where
+  pub entry : Entry V
+  pub below : List (Entry V)
+  pub was : es ≡ entry ∷ below
+  pub to : ℕ
+  pub step : a.step (top from below) (phrase left) ≡ Some to
+  pub put : fs ≡ record { state = to; value = entry.value } ∷ below
+
 module _ {T V : Type 0} (g : Grammar T V) (a : Tables) (from : ℕ) where
   -- The parts of a rule were taken from the stack, and its tree put there.
   pub record IsReduction (p : ℕ) (es fs : List (Entry V)) : Type 0 where

@@ -3,8 +3,8 @@
 ghost use Rattle.std.specs.Prelude.{◌≡◌, [], ◌∷◌, length, Some, IfOk, IsTrue, MatchOption};
 ghost use Rattle.std.specs.Option.{option_copied};
 ghost use Rattle.wgsl_shift_reduce.specs.Grammars.{Rule, Grammar, phrase};
-ghost use Rattle.wgsl_shift_reduce.specs.Machine.{Tables, action, top, popped, ahead, ahead_of};
-ghost use Rattle.wgsl_shift_reduce.specs.Runs.{IsShift, IsMade, IsReduction, Advances, Said};
+ghost use Rattle.wgsl_shift_reduce.specs.Machine.{Tables, action, top, below_top, ahead_of};
+ghost use Rattle.wgsl_shift_reduce.specs.Runs.{IsShift, IsMade, PassesOn, IsPassed, IsReduction, Advances, Said};
 
 use std::alloc::{AllocError, Global};
 use wgsl_stack::Stack;
@@ -76,6 +76,9 @@ pub trait Driver {
 
     type Value: Drop;
 
+    /// Room for the parts of a reduction, which is used again at the next.
+    type Room: Drop;
+
     ghost grammar: { Grammar Self.Token Self.Value };
 
     ghost tables: { Self → Tables };
@@ -96,9 +99,18 @@ pub trait Driver {
     fn shape(&self, rule: u16) -> Option<Shape>
         ensures { MatchOption result Unit (λ s. (q : Rule) × (grammar.rule rule ≡ Some q) × (q.left ≡ s.left) × (length q.right ≡ s.length)) };
 
-    /// The tree that a rule makes of its parts, of which the first is uppermost.
-    fn make(&self, rule: u16, parts: Stack<Self::Value>) -> Result<Self::Value, AllocError>
-        ensures { IfOk result (λ x. x ≡ grammar.make rule parts) };
+    /// Room for the parts of a reduction.
+    fn room(&self) -> Self::Room;
+
+    /// The tree that a rule makes of so many of the uppermost symbols, which are taken from the stack.
+    fn make(
+        &self,
+        rule: u16,
+        count: usize,
+        stack: &mut Stack<Entry<Self::Value>>,
+        room: &mut Self::Room,
+    ) -> Result<Self::Value, AllocError>
+        ensures { IfOk result (IsMade grammar rule count stack.old stack.new) };
 
     /// Whether a rule that is made of one symbol is known to make its tree of it as it stands. It needs no memory then.
     fn passes(&self, rule: u16, part: &Self::Value) -> bool
@@ -133,75 +145,64 @@ fn shift<D: Driver>(
     })
 }
 
-/// The trees of the uppermost symbols, taken from the stack: the first of them is uppermost then.
-fn taken<V: Drop>(
-    alloc: Global,
-    count: usize,
-    stack: &mut Stack<Entry<V>>,
-) -> Result<Stack<V>, AllocError>
-    ensures { IfOk result (λ parts. popped count stack.old [] ≡ (stack.new, parts)) }
+/// The state below the uppermost symbol, of a parser that began in the first.
+fn state_below<V>(from: u16, stack: &Stack<Entry<V>>) -> u16
+    ensures { result ≡ below_top from stack.now }
 {
-    let mut parts = Stack::new(alloc);
-    for _index in 0..count {
-        let Some(Entry { value, .. }) = stack.pop() else {
-            return Err(AllocError);
-        };
-        parts.push(value)?;
+    match stack.below_top() {
+        Some(entry) => entry.state,
+        None => from,
     }
-    Ok(parts)
 }
 
-/// The tree that a rule makes of the uppermost symbol, which is taken from the stack.
-fn made_of_one<D: Driver>(
-    driver: &D,
-    alloc: Global,
-    rule: u16,
-    stack: &mut Stack<Entry<D::Value>>,
-) -> Result<D::Value, AllocError>
-    ensures { IfOk result (IsMade D.grammar rule 1 stack.old stack.new) }
+/// Whether a rule of one symbol makes its tree of the uppermost symbol as it stands.
+fn passes<D: Driver>(driver: &D, rule: u16, stack: &Stack<Entry<D::Value>>) -> bool
+    ensures { IsTrue result → PassesOn D.grammar rule stack.now }
 {
-    let Some(Entry { value, .. }) = stack.pop() else {
+    match stack.top() {
+        Some(entry) => driver.passes(rule, &entry.value),
+        None => false,
+    }
+}
+
+/// Makes a phrase of the uppermost symbol, whose tree stays as it stands.
+fn pass<D: Driver>(
+    driver: &D,
+    from: u16,
+    left: u16,
+    stack: &mut Stack<Entry<D::Value>>,
+) -> Result<(), AllocError>
+    ensures { IfOk result (λ _. IsPassed (D.tables driver.now) from left stack.old stack.new) }
+{
+    let Some(to) = driver.state_behind(state_below(from, stack), left) else {
         return Err(AllocError);
     };
-    if driver.passes(rule, &value) {
-        return Ok(value);
+    match stack.top_mut() {
+        Some(entry) => {
+            entry.state = to;
+            Ok(())
+        }
+        None => Err(AllocError),
     }
-    let mut parts = Stack::new(alloc);
-    parts.push(value)?;
-    driver.make(rule, parts)
-}
-
-/// The tree that a rule makes of so many of the uppermost symbols, which are taken from the stack.
-fn made<D: Driver>(
-    driver: &D,
-    alloc: Global,
-    rule: u16,
-    count: usize,
-    stack: &mut Stack<Entry<D::Value>>,
-) -> Result<D::Value, AllocError>
-    ensures { IfOk result (IsMade D.grammar rule count stack.old stack.new) }
-{
-    if count == 1 {
-        return made_of_one(driver, alloc, rule, stack);
-    }
-    let parts = taken(alloc, count, stack)?;
-    driver.make(rule, parts)
 }
 
 /// Makes a phrase of the uppermost symbols.
 fn reduce<D: Driver>(
     driver: &D,
-    alloc: Global,
     from: u16,
     rule: u16,
     stack: &mut Stack<Entry<D::Value>>,
+    room: &mut D::Room,
 ) -> Result<(), AllocError>
     ensures { IfOk result (λ _. IsReduction D.grammar (D.tables driver.now) from rule stack.old stack.new) }
 {
     let Some(shape) = driver.shape(rule) else {
         return Err(AllocError);
     };
-    let value = made(driver, alloc, rule, shape.length, stack)?;
+    if shape.length == 1 && passes(driver, rule, stack) {
+        return pass(driver, from, shape.left, stack);
+    }
+    let value = driver.make(rule, shape.length, stack, room)?;
     let Some(to) = driver.state_behind(state_of(from, stack), shape.left) else {
         return Err(AllocError);
     };
@@ -211,10 +212,10 @@ fn reduce<D: Driver>(
 /// One step.
 fn advance<D: Driver>(
     driver: &D,
-    alloc: Global,
     from: u16,
     stack: &mut Stack<Entry<D::Value>>,
     tokens: &mut Stack<D::Token>,
+    room: &mut D::Room,
 ) -> Result<Progress<D::Value>, AllocError>
     ensures { IfOk result (Advances D.grammar (D.tables driver.now) from stack.old stack.new tokens.old tokens.new) }
 {
@@ -224,7 +225,7 @@ fn advance<D: Driver>(
             Ok(Progress::GoesOn)
         }
         Action::Reduce(rule) => {
-            reduce(driver, alloc, from, rule, stack)?;
+            reduce(driver, from, rule, stack, room)?;
             Ok(Progress::GoesOn)
         }
         Action::Accept => match stack.pop() {
@@ -246,12 +247,13 @@ pub fn run<D: Driver>(
 {
     let mut tokens = tokens;
     let mut stack = Stack::new(alloc);
+    let mut room = driver.room();
     let steps = tokens
         .len()
         .saturating_add(1)
         .saturating_mul(STEPS_PER_TOKEN);
     for _step in 0..steps {
-        match advance(driver, alloc, from, &mut stack, &mut tokens)? {
+        match advance(driver, from, &mut stack, &mut tokens, &mut room)? {
             Progress::GoesOn => {}
             Progress::Read(value) => return Ok(value),
             Progress::Stops => return Err(Stopped::Unexpected(stack, tokens)),
