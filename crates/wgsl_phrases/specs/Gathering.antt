@@ -1,7 +1,8 @@
 -- The parts of a row, and the extent of a phrase that is made of others.
-use Rattle.std.specs.Prelude.{◌≡◌, ℕ, max, ◌==◌, if◌then◌else◌, List, [], ◌∷◌, ◌++◌, Option, Some, None}
-use Rattle.wgsl_path.specs.declared.span.Span.{Span}
+use Rattle.std.specs.Prelude.{◌≡◌, ℕ, max, ◌==◌, if◌then◌else◌, List, [], ◌∷◌, Option, Some, None}
 use Rattle.wgsl_path.specs.Paths.{across}
+use Rattle.wgsl_shift_reduce.specs.declared.machine.Entry.{Entry}
+use Rattle.wgsl_shift_reduce.specs.Machine.{popped}
 use Rattle.wgsl_phrases.specs.declared.phrase.Failure.{Failure}
 use Rattle.wgsl_phrases.specs.declared.phrase.Phrase.{Phrase}
 use Rattle.wgsl_phrases.specs.declared.gather.Extent.{Extent}
@@ -38,7 +39,26 @@ module _ {P : Type 0} where
   chosen absent (c ∷ cs) xs =
       if c == 0 then absent ∷ chosen absent cs xs else if c == 1 then chosen absent cs (tail xs) else part_first absent xs ∷ chosen absent cs (tail xs)
 
-  -- one place of a pattern was done: what is left goes on as the whole does
-  pub record Takes (absent : P) (place : ℕ) (old new : List (Phrase P)) (from to : Option Extent) (before behind : List P) : Type 0 where
-    pub extents : extent_from to new ≡ extent_from from old
-    pub parts : (cs : List ℕ) → behind ++ chosen absent cs new ≡ before ++ chosen absent (place ∷ cs) old
+  -- the extent of what begins with a phrase and goes on so
+  abbrev pub begun : Phrase P → Option Extent → Extent
+  begun x None = extent_of x
+  begun x (Some e) = record { span = across x.span e.span; last = e.last; failure = either x.failure e.failure; depth = max x.depth e.depth }
+
+  -- So many phrases were taken from a stack: their extent, and the parts that a pattern chooses of them.
+  pub record IsGathered (absent : P) (count : ℕ) (pattern : List ℕ) (old new : List (Entry (Phrase P))) (extent : Extent) (parts : List P) : Type 0 where
+    pub values : List (Phrase P)
+    pub taken : popped count old [] ≡ (new, values)
+    pub extents : Some extent ≡ extent_from None values
+    pub chose : parts ≡ chosen absent pattern values
+
+  -- Of so many phrases some are left to take, and the places at the end of a pattern were done.
+  pub record Gathers (absent : P) (count : ℕ) (old : List (Entry (Phrase P))) (done : List ℕ) (left : ℕ) (new : List (Entry (Phrase P))) (extent : Option Extent) (parts : List P) : Type 0 where
+    pub values : List (Phrase P)
+    pub taken : popped left new values ≡ popped count old []
+    pub extents : extent ≡ extent_from None values
+    pub chose : parts ≡ chosen absent done values
+
+  -- One more place was done.
+  abbrev pub Takes : P → ℕ → ℕ → ℕ → List (Entry (Phrase P)) → List (Entry (Phrase P)) → Option Extent → Option Extent → List P → List P → Type 0
+  Takes absent place n m es fs from to before behind =
+      (count : ℕ) (old : List (Entry (Phrase P))) (done : List ℕ) → Gathers absent count old done n es from before → Gathers absent count old (place ∷ done) m fs to behind

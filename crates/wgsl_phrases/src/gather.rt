@@ -1,12 +1,12 @@
 //! The parts of a row, and the extent of a phrase that is made of others.
 
-ghost use Rattle.std.specs.Prelude.{◌≡◌, Some, None, IfOk};
-ghost use Rattle.wgsl_phrases.specs.Gathering.{joined, either, extent_from, chosen, Takes};
+ghost use Rattle.std.specs.Prelude.{◌≡◌, IfOk};
+ghost use Rattle.wgsl_phrases.specs.Gathering.{begun, either, IsGathered, Takes};
 
 use crate::phrase::{Absence, Failure, Phrase};
-use std::alloc::{AllocError, Global};
-use wgsl_items::Items;
+use std::alloc::AllocError;
 use wgsl_path::Span;
+use wgsl_shift_reduce::Entry;
 use wgsl_stack::Stack;
 
 /// Where some phrases stand, the first check in them that fails, and how deep trees are nested in them.
@@ -28,9 +28,9 @@ pub fn first_failure(failure: Option<Failure>, other: Option<Failure>) -> Option
     }
 }
 
-/// The extent of what goes on with a phrase.
-fn extended<P>(extent: Option<Extent>, phrase: &Phrase<P>) -> Extent
-    ensures { result ≡ joined extent phrase.now }
+/// The extent of what begins with a phrase and goes on so.
+fn begun<P>(phrase: &Phrase<P>, extent: Option<Extent>) -> Extent
+    ensures { result ≡ begun phrase.now extent }
 {
     match extent {
         None => Extent {
@@ -40,53 +40,63 @@ fn extended<P>(extent: Option<Extent>, phrase: &Phrase<P>) -> Extent
             depth: phrase.depth,
         },
         Some(extent) => Extent {
-            span: extent.span.across(phrase.span),
-            last: phrase.last,
-            failure: first_failure(extent.failure, phrase.failure),
-            depth: extent.depth.max(phrase.depth),
+            span: phrase.span.across(extent.span),
+            last: extent.last,
+            failure: first_failure(phrase.failure, extent.failure),
+            depth: phrase.depth.max(extent.depth),
         },
     }
 }
 
-/// Does what one place of a pattern says.
+/// Does what one place of a pattern says, from the last to the first: so many phrases are left to take.
 fn take_place<P: Absence>(
     place: u16,
-    phrases: &mut Stack<Phrase<P>>,
+    left: &mut usize,
+    stack: &mut Stack<Entry<Phrase<P>>>,
     extent: &mut Option<Extent>,
-    parts: &mut Items<P>,
+    parts: &mut Stack<P>,
 ) -> Result<(), AllocError>
-    ensures { IfOk result (λ _. Takes P.absent place phrases.old phrases.new extent.old extent.new parts.old parts.new) }
+    ensures { IfOk result (λ _. Takes P.absent place left.old left.new stack.old stack.new extent.old extent.new parts.old parts.new) }
 {
     if place == 0 {
         return parts.push(P::absent());
     }
-    let Some(phrase) = phrases.pop() else {
+    if *left == 0 {
+        return Err(AllocError);
+    }
+    *left -= 1;
+    let Some(Entry { value, .. }) = stack.pop() else {
         return Err(AllocError);
     };
-    *extent = Some(extended(*extent, &phrase));
+    *extent = Some(begun(&value, *extent));
     if place == 1 {
         return Ok(());
     }
-    let Phrase { part, .. } = phrase;
-    parts.push(part)
+    let Phrase { part, .. } = value;
+    parts.push(part)?;
+    Ok(())
 }
 
-/// The parts that a pattern chooses of phrases, and the extent of these; the pattern has a place for each phrase.
+/// The parts that a pattern chooses of so many of the uppermost phrases, which are taken from the stack, and the extent of these.
+/// What `parts` holds before is dropped.
 pub fn gathered<P: Absence>(
-    alloc: Global,
     pattern: &[u16],
-    phrases: Stack<Phrase<P>>,
-) -> Result<(Extent, Stack<P>), AllocError>
-    ensures { IfOk result (λ found. (Some found.0 ≡ extent_from None phrases) × (found.1 ≡ chosen P.absent pattern.now phrases)) }
+    count: usize,
+    stack: &mut Stack<Entry<Phrase<P>>>,
+    parts: &mut Stack<P>,
+) -> Result<Extent, AllocError>
+    ensures { IfOk result (λ extent. IsGathered P.absent count pattern.now stack.old stack.new extent parts.new) }
 {
-    let mut phrases = phrases;
+    parts.clear();
     let mut extent = None;
-    let mut parts = Items::new(alloc);
-    for place in pattern {
-        take_place(*place, &mut phrases, &mut extent, &mut parts)?;
+    let mut left = count;
+    let mut at = pattern.len();
+    while at > 0 {
+        at -= 1;
+        take_place(pattern[at], &mut left, stack, &mut extent, parts)?;
     }
     match extent {
-        Some(extent) if phrases.len() == 0 => Ok((extent, Stack::from_vec(parts.into_vec()))),
+        Some(extent) if left == 0 => Ok(extent),
         _ => Err(AllocError),
     }
 }

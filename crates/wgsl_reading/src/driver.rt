@@ -14,7 +14,7 @@ use wgsl_leaves::leaf;
 use wgsl_make::make;
 use wgsl_parts::{ImportLabel, Label, NameLabel, Part};
 use wgsl_phrases::{Extent, Phrase, first_failure, gathered};
-use wgsl_shift_reduce::{Action, Driver, Shape};
+use wgsl_shift_reduce::{Action, Driver, Entry, Shape};
 use wgsl_stack::Stack;
 use wgsl_template_spec::SpannedTemplateToken;
 
@@ -114,14 +114,13 @@ fn made(
     alloc: Global,
     label: Label,
     extent: Extent,
-    parts: Stack<Part>,
+    parts: &mut Stack<Part>,
 ) -> Result<Phrase<Part>, AllocError>
-    ensures { IfOk result (λ x. x ≡ made label (Some extent) parts) }
+    ensures { IfOk result (λ x. x ≡ made label (Some extent) parts.old) }
 {
-    let mut parts = parts;
     let depth = deeper(label, extent.depth)?;
-    let severity = severity_failed(label, &parts);
-    let part = make(alloc, label, extent.span, &mut parts)?;
+    let severity = severity_failed(label, parts);
+    let part = make(alloc, label, extent.span, parts)?;
     let failure = failure_at(extent.last, severity, made_failed(label, &part));
     Ok(Phrase {
         part,
@@ -143,6 +142,8 @@ impl Driver for Reader {
     type Token = SpannedTemplateToken;
 
     type Value = Phrase<Part>;
+
+    type Room = Stack<Part>;
 
     ghost use Rattle.wgsl_reading.specs.Phrases.{grammar, tables_of};
 
@@ -173,11 +174,19 @@ impl Driver for Reader {
         drive::shape(rule)
     }
 
-    fn make(&self, rule: u16, parts: Stack<Phrase<Part>>) -> Result<Phrase<Part>, AllocError>
-        ensures { IfOk result (λ x. x ≡ make rule parts) }
-    {
-        let (extent, parts) = gathered(self.alloc, rule_pattern(rule), parts)?;
-        made(self.alloc, rule_label(rule), extent, parts)
+    fn room(&self) -> Stack<Part> {
+        Stack::new(self.alloc)
+    }
+
+    fn make(
+        &self,
+        rule: u16,
+        count: usize,
+        stack: &mut Stack<Entry<Phrase<Part>>>,
+        room: &mut Stack<Part>,
+    ) -> Result<Phrase<Part>, AllocError> {
+        let extent = gathered(rule_pattern(rule), count, stack, room)?;
+        made(self.alloc, rule_label(rule), extent, room)
     }
 
     /// A rule that passes its one symbol on changes nothing but that a check of what it passes on is made again, which can fail for

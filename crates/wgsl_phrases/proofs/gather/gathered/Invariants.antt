@@ -1,10 +1,13 @@
-use Rattle.std.proofs.Common.{◌≡◌, ◌++◌, drop, None}
-use Rattle.wgsl_phrases.specs.Gathering.{extent_from, chosen}
+use Rattle.std.proofs.Common.{◌≤◌, length, drop}
+use Rattle.wgsl_phrases.specs.Gathering.{Gathers}
 use Rattle.wgsl_phrases.proofs.gather.gathered.Given as goal
 
--- What is left goes on as the whole does.
-abbrev pub invariant-loop-place : goal.invariant-loop-place
-invariant-loop-place g l = record {
-  extent : extent_from l.extent l.phrases ≡ extent_from None l.fn.phrases;
-  parts : l.parts ++ chosen g.P.Absence.absent (drop l.place-index l.pattern) l.phrases ≡ chosen g.P.Absence.absent l.pattern l.fn.phrases;
+-- The places from here on were done.
+abbrev pub invariant-loop-at : goal.invariant-loop-at
+invariant-loop-at g l = record {
+  within : l.at ≤ length l.pattern;
+  gathers : Gathers g.P.Absence.absent l.fn.count l.fn.stack (drop l.at l.pattern) l.left l.stack l.extent l.parts;
 }
+
+abbrev pub decreases-loop-at : goal.decreases-loop-at
+decreases-loop-at g l = l.at
