@@ -3,8 +3,8 @@
 
 usage: tools/nesting_cases.py
 
-Each command takes trees of 4,200 levels, of which a declaration needs some and a call two; deeper ones are refused as memory is. So each
-case that is taken shows that the deepest walk of its command fits the stack. What a case wants follows from how texts are printed."""
+Each command takes trees of 2,500 levels, of which a declaration needs some; deeper ones are refused as memory is. So each case that is
+taken shows that the deepest walk of its command fits the stack. What a case wants follows from how texts are printed."""
 import json
 import os
 
@@ -13,12 +13,12 @@ REFUSED = "error: OutOfMemory - - - -\n"
 
 
 def levels(depth):
-    """Expressions of so many levels, or one more: their names and texts."""
+    """Expressions of so many levels: their names and texts."""
     yield "a sum", "x" + " + 1" * depth
     yield "a product", "x" + " * 1" * depth
     yield "parentheses", "(" * depth + "x" + ")" * depth
     yield "minus signs", "- " * (depth - 1) + "-x"
-    yield "calls", "i32(" * (depth // 2) + "x" + ")" * (depth // 2)
+    yield "calls", "i32(" * depth + "x" + ")" * depth
 
 
 def case(name, command, text, answer, keep):
@@ -40,9 +40,9 @@ def constant(expression):
 
 
 def cases():
-    for depth in (4190, 4201):
+    for depth in (2490, 2501):
         for shape, expression in levels(depth):
-            fits = depth == 4190
+            fits = depth == 2490
             for command in ("link", "compile"):
                 text, printed = function(expression)
                 yield case(f"{command}: {shape} of {depth}", command, text, printed if fits else None, ["g"])

@@ -29,10 +29,9 @@ use Rattle.wgsl_reading.specs.Failures.{failure_in}
 abbrev pub leaf : SpannedTemplateToken → Phrase Part
 leaf k = record { part = leaves.leaf k.token; span = k.span; last = k.span; failure = None; depth = 0 }
 
--- Names and their paths nest nothing, but for templates and arguments.
+-- Names and their paths nest nothing, but for templates. A call nests as the expression or the statement that it is.
 abbrev pub name_nests : NameLabel → Bool
 name_nests name.Templated = true
-name_nests name.Call = true
 name_nests _ = false
 
 abbrev pub import_nests : ImportLabel → Bool

@@ -19,7 +19,7 @@ use wgsl_stack::Stack;
 use wgsl_template_spec::SpannedTemplateToken;
 
 /// How deep trees may be nested. A deeper one is refused as if memory were: what walks trees takes room on the call stack at each level.
-pub const MAX_DEPTH: u32 = 4200;
+pub const MAX_DEPTH: u32 = 2500;
 
 /// What a text or some tokens are read as.
 #[derive(Clone, Copy, Debug, PartialEq, Eq)]
@@ -69,11 +69,11 @@ fn ahead(next: Option<&SpannedTemplateToken>) -> u16
     }
 }
 
-/// Names and their paths nest nothing, but for templates and arguments.
+/// Names and their paths nest nothing, but for templates. A call nests as the expression or the statement that it is.
 fn name_nests(label: NameLabel) -> bool
     ensures { result ≡ name_nests label }
 {
-    matches!(label, NameLabel::Templated | NameLabel::Call)
+    matches!(label, NameLabel::Templated)
 }
 
 fn import_nests(label: ImportLabel) -> bool
