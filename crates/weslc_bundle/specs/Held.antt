@@ -20,6 +20,6 @@ Holds resolver modules = (p : List ℕ) → text_at resolver p ≡ text_in modul
 abbrev pub Texts : Type 0
 Texts = List ℕ → Option (List ℕ)
 
--- what is found at a printed path: nothing where no module is, else the unit that its text derives, or its fault
+-- what is found at a printed path: nothing where no module is, else what its text says: a unit, its fault, or that it is beyond the part
 abbrev pub found_by : Texts → List ℕ → Answer → Type 0
 found_by texts p a = found_in (texts p) a
