@@ -1,6 +1,7 @@
 //! Statements, declarations and imports of units, and units.
 
-ghost use Rattle.std.specs.Prelude.{map, Some};
+ghost use Rattle.std.specs.Prelude.{◌≡◌, map, flat_map, Some, IfOk};
+ghost use Rattle.std.specs.Option.{option_map};
 ghost use Rattle.wgsl_statements.specs.View as whole_statements;
 ghost use Rattle.wgsl_imports.specs.View as whole_imports;
 ghost use Rattle.wgsl_declarations.specs.View as whole;
@@ -8,6 +9,8 @@ ghost use Rattle.wgsl_simple_statements.specs.View as whole_simple;
 ghost use Rattle.wgsl_simple_statements.specs.Tree as simple;
 ghost use Rattle.wgsl_statements.specs.Tree as stm;
 ghost use Rattle.wgsl_syntax.specs.View.{statement_tree, block_tree, parameter_tree, declaration_tree, import_tree, unit_tree};
+ghost use Rattle.wgsl_part.specs.Places as part;
+ghost use Rattle.wgsl_part.specs.ModulePlaces as places;
 ghost use Rattle.wgsl_part.specs.Trees.{return_tree, statements_tree, parameters_tree, declarations_tree, imports_tree, variable_tree, function_tree, item_tree};
 ghost use Rattle.wgsl_part.specs.Narrowing.{Answers, AnswersOptional, Narrows, each, narrow_stm, narrow_stms, narrow_block, narrow_param, narrow_kind, narrow_decl, narrow_content, narrow_imp, narrow_unit, without_directives};
 
@@ -32,7 +35,8 @@ fn narrow_return(
     alloc: Global,
     x: &whole_simple::ReturnStatement,
 ) -> Result<ReturnStatement, NarrowError>
-    ensures { Answers return_tree (narrow_stm (stm.simple (whole_simple.return_tree x.now))) result }
+    ensures tree { Answers return_tree (narrow_stm (stm.simple (whole_simple.return_tree x.now))) result }
+    ensures places { IfOk result (λ y. part.in_return y ≡ places.in_return x.now) }
 {
     let attributes = narrow_attributes(alloc, &x.attributes.as_slice())?;
     let expression = narrow_optional(alloc, &x.expression)?;
@@ -43,12 +47,13 @@ fn narrow_return(
 }
 
 /// A `;` is left out.
-#[tactic(auto, using(wgsl_statements::proofs::Trees::tree_of_void, wgsl_statements::proofs::Trees::tree_of_compound, wgsl_statements::proofs::Trees::tree_of_assignment, wgsl_statements::proofs::Trees::tree_of_increment, wgsl_statements::proofs::Trees::tree_of_decrement, wgsl_statements::proofs::Trees::tree_of_if, wgsl_statements::proofs::Trees::tree_of_switch, wgsl_statements::proofs::Trees::tree_of_loop, wgsl_statements::proofs::Trees::tree_of_for, wgsl_statements::proofs::Trees::tree_of_while, wgsl_statements::proofs::Trees::tree_of_break, wgsl_statements::proofs::Trees::tree_of_continue, wgsl_statements::proofs::Trees::tree_of_return, wgsl_statements::proofs::Trees::tree_of_discard, wgsl_statements::proofs::Trees::tree_of_call, wgsl_statements::proofs::Trees::tree_of_assertion, wgsl_statements::proofs::Trees::tree_of_value))]
+#[tactic(auto, using(wgsl_statements::proofs::Trees::tree_of_void, wgsl_statements::proofs::Trees::tree_of_compound, wgsl_statements::proofs::Trees::tree_of_assignment, wgsl_statements::proofs::Trees::tree_of_increment, wgsl_statements::proofs::Trees::tree_of_decrement, wgsl_statements::proofs::Trees::tree_of_if, wgsl_statements::proofs::Trees::tree_of_switch, wgsl_statements::proofs::Trees::tree_of_loop, wgsl_statements::proofs::Trees::tree_of_for, wgsl_statements::proofs::Trees::tree_of_while, wgsl_statements::proofs::Trees::tree_of_break, wgsl_statements::proofs::Trees::tree_of_continue, wgsl_statements::proofs::Trees::tree_of_return, wgsl_statements::proofs::Trees::tree_of_discard, wgsl_statements::proofs::Trees::tree_of_call, wgsl_statements::proofs::Trees::tree_of_assertion, wgsl_statements::proofs::Trees::tree_of_value, crate::proofs::PlacedWhole::in_void, crate::proofs::PlacedWhole::in_returning))]
 fn narrow_statement(
     alloc: Global,
     statement: &whole_statements::Statement,
 ) -> Result<Option<Statement>, NarrowError>
-    ensures { AnswersOptional statement_tree narrow_stm (whole_statements.statement_tree statement.now) result }
+    ensures tree { AnswersOptional statement_tree narrow_stm (whole_statements.statement_tree statement.now) result }
+    ensures places { IfOk result (λ x. option_map part.in_statement x ≡ places.in_statement statement.now) }
 {
     match statement {
         whole_statements::Statement::Void => Ok(None),
@@ -63,7 +68,8 @@ fn narrow_statements(
     alloc: Global,
     nodes: &[whole_statements::StatementNode],
 ) -> Result<Items<StatementNode>, NarrowError>
-    ensures { Answers statements_tree (narrow_stms (whole_statements.statements_tree nodes.now)) result }
+    ensures tree { Answers statements_tree (narrow_stms (whole_statements.statements_tree nodes.now)) result }
+    ensures places { IfOk result (λ x. part.in_statements x ≡ places.in_statements nodes.now) }
 {
     let mut narrowed = Items::new(alloc);
     for node in nodes {
@@ -79,7 +85,8 @@ fn narrow_block(
     alloc: Global,
     block: &whole_statements::CompoundStatement,
 ) -> Result<CompoundStatement, NarrowError>
-    ensures { Answers block_tree (narrow_block (whole_statements.block_tree block.now)) result }
+    ensures tree { Answers block_tree (narrow_block (whole_statements.block_tree block.now)) result }
+    ensures places { IfOk result (λ x. part.in_block x ≡ places.in_block block.now) }
 {
     let attributes = narrow_attributes(alloc, &block.attributes.as_slice())?;
     let statements = narrow_statements(alloc, &block.statements.as_slice())?;
@@ -93,7 +100,8 @@ fn narrow_parameter(
     alloc: Global,
     x: &whole::FormalParameter,
 ) -> Result<FormalParameter, NarrowError>
-    ensures { Answers parameter_tree (narrow_param (whole.parameter_tree x.now)) result }
+    ensures tree { Answers parameter_tree (narrow_param (whole.parameter_tree x.now)) result }
+    ensures places { IfOk result (λ y. part.in_parameter y ≡ places.in_parameter x.now) }
 {
     let attributes = narrow_attributes(alloc, &x.attributes.as_slice())?;
     let ty = narrow_type(alloc, &x.ty)?;
@@ -109,7 +117,8 @@ fn narrow_parameters(
     alloc: Global,
     parameters: &[whole::FormalParameter],
 ) -> Result<Items<FormalParameter>, NarrowError>
-    ensures { Answers parameters_tree (each narrow_param (map whole.parameter_tree parameters.now)) result }
+    ensures tree { Answers parameters_tree (each narrow_param (map whole.parameter_tree parameters.now)) result }
+    ensures places { IfOk result (λ x. flat_map part.in_parameter x ≡ flat_map places.in_parameter parameters.now) }
 {
     let mut narrowed = Items::new(alloc);
     for parameter in parameters {
@@ -128,7 +137,8 @@ fn narrow_kind(kind: whole_simple::DeclarationKind) -> Result<DeclarationKind, N
 }
 
 fn narrow_variable(alloc: Global, x: &whole_simple::Declaration) -> Result<Declaration, NarrowError>
-    ensures { Answers variable_tree (narrow_decl (whole.variable_tree x.now)) result }
+    ensures tree { Answers variable_tree (narrow_decl (whole.variable_tree x.now)) result }
+    ensures places { IfOk result (λ y. part.in_variable y ≡ places.in_variable x.now) }
 {
     let attributes = narrow_attributes(alloc, &x.attributes.as_slice())?;
     let kind = narrow_kind(x.kind)?;
@@ -145,7 +155,8 @@ fn narrow_variable(alloc: Global, x: &whole_simple::Declaration) -> Result<Decla
 }
 
 fn narrow_function(alloc: Global, x: &whole::Function) -> Result<Function, NarrowError>
-    ensures { Answers function_tree (narrow_decl (whole.function_tree x.now)) result }
+    ensures tree { Answers function_tree (narrow_decl (whole.function_tree x.now)) result }
+    ensures places { IfOk result (λ y. part.in_function y ≡ places.in_function x.now) }
 {
     let attributes = narrow_attributes(alloc, &x.attributes.as_slice())?;
     let parameters = narrow_parameters(alloc, &x.parameters.as_slice())?;
@@ -168,7 +179,8 @@ fn narrow_declaration(
     alloc: Global,
     declaration: &whole::GlobalDeclaration,
 ) -> Result<Option<GlobalDeclaration>, NarrowError>
-    ensures { AnswersOptional declaration_tree narrow_decl (whole.declaration_tree declaration.now) result }
+    ensures tree { AnswersOptional declaration_tree narrow_decl (whole.declaration_tree declaration.now) result }
+    ensures places { IfOk result (λ x. option_map part.in_declaration x ≡ places.in_declaration declaration.now) }
 {
     match declaration {
         whole::GlobalDeclaration::Void => Ok(None),
@@ -186,7 +198,8 @@ fn narrow_declarations(
     alloc: Global,
     nodes: &[whole::GlobalDeclarationNode],
 ) -> Result<Items<GlobalDeclarationNode>, NarrowError>
-    ensures { Answers declarations_tree (each narrow_decl (whole.declarations_tree nodes.now)) result }
+    ensures tree { Answers declarations_tree (each narrow_decl (whole.declarations_tree nodes.now)) result }
+    ensures places { IfOk result (λ x. part.in_declarations x ≡ places.in_declarations nodes.now) }
 {
     let mut narrowed = Items::new(alloc);
     for node in nodes {
@@ -214,7 +227,8 @@ fn narrow_import(
     alloc: Global,
     x: &whole_imports::ImportStatement,
 ) -> Result<ImportStatement, NarrowError>
-    ensures { Answers import_tree (narrow_imp (whole_imports.importing_tree x.now)) result }
+    ensures tree { Answers import_tree (narrow_imp (whole_imports.importing_tree x.now)) result }
+    ensures places { IfOk result (λ y. part.in_import y ≡ places.in_import x.now) }
 {
     let attributes = narrow_attributes(alloc, &x.attributes.as_slice())?;
     let item = narrow_item(alloc, &x.content)?;
@@ -230,7 +244,8 @@ fn narrow_imports(
     alloc: Global,
     imports: &[whole_imports::ImportStatement],
 ) -> Result<Items<ImportStatement>, NarrowError>
-    ensures { Answers imports_tree (each narrow_imp (map whole_imports.importing_tree imports.now)) result }
+    ensures tree { Answers imports_tree (each narrow_imp (map whole_imports.importing_tree imports.now)) result }
+    ensures places { IfOk result (λ x. flat_map part.in_import x ≡ flat_map places.in_import imports.now) }
 {
     let mut narrowed = Items::new(alloc);
     for import in imports {
@@ -249,7 +264,8 @@ fn no_directives(directives: &[whole_imports::GlobalDirective]) -> Result<(), Na
 }
 
 fn narrowed(alloc: Global, unit: &whole::TranslationUnit) -> Result<TranslationUnit, NarrowError>
-    ensures { Answers unit_tree (narrow_unit (whole.unit_tree unit.now)) result }
+    ensures tree { Answers unit_tree (narrow_unit (whole.unit_tree unit.now)) result }
+    ensures places { IfOk result (λ x. part.places x ≡ places.places unit.now) }
 {
     no_directives(unit.global_directives.as_slice())?;
     let imports = narrow_imports(alloc, unit.imports.as_slice())?;
@@ -264,7 +280,8 @@ fn narrowed(alloc: Global, unit: &whole::TranslationUnit) -> Result<TranslationU
 /// that `link` and `compile` read.
 #[tactic(auto, using(crate::proofs::Lying::narrows))]
 pub fn narrow(alloc: Global, unit: &whole::TranslationUnit) -> Result<TranslationUnit, NarrowError>
-    ensures { Narrows (whole.unit_tree unit.now) result }
+    ensures unit { Narrows (whole.unit_tree unit.now) result }
+    ensures places { IfOk result (λ x. part.places x ≡ places.places unit.now) }
 {
     narrowed(alloc, unit)
 }

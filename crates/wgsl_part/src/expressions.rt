@@ -1,6 +1,6 @@
 //! Expressions, types and attributes of units.
 
-ghost use Rattle.std.specs.Prelude.{map};
+ghost use Rattle.std.specs.Prelude.{◌≡◌, map, flat_map, IfOk};
 ghost use Rattle.std.specs.Option.{option_map};
 ghost use Rattle.wgsl_expressions.specs.Tree as exp;
 ghost use Rattle.wgsl_expressions.specs.View as whole;
@@ -8,6 +8,8 @@ ghost use Rattle.wgsl_attributes.specs.View as whole_attributes;
 ghost use Rattle.wgsl_syntax.specs.Tree.{exps};
 ghost use Rattle.wgsl_syntax.specs.View.{tree, node_tree, type_tree, type_layer, call_layer, attribute_tree, attributes_tree};
 ghost use Rattle.wgsl_part.specs.Narrowing.{Answers, narrow_literal, narrow_exp, narrow_exps, narrow_typ, narrow_attr, narrow_attrs, maybe};
+ghost use Rattle.wgsl_part.specs.Places as part;
+ghost use Rattle.wgsl_part.specs.ModulePlaces as places;
 ghost use Rattle.wgsl_part.specs.Trees.{binary_tree, call_tree, nodes_tree, arguments_tree};
 
 use crate::error::NarrowError;
@@ -37,7 +39,8 @@ fn narrow_expression(
     alloc: Global,
     expression: &whole::Expression,
 ) -> Result<Expression, NarrowError>
-    ensures { Answers tree (narrow_exp (whole.tree expression.now)) result }
+    ensures tree { Answers tree (narrow_exp (whole.tree expression.now)) result }
+    ensures places { IfOk result (λ x. part.in_expression x ≡ places.in_expression expression.now) }
 {
     match expression {
         whole::Expression::Literal(x) => Ok(Expression::Literal(narrow_number(x)?)),
@@ -70,7 +73,8 @@ pub(crate) fn narrow_node(
     alloc: Global,
     node: &whole::ExpressionNode,
 ) -> Result<ExpressionNode, NarrowError>
-    ensures { Answers node_tree (narrow_exp (whole.node_tree node.now)) result }
+    ensures tree { Answers node_tree (narrow_exp (whole.node_tree node.now)) result }
+    ensures places { IfOk result (λ x. part.in_node x ≡ places.in_node node.now) }
 {
     let expression = narrow_expression(alloc, node.node())?;
     Ok(Spanned::new(alloc, expression, node.span)?)
@@ -81,7 +85,8 @@ fn narrow_binary(
     alloc: Global,
     x: &whole::BinaryExpression,
 ) -> Result<BinaryExpression, NarrowError>
-    ensures { Answers binary_tree (narrow_exp (exp.binary x.now.operator (whole.node_tree x.now.left) (whole.node_tree x.now.right))) result }
+    ensures tree { Answers binary_tree (narrow_exp (exp.binary x.now.operator (whole.node_tree x.now.left) (whole.node_tree x.now.right))) result }
+    ensures places { IfOk result (λ y. part.binary_layer part.in_expression y ≡ places.binary_layer places.in_expression x.now) }
 {
     let left = narrow_node(alloc, &x.left)?;
     let right = narrow_node(alloc, &x.right)?;
@@ -94,7 +99,8 @@ fn narrow_binary(
 
 #[cycle(narrow)]
 fn narrow_call(alloc: Global, x: &whole::FunctionCall) -> Result<FunctionCall, NarrowError>
-    ensures { Answers call_tree (narrow_exp (whole.call_layer whole.tree x.now)) result }
+    ensures tree { Answers call_tree (narrow_exp (whole.call_layer whole.tree x.now)) result }
+    ensures places { IfOk result (λ y. part.call_layer part.in_expression y ≡ places.call_layer places.in_expression x.now) }
 {
     let ty = narrow_type(alloc, &x.ty)?;
     let arguments = narrow_nodes(alloc, x.arguments.as_slice())?;
@@ -106,7 +112,8 @@ fn narrow_nodes(
     alloc: Global,
     nodes: &[whole::ExpressionNode],
 ) -> Result<Items<ExpressionNode>, NarrowError>
-    ensures { Answers nodes_tree (narrow_exps (exp.exps (map whole.node_tree nodes.now))) result }
+    ensures tree { Answers nodes_tree (narrow_exps (exp.exps (map whole.node_tree nodes.now))) result }
+    ensures places { IfOk result (λ x. flat_map part.in_node x ≡ flat_map places.in_node nodes.now) }
 {
     let mut narrowed = Items::new(alloc);
     for node in nodes {
@@ -120,7 +127,8 @@ pub(crate) fn narrow_type(
     alloc: Global,
     ty: &whole::TypeExpression,
 ) -> Result<TypeExpression, NarrowError>
-    ensures { Answers type_tree (narrow_typ (whole.type_tree ty.now)) result }
+    ensures tree { Answers type_tree (narrow_typ (whole.type_tree ty.now)) result }
+    ensures places { IfOk result (λ x. part.in_type x ≡ places.in_type ty.now) }
 {
     let template_args = match &ty.template_args {
         None => None,
@@ -141,7 +149,8 @@ fn narrow_arguments(
     alloc: Global,
     arguments: &[whole::TemplateArg],
 ) -> Result<Items<TemplateArg>, NarrowError>
-    ensures { Answers arguments_tree (narrow_exps (exp.exps (map (λ a. whole.node_tree a.expression) arguments.now))) result }
+    ensures tree { Answers arguments_tree (narrow_exps (exp.exps (map (λ a. whole.node_tree a.expression) arguments.now))) result }
+    ensures places { IfOk result (λ x. flat_map (part.in_argument part.in_expression) x ≡ flat_map (places.in_argument places.in_expression) arguments.now) }
 {
     let mut narrowed = Items::new(alloc);
     for argument in arguments {
@@ -155,7 +164,8 @@ pub(crate) fn narrow_optional(
     alloc: Global,
     node: &Option<whole::ExpressionNode>,
 ) -> Result<Option<ExpressionNode>, NarrowError>
-    ensures { Answers (option_map node_tree) (maybe narrow_exp (option_map whole.node_tree node.now)) result }
+    ensures tree { Answers (option_map node_tree) (maybe narrow_exp (option_map whole.node_tree node.now)) result }
+    ensures places { IfOk result (λ x. part.in_optional part.in_node x ≡ part.in_optional places.in_node node.now) }
 {
     match node {
         None => Ok(None),
@@ -167,7 +177,8 @@ pub(crate) fn narrow_optional_type(
     alloc: Global,
     ty: &Option<whole::TypeExpression>,
 ) -> Result<Option<TypeExpression>, NarrowError>
-    ensures { Answers (option_map type_tree) (maybe narrow_typ (option_map whole.type_tree ty.now)) result }
+    ensures tree { Answers (option_map type_tree) (maybe narrow_typ (option_map whole.type_tree ty.now)) result }
+    ensures places { IfOk result (λ x. part.in_optional part.in_type x ≡ part.in_optional places.in_type ty.now) }
 {
     match ty {
         None => Ok(None),
@@ -179,7 +190,8 @@ fn narrow_attribute(
     alloc: Global,
     attribute: &whole_attributes::Attribute,
 ) -> Result<Attribute, NarrowError>
-    ensures { Answers attribute_tree (narrow_attr (whole_attributes.attribute_tree attribute.now)) result }
+    ensures tree { Answers attribute_tree (narrow_attr (whole_attributes.attribute_tree attribute.now)) result }
+    ensures places { IfOk result (λ x. part.in_attribute x ≡ places.in_attribute attribute.now) }
 {
     match attribute {
         whole_attributes::Attribute::Fragment => Ok(Attribute::Fragment),
@@ -194,7 +206,8 @@ pub(crate) fn narrow_attributes(
     alloc: Global,
     attributes: &[whole_attributes::AttributeNode],
 ) -> Result<Attributes, NarrowError>
-    ensures { Answers attributes_tree (narrow_attrs (whole_attributes.attributes_tree attributes.now)) result }
+    ensures tree { Answers attributes_tree (narrow_attrs (whole_attributes.attributes_tree attributes.now)) result }
+    ensures places { IfOk result (λ x. part.in_attributes x ≡ places.in_attributes attributes.now) }
 {
     let mut narrowed = Items::new(alloc);
     for attribute in attributes {

@@ -1,5 +1,6 @@
 -- What is parsed of a text, and that it is one thing.
 use Rattle.std.proofs.Common.{◌≡◌, inl, inr, sym, ap, ◌∙◌, ℕ, List, true, false, Result, Ok, Err}
+use Rattle.std.specs.Prelude.{IfOk}
 use Rattle.wgsl_error.specs.declared.error.ErrorKind.TheVariants as kind
 use Rattle.wgsl_error.specs.declared.error.Error.{Error}
 use Rattle.wgsl_declarations.specs.declared.unit.TranslationUnit.{TranslationUnit as Module}
@@ -9,12 +10,14 @@ use Rattle.wgsl_syntax.specs.declared.unit.TranslationUnit.{TranslationUnit}
 use Rattle.wgsl_syntax.specs.View.{unit_tree}
 use Rattle.wgsl_part.specs.InPart.{is_unit}
 use Rattle.wgsl_part.specs.Narrowing.{Narrows}
+use Rattle.wgsl_part.specs.Places.{places}
+use Rattle.wgsl_part.specs.ModulePlaces as whole_places
 use Rattle.wgsl_part.specs.declared.error.NarrowError.{NarrowError}
 use Rattle.wgsl_part.specs.declared.error.NarrowError.TheVariants as narrowing
 use Rattle.wgsl_part.proofs.Lying.{one_unit}
 use Rattle.wgsl_part_texts.specs.declared.error.PartError.{PartError}
 use Rattle.wgsl_part_texts.specs.declared.error.PartError.TheVariants as refusal
-use Rattle.wgsl_part_texts.specs.Texts.{Parses, Finds, of_narrowing}
+use Rattle.wgsl_part_texts.specs.Texts.{Parses, Finds, StandsIn, of_narrowing}
 
 pub found : (module_ : Module) (u : TranslationUnit) → Narrows (whole.unit_tree module_) (Ok u) → is_unit (unit_tree u) ≡ true → Finds module_ (Ok u)
 found m u is there = (is, there)
@@ -33,6 +36,11 @@ parsed text m (Ok u) says (is, there) = record { is_text = record { unit = m; sa
 parsed text m (Err (refusal.Syntax e)) says wrong = absurd wrong
 parsed text m (Err refusal.Unsupported) says none = record { unit = m; says = says; beyond = none }
 parsed text m (Err refusal.OutOfMemory) says none = tt
+
+pub stands : (text : List ℕ) (module_ : Module) (r : Result TranslationUnit PartError) → ParsesModule text (Ok module_) → IfOk r (λ u. places u ≡ whole_places.places module_)
+    → IfOk r (StandsIn text)
+stands text m (Ok u) says same = record { unit = m; says = says; same_places = same }
+stands text m (Err e) says same = tt
 
 -- an error of another kind than want of memory is the fault of the text
 pub whole_fault : (text : List ℕ) (e : Error) → (e.kind ≡ kind.OutOfMemory → ⊥) → ParsesModule text (Err e) → IsModuleFault text e

@@ -17,6 +17,8 @@ use Rattle.wgsl_part.specs.declared.error.NarrowError.{NarrowError}
 use Rattle.wgsl_part.specs.declared.error.NarrowError.TheVariants as narrowing
 use Rattle.wgsl_part.specs.Widening.{widen_decl, widen_unit}
 use Rattle.wgsl_part.specs.InPart.{IsInPart}
+use Rattle.wgsl_part.specs.Places.{places}
+use Rattle.wgsl_part.specs.ModulePlaces as whole_places
 use Rattle.wgsl_derivable.specs.Derivable.{Says, SaysTree, IsDerivable}
 use Rattle.wgsl_check_unit.specs.Telling.{IsTold}
 use Rattle.wgsl_part_texts.specs.declared.error.PartError.{PartError}
@@ -42,6 +44,12 @@ pub record IsBeyondPart (text : List ℕ) : Type 0 where
   pub unit : Module
   pub says : Says text unit
   pub beyond : (u : UnitTree) → widen_unit u ≡ whole.unit_tree unit → IsInPart u → ⊥
+
+-- The nodes of the unit stand in the text where those of the module do that the text says.
+pub record StandsIn (text : List ℕ) (u : TranslationUnit) : Type 0 where
+  pub unit : Module
+  pub says : Says text unit
+  pub same_places : places u ≡ whole_places.places unit
 
 -- ---- what calls say
 

@@ -1,6 +1,9 @@
 //! Texts parsed as units of the part.
 
-ghost use Rattle.wgsl_part_texts.specs.Texts.{Parses, Finds};
+ghost use Rattle.std.specs.Prelude.{◌≡◌, IfOk};
+ghost use Rattle.wgsl_part.specs.Places as part;
+ghost use Rattle.wgsl_part.specs.ModulePlaces as places;
+ghost use Rattle.wgsl_part_texts.specs.Texts.{Parses, Finds, StandsIn};
 
 use crate::error::PartError;
 use std::alloc::Global;
@@ -11,10 +14,11 @@ use wgsl_syntax::TranslationUnit;
 
 /// The unit of the part that a module is.
 #[tactic(auto, using(crate::proofs::Reading::found, crate::proofs::Reading::more_than_part, crate::proofs::Reading::none_found))]
-fn unit_of(alloc: Global, module: &whole::TranslationUnit) -> Result<TranslationUnit, PartError>
-    ensures { Finds module.now result }
+fn unit_of(alloc: Global, parsed: &whole::TranslationUnit) -> Result<TranslationUnit, PartError>
+    ensures unit { Finds parsed.now result }
+    ensures places { IfOk result (λ u. part.places u ≡ places.places parsed.now) }
 {
-    let unit = narrow(alloc, module)?;
+    let unit = narrow(alloc, parsed)?;
     if is_in_part(&unit) {
         Ok(unit)
     } else {
@@ -23,10 +27,11 @@ fn unit_of(alloc: Global, module: &whole::TranslationUnit) -> Result<Translation
 }
 
 /// The unit of the part of which this is a text, or the first fault of the text, or that it is a module which uses what is beyond the part.
-/// Places are those in the text, in bytes.
-#[tactic(auto, using(crate::proofs::Reading::parsed, crate::proofs::Reading::whole_fault))]
+/// Its nodes stand where the parser says those of the module do, in bytes.
+#[tactic(auto, using(crate::proofs::Reading::parsed, crate::proofs::Reading::stands, crate::proofs::Reading::whole_fault))]
 pub fn parse_part(alloc: Global, text: &str) -> Result<TranslationUnit, PartError>
-    ensures { Parses text.now result }
+    ensures unit { Parses text.now result }
+    ensures places { IfOk result (StandsIn text.now) }
 {
     match parse_str(alloc, text) {
         Ok(module) => unit_of(alloc, &module),
