@@ -1,8 +1,10 @@
 -- How statements are printed (this project's own layout): each a line or lines, four spaces deeper for each level of nesting.
-use Rattle.std.specs.Prelude.{ℕ, ◌+◌, Bool, if◌then◌else◌, List, [], ◌∷◌, ◌++◌, Option, Some, None, codes}
+use Rattle.std.specs.Prelude.{ℕ, ◌+◌, List, [], ◌∷◌, ◌++◌, Option, Some, None, codes}
 use Rattle.wgsl_expressions.specs.Tree.{Exp}
-use Rattle.wgsl_expressions.specs.Print.{exp_text, indent}
+use Rattle.wgsl_expressions.specs.Print.{indent}
 use Rattle.wgsl_attributes.specs.Print.{attrs_text}
+pub use Rattle.wgsl_statement_pieces.specs.Print.{opening, closing, condition_text}
+unfoldable pub use Rattle.wgsl_statement_pieces.specs.Print.{head_text}
 use Rattle.wgsl_simple_statements.specs.Tree.{BreakIf}
 use Rattle.wgsl_simple_statements.specs.Print.{simple_text, break_if_text, case_head}
 use Rattle.wgsl_statements.specs.Tree.{Stm, simple, compound_statement, if_statement, switch_statement, loop_statement, for_statement, while_statement, Stms, nil, cons, Block, block, Elses, no_else, else_clause, else_if_clause, Clauses, no_clauses, switch_clause, Continuing, no_continuing, continuing_statement, Part, absent, present}
@@ -11,22 +13,6 @@ use Rattle.wgsl_statements.specs.Tree.{Stm, simple, compound_statement, if_state
 abbrev pub braced : ℕ → List ℕ → List ℕ
 braced level [] = codes "{}"
 braced level (c ∷ cs) = codes "{\n" ++ (c ∷ cs) ++ indent level ++ codes "}"
-
--- the first brace, with lines behind it or without
-abbrev pub opening : Bool → List ℕ
-opening filled = if filled then codes "{\n" else codes "{"
-
--- the last brace, with lines before it or without
-abbrev pub closing : ℕ → Bool → List ℕ
-closing level filled = if filled then (indent level ++ codes "}") else codes "}"
-
--- a word and an expression, up to what is in braces
-unfoldable pub head_text : List ℕ → Exp → List ℕ
-head_text word x = word ++ exp_text x ++ codes " "
-
-abbrev pub condition_text : Option Exp → List ℕ
-condition_text None = []
-condition_text (Some x) = exp_text x
 
 -- `for` and its header, up to what is in braces
 unfoldable pub header_text : List ℕ → Option Exp → List ℕ → List ℕ

@@ -9,8 +9,8 @@ ghost use Rattle.wgsl_statements.specs.View.{statement_tree, block_tree, if_laye
 ghost use Rattle.wgsl_statements.specs.Print.{head_text, block_text, continuing_text, stm_text, lines_text};
 
 use crate::print::{
-    write_block, write_continuing, write_for, write_head, write_if, write_loop, write_statement,
-    write_switch, write_while,
+    write_block, write_continuing, write_for, write_if, write_loop, write_statement, write_switch,
+    write_while,
 };
 use crate::statement::{
     CompoundStatement, ContinuingStatement, ElseClause, ElseIfClause, ForStatement, IfClause,
@@ -18,6 +18,7 @@ use crate::statement::{
 };
 use std::fmt;
 use wgsl_simple_statements::write_case_head;
+use wgsl_statement_pieces::write_head;
 
 impl fmt::Display for Statement {
     ghost output = { λ x. Some (lines_text 0 (statement_tree x)) };

@@ -11,17 +11,21 @@ ghost use Rattle.wgsl_attributes.specs.Print.{attrs_text};
 ghost use Rattle.wgsl_simple_statements.specs.View.{break_if_tree, selector_tree};
 ghost use Rattle.wgsl_simple_statements.specs.Print.{case_head};
 ghost use Rattle.wgsl_statements.specs.View.{statement_tree, block_tree, part, part_layer, else_layer, if_layer, switch_layer, continuing_layer, loop_layer, for_layer, while_layer};
-ghost use Rattle.wgsl_statements.specs.Print.{opening, closing, head_text, condition_text, break_line, bare_text, block_text, elses_text, continuing_text, part_text, behind_text, lines_text};
+ghost use Rattle.wgsl_statements.specs.Print.{opening, closing, head_text, break_line, bare_text, block_text, elses_text, continuing_text, part_text, behind_text, lines_text};
 
 use crate::statement::{
     CompoundStatement, ContinuingStatement, ElseClause, ElseIfClause, ForStatement, IfStatement,
     LoopStatement, Statement, StatementNode, SwitchClause, SwitchStatement, WhileStatement,
 };
 use std::fmt;
-use std::fmt::Display;
-use wgsl_attributes::{AttributeNode, write_attributes};
-use wgsl_expressions::{ExpressionNode, write_indent};
+use wgsl_attributes::write_attributes;
+use wgsl_expressions::write_indent;
+use wgsl_items::Items;
 use wgsl_simple_statements::{BreakIfStatement, write_case_head};
+use wgsl_statement_pieces::{
+    write_attributed_head, write_closing, write_condition, write_for_front, write_head,
+    write_last_line, write_opening, write_switch_front, write_word_front,
+};
 
 /// Is it more than a `;`?
 #[tactic(auto, using(crate::proofs::Trees::tree_of_void, crate::proofs::Trees::tree_of_compound, crate::proofs::Trees::tree_of_assignment, crate::proofs::Trees::tree_of_increment, crate::proofs::Trees::tree_of_decrement, crate::proofs::Trees::tree_of_if, crate::proofs::Trees::tree_of_switch, crate::proofs::Trees::tree_of_loop, crate::proofs::Trees::tree_of_for, crate::proofs::Trees::tree_of_while, crate::proofs::Trees::tree_of_break, crate::proofs::Trees::tree_of_continue, crate::proofs::Trees::tree_of_return, crate::proofs::Trees::tree_of_discard, crate::proofs::Trees::tree_of_call, crate::proofs::Trees::tree_of_assertion, crate::proofs::Trees::tree_of_value))]
@@ -43,6 +47,13 @@ fn has_statement(statements: &[StatementNode]) -> bool
         .any(|statement| is_statement(statement.node()))
 }
 
+/// Is one of them more than a `;`, or are there more lines behind them?
+fn is_filled(statements: &Items<StatementNode>, more: bool) -> bool
+    ensures { result ≡ (list_any (λ n. is_some (statement_tree n.node)) statements.now || more) }
+{
+    has_statement(statements.as_slice()) || more
+}
+
 /// Is there a line in its braces?
 fn is_block_filled(compound: &CompoundStatement) -> bool
     ensures { result ≡ list_any (λ n. is_some (statement_tree n.node)) compound.now.statements }
@@ -50,139 +61,10 @@ fn is_block_filled(compound: &CompoundStatement) -> bool
     has_statement(compound.statements.as_slice())
 }
 
-/// Is there a line in its braces?
-fn is_loop_filled(x: &LoopStatement) -> bool
-    ensures { result ≡ (list_any (λ n. is_some (statement_tree n.node)) x.now.body.statements || is_some x.now.continuing) }
-{
-    is_block_filled(&x.body) || x.continuing.is_some()
-}
-
-/// Is there a line in its braces?
-fn is_continuing_filled(x: &ContinuingStatement) -> bool
-    ensures { result ≡ (list_any (λ n. is_some (statement_tree n.node)) x.now.body.statements || is_some x.now.break_if) }
-{
-    is_block_filled(&x.body) || x.break_if.is_some()
-}
-
-fn has_clause(clauses: &[SwitchClause]) -> bool
+fn has_clause(clauses: &Items<SwitchClause>) -> bool
     ensures { result ≡ not (length clauses.now == 0) }
 {
-    !clauses.is_empty()
-}
-
-/// Writes the first brace, with lines behind it or without.
-fn write_opening<W: fmt::Write>(filled: bool, f: &mut fmt::Formatter<W>) -> fmt::Result
-    ensures { WritesOnOk W.write_str_gives f.old result (opening filled) f.new }
-{
-    f.write_str(if filled { "{\n" } else { "{" })
-}
-
-/// Writes the last brace, with lines before it or without.
-fn write_closing<W: fmt::Write>(level: u32, filled: bool, f: &mut fmt::Formatter<W>) -> fmt::Result
-    ensures { WritesOnOk W.write_str_gives f.old result (closing level filled) f.new }
-{
-    if filled {
-        write_indent(level, f)?;
-        f.write_str("}")
-    } else {
-        f.write_str("}")
-    }
-}
-
-/// Writes a word and an expression, up to what is in braces.
-#[tactic(auto, unfolding(crate::specs::Print::head_text))]
-pub(crate) fn write_head<W: fmt::Write>(
-    word: &str,
-    expression: &ExpressionNode,
-    f: &mut fmt::Formatter<W>,
-) -> fmt::Result
-    ensures { WritesOnOk W.write_str_gives f.old result (head_text word.now (node_tree expression.now)) f.new }
-{
-    f.write_str(word)?;
-    expression.node().fmt(f)?;
-    f.write_str(" ")
-}
-
-/// Writes `for` up to what stands in its parentheses.
-fn write_for_front<W: fmt::Write>(x: &ForStatement, f: &mut fmt::Formatter<W>) -> fmt::Result
-    ensures { WritesOnOk W.write_str_gives f.old result (attrs_text (attributes_tree x.now.attributes) ++ codes "for (") f.new }
-{
-    write_attributes(x.attributes.as_slice(), f)?;
-    f.write_str("for (")
-}
-
-/// Writes the condition of `for` and the `;` before and behind it.
-fn write_condition<W: fmt::Write>(
-    condition: &Option<ExpressionNode>,
-    f: &mut fmt::Formatter<W>,
-) -> fmt::Result
-    ensures { WritesOnOk W.write_str_gives f.old result (codes "; " ++ condition_text (option_map node_tree condition.now) ++ codes "; ") f.new }
-{
-    f.write_str("; ")?;
-    if let Some(condition) = condition {
-        condition.node().fmt(f)?;
-    }
-    f.write_str("; ")
-}
-
-/// Writes the attributes of a block and its first brace.
-fn write_front<W: fmt::Write>(
-    compound: &CompoundStatement,
-    filled: bool,
-    f: &mut fmt::Formatter<W>,
-) -> fmt::Result
-    ensures { WritesOnOk W.write_str_gives f.old result (attrs_text (attributes_tree compound.now.attributes) ++ opening filled) f.new }
-{
-    write_attributes(compound.attributes.as_slice(), f)?;
-    write_opening(filled, f)
-}
-
-/// Writes `if` up to its first block.
-fn write_if_front<W: fmt::Write>(x: &IfStatement, f: &mut fmt::Formatter<W>) -> fmt::Result
-    ensures { WritesOnOk W.write_str_gives f.old result (attrs_text (attributes_tree x.now.attributes) ++ head_text (codes "if ") (node_tree x.now.if_clause.expression)) f.new }
-{
-    write_attributes(x.attributes.as_slice(), f)?;
-    write_head("if ", &x.if_clause.expression, f)
-}
-
-/// Writes `switch` up to its first line.
-fn write_switch_front<W: fmt::Write>(
-    x: &SwitchStatement,
-    filled: bool,
-    f: &mut fmt::Formatter<W>,
-) -> fmt::Result
-    ensures { WritesOnOk W.write_str_gives f.old result (attrs_text (attributes_tree x.now.attributes) ++ head_text (codes "switch ") (node_tree x.now.expression) ++ attrs_text (attributes_tree x.now.body_attributes) ++ opening filled) f.new }
-{
-    write_attributes(x.attributes.as_slice(), f)?;
-    write_head("switch ", &x.expression, f)?;
-    write_attributes(x.body_attributes.as_slice(), f)?;
-    write_opening(filled, f)
-}
-
-/// Writes attributes and a word, up to the first line of the block behind it.
-fn write_word_front<W: fmt::Write>(
-    attributes: &[AttributeNode],
-    word: &str,
-    body: &CompoundStatement,
-    filled: bool,
-    f: &mut fmt::Formatter<W>,
-) -> fmt::Result
-    ensures { WritesOnOk W.write_str_gives f.old result (attrs_text (attributes_tree attributes.now) ++ word.now ++ attrs_text (attributes_tree body.now.attributes) ++ opening filled) f.new }
-{
-    write_attributes(attributes, f)?;
-    f.write_str(word)?;
-    write_front(body, filled, f)
-}
-
-/// Writes `loop` up to its first line.
-fn write_loop_front<W: fmt::Write>(
-    x: &LoopStatement,
-    filled: bool,
-    f: &mut fmt::Formatter<W>,
-) -> fmt::Result
-    ensures { WritesOnOk W.write_str_gives f.old result (attrs_text (attributes_tree x.now.attributes) ++ codes "loop " ++ attrs_text (attributes_tree x.now.body.attributes) ++ opening filled) f.new }
-{
-    write_word_front(x.attributes.as_slice(), "loop ", &x.body, filled, f)
+    !clauses.as_slice().is_empty()
 }
 
 /// Writes `continuing` up to its first line.
@@ -193,19 +75,13 @@ fn write_continuing_front<W: fmt::Write>(
 ) -> fmt::Result
     ensures { WritesOnOk W.write_str_gives f.old result (attrs_text (attributes_tree x.now.attributes) ++ codes "continuing " ++ attrs_text (attributes_tree x.now.body.attributes) ++ opening filled) f.new }
 {
-    write_word_front(x.attributes.as_slice(), "continuing ", &x.body, filled, f)
-}
-
-/// Writes the last brace and the end of its line.
-fn write_last_line<W: fmt::Write>(
-    level: u32,
-    filled: bool,
-    f: &mut fmt::Formatter<W>,
-) -> fmt::Result
-    ensures { WritesOnOk W.write_str_gives f.old result (closing level filled ++ codes "\n") f.new }
-{
-    write_closing(level, filled, f)?;
-    f.write_str("\n")
+    write_word_front(
+        x.attributes.as_slice(),
+        "continuing ",
+        x.body.attributes.as_slice(),
+        filled,
+        f,
+    )
 }
 
 fn write_break_if<W: fmt::Write>(
@@ -317,24 +193,24 @@ pub fn write_block<W: fmt::Write>(
 {
     let filled = is_block_filled(compound);
     write_attributes(compound.attributes.as_slice(), f)?;
-    write_block_pieces(compound, filled, level, f)
+    write_block_pieces(&compound.statements, filled, level, f)
 }
 
 /// Writes a block without its attributes.
 #[cycle(display)]
 fn write_block_pieces<W: fmt::Write>(
-    compound: &CompoundStatement,
+    statements: &Items<StatementNode>,
     filled: bool,
     level: u32,
     f: &mut fmt::Formatter<W>,
 ) -> fmt::Result
-    ensures { WritesOnOk W.write_str_gives f.old result (opening filled ++ flat_map (λ n. lines_text (level + 1) (statement_tree n.node)) compound.now.statements ++ closing level filled) f.new }
+    ensures { WritesOnOk W.write_str_gives f.old result (opening filled ++ flat_map (λ n. lines_text (level + 1) (statement_tree n.node)) statements.now ++ closing level filled) f.new }
 {
     let Some(inner) = level.checked_add(1) else {
         return Err(fmt::Error);
     };
     write_opening(filled, f)?;
-    write_statements(compound.statements.as_slice(), inner, f)?;
+    write_statements(statements.as_slice(), inner, f)?;
     write_closing(level, filled, f)
 }
 
@@ -346,8 +222,9 @@ pub(crate) fn write_if<W: fmt::Write>(
 ) -> fmt::Result
     ensures { WritesOnOk W.write_str_gives f.old result (bare_text level (if_layer statement_tree x.now)) f.new }
 {
-    write_if_front(x, f)?;
-    write_block(&x.if_clause.body, level, f)?;
+    let clause = &x.if_clause;
+    write_attributed_head(x.attributes.as_slice(), "if ", &clause.expression, f)?;
+    write_block(&clause.body, level, f)?;
     write_else_ifs(x.else_if_clauses.as_slice(), level, f)?;
     write_else(&x.else_clause, level, f)
 }
@@ -396,8 +273,14 @@ pub(crate) fn write_switch<W: fmt::Write>(
     let Some(inner) = level.checked_add(1) else {
         return Err(fmt::Error);
     };
-    let filled = has_clause(x.clauses.as_slice());
-    write_switch_front(x, filled, f)?;
+    let filled = has_clause(&x.clauses);
+    write_switch_front(
+        x.attributes.as_slice(),
+        &x.expression,
+        x.body_attributes.as_slice(),
+        filled,
+        f,
+    )?;
     write_clauses(x.clauses.as_slice(), inner, f)?;
     write_closing(level, filled, f)
 }
@@ -432,8 +315,14 @@ pub(crate) fn write_loop<W: fmt::Write>(
     let Some(inner) = level.checked_add(1) else {
         return Err(fmt::Error);
     };
-    let filled = is_loop_filled(x);
-    write_loop_front(x, filled, f)?;
+    let filled = is_filled(&x.body.statements, x.continuing.is_some());
+    write_word_front(
+        x.attributes.as_slice(),
+        "loop ",
+        x.body.attributes.as_slice(),
+        filled,
+        f,
+    )?;
     write_statements(x.body.statements.as_slice(), inner, f)?;
     write_optional_continuing(&x.continuing, inner, f)?;
     write_closing(level, filled, f)
@@ -466,7 +355,7 @@ pub(crate) fn write_continuing<W: fmt::Write>(
     let Some(inner) = level.checked_add(1) else {
         return Err(fmt::Error);
     };
-    let filled = is_continuing_filled(x);
+    let filled = is_filled(&x.body.statements, x.break_if.is_some());
     write_indent(level, f)?;
     write_continuing_front(x, filled, f)?;
     write_statements(x.body.statements.as_slice(), inner, f)?;
@@ -482,7 +371,7 @@ pub(crate) fn write_for<W: fmt::Write>(
 ) -> fmt::Result
     ensures { WritesOnOk W.write_str_gives f.old result (bare_text level (for_layer statement_tree x.now)) f.new }
 {
-    write_for_front(x, f)?;
+    write_for_front(x.attributes.as_slice(), f)?;
     write_part(&x.initializer, level, f)?;
     write_condition(&x.condition, f)?;
     write_part(&x.update, level, f)?;
@@ -512,7 +401,6 @@ pub(crate) fn write_while<W: fmt::Write>(
 ) -> fmt::Result
     ensures { WritesOnOk W.write_str_gives f.old result (bare_text level (while_layer statement_tree x.now)) f.new }
 {
-    write_attributes(x.attributes.as_slice(), f)?;
-    write_head("while ", &x.condition, f)?;
+    write_attributed_head(x.attributes.as_slice(), "while ", &x.condition, f)?;
     write_block(&x.body, level, f)
 }
