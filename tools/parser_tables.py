@@ -1,5 +1,6 @@
 #!/usr/bin/env python3
-"""Writes the tables of the parser, crates/wgsl_parser_table/src/table.rt, from the grammar in crates/wgsl_grammar_tables/specs/Grammar.antt.
+"""Writes the tables of the parser, crates/wgsl_parser_table/src/table.rt and crates/wgsl_parser_steps/src/steps.rt, from the grammar in
+crates/wgsl_grammar_tables/specs/Grammar.antt.
 
 The tool writes each line of the grammar out without pieces that may be absent or stand any number of times, builds the SLR(1) automaton
 of these rules, and stops where two actions clash. Nothing is taken on trust from here: that the tables are those of the grammar's rules,
@@ -14,10 +15,14 @@ REPOSITORY = pathlib.Path(__file__).resolve().parent.parent
 TOKENS = REPOSITORY / "crates/wgsl_token/src/token.rt"
 SPECS = REPOSITORY / "crates/wgsl_grammar_tables/specs"
 TABLE = REPOSITORY / "crates/wgsl_parser_table/src/table.rt"
+STEPS = REPOSITORY / "crates/wgsl_parser_steps/src/steps.rt"
 
 # Classes of tokens beside the fixed ones, in their order behind these.
 CLASSES = ["word", "literal", "reserved", "opens", "closes", "invalid"]
 COMMA = "f.Comma"
+
+# In rows that are laid over one another: the row of an entry that no row has.
+NO_ROW = 1023
 
 
 # ---- the grammar's lines
@@ -244,13 +249,22 @@ class Arrays:
         starts = list(itertools.accumulate(map(len, rows), initial=0))
         self.array(f"Where the row of each begins in [`{name}`], and the end.", name + "_STARTS", "u16", starts)
 
+    def folded(self, about, name, rows):
+        """Rows from keys to numbers, laid over one another: each at the first place, counted from the widest row, where no other has an entry."""
+        places, entries = [0] * len(rows), {}
+        for row in sorted(range(len(rows)), key=lambda row: -len(rows[row])):
+            while any(places[row] + key in entries for key in rows[row]):
+                places[row] += 1
+            entries.update((places[row] + key, row * 1024 + number) for key, number in rows[row].items())
+        end = max(entries) + 1
+        self.array(about, name, "u32", [entries.get(i, NO_ROW * 1024) for i in range(end)])
+        self.array(f"Where the row of each begins in [`{name}`].", name + "_PLACES", "u16", places)
+
     def write_states(self):
         a = self.automaton
-        # Nonterminals first: behind an operand alone its state is asked for some twelve times, a token's once.
-        is_token = lambda step: step // 1024 % 2 == 0
-        steps = [sorted((self.code(symbol) * 1024 + to for symbol, to in row.items()), key=lambda it: (is_token(it), it)) for row in a.steps]
-        about = "For each state the codes of the symbols that lead on, times 1024, and the states that they lead to; nonterminals come first."
-        self.rows(about, "STEPS", "u32", steps)
+        steps = [{self.code(symbol): to for symbol, to in row.items()} for row in a.steps]
+        about = "For each state the codes of the symbols that lead on, times 1024, and the states that they lead to."
+        self.rows(about, "STEPS", "u32", [sorted(code * 1024 + to for code, to in row.items()) for row in steps])
         self.rows("For each state the rules that it may reduce by.", "FINALS", "u16", a.finals)
         kernels = [[p * 16 + read for p, read in kernel] for kernel in a.kernels]
         self.rows("For each state the rules that are under way in it, times 16, and how many symbols were read.", "KERNEL", "u16", kernels)
@@ -290,7 +304,26 @@ class Arrays:
         self.count("How many states there are.", "STATE_COUNT", len(a.kernels))
         self.count("How many nonterminals there are.", "NONTERMINAL_COUNT", len(self.all))
 
+    def write_steps(self):
+        """What is looked up at each step of the parser, laid out so that no row is searched."""
+        a = self.automaton
+        about = "For each state and the {} that lead on the state, times 1024, and the state that is led to; the rows of all states laid over one another."
+        for parity, name, symbols in (0, "TOKEN_STEPS", "classes of tokens"), (1, "PHRASE_STEPS", "nonterminals"):
+            rows = [{self.code(symbol) // 2: to for symbol, to in row.items() if self.code(symbol) % 2 == parity} for row in a.steps]
+            self.folded(about.format(symbols), name, rows)
+        only = [rules[0] + 1 if len(rules) == 1 else 0 for rules in a.finals]
+        self.array("For each state the only rule that it may reduce by, and one; 0 where there are none or more.", "ONLY_FINALS", "u16", only)
+        passed = [self.numbers[left] + 1 if (label, parts) == ("l.Pass", [2]) else 0 for left, _, label, parts in a.rules]
+        self.array("For each rule that makes nothing new of its one symbol its left side, and one; 0 for any other.", "PASSED_TO", "u16", passed)
+
+    def steps_text(self):
+        self.texts = []
+        self.write_steps()
+        head = "//! Tables of the parser, laid out to be looked up. The tool `tools/parser_tables.py` writes this file.\n\n"
+        return head + "\n".join(self.texts)
+
     def text(self):
+        self.texts = []
         self.write_counts()
         self.write_states()
         self.write_phrases()
@@ -303,7 +336,9 @@ class Arrays:
 
 def main():
     automaton = Automaton(Grammar())
-    TABLE.write_text(Arrays(automaton).text())
+    arrays = Arrays(automaton)
+    TABLE.write_text(arrays.text())
+    STEPS.write_text(arrays.steps_text())
     print(len(automaton.rules), "rules", len(automaton.phrases), "nonterminals", len(automaton.kernels), "states", sum(map(len, automaton.steps)), "steps")
 
 

@@ -4,13 +4,13 @@ use Rattle.std.specs.Prelude.{nat_le}
 use Rattle.std.proofs.lemmas.Bool.{eqb-true, leb-true, and_parts, lt-ltb, le-ltb, cases_lt}
 use Rattle.std.proofs.lemmas.List.{length-map}
 use Rattle.wgsl_shift_reduce.specs.Grammars.{Symbol, Rule}
-use Rattle.wgsl_tables.specs.Listed.{code, member, rule_at, steps_at, finals_at, first_before, reduction_by}
+use Rattle.wgsl_tables.specs.Listed.{code, member, rule_at, finals_at, first_before}
 use Rattle.wgsl_tables.specs.Tests.{all_below}
-use Rattle.wgsl_tables.proofs.Facts.{given, each_below, pair_is, code_is}
-use Rattle.wgsl_parser_table.specs.declared.table.TheConstants.{LAST, PATTERNS, PATTERNS_STARTS, RULE_COUNT, STATE_COUNT, NONTERMINAL_COUNT, STEPS, STEPS_STARTS, FINALS, FINALS_STARTS, FOLLOW, FOLLOW_STARTS, LEFT, RIGHT, RIGHT_STARTS}
+use Rattle.wgsl_tables.proofs.Facts.{given, each_below, code_is}
+use Rattle.wgsl_parser_table.specs.declared.table.TheConstants.{LAST, PATTERNS, PATTERNS_STARTS, RULE_COUNT, STATE_COUNT, NONTERMINAL_COUNT, FINALS, FINALS_STARTS, FOLLOW, FOLLOW_STARTS, LEFT, RIGHT, RIGHT_STARTS}
 use Rattle.wgsl_grammar_tables.specs.Rows.{AreStarts, row_between}
 use Rattle.wgsl_grammar_tables.specs.Starts.{start}
-use Rattle.wgsl_grammar_tables.specs.Decoded.{nth, listed, step_of, symbol_of, groups, number_at}
+use Rattle.wgsl_grammar_tables.specs.Decoded.{nth, listed, symbol_of, groups, number_at}
 
 -- ---- lists that are the same
 
@@ -37,12 +37,6 @@ module _ {X : Type 0} (same : X → X → Bool) where
           | inl lt ↦ lists_same (f i) (h i) (each_below n (λ i. all_same (f i) (h i)) i e (lt-ltb i n lt))
           | inr le ↦ beyond i le
         ]
-
-abbrev same_pair : ℕ × ℕ → ℕ × ℕ → Bool
-same_pair a b = (a.0 == b.0) && (a.1 == b.1)
-
-pair_same : (a b : ℕ × ℕ) → same_pair a b ≡ true → a ≡ b
-pair_same a b e = let parts = and_parts (a.0 == b.0) (a.1 == b.1) e in pair_is (eqb-true a.0 b.0 parts.0) (eqb-true a.1 b.1 parts.1)
 
 abbrev pub same_symbol : Symbol → Symbol → Bool
 same_symbol x y = code x == code y
@@ -73,9 +67,6 @@ are_starts starts n e =
       within = λ i lt. leb-true (slice_index starts (i + 1)) n (parts i lt).1;
     }
 
-pub steps_starts : AreStarts STEPS_STARTS (length STEPS)
-steps_starts = are_starts STEPS_STARTS (length STEPS) refl
-
 pub finals_starts : AreStarts FINALS_STARTS (length FINALS)
 finals_starts = are_starts FINALS_STARTS (length FINALS) refl
 
@@ -90,10 +81,6 @@ parts_starts = are_starts PATTERNS_STARTS (length PATTERNS) refl
 
 -- ---- rows
 
-steps_test : all_below STATE_COUNT (λ s. all_same same_pair (map step_of (row_between STEPS_STARTS STEPS s)) (steps_at listed s)) ≡ true
-unfolding listed
-steps_test = refl
-
 finals_test : all_below STATE_COUNT (λ s. all_same ◌==◌ (row_between FINALS_STARTS FINALS s) (finals_at listed s)) ≡ true
 unfolding listed
 finals_test = refl
@@ -105,15 +92,6 @@ follow_test = refl
 right_test : all_below RULE_COUNT (λ p. all_same same_symbol (map symbol_of (row_between RIGHT_STARTS RIGHT p)) (listed.rule p).right) ≡ true
 unfolding listed
 right_test = refl
-
-steps_beyond : (s : ℕ) → STATE_COUNT ≤ s → map step_of (row_between STEPS_STARTS STEPS s) ≡ steps_at listed s
-unfolding listed
-steps_beyond s le =
-    ap (map step_of) (none_beyond (slice_range STEPS (slice_index STEPS_STARTS s) (slice_index STEPS_STARTS (s + 1))) (s + 1) (length STEPS_STARTS) (more_beyond s STATE_COUNT le))
-    ∙ sym (none_beyond (listed.steps s) s STATE_COUNT le)
-
-pub steps_row : (s : ℕ) → map step_of (row_between STEPS_STARTS STEPS s) ≡ steps_at listed s
-steps_row = rows_same same_pair pair_same (λ s. map step_of (row_between STEPS_STARTS STEPS s)) (λ s. steps_at listed s) STATE_COUNT steps_test steps_beyond
 
 finals_beyond : (s : ℕ) → STATE_COUNT ≤ s → row_between FINALS_STARTS FINALS s ≡ finals_at listed s
 unfolding listed
@@ -165,11 +143,6 @@ pub first_step : (c i : ℕ) (ps : List ℕ) (left : ℕ) (row : List ℕ) (foun
 first_step c i ps left row found lt is rows may =
     let same : member c (listed.follow (listed.rule (get_or ps i 0)).left) ≡ found = sym (may ∙ ap (member c) (rows ∙ follow_row left ∙ ap listed.follow is)) in
     ap (first_before listed c) (dropped ps i 0 lt) ∙ ap (λ z. cond z (Some (get_or ps i 0)) (first_before listed c (drop (i + 1) ps))) same
-
-pub by_first : (c : ℕ) (ps : List ℕ) → (length ps ≡ 1 → ⊥) → first_before listed c ps ≡ reduction_by listed c ps
-by_first c [] other = refl
-by_first c (p ∷ []) other = absurd (other refl)
-by_first c (p ∷ q ∷ ps) other = refl
 
 -- ---- rules and starts
 

@@ -6,3 +6,4 @@ pub mod Labels
 pub mod Nonterminals
 pub mod Grammar
 pub mod Expansion
+pub mod PassedOn

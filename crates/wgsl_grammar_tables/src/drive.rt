@@ -8,7 +8,7 @@ ghost use Rattle.wgsl_tables.specs.Listed.{reduction_at, rule_at, step_at, table
 ghost use Rattle.wgsl_grammar_tables.specs.Decoded.{listed};
 ghost use Rattle.wgsl_grammar_tables.specs.Starts.{start};
 
-use crate::{last_state, reduction, rule_left, rule_length, step};
+use crate::{last_state, phrase_step, reduction, rule_left, rule_length, token_step};
 use wgsl_parser_table::table::RULE_COUNT;
 use wgsl_shift_reduce::{Action, Shape};
 
@@ -27,7 +27,7 @@ fn action_before(state: u16, ahead: u16) -> Action
     requires { 0 < ahead }
     ensures { (c : ℕ) → ahead ≡ suc c → result ≡ shifting (step_at listed state (token c)) (reducing (reduction_at listed state ahead)) }
 {
-    match step(state, 2 * u32::from(ahead - 1)) {
+    match token_step(state, ahead - 1) {
         Some(to) => Action::Shift(to),
         None => reduce(state, ahead),
     }
@@ -61,7 +61,7 @@ pub fn action(begin: u16, state: u16, ahead: u16) -> Action
 pub fn state_behind(state: u16, nonterminal: u16) -> Option<u16>
     ensures { result ≡ step_at listed state (phrase nonterminal) }
 {
-    step(state, 2 * u32::from(nonterminal) + 1)
+    phrase_step(state, nonterminal)
 }
 
 /// The nonterminal of a rule, and how many symbols it is made of.

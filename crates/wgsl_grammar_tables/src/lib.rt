@@ -1,43 +1,62 @@
 //! The tables of the parser of WGSL and of the grammar of imports, and how they are read.
 #![tactic(auto)]
 
-ghost use Rattle.std.specs.Prelude.{◌≡◌, ◌<◌, get_or, length};
+ghost use Rattle.std.specs.Prelude.{◌≡◌, ◌<◌, get_or, length, MatchOption};
 ghost use Rattle.wgsl_grammar_tables.specs.Decoded.{listed};
 ghost use Rattle.wgsl_parts.specs.declared.label.Label.TheVariants.{Pass};
 ghost use Rattle.wgsl_grammar_tables.specs.Starts.{start};
 ghost use Rattle.wgsl_grammar_tables.specs.Labels.{label_at, pattern_at};
-ghost use Rattle.wgsl_tables.specs.Listed.{beside, first_before, reduction_at, steps_at};
+ghost use Rattle.wgsl_shift_reduce.specs.Grammars.{phrase, token};
+ghost use Rattle.wgsl_grammar_tables.specs.PassedOn.{IsPassedTo};
+ghost use Rattle.wgsl_tables.specs.Listed.{finals_at, first_before, reduction_at, step_at};
 
 pub mod class;
 pub mod drive;
 mod rows;
 
-use crate::rows::{contains, row, target, wide_row};
+use crate::rows::{contains, less_one, row, within};
+use wgsl_parser_steps::steps::{
+    ONLY_FINALS, PASSED_TO, PHRASE_STEPS, PHRASE_STEPS_PLACES, TOKEN_STEPS, TOKEN_STEPS_PLACES,
+};
 use wgsl_parser_table::table::{
     FINALS, FINALS_STARTS, FOLLOW, FOLLOW_STARTS, LABELS, LAST, LEFT, PATTERNS, PATTERNS_STARTS,
-    RIGHT, RIGHT_STARTS, RULE_COUNT, STEPS, STEPS_STARTS,
+    RIGHT, RIGHT_STARTS, RULE_COUNT,
 };
 use wgsl_parts::Label;
 
-/// The state that a symbol of this code leads to from a state.
-#[tactic(auto, using(crate::proofs::Read::steps_starts, crate::proofs::Read::steps_row))]
-pub fn step(state: u16, symbol: u32) -> Option<u16>
-    ensures { result ≡ beside symbol (steps_at listed state) }
+/// The state that a token of this class leads to from a state.
+#[tactic(auto, using(crate::proofs::Steps::token_steps))]
+pub fn token_step(state: u16, class: u16) -> Option<u16>
+    ensures { result ≡ step_at listed state (token class) }
 {
-    target(wide_row(&STEPS_STARTS, &STEPS, state), symbol)
+    within(&TOKEN_STEPS_PLACES, &TOKEN_STEPS, state, class)
+}
+
+/// The state that a phrase of this nonterminal leads to from a state.
+#[tactic(auto, using(crate::proofs::Steps::phrase_steps))]
+pub fn phrase_step(state: u16, nonterminal: u16) -> Option<u16>
+    ensures { result ≡ step_at listed state (phrase nonterminal) }
+{
+    within(&PHRASE_STEPS_PLACES, &PHRASE_STEPS, state, nonterminal)
 }
 
 /// The rule that a state reduces by before what is ahead: 0 for the end, or a token's class and one.
-#[tactic(auto, using(crate::proofs::Read::finals_starts, crate::proofs::Read::finals_row))]
+#[tactic(auto, using(crate::proofs::Read::finals_starts))]
 pub fn reduction(state: u16, ahead: u16) -> Option<u16>
     ensures { result ≡ reduction_at listed state ahead }
 {
-    let rules = row(&FINALS_STARTS, &FINALS, state);
-    if rules.len() == 1 {
-        Some(rules[0])
-    } else {
-        first_before(rules, ahead)
+    match less_one(&ONLY_FINALS, state) {
+        Some(rule) => Some(rule),
+        None => first_before(row(&FINALS_STARTS, &FINALS, state), ahead),
     }
+}
+
+/// The left side of a rule that makes nothing new of its one symbol.
+#[tactic(auto, using(crate::proofs::Steps::passed_to))]
+pub fn passed_to(rule: u16) -> Option<u16>
+    ensures { MatchOption result Unit (λ left. IsPassedTo rule left) }
+{
+    less_one(&PASSED_TO, rule)
 }
 
 /// The first rule of a nonterminal that this may stand behind.

@@ -1,9 +1,8 @@
 //! Rows that stand behind one another in one array.
 
-ghost use Rattle.std.specs.Prelude.{◌≡◌, length, map};
-ghost use Rattle.wgsl_grammar_tables.specs.Decoded.{step_of};
-ghost use Rattle.wgsl_grammar_tables.specs.Rows.{AreStarts, row_between};
-ghost use Rattle.wgsl_tables.specs.Listed.{beside, member};
+ghost use Rattle.std.specs.Prelude.{◌≡◌, length};
+ghost use Rattle.wgsl_grammar_tables.specs.Rows.{AreStarts, less_one, row_between, within};
+ghost use Rattle.wgsl_tables.specs.Listed.{member};
 
 /// The row of this number, of those that begin at `starts`.
 pub fn row<'a>(starts: &[u16], entries: &'a [u16], number: u16) -> &'a [u16]
@@ -18,29 +17,25 @@ pub fn row<'a>(starts: &[u16], entries: &'a [u16], number: u16) -> &'a [u16]
     }
 }
 
-/// The same of wider entries.
-pub fn wide_row<'a>(starts: &[u16], entries: &'a [u32], number: u16) -> &'a [u32]
-    requires { AreStarts starts.now (length entries.now) }
-    ensures { result.now ≡ row_between starts.now entries.now number }
+/// The number at a key in rows that are laid over one another: each begins at its place, and each entry says whose it is.
+pub fn within(places: &[u16], entries: &[u32], row: u16, key: u16) -> Option<u16>
+    ensures { result ≡ within places.now entries.now row key }
 {
-    let number = usize::from(number);
-    if number + 1 < starts.len() {
-        &entries[usize::from(starts[number])..usize::from(starts[number + 1])]
+    let place = places.get(usize::from(row))?;
+    let entry = entries.get(usize::from(*place) + usize::from(key))?;
+    if *entry / 1024 == u32::from(row) {
+        Some((*entry % 1024) as u16)
     } else {
-        &[]
+        None
     }
 }
 
-/// The state that a symbol's code leads to.
-pub fn target(steps: &[u32], symbol: u32) -> Option<u16>
-    ensures { result ≡ beside symbol (map step_of steps.now) }
+/// The number before the one at a place, unless that is 0.
+pub fn less_one(numbers: &[u16], at: u16) -> Option<u16>
+    ensures { result ≡ less_one numbers.now at }
 {
-    for step in steps {
-        if *step / 1024 == symbol {
-            return Some((*step % 1024) as u16);
-        }
-    }
-    None
+    let number = *numbers.get(usize::from(at))?;
+    if number == 0 { None } else { Some(number - 1) }
 }
 
 /// Whether a number stands in a row.

@@ -7,16 +7,21 @@ use Rattle.wgsl_phrases.specs.declared.phrase.Failure.{Failure}
 use Rattle.wgsl_phrases.specs.declared.phrase.Phrase.{Phrase}
 use Rattle.wgsl_phrases.specs.Gathering.{either, extent_from, chosen}
 use Rattle.wgsl_grammar_tables.specs.Labels.{label_at, pattern_at}
+use Rattle.wgsl_grammar_tables.specs.PassedOn.{IsPassedTo}
 use Rattle.wgsl_reading.specs.Failures.{failure_at, first_check, made_failed}
-use Rattle.wgsl_reading.specs.Phrases.{IsPass, made, make}
+use Rattle.wgsl_shift_reduce.specs.Runs.{PassesOn}
+use Rattle.wgsl_reading.specs.Phrases.{grammar, made, make}
 use Rattle.wgsl_reading.proofs.Failing.{either_none}
 
 abbrev with_failure : Phrase Part → Option Failure → Phrase Part
 with_failure x f = record { part = x.part; span = x.span; last = x.last; failure = f; depth = x.depth }
 
-pub passed_on : (p : ℕ) (x : Phrase Part) → IsPass p → made_failed l.Pass x.part ≡ None → make p (x ∷ []) ≡ x
-passed_on p x is fine =
+passed_on : (p left : ℕ) (x : Phrase Part) → IsPassedTo p left → made_failed l.Pass x.part ≡ None → make p (x ∷ []) ≡ x
+passed_on p left x is fine =
     ap (λ label. made label (extent_from None (x ∷ [])) (chosen Absent (pattern_at p) (x ∷ []))) is.label
     ∙ ap (λ pattern. made l.Pass (extent_from None (x ∷ [])) (chosen Absent pattern (x ∷ []))) is.pattern
     ∙ ap (λ c. with_failure x (either x.failure (failure_at x.last (first_check None c)))) fine
     ∙ ap (with_failure x) (either_none x.failure)
+
+pub passes_on : (p left : ℕ) (x : Phrase Part) → IsPassedTo p left → made_failed l.Pass x.part ≡ None → PassesOn grammar p x left
+passes_on p left x is fine = record { rule = is.rule; is = is.is; to = is.to; alone = is.alone; stays = passed_on p left x is fine }

@@ -63,11 +63,6 @@ made label (Some e) parts = record {
 abbrev pub make : ℕ → List (Phrase Part) → Phrase Part
 make p xs = made (label_at p) (extent_from None xs) (chosen Absent (pattern_at p) xs)
 
--- a rule of one symbol, which makes nothing new of it
-pub record IsPass (p : ℕ) : Type 0 where
-  pub label : label_at p ≡ l.Pass
-  pub pattern : pattern_at p ≡ 2 ∷ []
-
 -- WGSL, "Grammar", and WESL's imports
 abbrev pub grammar : Grammar SpannedTemplateToken (Phrase Part)
 grammar = record { class_of = λ k. class_of k.token; leaf = leaf; rule = rule_at listed; make = make }

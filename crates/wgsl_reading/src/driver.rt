@@ -1,15 +1,14 @@
 //! The driver of the parser.
 
-ghost use Rattle.std.specs.Prelude.{◌≡◌, ◌<◌, ◌+◌, [], ◌∷◌, Some, None, if◌then◌else◌, IfOk, IsTrue};
+ghost use Rattle.std.specs.Prelude.{◌≡◌, ◌<◌, ◌+◌, Some, None, if◌then◌else◌, IfOk, MatchOption};
 ghost use Rattle.wgsl_phrases.specs.declared.phrase.Phrase as declared_phrase;
-ghost use Rattle.std.specs.Option.{option_copied};
-ghost use Rattle.wgsl_shift_reduce.specs.Machine.{ahead_of};
-ghost use Rattle.wgsl_reading.specs.Phrases.{IsPass, grammar, import_nests, made, make, name_nests, nests, number};
+ghost use Rattle.wgsl_shift_reduce.specs.Runs.{PassesOn};
+ghost use Rattle.wgsl_reading.specs.Phrases.{grammar, import_nests, made, name_nests, nests, number};
 
 use crate::failure::{failure_at, made_failed, severity_failed};
 use std::alloc::{AllocError, Global};
 use wgsl_grammar_tables::class::class_of;
-use wgsl_grammar_tables::{drive, rule_label, rule_pattern};
+use wgsl_grammar_tables::{drive, passed_to, rule_label, rule_pattern};
 use wgsl_leaves::leaf;
 use wgsl_make::make;
 use wgsl_parts::{ImportLabel, Label, NameLabel, Part};
@@ -57,16 +56,6 @@ impl Start {
 pub struct Reader {
     pub alloc: Global,
     pub start: Start,
-}
-
-/// What stands ahead: 0 for the end, or the next token's class and one.
-fn ahead(next: Option<&SpannedTemplateToken>) -> u16
-    ensures { result ≡ ahead_of grammar (option_copied next.entry) }
-{
-    match next {
-        Some(token) => class_of(&token.token) + 1,
-        None => 0,
-    }
 }
 
 /// Names and their paths nest nothing, but for templates. A call nests as the expression or the statement that it is.
@@ -131,13 +120,6 @@ fn made(
     })
 }
 
-/// Whether a rule has one symbol and passes its tree on.
-fn is_pass(rule: u16) -> bool
-    ensures { IsTrue result → IsPass rule }
-{
-    matches!(rule_label(rule), Label::Pass) && matches!(rule_pattern(rule), [2])
-}
-
 impl Driver for Reader {
     type Token = SpannedTemplateToken;
 
@@ -162,8 +144,15 @@ impl Driver for Reader {
         }
     }
 
-    fn action(&self, state: u16, next: Option<&SpannedTemplateToken>) -> Action {
-        drive::action(self.start.number(), state, ahead(next))
+    fn ahead(&self, next: Option<&SpannedTemplateToken>) -> u16 {
+        match next {
+            Some(token) => class_of(&token.token) + 1,
+            None => 0,
+        }
+    }
+
+    fn action(&self, state: u16, ahead: u16) -> Action {
+        drive::action(self.start.number(), state, ahead)
     }
 
     fn state_behind(&self, state: u16, nonterminal: u16) -> Option<u16> {
@@ -191,10 +180,14 @@ impl Driver for Reader {
 
     /// A rule that passes its one symbol on changes nothing but that a check of what it passes on is made again, which can fail for
     /// attributes and templates of `var` alone.
-    #[tactic(auto, using(crate::proofs::Passing::passed_on))]
-    fn passes(&self, rule: u16, part: &Phrase<Part>) -> bool
-        ensures { IsTrue result → make rule (part.now ∷ []) ≡ part.now }
+    #[tactic(auto, using(crate::proofs::Passing::passes_on))]
+    fn passes_to(&self, rule: u16, part: &Phrase<Part>) -> Option<u16>
+        ensures { MatchOption result Unit (PassesOn grammar rule part.now) }
     {
-        is_pass(rule) && made_failed(Label::Pass, &part.part).is_none()
+        let left = passed_to(rule)?;
+        if made_failed(Label::Pass, &part.part).is_some() {
+            return None;
+        }
+        Some(left)
     }
 }

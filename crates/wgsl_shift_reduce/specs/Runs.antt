@@ -6,7 +6,9 @@ use Rattle.wgsl_shift_reduce.specs.declared.machine.Progress.TheVariants.{GoesOn
 use Rattle.wgsl_shift_reduce.specs.declared.machine.Stopped.{Stopped}
 use Rattle.wgsl_shift_reduce.specs.declared.machine.Stopped.TheVariants.{OutOfMemory, Unexpected}
 use Rattle.wgsl_shift_reduce.specs.Grammars.{phrase, Rule, Grammar}
-use Rattle.wgsl_shift_reduce.specs.Machine.{Tables, top, popped, Outcome, read, stops, Comes}
+use Rattle.wgsl_shift_reduce.specs.declared.machine.Action.{Action}
+use Rattle.wgsl_shift_reduce.specs.declared.machine.Action.TheVariants.{Reduce}
+use Rattle.wgsl_shift_reduce.specs.Machine.{Tables, action, top, ahead, popped, Outcome, read, stops, Comes}
 
 -- A token was taken, and its tree put on the stack.
 pub record IsShift {T V : Type 0} (g : Grammar T V) (to : ℕ) (es fs : List (Entry V)) (u v : List T) : Type 0 where
@@ -20,19 +22,22 @@ pub record IsMade {T V : Type 0} (g : Grammar T V) (p count : ℕ) (es below : L
   pub parts : popped count es [] ≡ (below, values)
   pub is : x ≡ g.make p values
 
--- A rule makes of the uppermost tree alone that tree.
-abbrev pub PassesOn : {T V : Type 0} → Grammar T V → ℕ → List (Entry V) → Type 0
-PassesOn g p [] = ⊥
-PassesOn g p (e ∷ es) = g.make p (e.value ∷ []) ≡ e.value
+-- A rule makes a phrase of this nonterminal of one symbol, and of this tree that tree.
+pub record PassesOn {T V : Type 0} (g : Grammar T V) (p : ℕ) (x : V) (left : ℕ) : Type 0 where
+  pub rule : Rule
+  pub is : g.rule p ≡ Some rule
+  pub to : rule.left ≡ left
+  pub alone : length rule.right ≡ 1
+  pub stays : g.make p (x ∷ []) ≡ x
 
--- The uppermost symbol became a phrase of a nonterminal, with its tree as it stands.
-pub record IsPassed {V : Type 0} (a : Tables) (from left : ℕ) (es fs : List (Entry V)) : Type 0 where
-  pub entry : Entry V
-  pub below : List (Entry V)
-  pub was : es ≡ entry ∷ below
-  pub to : ℕ
-  pub step : a.step (top from below) (phrase left) ≡ Some to
-  pub put : fs ≡ record { state = to; value = entry.value } ∷ below
+-- An action reduces by such a rule.
+pub data PassesBy {T V : Type 0} (g : Grammar T V) : Action → V → ℕ → Type 0 where
+  by_rule : {x : V} {left : ℕ} (p : ℕ) → PassesOn g p x left → PassesBy g (Reduce p) x left
+
+-- A symbol with this tree, above a state and before what stands ahead, is passed on from one state that it leads to to another.
+pub data Passes {T V : Type 0} (g : Grammar T V) (a : Tables) (below ahead : ℕ) (x : V) : ℕ → ℕ → Type 0 where
+  stays : {s : ℕ} → Passes g a below ahead x s s
+  goes_on : {s u : ℕ} (left t : ℕ) → PassesBy g (action a s ahead) x left → a.step below (phrase left) ≡ Some t → Passes g a below ahead x t u → Passes g a below ahead x s u
 
 module _ {T V : Type 0} (g : Grammar T V) (a : Tables) (from : ℕ) where
   -- The parts of a rule were taken from the stack, and its tree put there.
@@ -45,6 +50,11 @@ module _ {T V : Type 0} (g : Grammar T V) (a : Tables) (from : ℕ) where
     pub to : ℕ
     pub step : a.step (top from below) (phrase rule.left) ≡ Some to
     pub put : fs ≡ record { state = to; value = g.make p values } ∷ below
+
+  -- The uppermost symbol was passed on, and this is done then: what comes of the stack behind comes of the one before.
+  pub record IsSettled (c : ℕ) (es fs : List (Entry V)) (act : Action) : Type 0 where
+    pub acts : act ≡ action a (top from fs) c
+    pub comes : (u left : List T) (r : Outcome V) → ahead g u ≡ c → Comes g a from fs u r left → Comes g a from es u r left
 
   -- What comes of the stack and the tokens behind a step comes of those before it.
   abbrev pub Advances : List (Entry V) → List (Entry V) → List T → List T → Progress V → Type 0

@@ -4,7 +4,7 @@ ghost use Rattle.std.specs.Prelude.{◌≡◌, [], ◌∷◌, length, Some, IfOk
 ghost use Rattle.std.specs.Option.{option_copied};
 ghost use Rattle.wgsl_shift_reduce.specs.Grammars.{Rule, Grammar, phrase};
 ghost use Rattle.wgsl_shift_reduce.specs.Machine.{Tables, action, top, below_top, ahead_of};
-ghost use Rattle.wgsl_shift_reduce.specs.Runs.{IsShift, IsMade, PassesOn, IsPassed, IsReduction, Advances, Said};
+ghost use Rattle.wgsl_shift_reduce.specs.Runs.{IsShift, IsMade, PassesOn, PassesBy, Passes, IsSettled, IsReduction, Advances, Said};
 
 use std::alloc::{AllocError, Global};
 use wgsl_stack::Stack;
@@ -66,8 +66,8 @@ impl<T, V> From<AllocError> for Stopped<T, V> {
     }
 }
 
-/// How many steps a parser may take for each token, and once more. No sentence of this project's grammars takes more than half of
-/// them, since no token begins more than some twenty phrases that are one another.
+/// How many steps a parser may take for each token, and once more; and how often a symbol may be passed on. No sentence of this
+/// project's grammars takes more than half of them, since no token begins more than some twenty phrases that are one another.
 const STEPS_PER_TOKEN: usize = 64;
 
 /// A grammar, the tables of its parser, and how trees are made.
@@ -87,9 +87,13 @@ pub trait Driver {
     fn leaf(&self, token: Self::Token) -> Self::Value
         ensures { result ≡ grammar.leaf token };
 
-    /// What is done in a state before the next token, or before the end.
-    fn action(&self, state: u16, next: Option<&Self::Token>) -> Action
-        ensures { result ≡ action (tables self.now) state (ahead_of grammar (option_copied next.entry)) };
+    /// What stands ahead: 0 for the end, or the class of the next token and one.
+    fn ahead(&self, next: Option<&Self::Token>) -> u16
+        ensures { result ≡ ahead_of grammar (option_copied next.entry) };
+
+    /// What is done in a state before what stands ahead.
+    fn action(&self, state: u16, ahead: u16) -> Action
+        ensures { result ≡ action (tables self.now) state ahead };
 
     /// The state to which a phrase of a nonterminal leads.
     fn state_behind(&self, state: u16, nonterminal: u16) -> Option<u16>
@@ -112,9 +116,9 @@ pub trait Driver {
     ) -> Result<Self::Value, AllocError>
         ensures { IfOk result (IsMade grammar rule count stack.old stack.new) };
 
-    /// Whether a rule that is made of one symbol is known to make its tree of it as it stands. It needs no memory then.
-    fn passes(&self, rule: u16, part: &Self::Value) -> bool
-        ensures { IsTrue result → grammar.make rule (part.now ∷ []) ≡ part.now };
+    /// The nonterminal of a rule of one symbol that is known to make its tree of this one as it stands. It needs no memory then.
+    fn passes_to(&self, rule: u16, part: &Self::Value) -> Option<u16>
+        ensures { MatchOption result Unit (PassesOn grammar rule part.now) };
 }
 
 /// The state that a parser is in, which began in the first.
@@ -155,35 +159,64 @@ fn state_below<V>(from: u16, stack: &Stack<Entry<V>>) -> u16
     }
 }
 
-/// Whether a rule of one symbol makes its tree of the uppermost symbol as it stands.
-fn passes<D: Driver>(driver: &D, rule: u16, stack: &Stack<Entry<D::Value>>) -> bool
-    ensures { IsTrue result → PassesOn D.grammar rule stack.now }
+/// The nonterminal that a symbol is passed on to by this action, if its tree stays as it stands.
+fn passes_by<D: Driver>(driver: &D, action: Action, part: &D::Value) -> Option<u16>
+    ensures { MatchOption result Unit (PassesBy D.grammar action part.now) }
 {
-    match stack.top() {
-        Some(entry) => driver.passes(rule, &entry.value),
-        None => false,
+    match action {
+        Action::Reduce(rule) => driver.passes_to(rule, part),
+        _ => None,
     }
 }
 
-/// Makes a phrase of the uppermost symbol, whose tree stays as it stands.
-fn pass<D: Driver>(
+/// The state that a symbol is passed on to, and what is done there.
+#[derive(Clone, Copy)]
+struct Next {
+    state: u16,
+    action: Action,
+}
+
+/// Passes a symbol on as long as its tree stays as it stands: above a state, from the state that it led to, before what stands ahead.
+fn settle<D: Driver>(
+    driver: &D,
+    below: u16,
+    part: &D::Value,
+    from: u16,
+    ahead: u16,
+) -> Result<Next, AllocError>
+    ensures passes { IfOk result (λ s. Passes D.grammar (D.tables driver.now) below ahead part.now from s.state) }
+    ensures action { IfOk result (λ s. s.action ≡ action (D.tables driver.now) s.state ahead) }
+{
+    let mut state = from;
+    for _step in 0..STEPS_PER_TOKEN {
+        let action = driver.action(state, ahead);
+        let Some(left) = passes_by(driver, action, part) else {
+            return Ok(Next { state, action });
+        };
+        let Some(to) = driver.state_behind(below, left) else {
+            return Err(AllocError);
+        };
+        state = to;
+    }
+    Err(AllocError)
+}
+
+/// Passes the uppermost symbol on as long as its tree stays as it stands, and returns what is done then.
+fn settled<D: Driver>(
     driver: &D,
     from: u16,
-    left: u16,
+    ahead: u16,
     stack: &mut Stack<Entry<D::Value>>,
-) -> Result<(), AllocError>
-    ensures { IfOk result (λ _. IsPassed (D.tables driver.now) from left stack.old stack.new) }
+) -> Result<Action, AllocError>
+    ensures { IfOk result (IsSettled D.grammar (D.tables driver.now) from ahead stack.old stack.new) }
 {
-    let Some(to) = driver.state_behind(state_below(from, stack), left) else {
-        return Err(AllocError);
+    let below = state_below(from, stack);
+    let Some(entry) = stack.top_mut() else {
+        return Ok(driver.action(from, ahead));
     };
-    match stack.top_mut() {
-        Some(entry) => {
-            entry.state = to;
-            Ok(())
-        }
-        None => Err(AllocError),
-    }
+    let Next { state, action } = settle(driver, below, &entry.value, entry.state, ahead)?;
+    entry.state = state;
+    Ok(action)
 }
 
 /// Makes a phrase of the uppermost symbols.
@@ -199,9 +232,6 @@ fn reduce<D: Driver>(
     let Some(shape) = driver.shape(rule) else {
         return Err(AllocError);
     };
-    if shape.length == 1 && passes(driver, rule, stack) {
-        return pass(driver, from, shape.left, stack);
-    }
     let value = driver.make(rule, shape.length, stack, room)?;
     let Some(to) = driver.state_behind(state_of(from, stack), shape.left) else {
         return Err(AllocError);
@@ -219,7 +249,8 @@ fn advance<D: Driver>(
 ) -> Result<Progress<D::Value>, AllocError>
     ensures { IfOk result (Advances D.grammar (D.tables driver.now) from stack.old stack.new tokens.old tokens.new) }
 {
-    match driver.action(state_of(from, stack), tokens.top()) {
+    let ahead = driver.ahead(tokens.top());
+    match settled(driver, from, ahead, stack)? {
         Action::Shift(to) => {
             shift(driver, to, stack, tokens)?;
             Ok(Progress::GoesOn)

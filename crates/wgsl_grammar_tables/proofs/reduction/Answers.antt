@@ -1,9 +1,10 @@
-use Rattle.std.proofs.Common.{◌∙◌, ap}
-use Rattle.wgsl_tables.specs.Listed.{reduction_by}
-use Rattle.wgsl_grammar_tables.specs.Decoded.{listed}
-use Rattle.wgsl_grammar_tables.proofs.Read.{by_first, finals_row}
+use Rattle.std.proofs.Common.{◌∙◌, sym}
+use Rattle.wgsl_grammar_tables.proofs.Read.{finals_row}
+use Rattle.wgsl_grammar_tables.proofs.Steps.{reduced_by_only, reduced_by_others}
 use Rattle.wgsl_grammar_tables.proofs.reduction.Goals as goal
 
-pub returns-else-rules-eq1 : goal.returns-else-rules-eq1
-returns-else-rules-eq1 c =
-    c.first_before.ensures ∙ by_first c.args.ahead c.row-rules.result.now c.if-rules-eq1.false ∙ ap (reduction_by listed c.args.ahead) (c.row-rules.ensures ∙ finals_row c.args.state)
+pub returns-in-Some : goal.returns-in-Some
+returns-in-Some c = reduced_by_only c.args.state c.args.ahead c.in-Some.rule (sym c.in-Some.ensures)
+
+pub returns-in-None : goal.returns-in-None
+returns-in-None c = c.first_before.ensures ∙ reduced_by_others c.args.state c.args.ahead c.row.result.now (sym c.in-None.ensures) (c.row.ensures ∙ finals_row c.args.state)

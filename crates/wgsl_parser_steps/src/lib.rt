@@ -1,0 +1,4 @@
+//! What the parser of WGSL looks up at each of its steps, as `tools/parser_tables.py` writes it.
+#![tactic(auto)]
+
+pub mod steps;
