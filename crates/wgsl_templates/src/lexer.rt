@@ -1,11 +1,12 @@
 //! The tokens of a text in which template lists are told.
 
-ghost use Rattle.std.specs.Prelude.{◌≡◌, ◌<◌, ◌≤◌, ◌^◌, ◌∷◌, ◌++◌, [], length, reverse, IfOk, List};
+ghost use Rattle.std.specs.Prelude.{◌≡◌, ◌<◌, ◌≤◌, ◌^◌, ◌∷◌, ◌++◌, [], length, reverse, IfOk, List, true};
 ghost use Rattle.std.specs.Str.{chars};
 ghost use Rattle.wgsl_lex.specs.Tokens.{size};
 ghost use Rattle.wgsl_template_spec.specs.Tokens.{start, is_word, behind, Lexes, IsLexed};
 ghost use Rattle.wgsl_templates.specs.Steps.{IsTable};
 
+use crate::characters::characters_of;
 use crate::piece::{Pieces, TemplatePiece, next};
 use crate::recognize::Recognizer;
 use crate::table::table_of;
@@ -25,21 +26,30 @@ pub fn lex<P: Pieces, R: Recognizer>(
 ) -> Result<Items<SpannedTemplateToken>, AllocError>
     ensures { IfOk result (IsLexed text.now) }
 {
-    let characters: Vec<char> = text.chars().collect(alloc)?;
+    let characters = characters_of(alloc, text)?;
     let table = table_of(alloc, pieces, recognizer, characters.as_slice())?;
-    lex_characters(alloc, pieces, characters.as_slice(), table.as_slice())
+    let one_byte_each = characters.len() == text.len();
+    lex_characters(
+        alloc,
+        pieces,
+        characters.as_slice(),
+        one_byte_each,
+        table.as_slice(),
+    )
 }
 
-/// The tokens of some characters, by the table of their template lists.
+/// The tokens of some characters, which may have one byte each, by the table of their template lists.
 fn lex_characters<P: Pieces>(
     alloc: Global,
     pieces: &P,
     characters: &[char],
+    one_byte_each: bool,
     table: &[bool],
 ) -> Result<Items<SpannedTemplateToken>, AllocError>
     requires table { IsTable characters.now table.now }
     requires covered { length characters.now ≤ length table.now }
     requires bounded { size characters.now < 2 ^ 64 }
+    requires bytes { one_byte_each ≡ true → size characters.now ≡ length characters.now }
     ensures { IfOk result (Lexes start characters.now) }
 {
     let mut tokens = Items::new(alloc);
@@ -63,7 +73,7 @@ fn lex_characters<P: Pieces>(
             table,
         )?;
         let (front, back) = rest.split_at(length);
-        let end = at + size_of(front);
+        let end = at + size_in(front, one_byte_each);
         if let Some(token) = token {
             let span = Span { start: at, end };
             after_word = push_token(&mut tokens, &mut opened, token, span)?;
@@ -89,6 +99,19 @@ fn push_token(
     let word = is_word(&token);
     tokens.push(SpannedTemplateToken { token, span })?;
     Ok(word)
+}
+
+/// How many bytes some characters have in UTF-8, which may have one byte each.
+fn size_in(characters: &[char], one_byte_each: bool) -> usize
+    requires bounded { size characters.now < 2 ^ 64 }
+    requires bytes { one_byte_each ≡ true → size characters.now ≡ length characters.now }
+    ensures { result ≡ size characters.now }
+{
+    if one_byte_each {
+        characters.len()
+    } else {
+        size_of(characters)
+    }
 }
 
 /// How many bytes some characters have in UTF-8.
