@@ -85,6 +85,7 @@ fn lex_characters<P: Pieces>(
 }
 
 /// Takes a token that was read. Whether a `<` behind it may open a template list.
+#[inline(always)]
 fn push_token(
     tokens: &mut Items<SpannedTemplateToken>,
     opened: &mut Vec<Bracket>,
@@ -127,6 +128,7 @@ fn size_of(characters: &[char]) -> usize
 }
 
 /// Whether a `<` behind the token may open a template list.
+#[inline(always)]
 pub(crate) fn is_word(token: &TemplateToken) -> bool
     ensures { result ≡ is_word token.now }
 {
@@ -137,6 +139,7 @@ pub(crate) fn is_word(token: &TemplateToken) -> bool
 }
 
 /// What is open behind a token.
+#[inline(always)]
 pub(crate) fn follow(opened: &mut Vec<Bracket>, token: &TemplateToken) -> Result<(), AllocError>
     ensures { IfOk result (λ _. reverse opened.new.items ≡ behind (reverse opened.old.items) token.now) }
 {
@@ -152,6 +155,7 @@ pub(crate) fn follow(opened: &mut Vec<Bracket>, token: &TemplateToken) -> Result
 }
 
 /// What is open behind a token of one spelling.
+#[inline(always)]
 fn follow_fixed(opened: &mut Vec<Bracket>, fixed: Fixed) -> Result<(), AllocError>
     ensures { IfOk result (λ _. reverse opened.new.items ≡ behind (reverse opened.old.items) (TemplateToken.Plain (Token.Fixed fixed))) }
 {

@@ -34,6 +34,7 @@ pub(crate) struct TemplatePiece {
 }
 
 /// What stands at the front of some characters, behind a word or not, where these brackets are open, the last one at the end.
+#[inline(always)]
 pub(crate) fn next<P: Pieces>(
     pieces: &P,
     characters: &[char],
@@ -60,6 +61,7 @@ pub(crate) fn next<P: Pieces>(
 }
 
 /// A token with what it is where it stands.
+#[inline(always)]
 fn told(
     first: char,
     behind: &[char],
