@@ -16,4 +16,5 @@ mod word;
 pub use identifier::is_identifier;
 pub use lexer::{first_piece, lex};
 pub use piece::Piece;
+pub use symbol::symbol_alone;
 pub use trivia::{is_blankspace, is_line_break};

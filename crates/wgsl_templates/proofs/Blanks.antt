@@ -1,16 +1,22 @@
 -- Blankspace before a token.
-use Rattle.std.specs.Prelude.{None}
-use Rattle.std.proofs.Common.{◌≡◌, ℕ, ◌+◌, Bool, true, List, [], ◌∷◌, length, take, drop, refl, sym, ◌∙◌, ap, append-nil, length-append}
+use Rattle.std.specs.Prelude.{Some, None, reverse}
+use Rattle.std.proofs.Common.{◌≡◌, ℕ, ◌+◌, Bool, true, ◌==◌, List, [], ◌∷◌, ◌++◌, length, take, drop, refl, sym, ◌∙◌, ap, arith, append-nil, length-append}
 use Rattle.std.specs.Char.{encode_utf8, len_utf8}
 use Rattle.std.specs.Str.{encode_utf8_all}
-use Rattle.std.proofs.lemmas.Str.{length-encode}
+use Rattle.std.proofs.lemmas.Str.{length-encode, len_utf8_ascii}
+use Rattle.wgsl_token.specs.declared.token.Token.TheVariants.{Fixed}
+use Rattle.wgsl_token.specs.declared.token.Fixed.{Fixed as FixedToken}
 use Rattle.wgsl_lex.specs.Tokens.{size, is_blank}
+use Rattle.wgsl_lex.specs.Pieces.{IsAlone}
+use Rattle.wgsl_lex.proofs.Bools.{and_false, neither}
 use Rattle.wgsl_lex.proofs.First.{blank_first}
 use Rattle.wgsl_template_spec.specs.declared.token.Bracket.{Bracket}
+use Rattle.wgsl_template_spec.specs.declared.token.TemplateToken.TheVariants.{Plain}
 use Rattle.wgsl_template_spec.specs.declared.token.SpannedTemplateToken.{SpannedTemplateToken}
+use Rattle.wgsl_template_spec.specs.Tokens.{is_word, is_in_list, behind}
 use Rattle.wgsl_templates.specs.Steps.{state}
-use Rattle.wgsl_templates.proofs.Here.{here_trivia}
-use Rattle.wgsl_templates.proofs.Reading.{IsLexedTo, lex_trivia}
+use Rattle.wgsl_templates.proofs.Here.{here_trivia, here_plain}
+use Rattle.wgsl_templates.proofs.Reading.{IsLexedTo, lex_trivia, lex_token}
 
 pub size_first : (cs : List ℕ) (c : ℕ) (following : List ℕ) → cs ≡ c ∷ following → size cs ≡ len_utf8 c + size following
 size_first cs c following is = ap size is ∙ length-append (encode_utf8 c) (encode_utf8_all following) ∙ ap (λ n. n + size following) (length-encode c)
@@ -23,3 +29,12 @@ pub lex_blank : (characters : List ℕ) (table : List Bool) (rest : List ℕ) (a
 lex_blank characters table rest at after_word opened done still c following is blank bytes sized =
     lex_trivia characters table rest at after_word opened done still c following is 1 (c ∷ []) following (sym (ap (take 1) is)) (sym (ap (drop 1) is)) bytes (sized ∙ sym (size_one c)) opened refl None
     (λ k. here_trivia (state k after_word opened) c following 1 None (blank_first c following blank) refl) refl
+
+pub lex_alone : (characters : List ℕ) (table : List Bool) (rest : List ℕ) (at : ℕ) (after_word : Bool) (opened : List Bracket) (done : List SpannedTemplateToken) → IsLexedTo characters table rest at after_word opened done
+    → (c : ℕ) (following : List ℕ) → rest ≡ c ∷ following → (fixed : FixedToken) → IsAlone c following fixed → (word : Bool) (brackets : List Bracket) (more : List SpannedTemplateToken)
+    → more ≡ done ++ record { token = Plain (Fixed fixed); span = record { start = at; end = at + 1 } } ∷ [] → word ≡ is_word (Plain (Fixed fixed)) → reverse brackets ≡ behind (reverse opened) (Plain (Fixed fixed))
+    → IsLexedTo characters table following (at + 1) word brackets more
+lex_alone characters table rest at after_word opened done still c following is fixed alone word brackets more pushed w k =
+    let other = neither (c == 60) (c == 62) alone.angle in
+    lex_token characters table rest at after_word opened done still c following is 1 (c ∷ []) following (sym (ap (take 1) is)) (sym (ap (drop 1) is)) 1 (sym (size_one c ∙ len_utf8_ascii c alone.ascii)) opened refl (Some (Plain (Fixed fixed)))
+    (λ n. here_plain (state n after_word opened) c following 1 (Fixed fixed) (omega arith) alone.stands (rw other.1 (and_false (is_in_list (reverse opened)))) (rw other.0 (and_false after_word))) (Plain (Fixed fixed)) word brackets more refl pushed w k

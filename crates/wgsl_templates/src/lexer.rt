@@ -12,7 +12,7 @@ use crate::recognize::Recognizer;
 use crate::table::table_of;
 use std::alloc::{AllocError, Global};
 use wgsl_items::Items;
-use wgsl_lex::is_blankspace;
+use wgsl_lex::{is_blankspace, symbol_alone};
 use wgsl_path::Span;
 use wgsl_template_spec::{Bracket, SpannedTemplateToken, TemplateToken};
 use wgsl_token::{Fixed, Token};
@@ -60,6 +60,17 @@ fn lex_characters<P: Pieces>(
     while let Some((first, behind)) = rest.split_first() {
         if is_blankspace(*first) {
             at += first.len_utf8();
+            rest = behind;
+            continue;
+        }
+        if let Some(fixed) = symbol_alone(*first, behind) {
+            let token = TemplateToken::Plain(Token::Fixed(fixed));
+            let span = Span {
+                start: at,
+                end: at + 1,
+            };
+            after_word = push_token(&mut tokens, &mut opened, token, span)?;
+            at += 1;
             rest = behind;
             continue;
         }

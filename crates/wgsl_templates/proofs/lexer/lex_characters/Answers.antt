@@ -2,7 +2,7 @@ use Rattle.std.proofs.Common.{arith, length, sym, ap}
 use Rattle.wgsl_lex.proofs.Sizes.{size_parts}
 use Rattle.wgsl_templates.proofs.Ascii.{front_bytes, back_bytes, behind_bytes}
 use Rattle.wgsl_templates.proofs.Reading.{lex_start, lex_trivia, lex_token, lex_all, stands_more}
-use Rattle.wgsl_templates.proofs.Blanks.{size_first, lex_blank}
+use Rattle.wgsl_templates.proofs.Blanks.{size_first, lex_blank, lex_alone}
 use Rattle.wgsl_templates.proofs.lexer.lex_characters.Goals as goal
 
 pub overflow_add-at : goal.overflow_add-at
@@ -17,6 +17,12 @@ loop-first-preserved-then-is_blankspace g c = (
   λ narrow. behind_bytes _ _ _ c.in-Some.ensures.cases.0 (c.loop-first.invariant.1 narrow),
 )
 
+pub loop-first-preserved-in-Some-symbol_alone : goal.loop-first-preserved-in-Some-symbol_alone
+loop-first-preserved-in-Some-symbol_alone g c = (
+  lex_alone _ _ _ _ _ _ _ c.loop-first.invariant.0 _ _ c.in-Some.ensures.cases.0 _ c.in-Some-symbol_alone.ensures _ _ _ c.in_ok-after_word.ensures.taken c.in_ok-after_word.ensures.word c.in_ok-after_word.ensures.brackets,
+  λ narrow. behind_bytes _ _ _ c.in-Some.ensures.cases.0 (c.loop-first.invariant.1 narrow),
+)
+
 pub size_in-requires-clause-bytes : goal.size_in-requires-clause-bytes
 size_in-requires-clause-bytes g c = λ narrow.
     front_bytes _ _ _ _ c.split_at.ensures.front c.split_at.ensures.back (omega (arith, ap length c.in-Some.ensures.cases.0, c.in_ok-length.ensures.within)) (c.loop-first.invariant.1 narrow)
@@ -27,12 +33,12 @@ size_in-requires-clause-bounded g c = omega (arith, c.loop-first.invariant.0.end
 pub overflow_add-end : goal.overflow_add-end
 overflow_add-end g c = omega (arith, c.loop-first.invariant.0.ends, size_parts _ _ _ _ c.split_at.ensures.front c.split_at.ensures.back, c.size_in.ensures)
 
-pub loop-first-smaller-in_ok-after_word : goal.loop-first-smaller-in_ok-after_word
-loop-first-smaller-in_ok-after_word g c = omega (arith, c.split_at.ensures.back_len, stands_more _ _ _ _ (c.in_ok-length.ensures.first 0))
+pub loop-first-smaller-in_ok-after_word-2 : goal.loop-first-smaller-in_ok-after_word-2
+loop-first-smaller-in_ok-after_word-2 g c = omega (arith, c.split_at.ensures.back_len, stands_more _ _ _ _ (c.in_ok-length.ensures.first 0))
 
-pub loop-first-preserved-in_ok-after_word : goal.loop-first-preserved-in_ok-after_word
-loop-first-preserved-in_ok-after_word g c = (
-  lex_token _ _ _ _ _ _ _ c.loop-first.invariant.0 _ _ c.in-Some.ensures.cases.0 _ _ _ c.split_at.ensures.front c.split_at.ensures.back _ c.size_in.ensures _ c.as_slice.ensures.value _ c.in_ok-length.ensures.first _ _ _ _ c.in-Some-token.is c.in_ok-after_word.ensures.taken c.in_ok-after_word.ensures.word c.in_ok-after_word.ensures.brackets,
+pub loop-first-preserved-in_ok-after_word-2 : goal.loop-first-preserved-in_ok-after_word-2
+loop-first-preserved-in_ok-after_word-2 g c = (
+  lex_token _ _ _ _ _ _ _ c.loop-first.invariant.0 _ _ c.in-Some.ensures.cases.0 _ _ _ c.split_at.ensures.front c.split_at.ensures.back _ c.size_in.ensures _ c.as_slice.ensures.value _ c.in_ok-length.ensures.first _ _ _ _ c.in-Some-token.is c.in_ok-after_word-2.ensures.taken c.in_ok-after_word-2.ensures.word c.in_ok-after_word-2.ensures.brackets,
   λ narrow. back_bytes _ _ _ _ c.split_at.ensures.front c.split_at.ensures.back (omega (arith, ap length c.in-Some.ensures.cases.0, c.in_ok-length.ensures.within)) (c.loop-first.invariant.1 narrow),
 )
 
