@@ -9,6 +9,7 @@ mod number;
 mod piece;
 mod rows;
 mod run;
+mod short;
 mod symbol;
 mod trivia;
 mod word;

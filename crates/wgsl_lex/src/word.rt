@@ -233,7 +233,7 @@ fn is_underscored(first: char, behind: &[char]) -> bool
 }
 
 /// What the table has of a word.
-fn listed(word: &str) -> Option<Option<Fixed>>
+pub(crate) fn listed(word: &str) -> Option<Option<Fixed>>
     ensures { IsListed word.now result }
 {
     if !is_listable(word) {

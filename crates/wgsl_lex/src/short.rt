@@ -1,0 +1,90 @@
+//! Words, the short ones in ASCII at once.
+
+ghost use Rattle.std.specs.Prelude.{◌≡◌, ◌≤◌, ◌<◌, ◌+◌, ◌∷◌, true, false, length, take, Some, IfOk, IfSome};
+ghost use Rattle.std.specs.Str.{encode_utf8_all};
+ghost use Rattle.unicode_ident.specs.Ident.{is_xid_continue};
+ghost use Rattle.wgsl_lex.specs.Tokens.{is_word, begins_with_two_underscores, token_form};
+ghost use Rattle.wgsl_lex.specs.Runs.{IsRun};
+ghost use Rattle.wgsl_lex.specs.Pieces.{StandsFirst, opens_word};
+
+use crate::piece::Piece;
+use crate::run::word_run;
+use crate::word::{listed, word_token};
+use std::alloc::{AllocError, Global};
+use std::str;
+use wgsl_items::Text;
+use wgsl_token::Token;
+
+/// The word that begins with this character.
+pub(crate) fn word(alloc: Global, first: char, behind: &[char]) -> Result<Piece, AllocError>
+    requires { opens_word first behind.now ≡ true }
+    ensures within { IfOk result (λ piece. piece.length ≤ length behind.now + 1) }
+    ensures first { IfOk result (λ piece. StandsFirst (first ∷ behind.now) piece.length piece.token) }
+{
+    let mut bytes = [0; 16];
+    if first != '_'
+        && let Some(count) = spell_word(&mut bytes, first, behind)
+        && let Ok(text) = str::from_utf8(&bytes[..count + 1])
+    {
+        let (rest_of_word, _) = behind.split_at(count);
+        let token = token_of(alloc, first, rest_of_word, text)?;
+        return Ok(Piece {
+            length: 1 + rest_of_word.len(),
+            token: Some(token),
+        });
+    }
+    let (rest_of_word, _) = behind.split_at(word_run(behind));
+    let token = word_token(alloc, first, rest_of_word)?;
+    Ok(Piece {
+        length: 1 + rest_of_word.len(),
+        token: Some(token),
+    })
+}
+
+/// Writes a word to the front, if it is in ASCII and fits. How many characters it has behind its first.
+fn spell_word(bytes: &mut [u8; 16], first: char, behind: &[char]) -> Option<usize>
+    ensures run { IfSome result (IsRun is_xid_continue behind.now) }
+    ensures within { IfSome result (λ count. count < 16) }
+    ensures text { IfSome result (λ count. take (count + 1) bytes.new ≡ encode_utf8_all (first ∷ take count behind.now)) }
+{
+    if !first.is_ascii() {
+        return None;
+    }
+    bytes[0] = first as u8;
+    for (at, character) in behind.iter().enumerate() {
+        if !character.is_ascii() {
+            return None;
+        }
+        if !continues_in_ascii(*character) {
+            return Some(at);
+        }
+        if at == 15 {
+            return None;
+        }
+        bytes[at + 1] = *character as u8;
+    }
+    Some(behind.len())
+}
+
+/// Whether a character in ASCII continues a word.
+#[tactic(auto, using(crate::proofs::Letters::ascii_continues))]
+fn continues_in_ascii(character: char) -> bool
+    requires { character < 128 }
+    ensures { result ≡ is_xid_continue character }
+{
+    character.is_ascii_alphanumeric() || character == '_'
+}
+
+/// The token of a word that doesn't begin with two underscores, given by its text too.
+fn token_of(alloc: Global, first: char, behind: &[char], text: &str) -> Result<Token, AllocError>
+    requires word { is_word (first ∷ behind.now) ≡ true }
+    requires plain { begins_with_two_underscores (first ∷ behind.now) ≡ false }
+    requires text { text.now ≡ encode_utf8_all (first ∷ behind.now) }
+    ensures { IfOk result (λ token. token_form (first ∷ behind.now) ≡ Some token) }
+{
+    match listed(text) {
+        Some(Some(fixed)) => Ok(Token::Fixed(fixed)),
+        Some(None) => Ok(Token::Reserved(Text::from_str(alloc, text)?)),
+        None => Ok(Token::Identifier(Text::from_str(alloc, text)?)),
+    }
+}
