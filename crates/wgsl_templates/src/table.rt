@@ -22,12 +22,14 @@ pub(crate) fn table_of<P: Pieces, R: Recognizer>(
     ensures covered { IfOk result (λ table. length table.items ≡ length text.now) }
 {
     let mut table = vec![in alloc; false; text.len()]?;
-    for count in 0..text.len() {
-        let place = text.len() - 1 - count;
+    let mut place = text.len();
+    while place > 0 {
+        place -= 1;
         if text[place] != '<' {
             continue;
         }
         let (_, behind) = text.split_at(place + 1);
+        let count = behind.len();
         table[count] = opens(alloc, pieces, recognizer, behind, &table[..count])?;
     }
     Ok(table)
