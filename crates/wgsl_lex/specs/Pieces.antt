@@ -10,12 +10,13 @@ use Rattle.wgsl_token.specs.declared.token.Fixed.{Fixed}
 use Rattle.wgsl_token.specs.declared.token.Fixed.TheVariants as f
 use Rattle.wgsl_token.specs.Spelling.{spelling}
 use Rattle.wgsl_lex.specs.declared.number.Magnitude.{Magnitude}
+use Rattle.wgsl_lex.specs.declared.short.ShortWord.{ShortWord}
 use Rattle.wgsl_lex.specs.declared.float.Base.{Base}
 use Rattle.wgsl_lex.specs.declared.float.Base.TheVariants.{Decimal, Hexadecimal}
 use Rattle.wgsl_lex.specs.declared.float.Float.{Float}
 use Rattle.wgsl_lex.specs.declared.word.TheConstants.{WORDS}
 use Rattle.wgsl_lex.specs.Floats.{one, optional, is_point, is_sign, is_zero, is_mark, is_e, is_p, exponent, float_of, is_float, takes_float_suffix}
-use Rattle.wgsl_lex.specs.Tokens.{is_blank, fixed_of, is_reserved, magnitude, number_with, form, trivia, token, NoLonger, IsLongest}
+use Rattle.wgsl_lex.specs.Tokens.{size, is_blank, fixed_of, is_reserved, magnitude, number_with, form, trivia, token, NoLonger, IsLongest}
 use Rattle.wgsl_lex.specs.Runs.{IsRun, IsLongestFront, IsLongestMagnitude, IsValue}
 
 -- So many characters stand first: the longest form, with its token if it has one, or a character with which no form begins.
@@ -81,6 +82,13 @@ pub record IsAlone (c : ℕ) (behind : List ℕ) (fixed : Fixed) : Type 0 where
   pub ascii : c < 128
   pub angle : ((c == 60) || (c == 62)) ≡ false
   pub stands : StandsFirst (c ∷ behind) 1 (Some (fixed_token fixed))
+
+-- a word in ASCII stands first
+pub record IsShortWord (c : ℕ) (behind : List ℕ) (word : ShortWord) : Type 0 where
+  pub within : word.length ≤ length behind + 1
+  pub bytes : size (take word.length (c ∷ behind)) ≡ word.length
+  pub angle : ((c == 60) || (c == 62)) ≡ false
+  pub stands : StandsFirst (c ∷ behind) word.length (Some word.token)
 
 -- the token that the first two, or three, characters spell
 abbrev pub spelled_by_two : ℕ → List ℕ → Option Fixed

@@ -17,5 +17,6 @@ mod word;
 pub use identifier::is_identifier;
 pub use lexer::{first_piece, lex};
 pub use piece::Piece;
+pub use short::{ShortWord, short_word};
 pub use symbol::symbol_alone;
 pub use trivia::{is_blankspace, is_line_break};

@@ -5,7 +5,7 @@ ghost use Rattle.std.specs.Str.{encode_utf8_all};
 ghost use Rattle.unicode_ident.specs.Ident.{is_xid_continue};
 ghost use Rattle.wgsl_lex.specs.Tokens.{is_word, begins_with_two_underscores, token_form};
 ghost use Rattle.wgsl_lex.specs.Runs.{IsRun};
-ghost use Rattle.wgsl_lex.specs.Pieces.{StandsFirst, opens_word};
+ghost use Rattle.wgsl_lex.specs.Pieces.{StandsFirst, IsShortWord, opens_word};
 
 use crate::piece::Piece;
 use crate::run::word_run;
@@ -15,21 +15,23 @@ use std::str;
 use wgsl_items::Text;
 use wgsl_token::Token;
 
+/// A word in ASCII of at most 16 characters.
+#[derive(Debug, Drop)]
+pub struct ShortWord {
+    /// How many characters it has.
+    pub length: usize,
+    pub token: Token,
+}
+
 /// The word that begins with this character.
 pub(crate) fn word(alloc: Global, first: char, behind: &[char]) -> Result<Piece, AllocError>
     requires { opens_word first behind.now ≡ true }
     ensures within { IfOk result (λ piece. piece.length ≤ length behind.now + 1) }
     ensures first { IfOk result (λ piece. StandsFirst (first ∷ behind.now) piece.length piece.token) }
 {
-    let mut bytes = [0; 16];
-    if first != '_'
-        && let Some(count) = spell_word(&mut bytes, first, behind)
-        && let Ok(text) = str::from_utf8(&bytes[..count + 1])
-    {
-        let (rest_of_word, _) = behind.split_at(count);
-        let token = token_of(alloc, first, rest_of_word, text)?;
+    if let Some(ShortWord { length, token }) = short_word(alloc, first, behind)? {
         return Ok(Piece {
-            length: 1 + rest_of_word.len(),
+            length,
             token: Some(token),
         });
     }
@@ -41,7 +43,35 @@ pub(crate) fn word(alloc: Global, first: char, behind: &[char]) -> Result<Piece,
     })
 }
 
+/// The word that begins with this character, if that is a letter and the word is short and in ASCII. Only memory can fail.
+#[inline(always)]
+pub fn short_word(
+    alloc: Global,
+    first: char,
+    behind: &[char],
+) -> Result<Option<ShortWord>, AllocError>
+    ensures { IfOk result (λ found. IfSome found (IsShortWord first behind.now)) }
+{
+    if !first.is_ascii_alphabetic() {
+        return Ok(None);
+    }
+    let mut bytes = [0; 16];
+    let Some(count) = spell_word(&mut bytes, first, behind) else {
+        return Ok(None);
+    };
+    let Ok(text) = str::from_utf8(&bytes[..count + 1]) else {
+        return Ok(None);
+    };
+    let (rest_of_word, _) = behind.split_at(count);
+    let token = token_of(alloc, first, rest_of_word, text)?;
+    Ok(Some(ShortWord {
+        length: count + 1,
+        token,
+    }))
+}
+
 /// Writes a word to the front, if it is in ASCII and fits. How many characters it has behind its first.
+#[inline(always)]
 fn spell_word(bytes: &mut [u8; 16], first: char, behind: &[char]) -> Option<usize>
     ensures run { IfSome result (IsRun is_xid_continue behind.now) }
     ensures within { IfSome result (λ count. count < 16) }
@@ -68,6 +98,7 @@ fn spell_word(bytes: &mut [u8; 16], first: char, behind: &[char]) -> Option<usiz
 
 /// Whether a character in ASCII continues a word.
 #[tactic(auto, using(crate::proofs::Letters::ascii_continues))]
+#[inline(always)]
 fn continues_in_ascii(character: char) -> bool
     requires { character < 128 }
     ensures { result ≡ is_xid_continue character }
@@ -76,6 +107,7 @@ fn continues_in_ascii(character: char) -> bool
 }
 
 /// The token of a word that doesn't begin with two underscores, given by its text too.
+#[inline(always)]
 fn token_of(alloc: Global, first: char, behind: &[char], text: &str) -> Result<Token, AllocError>
     requires word { is_word (first ∷ behind.now) ≡ true }
     requires plain { begins_with_two_underscores (first ∷ behind.now) ≡ false }

@@ -1,6 +1,6 @@
 //! The tokens of a text in which template lists are told.
 
-ghost use Rattle.std.specs.Prelude.{◌≡◌, ◌<◌, ◌≤◌, ◌^◌, ◌∷◌, ◌++◌, [], length, reverse, IfOk, List, true};
+ghost use Rattle.std.specs.Prelude.{◌≡◌, ◌<◌, ◌≤◌, ◌^◌, ◌+◌, ◌∷◌, ◌++◌, [], length, reverse, IfOk, List, true};
 ghost use Rattle.std.specs.Str.{chars};
 ghost use Rattle.wgsl_lex.specs.Tokens.{size};
 ghost use Rattle.wgsl_template_spec.specs.Tokens.{start, is_word, behind, Lexes, IsLexed};
@@ -12,7 +12,7 @@ use crate::recognize::Recognizer;
 use crate::table::table_of;
 use std::alloc::{AllocError, Global};
 use wgsl_items::Items;
-use wgsl_lex::{is_blankspace, symbol_alone};
+use wgsl_lex::{is_blankspace, short_word, symbol_alone};
 use wgsl_path::Span;
 use wgsl_template_spec::{Bracket, SpannedTemplateToken, TemplateToken};
 use wgsl_token::{Fixed, Token};
@@ -58,19 +58,21 @@ fn lex_characters<P: Pieces>(
     let mut after_word = false;
     let mut at = 0;
     while let Some((first, behind)) = rest.split_first() {
-        if is_blankspace(*first) {
-            at += first.len_utf8();
-            rest = behind;
+        if let Some(word) = short_word(alloc, *first, behind)? {
+            let (_, back) = rest.split_at(word.length);
+            after_word = push_plain(&mut tokens, &mut opened, word.token, at, word.length)?;
+            at += word.length;
+            rest = back;
             continue;
         }
         if let Some(fixed) = symbol_alone(*first, behind) {
-            let token = TemplateToken::Plain(Token::Fixed(fixed));
-            let span = Span {
-                start: at,
-                end: at + 1,
-            };
-            after_word = push_token(&mut tokens, &mut opened, token, span)?;
+            after_word = push_plain(&mut tokens, &mut opened, Token::Fixed(fixed), at, 1)?;
             at += 1;
+            rest = behind;
+            continue;
+        }
+        if is_blankspace(*first) {
+            at += first.len_utf8();
             rest = behind;
             continue;
         }
@@ -93,6 +95,27 @@ fn lex_characters<P: Pieces>(
         at = end;
     }
     Ok(tokens)
+}
+
+/// Takes a token of so many characters in ASCII that stands here as in any text. Whether a `<` behind it may open a template list.
+#[inline(always)]
+fn push_plain(
+    tokens: &mut Items<SpannedTemplateToken>,
+    opened: &mut Vec<Bracket>,
+    token: Token,
+    at: usize,
+    length: usize,
+) -> Result<bool, AllocError>
+    requires { at + length < 2 ^ 64 }
+    ensures word { IfOk result (λ word. word ≡ is_word (TemplateToken.Plain token)) }
+    ensures taken { IfOk result (λ _. tokens.new ≡ tokens.old ++ record { token = TemplateToken.Plain token; span = record { start = at; end = at + length } } ∷ []) }
+    ensures brackets { IfOk result (λ _. reverse opened.new.items ≡ behind (reverse opened.old.items) (TemplateToken.Plain token)) }
+{
+    let span = Span {
+        start: at,
+        end: at + length,
+    };
+    push_token(tokens, opened, TemplateToken::Plain(token), span)
 }
 
 /// Takes a token that was read. Whether a `<` behind it may open a template list.
