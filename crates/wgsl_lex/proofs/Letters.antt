@@ -1,11 +1,13 @@
 -- Letters, digits and `_` in ASCII.
 use Rattle.std.specs.Prelude.{Some}
-use Rattle.std.proofs.Common.{◌≡◌, ℕ, suc, ◌+◌, ◌<◌, Bool, true, false, ◌||◌, ◌==◌, List, ◌∷◌, length, take, get_or, refl, sym, ◌∙◌, ap, subst, arith, inl, inr}
+use Rattle.std.proofs.Common.{◌≡◌, ℕ, zero, suc, ◌+◌, ◌<◌, Bool, true, false, ◌||◌, ◌==◌, List, [], ◌∷◌, length, take, get_or, refl, sym, ◌∙◌, ap, subst, arith, inl, inr}
 use Rattle.std.proofs.lemmas.Bool.{cases_lt}
 use Rattle.std.proofs.lemmas.Bool.Decides.{nat_tests}
-use Rattle.std.proofs.lemmas.List.{get_or_read}
+use Rattle.std.proofs.lemmas.List.{get_or_read, take_more_set}
 use Rattle.std.specs.Char.{is_ascii_alphabetic, is_ascii_alphanumeric}
-use Rattle.std.specs.Str.{encode_utf8_all}
+use Rattle.std.specs.Str.{IsAscii, encode_utf8_all}
+use Rattle.std.proofs.lemmas.Str.{IsAscii-append}
+use Rattle.std.proofs.Math.ListN.{set}
 use Rattle.unicode_ident.specs.Ident.{is_xid_continue}
 use Rattle.unicode_ident.proofs.IdentLemmas.{is_xid_start-ascii, is_xid_continue-ascii}
 use Rattle.wgsl_token.specs.declared.token.Token.{Token}
@@ -52,3 +54,11 @@ short_is c behind front bytes count t letter run f counted sized text form =
       angle = letter_no_angle c letter;
       stands = subst Q same (word_first c behind front count t spelled run f counted form);
     }
+
+-- one byte more
+pub ascii_more : (bytes : List ℕ) (n c : ℕ) → n < length bytes → c < 128 → IsAscii (take n bytes) → IsAscii (take (n + 1) (set bytes n c))
+ascii_more bytes n c room low so_far = let P : List ℕ → Type 0 = IsAscii in subst P (sym (take_more_set bytes n c room)) (IsAscii-append (take n bytes) (c ∷ []) so_far (one_ascii c low))
+  where
+    one_ascii : (x : ℕ) → x < 128 → IsAscii (x ∷ [])
+    one_ascii x h zero = h
+    one_ascii x h (suc i) = omega arith

@@ -1,7 +1,7 @@
 //! Words, the short ones in ASCII at once.
 
 ghost use Rattle.std.specs.Prelude.{◌≡◌, ◌≤◌, ◌<◌, ◌+◌, ◌∷◌, true, false, length, take, Some, IfOk, IfSome};
-ghost use Rattle.std.specs.Str.{encode_utf8_all};
+ghost use Rattle.std.specs.Str.{IsAscii, encode_utf8_all};
 ghost use Rattle.unicode_ident.specs.Ident.{is_xid_continue};
 ghost use Rattle.wgsl_lex.specs.Tokens.{is_word, begins_with_two_underscores, token_form};
 ghost use Rattle.wgsl_lex.specs.Runs.{IsRun};
@@ -59,9 +59,7 @@ pub fn short_word(
     let Some(count) = spell_word(&mut bytes, first, behind) else {
         return Ok(None);
     };
-    let Ok(text) = str::from_utf8(&bytes[..count + 1]) else {
-        return Ok(None);
-    };
+    let text = ascii_text(&bytes[..count + 1]);
     let (rest_of_word, _) = behind.split_at(count);
     let token = token_of(alloc, first, rest_of_word, text)?;
     Ok(Some(ShortWord {
@@ -70,12 +68,22 @@ pub fn short_word(
     }))
 }
 
+/// The text of some bytes in ASCII. They are not looked at again.
+#[inline(always)]
+fn ascii_text(bytes: &[u8]) -> &str
+    requires { IsAscii bytes.now }
+    ensures { result.now ≡ bytes.now }
+{
+    unsafe { str::from_utf8_unchecked(bytes) }
+}
+
 /// Writes a word to the front, if it is in ASCII and fits. How many characters it has behind its first.
 #[inline(always)]
 fn spell_word(bytes: &mut [u8; 16], first: char, behind: &[char]) -> Option<usize>
     ensures run { IfSome result (IsRun is_xid_continue behind.now) }
     ensures within { IfSome result (λ count. count < 16) }
     ensures text { IfSome result (λ count. take (count + 1) bytes.new ≡ encode_utf8_all (first ∷ take count behind.now)) }
+    ensures ascii { IfSome result (λ count. IsAscii (take (count + 1) bytes.new)) }
 {
     if !first.is_ascii() {
         return None;
