@@ -1,8 +1,7 @@
 -- Symbols that stand alone.
 use Rattle.std.specs.Prelude.{Some, None, nat_lt}
-use Rattle.std.proofs.Common.{◌≡◌, ℕ, Bool, true, false, cond, not, ◌||◌, ◌==◌, ◌⊎◌, inl, inr, List, [], ◌∷◌, refl, sym, ◌∙◌, ap}
+use Rattle.std.proofs.Common.{◌≡◌, ℕ, Bool, true, false, cond, not, ◌==◌, ◌⊎◌, inl, inr, List, [], ◌∷◌, refl, sym, ◌∙◌, ap}
 use Rattle.std.specs.List.{list_all}
-use Rattle.std.specs.Char.{is_ascii_digit}
 use Rattle.std.specs.Str.{bytes_eq}
 use Rattle.std.proofs.lemmas.Bool.{ltb-true}
 use Rattle.std.proofs.lemmas.Slice.Eq.{bytes_eq-Decides}
@@ -10,9 +9,8 @@ use Rattle.unicode_ident.specs.Ident.{is_xid_start}
 use Rattle.unicode_ident.proofs.Computing.{unicode_ident}
 use Rattle.wgsl_token.specs.declared.token.Fixed.{Fixed}
 use Rattle.wgsl_token.specs.Spelling.{spelling}
-use Rattle.wgsl_lex.specs.Floats.{is_point}
 use Rattle.wgsl_lex.specs.Tokens.{all_fixed, fixed_of, is_blank}
-use Rattle.wgsl_lex.specs.Pieces.{BeginsNothingElse, IsAlone, plain_symbols, beside, is_lone, begins_with_second, spelled_by_two, spelled_by_three}
+use Rattle.wgsl_lex.specs.Pieces.{opens_number, BeginsNothingElse, IsAlone, plain_symbols, beside, is_lone, begins_with_second, spelled_by_two, spelled_by_three}
 use Rattle.wgsl_lex.proofs.Bools.{neither, is_number}
 use Rattle.wgsl_lex.proofs.Classes.{not_true}
 use Rattle.wgsl_lex.proofs.Tables.{begins_word, no_fixed, fixed_of-spelling}
@@ -61,31 +59,26 @@ module _ (c : ℕ) (fixed : Fixed) (found : beside plain_symbols c ≡ Some fixe
   unfolding unicode_ident
   no_word = not_true _ (beside_passes (λ x g. not (begins_word x)) plain_symbols c fixed refl found)
 
-  no_number : (is_ascii_digit c || is_point c) ≡ false
-  no_number = not_true _ (beside_passes (λ x g. not (is_ascii_digit x || is_point x)) plain_symbols c fixed refl found)
-
   no_slash : (c == 47) ≡ false
   no_slash = not_true _ (beside_passes (λ x g. not (x == 47)) plain_symbols c fixed refl found)
 
   spelled : fixed_of (c ∷ []) ≡ Some fixed
   spelled = ap fixed_of (sym ((bytes_eq-Decides (spelling fixed) (c ∷ [])).0 (beside_passes (λ x g. bytes_eq (spelling g) (x ∷ [])) plain_symbols c fixed refl found))) ∙ fixed_of-spelling fixed
 
-  nothing_else : (behind : List ℕ) → BeginsNothingElse c behind
-  nothing_else behind =
+  nothing_else : (behind : List ℕ) → opens_number c behind ≡ false → BeginsNothingElse c behind
+  nothing_else behind number =
       let letters = neither (is_xid_start c) (c == 95) no_word in
-      let digits = neither (is_ascii_digit c) (is_point c) no_number in
       record {
         blank = not_true _ (beside_passes (λ x g. not (is_blank x)) plain_symbols c fixed refl found);
         comment = rw no_slash;
         word = rw (letters.0, letters.1);
-        number = rw (digits.0, digits.1);
+        number = number;
       }
 
-  pub stands_alone : (behind : List ℕ) → ((is_lone c ≡ true) ⊎ (begins_with_second behind ≡ false)) → IsAlone c behind fixed
-  stands_alone behind why =
+  pub stands_alone : (behind : List ℕ) → opens_number c behind ≡ false → ((is_lone c ≡ true) ⊎ (begins_with_second behind ≡ false)) → IsAlone c behind fixed
+  stands_alone behind number why =
       let starts = (neither (is_xid_start c) (c == 95) no_word).0 in
       record {
         ascii = ltb-true c 128 (beside_passes (λ x g. nat_lt x 128) plain_symbols c fixed refl found);
-        angle = not_true _ (beside_passes (λ x g. not ((x == 60) || (x == 62))) plain_symbols c fixed refl found);
-        stands = one_first c behind (nothing_else behind) fixed (no_three c behind starts why) (no_two c behind starts why) spelled;
+        stands = one_first c behind (nothing_else behind number) fixed (no_three c behind starts why) (no_two c behind starts why) spelled;
       }

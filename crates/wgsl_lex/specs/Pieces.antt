@@ -59,9 +59,9 @@ pub record BeginsNothingElse (c : ℕ) (behind : List ℕ) : Type 0 where
 abbrev pub is_second : ℕ → Bool
 is_second c = (c == 38) || (c == 43) || (c == 45) || (c == 58) || (c == 60) || (c == 61) || (c == 62) || (c == 124)
 
--- the symbols of one character that are no angle bracket and with which no comment, word or number begins
+-- the symbols of one character with which no comment or word begins, and with which a number does only if it is a point
 abbrev pub plain_symbols : List (ℕ × Fixed)
-plain_symbols = (40, f.ParenLeft) ∷ (41, f.ParenRight) ∷ (44, f.Comma) ∷ (59, f.Semicolon) ∷ (123, f.BraceLeft) ∷ (125, f.BraceRight) ∷ (91, f.BracketLeft) ∷ (93, f.BracketRight) ∷ (64, f.Attr) ∷ (126, f.Tilde) ∷ (58, f.Colon) ∷ (61, f.Equal) ∷ (42, f.Star) ∷ (43, f.Plus) ∷ (45, f.Minus) ∷ (37, f.Modulo) ∷ (38, f.And) ∷ (124, f.Or) ∷ (33, f.Bang) ∷ (94, f.Xor) ∷ []
+plain_symbols = (40, f.ParenLeft) ∷ (41, f.ParenRight) ∷ (44, f.Comma) ∷ (59, f.Semicolon) ∷ (123, f.BraceLeft) ∷ (125, f.BraceRight) ∷ (91, f.BracketLeft) ∷ (93, f.BracketRight) ∷ (64, f.Attr) ∷ (126, f.Tilde) ∷ (46, f.Period) ∷ (58, f.Colon) ∷ (61, f.Equal) ∷ (42, f.Star) ∷ (43, f.Plus) ∷ (45, f.Minus) ∷ (37, f.Modulo) ∷ (38, f.And) ∷ (124, f.Or) ∷ (33, f.Bang) ∷ (94, f.Xor) ∷ (60, f.LessThan) ∷ (62, f.GreaterThan) ∷ []
 
 -- what stands in a table beside the first number that is this one
 abbrev pub beside : List (ℕ × Fixed) → ℕ → Option Fixed
@@ -70,17 +70,16 @@ beside (entry ∷ entries) c = if c == entry.0 then Some entry.1 else beside ent
 
 -- of these, those with which no longer symbol begins
 abbrev pub is_lone : ℕ → Bool
-is_lone c = (c == 40) || (c == 41) || (c == 44) || (c == 59) || (c == 123) || (c == 125) || (c == 91) || (c == 93) || (c == 64) || (c == 126)
+is_lone c = (c == 40) || (c == 41) || (c == 44) || (c == 59) || (c == 123) || (c == 125) || (c == 91) || (c == 93) || (c == 64) || (c == 126) || (c == 46)
 
 -- the first one may end a symbol of two characters
 abbrev pub begins_with_second : List ℕ → Bool
 begins_with_second [] = false
 begins_with_second (c ∷ cs) = is_second c
 
--- a symbol of one character in ASCII that is no angle bracket stands first
+-- a symbol of one character in ASCII stands first
 pub record IsAlone (c : ℕ) (behind : List ℕ) (fixed : Fixed) : Type 0 where
   pub ascii : c < 128
-  pub angle : ((c == 60) || (c == 62)) ≡ false
   pub stands : StandsFirst (c ∷ behind) 1 (Some (fixed_token fixed))
 
 -- a word in ASCII stands first

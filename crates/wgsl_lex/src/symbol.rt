@@ -5,6 +5,7 @@ ghost use Rattle.std.specs.Option.{option_map};
 ghost use Rattle.unicode_ident.specs.Ident.{is_xid_start};
 ghost use Rattle.wgsl_lex.specs.Pieces.{StandsFirst, BeginsNothingElse, IsAlone, plain_symbols, beside, is_lone, begins_with_second, is_second, spelled_by_two, spelled_by_three};
 
+use crate::number::opens_number;
 use crate::piece::Piece;
 use wgsl_token::{Fixed, Token};
 
@@ -87,12 +88,15 @@ pub(crate) fn symbol(first: char, behind: &[char]) -> Piece
     }
 }
 
-/// The symbol of one character that stands first, where it is found at once that none else does. An angle bracket never is.
+/// The symbol of one character that stands first, where it is found at once that nothing else does.
 #[inline(always)]
 pub fn symbol_alone(first: char, behind: &[char]) -> Option<Fixed>
     ensures { IfSome result (IsAlone first behind.now) }
 {
     let fixed = plain_symbol(first)?;
+    if opens_number(first, behind) {
+        return None;
+    }
     if is_lone(first) {
         return Some(fixed);
     }
@@ -102,7 +106,7 @@ pub fn symbol_alone(first: char, behind: &[char]) -> Option<Fixed>
     Some(fixed)
 }
 
-/// The symbol of this character, with which no comment, word or number begins.
+/// The symbol of this character, with which no comment or word begins.
 #[inline(always)]
 fn plain_symbol(first: char) -> Option<Fixed>
     ensures { result ≡ beside plain_symbols first }
@@ -118,6 +122,7 @@ fn plain_symbol(first: char) -> Option<Fixed>
         ']' => Some(Fixed::BracketRight),
         '@' => Some(Fixed::Attr),
         '~' => Some(Fixed::Tilde),
+        '.' => Some(Fixed::Period),
         ':' => Some(Fixed::Colon),
         '=' => Some(Fixed::Equal),
         '*' => Some(Fixed::Star),
@@ -128,6 +133,8 @@ fn plain_symbol(first: char) -> Option<Fixed>
         '|' => Some(Fixed::Or),
         '!' => Some(Fixed::Bang),
         '^' => Some(Fixed::Xor),
+        '<' => Some(Fixed::LessThan),
+        '>' => Some(Fixed::GreaterThan),
         _ => None,
     }
 }
@@ -139,7 +146,7 @@ fn is_lone(first: char) -> bool
 {
     matches!(
         first,
-        '(' | ')' | ',' | ';' | '{' | '}' | '[' | ']' | '@' | '~'
+        '(' | ')' | ',' | ';' | '{' | '}' | '[' | ']' | '@' | '~' | '.'
     )
 }
 

@@ -4,20 +4,19 @@ use Rattle.std.proofs.Common.{◌≡◌, ℕ, ◌+◌, ◌<◌, ◌≤◌, Bool,
 use Rattle.std.specs.Char.{encode_utf8, len_utf8}
 use Rattle.std.specs.Str.{encode_utf8_all}
 use Rattle.std.proofs.lemmas.Str.{length-encode, len_utf8_ascii}
-use Rattle.wgsl_token.specs.declared.token.Token.TheVariants.{Fixed}
-use Rattle.wgsl_token.specs.declared.token.Fixed.{Fixed as FixedToken}
 use Rattle.wgsl_lex.specs.Tokens.{size, is_blank}
 use Rattle.wgsl_lex.specs.declared.short.ShortWord.{ShortWord}
-use Rattle.wgsl_lex.specs.Pieces.{IsAlone, IsShortWord}
+use Rattle.wgsl_lex.specs.Pieces.{IsShortWord}
 use Rattle.wgsl_lex.proofs.Sizes.{size_split}
 use Rattle.wgsl_template_spec.proofs.Once.{first_takes}
 use Rattle.wgsl_lex.proofs.Bools.{and_false, neither}
 use Rattle.wgsl_lex.proofs.First.{blank_first}
 use Rattle.wgsl_template_spec.specs.declared.token.Bracket.{Bracket}
 use Rattle.wgsl_template_spec.specs.declared.token.TemplateToken.TheVariants.{Plain}
+use Rattle.wgsl_template_spec.specs.declared.token.TemplateToken.{TemplateToken}
 use Rattle.wgsl_template_spec.specs.declared.token.SpannedTemplateToken.{SpannedTemplateToken}
 use Rattle.wgsl_template_spec.specs.Tokens.{is_word, is_in_list, behind}
-use Rattle.wgsl_templates.specs.Steps.{state}
+use Rattle.wgsl_templates.specs.Steps.{StandsHere, state}
 use Rattle.wgsl_templates.proofs.Here.{here_trivia, here_plain, is_first}
 use Rattle.wgsl_templates.proofs.Reading.{IsLexedTo, lex_trivia, lex_token}
 
@@ -34,13 +33,11 @@ lex_blank characters table rest at after_word opened done still c following is b
     (λ k. here_trivia (state k after_word opened) c following 1 None (blank_first c following blank) refl) refl
 
 pub lex_alone : (characters : List ℕ) (table : List Bool) (rest : List ℕ) (at : ℕ) (after_word : Bool) (opened : List Bracket) (done : List SpannedTemplateToken) → IsLexedTo characters table rest at after_word opened done
-    → (c : ℕ) (following : List ℕ) → rest ≡ c ∷ following → (fixed : FixedToken) → IsAlone c following fixed → (word : Bool) (brackets : List Bracket) (more : List SpannedTemplateToken)
-    → more ≡ done ++ record { token = Plain (Fixed fixed); span = record { start = at; end = at + 1 } } ∷ [] → word ≡ is_word (Plain (Fixed fixed)) → reverse brackets ≡ behind (reverse opened) (Plain (Fixed fixed))
-    → IsLexedTo characters table following (at + 1) word brackets more
-lex_alone characters table rest at after_word opened done still c following is fixed alone word brackets more pushed w k =
-    let other = neither (c == 60) (c == 62) alone.angle in
-    lex_token characters table rest at after_word opened done still c following is 1 (c ∷ []) following (sym (ap (take 1) is)) (sym (ap (drop 1) is)) 1 (sym (size_one c ∙ len_utf8_ascii c alone.ascii)) opened refl (Some (Plain (Fixed fixed)))
-    (λ n. here_plain (state n after_word opened) c following 1 (Fixed fixed) (omega arith) alone.stands (rw other.1 (and_false (is_in_list (reverse opened)))) (rw other.0 (and_false after_word))) (Plain (Fixed fixed)) word brackets more refl pushed w k
+    → (c : ℕ) (following : List ℕ) → rest ≡ c ∷ following → c < 128 → (t : TemplateToken) (brackets : List Bracket) → brackets ≡ opened → ((n : ℕ) → StandsHere (state n after_word brackets) (c ∷ following) 1 (Some t))
+    → (word : Bool) (brackets' : List Bracket) (more : List SpannedTemplateToken) → more ≡ done ++ record { token = t; span = record { start = at; end = at + 1 } } ∷ [] → word ≡ is_word t → reverse brackets' ≡ behind (reverse opened) t
+    → IsLexedTo characters table following (at + 1) word brackets' more
+lex_alone characters table rest at after_word opened done still c following is low t brackets same stands word brackets' more pushed w k =
+    lex_token characters table rest at after_word opened done still c following is 1 (c ∷ []) following (sym (ap (take 1) is)) (sym (ap (drop 1) is)) 1 (sym (size_one c ∙ len_utf8_ascii c low)) brackets same (Some t) stands t word brackets' more refl pushed w k
 
 pub lex_word : (characters : List ℕ) (table : List Bool) (rest : List ℕ) (at : ℕ) (after_word : Bool) (opened : List Bracket) (done : List SpannedTemplateToken) → IsLexedTo characters table rest at after_word opened done
     → (c : ℕ) (following : List ℕ) → rest ≡ c ∷ following → (found : ShortWord) → IsShortWord c following found → (back : List ℕ) → back ≡ drop found.length rest → (word : Bool) (brackets : List Bracket) (more : List SpannedTemplateToken)

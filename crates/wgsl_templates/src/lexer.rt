@@ -7,7 +7,7 @@ ghost use Rattle.wgsl_template_spec.specs.Tokens.{start, is_word, behind, Lexes,
 ghost use Rattle.wgsl_templates.specs.Steps.{IsTable};
 
 use crate::characters::characters_of;
-use crate::piece::{Pieces, TemplatePiece, next};
+use crate::piece::{Pieces, TemplatePiece, next, told_symbol};
 use crate::recognize::Recognizer;
 use crate::table::table_of;
 use std::alloc::{AllocError, Global};
@@ -66,7 +66,13 @@ fn lex_characters<P: Pieces>(
             continue;
         }
         if let Some(fixed) = symbol_alone(*first, behind) {
-            after_word = push_plain(&mut tokens, &mut opened, Token::Fixed(fixed), at, 1)?;
+            let list = opened.as_slice();
+            let token = told_symbol(*first, behind, fixed, after_word, list, table);
+            let span = Span {
+                start: at,
+                end: at + 1,
+            };
+            after_word = push_token(&mut tokens, &mut opened, token, span)?;
             at += 1;
             rest = behind;
             continue;

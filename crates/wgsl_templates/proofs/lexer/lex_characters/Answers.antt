@@ -32,7 +32,7 @@ loop-first-preserved-in-Some-2 g c =
 
 pub loop-first-preserved-in-Some-symbol_alone : goal.loop-first-preserved-in-Some-symbol_alone
 loop-first-preserved-in-Some-symbol_alone g c = (
-  lex_alone _ _ _ _ _ _ _ c.loop-first.invariant.0 _ _ c.in-Some.ensures.cases.0 _ c.in-Some-symbol_alone.ensures _ _ _ c.in_ok-after_word-2.ensures.taken c.in_ok-after_word-2.ensures.word c.in_ok-after_word-2.ensures.brackets,
+  lex_alone _ _ _ _ _ _ _ c.loop-first.invariant.0 _ _ c.in-Some.ensures.cases.0 c.in-Some-symbol_alone.ensures.ascii _ _ c.as_slice-list.ensures.value c.told_symbol-token.ensures _ _ _ c.in_ok-after_word-2.ensures.taken c.in_ok-after_word-2.ensures.word c.in_ok-after_word-2.ensures.brackets,
   λ narrow. behind_bytes _ _ _ c.in-Some.ensures.cases.0 (c.loop-first.invariant.1 narrow),
 )
 
