@@ -75,7 +75,7 @@ digit_passes p all c h =
 abbrev pub begins_no_word : ℕ → Bool
 begins_no_word c = not (begins_word c)
 
-not_true : (b : Bool) → not b ≡ true → b ≡ false
+pub not_true : (b : Bool) → not b ≡ true → b ≡ false
 not_true true e = sym e
 not_true false e = refl
 

@@ -136,6 +136,16 @@ three_is c d e starts =
           rw (h0, h1, h2),
     )) refl (λ g h. rw starts at (fixed_passes listed_3 spellings_listed_3 (c ∷ d ∷ e ∷ []) g h))
 
+pub not_second_of_three : (c d e : ℕ) → is_second d ≡ false → option_map (λ x. x.3) (find (λ x. (x.0 == c) && (x.1 == d) && (x.2 == e)) THREE) ≡ None
+not_second_of_three c d e fail =
+    elim (find (λ x. (x.0 == c) && (x.1 == d) && (x.2 == e)) THREE) as (λ o. find (λ x. (x.0 == c) && (x.1 == d) && (x.2 == e)) THREE ≡ o → option_map (λ x. x.3) o ≡ None) [
+      | None ↦ λ _. refl
+      | Some x ↦ λ found.
+          let passes : is_second x.1 ≡ true = find_all (λ y. (y.0 == c) && (y.1 == d) && (y.2 == e)) (λ y. is_second y.1) THREE x refl found in
+          let parts = both (x.0 == c) (x.1 == d) (both ((x.0 == c) && (x.1 == d)) (x.2 == e) (find_found (λ y. (y.0 == c) && (y.1 == d) && (y.2 == e)) THREE x found)).0 in
+          absurd (not_both (is_second d) (ap is_second (sym (is_number x.1 d parts.1)) ∙ passes) fail)
+    ] refl
+
 -- More than three are no symbol.
 pub four_is_none : (c d e g : ℕ) (cs : List ℕ) → is_xid_start c ≡ false → fixed_of (c ∷ d ∷ e ∷ g ∷ cs) ≡ None
 four_is_none c d e g cs starts = no_fixed listed_3 spellings_listed_3 (c ∷ d ∷ e ∷ g ∷ cs) starts

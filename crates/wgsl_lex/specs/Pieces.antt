@@ -5,16 +5,18 @@ use Rattle.std.specs.Char.{is_ascii_digit, is_ascii_hexdigit}
 use Rattle.std.specs.Str.{bytes_eq}
 use Rattle.unicode_ident.specs.Ident.{is_xid_start, is_xid_continue}
 use Rattle.wgsl_token.specs.declared.token.Token.{Token}
-use Rattle.wgsl_token.specs.declared.token.Token.TheVariants.{Invalid}
+use Rattle.wgsl_token.specs.declared.token.Token.TheVariants.{Invalid, Fixed as fixed_token}
 use Rattle.wgsl_token.specs.declared.token.Fixed.{Fixed}
+use Rattle.wgsl_token.specs.declared.token.Fixed.TheVariants as f
 use Rattle.wgsl_token.specs.Spelling.{spelling}
 use Rattle.wgsl_lex.specs.declared.number.Magnitude.{Magnitude}
+use Rattle.wgsl_lex.specs.declared.short.ShortWord.{ShortWord}
 use Rattle.wgsl_lex.specs.declared.float.Base.{Base}
 use Rattle.wgsl_lex.specs.declared.float.Base.TheVariants.{Decimal, Hexadecimal}
 use Rattle.wgsl_lex.specs.declared.float.Float.{Float}
 use Rattle.wgsl_lex.specs.declared.word.TheConstants.{WORDS}
 use Rattle.wgsl_lex.specs.Floats.{one, optional, is_point, is_sign, is_zero, is_mark, is_e, is_p, exponent, float_of, is_float, takes_float_suffix}
-use Rattle.wgsl_lex.specs.Tokens.{is_blank, fixed_of, is_reserved, magnitude, number_with, form, trivia, token, NoLonger, IsLongest}
+use Rattle.wgsl_lex.specs.Tokens.{size, is_blank, fixed_of, is_reserved, magnitude, number_with, form, trivia, token, NoLonger, IsLongest}
 use Rattle.wgsl_lex.specs.Runs.{IsRun, IsLongestFront, IsLongestMagnitude, IsValue}
 
 -- So many characters stand first: the longest form, with its token if it has one, or a character with which no form begins.
@@ -56,6 +58,36 @@ pub record BeginsNothingElse (c : ℕ) (behind : List ℕ) : Type 0 where
 -- a symbol of two characters ends in it
 abbrev pub is_second : ℕ → Bool
 is_second c = (c == 38) || (c == 43) || (c == 45) || (c == 58) || (c == 60) || (c == 61) || (c == 62) || (c == 124)
+
+-- the symbols of one character with which no comment or word begins, and with which a number does only if it is a point
+abbrev pub plain_symbols : List (ℕ × Fixed)
+plain_symbols = (40, f.ParenLeft) ∷ (41, f.ParenRight) ∷ (44, f.Comma) ∷ (59, f.Semicolon) ∷ (123, f.BraceLeft) ∷ (125, f.BraceRight) ∷ (91, f.BracketLeft) ∷ (93, f.BracketRight) ∷ (64, f.Attr) ∷ (126, f.Tilde) ∷ (46, f.Period) ∷ (58, f.Colon) ∷ (61, f.Equal) ∷ (42, f.Star) ∷ (43, f.Plus) ∷ (45, f.Minus) ∷ (37, f.Modulo) ∷ (38, f.And) ∷ (124, f.Or) ∷ (33, f.Bang) ∷ (94, f.Xor) ∷ (60, f.LessThan) ∷ (62, f.GreaterThan) ∷ []
+
+-- what stands in a table beside the first number that is this one
+abbrev pub beside : List (ℕ × Fixed) → ℕ → Option Fixed
+beside [] c = None
+beside (entry ∷ entries) c = if c == entry.0 then Some entry.1 else beside entries c
+
+-- of these, those with which no longer symbol begins
+abbrev pub is_lone : ℕ → Bool
+is_lone c = (c == 40) || (c == 41) || (c == 44) || (c == 59) || (c == 123) || (c == 125) || (c == 91) || (c == 93) || (c == 64) || (c == 126) || (c == 46)
+
+-- the first one may end a symbol of two characters
+abbrev pub begins_with_second : List ℕ → Bool
+begins_with_second [] = false
+begins_with_second (c ∷ cs) = is_second c
+
+-- a symbol of one character in ASCII stands first
+pub record IsAlone (c : ℕ) (behind : List ℕ) (fixed : Fixed) : Type 0 where
+  pub ascii : c < 128
+  pub stands : StandsFirst (c ∷ behind) 1 (Some (fixed_token fixed))
+
+-- a word in ASCII stands first
+pub record IsShortWord (c : ℕ) (behind : List ℕ) (word : ShortWord) : Type 0 where
+  pub within : word.length ≤ length behind + 1
+  pub bytes : size (take word.length (c ∷ behind)) ≡ word.length
+  pub angle : ((c == 60) || (c == 62)) ≡ false
+  pub stands : StandsFirst (c ∷ behind) word.length (Some word.token)
 
 -- the token that the first two, or three, characters spell
 abbrev pub spelled_by_two : ℕ → List ℕ → Option Fixed

@@ -6,10 +6,10 @@ ghost use Rattle.wgsl_lex.specs.Pieces.{StandsFirst};
 
 use crate::number::{number, opens_number};
 use crate::piece::Piece;
-use crate::run::word_run;
+use crate::short::word;
 use crate::symbol::symbol;
 use crate::trivia::{comment_length, is_blankspace};
-use crate::word::{begins_word, word_token};
+use crate::word::begins_word;
 use std::alloc::{AllocError, Global};
 use wgsl_items::Items;
 use wgsl_path::Span;
@@ -49,6 +49,9 @@ pub fn first_piece(
     ensures within { IfOk result (λ piece. piece.length ≤ length behind.now + 1) }
     ensures first { IfOk result (λ piece. StandsFirst (first ∷ behind.now) piece.length piece.token) }
 {
+    if first.is_ascii_alphabetic() {
+        return word(alloc, first, behind);
+    }
     if is_blankspace(first) {
         return Ok(trivia(1));
     }
@@ -56,12 +59,7 @@ pub fn first_piece(
         return Ok(trivia(length));
     }
     if begins_word(first, behind) {
-        let (rest_of_word, _) = behind.split_at(word_run(behind));
-        let token = word_token(alloc, first, rest_of_word)?;
-        return Ok(Piece {
-            length: 1 + rest_of_word.len(),
-            token: Some(token),
-        });
+        return word(alloc, first, behind);
     }
     if opens_number(first, behind) {
         return number(alloc, characters, first, behind);

@@ -24,6 +24,7 @@ struct Magnitude {
 }
 
 /// Whether a number begins with this character: with a digit, or with a point before one.
+#[inline(always)]
 pub(crate) fn opens_number(first: char, behind: &[char]) -> bool
     ensures { result ≡ opens_number first behind.now }
 {

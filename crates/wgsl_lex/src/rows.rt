@@ -44,6 +44,7 @@ static ROWS: [u8; 1024] = [
 ];
 
 /// The row in which a word stands, if it stands in any.
+#[inline(always)]
 pub(crate) fn row(word: &str) -> usize
     requires { is_listable word.now ≡ true }
     ensures row { result ≡ row word.now }
@@ -53,6 +54,7 @@ pub(crate) fn row(word: &str) -> usize
 }
 
 /// The place of a word. No two words of the table have the same.
+#[inline(always)]
 fn place(word: &[u8]) -> usize
     requires { is_listable word.now ≡ true }
     ensures { result ≡ place word.now }

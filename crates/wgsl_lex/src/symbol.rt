@@ -1,10 +1,11 @@
 //! Tokens that are spelled without letters or digits (WGSL, "Syntactic Tokens").
 
-ghost use Rattle.std.specs.Prelude.{◌≡◌, ◌≤◌, ◌+◌, ◌==◌, ◌&&◌, ◌∷◌, length, find, Some, false};
+ghost use Rattle.std.specs.Prelude.{◌≡◌, ◌≤◌, ◌+◌, ◌==◌, ◌&&◌, ◌∷◌, length, find, Some, IfSome, false};
 ghost use Rattle.std.specs.Option.{option_map};
 ghost use Rattle.unicode_ident.specs.Ident.{is_xid_start};
-ghost use Rattle.wgsl_lex.specs.Pieces.{StandsFirst, BeginsNothingElse, is_second, spelled_by_two, spelled_by_three};
+ghost use Rattle.wgsl_lex.specs.Pieces.{StandsFirst, BeginsNothingElse, IsAlone, plain_symbols, beside, is_lone, begins_with_second, is_second, spelled_by_two, spelled_by_three};
 
+use crate::number::opens_number;
 use crate::piece::Piece;
 use wgsl_token::{Fixed, Token};
 
@@ -84,6 +85,79 @@ pub(crate) fn symbol(first: char, behind: &[char]) -> Piece
     Piece {
         length: 1,
         token: Some(Token::Invalid),
+    }
+}
+
+/// The symbol of one character that stands first, where it is found at once that nothing else does.
+#[inline(always)]
+pub fn symbol_alone(first: char, behind: &[char]) -> Option<Fixed>
+    ensures { IfSome result (IsAlone first behind.now) }
+{
+    let fixed = plain_symbol(first)?;
+    if opens_number(first, behind) {
+        return None;
+    }
+    if is_lone(first) {
+        return Some(fixed);
+    }
+    if begins_with_second(behind) {
+        return None;
+    }
+    Some(fixed)
+}
+
+/// The symbol of this character, with which no comment or word begins.
+#[inline(always)]
+fn plain_symbol(first: char) -> Option<Fixed>
+    ensures { result ≡ beside plain_symbols first }
+{
+    match first {
+        '(' => Some(Fixed::ParenLeft),
+        ')' => Some(Fixed::ParenRight),
+        ',' => Some(Fixed::Comma),
+        ';' => Some(Fixed::Semicolon),
+        '{' => Some(Fixed::BraceLeft),
+        '}' => Some(Fixed::BraceRight),
+        '[' => Some(Fixed::BracketLeft),
+        ']' => Some(Fixed::BracketRight),
+        '@' => Some(Fixed::Attr),
+        '~' => Some(Fixed::Tilde),
+        '.' => Some(Fixed::Period),
+        ':' => Some(Fixed::Colon),
+        '=' => Some(Fixed::Equal),
+        '*' => Some(Fixed::Star),
+        '+' => Some(Fixed::Plus),
+        '-' => Some(Fixed::Minus),
+        '%' => Some(Fixed::Modulo),
+        '&' => Some(Fixed::And),
+        '|' => Some(Fixed::Or),
+        '!' => Some(Fixed::Bang),
+        '^' => Some(Fixed::Xor),
+        '<' => Some(Fixed::LessThan),
+        '>' => Some(Fixed::GreaterThan),
+        _ => None,
+    }
+}
+
+/// Whether no longer symbol begins with this one.
+#[inline(always)]
+fn is_lone(first: char) -> bool
+    ensures { result ≡ is_lone first }
+{
+    matches!(
+        first,
+        '(' | ')' | ',' | ';' | '{' | '}' | '[' | ']' | '@' | '~' | '.'
+    )
+}
+
+/// Whether the first of these characters may end a symbol of two.
+#[inline(always)]
+fn begins_with_second(characters: &[char]) -> bool
+    ensures { result ≡ begins_with_second characters.now }
+{
+    match characters.first() {
+        Some(second) => is_second(*second),
+        None => false,
     }
 }
 

@@ -233,7 +233,8 @@ fn is_underscored(first: char, behind: &[char]) -> bool
 }
 
 /// What the table has of a word.
-fn listed(word: &str) -> Option<Option<Fixed>>
+#[inline(always)]
+pub(crate) fn listed(word: &str) -> Option<Option<Fixed>>
     ensures { IsListed word.now result }
 {
     if !is_listable(word) {
@@ -243,6 +244,7 @@ fn listed(word: &str) -> Option<Option<Fixed>>
 }
 
 /// What a row of a table has, if it is this word's.
+#[inline(always)]
 fn found(table: &[(&str, Option<Fixed>)], at: usize, word: &str) -> Option<Option<Fixed>>
     requires { at < length table.now }
     ensures { IsRow (λ entry. entry.0.now) (λ entry. entry.1) table.now at word.now result }

@@ -1,8 +1,8 @@
 -- The table of template lists, from the text's end.
-use Rattle.std.proofs.Common.{◌≡◌, ℕ, ◌+◌, ◌<◌, Bool, true, false, List, [], ◌∷◌, ◌++◌, length, take, drop, refl, sym, ◌∙◌, ap, subst, arith, append_assoc, length-append, take-append-drop, inl, inr, get_or, append-nil}
+use Rattle.std.proofs.Common.{◌≡◌, ℕ, ◌+◌, ◌<◌, Bool, true, false, List, [], ◌∷◌, ◌++◌, length, take, drop, refl, sym, ◌∙◌, ap, subst, arith, append_assoc, length-append, take-append-drop, inl, inr, get_or, append-nil, length-drop, length-take-le}
 use Rattle.std.proofs.lemmas.Bool.{cases_lt}
-use Rattle.std.proofs.lemmas.List.{get_or_push}
-use Rattle.std.proofs.Math.ListN.{get_or-append}
+use Rattle.std.proofs.lemmas.List.{get_or_push, take_more, take_more_set}
+use Rattle.std.proofs.Math.ListN.{get_or-append, set}
 use Rattle.wgsl_template_spec.specs.declared.kind.Kind.{Kind}
 use Rattle.wgsl_template_spec.specs.Laws.{BeginsWithList}
 use Rattle.wgsl_template_spec.specs.Tokens.{Opens, no_list}
@@ -70,8 +70,23 @@ entries_more text front back table more opens parts covered has entry pushed bef
         let R : List ℕ → Type 0 = λ x. Opens x opens in
         subst Q (sym (get_or_push table opens false (length behind) (sym e))) (subst R (sym same.1) (entry before (sym same.0)))
 
-pub table_start : (text : List ℕ) (table : List Bool) → table ≡ [] → (length table ≡ 0) × IsTable text table
-table_start text table none = (ap length none, λ before behind is short. absurd (omega (arith, ap length none)))
+-- One place further, where a `<` stands, of which the entry says whether it opens a list
+pub entry_there : (text front back : List ℕ) (table more : List Bool) (count : ℕ) (opens : Bool) → text ≡ front ++ back → length back ≡ count → count < length table → IsTable text (take count table)
+    → more ≡ set table count opens → Opens back opens → IsTable text (take (count + 1) more)
+entry_there text front back table more count opens parts covered room has made entry =
+    entries_more text front back (take count table) (take (count + 1) more) opens parts (covered ∙ sym (length-take-le count table (omega arith))) has (λ front e. entry) (ap (take (count + 1)) made ∙ take_more_set table count opens room)
+
+-- and where another character stands
+pub entry_nowhere : (text : List ℕ) (table : List Bool) (count place c : ℕ) → place + count + 1 ≡ length text → count < length table → c ≡ get_or text place c → (c ≡ 60 → ⊥) → IsTable text (take count table) → IsTable text (take (count + 1) table)
+entry_nowhere text table count place c ends room here other has =
+    entries_more text (take (place + 1) text) (drop (place + 1) text) (take count table) (take (count + 1) table) (get_or table count false) (sym (take-append-drop (place + 1) text))
+    (omega (arith, length-drop (place + 1) text, length-take-le count table (omega arith))) has (λ front e. absurd (other (last front e))) (take_more table count false room)
+  where
+    last : (front : List ℕ) → take (place + 1) text ≡ front ++ 60 ∷ [] → c ≡ 60
+    last front e =
+        let ends : take place text ++ c ∷ [] ≡ front ++ 60 ∷ [] = ap (λ x. take place text ++ x ∷ []) here ∙ sym (take_more text place c (omega arith)) ∙ e in
+        let same : c ∷ [] ≡ 60 ∷ [] = (same_end (take place text) (c ∷ []) front (60 ∷ []) ends refl).1 in
+        cc
 
 pub table_back : (text front back : List ℕ) (table : List Bool) → text ≡ front ++ back → IsTable text table → IsTable back table
 table_back text front back table e has before behind is short = has (front ++ before) behind (e ∙ ap (λ x. front ++ x) is ∙ sym (append_assoc front before (60 ∷ behind))) short

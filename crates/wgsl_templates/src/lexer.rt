@@ -1,17 +1,18 @@
 //! The tokens of a text in which template lists are told.
 
-ghost use Rattle.std.specs.Prelude.{◌≡◌, ◌<◌, ◌≤◌, ◌^◌, ◌∷◌, ◌++◌, [], length, reverse, IfOk, List};
+ghost use Rattle.std.specs.Prelude.{◌≡◌, ◌<◌, ◌≤◌, ◌^◌, ◌+◌, ◌∷◌, ◌++◌, [], length, reverse, IfOk, List, true};
 ghost use Rattle.std.specs.Str.{chars};
 ghost use Rattle.wgsl_lex.specs.Tokens.{size};
 ghost use Rattle.wgsl_template_spec.specs.Tokens.{start, is_word, behind, Lexes, IsLexed};
 ghost use Rattle.wgsl_templates.specs.Steps.{IsTable};
 
-use crate::piece::{Pieces, TemplatePiece, next};
+use crate::characters::characters_of;
+use crate::piece::{Pieces, TemplatePiece, next, told_symbol};
 use crate::recognize::Recognizer;
 use crate::table::table_of;
 use std::alloc::{AllocError, Global};
 use wgsl_items::Items;
-use wgsl_lex::is_blankspace;
+use wgsl_lex::{is_blankspace, short_word, symbol_alone};
 use wgsl_path::Span;
 use wgsl_template_spec::{Bracket, SpannedTemplateToken, TemplateToken};
 use wgsl_token::{Fixed, Token};
@@ -25,21 +26,30 @@ pub fn lex<P: Pieces, R: Recognizer>(
 ) -> Result<Items<SpannedTemplateToken>, AllocError>
     ensures { IfOk result (IsLexed text.now) }
 {
-    let characters: Vec<char> = text.chars().collect(alloc)?;
+    let characters = characters_of(alloc, text)?;
     let table = table_of(alloc, pieces, recognizer, characters.as_slice())?;
-    lex_characters(alloc, pieces, characters.as_slice(), table.as_slice())
+    let one_byte_each = characters.len() == text.len();
+    lex_characters(
+        alloc,
+        pieces,
+        characters.as_slice(),
+        one_byte_each,
+        table.as_slice(),
+    )
 }
 
-/// The tokens of some characters, by the table of their template lists.
+/// The tokens of some characters, which may have one byte each, by the table of their template lists.
 fn lex_characters<P: Pieces>(
     alloc: Global,
     pieces: &P,
     characters: &[char],
+    one_byte_each: bool,
     table: &[bool],
 ) -> Result<Items<SpannedTemplateToken>, AllocError>
     requires table { IsTable characters.now table.now }
     requires covered { length characters.now ≤ length table.now }
     requires bounded { size characters.now < 2 ^ 64 }
+    requires bytes { one_byte_each ≡ true → size characters.now ≡ length characters.now }
     ensures { IfOk result (Lexes start characters.now) }
 {
     let mut tokens = Items::new(alloc);
@@ -48,6 +58,25 @@ fn lex_characters<P: Pieces>(
     let mut after_word = false;
     let mut at = 0;
     while let Some((first, behind)) = rest.split_first() {
+        if let Some(word) = short_word(alloc, *first, behind)? {
+            let (_, back) = rest.split_at(word.length);
+            after_word = push_plain(&mut tokens, &mut opened, word.token, at, word.length)?;
+            at += word.length;
+            rest = back;
+            continue;
+        }
+        if let Some(fixed) = symbol_alone(*first, behind) {
+            let list = opened.as_slice();
+            let token = told_symbol(*first, behind, fixed, after_word, list, table);
+            let span = Span {
+                start: at,
+                end: at + 1,
+            };
+            after_word = push_token(&mut tokens, &mut opened, token, span)?;
+            at += 1;
+            rest = behind;
+            continue;
+        }
         if is_blankspace(*first) {
             at += first.len_utf8();
             rest = behind;
@@ -63,7 +92,7 @@ fn lex_characters<P: Pieces>(
             table,
         )?;
         let (front, back) = rest.split_at(length);
-        let end = at + size_of(front);
+        let end = at + size_in(front, one_byte_each);
         if let Some(token) = token {
             let span = Span { start: at, end };
             after_word = push_token(&mut tokens, &mut opened, token, span)?;
@@ -74,7 +103,29 @@ fn lex_characters<P: Pieces>(
     Ok(tokens)
 }
 
+/// Takes a token of so many characters in ASCII that stands here as in any text. Whether a `<` behind it may open a template list.
+#[inline(always)]
+fn push_plain(
+    tokens: &mut Items<SpannedTemplateToken>,
+    opened: &mut Vec<Bracket>,
+    token: Token,
+    at: usize,
+    length: usize,
+) -> Result<bool, AllocError>
+    requires { at + length < 2 ^ 64 }
+    ensures word { IfOk result (λ word. word ≡ is_word (TemplateToken.Plain token)) }
+    ensures taken { IfOk result (λ _. tokens.new ≡ tokens.old ++ record { token = TemplateToken.Plain token; span = record { start = at; end = at + length } } ∷ []) }
+    ensures brackets { IfOk result (λ _. reverse opened.new.items ≡ behind (reverse opened.old.items) (TemplateToken.Plain token)) }
+{
+    let span = Span {
+        start: at,
+        end: at + length,
+    };
+    push_token(tokens, opened, TemplateToken::Plain(token), span)
+}
+
 /// Takes a token that was read. Whether a `<` behind it may open a template list.
+#[inline(always)]
 fn push_token(
     tokens: &mut Items<SpannedTemplateToken>,
     opened: &mut Vec<Bracket>,
@@ -91,6 +142,19 @@ fn push_token(
     Ok(word)
 }
 
+/// How many bytes some characters have in UTF-8, which may have one byte each.
+fn size_in(characters: &[char], one_byte_each: bool) -> usize
+    requires bounded { size characters.now < 2 ^ 64 }
+    requires bytes { one_byte_each ≡ true → size characters.now ≡ length characters.now }
+    ensures { result ≡ size characters.now }
+{
+    if one_byte_each {
+        characters.len()
+    } else {
+        size_of(characters)
+    }
+}
+
 /// How many bytes some characters have in UTF-8.
 fn size_of(characters: &[char]) -> usize
     requires { size characters.now < 2 ^ 64 }
@@ -104,6 +168,7 @@ fn size_of(characters: &[char]) -> usize
 }
 
 /// Whether a `<` behind the token may open a template list.
+#[inline(always)]
 pub(crate) fn is_word(token: &TemplateToken) -> bool
     ensures { result ≡ is_word token.now }
 {
@@ -114,6 +179,7 @@ pub(crate) fn is_word(token: &TemplateToken) -> bool
 }
 
 /// What is open behind a token.
+#[inline(always)]
 pub(crate) fn follow(opened: &mut Vec<Bracket>, token: &TemplateToken) -> Result<(), AllocError>
     ensures { IfOk result (λ _. reverse opened.new.items ≡ behind (reverse opened.old.items) token.now) }
 {
@@ -129,6 +195,7 @@ pub(crate) fn follow(opened: &mut Vec<Bracket>, token: &TemplateToken) -> Result
 }
 
 /// What is open behind a token of one spelling.
+#[inline(always)]
 fn follow_fixed(opened: &mut Vec<Bracket>, fixed: Fixed) -> Result<(), AllocError>
     ensures { IfOk result (λ _. reverse opened.new.items ≡ behind (reverse opened.old.items) (TemplateToken.Plain (Token.Fixed fixed))) }
 {

@@ -1,6 +1,7 @@
 //! Which `<` of a WGSL text open template lists (WGSL, "Template Lists"), and the tokens of texts with these told.
 #![tactic(auto)]
 
+mod characters;
 mod lexer;
 mod piece;
 mod recognize;

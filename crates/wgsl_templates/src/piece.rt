@@ -8,7 +8,7 @@ ghost use Rattle.wgsl_templates.specs.Steps.{StandsHere, state, IsTable};
 use std::alloc::AllocError;
 use wgsl_lex::Piece;
 use wgsl_template_spec::{Bracket, TemplateToken};
-use wgsl_token::Token;
+use wgsl_token::{Fixed, Token};
 
 /// Who knows what stands first.
 pub trait Pieces {
@@ -34,6 +34,7 @@ pub(crate) struct TemplatePiece {
 }
 
 /// What stands at the front of some characters, behind a word or not, where these brackets are open, the last one at the end.
+#[inline(always)]
 pub(crate) fn next<P: Pieces>(
     pieces: &P,
     characters: &[char],
@@ -60,6 +61,7 @@ pub(crate) fn next<P: Pieces>(
 }
 
 /// A token with what it is where it stands.
+#[inline(always)]
 fn told(
     first: char,
     behind: &[char],
@@ -92,6 +94,30 @@ fn told(
         length: count,
         token: Some(TemplateToken::Plain(token)),
     }
+}
+
+/// A symbol of one character with what it is where it stands.
+#[inline(always)]
+pub(crate) fn told_symbol(
+    first: char,
+    behind: &[char],
+    fixed: Fixed,
+    after_word: bool,
+    opened: &[Bracket],
+    table: &[bool],
+) -> TemplateToken
+    requires table { IsTable (first ∷ behind.now) table.now }
+    requires covered { length behind.now < length table.now }
+    requires first { StandsFirst (first ∷ behind.now) 1 (Some (Token.Fixed fixed)) }
+    ensures { (at : ℕ) → StandsHere (state at after_word opened.now) (first ∷ behind.now) 1 (Some result) }
+{
+    if closes(first, opened) {
+        return TemplateToken::TemplateArgsEnd;
+    }
+    if is_asked(first, 1, after_word) {
+        return less_or_start(table[behind.len()], Token::Fixed(fixed));
+    }
+    TemplateToken::Plain(Token::Fixed(fixed))
 }
 
 /// Whether a template list ends here.

@@ -1,9 +1,9 @@
 //! The table of a text's template lists.
 
-ghost use Rattle.std.specs.Prelude.{◌≡◌, ◌≤◌, length, reverse, IfOk, List, ℕ, ◌∷◌, ◌++◌, [], true};
+ghost use Rattle.std.specs.Prelude.{◌≡◌, ◌≤◌, length, reverse, IfOk, ◌∷◌, ◌++◌, []};
 ghost use Rattle.wgsl_template_spec.specs.Kinds.{kind};
 ghost use Rattle.wgsl_template_spec.specs.Tokens.{is_word, behind, Opens};
-ghost use Rattle.wgsl_templates.specs.Steps.{IsTable, IsEntry, AreRead};
+ghost use Rattle.wgsl_templates.specs.Steps.{IsTable, AreRead};
 
 use crate::lexer::{follow, is_word};
 use crate::piece::{Pieces, TemplatePiece, next};
@@ -21,11 +21,16 @@ pub(crate) fn table_of<P: Pieces, R: Recognizer>(
     ensures table { IfOk result (λ table. IsTable text.now table.items) }
     ensures covered { IfOk result (λ table. length table.items ≡ length text.now) }
 {
-    let mut table: Vec<bool> = Vec::new(alloc);
-    for count in 0..text.len() {
-        let (before, behind) = text.split_at(text.len() - count);
-        let entry = entry(alloc, pieces, recognizer, before, behind, table.as_slice())?;
-        table.push(entry)?;
+    let mut table = vec![in alloc; false; text.len()]?;
+    let mut place = text.len();
+    while place > 0 {
+        place -= 1;
+        if text[place] != '<' {
+            continue;
+        }
+        let (_, behind) = text.split_at(place + 1);
+        let count = behind.len();
+        table[count] = opens(alloc, pieces, recognizer, behind, &table[..count])?;
     }
     Ok(table)
 }
@@ -41,32 +46,6 @@ pub fn opens_list<P: Pieces, R: Recognizer>(
 {
     let table = table_of(alloc, pieces, recognizer, behind)?;
     opens(alloc, pieces, recognizer, behind, table.as_slice())
-}
-
-/// Of characters before and behind a place, if a `<` ends those before: whether it opens a template list.
-fn entry<P: Pieces, R: Recognizer>(
-    alloc: Global,
-    pieces: &P,
-    recognizer: &R,
-    before: &[char],
-    behind: &[char],
-    table: &[bool],
-) -> Result<bool, AllocError>
-    requires table { IsTable behind.now table.now }
-    requires covered { length behind.now ≤ length table.now }
-    ensures { IfOk result (λ opens. IsEntry before.now behind.now opens) }
-{
-    if ends_with_less(before) {
-        opens(alloc, pieces, recognizer, behind, table)
-    } else {
-        Ok(false)
-    }
-}
-
-fn ends_with_less(characters: &[char]) -> bool
-    ensures { (front : List ℕ) → characters.now ≡ front ++ 60 ∷ [] → result ≡ true }
-{
-    matches!(characters.last(), Some('<'))
 }
 
 /// Whether a `<` before these characters opens a template list: asked of some tokens, and of twice as many until they say it.

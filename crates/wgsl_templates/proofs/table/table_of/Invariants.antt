@@ -1,6 +1,9 @@
-use Rattle.std.proofs.Common.{◌≡◌, length}
+use Rattle.std.proofs.Common.{◌≡◌, ◌≤◌, ◌-◌, length, take}
 use Rattle.wgsl_templates.specs.Steps.{IsTable}
 use Rattle.wgsl_templates.proofs.table.table_of.Given as goal
 
-abbrev pub invariant-loop-count : goal.invariant-loop-count
-invariant-loop-count g l = (length l.table.items ≡ l.count) × IsTable l.text l.table.items
+abbrev pub decreases-loop-place : goal.decreases-loop-place
+decreases-loop-place g l = l.place
+
+abbrev pub invariant-loop-place : goal.invariant-loop-place
+invariant-loop-place g l = (l.place ≤ length l.text) × (length l.table.items ≡ length l.text) × IsTable l.text (take (length l.text - l.place) l.table.items)
