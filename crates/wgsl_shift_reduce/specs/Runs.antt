@@ -1,5 +1,5 @@
 -- What a step of a parser does, and what its answer says.
-use Rattle.std.specs.Prelude.{◌≡◌, ℕ, List, [], ◌∷◌, length, Some, Result, Ok, Err}
+use Rattle.std.specs.Prelude.{◌≡◌, ℕ, Bool, true, false, List, [], ◌∷◌, length, Some, Result, Ok, Err}
 use Rattle.wgsl_shift_reduce.specs.declared.machine.Entry.{Entry}
 use Rattle.wgsl_shift_reduce.specs.declared.machine.Progress.{Progress}
 use Rattle.wgsl_shift_reduce.specs.declared.machine.Progress.TheVariants.{GoesOn, Read, Stops}
@@ -21,6 +21,11 @@ pub record IsMade {T V : Type 0} (g : Grammar T V) (p count : ℕ) (es below : L
   pub values : List V
   pub parts : popped count es [] ≡ (below, values)
   pub is : x ≡ g.make p values
+
+-- A tree was replaced by the one that a rule makes of it alone, or stays.
+abbrev pub IsRemade : {T V : Type 0} → Grammar T V → ℕ → V → V → Bool → Type 0
+IsRemade g p x y true = y ≡ g.make p (x ∷ [])
+IsRemade g p x y false = y ≡ x
 
 -- A rule makes a phrase of this nonterminal of one symbol, and of this tree that tree.
 pub record PassesOn {T V : Type 0} (g : Grammar T V) (p : ℕ) (x : V) (left : ℕ) : Type 0 where
@@ -50,6 +55,11 @@ module _ {T V : Type 0} (g : Grammar T V) (a : Tables) (from : ℕ) where
     pub to : ℕ
     pub step : a.step (top from below) (phrase rule.left) ≡ Some to
     pub put : fs ≡ record { state = to; value = g.make p values } ∷ below
+
+  -- The uppermost tree was replaced by that of a rule, which is a phrase; or the stack is unchanged.
+  abbrev pub Remakes : ℕ → List (Entry V) → List (Entry V) → Bool → Type 0
+  Remakes p es fs true = IsReduction p es fs
+  Remakes p es fs false = fs ≡ es
 
   -- The uppermost symbol was passed on, and this is done then: what comes of the stack behind comes of the one before.
   pub record IsSettled (c : ℕ) (es fs : List (Entry V)) (act : Action) : Type 0 where

@@ -4,7 +4,7 @@ ghost use Rattle.std.specs.Prelude.{◌≡◌, [], ◌∷◌, length, Some, IfOk
 ghost use Rattle.std.specs.Option.{option_copied};
 ghost use Rattle.wgsl_shift_reduce.specs.Grammars.{Rule, Grammar, phrase};
 ghost use Rattle.wgsl_shift_reduce.specs.Machine.{Tables, action, top, below_top, ahead_of};
-ghost use Rattle.wgsl_shift_reduce.specs.Runs.{IsShift, IsMade, PassesOn, PassesBy, Passes, IsSettled, IsReduction, Advances, Said};
+ghost use Rattle.wgsl_shift_reduce.specs.Runs.{IsShift, IsMade, PassesOn, PassesBy, Passes, IsRemade, IsSettled, IsReduction, Remakes, Advances, Said};
 
 use std::alloc::{AllocError, Global};
 use wgsl_stack::Stack;
@@ -116,6 +116,16 @@ pub trait Driver {
     ) -> Result<Self::Value, AllocError>
         ensures { IfOk result (IsMade grammar rule count stack.old stack.new) };
 
+    /// Puts in the place of a tree what a rule of one symbol makes of it, if that can be made in place; else the tree stays.
+    /// Whether it was made.
+    fn remake(
+        &self,
+        rule: u16,
+        value: &mut Self::Value,
+        room: &mut Self::Room,
+    ) -> Result<bool, AllocError>
+        ensures { IfOk result (IsRemade grammar rule value.old value.new) };
+
     /// The nonterminal of a rule of one symbol that is known to make its tree of this one as it stands. It needs no memory then.
     fn passes_to(&self, rule: u16, part: &Self::Value) -> Option<u16>
         ensures { MatchOption result Unit (PassesOn grammar rule part.now) };
@@ -219,6 +229,32 @@ fn settled<D: Driver>(
     Ok(action)
 }
 
+/// Makes a phrase of the uppermost symbol in its place, if the driver can. Whether it did; if not, the stack is unchanged.
+fn remade<D: Driver>(
+    driver: &D,
+    from: u16,
+    rule: u16,
+    left: u16,
+    stack: &mut Stack<Entry<D::Value>>,
+    room: &mut D::Room,
+) -> Result<bool, AllocError>
+    requires { (q : Rule) × (D.grammar.rule rule ≡ Some q) × (q.left ≡ left) × (length q.right ≡ 1) }
+    ensures { IfOk result (Remakes D.grammar (D.tables driver.now) from rule stack.old stack.new) }
+{
+    let below = state_below(from, stack);
+    let Some(to) = driver.state_behind(below, left) else {
+        return Err(AllocError);
+    };
+    let Some(entry) = stack.top_mut() else {
+        return Ok(false);
+    };
+    if !driver.remake(rule, &mut entry.value, room)? {
+        return Ok(false);
+    }
+    entry.state = to;
+    Ok(true)
+}
+
 /// Makes a phrase of the uppermost symbols.
 fn reduce<D: Driver>(
     driver: &D,
@@ -232,6 +268,9 @@ fn reduce<D: Driver>(
     let Some(shape) = driver.shape(rule) else {
         return Err(AllocError);
     };
+    if shape.length == 1 && remade(driver, from, rule, shape.left, stack, room)? {
+        return Ok(());
+    }
     let value = driver.make(rule, shape.length, stack, room)?;
     let Some(to) = driver.state_behind(state_of(from, stack), shape.left) else {
         return Err(AllocError);
