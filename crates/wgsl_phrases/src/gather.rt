@@ -1,6 +1,6 @@
 //! The parts of a row, and the extent of a phrase that is made of others.
 
-ghost use Rattle.std.specs.Prelude.{◌≡◌, IfOk};
+ghost use Rattle.std.specs.Prelude.{◌≡◌, Some, IfOk};
 ghost use Rattle.wgsl_phrases.specs.Gathering.{begun, either, IsGathered, Takes};
 
 use crate::phrase::{Absence, Failure, Phrase};
@@ -28,23 +28,26 @@ pub fn first_failure(failure: Option<Failure>, other: Option<Failure>) -> Option
     }
 }
 
-/// The extent of what begins with a phrase and goes on so.
-fn begun<P>(phrase: &Phrase<P>, extent: Option<Extent>) -> Extent
-    ensures { result ≡ begun phrase.now extent }
+/// Has an extent begin with a phrase, which stands before all that it has so far.
+fn begin<P>(extent: &mut Option<Extent>, phrase: &Phrase<P>)
+    ensures { extent.new ≡ Some (begun phrase.now extent.old) }
 {
     match extent {
-        None => Extent {
-            span: phrase.span,
-            last: phrase.last,
-            failure: phrase.failure,
-            depth: phrase.depth,
-        },
-        Some(extent) => Extent {
-            span: phrase.span.across(extent.span),
-            last: extent.last,
-            failure: first_failure(phrase.failure, extent.failure),
-            depth: phrase.depth.max(extent.depth),
-        },
+        None => {
+            *extent = Some(Extent {
+                span: phrase.span,
+                last: phrase.last,
+                failure: phrase.failure,
+                depth: phrase.depth,
+            });
+        }
+        Some(extent) => {
+            extent.span = phrase.span.across(extent.span);
+            if let Some(failure) = phrase.failure {
+                extent.failure = Some(failure);
+            }
+            extent.depth = phrase.depth.max(extent.depth);
+        }
     }
 }
 
@@ -65,14 +68,17 @@ fn take_place<P: Absence>(
         return Err(AllocError);
     }
     *left -= 1;
-    let Some(Entry { value, .. }) = stack.pop() else {
+    let Some(entry) = stack.pop() else {
         return Err(AllocError);
     };
-    *extent = Some(begun(&value, *extent));
+    begin(extent, &entry.value);
     if place == 1 {
         return Ok(());
     }
-    let Phrase { part, .. } = value;
+    let Entry {
+        value: Phrase { part, .. },
+        ..
+    } = entry;
     parts.push(part)?;
     Ok(())
 }

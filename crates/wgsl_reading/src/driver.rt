@@ -1,10 +1,11 @@
 //! The driver of the parser.
 
-ghost use Rattle.std.specs.Prelude.{◌≡◌, ◌<◌, ◌+◌, Some, None, if◌then◌else◌, IfOk, MatchOption};
+ghost use Rattle.std.specs.Prelude.{◌≡◌, ◌<◌, ◌+◌, ◌∷◌, [], true, Some, None, if◌then◌else◌, IfOk, MatchOption};
 ghost use Rattle.wgsl_phrases.specs.declared.phrase.Phrase as declared_phrase;
 ghost use Rattle.wgsl_shift_reduce.specs.Runs.{PassesOn};
 ghost use Rattle.wgsl_reading.specs.Phrases.{grammar, import_nests, made, name_nests, nests, number};
 
+use crate::alone::remade;
 use crate::failure::{failure_at, made_failed, severity_failed};
 use std::alloc::{AllocError, Global};
 use wgsl_grammar_tables::class::class_of;
@@ -86,7 +87,7 @@ fn nests(label: Label) -> bool
 }
 
 /// How deep trees are nested in what a production makes.
-fn deeper(label: Label, depth: u32) -> Result<u32, AllocError>
+pub(crate) fn deeper(label: Label, depth: u32) -> Result<u32, AllocError>
     ensures { IfOk result (λ d. d ≡ (if nests label then depth + 1 else depth)) }
 {
     if !nests(label) {
@@ -118,6 +119,13 @@ fn made(
         failure: first_failure(extent.failure, failure),
         depth,
     })
+}
+
+/// Whether a pattern chooses one part and nothing else.
+fn is_part_alone(pattern: &[u16]) -> bool
+    ensures { result ≡ true → pattern.now ≡ 2 ∷ [] }
+{
+    matches!(pattern, [2])
 }
 
 impl Driver for Reader {
@@ -176,6 +184,19 @@ impl Driver for Reader {
     ) -> Result<Phrase<Part>, AllocError> {
         let extent = gathered(rule_pattern(rule), count, stack, room)?;
         made(self.alloc, rule_label(rule), extent, room)
+    }
+
+    fn remake(
+        &self,
+        rule: u16,
+        value: &mut Phrase<Part>,
+        room: &mut Stack<Part>,
+    ) -> Result<bool, AllocError> {
+        if !is_part_alone(rule_pattern(rule)) {
+            return Ok(false);
+        }
+        remade(self.alloc, rule_label(rule), value, room)?;
+        Ok(true)
     }
 
     /// A rule that passes its one symbol on changes nothing but that a check of what it passes on is made again, which can fail for

@@ -1,6 +1,6 @@
 //! Checks that fail.
 
-ghost use Rattle.std.specs.Prelude.{◌≡◌};
+ghost use Rattle.std.specs.Prelude.{◌≡◌, ◌∷◌, []};
 ghost use Rattle.std.specs.Option.{option_copied};
 ghost use Rattle.wgsl_reading.specs.Failures as failures;
 
@@ -81,6 +81,16 @@ pub(crate) fn severity_failed(label: Label, parts: &Stack<Part>) -> Option<Check
 {
     match label {
         Label::Directive(DirectiveLabel::Diagnostic) => severity_of(parts.top()),
+        _ => None,
+    }
+}
+
+/// Whether the severity of a directive is none, if the directive has this part alone.
+pub(crate) fn severity_alone_failed(label: Label, part: &Part) -> Option<Check>
+    ensures { result ≡ failures.severity_failed label (part.now ∷ []) }
+{
+    match label {
+        Label::Directive(DirectiveLabel::Diagnostic) => severity_of(Some(part)),
         _ => None,
     }
 }

@@ -1,6 +1,7 @@
 //! Phrases of WGSL and of the grammar of imports, read from tokens: the driver of the parser that shifts and reduces.
 #![tactic(auto)]
 
+mod alone;
 mod answer;
 mod driver;
 mod failure;
