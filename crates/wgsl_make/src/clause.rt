@@ -42,19 +42,21 @@ fn make_switch_clause(
             let case_selectors = selectors(parts);
             let body = block(parts);
             let (case_selectors, body) = ended(both(case_selectors, body), parts)?;
-            Ok(Part::Clause(SwitchClause {
+            let clause = SwitchClause {
                 case_selectors,
                 body,
-            }))
+            };
+            Ok(Part::Clause(Boxed::new(alloc, clause)?))
         }
         ClauseLabel::Default => {
             let body = ended(block(parts), parts)?;
             let mut case_selectors = Items::new(alloc);
             case_selectors.push(CaseSelector::Default)?;
-            Ok(Part::Clause(SwitchClause {
+            let clause = SwitchClause {
                 case_selectors,
                 body,
-            }))
+            };
+            Ok(Part::Clause(Boxed::new(alloc, clause)?))
         }
         _ => Err(AllocError),
     }

@@ -23,20 +23,21 @@ fn make_content(
         ImportLabel::Item => {
             let ident = ended(ident(parts), parts)?;
             let rename = None;
-            let item = ImportItem { ident, rename };
-            Ok(Part::Content(ImportContent::Item(item)))
+            let content = ImportContent::Item(ImportItem { ident, rename });
+            Ok(Part::Content(Boxed::new(alloc, content)?))
         }
         ImportLabel::Renamed => {
             let name = ident(parts);
             let rename = ident(parts);
             let (ident, rename) = ended(both(name, rename), parts)?;
             let rename = Some(rename);
-            let item = ImportItem { ident, rename };
-            Ok(Part::Content(ImportContent::Item(item)))
+            let content = ImportContent::Item(ImportItem { ident, rename });
+            Ok(Part::Content(Boxed::new(alloc, content)?))
         }
         ImportLabel::Collection => {
             let trees = ended(trees(parts), parts)?;
-            Ok(Part::Content(ImportContent::Collection(trees)))
+            let content = ImportContent::Collection(trees);
+            Ok(Part::Content(Boxed::new(alloc, content)?))
         }
         ImportLabel::Tree => {
             let path = names(alloc, parts);

@@ -10,7 +10,7 @@ use wgsl_declarations::{FormalParameter, GlobalDeclarationNode, StructMemberNode
 use wgsl_expressions::{ExpressionNode, TypeExpression};
 use wgsl_imports::{GlobalDirective, Import, ImportContent, ImportStatement};
 use wgsl_items::{Boxed, Items, Text};
-use wgsl_parts::take::{first, misfit};
+use wgsl_parts::take::unfit;
 use wgsl_parts::{FunctionResult, Part, Stack};
 use wgsl_path::ModulePath;
 use wgsl_simple_statements::{BreakIfStatement, CaseSelector};
@@ -21,27 +21,27 @@ use wgsl_statements::{
 pub(crate) fn word(parts: &mut Stack<Part>) -> Result<Text, AllocError>
     ensures { IfOk result (λ x. parts.old ≡ Part.Word x ∷ parts.new) }
 {
-    match first(parts)? {
-        Part::Word(x) => Ok(x),
-        other => misfit(other),
+    match parts.pop() {
+        Some(Part::Word(x)) => Ok(x),
+        other => unfit(other),
     }
 }
 
 pub(crate) fn reserved(parts: &mut Stack<Part>) -> Result<Text, AllocError>
     ensures { IfOk result (λ x. parts.old ≡ Part.Reserved x ∷ parts.new) }
 {
-    match first(parts)? {
-        Part::Reserved(x) => Ok(x),
-        other => misfit(other),
+    match parts.pop() {
+        Some(Part::Reserved(x)) => Ok(x),
+        other => unfit(other),
     }
 }
 
 pub(crate) fn list(parts: &mut Stack<Part>) -> Result<Items<ExpressionNode>, AllocError>
     ensures { IfOk result (λ x. parts.old ≡ Part.Expressions x ∷ parts.new) }
 {
-    match first(parts)? {
-        Part::Expressions(x) => Ok(x),
-        other => misfit(other),
+    match parts.pop() {
+        Some(Part::Expressions(x)) => Ok(x),
+        other => unfit(other),
     }
 }
 
@@ -51,37 +51,37 @@ pub(crate) fn arguments(
 ) -> Result<Option<Items<ExpressionNode>>, AllocError>
     ensures { IfOk result (λ x. TakesAs arguments_in parts.old x parts.new) }
 {
-    match first(parts)? {
-        Part::Absent => Ok(None),
-        Part::Arguments(x) => Ok(Some(x)),
-        other => misfit(other),
+    match parts.pop() {
+        Some(Part::Absent) => Ok(None),
+        Some(Part::Arguments(x)) => Ok(Some(x)),
+        other => unfit(other),
     }
 }
 
 pub(crate) fn plain(parts: &mut Stack<Part>) -> Result<Boxed<Statement>, AllocError>
     ensures { IfOk result (λ x. parts.old ≡ Part.Plain x ∷ parts.new) }
 {
-    match first(parts)? {
-        Part::Plain(x) => Ok(x),
-        other => misfit(other),
+    match parts.pop() {
+        Some(Part::Plain(x)) => Ok(x),
+        other => unfit(other),
     }
 }
 
 pub(crate) fn clauses(parts: &mut Stack<Part>) -> Result<Items<SwitchClause>, AllocError>
     ensures { IfOk result (λ x. parts.old ≡ Part.Clauses x ∷ parts.new) }
 {
-    match first(parts)? {
-        Part::Clauses(x) => Ok(x),
-        other => misfit(other),
+    match parts.pop() {
+        Some(Part::Clauses(x)) => Ok(x),
+        other => unfit(other),
     }
 }
 
 pub(crate) fn selectors(parts: &mut Stack<Part>) -> Result<Items<CaseSelector>, AllocError>
     ensures { IfOk result (λ x. parts.old ≡ Part.Selectors x ∷ parts.new) }
 {
-    match first(parts)? {
-        Part::Selectors(x) => Ok(x),
-        other => misfit(other),
+    match parts.pop() {
+        Some(Part::Selectors(x)) => Ok(x),
+        other => unfit(other),
     }
 }
 
@@ -89,10 +89,10 @@ pub(crate) fn selectors(parts: &mut Stack<Part>) -> Result<Items<CaseSelector>, 
 pub(crate) fn statement(parts: &mut Stack<Part>) -> Result<Option<StatementNode>, AllocError>
     ensures { IfOk result (λ x. TakesAs statement_in parts.old x parts.new) }
 {
-    match first(parts)? {
-        Part::Absent => Ok(None),
-        Part::Statement(x) => Ok(Some(x)),
-        other => misfit(other),
+    match parts.pop() {
+        Some(Part::Absent) => Ok(None),
+        Some(Part::Statement(x)) => Ok(Some(x)),
+        other => unfit(other),
     }
 }
 
@@ -100,10 +100,10 @@ pub(crate) fn statement(parts: &mut Stack<Part>) -> Result<Option<StatementNode>
 pub(crate) fn otherwise(parts: &mut Stack<Part>) -> Result<Option<ElseClause>, AllocError>
     ensures { IfOk result (λ x. TakesAs else_in parts.old x parts.new) }
 {
-    match first(parts)? {
-        Part::Absent => Ok(None),
-        Part::Block(x) => Ok(Some(ElseClause { body: x })),
-        other => misfit(other),
+    match parts.pop() {
+        Some(Part::Absent) => Ok(None),
+        Some(Part::Block(x)) => Ok(Some(ElseClause { body: x })),
+        other => unfit(other),
     }
 }
 
@@ -111,10 +111,10 @@ pub(crate) fn otherwise(parts: &mut Stack<Part>) -> Result<Option<ElseClause>, A
 pub(crate) fn continuing(parts: &mut Stack<Part>) -> Result<Option<ContinuingStatement>, AllocError>
     ensures { IfOk result (λ x. TakesAs continuing_in parts.old x parts.new) }
 {
-    match first(parts)? {
-        Part::Absent => Ok(None),
-        Part::Continuing(x) => Ok(Some(x.into_inner())),
-        other => misfit(other),
+    match parts.pop() {
+        Some(Part::Absent) => Ok(None),
+        Some(Part::Continuing(x)) => Ok(Some(x.into_inner())),
+        other => unfit(other),
     }
 }
 
@@ -122,10 +122,10 @@ pub(crate) fn continuing(parts: &mut Stack<Part>) -> Result<Option<ContinuingSta
 pub(crate) fn break_if(parts: &mut Stack<Part>) -> Result<Option<BreakIfStatement>, AllocError>
     ensures { IfOk result (λ x. TakesAs break_if_in parts.old x parts.new) }
 {
-    match first(parts)? {
-        Part::Absent => Ok(None),
-        Part::BreakIf(x) => Ok(Some(x)),
-        other => misfit(other),
+    match parts.pop() {
+        Some(Part::Absent) => Ok(None),
+        Some(Part::BreakIf(x)) => Ok(Some(x)),
+        other => unfit(other),
     }
 }
 
@@ -136,10 +136,10 @@ pub(crate) fn statements(
 ) -> Result<Items<StatementNode>, AllocError>
     ensures { IfOk result (λ xs. TakesAs statements_of parts.old xs parts.new) }
 {
-    match first(parts)? {
-        Part::Absent => Ok(Items::new(alloc)),
-        Part::Statements(xs) => Ok(xs),
-        other => misfit(other),
+    match parts.pop() {
+        Some(Part::Absent) => Ok(Items::new(alloc)),
+        Some(Part::Statements(xs)) => Ok(xs),
+        other => unfit(other),
     }
 }
 
@@ -150,55 +150,55 @@ pub(crate) fn else_ifs(
 ) -> Result<Items<ElseIfClause>, AllocError>
     ensures { IfOk result (λ xs. TakesAs else_ifs_of parts.old xs parts.new) }
 {
-    match first(parts)? {
-        Part::Absent => Ok(Items::new(alloc)),
-        Part::ElseIfs(xs) => Ok(xs),
-        other => misfit(other),
+    match parts.pop() {
+        Some(Part::Absent) => Ok(Items::new(alloc)),
+        Some(Part::ElseIfs(xs)) => Ok(xs),
+        other => unfit(other),
     }
 }
 
 pub(crate) fn source(parts: &mut Stack<Part>) -> Result<ModulePath, AllocError>
     ensures { IfOk result (λ x. parts.old ≡ Part.ModulePath x ∷ parts.new) }
 {
-    match first(parts)? {
-        Part::ModulePath(x) => Ok(x),
-        other => misfit(other),
+    match parts.pop() {
+        Some(Part::ModulePath(x)) => Ok(x),
+        other => unfit(other),
     }
 }
 
 pub(crate) fn text(parts: &mut Stack<Part>) -> Result<Text, AllocError>
     ensures { IfOk result (λ x. parts.old ≡ Part.Text x ∷ parts.new) }
 {
-    match first(parts)? {
-        Part::Text(x) => Ok(x),
-        other => misfit(other),
+    match parts.pop() {
+        Some(Part::Text(x)) => Ok(x),
+        other => unfit(other),
     }
 }
 
 pub(crate) fn texts(parts: &mut Stack<Part>) -> Result<Items<Text>, AllocError>
     ensures { IfOk result (λ x. parts.old ≡ Part.Texts x ∷ parts.new) }
 {
-    match first(parts)? {
-        Part::Texts(x) => Ok(x),
-        other => misfit(other),
+    match parts.pop() {
+        Some(Part::Texts(x)) => Ok(x),
+        other => unfit(other),
     }
 }
 
 pub(crate) fn content(parts: &mut Stack<Part>) -> Result<ImportContent, AllocError>
     ensures { IfOk result (λ x. parts.old ≡ Part.Content x ∷ parts.new) }
 {
-    match first(parts)? {
-        Part::Content(x) => Ok(x),
-        other => misfit(other),
+    match parts.pop() {
+        Some(Part::Content(x)) => Ok(x.into_inner()),
+        other => unfit(other),
     }
 }
 
 pub(crate) fn trees(parts: &mut Stack<Part>) -> Result<Items<Import>, AllocError>
     ensures { IfOk result (λ x. parts.old ≡ Part.Trees x ∷ parts.new) }
 {
-    match first(parts)? {
-        Part::Trees(x) => Ok(x),
-        other => misfit(other),
+    match parts.pop() {
+        Some(Part::Trees(x)) => Ok(x),
+        other => unfit(other),
     }
 }
 
@@ -209,10 +209,10 @@ pub(crate) fn path(
 ) -> Result<Option<Boxed<ModulePath>>, AllocError>
     ensures { IfOk result (λ x. TakesAs path_in parts.old x parts.new) }
 {
-    match first(parts)? {
-        Part::Absent => Ok(None),
-        Part::ModulePath(x) => Ok(Some(Boxed::new(alloc, x)?)),
-        other => misfit(other),
+    match parts.pop() {
+        Some(Part::Absent) => Ok(None),
+        Some(Part::ModulePath(x)) => Ok(Some(Boxed::new(alloc, x)?)),
+        other => unfit(other),
     }
 }
 
@@ -220,19 +220,19 @@ pub(crate) fn path(
 pub(crate) fn names(alloc: Global, parts: &mut Stack<Part>) -> Result<Items<Text>, AllocError>
     ensures { IfOk result (λ xs. TakesAs names_of parts.old xs parts.new) }
 {
-    match first(parts)? {
-        Part::Absent => Ok(Items::new(alloc)),
-        Part::Texts(xs) => Ok(xs),
-        other => misfit(other),
+    match parts.pop() {
+        Some(Part::Absent) => Ok(Items::new(alloc)),
+        Some(Part::Texts(xs)) => Ok(xs),
+        other => unfit(other),
     }
 }
 
 pub(crate) fn members(parts: &mut Stack<Part>) -> Result<Items<StructMemberNode>, AllocError>
     ensures { IfOk result (λ x. parts.old ≡ Part.Members x ∷ parts.new) }
 {
-    match first(parts)? {
-        Part::Members(x) => Ok(x),
-        other => misfit(other),
+    match parts.pop() {
+        Some(Part::Members(x)) => Ok(x),
+        other => unfit(other),
     }
 }
 
@@ -243,10 +243,10 @@ pub(crate) fn parameters(
 ) -> Result<Items<FormalParameter>, AllocError>
     ensures { IfOk result (λ xs. TakesAs parameters_of parts.old xs parts.new) }
 {
-    match first(parts)? {
-        Part::Absent => Ok(Items::new(alloc)),
-        Part::Parameters(xs) => Ok(xs),
-        other => misfit(other),
+    match parts.pop() {
+        Some(Part::Absent) => Ok(Items::new(alloc)),
+        Some(Part::Parameters(xs)) => Ok(xs),
+        other => unfit(other),
     }
 }
 
@@ -257,10 +257,10 @@ pub(crate) fn imports(
 ) -> Result<Items<ImportStatement>, AllocError>
     ensures { IfOk result (λ xs. TakesAs imports_of parts.old xs parts.new) }
 {
-    match first(parts)? {
-        Part::Absent => Ok(Items::new(alloc)),
-        Part::Imports(xs) => Ok(xs),
-        other => misfit(other),
+    match parts.pop() {
+        Some(Part::Absent) => Ok(Items::new(alloc)),
+        Some(Part::Imports(xs)) => Ok(xs),
+        other => unfit(other),
     }
 }
 
@@ -271,10 +271,10 @@ pub(crate) fn directives(
 ) -> Result<Items<GlobalDirective>, AllocError>
     ensures { IfOk result (λ xs. TakesAs directives_of parts.old xs parts.new) }
 {
-    match first(parts)? {
-        Part::Absent => Ok(Items::new(alloc)),
-        Part::Directives(xs) => Ok(xs),
-        other => misfit(other),
+    match parts.pop() {
+        Some(Part::Absent) => Ok(Items::new(alloc)),
+        Some(Part::Directives(xs)) => Ok(xs),
+        other => unfit(other),
     }
 }
 
@@ -285,10 +285,10 @@ pub(crate) fn globals(
 ) -> Result<Items<GlobalDeclarationNode>, AllocError>
     ensures { IfOk result (λ xs. TakesAs globals_of parts.old xs parts.new) }
 {
-    match first(parts)? {
-        Part::Absent => Ok(Items::new(alloc)),
-        Part::Globals(xs) => Ok(xs),
-        other => misfit(other),
+    match parts.pop() {
+        Some(Part::Absent) => Ok(Items::new(alloc)),
+        Some(Part::Globals(xs)) => Ok(xs),
+        other => unfit(other),
     }
 }
 
@@ -299,12 +299,12 @@ pub(crate) fn returned(
 ) -> Result<(Attributes, Option<TypeExpression>), AllocError>
     ensures { IfOk result (λ found. (part : _) × (parts.old ≡ part ∷ parts.new) × (found.0 ≡ return_attributes_of part) × (found.1 ≡ return_type_in part)) }
 {
-    match first(parts)? {
-        Part::Absent => Ok((Items::new(alloc), None)),
-        Part::Result(x) => {
+    match parts.pop() {
+        Some(Part::Absent) => Ok((Items::new(alloc), None)),
+        Some(Part::Result(x)) => {
             let FunctionResult { attributes, ty } = x.into_inner();
             Ok((attributes, Some(ty)))
         }
-        other => misfit(other),
+        other => unfit(other),
     }
 }

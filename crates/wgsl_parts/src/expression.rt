@@ -11,7 +11,7 @@ use wgsl_expressions::{
     BinaryExpression, Expression, IndexingExpression, NamedComponentExpression,
     ParenthesizedExpression, TypeExpression, UnaryExpression,
 };
-use wgsl_items::{Boxed, Text, both};
+use wgsl_items::{Text, both};
 use wgsl_path::{Ident, Span, Spanned};
 use wgsl_stack::Stack;
 
@@ -68,10 +68,7 @@ pub fn make_expression(
     let expression = match label {
         ExpressionLabel::ALiteral => Expression::Literal(ended(literal(parts), parts)?),
         ExpressionLabel::Named => Expression::TypeOrIdentifier(ended(ty(parts), parts)?),
-        ExpressionLabel::Called => {
-            let call = ended(call(parts), parts)?;
-            Expression::FunctionCall(Boxed::new(alloc, call)?)
-        }
+        ExpressionLabel::Called => Expression::FunctionCall(ended(call(parts), parts)?),
         ExpressionLabel::Parenthesized => {
             let expression = ended(expression(parts), parts)?;
             Expression::Parenthesized(ParenthesizedExpression { expression })

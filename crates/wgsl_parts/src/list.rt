@@ -38,7 +38,7 @@ pub fn make_first(alloc: Global, parts: &mut Stack<Part>) -> Result<Part, AllocE
         Part::Attribute(x) => Ok(Part::Attributes(one(alloc, x)?)),
         Part::Statement(x) => Ok(Part::Statements(one(alloc, x)?)),
         Part::ElseIf(x) => Ok(Part::ElseIfs(one(alloc, x)?)),
-        Part::Clause(x) => Ok(Part::Clauses(one(alloc, x)?)),
+        Part::Clause(x) => Ok(Part::Clauses(one(alloc, x.into_inner())?)),
         Part::Selector(x) => Ok(Part::Selectors(one(alloc, x)?)),
         Part::Tree(x) => Ok(Part::Trees(one(alloc, x.into_inner())?)),
         Part::Text(x) => Ok(Part::Texts(one(alloc, x)?)),

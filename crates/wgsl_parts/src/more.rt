@@ -35,7 +35,7 @@ pub(crate) fn joined(list: Part, part: Part) -> Result<Part, AllocError>
         (Part::Attributes(xs), Part::Attribute(x)) => Ok(Part::Attributes(pushed(xs, x)?)),
         (Part::Statements(xs), Part::Statement(x)) => Ok(Part::Statements(pushed(xs, x)?)),
         (Part::ElseIfs(xs), Part::ElseIf(x)) => Ok(Part::ElseIfs(pushed(xs, x)?)),
-        (Part::Clauses(xs), Part::Clause(x)) => Ok(Part::Clauses(pushed(xs, x)?)),
+        (Part::Clauses(xs), Part::Clause(x)) => Ok(Part::Clauses(pushed(xs, x.into_inner())?)),
         (Part::Selectors(xs), Part::Selector(x)) => Ok(Part::Selectors(pushed(xs, x)?)),
         (Part::Trees(xs), Part::Tree(x)) => Ok(Part::Trees(pushed(xs, x.into_inner())?)),
         (Part::Texts(xs), Part::Text(x)) => Ok(Part::Texts(pushed(xs, x)?)),

@@ -99,7 +99,7 @@ pub fn make_name(
             let ty = ty(parts);
             let arguments = expressions(alloc, parts);
             let (ty, arguments) = ended(both(ty, arguments), parts)?;
-            Ok(Part::Call(FunctionCall { ty, arguments }))
+            Ok(Part::Call(Boxed::new(alloc, FunctionCall { ty, arguments })?))
         }
         rest => make_path(alloc, rest, parts),
     }

@@ -36,7 +36,7 @@ pub struct FunctionResult {
     pub ty: TypeExpression,
 }
 
-/// What a symbol of the grammar stands for.
+/// What a symbol of the grammar stands for. What is larger than a type is boxed, since a parser moves parts about.
 #[derive(Drop)]
 pub enum Part {
     /// What may be left out, and is.
@@ -50,7 +50,7 @@ pub enum Part {
     Ups(usize),
     Path(QualifiedName),
     Type(TypeExpression),
-    Call(FunctionCall),
+    Call(Boxed<FunctionCall>),
     Expression(ExpressionNode),
     Expressions(Items<ExpressionNode>),
     /// The name of an attribute.
@@ -60,7 +60,7 @@ pub enum Part {
     Attribute(AttributeNode),
     Attributes(Attributes),
     Kind(DeclarationKind),
-    Typed(TypedName),
+    Typed(Boxed<TypedName>),
     Declaration(Boxed<Declaration>),
     Assertion(ConstAssert),
     /// A statement before its place is known.
@@ -70,7 +70,7 @@ pub enum Part {
     Block(CompoundStatement),
     ElseIf(ElseIfClause),
     ElseIfs(Items<ElseIfClause>),
-    Clause(SwitchClause),
+    Clause(Boxed<SwitchClause>),
     Clauses(Items<SwitchClause>),
     Selector(CaseSelector),
     Selectors(Items<CaseSelector>),
@@ -79,7 +79,7 @@ pub enum Part {
     ModulePath(ModulePath),
     Text(Text),
     Texts(Items<Text>),
-    Content(ImportContent),
+    Content(Boxed<ImportContent>),
     Tree(Boxed<Import>),
     Trees(Items<Import>),
     Import(Boxed<ImportStatement>),

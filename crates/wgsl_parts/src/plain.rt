@@ -63,7 +63,7 @@ pub fn make_plain(
 {
     let statement = match label {
         PlainLabel::CalledStatement => {
-            let call = ended(call(parts), parts)?;
+            let call = ended(call(parts), parts)?.into_inner();
             let attributes = Items::new(alloc);
             Statement::FunctionCall(Boxed::new(alloc, FunctionCallStatement { attributes, call })?)
         }

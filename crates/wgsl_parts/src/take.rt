@@ -41,6 +41,13 @@ pub fn misfit<T>(_part: Part) -> Result<T, AllocError>
     Err(AllocError)
 }
 
+/// A part that does not fit, or none.
+pub fn unfit<T>(_part: Option<Part>) -> Result<T, AllocError>
+    ensures { IfOk result (λ _. ⊥) }
+{
+    Err(AllocError)
+}
+
 /// What was taken, if no part is left.
 pub fn ended<T: Drop>(
     taken: Result<T, AllocError>,
@@ -56,72 +63,72 @@ pub fn ended<T: Drop>(
 pub fn ident(parts: &mut Stack<Part>) -> Result<Ident, AllocError>
     ensures { IfOk result (λ x. parts.old ≡ Part.Ident x ∷ parts.new) }
 {
-    match first(parts)? {
-        Part::Ident(x) => Ok(x),
-        other => misfit(other),
+    match parts.pop() {
+        Some(Part::Ident(x)) => Ok(x),
+        other => unfit(other),
     }
 }
 
 pub fn ups(parts: &mut Stack<Part>) -> Result<usize, AllocError>
     ensures { IfOk result (λ n. parts.old ≡ Part.Ups n ∷ parts.new) }
 {
-    match first(parts)? {
-        Part::Ups(n) => Ok(n),
-        other => misfit(other),
+    match parts.pop() {
+        Some(Part::Ups(n)) => Ok(n),
+        other => unfit(other),
     }
 }
 
 pub fn ty(parts: &mut Stack<Part>) -> Result<TypeExpression, AllocError>
     ensures { IfOk result (λ x. parts.old ≡ Part.Type x ∷ parts.new) }
 {
-    match first(parts)? {
-        Part::Type(x) => Ok(x),
-        other => misfit(other),
+    match parts.pop() {
+        Some(Part::Type(x)) => Ok(x),
+        other => unfit(other),
     }
 }
 
-pub fn call(parts: &mut Stack<Part>) -> Result<FunctionCall, AllocError>
+pub fn call(parts: &mut Stack<Part>) -> Result<Boxed<FunctionCall>, AllocError>
     ensures { IfOk result (λ x. parts.old ≡ Part.Call x ∷ parts.new) }
 {
-    match first(parts)? {
-        Part::Call(x) => Ok(x),
-        other => misfit(other),
+    match parts.pop() {
+        Some(Part::Call(x)) => Ok(x),
+        other => unfit(other),
     }
 }
 
 pub fn expression(parts: &mut Stack<Part>) -> Result<ExpressionNode, AllocError>
     ensures { IfOk result (λ x. parts.old ≡ Part.Expression x ∷ parts.new) }
 {
-    match first(parts)? {
-        Part::Expression(x) => Ok(x),
-        other => misfit(other),
+    match parts.pop() {
+        Some(Part::Expression(x)) => Ok(x),
+        other => unfit(other),
     }
 }
 
 pub fn declaration(parts: &mut Stack<Part>) -> Result<Boxed<Declaration>, AllocError>
     ensures { IfOk result (λ x. parts.old ≡ Part.Declaration x ∷ parts.new) }
 {
-    match first(parts)? {
-        Part::Declaration(x) => Ok(x),
-        other => misfit(other),
+    match parts.pop() {
+        Some(Part::Declaration(x)) => Ok(x),
+        other => unfit(other),
     }
 }
 
 pub fn assertion(parts: &mut Stack<Part>) -> Result<ConstAssert, AllocError>
     ensures { IfOk result (λ x. parts.old ≡ Part.Assertion x ∷ parts.new) }
 {
-    match first(parts)? {
-        Part::Assertion(x) => Ok(x),
-        other => misfit(other),
+    match parts.pop() {
+        Some(Part::Assertion(x)) => Ok(x),
+        other => unfit(other),
     }
 }
 
 pub fn block(parts: &mut Stack<Part>) -> Result<CompoundStatement, AllocError>
     ensures { IfOk result (λ x. parts.old ≡ Part.Block x ∷ parts.new) }
 {
-    match first(parts)? {
-        Part::Block(x) => Ok(x),
-        other => misfit(other),
+    match parts.pop() {
+        Some(Part::Block(x)) => Ok(x),
+        other => unfit(other),
     }
 }
 
@@ -129,10 +136,10 @@ pub fn block(parts: &mut Stack<Part>) -> Result<CompoundStatement, AllocError>
 pub fn optional_expression(parts: &mut Stack<Part>) -> Result<Option<ExpressionNode>, AllocError>
     ensures { IfOk result (λ x. TakesAs expression_in parts.old x parts.new) }
 {
-    match first(parts)? {
-        Part::Absent => Ok(None),
-        Part::Expression(x) => Ok(Some(x)),
-        other => misfit(other),
+    match parts.pop() {
+        Some(Part::Absent) => Ok(None),
+        Some(Part::Expression(x)) => Ok(Some(x)),
+        other => unfit(other),
     }
 }
 
@@ -143,10 +150,10 @@ pub fn expressions(
 ) -> Result<Items<ExpressionNode>, AllocError>
     ensures { IfOk result (λ xs. TakesAs expressions_of parts.old xs parts.new) }
 {
-    match first(parts)? {
-        Part::Absent => Ok(Items::new(alloc)),
-        Part::Expressions(xs) => Ok(xs),
-        other => misfit(other),
+    match parts.pop() {
+        Some(Part::Absent) => Ok(Items::new(alloc)),
+        Some(Part::Expressions(xs)) => Ok(xs),
+        other => unfit(other),
     }
 }
 
@@ -154,28 +161,28 @@ pub fn expressions(
 pub fn attributes(alloc: Global, parts: &mut Stack<Part>) -> Result<Attributes, AllocError>
     ensures { IfOk result (λ xs. TakesAs attributes_of parts.old xs parts.new) }
 {
-    match first(parts)? {
-        Part::Absent => Ok(Items::new(alloc)),
-        Part::Attributes(xs) => Ok(xs),
-        other => misfit(other),
+    match parts.pop() {
+        Some(Part::Absent) => Ok(Items::new(alloc)),
+        Some(Part::Attributes(xs)) => Ok(xs),
+        other => unfit(other),
     }
 }
 
 pub(crate) fn literal(parts: &mut Stack<Part>) -> Result<LiteralExpression, AllocError>
     ensures { IfOk result (λ x. parts.old ≡ Part.Literal x ∷ parts.new) }
 {
-    match first(parts)? {
-        Part::Literal(x) => Ok(x),
-        other => misfit(other),
+    match parts.pop() {
+        Some(Part::Literal(x)) => Ok(x),
+        other => unfit(other),
     }
 }
 
 pub(crate) fn path(parts: &mut Stack<Part>) -> Result<QualifiedName, AllocError>
     ensures { IfOk result (λ x. parts.old ≡ Part.Path x ∷ parts.new) }
 {
-    match first(parts)? {
-        Part::Path(x) => Ok(x),
-        other => misfit(other),
+    match parts.pop() {
+        Some(Part::Path(x)) => Ok(x),
+        other => unfit(other),
     }
 }
 
@@ -183,26 +190,26 @@ pub(crate) fn path(parts: &mut Stack<Part>) -> Result<QualifiedName, AllocError>
 pub(crate) fn list(parts: &mut Stack<Part>) -> Result<Items<ExpressionNode>, AllocError>
     ensures { IfOk result (λ xs. parts.old ≡ Part.Expressions xs ∷ parts.new) }
 {
-    match first(parts)? {
-        Part::Expressions(xs) => Ok(xs),
-        other => misfit(other),
+    match parts.pop() {
+        Some(Part::Expressions(xs)) => Ok(xs),
+        other => unfit(other),
     }
 }
 
 pub(crate) fn kind(parts: &mut Stack<Part>) -> Result<DeclarationKind, AllocError>
     ensures { IfOk result (λ x. parts.old ≡ Part.Kind x ∷ parts.new) }
 {
-    match first(parts)? {
-        Part::Kind(x) => Ok(x),
-        other => misfit(other),
+    match parts.pop() {
+        Some(Part::Kind(x)) => Ok(x),
+        other => unfit(other),
     }
 }
 
 pub(crate) fn typed_name(parts: &mut Stack<Part>) -> Result<TypedName, AllocError>
     ensures { IfOk result (λ x. parts.old ≡ Part.Typed x ∷ parts.new) }
 {
-    match first(parts)? {
-        Part::Typed(x) => Ok(x),
-        other => misfit(other),
+    match parts.pop() {
+        Some(Part::Typed(x)) => Ok(x.into_inner()),
+        other => unfit(other),
     }
 }

@@ -84,14 +84,14 @@ pub fn make_value(
     match label {
         ValueLabel::Typed => {
             let ident = ended(ident(parts), parts)?;
-            Ok(Part::Typed(TypedName { ident, ty: None }))
+            Ok(Part::Typed(Boxed::new(alloc, TypedName { ident, ty: None })?))
         }
         ValueLabel::TypedAs => {
             let ident = ident(parts);
             let ty = ty(parts);
             let (ident, ty) = ended(both(ident, ty), parts)?;
             let ty = Some(ty);
-            Ok(Part::Typed(TypedName { ident, ty }))
+            Ok(Part::Typed(Boxed::new(alloc, TypedName { ident, ty })?))
         }
         ValueLabel::Assertion => {
             let expression = ended(expression(parts), parts)?;

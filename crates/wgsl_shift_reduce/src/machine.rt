@@ -241,8 +241,8 @@ fn remade<D: Driver>(
     requires { (q : Rule) × (D.grammar.rule rule ≡ Some q) × (q.left ≡ left) × (length q.right ≡ 1) }
     ensures { IfOk result (Remakes D.grammar (D.tables driver.now) from rule stack.old stack.new) }
 {
-    let below = state_below(from, stack);
-    let Some(to) = driver.state_behind(below, left) else {
+    let beneath = state_below(from, stack);
+    let Some(behind) = driver.state_behind(beneath, left) else {
         return Err(AllocError);
     };
     let Some(entry) = stack.top_mut() else {
@@ -251,7 +251,7 @@ fn remade<D: Driver>(
     if !driver.remake(rule, &mut entry.value, room)? {
         return Ok(false);
     }
-    entry.state = to;
+    entry.state = behind;
     Ok(true)
 }
 
