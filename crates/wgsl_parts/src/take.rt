@@ -1,7 +1,7 @@
 //! Parts that are taken from those of a phrase, the first first. A part that does not fit is answered by an error. What was taken is held
 //! as a `Result` until no part is left, so that a caller has one early return, with nothing of its own to drop.
 
-ghost use Rattle.std.specs.Prelude.{◌≡◌, ◌∷◌, [], IfOk, Ok};
+ghost use Rattle.std.specs.Prelude.{◌≡◌, ◌∷◌, [], IfOk, Ok, Some};
 ghost use Rattle.wgsl_parts.specs.Reading.{TakesAs, expression_in, expressions_of, attributes_of};
 
 use crate::part::{Part, QualifiedName, TypedName};
@@ -35,16 +35,18 @@ pub fn end(parts: &mut Stack<Part>) -> Result<(), AllocError>
 }
 
 /// A part that does not fit.
-pub fn misfit<T>(_part: Part) -> Result<T, AllocError>
+pub fn misfit<T>(part: Part) -> Result<T, AllocError>
     ensures { IfOk result (λ _. ⊥) }
 {
+    drop(part);
     Err(AllocError)
 }
 
 /// A part that does not fit, or none.
-pub fn unfit<T>(_part: Option<Part>) -> Result<T, AllocError>
+pub fn unfit<T>(part: Option<Part>) -> Result<T, AllocError>
     ensures { IfOk result (λ _. ⊥) }
 {
+    drop(part);
     Err(AllocError)
 }
 
@@ -69,13 +71,22 @@ pub fn ident(parts: &mut Stack<Part>) -> Result<Ident, AllocError>
     }
 }
 
+fn ups_in(part: &Option<Part>) -> Result<usize, AllocError>
+    ensures { IfOk result (λ n. part.now ≡ Some (Part.Ups n)) }
+{
+    match part {
+        Some(Part::Ups(n)) => Ok(*n),
+        _ => Err(AllocError),
+    }
+}
+
 pub fn ups(parts: &mut Stack<Part>) -> Result<usize, AllocError>
     ensures { IfOk result (λ n. parts.old ≡ Part.Ups n ∷ parts.new) }
 {
-    match parts.pop() {
-        Some(Part::Ups(n)) => Ok(n),
-        other => unfit(other),
-    }
+    let part = parts.pop();
+    let levels = ups_in(&part);
+    drop(part);
+    levels
 }
 
 pub fn ty(parts: &mut Stack<Part>) -> Result<TypeExpression, AllocError>
@@ -196,13 +207,22 @@ pub(crate) fn list(parts: &mut Stack<Part>) -> Result<Items<ExpressionNode>, All
     }
 }
 
+fn kind_in(part: &Option<Part>) -> Result<DeclarationKind, AllocError>
+    ensures { IfOk result (λ x. part.now ≡ Some (Part.Kind x)) }
+{
+    match part {
+        Some(Part::Kind(x)) => Ok(*x),
+        _ => Err(AllocError),
+    }
+}
+
 pub(crate) fn kind(parts: &mut Stack<Part>) -> Result<DeclarationKind, AllocError>
     ensures { IfOk result (λ x. parts.old ≡ Part.Kind x ∷ parts.new) }
 {
-    match parts.pop() {
-        Some(Part::Kind(x)) => Ok(x),
-        other => unfit(other),
-    }
+    let part = parts.pop();
+    let kind = kind_in(&part);
+    drop(part);
+    kind
 }
 
 pub(crate) fn typed_name(parts: &mut Stack<Part>) -> Result<TypedName, AllocError>
