@@ -5,8 +5,8 @@ ghost use Rattle.wgsl_lex.specs.Pieces.{StandsFirst};
 ghost use Rattle.wgsl_template_spec.specs.Tokens as tokens;
 ghost use Rattle.wgsl_templates.specs.Steps.{StandsHere, state, IsTable};
 
-use std::alloc::AllocError;
-use wgsl_lex::Piece;
+use std::alloc::{AllocError, Global};
+use wgsl_lex::{Piece, ShortWord, is_blankspace, short_word, symbol_alone};
 use wgsl_template_spec::{Bracket, TemplateToken};
 use wgsl_token::{Fixed, Token};
 
@@ -58,6 +58,44 @@ pub(crate) fn next<P: Pieces>(
         });
     };
     Ok(told(first, behind, length, token, after_word, opened, table))
+}
+
+/// The same, where short words, lone symbols and blanks are told before anyone is asked.
+#[inline(always)]
+pub(crate) fn next_at_once<P: Pieces>(
+    alloc: Global,
+    pieces: &P,
+    characters: &[char],
+    first: char,
+    behind: &[char],
+    after_word: bool,
+    opened: &[Bracket],
+    table: &[bool],
+) -> Result<TemplatePiece, AllocError>
+    requires whole { characters.now ≡ first ∷ behind.now }
+    requires table { IsTable (first ∷ behind.now) table.now }
+    requires covered { length behind.now < length table.now }
+    ensures within { IfOk result (λ piece. piece.length ≤ length behind.now + 1) }
+    ensures first { IfOk result (λ piece. (at : ℕ) → StandsHere (state at after_word opened.now) (first ∷ behind.now) piece.length piece.token) }
+{
+    if let Some(ShortWord { length, token }) = short_word(alloc, first, behind)? {
+        let token = Some(TemplateToken::Plain(token));
+        return Ok(TemplatePiece { length, token });
+    }
+    if let Some(fixed) = symbol_alone(first, behind) {
+        let token = told_symbol(first, behind, fixed, after_word, opened, table);
+        return Ok(TemplatePiece {
+            length: 1,
+            token: Some(token),
+        });
+    }
+    if is_blankspace(first) {
+        return Ok(TemplatePiece {
+            length: 1,
+            token: None,
+        });
+    }
+    next(pieces, characters, first, behind, after_word, opened, table)
 }
 
 /// A token with what it is where it stands.
