@@ -1,12 +1,12 @@
 //! What stands first.
 
-ghost use Rattle.std.specs.Prelude.{◌≡◌, ◌≤◌, ◌<◌, ◌+◌, ◌∷◌, ◌==◌, ◌&&◌, ℕ, length, reverse, IfOk, Some, None};
-ghost use Rattle.wgsl_lex.specs.Pieces.{StandsFirst};
+ghost use Rattle.std.specs.Prelude.{◌≡◌, ◌≤◌, ◌<◌, ◌+◌, ◌∷◌, ◌==◌, ◌&&◌, ℕ, length, reverse, IfOk, IfSome, Some, None};
+ghost use Rattle.wgsl_lex.specs.Pieces.{StandsFirst, IsShortWord};
 ghost use Rattle.wgsl_template_spec.specs.Tokens as tokens;
 ghost use Rattle.wgsl_templates.specs.Steps.{StandsHere, state, IsTable};
 
 use std::alloc::{AllocError, Global};
-use wgsl_lex::{Piece, ShortWord, is_blankspace, short_word, symbol_alone};
+use wgsl_lex::{Piece, ShortWord, is_blankspace, short_number, short_word, symbol_alone};
 use wgsl_template_spec::{Bracket, TemplateToken};
 use wgsl_token::{Fixed, Token};
 
@@ -31,6 +31,21 @@ pub(crate) struct TemplatePiece {
     pub(crate) length: usize,
     /// Its token, unless it is blankspace or a comment.
     pub(crate) token: Option<TemplateToken>,
+}
+
+/// The short word or number that stands first, where it is found at once.
+#[inline(always)]
+pub(crate) fn short_piece(
+    alloc: Global,
+    first: char,
+    behind: &[char],
+) -> Result<Option<ShortWord>, AllocError>
+    ensures { IfOk result (λ found. IfSome found (IsShortWord first behind.now)) }
+{
+    if first.is_ascii_digit() {
+        return Ok(short_number(first, behind));
+    }
+    short_word(alloc, first, behind)
 }
 
 /// What stands at the front of some characters, behind a word or not, where these brackets are open, the last one at the end.
@@ -60,7 +75,7 @@ pub(crate) fn next<P: Pieces>(
     Ok(told(first, behind, length, token, after_word, opened, table))
 }
 
-/// The same, where short words, lone symbols and blanks are told before anyone is asked.
+/// The same, where short words and numbers, lone symbols and blanks are told before anyone is asked.
 #[inline(always)]
 pub(crate) fn next_at_once<P: Pieces>(
     alloc: Global,
@@ -78,7 +93,7 @@ pub(crate) fn next_at_once<P: Pieces>(
     ensures within { IfOk result (λ piece. piece.length ≤ length behind.now + 1) }
     ensures first { IfOk result (λ piece. (at : ℕ) → StandsHere (state at after_word opened.now) (first ∷ behind.now) piece.length piece.token) }
 {
-    if let Some(ShortWord { length, token }) = short_word(alloc, first, behind)? {
+    if let Some(ShortWord { length, token }) = short_piece(alloc, first, behind)? {
         let token = Some(TemplateToken::Plain(token));
         return Ok(TemplatePiece { length, token });
     }
