@@ -15,7 +15,7 @@ mod symbol;
 mod trivia;
 mod word;
 
-pub use decimal::short_number;
+pub use decimal::{short_float, short_number};
 pub use identifier::is_identifier;
 pub use lexer::{first_piece, lex};
 pub use piece::Piece;
