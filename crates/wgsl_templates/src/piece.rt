@@ -6,7 +6,9 @@ ghost use Rattle.wgsl_template_spec.specs.Tokens as tokens;
 ghost use Rattle.wgsl_templates.specs.Steps.{StandsHere, state, IsTable};
 
 use std::alloc::{AllocError, Global};
-use wgsl_lex::{Piece, ShortWord, is_blankspace, short_number, short_word, symbol_alone};
+use wgsl_lex::{
+    Piece, ShortWord, is_blankspace, short_float, short_number, short_word, symbol_alone,
+};
 use wgsl_template_spec::{Bracket, TemplateToken};
 use wgsl_token::{Fixed, Token};
 
@@ -42,10 +44,13 @@ pub(crate) fn short_piece(
 ) -> Result<Option<ShortWord>, AllocError>
     ensures { IfOk result (λ found. IfSome found (IsShortWord first behind.now)) }
 {
-    if first.is_ascii_digit() {
-        return Ok(short_number(first, behind));
+    if !first.is_ascii_digit() {
+        return short_word(alloc, first, behind);
     }
-    short_word(alloc, first, behind)
+    if let Some(number) = short_number(first, behind) {
+        return Ok(Some(number));
+    }
+    short_float(alloc, first, behind)
 }
 
 /// What stands at the front of some characters, behind a word or not, where these brackets are open, the last one at the end.
