@@ -7,12 +7,12 @@ ghost use Rattle.wgsl_template_spec.specs.Tokens.{start, is_word, behind, Lexes,
 ghost use Rattle.wgsl_templates.specs.Steps.{IsTable};
 
 use crate::characters::characters_of;
-use crate::piece::{Pieces, TemplatePiece, next, short_piece, told_symbol};
+use crate::piece::{Pieces, TemplatePiece, next, told_symbol};
 use crate::recognize::Recognizer;
 use crate::table::table_of;
 use std::alloc::{AllocError, Global};
 use wgsl_items::Items;
-use wgsl_lex::{is_blankspace, symbol_alone};
+use wgsl_lex::{is_blankspace, short_word, symbol_alone};
 use wgsl_path::Span;
 use wgsl_template_spec::{Bracket, SpannedTemplateToken, TemplateToken};
 use wgsl_token::{Fixed, Token};
@@ -58,7 +58,7 @@ fn lex_characters<P: Pieces>(
     let mut after_word = false;
     let mut at = 0;
     while let Some((first, behind)) = rest.split_first() {
-        if let Some(word) = short_piece(alloc, *first, behind)? {
+        if let Some(word) = short_word(alloc, *first, behind)? {
             let (_, back) = rest.split_at(word.length);
             let token = TemplateToken::Plain(word.token);
             after_word = push_token(&mut tokens, &mut opened, token, at, word.length)?;
@@ -80,7 +80,7 @@ fn lex_characters<P: Pieces>(
             continue;
         }
         let list = opened.as_slice();
-        let piece = next(pieces, rest, *first, behind, after_word, list, table)?;
+        let piece = next(alloc, pieces, rest, *first, behind, after_word, list, table)?;
         let TemplatePiece { length, token } = piece;
         let (front, back) = rest.split_at(length);
         let size = size_in(front, one_byte_each);

@@ -35,9 +35,9 @@ pub(crate) struct TemplatePiece {
     pub(crate) token: Option<TemplateToken>,
 }
 
-/// The short word or number that stands first, where it is found at once.
+/// The number in decimal that stands first, where it is found at once.
 #[inline(always)]
-pub(crate) fn short_piece(
+fn short_digits(
     alloc: Global,
     first: char,
     behind: &[char],
@@ -45,7 +45,7 @@ pub(crate) fn short_piece(
     ensures { IfOk result (λ found. IfSome found (IsShortWord first behind.now)) }
 {
     if !first.is_ascii_digit() {
-        return short_word(alloc, first, behind);
+        return Ok(None);
     }
     if let Some(number) = short_number(first, behind) {
         return Ok(Some(number));
@@ -56,6 +56,7 @@ pub(crate) fn short_piece(
 /// What stands at the front of some characters, behind a word or not, where these brackets are open, the last one at the end.
 #[inline(always)]
 pub(crate) fn next<P: Pieces>(
+    alloc: Global,
     pieces: &P,
     characters: &[char],
     first: char,
@@ -70,6 +71,12 @@ pub(crate) fn next<P: Pieces>(
     ensures within { IfOk result (λ piece. piece.length ≤ length behind.now + 1) }
     ensures first { IfOk result (λ piece. (at : ℕ) → StandsHere (state at after_word opened.now) (first ∷ behind.now) piece.length piece.token) }
 {
+    if let Some(number) = short_digits(alloc, first, behind)? {
+        return Ok(TemplatePiece {
+            length: number.length,
+            token: Some(TemplateToken::Plain(number.token)),
+        });
+    }
     let Piece { length, token } = pieces.first_piece(characters, first, behind)?;
     let Some(token) = token else {
         return Ok(TemplatePiece {
@@ -80,7 +87,7 @@ pub(crate) fn next<P: Pieces>(
     Ok(told(first, behind, length, token, after_word, opened, table))
 }
 
-/// The same, where short words and numbers, lone symbols and blanks are told before anyone is asked.
+/// The same, where short words, lone symbols and blanks are told first.
 #[inline(always)]
 pub(crate) fn next_at_once<P: Pieces>(
     alloc: Global,
@@ -98,7 +105,7 @@ pub(crate) fn next_at_once<P: Pieces>(
     ensures within { IfOk result (λ piece. piece.length ≤ length behind.now + 1) }
     ensures first { IfOk result (λ piece. (at : ℕ) → StandsHere (state at after_word opened.now) (first ∷ behind.now) piece.length piece.token) }
 {
-    if let Some(ShortWord { length, token }) = short_piece(alloc, first, behind)? {
+    if let Some(ShortWord { length, token }) = short_word(alloc, first, behind)? {
         let token = Some(TemplateToken::Plain(token));
         return Ok(TemplatePiece { length, token });
     }
@@ -115,7 +122,9 @@ pub(crate) fn next_at_once<P: Pieces>(
             token: None,
         });
     }
-    next(pieces, characters, first, behind, after_word, opened, table)
+    next(
+        alloc, pieces, characters, first, behind, after_word, opened, table,
+    )
 }
 
 /// A token with what it is where it stands.
