@@ -1,5 +1,5 @@
 -- Whole numbers in decimal that nothing behind them makes longer.
-use Rattle.std.specs.Prelude.{nat_lt, Option, Some, None, slice_get}
+use Rattle.std.specs.Prelude.{nat_lt, Option, Some, slice_get}
 use Rattle.std.proofs.Common.{◌≡◌, ℕ, zero, suc, ◌+◌, ◌<◌, Bool, true, false, ◌&&◌, ◌||◌, ◌==◌, List, [], ◌∷◌, length, take, drop, get_or, refl, sym, ◌∙◌, ap, subst, arith, length-append, length-take-le, length-drop, take-add, ◌-◌}
 use Rattle.std.specs.List.{list_all}
 use Rattle.std.specs.Char.{is_ascii_digit, encode_utf8, len_utf8}
@@ -10,11 +10,10 @@ use Rattle.std.proofs.lemmas.Str.{length-encode, len_utf8_ascii}
 use Rattle.wgsl_token.specs.declared.token.Token.{Token}
 use Rattle.wgsl_token.specs.declared.token.Token.TheVariants.{AbstractFloat}
 use Rattle.wgsl_lex.specs.declared.float.Base.TheVariants.{Decimal}
-use Rattle.wgsl_lex.specs.declared.float.Float.{Float}
-use Rattle.wgsl_lex.specs.Floats.{is_point, is_zero, is_mark, is_e, exponent}
+use Rattle.wgsl_lex.specs.Floats.{is_point, is_zero, is_mark, is_e}
 use Rattle.wgsl_lex.specs.Tokens.{size, digit_value, abstract_token, signed_token, unsigned_token}
-use Rattle.wgsl_lex.specs.Runs.{IsRun, IsLongestFront, IsValue, value_behind}
-use Rattle.wgsl_lex.specs.Pieces.{StandsFirst, IsShortWord, HasMagnitude, IsWholeStem, IsFloatStem, IsFloatFront, begins, makes_more, goes_on, is_marked, fraction, no_fraction}
+use Rattle.wgsl_lex.specs.Runs.{IsRun, IsValue, value_behind}
+use Rattle.wgsl_lex.specs.Pieces.{StandsFirst, IsShortWord, HasMagnitude, IsWholeStem, IsFloatStem, IsFloatFront, begins, makes_more, goes_on, fraction, no_fraction}
 use Rattle.wgsl_lex.proofs.Bools.{not_both, and_false, is_number, differs, neither}
 use Rattle.wgsl_lex.proofs.Classes.{digit_passes}
 use Rattle.wgsl_lex.proofs.First.{decimal_has, zero_has}

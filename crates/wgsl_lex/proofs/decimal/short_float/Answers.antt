@@ -1,4 +1,4 @@
-use Rattle.std.proofs.Common.{◌≡◌, ◌∷◌, ◌∙◌, ap, sym}
+use Rattle.std.proofs.Common.{◌∷◌, ◌∙◌, ap, sym}
 use Rattle.wgsl_lex.proofs.Plain.{short_float_is}
 use Rattle.wgsl_lex.proofs.decimal.short_float.Goals as goal
 
