@@ -82,7 +82,11 @@ pub record IsAlone (c : ℕ) (behind : List ℕ) (fixed : Fixed) : Type 0 where
   pub ascii : c < 128
   pub stands : StandsFirst (c ∷ behind) 1 (Some (fixed_token fixed))
 
--- a word in ASCII stands first
+-- behind digits: a float may go on with it, or a hexadecimal number behind `0`
+abbrev pub makes_more : ℕ → Bool
+makes_more c = (c == 46) || (c == 101) || (c == 69) || (c == 120) || (c == 88) || (c == 102) || (c == 104)
+
+-- a word or a number in ASCII stands first
 pub record IsShortWord (c : ℕ) (behind : List ℕ) (word : ShortWord) : Type 0 where
   pub within : word.length ≤ length behind + 1
   pub bytes : size (take word.length (c ∷ behind)) ≡ word.length

@@ -1,6 +1,7 @@
 //! The tokens of WGSL texts.
 #![tactic(auto)]
 
+mod decimal;
 mod float;
 mod identifier;
 pub mod laws;
@@ -14,6 +15,7 @@ mod symbol;
 mod trivia;
 mod word;
 
+pub use decimal::{short_float, short_number};
 pub use identifier::is_identifier;
 pub use lexer::{first_piece, lex};
 pub use piece::Piece;

@@ -190,7 +190,7 @@ fn hexadecimal(behind: &[char]) -> Option<Magnitude>
 }
 
 /// The value of some digits behind what has this value, or `None` where it is past 64 bits.
-fn digits_value(base: u64, before: u64, digits: &[char]) -> Option<u64>
+pub(crate) fn digits_value(base: u64, before: u64, digits: &[char]) -> Option<u64>
     requires { 1 ≤ base }
     ensures { IsValue result (value_behind base before digits.now) }
 {
@@ -202,7 +202,7 @@ fn digits_value(base: u64, before: u64, digits: &[char]) -> Option<u64>
 }
 
 /// The value of a digit: `0` to `9`, `A` to `F` or `a` to `f`.
-fn digit_value(digit: char) -> u64
+pub(crate) fn digit_value(digit: char) -> u64
     ensures { result ≡ digit_value digit }
 {
     if digit <= '9' {
@@ -215,7 +215,7 @@ fn digit_value(digit: char) -> u64
 }
 
 /// The token of a value without suffix.
-fn abstract_token(value: Option<u64>) -> Token
+pub(crate) fn abstract_token(value: Option<u64>) -> Token
     ensures { (n : ℕ) → IsValue value n → result ≡ abstract_token n }
 {
     if let Some(value) = value
@@ -228,7 +228,7 @@ fn abstract_token(value: Option<u64>) -> Token
 }
 
 /// The token of a value with the suffix `i`.
-fn signed_token(value: Option<u64>) -> Token
+pub(crate) fn signed_token(value: Option<u64>) -> Token
     ensures { (n : ℕ) → IsValue value n → result ≡ signed_token n }
 {
     if let Some(value) = value
@@ -241,7 +241,7 @@ fn signed_token(value: Option<u64>) -> Token
 }
 
 /// The token of a value with the suffix `u`.
-fn unsigned_token(value: Option<u64>) -> Token
+pub(crate) fn unsigned_token(value: Option<u64>) -> Token
     ensures { (n : ℕ) → IsValue value n → result ≡ unsigned_token n }
 {
     if let Some(value) = value

@@ -15,7 +15,7 @@ use std::str;
 use wgsl_items::Text;
 use wgsl_token::Token;
 
-/// A word in ASCII of at most 16 characters.
+/// A word or a number in ASCII.
 #[derive(Debug, Drop)]
 pub struct ShortWord {
     /// How many characters it has.

@@ -1,6 +1,6 @@
 -- Blankspace before a token.
 use Rattle.std.specs.Prelude.{Option, Some, None, IfSome, reverse}
-use Rattle.std.proofs.Common.{◌≡◌, ℕ, ◌+◌, ◌<◌, ◌≤◌, Bool, true, ◌==◌, List, [], ◌∷◌, ◌++◌, length, take, drop, refl, sym, ◌∙◌, ap, subst, arith, append-nil, length-append}
+use Rattle.std.proofs.Common.{◌≡◌, ℕ, ◌+◌, ◌<◌, ◌≤◌, Bool, true, List, [], ◌∷◌, ◌++◌, length, take, drop, refl, sym, ◌∙◌, ap, subst, arith, append-nil, length-append}
 use Rattle.std.specs.Char.{encode_utf8, len_utf8}
 use Rattle.std.specs.Str.{encode_utf8_all}
 use Rattle.std.proofs.lemmas.Str.{length-encode, len_utf8_ascii}
@@ -9,15 +9,14 @@ use Rattle.wgsl_lex.specs.declared.short.ShortWord.{ShortWord}
 use Rattle.wgsl_lex.specs.Pieces.{IsShortWord}
 use Rattle.wgsl_lex.proofs.Sizes.{size_split}
 use Rattle.wgsl_template_spec.proofs.Once.{first_takes}
-use Rattle.wgsl_lex.proofs.Bools.{and_false, neither}
 use Rattle.wgsl_lex.proofs.First.{blank_first}
 use Rattle.wgsl_template_spec.specs.declared.token.Bracket.{Bracket}
 use Rattle.wgsl_template_spec.specs.declared.token.TemplateToken.TheVariants.{Plain}
 use Rattle.wgsl_template_spec.specs.declared.token.TemplateToken.{TemplateToken}
 use Rattle.wgsl_template_spec.specs.declared.token.SpannedTemplateToken.{SpannedTemplateToken}
-use Rattle.wgsl_template_spec.specs.Tokens.{is_word, is_in_list, behind}
+use Rattle.wgsl_template_spec.specs.Tokens.{is_word, behind}
 use Rattle.wgsl_templates.specs.Steps.{StandsHere, state}
-use Rattle.wgsl_templates.proofs.Here.{here_trivia, here_plain, is_first}
+use Rattle.wgsl_templates.proofs.Here.{here_trivia, here_word, is_first}
 use Rattle.wgsl_templates.proofs.Reading.{IsLexedTo, lex_trivia, lex_token}
 
 pub size_first : (cs : List ℕ) (c : ℕ) (following : List ℕ) → cs ≡ c ∷ following → size cs ≡ len_utf8 c + size following
@@ -44,9 +43,8 @@ pub lex_word : (characters : List ℕ) (table : List Bool) (rest : List ℕ) (at
     → more ≡ done ++ record { token = Plain found.token; span = record { start = at; end = at + found.length } } ∷ [] → word ≡ is_word (Plain found.token) → reverse brackets ≡ behind (reverse opened) (Plain found.token)
     → IsLexedTo characters table back (at + found.length) word brackets more
 lex_word characters table rest at after_word opened done still c following is found short back b word brackets more pushed w k =
-    let other = neither (c == 60) (c == 62) short.angle in
     lex_token characters table rest at after_word opened done still c following is found.length (take found.length rest) back refl b found.length (sym (ap (λ x. size (take found.length x)) is ∙ short.bytes)) opened refl (Some (Plain found.token))
-    (λ n. here_plain (state n after_word opened) c following found.length found.token short.within short.stands (rw other.1 (and_false (is_in_list (reverse opened)))) (rw other.0 (and_false after_word))) (Plain found.token) word brackets more refl pushed w k
+    (λ n. here_word (state n after_word opened) c following found short) (Plain found.token) word brackets more refl pushed w k
 
 pub found_word : (c : ℕ) (following : List ℕ) (o : Option ShortWord) (word : ShortWord) → IfSome o (IsShortWord c following) → o ≡ Some word → IsShortWord c following word
 found_word c following o word h e = let P : Option ShortWord → Type 0 = λ x. IfSome x (IsShortWord c following) in subst P e h

@@ -3,8 +3,9 @@ use Rattle.std.specs.Prelude.{Option, Some, None, slice_index_or}
 use Rattle.std.proofs.Common.{◌≡◌, ℕ, zero, suc, ◌+◌, ◌<◌, ◌≤◌, Bool, true, false, ◌&&◌, ◌==◌, List, [], ◌∷◌, length, take, drop, refl, sym, ◌∙◌, ap, subst, arith}
 use Rattle.wgsl_token.specs.declared.token.Token.{Token}
 use Rattle.wgsl_items.proofs.Bools.{and_both, false_if}
-use Rattle.wgsl_lex.specs.Pieces.{StandsFirst}
-use Rattle.wgsl_lex.proofs.Bools.{is_number, and_false}
+use Rattle.wgsl_lex.specs.declared.short.ShortWord.{ShortWord}
+use Rattle.wgsl_lex.specs.Pieces.{StandsFirst, IsShortWord}
+use Rattle.wgsl_lex.proofs.Bools.{is_number, and_false, neither}
 use Rattle.wgsl_template_spec.specs.declared.token.TemplateToken.{TemplateToken}
 use Rattle.wgsl_template_spec.specs.declared.token.TemplateToken.TheVariants.{Plain, TemplateArgsEnd}
 use Rattle.wgsl_template_spec.specs.Tokens.{is_less, is_in_list, less_or_start, State, IsFirst, closing, asked, plain, Opens}
@@ -54,3 +55,9 @@ module _ (s : State) (c : ℕ) (cs : List ℕ) (n : ℕ) (t : Token) (within : n
       let Q : TemplateToken → Type 0 = λ x. StandsHere s (c ∷ cs) n (Some x) in
       let R : ℕ → Type 0 = λ k. Opens (drop k (c ∷ cs)) opens in
       subst Q (sym made) (token_here (asked n t first (asks ∙ e) (subst R (sym single) found)))
+
+-- a short word is told as it is
+pub here_word : (s : State) (c : ℕ) (cs : List ℕ) (found : ShortWord) → IsShortWord c cs found → StandsHere s (c ∷ cs) found.length (Some (Plain found.token))
+here_word s c cs found short =
+    let other = neither (c == 60) (c == 62) short.angle in
+    here_plain s c cs found.length found.token short.within short.stands (rw other.1 (and_false (is_in_list s.opened))) (rw other.0 (and_false s.after_word))

@@ -60,7 +60,8 @@ fn lex_characters<P: Pieces>(
     while let Some((first, behind)) = rest.split_first() {
         if let Some(word) = short_word(alloc, *first, behind)? {
             let (_, back) = rest.split_at(word.length);
-            after_word = push_plain(&mut tokens, &mut opened, word.token, at, word.length)?;
+            let token = TemplateToken::Plain(word.token);
+            after_word = push_token(&mut tokens, &mut opened, token, at, word.length)?;
             at += word.length;
             rest = back;
             continue;
@@ -68,11 +69,7 @@ fn lex_characters<P: Pieces>(
         if let Some(fixed) = symbol_alone(*first, behind) {
             let list = opened.as_slice();
             let token = told_symbol(*first, behind, fixed, after_word, list, table);
-            let span = Span {
-                start: at,
-                end: at + 1,
-            };
-            after_word = push_token(&mut tokens, &mut opened, token, span)?;
+            after_word = push_token(&mut tokens, &mut opened, token, at, 1)?;
             at += 1;
             rest = behind;
             continue;
@@ -82,20 +79,14 @@ fn lex_characters<P: Pieces>(
             rest = behind;
             continue;
         }
-        let TemplatePiece { length, token } = next(
-            pieces,
-            rest,
-            *first,
-            behind,
-            after_word,
-            opened.as_slice(),
-            table,
-        )?;
+        let list = opened.as_slice();
+        let piece = next(alloc, pieces, rest, *first, behind, after_word, list, table)?;
+        let TemplatePiece { length, token } = piece;
         let (front, back) = rest.split_at(length);
-        let end = at + size_in(front, one_byte_each);
+        let size = size_in(front, one_byte_each);
+        let end = at + size;
         if let Some(token) = token {
-            let span = Span { start: at, end };
-            after_word = push_token(&mut tokens, &mut opened, token, span)?;
+            after_word = push_token(&mut tokens, &mut opened, token, at, size)?;
         }
         rest = back;
         at = end;
@@ -103,41 +94,26 @@ fn lex_characters<P: Pieces>(
     Ok(tokens)
 }
 
-/// Takes a token of so many characters in ASCII that stands here as in any text. Whether a `<` behind it may open a template list.
-#[inline(always)]
-fn push_plain(
-    tokens: &mut Items<SpannedTemplateToken>,
-    opened: &mut Vec<Bracket>,
-    token: Token,
-    at: usize,
-    length: usize,
-) -> Result<bool, AllocError>
-    requires { at + length < 2 ^ 64 }
-    ensures word { IfOk result (λ word. word ≡ is_word (TemplateToken.Plain token)) }
-    ensures taken { IfOk result (λ _. tokens.new ≡ tokens.old ++ record { token = TemplateToken.Plain token; span = record { start = at; end = at + length } } ∷ []) }
-    ensures brackets { IfOk result (λ _. reverse opened.new.items ≡ behind (reverse opened.old.items) (TemplateToken.Plain token)) }
-{
-    let span = Span {
-        start: at,
-        end: at + length,
-    };
-    push_token(tokens, opened, TemplateToken::Plain(token), span)
-}
-
-/// Takes a token that was read. Whether a `<` behind it may open a template list.
+/// Takes a token of so many bytes that was read. Whether a `<` behind it may open a template list.
 #[inline(always)]
 fn push_token(
     tokens: &mut Items<SpannedTemplateToken>,
     opened: &mut Vec<Bracket>,
     token: TemplateToken,
-    span: Span,
+    at: usize,
+    size: usize,
 ) -> Result<bool, AllocError>
+    requires { at + size < 2 ^ 64 }
     ensures word { IfOk result (λ word. word ≡ is_word token) }
-    ensures taken { IfOk result (λ _. tokens.new ≡ tokens.old ++ record { token = token; span = span } ∷ []) }
+    ensures taken { IfOk result (λ _. tokens.new ≡ tokens.old ++ record { token = token; span = record { start = at; end = at + size } } ∷ []) }
     ensures brackets { IfOk result (λ _. reverse opened.new.items ≡ behind (reverse opened.old.items) token) }
 {
     follow(opened, &token)?;
     let word = is_word(&token);
+    let span = Span {
+        start: at,
+        end: at + size,
+    };
     tokens.push(SpannedTemplateToken { token, span })?;
     Ok(word)
 }

@@ -1,12 +1,14 @@
 //! What stands first.
 
-ghost use Rattle.std.specs.Prelude.{◌≡◌, ◌≤◌, ◌<◌, ◌+◌, ◌∷◌, ◌==◌, ◌&&◌, ℕ, length, reverse, IfOk, Some, None};
-ghost use Rattle.wgsl_lex.specs.Pieces.{StandsFirst};
+ghost use Rattle.std.specs.Prelude.{◌≡◌, ◌≤◌, ◌<◌, ◌+◌, ◌∷◌, ◌==◌, ◌&&◌, ℕ, length, reverse, IfOk, IfSome, Some, None};
+ghost use Rattle.wgsl_lex.specs.Pieces.{StandsFirst, IsShortWord};
 ghost use Rattle.wgsl_template_spec.specs.Tokens as tokens;
 ghost use Rattle.wgsl_templates.specs.Steps.{StandsHere, state, IsTable};
 
-use std::alloc::AllocError;
-use wgsl_lex::Piece;
+use std::alloc::{AllocError, Global};
+use wgsl_lex::{
+    Piece, ShortWord, is_blankspace, short_float, short_number, short_word, symbol_alone,
+};
 use wgsl_template_spec::{Bracket, TemplateToken};
 use wgsl_token::{Fixed, Token};
 
@@ -33,9 +35,28 @@ pub(crate) struct TemplatePiece {
     pub(crate) token: Option<TemplateToken>,
 }
 
+/// The number in decimal that stands first, where it is found at once.
+#[inline(always)]
+fn short_digits(
+    alloc: Global,
+    first: char,
+    behind: &[char],
+) -> Result<Option<ShortWord>, AllocError>
+    ensures { IfOk result (λ found. IfSome found (IsShortWord first behind.now)) }
+{
+    if !first.is_ascii_digit() {
+        return Ok(None);
+    }
+    if let Some(number) = short_number(first, behind) {
+        return Ok(Some(number));
+    }
+    short_float(alloc, first, behind)
+}
+
 /// What stands at the front of some characters, behind a word or not, where these brackets are open, the last one at the end.
 #[inline(always)]
 pub(crate) fn next<P: Pieces>(
+    alloc: Global,
     pieces: &P,
     characters: &[char],
     first: char,
@@ -50,6 +71,12 @@ pub(crate) fn next<P: Pieces>(
     ensures within { IfOk result (λ piece. piece.length ≤ length behind.now + 1) }
     ensures first { IfOk result (λ piece. (at : ℕ) → StandsHere (state at after_word opened.now) (first ∷ behind.now) piece.length piece.token) }
 {
+    if let Some(number) = short_digits(alloc, first, behind)? {
+        return Ok(TemplatePiece {
+            length: number.length,
+            token: Some(TemplateToken::Plain(number.token)),
+        });
+    }
     let Piece { length, token } = pieces.first_piece(characters, first, behind)?;
     let Some(token) = token else {
         return Ok(TemplatePiece {
@@ -58,6 +85,46 @@ pub(crate) fn next<P: Pieces>(
         });
     };
     Ok(told(first, behind, length, token, after_word, opened, table))
+}
+
+/// The same, where short words, lone symbols and blanks are told first.
+#[inline(always)]
+pub(crate) fn next_at_once<P: Pieces>(
+    alloc: Global,
+    pieces: &P,
+    characters: &[char],
+    first: char,
+    behind: &[char],
+    after_word: bool,
+    opened: &[Bracket],
+    table: &[bool],
+) -> Result<TemplatePiece, AllocError>
+    requires whole { characters.now ≡ first ∷ behind.now }
+    requires table { IsTable (first ∷ behind.now) table.now }
+    requires covered { length behind.now < length table.now }
+    ensures within { IfOk result (λ piece. piece.length ≤ length behind.now + 1) }
+    ensures first { IfOk result (λ piece. (at : ℕ) → StandsHere (state at after_word opened.now) (first ∷ behind.now) piece.length piece.token) }
+{
+    if let Some(ShortWord { length, token }) = short_word(alloc, first, behind)? {
+        let token = Some(TemplateToken::Plain(token));
+        return Ok(TemplatePiece { length, token });
+    }
+    if let Some(fixed) = symbol_alone(first, behind) {
+        let token = told_symbol(first, behind, fixed, after_word, opened, table);
+        return Ok(TemplatePiece {
+            length: 1,
+            token: Some(token),
+        });
+    }
+    if is_blankspace(first) {
+        return Ok(TemplatePiece {
+            length: 1,
+            token: None,
+        });
+    }
+    next(
+        alloc, pieces, characters, first, behind, after_word, opened, table,
+    )
 }
 
 /// A token with what it is where it stands.

@@ -6,7 +6,7 @@ ghost use Rattle.wgsl_template_spec.specs.Tokens.{is_word, behind, Opens};
 ghost use Rattle.wgsl_templates.specs.Steps.{IsTable, AreRead};
 
 use crate::lexer::{follow, is_word};
-use crate::piece::{Pieces, TemplatePiece, next};
+use crate::piece::{Pieces, TemplatePiece, next_at_once};
 use crate::recognize::{Answer, Recognizer};
 use std::alloc::{AllocError, Global};
 use wgsl_template_spec::{Bracket, Kind, TemplateToken};
@@ -22,6 +22,7 @@ pub(crate) fn table_of<P: Pieces, R: Recognizer>(
     ensures covered { IfOk result (λ table. length table.items ≡ length text.now) }
 {
     let mut table = vec![in alloc; false; text.len()]?;
+    let mut seen = Seen::new(alloc);
     let mut place = text.len();
     while place > 0 {
         place -= 1;
@@ -30,7 +31,8 @@ pub(crate) fn table_of<P: Pieces, R: Recognizer>(
         }
         let (_, behind) = text.split_at(place + 1);
         let count = behind.len();
-        table[count] = opens(alloc, pieces, recognizer, behind, &table[..count])?;
+        let before = &table[..count];
+        table[count] = opens(alloc, pieces, recognizer, behind, before, &mut seen)?;
     }
     Ok(table)
 }
@@ -45,7 +47,9 @@ pub fn opens_list<P: Pieces, R: Recognizer>(
     ensures { IfOk result (Opens behind.now) }
 {
     let table = table_of(alloc, pieces, recognizer, behind)?;
-    opens(alloc, pieces, recognizer, behind, table.as_slice())
+    let mut seen = Seen::new(alloc);
+    let list = table.as_slice();
+    opens(alloc, pieces, recognizer, behind, list, &mut seen)
 }
 
 /// Whether a `<` before these characters opens a template list: asked of some tokens, and of twice as many until they say it.
@@ -55,6 +59,7 @@ pub(crate) fn opens<P: Pieces, R: Recognizer>(
     recognizer: &R,
     behind: &[char],
     table: &[bool],
+    seen: &mut Seen,
 ) -> Result<bool, AllocError>
     requires table { IsTable behind.now table.now }
     requires covered { length behind.now ≤ length table.now }
@@ -62,18 +67,18 @@ pub(crate) fn opens<P: Pieces, R: Recognizer>(
 {
     let mut limit: usize = 2;
     for _ in 0..32 {
-        let front = inside(alloc, pieces, behind, table, false, limit)?;
-        match recognizer.recognize(front.kinds.as_slice())? {
+        let ended = inside(alloc, pieces, behind, table, false, limit, seen)?;
+        match recognizer.recognize(seen.kinds.as_slice())? {
             Answer::List => return Ok(true),
             Answer::Never => return Ok(false),
             Answer::Unfinished => {}
         }
-        if front.ended {
+        if ended {
             break;
         }
         limit = limit.saturating_mul(2);
     }
-    opens_whole(alloc, pieces, recognizer, behind, table)
+    opens_whole(alloc, pieces, recognizer, behind, table, seen)
 }
 
 /// The same, from all tokens behind the `<`.
@@ -83,27 +88,41 @@ fn opens_whole<P: Pieces, R: Recognizer>(
     recognizer: &R,
     behind: &[char],
     table: &[bool],
+    seen: &mut Seen,
 ) -> Result<bool, AllocError>
     requires table { IsTable behind.now table.now }
     requires covered { length behind.now ≤ length table.now }
     ensures { IfOk result (Opens behind.now) }
 {
-    let all = inside(alloc, pieces, behind, table, true, 0)?;
-    match recognizer.recognize(all.kinds.as_slice())? {
+    inside(alloc, pieces, behind, table, true, 0, seen)?;
+    match recognizer.recognize(seen.kinds.as_slice())? {
         Answer::List => Ok(true),
         Answer::Never => Ok(false),
         Answer::Unfinished => Ok(false),
     }
 }
 
-/// What the grammar sees of tokens from the front of a text, and whether the text ends behind them.
+/// What was seen of the tokens behind a `<`. Its lists are used again at each `<` of a text.
 #[derive(Drop)]
-struct SeenKinds {
+pub(crate) struct Seen {
+    /// The brackets that are open, the last one at the end.
+    opened: Vec<Bracket>,
+    /// What the grammar sees of the tokens.
     kinds: Vec<Kind>,
-    ended: bool,
 }
 
-/// Tokens as they stand in a template list, by the table of their own lists: all of them, or about so many.
+impl Seen {
+    /// Nothing yet. It needs no memory.
+    fn new(alloc: Global) -> Seen {
+        Seen {
+            opened: Vec::new(alloc),
+            kinds: Vec::new(alloc),
+        }
+    }
+}
+
+/// Sees the tokens of a text as they stand in a template list, by the table of their own lists: all of them, or about so many. Whether
+/// the text ends behind them.
 fn inside<P: Pieces>(
     alloc: Global,
     pieces: &P,
@@ -111,42 +130,42 @@ fn inside<P: Pieces>(
     table: &[bool],
     whole: bool,
     limit: usize,
-) -> Result<SeenKinds, AllocError>
+    seen: &mut Seen,
+) -> Result<bool, AllocError>
     requires table { IsTable text.now table.now }
     requires covered { length text.now ≤ length table.now }
-    ensures { IfOk result (λ inside. AreRead text.now whole inside.kinds.items inside.ended) }
+    ensures { IfOk result (λ ended. AreRead text.now whole seen.new.kinds.items ended) }
 {
-    let mut opened = Vec::new(alloc);
-    opened.push(Bracket::TemplateList)?;
-    let mut kinds = Vec::new(alloc);
+    seen.opened.clear();
+    seen.opened.push(Bracket::TemplateList)?;
+    seen.kinds.clear();
     let mut rest = text;
     let mut after_word = false;
     while let Some((first, behind)) = rest.split_first() {
-        if !whole && is_enough(kinds.len(), limit) {
-            return Ok(SeenKinds {
-                kinds,
-                ended: false,
-            });
+        if !whole && is_enough(seen.kinds.len(), limit) {
+            return Ok(false);
         }
-        let TemplatePiece { length, token } = next(
+        let TemplatePiece { length, token } = next_at_once(
+            alloc,
             pieces,
             rest,
             *first,
             behind,
             after_word,
-            opened.as_slice(),
+            seen.opened.as_slice(),
             table,
         )?;
         let (_, back) = rest.split_at(length);
         if let Some(token) = token {
-            after_word = push_kind(&mut kinds, &mut opened, token)?;
+            after_word = push_kind(&mut seen.kinds, &mut seen.opened, token)?;
         }
         rest = back;
     }
-    Ok(SeenKinds { kinds, ended: true })
+    Ok(true)
 }
 
 /// Takes a token that was read. Whether a `<` behind it may open a template list.
+#[inline(always)]
 fn push_kind(
     kinds: &mut Vec<Kind>,
     opened: &mut Vec<Bracket>,

@@ -14,8 +14,8 @@ loop-first-preserved-then-is_blankspace g c = (
   λ narrow. behind_bytes _ _ _ c.in-Some.ensures.cases.0 (c.loop-first.invariant.1 narrow),
 )
 
-pub push_plain-requires : goal.push_plain-requires
-push_plain-requires g c = omega (arith, c.requires.bounded, (word_ends _ _ _ c.loop-first.invariant.0.ends _ _ c.in-Some.ensures.cases.0 _ (found_word _ _ _ _ c.in_ok-word.ensures c.in-Some-2.is)).1)
+pub push_token-requires : goal.push_token-requires
+push_token-requires g c = omega (arith, c.requires.bounded, (word_ends _ _ _ c.loop-first.invariant.0.ends _ _ c.in-Some.ensures.cases.0 _ (found_word _ _ _ _ c.in_ok-word.ensures c.in-Some-2.is)).1)
 
 pub overflow_add-at : goal.overflow_add-at
 overflow_add-at g c = omega (arith, c.requires.bounded, (word_ends _ _ _ c.loop-first.invariant.0.ends _ _ c.in-Some.ensures.cases.0 _ (found_word _ _ _ _ c.in_ok-word.ensures c.in-Some-2.is)).1)
@@ -36,32 +36,35 @@ loop-first-preserved-in-Some-symbol_alone g c = (
   λ narrow. behind_bytes _ _ _ c.in-Some.ensures.cases.0 (c.loop-first.invariant.1 narrow),
 )
 
-pub size_in-requires-clause-bytes : goal.size_in-requires-clause-bytes
-size_in-requires-clause-bytes g c = λ narrow.
-    front_bytes _ _ _ _ c.split_at-in-Some.ensures.front c.split_at-in-Some.ensures.back (omega (arith, ap length c.in-Some.ensures.cases.0, c.in_ok-length.ensures.within)) (c.loop-first.invariant.1 narrow)
+pub size_in-size-requires-clause-bytes : goal.size_in-size-requires-clause-bytes
+size_in-size-requires-clause-bytes g c = λ narrow.
+    front_bytes _ _ _ _ c.split_at-in-Some.ensures.front c.split_at-in-Some.ensures.back (omega (arith, ap length c.in-Some.ensures.cases.0, c.in_ok-piece.ensures.within)) (c.loop-first.invariant.1 narrow)
 
-pub size_in-requires-clause-bounded : goal.size_in-requires-clause-bounded
-size_in-requires-clause-bounded g c = omega (arith, c.loop-first.invariant.0.ends, size_parts _ _ _ _ c.split_at-in-Some.ensures.front c.split_at-in-Some.ensures.back)
+pub size_in-size-requires-clause-bounded : goal.size_in-size-requires-clause-bounded
+size_in-size-requires-clause-bounded g c = omega (arith, c.loop-first.invariant.0.ends, size_parts _ _ _ _ c.split_at-in-Some.ensures.front c.split_at-in-Some.ensures.back)
 
 pub overflow_add-end : goal.overflow_add-end
-overflow_add-end g c = omega (arith, c.loop-first.invariant.0.ends, size_parts _ _ _ _ c.split_at-in-Some.ensures.front c.split_at-in-Some.ensures.back, c.size_in.ensures)
+overflow_add-end g c = omega (arith, c.requires.bounded, c.loop-first.invariant.0.ends, size_parts _ _ _ _ c.split_at-in-Some.ensures.front c.split_at-in-Some.ensures.back, c.size_in-size.ensures)
+
+pub push_token-requires-in-Some-token : goal.push_token-requires-in-Some-token
+push_token-requires-in-Some-token g c = omega (arith, c.requires.bounded, c.loop-first.invariant.0.ends, size_parts _ _ _ _ c.split_at-in-Some.ensures.front c.split_at-in-Some.ensures.back, c.size_in-size.ensures)
 
 pub loop-first-smaller-in_ok-after_word-3 : goal.loop-first-smaller-in_ok-after_word-3
-loop-first-smaller-in_ok-after_word-3 g c = omega (arith, c.split_at-in-Some.ensures.back_len, stands_more _ _ _ _ (c.in_ok-length.ensures.first 0))
+loop-first-smaller-in_ok-after_word-3 g c = omega (arith, c.split_at-in-Some.ensures.back_len, stands_more _ _ _ _ (c.in_ok-piece.ensures.first 0))
 
 pub loop-first-preserved-in_ok-after_word-3 : goal.loop-first-preserved-in_ok-after_word-3
 loop-first-preserved-in_ok-after_word-3 g c = (
-  lex_token _ _ _ _ _ _ _ c.loop-first.invariant.0 _ _ c.in-Some.ensures.cases.0 _ _ _ c.split_at-in-Some.ensures.front c.split_at-in-Some.ensures.back _ c.size_in.ensures _ c.as_slice.ensures.value _ c.in_ok-length.ensures.first _ _ _ _ c.in-Some-token.is c.in_ok-after_word-3.ensures.taken c.in_ok-after_word-3.ensures.word c.in_ok-after_word-3.ensures.brackets,
-  λ narrow. back_bytes _ _ _ _ c.split_at-in-Some.ensures.front c.split_at-in-Some.ensures.back (omega (arith, ap length c.in-Some.ensures.cases.0, c.in_ok-length.ensures.within)) (c.loop-first.invariant.1 narrow),
+  lex_token _ _ _ _ _ _ _ c.loop-first.invariant.0 _ _ c.in-Some.ensures.cases.0 _ _ _ c.split_at-in-Some.ensures.front c.split_at-in-Some.ensures.back _ c.size_in-size.ensures _ c.as_slice-list-in-Some.ensures.value _ c.in_ok-piece.ensures.first _ _ _ _ c.in-Some-token.is c.in_ok-after_word-3.ensures.taken c.in_ok-after_word-3.ensures.word c.in_ok-after_word-3.ensures.brackets,
+  λ narrow. back_bytes _ _ _ _ c.split_at-in-Some.ensures.front c.split_at-in-Some.ensures.back (omega (arith, ap length c.in-Some.ensures.cases.0, c.in_ok-piece.ensures.within)) (c.loop-first.invariant.1 narrow),
 )
 
 pub loop-first-smaller : goal.loop-first-smaller
-loop-first-smaller g c = omega (arith, c.split_at-in-Some.ensures.back_len, stands_more _ _ _ _ (c.in_ok-length.ensures.first 0))
+loop-first-smaller g c = omega (arith, c.split_at-in-Some.ensures.back_len, stands_more _ _ _ _ (c.in_ok-piece.ensures.first 0))
 
 pub loop-first-preserved : goal.loop-first-preserved
 loop-first-preserved g c = (
-  lex_trivia _ _ _ _ _ _ _ c.loop-first.invariant.0 _ _ c.in-Some.ensures.cases.0 _ _ _ c.split_at-in-Some.ensures.front c.split_at-in-Some.ensures.back _ c.size_in.ensures _ c.as_slice.ensures.value _ c.in_ok-length.ensures.first c.in_default-token.is,
-  λ narrow. back_bytes _ _ _ _ c.split_at-in-Some.ensures.front c.split_at-in-Some.ensures.back (omega (arith, ap length c.in-Some.ensures.cases.0, c.in_ok-length.ensures.within)) (c.loop-first.invariant.1 narrow),
+  lex_trivia _ _ _ _ _ _ _ c.loop-first.invariant.0 _ _ c.in-Some.ensures.cases.0 _ _ _ c.split_at-in-Some.ensures.front c.split_at-in-Some.ensures.back _ c.size_in-size.ensures _ c.as_slice-list-in-Some.ensures.value _ c.in_ok-piece.ensures.first c.in_default-token.is,
+  λ narrow. back_bytes _ _ _ _ c.split_at-in-Some.ensures.front c.split_at-in-Some.ensures.back (omega (arith, ap length c.in-Some.ensures.cases.0, c.in_ok-piece.ensures.within)) (c.loop-first.invariant.1 narrow),
 )
 
 pub returns : goal.returns

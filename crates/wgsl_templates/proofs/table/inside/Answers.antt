@@ -3,7 +3,7 @@ use Rattle.wgsl_templates.proofs.Reading.{read_start, read_trivia, read_token, s
 use Rattle.wgsl_templates.proofs.table.inside.Goals as goal
 
 pub loop-first-init : goal.loop-first-init
-loop-first-init g c = read_start _ _ _ _ _ c.requires.table c.requires.covered c.new-opened.ensures.items c.in_ok-push.ensures.items c.new-kinds.ensures.items
+loop-first-init g c = read_start _ _ _ _ _ c.requires.table c.requires.covered c.clear.ensures.items c.in_ok-push.ensures.items c.clear-2.ensures.items
 
 pub loop-first-smaller-in_ok-after_word : goal.loop-first-smaller-in_ok-after_word
 loop-first-smaller-in_ok-after_word g c = omega (arith, c.split_at.ensures.back_len, stands_more _ _ _ _ (c.in_ok-length.ensures.first 0))

@@ -6,4 +6,4 @@ abbrev pub decreases-loop-first : goal.decreases-loop-first
 decreases-loop-first g l = length l.rest
 
 abbrev pub invariant-loop-first : goal.invariant-loop-first
-invariant-loop-first g l = IsReadTo l.fn.text l.table l.rest l.after_word l.opened.items l.kinds.items
+invariant-loop-first g l = IsReadTo l.fn.text l.table l.rest l.after_word l.seen.opened.items l.seen.kinds.items
