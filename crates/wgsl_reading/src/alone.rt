@@ -135,7 +135,7 @@ pub(crate) fn remade(
     let part = mem::replace(&mut value.part, Part::Absent);
     let part = make_of_one(alloc, label, value.span, part, room)?;
     let failure = failure_at(value.last, severity, made_failed(label, &part));
-    value.part = part;
+    drop(mem::replace(&mut value.part, part));
     value.failure = first_failure(value.failure, failure);
     value.depth = depth;
     Ok(())
