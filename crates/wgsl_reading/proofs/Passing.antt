@@ -1,5 +1,5 @@
 -- Rules that pass their one symbol on.
-use Rattle.std.proofs.Common.{◌≡◌, ◌∙◌, ap, ℕ, [], ◌∷◌, Option, None}
+use Rattle.std.proofs.Common.{◌≡◌, ◌∙◌, ap, ℕ, [], ◌∷◌, Option, Some, None, MatchOption}
 use Rattle.wgsl_parts.specs.declared.part.Part.{Part}
 use Rattle.wgsl_parts.specs.declared.part.Part.TheVariants.{Absent}
 use Rattle.wgsl_parts.specs.declared.label.Label.TheVariants as l
@@ -9,8 +9,8 @@ use Rattle.wgsl_phrases.specs.Gathering.{either, extent_from, chosen}
 use Rattle.wgsl_grammar_tables.specs.Labels.{label_at, pattern_at}
 use Rattle.wgsl_grammar_tables.specs.PassedOn.{IsPassedTo}
 use Rattle.wgsl_reading.specs.Failures.{failure_at, first_check, made_failed}
-use Rattle.wgsl_shift_reduce.specs.Runs.{PassesOn}
-use Rattle.wgsl_reading.specs.Phrases.{grammar, made, make}
+use Rattle.wgsl_shift_reduce.specs.Runs.{PassesOn, PassesKept}
+use Rattle.wgsl_reading.specs.Phrases.{grammar, made, make, IsKept}
 use Rattle.wgsl_reading.proofs.Failing.{either_none}
 
 abbrev with_failure : Phrase Part → Option Failure → Phrase Part
@@ -23,5 +23,10 @@ passed_on p left x is fine =
     ∙ ap (λ c. with_failure x (either x.failure (failure_at x.last (first_check None c)))) fine
     ∙ ap (with_failure x) (either_none x.failure)
 
-pub passes_on : (p left : ℕ) (x : Phrase Part) → IsPassedTo p left → made_failed l.Pass x.part ≡ None → PassesOn grammar p x left
+passes_on : (p left : ℕ) (x : Phrase Part) → IsPassedTo p left → made_failed l.Pass x.part ≡ None → PassesOn grammar p x left
 passes_on p left x is fine = record { rule = is.rule; is = is.is; to = is.to; alone = is.alone; stays = passed_on p left x is fine }
+
+-- so where a rule passes its symbol on, it does so of each phrase that is kept
+pub passes_kept : (p : ℕ) (o : Option ℕ) → MatchOption o Unit (λ left. IsPassedTo p left) → MatchOption o Unit (PassesKept grammar IsKept p)
+passes_kept p None is = tt
+passes_kept p (Some left) is = λ x fine. passes_on p left x is fine

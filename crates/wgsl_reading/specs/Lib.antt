@@ -1,3 +1,4 @@
+pub mod Alone
 pub mod Failures
 pub mod Phrases
 pub mod Readings

@@ -23,7 +23,7 @@ use Rattle.wgsl_phrases.specs.Gathering.{either, extent_from, chosen}
 use Rattle.wgsl_reading.specs.declared.driver.Start.{Start}
 use Rattle.wgsl_reading.specs.declared.driver.Start.TheVariants.{Module, Expression, Statement, Declaration, Directive, Import, Kind}
 use Rattle.wgsl_make.specs.Making as making
-use Rattle.wgsl_reading.specs.Failures.{failure_in}
+use Rattle.wgsl_reading.specs.Failures.{failure_in, made_failed}
 
 -- a token at its place
 abbrev pub leaf : SpannedTemplateToken → Phrase Part
@@ -79,3 +79,7 @@ number Kind = 6
 
 abbrev pub tables_of : Start → Tables
 tables_of s = tables listed (start (number s))
+
+-- A rule that makes nothing new of this phrase keeps it: the check that is made again of its part doesn't fail.
+abbrev pub IsKept : Phrase Part → Type 0
+IsKept x = made_failed l.Pass x.part ≡ None

@@ -2,7 +2,9 @@
 
 ghost use Rattle.std.specs.Prelude.{◌≡◌, ◌∷◌, [], Some, IfOk};
 ghost use Rattle.wgsl_make.specs.Making as making;
+ghost use Rattle.wgsl_parts.specs.declared.part.Part.TheVariants.{Absent};
 ghost use Rattle.wgsl_phrases.specs.Gathering.{extent_of};
+ghost use Rattle.wgsl_reading.specs.Alone.{MakesAlone};
 ghost use Rattle.wgsl_reading.specs.Phrases.{made};
 
 use crate::driver::deeper;
@@ -16,6 +18,123 @@ use wgsl_parts::{ExpressionLabel, Label, NameLabel, Part, QualifiedName};
 use wgsl_path::{Span, Spanned};
 use wgsl_phrases::{Phrase, first_failure};
 use wgsl_stack::Stack;
+
+/// Puts a part where an absent one stands, which owns nothing and needs no drop.
+#[inline(always)]
+fn put(place: &mut Part, part: Part)
+    requires { place.old ≡ Absent }
+    ensures { place.new ≡ part }
+{
+    mem::forget(mem::replace(place, part));
+}
+
+/// Makes a name of a word in its place. Whether it did; if not, the phrase stays. No check of a name fails.
+fn name_in_place(value: &mut Phrase<Part>) -> bool
+    ensures { MakesAlone (Label.Name NameLabel.NameAlone) value.old value.new result }
+{
+    match mem::replace(&mut value.part, Part::Absent) {
+        Part::Ident(ident) => {
+            put(
+                &mut value.part,
+                Part::Path(QualifiedName { path: None, ident }),
+            );
+            value.failure = first_failure(value.failure, None);
+            true
+        }
+        part => {
+            put(&mut value.part, part);
+            false
+        }
+    }
+}
+
+/// Makes a type of a name in its place. Whether it did; if not, the phrase stays. No check of a type fails.
+fn type_in_place(value: &mut Phrase<Part>) -> bool
+    ensures { MakesAlone (Label.Name NameLabel.Simple) value.old value.new result }
+{
+    match mem::replace(&mut value.part, Part::Absent) {
+        Part::Path(QualifiedName { path, ident }) => {
+            let ty = TypeExpression {
+                path,
+                ident,
+                template_args: None,
+            };
+            put(&mut value.part, Part::Type(ty));
+            value.failure = first_failure(value.failure, None);
+            true
+        }
+        part => {
+            put(&mut value.part, part);
+            false
+        }
+    }
+}
+
+/// Makes an expression of a literal or a type in its place. Whether it did; if not, the phrase stays. No check of an expression fails.
+fn expression_in_place(
+    alloc: Global,
+    label: ExpressionLabel,
+    value: &mut Phrase<Part>,
+) -> Result<bool, AllocError>
+    ensures { IfOk result (MakesAlone (Label.Expression label) value.old value.new) }
+{
+    let depth = deeper(Label::Expression(label), value.depth)?;
+    let expression = match (label, mem::replace(&mut value.part, Part::Absent)) {
+        (ExpressionLabel::ALiteral, Part::Literal(literal)) => Expression::Literal(literal),
+        (ExpressionLabel::Named, Part::Type(ty)) => Expression::TypeOrIdentifier(ty),
+        (_, part) => {
+            put(&mut value.part, part);
+            return Ok(false);
+        }
+    };
+    let expression = Spanned::new(alloc, expression, value.span)?;
+    put(&mut value.part, Part::Expression(expression));
+    value.failure = first_failure(value.failure, None);
+    value.depth = depth;
+    Ok(true)
+}
+
+fn one_expression(
+    alloc: Global,
+    expression: ExpressionNode,
+) -> Result<Items<ExpressionNode>, AllocError>
+    ensures { IfOk result (λ items. items ≡ expression ∷ []) }
+{
+    let mut items = Items::new(alloc);
+    items.push(expression)?;
+    Ok(items)
+}
+
+/// Makes a list of an expression in its place. Whether it did; if not, the phrase stays. No check of a list fails.
+fn list_in_place(alloc: Global, value: &mut Phrase<Part>) -> Result<bool, AllocError>
+    ensures { IfOk result (MakesAlone Label.First value.old value.new) }
+{
+    match mem::replace(&mut value.part, Part::Absent) {
+        Part::Expression(expression) => {
+            let list = one_expression(alloc, expression)?;
+            put(&mut value.part, Part::Expressions(list));
+            value.failure = first_failure(value.failure, None);
+            Ok(true)
+        }
+        part => {
+            put(&mut value.part, part);
+            Ok(false)
+        }
+    }
+}
+
+/// The most frequent productions of one part. Whether it was one; if not, the phrase stays.
+fn made_in_place(alloc: Global, label: Label, value: &mut Phrase<Part>) -> Result<bool, AllocError>
+    ensures { IfOk result (MakesAlone label value.old value.new) }
+{
+    match label {
+        Label::Name(NameLabel::NameAlone) => Ok(name_in_place(value)),
+        Label::Name(NameLabel::Simple) => Ok(type_in_place(value)),
+        Label::Expression(label) => expression_in_place(alloc, label, value),
+        Label::First => list_in_place(alloc, value),
+        _ => Ok(false),
+    }
+}
 
 /// What a production makes of one part, in the way of all productions.
 fn make_in_room(
@@ -32,93 +151,25 @@ fn make_in_room(
     make(alloc, label, span, room)
 }
 
-/// What a production of names makes of one part: the most frequent ones at once.
-fn name_of_one(
-    alloc: Global,
-    label: NameLabel,
-    span: Span,
-    part: Part,
-    room: &mut Stack<Part>,
-) -> Result<Part, AllocError>
-    ensures { IfOk result (λ made. made ≡ making.make (Label.Name label) span (part ∷ [])) }
-{
-    match (label, part) {
-        (NameLabel::NameAlone, Part::Ident(ident)) => {
-            Ok(Part::Path(QualifiedName { path: None, ident }))
-        }
-        (NameLabel::Simple, Part::Path(QualifiedName { path, ident })) => {
-            Ok(Part::Type(TypeExpression {
-                path,
-                ident,
-                template_args: None,
-            }))
-        }
-        (label, part) => make_in_room(alloc, Label::Name(label), span, part, room),
-    }
-}
-
-/// What a production of expressions makes of one part: the most frequent ones at once.
-fn expression_of_one(
-    alloc: Global,
-    label: ExpressionLabel,
-    span: Span,
-    part: Part,
-    room: &mut Stack<Part>,
-) -> Result<Part, AllocError>
-    ensures { IfOk result (λ made. made ≡ making.make (Label.Expression label) span (part ∷ [])) }
-{
-    let expression = match (label, part) {
-        (ExpressionLabel::ALiteral, Part::Literal(literal)) => Expression::Literal(literal),
-        (ExpressionLabel::Named, Part::Type(ty)) => Expression::TypeOrIdentifier(ty),
-        (label, part) => {
-            return make_in_room(alloc, Label::Expression(label), span, part, room);
-        }
-    };
-    Ok(Part::Expression(Spanned::new(alloc, expression, span)?))
-}
-
-fn one_expression(
-    alloc: Global,
-    expression: ExpressionNode,
-) -> Result<Items<ExpressionNode>, AllocError>
-    ensures { IfOk result (λ items. items ≡ expression ∷ []) }
-{
-    let mut items = Items::new(alloc);
-    items.push(expression)?;
-    Ok(items)
-}
-
-/// A list of one part: that of an expression at once.
-fn list_of_one(
-    alloc: Global,
-    span: Span,
-    part: Part,
-    room: &mut Stack<Part>,
-) -> Result<Part, AllocError>
-    ensures { IfOk result (λ made. made ≡ making.make Label.First span (part ∷ [])) }
-{
-    match part {
-        Part::Expression(expression) => Ok(Part::Expressions(one_expression(alloc, expression)?)),
-        part => make_in_room(alloc, Label::First, span, part, room),
-    }
-}
-
-/// What a production makes of one part.
-fn make_of_one(
+/// Puts what a production makes of one part in the place of that part's phrase, in the way of all productions.
+#[inline(never)]
+fn remade_in_room(
     alloc: Global,
     label: Label,
-    span: Span,
-    part: Part,
+    value: &mut Phrase<Part>,
     room: &mut Stack<Part>,
-) -> Result<Part, AllocError>
-    ensures { IfOk result (λ made. made ≡ making.make label span (part ∷ [])) }
+) -> Result<(), AllocError>
+    ensures { IfOk result (λ _. value.new ≡ made label (Some (extent_of value.old)) (value.old.part ∷ [])) }
 {
-    match label {
-        Label::Name(label) => name_of_one(alloc, label, span, part, room),
-        Label::Expression(label) => expression_of_one(alloc, label, span, part, room),
-        Label::First => list_of_one(alloc, span, part, room),
-        label => make_in_room(alloc, label, span, part, room),
-    }
+    let depth = deeper(label, value.depth)?;
+    let severity = severity_alone_failed(label, &value.part);
+    let part = mem::replace(&mut value.part, Part::Absent);
+    let part = make_in_room(alloc, label, value.span, part, room)?;
+    let failure = failure_at(value.last, severity, made_failed(label, &part));
+    put(&mut value.part, part);
+    value.failure = first_failure(value.failure, failure);
+    value.depth = depth;
+    Ok(())
 }
 
 /// Puts what a production makes of one part in the place of that part's phrase.
@@ -130,13 +181,8 @@ pub(crate) fn remade(
 ) -> Result<(), AllocError>
     ensures { IfOk result (λ _. value.new ≡ made label (Some (extent_of value.old)) (value.old.part ∷ [])) }
 {
-    let depth = deeper(label, value.depth)?;
-    let severity = severity_alone_failed(label, &value.part);
-    let part = mem::replace(&mut value.part, Part::Absent);
-    let part = make_of_one(alloc, label, value.span, part, room)?;
-    let failure = failure_at(value.last, severity, made_failed(label, &part));
-    drop(mem::replace(&mut value.part, part));
-    value.failure = first_failure(value.failure, failure);
-    value.depth = depth;
-    Ok(())
+    if made_in_place(alloc, label, value)? {
+        return Ok(());
+    }
+    remade_in_room(alloc, label, value, room)
 }

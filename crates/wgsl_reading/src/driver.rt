@@ -2,8 +2,8 @@
 
 ghost use Rattle.std.specs.Prelude.{◌≡◌, ◌<◌, ◌+◌, ◌∷◌, [], true, Some, None, if◌then◌else◌, IfOk, MatchOption};
 ghost use Rattle.wgsl_phrases.specs.declared.phrase.Phrase as declared_phrase;
-ghost use Rattle.wgsl_shift_reduce.specs.Runs.{PassesOn};
-ghost use Rattle.wgsl_reading.specs.Phrases.{grammar, import_nests, made, name_nests, nests, number};
+ghost use Rattle.wgsl_shift_reduce.specs.Runs.{PassesKept};
+ghost use Rattle.wgsl_reading.specs.Phrases.{grammar, import_nests, made, name_nests, nests, number, IsKept};
 
 use crate::alone::remade;
 use crate::failure::{failure_at, made_failed, severity_failed};
@@ -135,11 +135,13 @@ impl Driver for Reader {
 
     type Room = Stack<Part>;
 
-    ghost use Rattle.wgsl_reading.specs.Phrases.{grammar, tables_of};
+    ghost use Rattle.wgsl_reading.specs.Phrases.{grammar, tables_of, IsKept};
 
     ghost grammar = { grammar };
 
     ghost tables = { λ r. tables_of r.start };
+
+    ghost kept = { IsKept };
 
     fn leaf(&self, token: SpannedTemplateToken) -> Phrase<Part> {
         let SpannedTemplateToken { token, span } = token;
@@ -199,16 +201,15 @@ impl Driver for Reader {
         Ok(true)
     }
 
-    /// A rule that passes its one symbol on changes nothing but that a check of what it passes on is made again, which can fail for
-    /// attributes and templates of `var` alone.
-    #[tactic(auto, using(crate::proofs::Passing::passes_on))]
-    fn passes_to(&self, rule: u16, part: &Phrase<Part>) -> Option<u16>
-        ensures { MatchOption result Unit (PassesOn grammar rule part.now) }
+    /// A check of what is passed on is made again, which can fail for attributes and templates of `var` alone.
+    fn is_kept(&self, part: &Phrase<Part>) -> bool {
+        made_failed(Label::Pass, &part.part).is_none()
+    }
+
+    #[tactic(auto, using(crate::proofs::Passing::passes_kept))]
+    fn passes_to(&self, rule: u16) -> Option<u16>
+        ensures { MatchOption result Unit (PassesKept grammar IsKept rule) }
     {
-        let left = passed_to(rule)?;
-        if made_failed(Label::Pass, &part.part).is_some() {
-            return None;
-        }
-        Some(left)
+        passed_to(rule)
     }
 }

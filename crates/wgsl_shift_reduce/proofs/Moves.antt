@@ -7,7 +7,7 @@ use Rattle.wgsl_shift_reduce.specs.Grammars.{phrase, Grammar}
 use Rattle.wgsl_shift_reduce.specs.Machine.{Tables, action, top, below_top, ahead, ahead_of, popped, Outcome, read, stops, Comes, shifted, reduced, accepted, stopped}
 use Rattle.wgsl_stack.specs.Tops.{first, with_first}
 use Rattle.wgsl_shift_reduce.proofs.Stacks.{some_is}
-use Rattle.wgsl_shift_reduce.specs.Runs.{IsShift, PassesOn, PassesBy, by_rule, Passes, stays, goes_on, IsSettled, IsReduction}
+use Rattle.wgsl_shift_reduce.specs.Runs.{IsShift, PassesBy, PassesKept, PassesKeptBy, by_rule, Passes, stays, goes_on, IsSettled, IsReduction}
 
 ahead_first : {T V : Type 0} (g : Grammar T V) (u : List T) → ahead_of g (first u) ≡ ahead g u
 ahead_first g [] = refl
@@ -17,9 +17,9 @@ ahead_first g (k ∷ u) = refl
 pub ahead_is : {T V : Type 0} (g : Grammar T V) (o : Option T) (u : List T) (c : ℕ) → c ≡ ahead_of g o → o ≡ first u → ahead g u ≡ c
 ahead_is g o u c is next = sym (is ∙ ap (λ j. ahead_of g j) next ∙ ahead_first g u)
 
-pub by_action : {T V : Type 0} (g : Grammar T V) (act : Action) (p : ℕ) (x : V) (o : Option ℕ) → act ≡ Reduce p → MatchOption o Unit (PassesOn g p x) → MatchOption o Unit (PassesBy g act x)
-by_action g act p x None is h = tt
-by_action g act p x (Some left) is h = subst (λ k. PassesBy g k x left) (sym is) (by_rule p h)
+pub by_action : {T V : Type 0} (g : Grammar T V) (kept : V → Type 0) (act : Action) (p : ℕ) (o : Option ℕ) → act ≡ Reduce p → MatchOption o Unit (PassesKept g kept p) → MatchOption o Unit (PassesKeptBy g kept act)
+by_action g kept act p None is h = tt
+by_action g kept act p (Some left) is h = λ x k. subst (λ n. PassesBy g n x left) (sym is) (by_rule p (h x k))
 
 one_popped : {V : Type 0} (n : ℕ) (e : Entry V) (es : List (Entry V)) → n ≡ 1 → popped n (e ∷ es) [] ≡ (es, e.value ∷ [])
 one_popped n e es is = ap (λ k. popped k (e ∷ es) []) is

@@ -35,9 +35,16 @@ pub record PassesOn {T V : Type 0} (g : Grammar T V) (p : ℕ) (x : V) (left : �
   pub alone : length rule.right ≡ 1
   pub stays : g.make p (x ∷ []) ≡ x
 
+-- It does so of each tree that is kept.
+abbrev pub PassesKept : {T V : Type 0} → Grammar T V → (V → Type 0) → ℕ → ℕ → Type 0
+PassesKept {V = V} g kept p left = (x : V) → kept x → PassesOn g p x left
+
 -- An action reduces by such a rule.
 pub data PassesBy {T V : Type 0} (g : Grammar T V) : Action → V → ℕ → Type 0 where
   by_rule : {x : V} {left : ℕ} (p : ℕ) → PassesOn g p x left → PassesBy g (Reduce p) x left
+
+abbrev pub PassesKeptBy : {T V : Type 0} → Grammar T V → (V → Type 0) → Action → ℕ → Type 0
+PassesKeptBy {V = V} g kept act left = (x : V) → kept x → PassesBy g act x left
 
 -- A symbol with this tree, above a state and before what stands ahead, is passed on from one state that it leads to to another.
 pub data Passes {T V : Type 0} (g : Grammar T V) (a : Tables) (below ahead : ℕ) (x : V) : ℕ → ℕ → Type 0 where

@@ -1,10 +1,10 @@
 //! The parser: it shifts tokens and reduces what it has read, by the tables of a driver.
 
-ghost use Rattle.std.specs.Prelude.{◌≡◌, [], ◌∷◌, length, Some, IfOk, IsTrue, MatchOption};
+ghost use Rattle.std.specs.Prelude.{◌≡◌, [], ◌∷◌, length, true, Some, IfOk, MatchOption};
 ghost use Rattle.std.specs.Option.{option_copied};
 ghost use Rattle.wgsl_shift_reduce.specs.Grammars.{Rule, Grammar, phrase};
 ghost use Rattle.wgsl_shift_reduce.specs.Machine.{Tables, action, top, below_top, ahead_of};
-ghost use Rattle.wgsl_shift_reduce.specs.Runs.{IsShift, IsMade, PassesOn, PassesBy, Passes, IsRemade, IsSettled, IsReduction, Remakes, Advances, Said};
+ghost use Rattle.wgsl_shift_reduce.specs.Runs.{IsShift, IsMade, PassesKept, PassesKeptBy, Passes, IsRemade, IsSettled, IsReduction, Remakes, Advances, Said};
 
 use std::alloc::{AllocError, Global};
 use wgsl_stack::Stack;
@@ -83,6 +83,9 @@ pub trait Driver {
 
     ghost tables: { Self → Tables };
 
+    /// What is known of a tree that is kept by rules which make nothing new of it.
+    ghost kept: { Self.Value → Type 0 };
+
     /// The tree of a token.
     fn leaf(&self, token: Self::Token) -> Self::Value
         ensures { result ≡ grammar.leaf token };
@@ -126,9 +129,13 @@ pub trait Driver {
     ) -> Result<bool, AllocError>
         ensures { IfOk result (IsRemade grammar rule value.old value.new) };
 
-    /// The nonterminal of a rule of one symbol that is known to make its tree of this one as it stands. It needs no memory then.
-    fn passes_to(&self, rule: u16, part: &Self::Value) -> Option<u16>
-        ensures { MatchOption result Unit (PassesOn grammar rule part.now) };
+    /// Whether rules that make nothing new of their one symbol keep this tree as it stands.
+    fn is_kept(&self, part: &Self::Value) -> bool
+        ensures { result ≡ true → kept part.now };
+
+    /// The nonterminal of a rule of one symbol that makes its tree of that one as it stands, if it is kept. It needs no memory then.
+    fn passes_to(&self, rule: u16) -> Option<u16>
+        ensures { MatchOption result Unit (PassesKept grammar kept rule) };
 }
 
 /// The state that a parser is in, which began in the first.
@@ -169,12 +176,12 @@ fn state_below<V>(from: u16, stack: &Stack<Entry<V>>) -> u16
     }
 }
 
-/// The nonterminal that a symbol is passed on to by this action, if its tree stays as it stands.
-fn passes_by<D: Driver>(driver: &D, action: Action, part: &D::Value) -> Option<u16>
-    ensures { MatchOption result Unit (PassesBy D.grammar action part.now) }
+/// The nonterminal that a symbol is passed on to by this action, if its tree is kept.
+fn passes_by<D: Driver>(driver: &D, action: Action) -> Option<u16>
+    ensures { MatchOption result Unit (PassesKeptBy D.grammar D.kept action) }
 {
     match action {
-        Action::Reduce(rule) => driver.passes_to(rule, part),
+        Action::Reduce(rule) => driver.passes_to(rule),
         _ => None,
     }
 }
@@ -186,7 +193,8 @@ struct Next {
     action: Action,
 }
 
-/// Passes a symbol on as long as its tree stays as it stands: above a state, from the state that it led to, before what stands ahead.
+/// Passes a symbol with a tree that is kept on as long as its tree stays as it stands: above a state, from the state that it led to,
+/// before what stands ahead.
 fn settle<D: Driver>(
     driver: &D,
     below: u16,
@@ -194,13 +202,14 @@ fn settle<D: Driver>(
     from: u16,
     ahead: u16,
 ) -> Result<Next, AllocError>
+    requires { D.kept part.now }
     ensures passes { IfOk result (λ s. Passes D.grammar (D.tables driver.now) below ahead part.now from s.state) }
     ensures action { IfOk result (λ s. s.action ≡ action (D.tables driver.now) s.state ahead) }
 {
     let mut state = from;
     for _step in 0..STEPS_PER_TOKEN {
         let action = driver.action(state, ahead);
-        let Some(left) = passes_by(driver, action, part) else {
+        let Some(left) = passes_by(driver, action) else {
             return Ok(Next { state, action });
         };
         let Some(to) = driver.state_behind(below, left) else {
@@ -224,6 +233,9 @@ fn settled<D: Driver>(
     let Some(entry) = stack.top_mut() else {
         return Ok(driver.action(from, ahead));
     };
+    if !driver.is_kept(&entry.value) {
+        return Ok(driver.action(entry.state, ahead));
+    }
     let Next { state, action } = settle(driver, below, &entry.value, entry.state, ahead)?;
     entry.state = state;
     Ok(action)
@@ -255,6 +267,26 @@ fn remade<D: Driver>(
     Ok(true)
 }
 
+/// Makes a phrase of as many symbols as the rule of this shape has. It is a call of its own, since its locals are large.
+#[inline(never)]
+fn reduce_several<D: Driver>(
+    driver: &D,
+    from: u16,
+    rule: u16,
+    shape: Shape,
+    stack: &mut Stack<Entry<D::Value>>,
+    room: &mut D::Room,
+) -> Result<(), AllocError>
+    requires { (q : Rule) × (D.grammar.rule rule ≡ Some q) × (q.left ≡ shape.left) × (length q.right ≡ shape.length) }
+    ensures { IfOk result (λ _. IsReduction D.grammar (D.tables driver.now) from rule stack.old stack.new) }
+{
+    let value = driver.make(rule, shape.length, stack, room)?;
+    let Some(to) = driver.state_behind(state_of(from, stack), shape.left) else {
+        return Err(AllocError);
+    };
+    stack.push(Entry { state: to, value })
+}
+
 /// Makes a phrase of the uppermost symbols.
 fn reduce<D: Driver>(
     driver: &D,
@@ -271,11 +303,7 @@ fn reduce<D: Driver>(
     if shape.length == 1 && remade(driver, from, rule, shape.left, stack, room)? {
         return Ok(());
     }
-    let value = driver.make(rule, shape.length, stack, room)?;
-    let Some(to) = driver.state_behind(state_of(from, stack), shape.left) else {
-        return Err(AllocError);
-    };
-    stack.push(Entry { state: to, value })
+    reduce_several(driver, from, rule, shape, stack, room)
 }
 
 /// One step.
