@@ -9,7 +9,7 @@ use crate::error::PrecompileError;
 use crate::print::print_back;
 use std::alloc::Global;
 use wesl_cond::{CondCompError, Features, run};
-use wgsl_declarations::TranslationUnit;
+use wgsl_declarations::{TranslationUnit, let_go};
 use wgsl_parser::{Error, ErrorKind, parse_str};
 
 /// Fixes the flags of a module.
@@ -62,7 +62,11 @@ pub fn precompile(alloc: Global, text: &str, features: &Features) -> Result<Stri
     ensures { Precompiles features.now text.now result }
 {
     match parse_str(alloc, text) {
-        Ok(mut unit) => left_text(alloc, &mut unit, features, text),
+        Ok(mut unit) => {
+            let left = left_text(alloc, &mut unit, features, text);
+            let_go(unit);
+            left
+        }
         Err(error) => Err(refusal(error)),
     }
 }

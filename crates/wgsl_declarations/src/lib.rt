@@ -13,5 +13,5 @@ pub use declaration::{
     FormalParameter, Function, GlobalDeclaration, GlobalDeclarationNode, Struct, StructMember,
     StructMemberNode, TypeAlias,
 };
-pub use list::retain_declarations;
+pub use list::{let_go, retain_declarations};
 pub use unit::TranslationUnit;

@@ -5,6 +5,7 @@ ghost use Rattle.std.specs.Fn.{CalledAt};
 ghost use Rattle.std.specs.List.Retain.{IsFiltered};
 
 use crate::declaration::GlobalDeclarationNode;
+use crate::unit::TranslationUnit;
 use wgsl_items::Items;
 
 /// Keeps, in order, the declarations at which the closure returns `true`, and drops the others.
@@ -16,4 +17,9 @@ pub fn retain_declarations<F: FnMut(&GlobalDeclarationNode) -> bool>(
     ensures { IsFiltered (CalledAt F.FnMut) f declarations.old declarations.new }
 {
     declarations.retain(f);
+}
+
+/// Drops a module. What drops its modules by this call alone need not prove the drop of all trees again.
+pub fn let_go(unit: TranslationUnit) {
+    drop(unit);
 }

@@ -9,8 +9,8 @@ use Rattle.wgsl_template_spec.specs.declared.token.SpannedTemplateToken.{Spanned
 use Rattle.wgsl_template_spec.specs.Tokens.{IsLexed}
 use Rattle.wgsl_template_spec.proofs.Once.{lexed_once}
 use Rattle.wgsl_declarations.specs.declared.unit.TranslationUnit.{TranslationUnit}
-use Rattle.wgsl_phrases.specs.declared.phrase.Check.{Check}
-use Rattle.wgsl_phrases.specs.declared.phrase.Check.TheVariants as check
+use Rattle.wgsl_reading.specs.declared.phrase.Check.{Check}
+use Rattle.wgsl_reading.specs.declared.phrase.Check.TheVariants as check
 use Rattle.wgsl_reading.specs.declared.driver.Start.TheVariants.{Module}
 use Rattle.wgsl_reading.specs.declared.answer.Unread.{Unread}
 use Rattle.wgsl_reading.specs.declared.answer.Unread.TheVariants.{OutOfMemory, Failed, Unexpected}

@@ -6,8 +6,8 @@ use Rattle.wgsl_token.specs.declared.token.Token.TheVariants as t
 use Rattle.wgsl_template_spec.specs.declared.token.TemplateToken.{TemplateToken}
 use Rattle.wgsl_template_spec.specs.declared.token.TemplateToken.TheVariants.{Plain}
 use Rattle.wgsl_template_spec.specs.declared.token.SpannedTemplateToken.{SpannedTemplateToken}
-use Rattle.wgsl_phrases.specs.declared.phrase.Check.{Check}
-use Rattle.wgsl_phrases.specs.declared.phrase.Check.TheVariants as check
+use Rattle.wgsl_reading.specs.declared.phrase.Check.{Check}
+use Rattle.wgsl_reading.specs.declared.phrase.Check.TheVariants as check
 use Rattle.wgsl_reading.specs.declared.answer.Unread.{Unread}
 use Rattle.wgsl_reading.specs.declared.answer.Unread.TheVariants.{OutOfMemory, Failed, Unexpected}
 use Rattle.wgsl_error.specs.declared.error.ErrorKind.{ErrorKind}

@@ -5,8 +5,7 @@ ghost use Rattle.wgsl_parser.specs.Errors as errors;
 
 use wgsl_error::{Error, ErrorKind};
 use wgsl_path::Span;
-use wgsl_phrases::Check;
-use wgsl_reading::Unread;
+use wgsl_reading::{Check, Unread};
 use wgsl_template_spec::{SpannedTemplateToken, TemplateToken};
 use wgsl_token::{Fixed, Token};
 

@@ -8,7 +8,7 @@ ghost use Rattle.wgsl_parser.specs.Texts.{Parses, ParsesModule, ParsesTokens, Te
 use crate::error::error_of;
 use crate::take::{declaration, directive, expression, import, kind, module, statement};
 use std::alloc::{AllocError, Global};
-use wgsl_declarations::{GlobalDeclarationNode, TranslationUnit};
+use wgsl_declarations::{GlobalDeclarationNode, TranslationUnit, let_go};
 use wgsl_error::Error;
 use wgsl_expressions::ExpressionNode;
 use wgsl_imports::{GlobalDirective, ImportStatement};
@@ -16,8 +16,9 @@ use wgsl_items::Items;
 use wgsl_parts::Part;
 use wgsl_reading::{Start, read};
 use wgsl_simple_statements::DeclarationKind;
+use wgsl_stack::Queue;
 use wgsl_statements::StatementNode;
-use wgsl_template_lexer::lexer::lex;
+use wgsl_template_lexer::lexer::lex_queue;
 use wgsl_template_spec::SpannedTemplateToken;
 
 /// The part that tokens of a text of this length stand for.
@@ -25,7 +26,7 @@ fn part_of(
     alloc: Global,
     start: Start,
     length: usize,
-    tokens: Items<SpannedTemplateToken>,
+    tokens: Queue<SpannedTemplateToken>,
 ) -> Result<Part, Error>
     ensures { ParsesTokens start length tokens result }
 {
@@ -39,7 +40,7 @@ fn part_of(
 fn parse(alloc: Global, start: Start, text: &str) -> Result<Part, Error>
     ensures { Parses start (λ x. x) text.now result }
 {
-    match lex(alloc, text) {
+    match lex_queue(alloc, text) {
         Ok(tokens) => part_of(alloc, start, text.len(), tokens),
         Err(AllocError) => Err(Error::out_of_memory()),
     }
@@ -127,7 +128,7 @@ pub fn parse_declaration_kind(alloc: Global, text: &str) -> Result<DeclarationKi
 fn module_of(
     alloc: Global,
     length: usize,
-    tokens: Items<SpannedTemplateToken>,
+    tokens: Queue<SpannedTemplateToken>,
 ) -> Result<TranslationUnit, Error>
     ensures { TellsModule length tokens result }
 {
@@ -152,7 +153,7 @@ fn module_of(
 pub fn parse_str(alloc: Global, text: &str) -> Result<TranslationUnit, Error>
     ensures { ParsesModule text.now result }
 {
-    match lex(alloc, text) {
+    match lex_queue(alloc, text) {
         Ok(tokens) => module_of(alloc, text.len(), tokens),
         Err(AllocError) => Err(Error::out_of_memory()),
     }
@@ -163,6 +164,11 @@ pub fn check_str(alloc: Global, text: &str) -> Result<(), Error>
     ensures module { OnOk result ((unit : TranslationUnit) × ParsesModule text.now (Ok unit)) }
     ensures fault { IfErr result (λ e. ParsesModule text.now (Err e)) }
 {
-    let _unit = parse_str(alloc, text)?;
-    Ok(())
+    match parse_str(alloc, text) {
+        Ok(unit) => {
+            let_go(unit);
+            Ok(())
+        }
+        Err(error) => Err(error),
+    }
 }

@@ -18,7 +18,7 @@ pub use label::{
     AttributeLabel, ClauseLabel, DeclarationLabel, DirectiveLabel, ExpressionLabel, ImportLabel,
     Label, NameLabel, PlainLabel, StatementLabel, ValueLabel,
 };
-pub use list::{make_first, make_more, pass};
+pub use list::{make_first, make_more, one, pass};
 pub use name::make_name;
 pub use part::{FunctionResult, Part, QualifiedName, TypedName};
 pub use plain::make_plain;

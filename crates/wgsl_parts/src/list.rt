@@ -21,7 +21,8 @@ pub fn pass(parts: &mut Stack<Part>) -> Result<Part, AllocError>
     }
 }
 
-fn one<T: Drop>(alloc: Global, item: T) -> Result<Items<T>, AllocError>
+/// A list of one element.
+pub fn one<T: Drop>(alloc: Global, item: T) -> Result<Items<T>, AllocError>
     ensures { IfOk result (λ items. items ≡ item ∷ []) }
 {
     let mut items = Items::new(alloc);

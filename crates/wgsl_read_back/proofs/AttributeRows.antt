@@ -31,7 +31,7 @@ use Rattle.wgsl_parts.specs.declared.part.Part.TheVariants as part
 use Rattle.wgsl_parts.specs.declared.label.Label.{Label}
 use Rattle.wgsl_parts.specs.declared.label.Label.TheVariants as l
 use Rattle.wgsl_parts.specs.declared.label.AttributeLabel.TheVariants as label
-use Rattle.wgsl_phrases.specs.declared.phrase.Phrase.{Phrase}
+use Rattle.wgsl_reading.specs.declared.phrase.Phrase.{Phrase}
 use Rattle.wgsl_make.specs.Attributes as make
 use Rattle.wgsl_make.specs.Attributes.{checked}
 use Rattle.wgsl_parts.specs.Lists as lists

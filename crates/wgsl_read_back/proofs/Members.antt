@@ -25,7 +25,7 @@ use Rattle.wgsl_parts.specs.declared.part.Part.{Part}
 use Rattle.wgsl_parts.specs.declared.part.Part.TheVariants as part
 use Rattle.wgsl_parts.specs.declared.label.Label.TheVariants as l
 use Rattle.wgsl_parts.specs.declared.label.DeclarationLabel.TheVariants as label
-use Rattle.wgsl_phrases.specs.declared.phrase.Phrase.{Phrase}
+use Rattle.wgsl_reading.specs.declared.phrase.Phrase.{Phrase}
 use Rattle.wgsl_make.specs.Declarations as make
 use Rattle.wgsl_parts.specs.Lists as lists
 use Rattle.wgsl_reading.specs.Failures.{made_failed}

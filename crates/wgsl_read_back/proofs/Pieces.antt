@@ -14,8 +14,8 @@ use Rattle.wgsl_parts.specs.declared.part.Part.{Part}
 use Rattle.wgsl_parts.specs.declared.part.Part.TheVariants.{Absent}
 use Rattle.wgsl_parts.specs.declared.label.Label.{Label}
 use Rattle.wgsl_parts.specs.declared.label.Label.TheVariants as l
-use Rattle.wgsl_phrases.specs.declared.phrase.Phrase.{Phrase}
-use Rattle.wgsl_phrases.specs.Gathering.{chosen}
+use Rattle.wgsl_reading.specs.declared.phrase.Phrase.{Phrase}
+use Rattle.wgsl_reading.specs.Gathering.{chosen}
 use Rattle.wgsl_make.specs.Making as making
 use Rattle.wgsl_reading.specs.Phrases.{grammar}
 use Rattle.wgsl_reading.specs.Failures.{severity_failed, made_failed}

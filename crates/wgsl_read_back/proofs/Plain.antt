@@ -39,7 +39,7 @@ use Rattle.wgsl_parts.specs.declared.label.ExpressionLabel.TheVariants as elabel
 use Rattle.wgsl_parts.specs.declared.label.PlainLabel.{PlainLabel}
 use Rattle.wgsl_parts.specs.declared.label.PlainLabel.TheVariants as label
 use Rattle.wgsl_parts.specs.declared.label.StatementLabel.TheVariants as slabel
-use Rattle.wgsl_phrases.specs.declared.phrase.Phrase.{Phrase}
+use Rattle.wgsl_reading.specs.declared.phrase.Phrase.{Phrase}
 use Rattle.wgsl_parts.specs.Making as emake
 use Rattle.wgsl_parts.specs.Values as make
 use Rattle.wgsl_make.specs.Statements as smake

@@ -15,7 +15,7 @@ use Rattle.wgsl_shift_reduce.specs.Laws.{IsRead}
 use Rattle.wgsl_shift_reduce.proofs.Whole.{trees_are_unique}
 use Rattle.wgsl_tables.specs.Listed.{account}
 use Rattle.wgsl_parts.specs.declared.part.Part.{Part}
-use Rattle.wgsl_phrases.specs.declared.phrase.Phrase.{Phrase}
+use Rattle.wgsl_reading.specs.declared.phrase.Phrase.{Phrase}
 use Rattle.wgsl_grammar_tables.specs.Decoded.{listed}
 use Rattle.wgsl_grammar_tables.specs.Starts.{start}
 use Rattle.wgsl_grammar_tables.proofs.Fits.{tables_fit}

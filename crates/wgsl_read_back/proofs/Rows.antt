@@ -12,11 +12,11 @@ use Rattle.wgsl_shift_reduce.specs.Grammars.{Symbol, phrase, Derives, Row, done,
 use Rattle.wgsl_parts.specs.declared.part.Part.{Part}
 use Rattle.wgsl_parts.specs.declared.part.Part.TheVariants.{Absent}
 use Rattle.wgsl_parts.specs.declared.label.Label.{Label}
-use Rattle.wgsl_phrases.specs.declared.phrase.Phrase.{Phrase}
-use Rattle.wgsl_phrases.specs.declared.phrase.Check.{Check}
-use Rattle.wgsl_phrases.specs.declared.phrase.Failure.{Failure}
-use Rattle.wgsl_phrases.specs.declared.gather.Extent.{Extent}
-use Rattle.wgsl_phrases.specs.Gathering.{either, joined, extent_of, extent_from, chosen}
+use Rattle.wgsl_reading.specs.declared.phrase.Phrase.{Phrase}
+use Rattle.wgsl_reading.specs.declared.phrase.Check.{Check}
+use Rattle.wgsl_reading.specs.declared.phrase.Failure.{Failure}
+use Rattle.wgsl_reading.specs.declared.gather.Extent.{Extent}
+use Rattle.wgsl_reading.specs.Gathering.{either, joined, extent_of, extent_from, chosen}
 use Rattle.wgsl_make.specs.Making as making
 use Rattle.wgsl_reading.specs.Phrases.{grammar, made}
 use Rattle.wgsl_reading.specs.Failures.{failure_at, first_check, severity_failed, made_failed, failure_in}

@@ -30,9 +30,9 @@ use Rattle.wgsl_parts.specs.Reading.{attributes_of, expression_in}
 use Rattle.wgsl_parts.specs.declared.part.Part.{Part}
 use Rattle.wgsl_parts.specs.declared.label.Label.TheVariants as l
 use Rattle.wgsl_parts.specs.declared.label.StatementLabel.TheVariants as label
-use Rattle.wgsl_phrases.specs.declared.phrase.Phrase.{Phrase}
+use Rattle.wgsl_reading.specs.declared.phrase.Phrase.{Phrase}
 use Rattle.wgsl_reading.specs.Phrases.{grammar}
-use Rattle.wgsl_phrases.specs.Gathering.{either}
+use Rattle.wgsl_reading.specs.Gathering.{either}
 use Rattle.wgsl_make.specs.Reading.{statement_in, else_in, continuing_in, statements_of, else_ifs_of}
 use Rattle.wgsl_make.specs.Statements as make
 use Rattle.wgsl_grammar_tables.specs.Classes.{fixed_class}

@@ -54,7 +54,7 @@ use Rattle.wgsl_parts.specs.declared.part.FunctionResult.{FunctionResult}
 use Rattle.wgsl_parts.specs.declared.part.QualifiedName.{QualifiedName}
 use Rattle.wgsl_parts.specs.declared.part.Part.{Part}
 use Rattle.wgsl_parts.specs.declared.part.Part.TheVariants as part
-use Rattle.wgsl_leaves.specs.Leaves.{leaf}
+use Rattle.wgsl_reading.specs.Leaves.{leaf}
 
 pub data View : Type 0 where
   token : TemplateToken → View

@@ -14,8 +14,8 @@ use Rattle.wgsl_grammar_tables.proofs.Fits.{tables_fit}
 use Rattle.wgsl_grammar_tables.proofs.Read.{from_is}
 use Rattle.wgsl_grammar_tables.proofs.Examples as examples
 use Rattle.wgsl_parts.specs.declared.part.Part.{Part}
-use Rattle.wgsl_phrases.specs.declared.phrase.Phrase.{Phrase}
-use Rattle.wgsl_phrases.specs.declared.phrase.Failure.{Failure}
+use Rattle.wgsl_reading.specs.declared.phrase.Phrase.{Phrase}
+use Rattle.wgsl_reading.specs.declared.phrase.Failure.{Failure}
 use Rattle.wgsl_reading.specs.declared.driver.Start.{Start as From}
 use Rattle.wgsl_reading.specs.declared.driver.Start.TheVariants.{Module, Expression, Statement, Declaration, Directive, Import, Kind}
 use Rattle.wgsl_reading.specs.declared.answer.Unread.{Unread}

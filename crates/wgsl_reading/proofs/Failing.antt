@@ -1,7 +1,7 @@
 -- The first of failures.
 use Rattle.std.proofs.Common.{◌≡◌, refl, Option, Some, None}
-use Rattle.wgsl_phrases.specs.declared.phrase.Failure.{Failure}
-use Rattle.wgsl_phrases.specs.Gathering.{either}
+use Rattle.wgsl_reading.specs.declared.phrase.Failure.{Failure}
+use Rattle.wgsl_reading.specs.Gathering.{either}
 
 pub either_either : (a b c : Option Failure) → either (either a b) c ≡ either a (either b c)
 either_either None b c = refl

@@ -4,8 +4,8 @@ use Rattle.wgsl_template_spec.specs.declared.token.SpannedTemplateToken.{Spanned
 use Rattle.wgsl_stack.specs.Tops.{first}
 use Rattle.wgsl_shift_reduce.specs.Machine.{Outcome, read, stops, no_memory, Comes}
 use Rattle.wgsl_parts.specs.declared.part.Part.{Part}
-use Rattle.wgsl_phrases.specs.declared.phrase.Phrase.{Phrase}
-use Rattle.wgsl_phrases.specs.declared.phrase.Failure.{Failure}
+use Rattle.wgsl_reading.specs.declared.phrase.Phrase.{Phrase}
+use Rattle.wgsl_reading.specs.declared.phrase.Failure.{Failure}
 use Rattle.wgsl_reading.specs.declared.driver.Start.{Start as From}
 use Rattle.wgsl_reading.specs.declared.answer.Unread.{Unread}
 use Rattle.wgsl_reading.specs.declared.answer.Unread.TheVariants.{OutOfMemory, Failed, Unexpected}

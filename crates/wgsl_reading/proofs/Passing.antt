@@ -3,10 +3,10 @@ use Rattle.std.proofs.Common.{◌≡◌, ◌∙◌, ap, ℕ, [], ◌∷◌, Opti
 use Rattle.wgsl_parts.specs.declared.part.Part.{Part}
 use Rattle.wgsl_parts.specs.declared.part.Part.TheVariants.{Absent}
 use Rattle.wgsl_parts.specs.declared.label.Label.TheVariants as l
-use Rattle.wgsl_phrases.specs.declared.phrase.Failure.{Failure}
-use Rattle.wgsl_phrases.specs.declared.phrase.Phrase.{Phrase}
-use Rattle.wgsl_phrases.specs.Gathering.{either, extent_from, chosen}
-use Rattle.wgsl_grammar_tables.specs.Labels.{label_at, pattern_at}
+use Rattle.wgsl_reading.specs.declared.phrase.Failure.{Failure}
+use Rattle.wgsl_reading.specs.declared.phrase.Phrase.{Phrase}
+use Rattle.wgsl_reading.specs.Gathering.{either, extent_from, chosen}
+use Rattle.wgsl_grammar_tables.specs.Labels.{pattern_at}
 use Rattle.wgsl_grammar_tables.specs.PassedOn.{IsPassedTo}
 use Rattle.wgsl_reading.specs.Failures.{failure_at, first_check, made_failed}
 use Rattle.wgsl_shift_reduce.specs.Runs.{PassesOn, PassesKept}

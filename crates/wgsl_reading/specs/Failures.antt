@@ -20,9 +20,9 @@ use Rattle.wgsl_parts.specs.declared.label.Label.{Label}
 use Rattle.wgsl_parts.specs.declared.label.Label.TheVariants as l
 use Rattle.wgsl_parts.specs.declared.label.AttributeLabel.TheVariants.{VarIn}
 use Rattle.wgsl_parts.specs.declared.label.DirectiveLabel.TheVariants as directive
-use Rattle.wgsl_phrases.specs.declared.phrase.Check.{Check}
-use Rattle.wgsl_phrases.specs.declared.phrase.Check.TheVariants as check
-use Rattle.wgsl_phrases.specs.declared.phrase.Failure.{Failure}
+use Rattle.wgsl_reading.specs.declared.phrase.Check.{Check}
+use Rattle.wgsl_reading.specs.declared.phrase.Check.TheVariants as check
+use Rattle.wgsl_reading.specs.declared.phrase.Failure.{Failure}
 
 -- an attribute whose severity is none, or whose arguments are not its own
 abbrev pub unless_severity : Option DiagnosticSeverity → Check

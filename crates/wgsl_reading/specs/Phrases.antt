@@ -1,5 +1,5 @@
 -- The grammar: its rules, and what tokens and phrases stand for.
-use Rattle.std.specs.Prelude.{◌≡◌, ℕ, suc, Bool, true, false, if◌then◌else◌, List, [], ◌∷◌, Option, Some, None}
+use Rattle.std.specs.Prelude.{◌≡◌, ℕ, suc, Bool, true, false, if◌then◌else◌, List, Option, Some, None}
 use Rattle.wgsl_template_spec.specs.declared.token.SpannedTemplateToken.{SpannedTemplateToken}
 use Rattle.wgsl_shift_reduce.specs.Grammars.{Grammar}
 use Rattle.wgsl_shift_reduce.specs.Machine.{Tables}
@@ -16,10 +16,10 @@ use Rattle.wgsl_parts.specs.declared.label.NameLabel.{NameLabel}
 use Rattle.wgsl_parts.specs.declared.label.NameLabel.TheVariants as name
 use Rattle.wgsl_parts.specs.declared.label.ImportLabel.{ImportLabel}
 use Rattle.wgsl_parts.specs.declared.label.ImportLabel.TheVariants as imports
-use Rattle.wgsl_leaves.specs.Leaves as leaves
-use Rattle.wgsl_phrases.specs.declared.phrase.Phrase.{Phrase}
-use Rattle.wgsl_phrases.specs.declared.gather.Extent.{Extent}
-use Rattle.wgsl_phrases.specs.Gathering.{either, extent_from, chosen}
+use Rattle.wgsl_reading.specs.Leaves as leaves
+use Rattle.wgsl_reading.specs.declared.phrase.Phrase.{Phrase}
+use Rattle.wgsl_reading.specs.declared.gather.Extent.{Extent}
+use Rattle.wgsl_reading.specs.Gathering.{either, extent_from, chosen}
 use Rattle.wgsl_reading.specs.declared.driver.Start.{Start}
 use Rattle.wgsl_reading.specs.declared.driver.Start.TheVariants.{Module, Expression, Statement, Declaration, Directive, Import, Kind}
 use Rattle.wgsl_make.specs.Making as making

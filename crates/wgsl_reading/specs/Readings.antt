@@ -6,9 +6,9 @@ use Rattle.wgsl_shift_reduce.specs.declared.machine.Entry.{Entry}
 use Rattle.wgsl_shift_reduce.specs.Machine.{stops, Comes}
 use Rattle.wgsl_shift_reduce.specs.Laws.{IsRead, IsStopped}
 use Rattle.wgsl_parts.specs.declared.part.Part.{Part}
-use Rattle.wgsl_phrases.specs.declared.phrase.Phrase.{Phrase}
-use Rattle.wgsl_phrases.specs.declared.phrase.Failure.{Failure}
-use Rattle.wgsl_phrases.specs.Gathering.{either}
+use Rattle.wgsl_reading.specs.declared.phrase.Phrase.{Phrase}
+use Rattle.wgsl_reading.specs.declared.phrase.Failure.{Failure}
+use Rattle.wgsl_reading.specs.Gathering.{either}
 use Rattle.wgsl_grammar_tables.specs.Starts.{start}
 use Rattle.wgsl_reading.specs.declared.driver.Start.{Start as From}
 use Rattle.wgsl_reading.specs.declared.answer.Unread.{Unread}

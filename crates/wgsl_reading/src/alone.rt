@@ -3,20 +3,20 @@
 ghost use Rattle.std.specs.Prelude.{◌≡◌, ◌∷◌, [], Some, IfOk};
 ghost use Rattle.wgsl_make.specs.Making as making;
 ghost use Rattle.wgsl_parts.specs.declared.part.Part.TheVariants.{Absent};
-ghost use Rattle.wgsl_phrases.specs.Gathering.{extent_of};
+ghost use Rattle.wgsl_reading.specs.Gathering.{extent_of};
 ghost use Rattle.wgsl_reading.specs.Alone.{MakesAlone};
 ghost use Rattle.wgsl_reading.specs.Phrases.{made};
 
 use crate::driver::deeper;
 use crate::failure::{failure_at, made_failed, severity_alone_failed};
+use crate::gather::first_failure;
+use crate::phrase::Phrase;
 use std::alloc::{AllocError, Global};
 use std::mem;
-use wgsl_expressions::{Expression, ExpressionNode, TypeExpression};
-use wgsl_items::Items;
+use wgsl_expressions::{Expression, TypeExpression};
 use wgsl_make::make;
-use wgsl_parts::{ExpressionLabel, Label, NameLabel, Part, QualifiedName};
+use wgsl_parts::{ExpressionLabel, Label, NameLabel, Part, QualifiedName, one};
 use wgsl_path::{Span, Spanned};
-use wgsl_phrases::{Phrase, first_failure};
 use wgsl_stack::Stack;
 
 /// Puts a part where an absent one stands, which owns nothing and needs no drop.
@@ -94,24 +94,13 @@ fn expression_in_place(
     Ok(true)
 }
 
-fn one_expression(
-    alloc: Global,
-    expression: ExpressionNode,
-) -> Result<Items<ExpressionNode>, AllocError>
-    ensures { IfOk result (λ items. items ≡ expression ∷ []) }
-{
-    let mut items = Items::new(alloc);
-    items.push(expression)?;
-    Ok(items)
-}
-
 /// Makes a list of an expression in its place. Whether it did; if not, the phrase stays. No check of a list fails.
 fn list_in_place(alloc: Global, value: &mut Phrase<Part>) -> Result<bool, AllocError>
     ensures { IfOk result (MakesAlone Label.First value.old value.new) }
 {
     match mem::replace(&mut value.part, Part::Absent) {
         Part::Expression(expression) => {
-            let list = one_expression(alloc, expression)?;
+            let list = one(alloc, expression)?;
             put(&mut value.part, Part::Expressions(list));
             value.failure = first_failure(value.failure, None);
             Ok(true)

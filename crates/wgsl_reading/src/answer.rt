@@ -5,12 +5,12 @@ ghost use Rattle.wgsl_stack.specs.Tops.{first};
 ghost use Rattle.wgsl_reading.specs.Readings.{Reads, first_failed, passing, stopping};
 
 use crate::driver::{Reader, Start};
+use crate::gather::first_failure;
+use crate::phrase::{Failure, Phrase};
 use std::alloc::Global;
-use wgsl_items::Items;
 use wgsl_parts::Part;
-use wgsl_phrases::{Failure, Phrase, first_failure};
 use wgsl_shift_reduce::{Entry, Stopped, run};
-use wgsl_stack::Stack;
+use wgsl_stack::{Queue, Stack};
 use wgsl_template_spec::SpannedTemplateToken;
 
 /// Why nothing was read.
@@ -49,7 +49,7 @@ fn passed<P: Drop>(phrase: Phrase<P>) -> Result<P, Unread>
 }
 
 /// Why a parser stopped: a check that fails in what was read, or the next token.
-fn stopped<P: Drop>(stack: Stack<Entry<Phrase<P>>>, tokens: Stack<SpannedTemplateToken>) -> Unread
+fn stopped<P: Drop>(stack: Stack<Entry<Phrase<P>>>, tokens: Queue<SpannedTemplateToken>) -> Unread
     ensures { result ≡ stopping (first_failed stack) (first tokens) }
 {
     let mut tokens = tokens;
@@ -63,12 +63,11 @@ fn stopped<P: Drop>(stack: Stack<Entry<Phrase<P>>>, tokens: Stack<SpannedTemplat
 pub fn read(
     alloc: Global,
     start: Start,
-    tokens: Items<SpannedTemplateToken>,
+    tokens: Queue<SpannedTemplateToken>,
 ) -> Result<Part, Unread>
     ensures { Reads start tokens result }
 {
     let reader = Reader { alloc, start };
-    let tokens = Stack::from_vec(tokens.into_vec());
     match run(&reader, alloc, start.number(), tokens) {
         Ok(phrase) => passed(phrase),
         Err(Stopped::OutOfMemory) => Err(Unread::OutOfMemory),

@@ -1,19 +1,22 @@
 //! The driver of the parser.
 
 ghost use Rattle.std.specs.Prelude.{◌≡◌, ◌<◌, ◌+◌, ◌∷◌, [], true, Some, None, if◌then◌else◌, IfOk, MatchOption};
-ghost use Rattle.wgsl_phrases.specs.declared.phrase.Phrase as declared_phrase;
-ghost use Rattle.wgsl_shift_reduce.specs.Runs.{PassesKept};
+ghost use Rattle.wgsl_reading.specs.declared.phrase.Phrase as declared_phrase;
+ghost use Rattle.wgsl_shift_reduce.specs.Runs.{IsMade, PassesKept};
+ghost use Rattle.wgsl_grammar_tables.specs.Labels.{pattern_at};
 ghost use Rattle.wgsl_reading.specs.Phrases.{grammar, import_nests, made, name_nests, nests, number, IsKept};
 
 use crate::alone::remade;
 use crate::failure::{failure_at, made_failed, severity_failed};
+use crate::gather::{Extent, first_failure, gathered};
+use crate::leaf::leaf;
+use crate::phrase::Phrase;
 use std::alloc::{AllocError, Global};
+use std::mem;
 use wgsl_grammar_tables::class::class_of;
 use wgsl_grammar_tables::{drive, passed_to, rule_label, rule_pattern};
-use wgsl_leaves::leaf;
 use wgsl_make::make;
 use wgsl_parts::{ImportLabel, Label, NameLabel, Part};
-use wgsl_phrases::{Extent, Phrase, first_failure, gathered};
 use wgsl_shift_reduce::{Action, Driver, Entry, Shape};
 use wgsl_stack::Stack;
 use wgsl_template_spec::SpannedTemplateToken;
@@ -99,26 +102,62 @@ pub(crate) fn deeper(label: Label, depth: u32) -> Result<u32, AllocError>
     Ok(depth + 1)
 }
 
-/// What a production makes of its parts.
-fn made(
+/// Puts what a production makes of its parts in the place of a phrase.
+fn make_into(
     alloc: Global,
     label: Label,
     extent: Extent,
+    phrase: &mut Phrase<Part>,
     parts: &mut Stack<Part>,
-) -> Result<Phrase<Part>, AllocError>
-    ensures { IfOk result (λ x. x ≡ made label (Some extent) parts.old) }
+) -> Result<(), AllocError>
+    ensures { IfOk result (λ _. phrase.new ≡ made label (Some extent) parts.old) }
 {
     let depth = deeper(label, extent.depth)?;
     let severity = severity_failed(label, parts);
     let part = make(alloc, label, extent.span, parts)?;
     let failure = failure_at(extent.last, severity, made_failed(label, &part));
-    Ok(Phrase {
-        part,
-        span: extent.span,
-        last: extent.last,
-        failure: first_failure(extent.failure, failure),
-        depth,
-    })
+    drop(mem::replace(&mut phrase.part, part));
+    phrase.span = extent.span;
+    phrase.last = extent.last;
+    phrase.failure = first_failure(extent.failure, failure);
+    phrase.depth = depth;
+    Ok(())
+}
+
+/// Makes what a rule makes of so many symbols, in the place of the lowest of them.
+#[inline(never)]
+#[tactic(auto, using(crate::proofs::Making::several))]
+fn make_several(
+    alloc: Global,
+    rule: u16,
+    count: usize,
+    stack: &mut Stack<Entry<Phrase<Part>>>,
+    room: &mut Stack<Part>,
+) -> Result<(), AllocError>
+    ensures { IfOk result (λ _. IsMade grammar rule count stack.old stack.new) }
+{
+    let extent = gathered(rule_pattern(rule), count, stack, room)?;
+    let Some(entry) = stack.top_mut() else {
+        return Err(AllocError);
+    };
+    make_into(alloc, rule_label(rule), extent, &mut entry.value, room)
+}
+
+/// Makes what a rule makes of the part of one symbol alone, in its place.
+#[tactic(auto, using(crate::proofs::Making::alone))]
+fn make_alone(
+    alloc: Global,
+    rule: u16,
+    stack: &mut Stack<Entry<Phrase<Part>>>,
+    room: &mut Stack<Part>,
+) -> Result<(), AllocError>
+    requires { pattern_at rule ≡ 2 ∷ [] }
+    ensures { IfOk result (λ _. IsMade grammar rule 1 stack.old stack.new) }
+{
+    let Some(entry) = stack.top_mut() else {
+        return Err(AllocError);
+    };
+    remade(alloc, rule_label(rule), &mut entry.value, room)
 }
 
 /// Whether a pattern chooses one part and nothing else.
@@ -183,22 +222,11 @@ impl Driver for Reader {
         count: usize,
         stack: &mut Stack<Entry<Phrase<Part>>>,
         room: &mut Stack<Part>,
-    ) -> Result<Phrase<Part>, AllocError> {
-        let extent = gathered(rule_pattern(rule), count, stack, room)?;
-        made(self.alloc, rule_label(rule), extent, room)
-    }
-
-    fn remake(
-        &self,
-        rule: u16,
-        value: &mut Phrase<Part>,
-        room: &mut Stack<Part>,
-    ) -> Result<bool, AllocError> {
-        if !is_part_alone(rule_pattern(rule)) {
-            return Ok(false);
+    ) -> Result<(), AllocError> {
+        if count == 1 && is_part_alone(rule_pattern(rule)) {
+            return make_alone(self.alloc, rule, stack, room);
         }
-        remade(self.alloc, rule_label(rule), value, room)?;
-        Ok(true)
+        make_several(self.alloc, rule, count, stack, room)
     }
 
     /// A check of what is passed on is made again, which can fail for attributes and templates of `var` alone.

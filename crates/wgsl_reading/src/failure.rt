@@ -4,12 +4,12 @@ ghost use Rattle.std.specs.Prelude.{◌≡◌, ◌∷◌, []};
 ghost use Rattle.std.specs.Option.{option_copied};
 ghost use Rattle.wgsl_reading.specs.Failures as failures;
 
+use crate::phrase::{Check, Failure};
 use wgsl_attribute_words::{AttributeWord, severity_in, word_named};
 use wgsl_attributes::{Attribute, CustomAttribute};
 use wgsl_choices::severity;
 use wgsl_parts::{AttributeLabel, DirectiveLabel, Label, Part, Stack};
 use wgsl_path::Span;
-use wgsl_phrases::{Check, Failure};
 use wgsl_simple_statements::DeclarationKind;
 
 fn custom_failed(word: AttributeWord, attribute: &CustomAttribute) -> Check

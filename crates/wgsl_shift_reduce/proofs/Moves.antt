@@ -1,5 +1,5 @@
 -- Steps of the code, as steps of a run.
-use Rattle.std.proofs.Common.{◌≡◌, ◌∙◌, refl, sym, ap, subst, ℕ, List, [], ◌∷◌, length, Option, Some, None, MatchOption}
+use Rattle.std.proofs.Common.{◌≡◌, ◌∙◌, refl, sym, ap, subst, ℕ, suc, List, [], ◌∷◌, length, Option, Some, None, MatchOption}
 use Rattle.wgsl_shift_reduce.specs.declared.machine.Action.{Action}
 use Rattle.wgsl_shift_reduce.specs.declared.machine.Action.TheVariants.{Shift, Reduce, Accept, Stop}
 use Rattle.wgsl_shift_reduce.specs.declared.machine.Entry.{Entry}
@@ -7,15 +7,15 @@ use Rattle.wgsl_shift_reduce.specs.Grammars.{phrase, Grammar}
 use Rattle.wgsl_shift_reduce.specs.Machine.{Tables, action, top, below_top, ahead, ahead_of, popped, Outcome, read, stops, Comes, shifted, reduced, accepted, stopped}
 use Rattle.wgsl_stack.specs.Tops.{first, with_first}
 use Rattle.wgsl_shift_reduce.proofs.Stacks.{some_is}
-use Rattle.wgsl_shift_reduce.specs.Runs.{IsShift, PassesBy, PassesKept, PassesKeptBy, by_rule, Passes, stays, goes_on, IsSettled, IsReduction}
+use Rattle.wgsl_shift_reduce.specs.Runs.{IsShift, PassesBy, PassesKept, PassesKeptBy, by_rule, Passes, stays, goes_on, IsSettled, IsReduction, Leads}
 
 ahead_first : {T V : Type 0} (g : Grammar T V) (u : List T) → ahead_of g (first u) ≡ ahead g u
 ahead_first g [] = refl
 ahead_first g (k ∷ u) = refl
 
 -- what stands ahead of tokens is told of the first
-pub ahead_is : {T V : Type 0} (g : Grammar T V) (o : Option T) (u : List T) (c : ℕ) → c ≡ ahead_of g o → o ≡ first u → ahead g u ≡ c
-ahead_is g o u c is next = sym (is ∙ ap (λ j. ahead_of g j) next ∙ ahead_first g u)
+pub ahead_is : {T V : Type 0} (g : Grammar T V) (o : Option T) (u : List T) (c : ℕ) → c ≡ ahead_of g o → o ≡ first u → c ≡ ahead g u
+ahead_is g o u c is next = is ∙ ap (λ j. ahead_of g j) next ∙ ahead_first g u
 
 pub by_action : {T V : Type 0} (g : Grammar T V) (kept : V → Type 0) (act : Action) (p : ℕ) (o : Option ℕ) → act ≡ Reduce p → MatchOption o Unit (PassesKept g kept p) → MatchOption o Unit (PassesKeptBy g kept act)
 by_action g kept act p None is h = tt
@@ -73,17 +73,18 @@ module _ {T V : Type 0} (g : Grammar T V) (a : Tables) (from : ℕ) where
   acted : (c : ℕ) (es ms : List (Entry V)) (u : List T) {act so : Action} → IsSettled g a from c es ms act → ahead g u ≡ c → act ≡ so → action a (top from ms) (ahead g u) ≡ so
   acted c es ms u i is so = ap (action a (top from ms)) is ∙ sym i.acts ∙ so
 
-  pub shift_settled : (c to : ℕ) (es ms fs : List (Entry V)) (u v : List T) (act : Action) → IsSettled g a from c es ms act → ahead g u ≡ c → act ≡ Shift to → IsShift g to ms fs u v
-      → (r : Outcome V) (left : List T) → Comes g a from fs v r left → Comes g a from es u r left
-  shift_settled c to es ms fs u v act i is so h r left k = i.comes u left r is (shift_advances to ms fs u v (acted c es ms u i is so) h r left k)
+  pub shift_settled : (c to : ℕ) (es ms fs : List (Entry V)) (u v : List T) (act : Action) → IsSettled g a from c es ms act → c ≡ ahead g u → act ≡ Shift to → IsShift g to ms fs u v
+      → Leads g a from es fs u v × (length u ≡ suc (length v))
+  shift_settled c to es ms fs u v act i is so h =
+      ((λ r left k. i.comes u left r (sym is) (shift_advances to ms fs u v (acted c es ms u i (sym is) so) h r left k)), ap length h.taken)
 
-  pub reduce_settled : (c p : ℕ) (es ms fs : List (Entry V)) (u : List T) (act : Action) → IsSettled g a from c es ms act → ahead g u ≡ c → act ≡ Reduce p → IsReduction g a from p ms fs
-      → (r : Outcome V) (left : List T) → Comes g a from fs u r left → Comes g a from es u r left
-  reduce_settled c p es ms fs u act i is so h r left k = i.comes u left r is (reduce_advances p ms fs u (acted c es ms u i is so) h r left k)
+  pub reduce_settled : (c p : ℕ) (es ms fs : List (Entry V)) (u : List T) (act : Action) → IsSettled g a from c es ms act → c ≡ ahead g u → act ≡ Reduce p → IsReduction g a from p ms fs
+      → Leads g a from es fs u u × (u ≡ u)
+  reduce_settled c p es ms fs u act i is so h = ((λ r left k. i.comes u left r (sym is) (reduce_advances p ms fs u (acted c es ms u i (sym is) so) h r left k)), refl)
 
-  pub accept_settled : (c : ℕ) (es ms below : List (Entry V)) (e : Entry V) (u : List T) (act : Action) → IsSettled g a from c es ms act → ahead g u ≡ c → act ≡ Accept → ms ≡ e ∷ below
+  pub accept_settled : (c : ℕ) (es ms below : List (Entry V)) (e : Entry V) (u : List T) (act : Action) → IsSettled g a from c es ms act → c ≡ ahead g u → act ≡ Accept → ms ≡ e ∷ below
       → Comes g a from es u (read e.value) u
-  accept_settled c es ms below e u act i is so put = i.comes u u (read e.value) is (accept_reads ms below e u put (acted c es ms u i is so))
+  accept_settled c es ms below e u act i is so put = i.comes u u (read e.value) (sym is) (accept_reads ms below e u put (acted c es ms u i (sym is) so))
 
-  pub stop_settled : (c : ℕ) (es ms : List (Entry V)) (u : List T) (act : Action) → IsSettled g a from c es ms act → ahead g u ≡ c → act ≡ Stop → Comes g a from es u (stops ms) u
-  stop_settled c es ms u act i is so = i.comes u u (stops ms) is (stopped (acted c es ms u i is so))
+  pub stop_settled : (c : ℕ) (es ms : List (Entry V)) (u : List T) (act : Action) → IsSettled g a from c es ms act → c ≡ ahead g u → act ≡ Stop → Comes g a from es u (stops ms) u
+  stop_settled c es ms u act i is so = i.comes u u (stops ms) (sym is) (stopped (acted c es ms u i (sym is) so))

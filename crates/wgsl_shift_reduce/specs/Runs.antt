@@ -1,8 +1,8 @@
 -- What a step of a parser does, and what its answer says.
-use Rattle.std.specs.Prelude.{◌≡◌, ℕ, Bool, true, false, List, [], ◌∷◌, length, Some, Result, Ok, Err}
+use Rattle.std.specs.Prelude.{◌≡◌, ℕ, suc, List, [], ◌∷◌, length, Some, Result, Ok, Err}
 use Rattle.wgsl_shift_reduce.specs.declared.machine.Entry.{Entry}
 use Rattle.wgsl_shift_reduce.specs.declared.machine.Progress.{Progress}
-use Rattle.wgsl_shift_reduce.specs.declared.machine.Progress.TheVariants.{GoesOn, Read, Stops}
+use Rattle.wgsl_shift_reduce.specs.declared.machine.Progress.TheVariants.{Shifted, GoesOn, Read, Stops}
 use Rattle.wgsl_shift_reduce.specs.declared.machine.Stopped.{Stopped}
 use Rattle.wgsl_shift_reduce.specs.declared.machine.Stopped.TheVariants.{OutOfMemory, Unexpected}
 use Rattle.wgsl_shift_reduce.specs.Grammars.{phrase, Rule, Grammar}
@@ -16,16 +16,13 @@ pub record IsShift {T V : Type 0} (g : Grammar T V) (to : ℕ) (es fs : List (En
   pub taken : u ≡ token ∷ v
   pub put : fs ≡ record { state = to; value = g.leaf token } ∷ es
 
--- A rule makes this tree of so many parts, which were taken from the stack.
-pub record IsMade {T V : Type 0} (g : Grammar T V) (p count : ℕ) (es below : List (Entry V)) (x : V) : Type 0 where
+-- So many trees were taken from the stack, and what a rule makes of them stands there, in some state.
+pub record IsMade {T V : Type 0} (g : Grammar T V) (p count : ℕ) (es fs : List (Entry V)) : Type 0 where
+  pub below : List (Entry V)
   pub values : List V
   pub parts : popped count es [] ≡ (below, values)
-  pub is : x ≡ g.make p values
-
--- A tree was replaced by the one that a rule makes of it alone, or stays.
-abbrev pub IsRemade : {T V : Type 0} → Grammar T V → ℕ → V → V → Bool → Type 0
-IsRemade g p x y true = y ≡ g.make p (x ∷ [])
-IsRemade g p x y false = y ≡ x
+  pub state : ℕ
+  pub put : fs ≡ record { state = state; value = g.make p values } ∷ below
 
 -- A rule makes a phrase of this nonterminal of one symbol, and of this tree that tree.
 pub record PassesOn {T V : Type 0} (g : Grammar T V) (p : ℕ) (x : V) (left : ℕ) : Type 0 where
@@ -43,6 +40,7 @@ PassesKept {V = V} g kept p left = (x : V) → kept x → PassesOn g p x left
 pub data PassesBy {T V : Type 0} (g : Grammar T V) : Action → V → ℕ → Type 0 where
   by_rule : {x : V} {left : ℕ} (p : ℕ) → PassesOn g p x left → PassesBy g (Reduce p) x left
 
+-- An action does so of each tree that is kept.
 abbrev pub PassesKeptBy : {T V : Type 0} → Grammar T V → (V → Type 0) → Action → ℕ → Type 0
 PassesKeptBy {V = V} g kept act left = (x : V) → kept x → PassesBy g act x left
 
@@ -63,19 +61,19 @@ module _ {T V : Type 0} (g : Grammar T V) (a : Tables) (from : ℕ) where
     pub step : a.step (top from below) (phrase rule.left) ≡ Some to
     pub put : fs ≡ record { state = to; value = g.make p values } ∷ below
 
-  -- The uppermost tree was replaced by that of a rule, which is a phrase; or the stack is unchanged.
-  abbrev pub Remakes : ℕ → List (Entry V) → List (Entry V) → Bool → Type 0
-  Remakes p es fs true = IsReduction p es fs
-  Remakes p es fs false = fs ≡ es
-
   -- The uppermost symbol was passed on, and this is done then: what comes of the stack behind comes of the one before.
   pub record IsSettled (c : ℕ) (es fs : List (Entry V)) (act : Action) : Type 0 where
     pub acts : act ≡ action a (top from fs) c
     pub comes : (u left : List T) (r : Outcome V) → ahead g u ≡ c → Comes g a from fs u r left → Comes g a from es u r left
 
-  -- What comes of the stack and the tokens behind a step comes of those before it.
+  -- What comes of a stack and tokens comes of others before them.
+  abbrev pub Leads : List (Entry V) → List (Entry V) → List T → List T → Type 0
+  Leads es fs u v = (r : Outcome V) (left : List T) → Comes g a from fs v r left → Comes g a from es u r left
+
+  -- What comes of the stack and the tokens behind a step comes of those before it; a step takes one token, or none.
   abbrev pub Advances : List (Entry V) → List (Entry V) → List T → List T → Progress V → Type 0
-  Advances es fs u v GoesOn = (r : Outcome V) (left : List T) → Comes g a from fs v r left → Comes g a from es u r left
+  Advances es fs u v Shifted = Leads es fs u v × (length u ≡ suc (length v))
+  Advances es fs u v GoesOn = Leads es fs u v × (v ≡ u)
   Advances es fs u v (Read x) = Comes g a from es u (read x) v
   Advances es fs u v Stops = Comes g a from es u (stops fs) v
 

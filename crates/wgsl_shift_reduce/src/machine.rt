@@ -3,11 +3,12 @@
 ghost use Rattle.std.specs.Prelude.{◌≡◌, [], ◌∷◌, length, true, Some, IfOk, MatchOption};
 ghost use Rattle.std.specs.Option.{option_copied};
 ghost use Rattle.wgsl_shift_reduce.specs.Grammars.{Rule, Grammar, phrase};
-ghost use Rattle.wgsl_shift_reduce.specs.Machine.{Tables, action, top, below_top, ahead_of};
-ghost use Rattle.wgsl_shift_reduce.specs.Runs.{IsShift, IsMade, PassesKept, PassesKeptBy, Passes, IsRemade, IsSettled, IsReduction, Remakes, Advances, Said};
+ghost use Rattle.wgsl_shift_reduce.specs.Machine.{Tables, action, below_top, ahead_of};
+ghost use Rattle.wgsl_shift_reduce.specs.Machine as machine;
+ghost use Rattle.wgsl_shift_reduce.specs.Runs.{IsShift, IsMade, PassesKept, PassesKeptBy, Passes, IsSettled, IsReduction, Advances, Said};
 
 use std::alloc::{AllocError, Global};
-use wgsl_stack::Stack;
+use wgsl_stack::{Queue, Stack};
 
 /// What a parser does next.
 #[derive(Clone, Copy, Debug, PartialEq, Eq)]
@@ -39,7 +40,9 @@ pub struct Shape {
 /// What came of a step.
 #[derive(Debug, Drop)]
 pub enum Progress<V> {
-    /// The parser goes on.
+    /// A token was taken, and the parser goes on.
+    Shifted,
+    /// The parser goes on before the same token.
     GoesOn,
     /// A sentence is read, with this tree.
     Read(V),
@@ -53,7 +56,7 @@ pub enum Stopped<T, V> {
     /// Memory was refused, or the parser took more steps than the tokens need.
     OutOfMemory,
     /// No sentence goes on with the first of these tokens, or ends where they are none; and what was read before them.
-    Unexpected(Stack<Entry<V>>, Stack<T>),
+    Unexpected(Stack<Entry<V>>, Queue<T>),
 }
 
 impl<T, V> From<AllocError> for Stopped<T, V> {
@@ -66,7 +69,7 @@ impl<T, V> From<AllocError> for Stopped<T, V> {
     }
 }
 
-/// How many steps a parser may take for each token, and once more; and how often a symbol may be passed on. No sentence of this
+/// How many steps a parser may take for each token, and before the first; and how often a symbol may be passed on. No sentence of this
 /// project's grammars takes more than half of them, since no token begins more than some twenty phrases that are one another.
 const STEPS_PER_TOKEN: usize = 64;
 
@@ -109,25 +112,16 @@ pub trait Driver {
     /// Room for the parts of a reduction.
     fn room(&self) -> Self::Room;
 
-    /// The tree that a rule makes of so many of the uppermost symbols, which are taken from the stack.
+    /// Makes what a rule makes of so many of the uppermost symbols: it stands in the place of the lowest of them, above which the
+    /// others are taken off.
     fn make(
         &self,
         rule: u16,
         count: usize,
         stack: &mut Stack<Entry<Self::Value>>,
         room: &mut Self::Room,
-    ) -> Result<Self::Value, AllocError>
-        ensures { IfOk result (IsMade grammar rule count stack.old stack.new) };
-
-    /// Puts in the place of a tree what a rule of one symbol makes of it, if that can be made in place; else the tree stays.
-    /// Whether it was made.
-    fn remake(
-        &self,
-        rule: u16,
-        value: &mut Self::Value,
-        room: &mut Self::Room,
-    ) -> Result<bool, AllocError>
-        ensures { IfOk result (IsRemade grammar rule value.old value.new) };
+    ) -> Result<(), AllocError>
+        ensures { IfOk result (λ _. IsMade grammar rule count stack.old stack.new) };
 
     /// Whether rules that make nothing new of their one symbol keep this tree as it stands.
     fn is_kept(&self, part: &Self::Value) -> bool
@@ -138,22 +132,12 @@ pub trait Driver {
         ensures { MatchOption result Unit (PassesKept grammar kept rule) };
 }
 
-/// The state that a parser is in, which began in the first.
-fn state_of<V>(from: u16, stack: &Stack<Entry<V>>) -> u16
-    ensures { result ≡ top from stack.now }
-{
-    match stack.top() {
-        Some(entry) => entry.state,
-        None => from,
-    }
-}
-
 /// Takes the next token.
 fn shift<D: Driver>(
     driver: &D,
     to: u16,
     stack: &mut Stack<Entry<D::Value>>,
-    tokens: &mut Stack<D::Token>,
+    tokens: &mut Queue<D::Token>,
 ) -> Result<(), AllocError>
     ensures { IfOk result (λ _. IsShift D.grammar to stack.old stack.new tokens.old tokens.new) }
 {
@@ -241,52 +225,6 @@ fn settled<D: Driver>(
     Ok(action)
 }
 
-/// Makes a phrase of the uppermost symbol in its place, if the driver can. Whether it did; if not, the stack is unchanged.
-fn remade<D: Driver>(
-    driver: &D,
-    from: u16,
-    rule: u16,
-    left: u16,
-    stack: &mut Stack<Entry<D::Value>>,
-    room: &mut D::Room,
-) -> Result<bool, AllocError>
-    requires { (q : Rule) × (D.grammar.rule rule ≡ Some q) × (q.left ≡ left) × (length q.right ≡ 1) }
-    ensures { IfOk result (Remakes D.grammar (D.tables driver.now) from rule stack.old stack.new) }
-{
-    let beneath = state_below(from, stack);
-    let Some(behind) = driver.state_behind(beneath, left) else {
-        return Err(AllocError);
-    };
-    let Some(entry) = stack.top_mut() else {
-        return Ok(false);
-    };
-    if !driver.remake(rule, &mut entry.value, room)? {
-        return Ok(false);
-    }
-    entry.state = behind;
-    Ok(true)
-}
-
-/// Makes a phrase of as many symbols as the rule of this shape has. It is a call of its own, since its locals are large.
-#[inline(never)]
-fn reduce_several<D: Driver>(
-    driver: &D,
-    from: u16,
-    rule: u16,
-    shape: Shape,
-    stack: &mut Stack<Entry<D::Value>>,
-    room: &mut D::Room,
-) -> Result<(), AllocError>
-    requires { (q : Rule) × (D.grammar.rule rule ≡ Some q) × (q.left ≡ shape.left) × (length q.right ≡ shape.length) }
-    ensures { IfOk result (λ _. IsReduction D.grammar (D.tables driver.now) from rule stack.old stack.new) }
-{
-    let value = driver.make(rule, shape.length, stack, room)?;
-    let Some(to) = driver.state_behind(state_of(from, stack), shape.left) else {
-        return Err(AllocError);
-    };
-    stack.push(Entry { state: to, value })
-}
-
 /// Makes a phrase of the uppermost symbols.
 fn reduce<D: Driver>(
     driver: &D,
@@ -300,27 +238,33 @@ fn reduce<D: Driver>(
     let Some(shape) = driver.shape(rule) else {
         return Err(AllocError);
     };
-    if shape.length == 1 && remade(driver, from, rule, shape.left, stack, room)? {
-        return Ok(());
-    }
-    reduce_several(driver, from, rule, shape, stack, room)
+    driver.make(rule, shape.length, stack, room)?;
+    let Some(to) = driver.state_behind(state_below(from, stack), shape.left) else {
+        return Err(AllocError);
+    };
+    let Some(entry) = stack.top_mut() else {
+        return Err(AllocError);
+    };
+    entry.state = to;
+    Ok(())
 }
 
-/// One step.
+/// One step, before what stands ahead of the tokens.
 fn advance<D: Driver>(
     driver: &D,
     from: u16,
+    ahead: u16,
     stack: &mut Stack<Entry<D::Value>>,
-    tokens: &mut Stack<D::Token>,
+    tokens: &mut Queue<D::Token>,
     room: &mut D::Room,
 ) -> Result<Progress<D::Value>, AllocError>
+    requires { ahead ≡ machine.ahead D.grammar tokens.old }
     ensures { IfOk result (Advances D.grammar (D.tables driver.now) from stack.old stack.new tokens.old tokens.new) }
 {
-    let ahead = driver.ahead(tokens.top());
     match settled(driver, from, ahead, stack)? {
         Action::Shift(to) => {
             shift(driver, to, stack, tokens)?;
-            Ok(Progress::GoesOn)
+            Ok(Progress::Shifted)
         }
         Action::Reduce(rule) => {
             reduce(driver, from, rule, stack, room)?;
@@ -334,24 +278,34 @@ fn advance<D: Driver>(
     }
 }
 
+/// What stands ahead of tokens: 0 where there are none, or the class of the first and one.
+fn ahead_in<D: Driver>(driver: &D, tokens: &Queue<D::Token>) -> u16
+    ensures { result ≡ machine.ahead D.grammar tokens.now }
+{
+    driver.ahead(tokens.first())
+}
+
 /// Reads a sentence, from a state in which one begins.
 pub fn run<D: Driver>(
     driver: &D,
     alloc: Global,
     from: u16,
-    tokens: Stack<D::Token>,
+    tokens: Queue<D::Token>,
 ) -> Result<D::Value, Stopped<D::Token, D::Value>>
     ensures { Said D.grammar (D.tables driver.now) from tokens result }
 {
     let mut tokens = tokens;
     let mut stack = Stack::new(alloc);
     let mut room = driver.room();
-    let steps = tokens
-        .len()
-        .saturating_add(1)
-        .saturating_mul(STEPS_PER_TOKEN);
-    for _step in 0..steps {
-        match advance(driver, from, &mut stack, &mut tokens, &mut room)? {
+    let mut ahead = ahead_in(driver, &tokens);
+    let mut steps = STEPS_PER_TOKEN;
+    while steps > 0 {
+        steps -= 1;
+        match advance(driver, from, ahead, &mut stack, &mut tokens, &mut room)? {
+            Progress::Shifted => {
+                steps = steps.saturating_add(STEPS_PER_TOKEN);
+                ahead = ahead_in(driver, &tokens);
+            }
             Progress::GoesOn => {}
             Progress::Read(value) => return Ok(value),
             Progress::Stops => return Err(Stopped::Unexpected(stack, tokens)),

@@ -13,3 +13,8 @@ second (x ∷ xs) = first xs
 abbrev pub with_first : {X : Type 0} → List X → X → List X
 with_first [] y = []
 with_first (x ∷ xs) y = y ∷ xs
+
+-- a stack without its uppermost value, if it has any
+abbrev pub without_first : {X : Type 0} → List X → List X
+without_first [] = []
+without_first (x ∷ xs) = xs

@@ -1,14 +1,18 @@
-//! A stack that contracts see as the list of its values, the uppermost first.
+//! A stack that contracts see as the list of its values, the uppermost first, and a queue in pieces.
 #![tactic(auto)]
 
 ghost use Rattle.std.specs.Prelude.{◌≡◌, [], ◌∷◌, length, MatchOption, OnOk, OnErr};
 ghost use Rattle.std.specs.Option.{option_copied, option_copied_mut};
 ghost use Rattle.std.specs.Borrow.{sem, LendsIf};
-ghost use Rattle.wgsl_stack.specs.Tops.{first, second, with_first};
+ghost use Rattle.wgsl_stack.specs.Tops.{first, second, with_first, without_first};
 ghost use Rattle.wgsl_stack.specs.contracts.Stack.{the_row};
 
+mod queue;
+
+pub use queue::{Queue, QueueWriter};
 use std::alloc::{AllocError, Global};
 use std::marker::Model;
+use std::mem;
 
 /// A stack of values on the heap.
 #[derive(Debug, Drop)]
@@ -91,6 +95,13 @@ impl<T: Drop> Stack<T> {
         ensures { self.new ≡ [] }
     {
         self.items.clear();
+    }
+
+    /// Takes the uppermost value off and does not drop it. What it owns is never given back, so it is for values that own nothing.
+    pub fn forget_top(&mut self)
+        ensures { self.new ≡ without_first self.old }
+    {
+        mem::forget(self.items.pop());
     }
 
     /// Puts a value on top. Where memory is refused the stack is unchanged and the value dropped.

@@ -8,6 +8,7 @@ use crate::pieces::TextPieces;
 use std::alloc::{AllocError, Global};
 use wgsl_items::Items;
 use wgsl_lex::first_piece;
+use wgsl_stack::{Queue, QueueWriter};
 use wgsl_template_recognizer::ListRecognizer;
 use wgsl_template_spec::SpannedTemplateToken;
 use wgsl_templates::opens_list;
@@ -19,7 +20,18 @@ pub fn lex(alloc: Global, text: &str) -> Result<Items<SpannedTemplateToken>, All
 {
     let pieces = TextPieces { alloc };
     let recognizer = ListRecognizer { alloc };
-    wgsl_templates::lex(alloc, &pieces, &recognizer, text)
+    wgsl_templates::lex(alloc, &pieces, &recognizer, text, Items::new(alloc))
+}
+
+/// The same tokens as a queue, which gives memory back as they are taken from it.
+pub fn lex_queue(alloc: Global, text: &str) -> Result<Queue<SpannedTemplateToken>, AllocError>
+    ensures { IfOk result (IsLexed text.now) }
+{
+    let pieces = TextPieces { alloc };
+    let recognizer = ListRecognizer { alloc };
+    let empty = QueueWriter::new(alloc);
+    let tokens = wgsl_templates::lex(alloc, &pieces, &recognizer, text, empty)?;
+    tokens.into_queue()
 }
 
 /// Whether a text begins with a `<` that opens a template list behind a word. Only memory can fail.

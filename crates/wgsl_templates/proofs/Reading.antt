@@ -161,6 +161,7 @@ lexed text characters tokens utf8 spelled l =
 pub bounded : (text characters : List ℕ) → IsUtf8 text → characters ≡ chars text → size characters ≡ length text
 bounded text characters utf8 spelled = ap size spelled ∙ ap length (encodes-chars text utf8)
 
-pub if_lexed : {E : Type 0} (text characters : List ℕ) (result : Result (List SpannedTemplateToken) E) → IsUtf8 text → characters ≡ chars text → IfOk result (Lexes start characters) → IfOk result (IsLexed text)
-if_lexed text characters (Ok tokens) utf8 spelled l = lexed text characters tokens utf8 spelled l
-if_lexed text characters (Err e) utf8 spelled l = l
+pub if_lexed : {E L : Type 0} (listed : L → List SpannedTemplateToken) (text characters : List ℕ) (result : Result L E) → IsUtf8 text → characters ≡ chars text
+    → IfOk result (λ tokens. Lexes start characters (listed tokens)) → IfOk result (λ tokens. IsLexed text (listed tokens))
+if_lexed listed text characters (Ok tokens) utf8 spelled l = lexed text characters (listed tokens) utf8 spelled l
+if_lexed listed text characters (Err e) utf8 spelled l = l

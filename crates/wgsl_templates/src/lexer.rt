@@ -1,30 +1,33 @@
 //! The tokens of a text in which template lists are told.
 
-ghost use Rattle.std.specs.Prelude.{◌≡◌, ◌<◌, ◌≤◌, ◌^◌, ◌+◌, ◌∷◌, ◌++◌, [], length, reverse, IfOk, List, true};
+ghost use Rattle.std.specs.Prelude.{◌≡◌, ◌<◌, ◌≤◌, ◌^◌, ◌+◌, ◌∷◌, ◌++◌, [], length, reverse, IfOk, true};
 ghost use Rattle.std.specs.Str.{chars};
 ghost use Rattle.wgsl_lex.specs.Tokens.{size};
 ghost use Rattle.wgsl_template_spec.specs.Tokens.{start, is_word, behind, Lexes, IsLexed};
 ghost use Rattle.wgsl_templates.specs.Steps.{IsTable};
 
 use crate::characters::characters_of;
+use crate::list::TokenList;
 use crate::piece::{Pieces, TemplatePiece, next, told_symbol};
 use crate::recognize::Recognizer;
 use crate::table::table_of;
 use std::alloc::{AllocError, Global};
-use wgsl_items::Items;
 use wgsl_lex::{is_blankspace, short_word, symbol_alone};
 use wgsl_path::Span;
 use wgsl_template_spec::{Bracket, SpannedTemplateToken, TemplateToken};
 use wgsl_token::{Fixed, Token};
 
-/// The tokens of a text (WGSL, "Textual Structure" and "Template Lists"), each with its place in bytes. Only memory can fail.
-pub fn lex<P: Pieces, R: Recognizer>(
+/// The tokens of a text (WGSL, "Textual Structure" and "Template Lists"), each with its place in bytes, put into a list that is
+/// empty. Only memory can fail.
+pub fn lex<P: Pieces, R: Recognizer, L: TokenList>(
     alloc: Global,
     pieces: &P,
     recognizer: &R,
     text: &str,
-) -> Result<Items<SpannedTemplateToken>, AllocError>
-    ensures { IfOk result (IsLexed text.now) }
+    tokens: L,
+) -> Result<L, AllocError>
+    requires { L.listed tokens ≡ [] }
+    ensures { IfOk result (λ lexed. IsLexed text.now (L.listed lexed)) }
 {
     let characters = characters_of(alloc, text)?;
     let table = table_of(alloc, pieces, recognizer, characters.as_slice())?;
@@ -35,24 +38,27 @@ pub fn lex<P: Pieces, R: Recognizer>(
         characters.as_slice(),
         one_byte_each,
         table.as_slice(),
+        tokens,
     )
 }
 
 /// The tokens of some characters, which may have one byte each, by the table of their template lists.
-fn lex_characters<P: Pieces>(
+fn lex_characters<P: Pieces, L: TokenList>(
     alloc: Global,
     pieces: &P,
     characters: &[char],
     one_byte_each: bool,
     table: &[bool],
-) -> Result<Items<SpannedTemplateToken>, AllocError>
+    tokens: L,
+) -> Result<L, AllocError>
+    requires empty { L.listed tokens ≡ [] }
     requires table { IsTable characters.now table.now }
     requires covered { length characters.now ≤ length table.now }
     requires bounded { size characters.now < 2 ^ 64 }
     requires bytes { one_byte_each ≡ true → size characters.now ≡ length characters.now }
-    ensures { IfOk result (Lexes start characters.now) }
+    ensures { IfOk result (λ lexed. Lexes start characters.now (L.listed lexed)) }
 {
-    let mut tokens = Items::new(alloc);
+    let mut tokens = tokens;
     let mut opened: Vec<Bracket> = Vec::new(alloc);
     let mut rest = characters;
     let mut after_word = false;
@@ -96,8 +102,8 @@ fn lex_characters<P: Pieces>(
 
 /// Takes a token of so many bytes that was read. Whether a `<` behind it may open a template list.
 #[inline(always)]
-fn push_token(
-    tokens: &mut Items<SpannedTemplateToken>,
+fn push_token<L: TokenList>(
+    tokens: &mut L,
     opened: &mut Vec<Bracket>,
     token: TemplateToken,
     at: usize,
@@ -105,7 +111,7 @@ fn push_token(
 ) -> Result<bool, AllocError>
     requires { at + size < 2 ^ 64 }
     ensures word { IfOk result (λ word. word ≡ is_word token) }
-    ensures taken { IfOk result (λ _. tokens.new ≡ tokens.old ++ record { token = token; span = record { start = at; end = at + size } } ∷ []) }
+    ensures taken { IfOk result (λ _. L.listed tokens.new ≡ L.listed tokens.old ++ record { token = token; span = record { start = at; end = at + size } } ∷ []) }
     ensures brackets { IfOk result (λ _. reverse opened.new.items ≡ behind (reverse opened.old.items) token) }
 {
     follow(opened, &token)?;
@@ -114,7 +120,7 @@ fn push_token(
         start: at,
         end: at + size,
     };
-    tokens.push(SpannedTemplateToken { token, span })?;
+    tokens.push_token(SpannedTemplateToken { token, span })?;
     Ok(word)
 }
 

@@ -1,5 +1,5 @@
 use Rattle.std.proofs.Common.{◌≡◌, length}
-use Rattle.wgsl_phrases.specs.Gathering.{either}
+use Rattle.wgsl_reading.specs.Gathering.{either}
 use Rattle.wgsl_reading.specs.Readings.{first_failed}
 use Rattle.wgsl_reading.proofs.answer.failure_on.Given as goal
 

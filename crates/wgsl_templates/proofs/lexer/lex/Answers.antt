@@ -14,4 +14,4 @@ lex_characters-requires-clause-bytes g c = λ narrow.
     omega (arith, whole, is_number _ _ narrow, c.len.ensures, c.as_slice-2.ensures.len)
 
 pub returns : goal.returns
-returns g c = if_lexed _ _ _ c.utf8.text (c.as_slice-2.ensures.value ∙ c.in_ok-characters.ensures) c.lex_characters.ensures
+returns g c = if_lexed g.L.TokenList.listed _ _ _ c.utf8.text (c.as_slice-2.ensures.value ∙ c.in_ok-characters.ensures) c.lex_characters.ensures

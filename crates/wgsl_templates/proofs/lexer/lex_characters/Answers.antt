@@ -72,6 +72,6 @@ returns g c = lex_all _ _ _ _ _ _ _ c.loop-first.invariant.0 c.in_default.ensure
 
 pub loop-first-init : goal.loop-first-init
 loop-first-init g c = (
-  lex_start _ _ _ _ c.requires.table c.requires.covered c.new-opened.ensures.items c.new-tokens.ensures,
+  lex_start _ _ _ _ c.requires.table c.requires.covered c.new-opened.ensures.items c.requires.empty,
   c.requires.bytes,
 )
