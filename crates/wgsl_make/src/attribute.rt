@@ -10,7 +10,7 @@ use wgsl_attributes::{Attribute, CustomAttribute};
 use wgsl_expressions::ExpressionNode;
 use wgsl_items::{Boxed, Items, Text, both};
 use wgsl_parts::take::{end, ended, expressions, ident};
-use wgsl_parts::{AttributeLabel, Part, Stack};
+use wgsl_parts::{AttributeLabel, Held, Part, Stack};
 use wgsl_path::{Span, Spanned};
 use wgsl_simple_statements::DeclarationKind;
 
@@ -39,7 +39,7 @@ pub fn make_attribute(
     alloc: Global,
     label: AttributeLabel,
     span: Span,
-    parts: &mut Stack<Part>,
+    parts: &mut Stack<Held>,
 ) -> Result<Part, AllocError>
     ensures { IfOk result (λ part. part ≡ making.make_attribute label span parts.old) }
 {

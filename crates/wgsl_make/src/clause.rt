@@ -7,11 +7,11 @@ use crate::take::{break_if, selectors, statements};
 use std::alloc::{AllocError, Global};
 use wgsl_items::{Boxed, Items, both, three};
 use wgsl_parts::take::{attributes, block, end, ended, expression};
-use wgsl_parts::{ClauseLabel, Part, Stack};
+use wgsl_parts::{ClauseLabel, Held, Part, Stack};
 use wgsl_simple_statements::{BreakIfStatement, CaseSelector};
 use wgsl_statements::{CompoundStatement, ContinuingStatement, ElseIfClause, SwitchClause};
 
-fn continuing_block(alloc: Global, parts: &mut Stack<Part>) -> Result<Part, AllocError>
+fn continuing_block(alloc: Global, parts: &mut Stack<Held>) -> Result<Part, AllocError>
     ensures { IfOk result (λ part. part ≡ making.continuing_block parts.old) }
 {
     let attributes = attributes(alloc, parts);
@@ -33,7 +33,7 @@ fn continuing_block(alloc: Global, parts: &mut Stack<Part>) -> Result<Part, Allo
 fn make_switch_clause(
     alloc: Global,
     label: ClauseLabel,
-    parts: &mut Stack<Part>,
+    parts: &mut Stack<Held>,
 ) -> Result<Part, AllocError>
     ensures { IfOk result (λ part. part ≡ making.make_clause label parts.old) }
 {
@@ -66,7 +66,7 @@ fn make_switch_clause(
 pub fn make_clause(
     alloc: Global,
     label: ClauseLabel,
-    parts: &mut Stack<Part>,
+    parts: &mut Stack<Held>,
 ) -> Result<Part, AllocError>
     ensures { IfOk result (λ part. part ≡ making.make_clause label parts.old) }
 {

@@ -11,7 +11,7 @@ use wgsl_declarations::{
 };
 use wgsl_items::{Boxed, Items, both, three};
 use wgsl_parts::take::{assertion, attributes, block, declaration, end, ended, ident, ty};
-use wgsl_parts::{DeclarationLabel, FunctionResult, Part, Stack};
+use wgsl_parts::{DeclarationLabel, FunctionResult, Held, Part, Stack};
 use wgsl_path::{Span, Spanned};
 use wgsl_simple_statements::Declaration;
 
@@ -34,7 +34,7 @@ fn with_attributes(attributes: Attributes, declaration: Declaration) -> Declarat
     }
 }
 
-fn function(alloc: Global, span: Span, parts: &mut Stack<Part>) -> Result<Part, AllocError>
+fn function(alloc: Global, span: Span, parts: &mut Stack<Held>) -> Result<Part, AllocError>
     ensures { IfOk result (λ part. part ≡ making.function span parts.old) }
 {
     let attributes = attributes(alloc, parts);
@@ -58,7 +58,7 @@ fn function(alloc: Global, span: Span, parts: &mut Stack<Part>) -> Result<Part, 
     Ok(Part::Global(Spanned::new(alloc, function, span)?))
 }
 
-fn whole_module(alloc: Global, parts: &mut Stack<Part>) -> Result<Part, AllocError>
+fn whole_module(alloc: Global, parts: &mut Stack<Held>) -> Result<Part, AllocError>
     ensures { IfOk result (λ part. part ≡ making.whole_module parts.old) }
 {
     let imports = imports(alloc, parts);
@@ -81,7 +81,7 @@ fn make_inner(
     alloc: Global,
     label: DeclarationLabel,
     span: Span,
-    parts: &mut Stack<Part>,
+    parts: &mut Stack<Held>,
 ) -> Result<Part, AllocError>
     ensures { IfOk result (λ part. part ≡ making.make_declaration label span parts.old) }
 {
@@ -137,7 +137,7 @@ pub fn make_declaration(
     alloc: Global,
     label: DeclarationLabel,
     span: Span,
-    parts: &mut Stack<Part>,
+    parts: &mut Stack<Held>,
 ) -> Result<Part, AllocError>
     ensures { IfOk result (λ part. part ≡ making.make_declaration label span parts.old) }
 {

@@ -10,7 +10,7 @@ use wgsl_enumerations::DiagnosticSeverity;
 use wgsl_imports::{DiagnosticDirective, EnableDirective, GlobalDirective, RequiresDirective};
 use wgsl_items::{Boxed, Items, both};
 use wgsl_parts::take::{ended, ident};
-use wgsl_parts::{DirectiveLabel, Part, Stack};
+use wgsl_parts::{DirectiveLabel, Held, Part, Stack};
 
 fn severity_or_off(word: &str) -> DiagnosticSeverity
     ensures { result ≡ making.severity_or_off word.now }
@@ -25,7 +25,7 @@ fn severity_or_off(word: &str) -> DiagnosticSeverity
 pub fn make_directive(
     alloc: Global,
     label: DirectiveLabel,
-    parts: &mut Stack<Part>,
+    parts: &mut Stack<Held>,
 ) -> Result<Part, AllocError>
     ensures { IfOk result (λ part. part ≡ making.make_directive label parts.old) }
 {

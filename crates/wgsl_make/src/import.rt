@@ -8,14 +8,14 @@ use std::alloc::{AllocError, Global};
 use wgsl_imports::{Import, ImportContent, ImportItem, ImportStatement};
 use wgsl_items::{Boxed, Items, both, three};
 use wgsl_parts::take::{attributes, end, ended, ident, ups};
-use wgsl_parts::{ImportLabel, Part, Stack};
+use wgsl_parts::{Held, ImportLabel, Part, Stack};
 use wgsl_path::{ModulePath, PathOrigin};
 
 /// What the productions of what is imported, and of imports, make of their parts.
 fn make_content(
     alloc: Global,
     label: ImportLabel,
-    parts: &mut Stack<Part>,
+    parts: &mut Stack<Held>,
 ) -> Result<Part, AllocError>
     ensures { IfOk result (λ part. part ≡ making.make_import label parts.old) }
 {
@@ -66,7 +66,7 @@ fn make_content(
 pub fn make_import(
     alloc: Global,
     label: ImportLabel,
-    parts: &mut Stack<Part>,
+    parts: &mut Stack<Held>,
 ) -> Result<Part, AllocError>
     ensures { IfOk result (λ part. part ≡ making.make_import label parts.old) }
 {

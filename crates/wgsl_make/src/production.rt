@@ -11,8 +11,8 @@ use crate::import::make_import;
 use crate::statement::make_statement;
 use std::alloc::{AllocError, Global};
 use wgsl_parts::{
-    Label, Part, Stack, make_expression, make_first, make_more, make_name, make_plain, make_value,
-    pass,
+    Held, Label, Part, Stack, make_expression, make_first, make_more, make_name, make_plain,
+    make_value, pass,
 };
 use wgsl_path::Span;
 
@@ -22,7 +22,7 @@ pub fn make(
     alloc: Global,
     label: Label,
     span: Span,
-    parts: &mut Stack<Part>,
+    parts: &mut Stack<Held>,
 ) -> Result<Part, AllocError>
     ensures { IfOk result (λ part. part ≡ making.make label span parts.old) }
 {

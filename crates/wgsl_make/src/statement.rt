@@ -7,7 +7,7 @@ use crate::take::{clauses, continuing, else_ifs, otherwise, plain, statement, st
 use std::alloc::{AllocError, Global};
 use wgsl_items::{Boxed, both, three};
 use wgsl_parts::take::{attributes, block, end, ended, expression, optional_expression};
-use wgsl_parts::{Part, Stack, StatementLabel};
+use wgsl_parts::{Held, Part, Stack, StatementLabel};
 use wgsl_path::{Span, Spanned};
 use wgsl_statements::{
     CompoundStatement, ForStatement, IfClause, IfStatement, LoopStatement, Statement,
@@ -19,7 +19,7 @@ fn make_branching(
     alloc: Global,
     label: StatementLabel,
     span: Span,
-    parts: &mut Stack<Part>,
+    parts: &mut Stack<Held>,
 ) -> Result<Part, AllocError>
     ensures { IfOk result (λ part. part ≡ making.make_statement label span parts.old) }
 {
@@ -66,7 +66,7 @@ fn make_loop(
     alloc: Global,
     label: StatementLabel,
     span: Span,
-    parts: &mut Stack<Part>,
+    parts: &mut Stack<Held>,
 ) -> Result<Part, AllocError>
     ensures { IfOk result (λ part. part ≡ making.make_statement label span parts.old) }
 {
@@ -116,7 +116,7 @@ pub fn make_statement(
     alloc: Global,
     label: StatementLabel,
     span: Span,
-    parts: &mut Stack<Part>,
+    parts: &mut Stack<Held>,
 ) -> Result<Part, AllocError>
     ensures { IfOk result (λ part. part ≡ making.make_statement label span parts.old) }
 {

@@ -11,35 +11,35 @@ use wgsl_expressions::{ExpressionNode, TypeExpression};
 use wgsl_imports::{GlobalDirective, Import, ImportContent, ImportStatement};
 use wgsl_items::{Boxed, Items, Text};
 use wgsl_parts::take::unfit;
-use wgsl_parts::{FunctionResult, Part, Stack};
+use wgsl_parts::{FunctionResult, Held, Part, Stack, next};
 use wgsl_path::ModulePath;
 use wgsl_simple_statements::{BreakIfStatement, CaseSelector};
 use wgsl_statements::{
     ContinuingStatement, ElseClause, ElseIfClause, Statement, StatementNode, SwitchClause,
 };
 
-pub(crate) fn word(parts: &mut Stack<Part>) -> Result<Text, AllocError>
+pub(crate) fn word(parts: &mut Stack<Held>) -> Result<Text, AllocError>
     ensures { IfOk result (λ x. parts.old ≡ Part.Word x ∷ parts.new) }
 {
-    match parts.pop() {
+    match next(parts) {
         Some(Part::Word(x)) => Ok(x),
         other => unfit(other),
     }
 }
 
-pub(crate) fn reserved(parts: &mut Stack<Part>) -> Result<Text, AllocError>
+pub(crate) fn reserved(parts: &mut Stack<Held>) -> Result<Text, AllocError>
     ensures { IfOk result (λ x. parts.old ≡ Part.Reserved x ∷ parts.new) }
 {
-    match parts.pop() {
+    match next(parts) {
         Some(Part::Reserved(x)) => Ok(x),
         other => unfit(other),
     }
 }
 
-pub(crate) fn list(parts: &mut Stack<Part>) -> Result<Items<ExpressionNode>, AllocError>
+pub(crate) fn list(parts: &mut Stack<Held>) -> Result<Items<ExpressionNode>, AllocError>
     ensures { IfOk result (λ x. parts.old ≡ Part.Expressions x ∷ parts.new) }
 {
-    match parts.pop() {
+    match next(parts) {
         Some(Part::Expressions(x)) => Ok(x),
         other => unfit(other),
     }
@@ -47,49 +47,49 @@ pub(crate) fn list(parts: &mut Stack<Part>) -> Result<Items<ExpressionNode>, All
 
 /// It may be absent.
 pub(crate) fn arguments(
-    parts: &mut Stack<Part>,
+    parts: &mut Stack<Held>,
 ) -> Result<Option<Items<ExpressionNode>>, AllocError>
     ensures { IfOk result (λ x. TakesAs arguments_in parts.old x parts.new) }
 {
-    match parts.pop() {
+    match next(parts) {
         Some(Part::Absent) => Ok(None),
         Some(Part::Arguments(x)) => Ok(Some(x)),
         other => unfit(other),
     }
 }
 
-pub(crate) fn plain(parts: &mut Stack<Part>) -> Result<Boxed<Statement>, AllocError>
+pub(crate) fn plain(parts: &mut Stack<Held>) -> Result<Boxed<Statement>, AllocError>
     ensures { IfOk result (λ x. parts.old ≡ Part.Plain x ∷ parts.new) }
 {
-    match parts.pop() {
+    match next(parts) {
         Some(Part::Plain(x)) => Ok(x),
         other => unfit(other),
     }
 }
 
-pub(crate) fn clauses(parts: &mut Stack<Part>) -> Result<Items<SwitchClause>, AllocError>
+pub(crate) fn clauses(parts: &mut Stack<Held>) -> Result<Items<SwitchClause>, AllocError>
     ensures { IfOk result (λ x. parts.old ≡ Part.Clauses x ∷ parts.new) }
 {
-    match parts.pop() {
+    match next(parts) {
         Some(Part::Clauses(x)) => Ok(x),
         other => unfit(other),
     }
 }
 
-pub(crate) fn selectors(parts: &mut Stack<Part>) -> Result<Items<CaseSelector>, AllocError>
+pub(crate) fn selectors(parts: &mut Stack<Held>) -> Result<Items<CaseSelector>, AllocError>
     ensures { IfOk result (λ x. parts.old ≡ Part.Selectors x ∷ parts.new) }
 {
-    match parts.pop() {
+    match next(parts) {
         Some(Part::Selectors(x)) => Ok(x),
         other => unfit(other),
     }
 }
 
 /// It may be absent.
-pub(crate) fn statement(parts: &mut Stack<Part>) -> Result<Option<StatementNode>, AllocError>
+pub(crate) fn statement(parts: &mut Stack<Held>) -> Result<Option<StatementNode>, AllocError>
     ensures { IfOk result (λ x. TakesAs statement_in parts.old x parts.new) }
 {
-    match parts.pop() {
+    match next(parts) {
         Some(Part::Absent) => Ok(None),
         Some(Part::Statement(x)) => Ok(Some(x)),
         other => unfit(other),
@@ -97,10 +97,10 @@ pub(crate) fn statement(parts: &mut Stack<Part>) -> Result<Option<StatementNode>
 }
 
 /// It may be absent.
-pub(crate) fn otherwise(parts: &mut Stack<Part>) -> Result<Option<ElseClause>, AllocError>
+pub(crate) fn otherwise(parts: &mut Stack<Held>) -> Result<Option<ElseClause>, AllocError>
     ensures { IfOk result (λ x. TakesAs else_in parts.old x parts.new) }
 {
-    match parts.pop() {
+    match next(parts) {
         Some(Part::Absent) => Ok(None),
         Some(Part::Block(x)) => Ok(Some(ElseClause { body: x })),
         other => unfit(other),
@@ -108,10 +108,10 @@ pub(crate) fn otherwise(parts: &mut Stack<Part>) -> Result<Option<ElseClause>, A
 }
 
 /// It may be absent.
-pub(crate) fn continuing(parts: &mut Stack<Part>) -> Result<Option<ContinuingStatement>, AllocError>
+pub(crate) fn continuing(parts: &mut Stack<Held>) -> Result<Option<ContinuingStatement>, AllocError>
     ensures { IfOk result (λ x. TakesAs continuing_in parts.old x parts.new) }
 {
-    match parts.pop() {
+    match next(parts) {
         Some(Part::Absent) => Ok(None),
         Some(Part::Continuing(x)) => Ok(Some(x.into_inner())),
         other => unfit(other),
@@ -119,10 +119,10 @@ pub(crate) fn continuing(parts: &mut Stack<Part>) -> Result<Option<ContinuingSta
 }
 
 /// It may be absent.
-pub(crate) fn break_if(parts: &mut Stack<Part>) -> Result<Option<BreakIfStatement>, AllocError>
+pub(crate) fn break_if(parts: &mut Stack<Held>) -> Result<Option<BreakIfStatement>, AllocError>
     ensures { IfOk result (λ x. TakesAs break_if_in parts.old x parts.new) }
 {
-    match parts.pop() {
+    match next(parts) {
         Some(Part::Absent) => Ok(None),
         Some(Part::BreakIf(x)) => Ok(Some(x)),
         other => unfit(other),
@@ -132,11 +132,11 @@ pub(crate) fn break_if(parts: &mut Stack<Part>) -> Result<Option<BreakIfStatemen
 /// It may be absent.
 pub(crate) fn statements(
     alloc: Global,
-    parts: &mut Stack<Part>,
+    parts: &mut Stack<Held>,
 ) -> Result<Items<StatementNode>, AllocError>
     ensures { IfOk result (λ xs. TakesAs statements_of parts.old xs parts.new) }
 {
-    match parts.pop() {
+    match next(parts) {
         Some(Part::Absent) => Ok(Items::new(alloc)),
         Some(Part::Statements(xs)) => Ok(xs),
         other => unfit(other),
@@ -146,57 +146,57 @@ pub(crate) fn statements(
 /// It may be absent.
 pub(crate) fn else_ifs(
     alloc: Global,
-    parts: &mut Stack<Part>,
+    parts: &mut Stack<Held>,
 ) -> Result<Items<ElseIfClause>, AllocError>
     ensures { IfOk result (λ xs. TakesAs else_ifs_of parts.old xs parts.new) }
 {
-    match parts.pop() {
+    match next(parts) {
         Some(Part::Absent) => Ok(Items::new(alloc)),
         Some(Part::ElseIfs(xs)) => Ok(xs),
         other => unfit(other),
     }
 }
 
-pub(crate) fn source(parts: &mut Stack<Part>) -> Result<ModulePath, AllocError>
+pub(crate) fn source(parts: &mut Stack<Held>) -> Result<ModulePath, AllocError>
     ensures { IfOk result (λ x. parts.old ≡ Part.ModulePath x ∷ parts.new) }
 {
-    match parts.pop() {
+    match next(parts) {
         Some(Part::ModulePath(x)) => Ok(x),
         other => unfit(other),
     }
 }
 
-pub(crate) fn text(parts: &mut Stack<Part>) -> Result<Text, AllocError>
+pub(crate) fn text(parts: &mut Stack<Held>) -> Result<Text, AllocError>
     ensures { IfOk result (λ x. parts.old ≡ Part.Text x ∷ parts.new) }
 {
-    match parts.pop() {
+    match next(parts) {
         Some(Part::Text(x)) => Ok(x),
         other => unfit(other),
     }
 }
 
-pub(crate) fn texts(parts: &mut Stack<Part>) -> Result<Items<Text>, AllocError>
+pub(crate) fn texts(parts: &mut Stack<Held>) -> Result<Items<Text>, AllocError>
     ensures { IfOk result (λ x. parts.old ≡ Part.Texts x ∷ parts.new) }
 {
-    match parts.pop() {
+    match next(parts) {
         Some(Part::Texts(x)) => Ok(x),
         other => unfit(other),
     }
 }
 
-pub(crate) fn content(parts: &mut Stack<Part>) -> Result<ImportContent, AllocError>
+pub(crate) fn content(parts: &mut Stack<Held>) -> Result<ImportContent, AllocError>
     ensures { IfOk result (λ x. parts.old ≡ Part.Content x ∷ parts.new) }
 {
-    match parts.pop() {
+    match next(parts) {
         Some(Part::Content(x)) => Ok(x.into_inner()),
         other => unfit(other),
     }
 }
 
-pub(crate) fn trees(parts: &mut Stack<Part>) -> Result<Items<Import>, AllocError>
+pub(crate) fn trees(parts: &mut Stack<Held>) -> Result<Items<Import>, AllocError>
     ensures { IfOk result (λ x. parts.old ≡ Part.Trees x ∷ parts.new) }
 {
-    match parts.pop() {
+    match next(parts) {
         Some(Part::Trees(x)) => Ok(x),
         other => unfit(other),
     }
@@ -205,11 +205,11 @@ pub(crate) fn trees(parts: &mut Stack<Part>) -> Result<Items<Import>, AllocError
 /// It may be absent.
 pub(crate) fn path(
     alloc: Global,
-    parts: &mut Stack<Part>,
+    parts: &mut Stack<Held>,
 ) -> Result<Option<Boxed<ModulePath>>, AllocError>
     ensures { IfOk result (λ x. TakesAs path_in parts.old x parts.new) }
 {
-    match parts.pop() {
+    match next(parts) {
         Some(Part::Absent) => Ok(None),
         Some(Part::ModulePath(x)) => Ok(Some(Boxed::new(alloc, x)?)),
         other => unfit(other),
@@ -217,20 +217,20 @@ pub(crate) fn path(
 }
 
 /// It may be absent.
-pub(crate) fn names(alloc: Global, parts: &mut Stack<Part>) -> Result<Items<Text>, AllocError>
+pub(crate) fn names(alloc: Global, parts: &mut Stack<Held>) -> Result<Items<Text>, AllocError>
     ensures { IfOk result (λ xs. TakesAs names_of parts.old xs parts.new) }
 {
-    match parts.pop() {
+    match next(parts) {
         Some(Part::Absent) => Ok(Items::new(alloc)),
         Some(Part::Texts(xs)) => Ok(xs),
         other => unfit(other),
     }
 }
 
-pub(crate) fn members(parts: &mut Stack<Part>) -> Result<Items<StructMemberNode>, AllocError>
+pub(crate) fn members(parts: &mut Stack<Held>) -> Result<Items<StructMemberNode>, AllocError>
     ensures { IfOk result (λ x. parts.old ≡ Part.Members x ∷ parts.new) }
 {
-    match parts.pop() {
+    match next(parts) {
         Some(Part::Members(x)) => Ok(x),
         other => unfit(other),
     }
@@ -239,11 +239,11 @@ pub(crate) fn members(parts: &mut Stack<Part>) -> Result<Items<StructMemberNode>
 /// It may be absent.
 pub(crate) fn parameters(
     alloc: Global,
-    parts: &mut Stack<Part>,
+    parts: &mut Stack<Held>,
 ) -> Result<Items<FormalParameter>, AllocError>
     ensures { IfOk result (λ xs. TakesAs parameters_of parts.old xs parts.new) }
 {
-    match parts.pop() {
+    match next(parts) {
         Some(Part::Absent) => Ok(Items::new(alloc)),
         Some(Part::Parameters(xs)) => Ok(xs),
         other => unfit(other),
@@ -253,11 +253,11 @@ pub(crate) fn parameters(
 /// It may be absent.
 pub(crate) fn imports(
     alloc: Global,
-    parts: &mut Stack<Part>,
+    parts: &mut Stack<Held>,
 ) -> Result<Items<ImportStatement>, AllocError>
     ensures { IfOk result (λ xs. TakesAs imports_of parts.old xs parts.new) }
 {
-    match parts.pop() {
+    match next(parts) {
         Some(Part::Absent) => Ok(Items::new(alloc)),
         Some(Part::Imports(xs)) => Ok(xs),
         other => unfit(other),
@@ -267,11 +267,11 @@ pub(crate) fn imports(
 /// It may be absent.
 pub(crate) fn directives(
     alloc: Global,
-    parts: &mut Stack<Part>,
+    parts: &mut Stack<Held>,
 ) -> Result<Items<GlobalDirective>, AllocError>
     ensures { IfOk result (λ xs. TakesAs directives_of parts.old xs parts.new) }
 {
-    match parts.pop() {
+    match next(parts) {
         Some(Part::Absent) => Ok(Items::new(alloc)),
         Some(Part::Directives(xs)) => Ok(xs),
         other => unfit(other),
@@ -281,11 +281,11 @@ pub(crate) fn directives(
 /// It may be absent.
 pub(crate) fn globals(
     alloc: Global,
-    parts: &mut Stack<Part>,
+    parts: &mut Stack<Held>,
 ) -> Result<Items<GlobalDeclarationNode>, AllocError>
     ensures { IfOk result (λ xs. TakesAs globals_of parts.old xs parts.new) }
 {
-    match parts.pop() {
+    match next(parts) {
         Some(Part::Absent) => Ok(Items::new(alloc)),
         Some(Part::Globals(xs)) => Ok(xs),
         other => unfit(other),
@@ -295,11 +295,11 @@ pub(crate) fn globals(
 /// The attributes and the type of a function's result, which may be absent.
 pub(crate) fn returned(
     alloc: Global,
-    parts: &mut Stack<Part>,
+    parts: &mut Stack<Held>,
 ) -> Result<(Attributes, Option<TypeExpression>), AllocError>
     ensures { IfOk result (λ found. (part : _) × (parts.old ≡ part ∷ parts.new) × (found.0 ≡ return_attributes_of part) × (found.1 ≡ return_type_in part)) }
 {
-    match parts.pop() {
+    match next(parts) {
         Some(Part::Absent) => Ok((Items::new(alloc), None)),
         Some(Part::Result(x)) => {
             let FunctionResult { attributes, ty } = x.into_inner();

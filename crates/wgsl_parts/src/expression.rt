@@ -3,6 +3,7 @@
 ghost use Rattle.std.specs.Prelude.{◌≡◌, IfOk};
 ghost use Rattle.wgsl_parts.specs.Making as making;
 
+use crate::held::Held;
 use crate::label::ExpressionLabel;
 use crate::part::{Part, QualifiedName};
 use crate::take::{call, end, ended, expression, ident, literal, path, ty};
@@ -20,7 +21,7 @@ fn make_operation(
     alloc: Global,
     label: ExpressionLabel,
     span: Span,
-    parts: &mut Stack<Part>,
+    parts: &mut Stack<Held>,
 ) -> Result<Part, AllocError>
     ensures { IfOk result (λ part. part ≡ making.make_expression label span parts.old) }
 {
@@ -61,7 +62,7 @@ pub fn make_expression(
     alloc: Global,
     label: ExpressionLabel,
     span: Span,
-    parts: &mut Stack<Part>,
+    parts: &mut Stack<Held>,
 ) -> Result<Part, AllocError>
     ensures { IfOk result (λ part. part ≡ making.make_expression label span parts.old) }
 {

@@ -3,6 +3,7 @@
 #![tactic(auto)]
 
 mod expression;
+mod held;
 mod label;
 mod list;
 mod more;
@@ -14,6 +15,7 @@ pub mod take;
 mod value;
 
 pub use expression::make_expression;
+pub use held::{Held, next, one_expression, placed};
 pub use label::{
     AttributeLabel, ClauseLabel, DeclarationLabel, DirectiveLabel, ExpressionLabel, ImportLabel,
     Label, NameLabel, PlainLabel, StatementLabel, ValueLabel,

@@ -3,6 +3,7 @@
 ghost use Rattle.std.specs.Prelude.{◌≡◌, ◌∷◌, [], IfOk};
 ghost use Rattle.wgsl_parts.specs.Lists as making;
 
+use crate::held::Held;
 use crate::more::joined;
 use crate::part::Part;
 use crate::take::{end, first, misfit};
@@ -11,7 +12,7 @@ use wgsl_items::Items;
 use wgsl_stack::Stack;
 
 /// The one part.
-pub fn pass(parts: &mut Stack<Part>) -> Result<Part, AllocError>
+pub fn pass(parts: &mut Stack<Held>) -> Result<Part, AllocError>
     ensures { IfOk result (λ part. part ≡ making.pass parts.old) }
 {
     let part = first(parts)?;
@@ -31,7 +32,7 @@ pub fn one<T: Drop>(alloc: Global, item: T) -> Result<Items<T>, AllocError>
 }
 
 /// A list of the one part.
-pub fn make_first(alloc: Global, parts: &mut Stack<Part>) -> Result<Part, AllocError>
+pub fn make_first(alloc: Global, parts: &mut Stack<Held>) -> Result<Part, AllocError>
     ensures { IfOk result (λ part. part ≡ making.make_first parts.old) }
 {
     match pass(parts)? {
@@ -53,7 +54,7 @@ pub fn make_first(alloc: Global, parts: &mut Stack<Part>) -> Result<Part, AllocE
 }
 
 /// A list, and one more.
-pub fn make_more(parts: &mut Stack<Part>) -> Result<Part, AllocError>
+pub fn make_more(parts: &mut Stack<Held>) -> Result<Part, AllocError>
     ensures { IfOk result (λ part. part ≡ making.make_more parts.old) }
 {
     let list = first(parts)?;

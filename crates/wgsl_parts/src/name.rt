@@ -3,6 +3,7 @@
 ghost use Rattle.std.specs.Prelude.{◌≡◌, IfOk};
 ghost use Rattle.wgsl_parts.specs.Making as making;
 
+use crate::held::Held;
 use crate::label::NameLabel;
 use crate::part::{Part, QualifiedName};
 use crate::path::{template, within};
@@ -22,7 +23,7 @@ fn behind(alloc: Global, path: ModulePath, ident: Ident) -> Result<QualifiedName
 }
 
 /// Names behind paths, and levels above. The other labels are answered as if memory were refused.
-fn make_path(alloc: Global, label: NameLabel, parts: &mut Stack<Part>) -> Result<Part, AllocError>
+fn make_path(alloc: Global, label: NameLabel, parts: &mut Stack<Held>) -> Result<Part, AllocError>
     ensures { IfOk result (λ part. part ≡ making.make_name label parts.old) }
 {
     match label {
@@ -66,7 +67,7 @@ fn make_path(alloc: Global, label: NameLabel, parts: &mut Stack<Part>) -> Result
 pub fn make_name(
     alloc: Global,
     label: NameLabel,
-    parts: &mut Stack<Part>,
+    parts: &mut Stack<Held>,
 ) -> Result<Part, AllocError>
     ensures { IfOk result (λ part. part ≡ making.make_name label parts.old) }
 {

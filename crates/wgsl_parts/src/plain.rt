@@ -3,6 +3,7 @@
 ghost use Rattle.std.specs.Prelude.{◌≡◌, IfOk};
 ghost use Rattle.wgsl_parts.specs.Values as making;
 
+use crate::held::Held;
 use crate::label::PlainLabel;
 use crate::part::Part;
 use crate::take::{assertion, call, declaration, end, ended, expression, optional_expression};
@@ -19,7 +20,7 @@ use wgsl_statements::Statement;
 fn make_keyword(
     alloc: Global,
     label: PlainLabel,
-    parts: &mut Stack<Part>,
+    parts: &mut Stack<Held>,
 ) -> Result<Part, AllocError>
     ensures { IfOk result (λ part. part ≡ making.make_plain label parts.old) }
 {
@@ -57,7 +58,7 @@ fn make_keyword(
 pub fn make_plain(
     alloc: Global,
     label: PlainLabel,
-    parts: &mut Stack<Part>,
+    parts: &mut Stack<Held>,
 ) -> Result<Part, AllocError>
     ensures { IfOk result (λ part. part ≡ making.make_plain label parts.old) }
 {

@@ -4,6 +4,7 @@
 ghost use Rattle.std.specs.Prelude.{◌≡◌, ◌∷◌, [], IfOk, Ok, Some};
 ghost use Rattle.wgsl_parts.specs.Reading.{TakesAs, expression_in, expressions_of, attributes_of};
 
+use crate::held::{Held, next};
 use crate::part::{Part, QualifiedName, TypedName};
 use std::alloc::{AllocError, Global};
 use wgsl_attributes::Attributes;
@@ -15,20 +16,20 @@ use wgsl_stack::Stack;
 use wgsl_statements::CompoundStatement;
 
 /// The first part.
-pub fn first(parts: &mut Stack<Part>) -> Result<Part, AllocError>
+pub fn first(parts: &mut Stack<Held>) -> Result<Part, AllocError>
     ensures { IfOk result (λ part. parts.old ≡ part ∷ parts.new) }
 {
-    match parts.pop() {
+    match next(parts) {
         Some(part) => Ok(part),
         None => Err(AllocError),
     }
 }
 
 /// No part is left.
-pub fn end(parts: &mut Stack<Part>) -> Result<(), AllocError>
+pub fn end(parts: &mut Stack<Held>) -> Result<(), AllocError>
     ensures { IfOk result (λ _. parts.old ≡ []) }
 {
-    match parts.pop() {
+    match next(parts) {
         None => Ok(()),
         Some(part) => misfit(part),
     }
@@ -53,7 +54,7 @@ pub fn unfit<T>(part: Option<Part>) -> Result<T, AllocError>
 /// What was taken, if no part is left.
 pub fn ended<T: Drop>(
     taken: Result<T, AllocError>,
-    parts: &mut Stack<Part>,
+    parts: &mut Stack<Held>,
 ) -> Result<T, AllocError>
     ensures { IfOk result (λ x. (taken ≡ Ok x) × (parts.old ≡ [])) }
 {
@@ -62,10 +63,10 @@ pub fn ended<T: Drop>(
     Ok(taken)
 }
 
-pub fn ident(parts: &mut Stack<Part>) -> Result<Ident, AllocError>
+pub fn ident(parts: &mut Stack<Held>) -> Result<Ident, AllocError>
     ensures { IfOk result (λ x. parts.old ≡ Part.Ident x ∷ parts.new) }
 {
-    match parts.pop() {
+    match next(parts) {
         Some(Part::Ident(x)) => Ok(x),
         other => unfit(other),
     }
@@ -80,74 +81,74 @@ fn ups_in(part: &Option<Part>) -> Result<usize, AllocError>
     }
 }
 
-pub fn ups(parts: &mut Stack<Part>) -> Result<usize, AllocError>
+pub fn ups(parts: &mut Stack<Held>) -> Result<usize, AllocError>
     ensures { IfOk result (λ n. parts.old ≡ Part.Ups n ∷ parts.new) }
 {
-    let part = parts.pop();
+    let part = next(parts);
     let levels = ups_in(&part);
     drop(part);
     levels
 }
 
-pub fn ty(parts: &mut Stack<Part>) -> Result<TypeExpression, AllocError>
+pub fn ty(parts: &mut Stack<Held>) -> Result<TypeExpression, AllocError>
     ensures { IfOk result (λ x. parts.old ≡ Part.Type x ∷ parts.new) }
 {
-    match parts.pop() {
+    match next(parts) {
         Some(Part::Type(x)) => Ok(x),
         other => unfit(other),
     }
 }
 
-pub fn call(parts: &mut Stack<Part>) -> Result<Boxed<FunctionCall>, AllocError>
+pub fn call(parts: &mut Stack<Held>) -> Result<Boxed<FunctionCall>, AllocError>
     ensures { IfOk result (λ x. parts.old ≡ Part.Call x ∷ parts.new) }
 {
-    match parts.pop() {
+    match next(parts) {
         Some(Part::Call(x)) => Ok(x),
         other => unfit(other),
     }
 }
 
-pub fn expression(parts: &mut Stack<Part>) -> Result<ExpressionNode, AllocError>
+pub fn expression(parts: &mut Stack<Held>) -> Result<ExpressionNode, AllocError>
     ensures { IfOk result (λ x. parts.old ≡ Part.Expression x ∷ parts.new) }
 {
-    match parts.pop() {
+    match next(parts) {
         Some(Part::Expression(x)) => Ok(x),
         other => unfit(other),
     }
 }
 
-pub fn declaration(parts: &mut Stack<Part>) -> Result<Boxed<Declaration>, AllocError>
+pub fn declaration(parts: &mut Stack<Held>) -> Result<Boxed<Declaration>, AllocError>
     ensures { IfOk result (λ x. parts.old ≡ Part.Declaration x ∷ parts.new) }
 {
-    match parts.pop() {
+    match next(parts) {
         Some(Part::Declaration(x)) => Ok(x),
         other => unfit(other),
     }
 }
 
-pub fn assertion(parts: &mut Stack<Part>) -> Result<ConstAssert, AllocError>
+pub fn assertion(parts: &mut Stack<Held>) -> Result<ConstAssert, AllocError>
     ensures { IfOk result (λ x. parts.old ≡ Part.Assertion x ∷ parts.new) }
 {
-    match parts.pop() {
+    match next(parts) {
         Some(Part::Assertion(x)) => Ok(x),
         other => unfit(other),
     }
 }
 
-pub fn block(parts: &mut Stack<Part>) -> Result<CompoundStatement, AllocError>
+pub fn block(parts: &mut Stack<Held>) -> Result<CompoundStatement, AllocError>
     ensures { IfOk result (λ x. parts.old ≡ Part.Block x ∷ parts.new) }
 {
-    match parts.pop() {
+    match next(parts) {
         Some(Part::Block(x)) => Ok(x),
         other => unfit(other),
     }
 }
 
 /// An expression that may be absent.
-pub fn optional_expression(parts: &mut Stack<Part>) -> Result<Option<ExpressionNode>, AllocError>
+pub fn optional_expression(parts: &mut Stack<Held>) -> Result<Option<ExpressionNode>, AllocError>
     ensures { IfOk result (λ x. TakesAs expression_in parts.old x parts.new) }
 {
-    match parts.pop() {
+    match next(parts) {
         Some(Part::Absent) => Ok(None),
         Some(Part::Expression(x)) => Ok(Some(x)),
         other => unfit(other),
@@ -157,11 +158,11 @@ pub fn optional_expression(parts: &mut Stack<Part>) -> Result<Option<ExpressionN
 /// Expressions that may be absent.
 pub fn expressions(
     alloc: Global,
-    parts: &mut Stack<Part>,
+    parts: &mut Stack<Held>,
 ) -> Result<Items<ExpressionNode>, AllocError>
     ensures { IfOk result (λ xs. TakesAs expressions_of parts.old xs parts.new) }
 {
-    match parts.pop() {
+    match next(parts) {
         Some(Part::Absent) => Ok(Items::new(alloc)),
         Some(Part::Expressions(xs)) => Ok(xs),
         other => unfit(other),
@@ -169,39 +170,39 @@ pub fn expressions(
 }
 
 /// Attributes that may be absent.
-pub fn attributes(alloc: Global, parts: &mut Stack<Part>) -> Result<Attributes, AllocError>
+pub fn attributes(alloc: Global, parts: &mut Stack<Held>) -> Result<Attributes, AllocError>
     ensures { IfOk result (λ xs. TakesAs attributes_of parts.old xs parts.new) }
 {
-    match parts.pop() {
+    match next(parts) {
         Some(Part::Absent) => Ok(Items::new(alloc)),
         Some(Part::Attributes(xs)) => Ok(xs),
         other => unfit(other),
     }
 }
 
-pub(crate) fn literal(parts: &mut Stack<Part>) -> Result<LiteralExpression, AllocError>
+pub(crate) fn literal(parts: &mut Stack<Held>) -> Result<LiteralExpression, AllocError>
     ensures { IfOk result (λ x. parts.old ≡ Part.Literal x ∷ parts.new) }
 {
-    match parts.pop() {
+    match next(parts) {
         Some(Part::Literal(x)) => Ok(x),
         other => unfit(other),
     }
 }
 
-pub(crate) fn path(parts: &mut Stack<Part>) -> Result<QualifiedName, AllocError>
+pub(crate) fn path(parts: &mut Stack<Held>) -> Result<QualifiedName, AllocError>
     ensures { IfOk result (λ x. parts.old ≡ Part.Path x ∷ parts.new) }
 {
-    match parts.pop() {
+    match next(parts) {
         Some(Part::Path(x)) => Ok(x),
         other => unfit(other),
     }
 }
 
 /// Expressions that are never absent.
-pub(crate) fn list(parts: &mut Stack<Part>) -> Result<Items<ExpressionNode>, AllocError>
+pub(crate) fn list(parts: &mut Stack<Held>) -> Result<Items<ExpressionNode>, AllocError>
     ensures { IfOk result (λ xs. parts.old ≡ Part.Expressions xs ∷ parts.new) }
 {
-    match parts.pop() {
+    match next(parts) {
         Some(Part::Expressions(xs)) => Ok(xs),
         other => unfit(other),
     }
@@ -216,19 +217,19 @@ fn kind_in(part: &Option<Part>) -> Result<DeclarationKind, AllocError>
     }
 }
 
-pub(crate) fn kind(parts: &mut Stack<Part>) -> Result<DeclarationKind, AllocError>
+pub(crate) fn kind(parts: &mut Stack<Held>) -> Result<DeclarationKind, AllocError>
     ensures { IfOk result (λ x. parts.old ≡ Part.Kind x ∷ parts.new) }
 {
-    let part = parts.pop();
+    let part = next(parts);
     let kind = kind_in(&part);
     drop(part);
     kind
 }
 
-pub(crate) fn typed_name(parts: &mut Stack<Part>) -> Result<TypedName, AllocError>
+pub(crate) fn typed_name(parts: &mut Stack<Held>) -> Result<TypedName, AllocError>
     ensures { IfOk result (λ x. parts.old ≡ Part.Typed x ∷ parts.new) }
 {
-    match parts.pop() {
+    match next(parts) {
         Some(Part::Typed(x)) => Ok(x.into_inner()),
         other => unfit(other),
     }

@@ -3,6 +3,7 @@
 ghost use Rattle.std.specs.Prelude.{◌≡◌, IfOk};
 ghost use Rattle.wgsl_parts.specs.Values as making;
 
+use crate::held::Held;
 use crate::label::ValueLabel;
 use crate::part::{Part, TypedName};
 use crate::take::{ended, expression, ident, kind, ty, typed_name};
@@ -35,7 +36,7 @@ fn declared(
 fn make_declaration(
     alloc: Global,
     label: ValueLabel,
-    parts: &mut Stack<Part>,
+    parts: &mut Stack<Held>,
 ) -> Result<Part, AllocError>
     ensures { IfOk result (λ part. part ≡ making.make_value label parts.old) }
 {
@@ -77,7 +78,7 @@ fn make_declaration(
 pub fn make_value(
     alloc: Global,
     label: ValueLabel,
-    parts: &mut Stack<Part>,
+    parts: &mut Stack<Held>,
 ) -> Result<Part, AllocError>
     ensures { IfOk result (λ part. part ≡ making.make_value label parts.old) }
 {

@@ -8,11 +8,8 @@ use Rattle.wgsl_shift_reduce.specs.Machine.{popped}
 use Rattle.wgsl_reading.specs.declared.phrase.Failure.{Failure}
 use Rattle.wgsl_reading.specs.declared.phrase.Phrase.{Phrase}
 use Rattle.wgsl_reading.specs.declared.gather.Extent.{Extent}
+use Rattle.wgsl_reading.proofs.Failing.{either_either}
 use Rattle.wgsl_reading.specs.Gathering.{either, extent_of, joined, extent_from, chosen, begun, below_taken, IsGathered, Gathers, Takes}
-
-either_either : (a b c : Option Failure) → either (either a b) c ≡ either a (either b c)
-either_either None b c = refl
-either_either (Some f) b c = refl
 
 max_max : (a b c : ℕ) → max (max a b) c ≡ max a (max b c)
 max_max a b c = omega arith

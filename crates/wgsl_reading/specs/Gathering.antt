@@ -26,10 +26,6 @@ module _ {P : Type 0} where
   extent_from e [] = e
   extent_from e (x ∷ xs) = extent_from (Some (joined e x)) xs
 
-  abbrev pub tail : List (Phrase P) → List (Phrase P)
-  tail [] = []
-  tail (x ∷ xs) = xs
-
   abbrev pub part_first : P → List (Phrase P) → P
   part_first absent [] = absent
   part_first absent (x ∷ xs) = x.part
@@ -38,7 +34,7 @@ module _ {P : Type 0} where
   abbrev pub chosen : P → List ℕ → List (Phrase P) → List P
   chosen absent [] xs = []
   chosen absent (c ∷ cs) xs =
-      if c == 0 then absent ∷ chosen absent cs xs else if c == 1 then chosen absent cs (tail xs) else part_first absent xs ∷ chosen absent cs (tail xs)
+      if c == 0 then absent ∷ chosen absent cs xs else if c == 1 then chosen absent cs (without_first xs) else part_first absent xs ∷ chosen absent cs (without_first xs)
 
   -- the extent of what begins with a phrase and goes on so
   abbrev pub begun : Phrase P → Option Extent → Extent

@@ -2,7 +2,6 @@
 
 ghost use Rattle.std.specs.Prelude.{◌≡◌, ◌∷◌, [], Some, IfOk};
 ghost use Rattle.wgsl_make.specs.Making as making;
-ghost use Rattle.wgsl_parts.specs.declared.part.Part.TheVariants.{Absent};
 ghost use Rattle.wgsl_reading.specs.Gathering.{extent_of};
 ghost use Rattle.wgsl_reading.specs.Alone.{MakesAlone};
 ghost use Rattle.wgsl_reading.specs.Phrases.{made};
@@ -12,59 +11,50 @@ use crate::failure::{failure_at, made_failed, severity_alone_failed};
 use crate::gather::first_failure;
 use crate::phrase::Phrase;
 use std::alloc::{AllocError, Global};
-use std::mem;
 use wgsl_expressions::{Expression, TypeExpression};
 use wgsl_make::make;
-use wgsl_parts::{ExpressionLabel, Label, NameLabel, Part, QualifiedName, one};
-use wgsl_path::{Span, Spanned};
+use wgsl_parts::{
+    ExpressionLabel, Held, Label, NameLabel, Part, QualifiedName, one_expression, placed,
+};
+use wgsl_path::Span;
 use wgsl_stack::Stack;
 
-/// Puts a part where an absent one stands, which owns nothing and needs no drop.
-#[inline(always)]
-fn put(place: &mut Part, part: Part)
-    requires { place.old ≡ Absent }
-    ensures { place.new ≡ part }
-{
-    mem::forget(mem::replace(place, part));
-}
-
 /// Makes a name of a word in its place. Whether it did; if not, the phrase stays. No check of a name fails.
-fn name_in_place(value: &mut Phrase<Part>) -> bool
+fn name_in_place(value: &mut Phrase<Held>) -> bool
     ensures { MakesAlone (Label.Name NameLabel.NameAlone) value.old value.new result }
 {
-    match mem::replace(&mut value.part, Part::Absent) {
+    match value.part.take() {
         Part::Ident(ident) => {
-            put(
-                &mut value.part,
-                Part::Path(QualifiedName { path: None, ident }),
-            );
+            value
+                .part
+                .put(Part::Path(QualifiedName { path: None, ident }));
             value.failure = first_failure(value.failure, None);
             true
         }
         part => {
-            put(&mut value.part, part);
+            value.part.put(part);
             false
         }
     }
 }
 
 /// Makes a type of a name in its place. Whether it did; if not, the phrase stays. No check of a type fails.
-fn type_in_place(value: &mut Phrase<Part>) -> bool
+fn type_in_place(value: &mut Phrase<Held>) -> bool
     ensures { MakesAlone (Label.Name NameLabel.Simple) value.old value.new result }
 {
-    match mem::replace(&mut value.part, Part::Absent) {
+    match value.part.take() {
         Part::Path(QualifiedName { path, ident }) => {
             let ty = TypeExpression {
                 path,
                 ident,
                 template_args: None,
             };
-            put(&mut value.part, Part::Type(ty));
+            value.part.put(Part::Type(ty));
             value.failure = first_failure(value.failure, None);
             true
         }
         part => {
-            put(&mut value.part, part);
+            value.part.put(part);
             false
         }
     }
@@ -74,46 +64,46 @@ fn type_in_place(value: &mut Phrase<Part>) -> bool
 fn expression_in_place(
     alloc: Global,
     label: ExpressionLabel,
-    value: &mut Phrase<Part>,
+    value: &mut Phrase<Held>,
 ) -> Result<bool, AllocError>
     ensures { IfOk result (MakesAlone (Label.Expression label) value.old value.new) }
 {
     let depth = deeper(Label::Expression(label), value.depth)?;
-    let expression = match (label, mem::replace(&mut value.part, Part::Absent)) {
+    let expression = match (label, value.part.take()) {
         (ExpressionLabel::ALiteral, Part::Literal(literal)) => Expression::Literal(literal),
         (ExpressionLabel::Named, Part::Type(ty)) => Expression::TypeOrIdentifier(ty),
         (_, part) => {
-            put(&mut value.part, part);
+            value.part.put(part);
             return Ok(false);
         }
     };
-    let expression = Spanned::new(alloc, expression, value.span)?;
-    put(&mut value.part, Part::Expression(expression));
+    let expression = placed(alloc, expression, value.span)?;
+    value.part.put(Part::Expression(expression));
     value.failure = first_failure(value.failure, None);
     value.depth = depth;
     Ok(true)
 }
 
 /// Makes a list of an expression in its place. Whether it did; if not, the phrase stays. No check of a list fails.
-fn list_in_place(alloc: Global, value: &mut Phrase<Part>) -> Result<bool, AllocError>
+fn list_in_place(alloc: Global, value: &mut Phrase<Held>) -> Result<bool, AllocError>
     ensures { IfOk result (MakesAlone Label.First value.old value.new) }
 {
-    match mem::replace(&mut value.part, Part::Absent) {
+    match value.part.take() {
         Part::Expression(expression) => {
-            let list = one(alloc, expression)?;
-            put(&mut value.part, Part::Expressions(list));
+            let list = one_expression(alloc, expression)?;
+            value.part.put(Part::Expressions(list));
             value.failure = first_failure(value.failure, None);
             Ok(true)
         }
         part => {
-            put(&mut value.part, part);
+            value.part.put(part);
             Ok(false)
         }
     }
 }
 
 /// The most frequent productions of one part. Whether it was one; if not, the phrase stays.
-fn made_in_place(alloc: Global, label: Label, value: &mut Phrase<Part>) -> Result<bool, AllocError>
+fn made_in_place(alloc: Global, label: Label, value: &mut Phrase<Held>) -> Result<bool, AllocError>
     ensures { IfOk result (MakesAlone label value.old value.new) }
 {
     match label {
@@ -131,12 +121,12 @@ fn make_in_room(
     label: Label,
     span: Span,
     part: Part,
-    room: &mut Stack<Part>,
+    room: &mut Stack<Held>,
 ) -> Result<Part, AllocError>
     ensures { IfOk result (λ made. made ≡ making.make label span (part ∷ [])) }
 {
     room.clear();
-    room.push(part)?;
+    room.push(Held::new(part))?;
     make(alloc, label, span, room)
 }
 
@@ -145,17 +135,17 @@ fn make_in_room(
 fn remade_in_room(
     alloc: Global,
     label: Label,
-    value: &mut Phrase<Part>,
-    room: &mut Stack<Part>,
+    value: &mut Phrase<Held>,
+    room: &mut Stack<Held>,
 ) -> Result<(), AllocError>
     ensures { IfOk result (λ _. value.new ≡ made label (Some (extent_of value.old)) (value.old.part ∷ [])) }
 {
     let depth = deeper(label, value.depth)?;
     let severity = severity_alone_failed(label, &value.part);
-    let part = mem::replace(&mut value.part, Part::Absent);
+    let part = value.part.take();
     let part = make_in_room(alloc, label, value.span, part, room)?;
     let failure = failure_at(value.last, severity, made_failed(label, &part));
-    put(&mut value.part, part);
+    value.part.put(part);
     value.failure = first_failure(value.failure, failure);
     value.depth = depth;
     Ok(())
@@ -165,8 +155,8 @@ fn remade_in_room(
 pub(crate) fn remade(
     alloc: Global,
     label: Label,
-    value: &mut Phrase<Part>,
-    room: &mut Stack<Part>,
+    value: &mut Phrase<Held>,
+    room: &mut Stack<Held>,
 ) -> Result<(), AllocError>
     ensures { IfOk result (λ _. value.new ≡ made label (Some (extent_of value.old)) (value.old.part ∷ [])) }
 {

@@ -8,7 +8,7 @@ use crate::driver::{Reader, Start};
 use crate::gather::first_failure;
 use crate::phrase::{Failure, Phrase};
 use std::alloc::Global;
-use wgsl_parts::Part;
+use wgsl_parts::{Held, Part};
 use wgsl_shift_reduce::{Entry, Stopped, run};
 use wgsl_stack::{Queue, Stack};
 use wgsl_template_spec::SpannedTemplateToken;
@@ -38,12 +38,12 @@ fn failure_on<P: Drop>(stack: Stack<Entry<Phrase<P>>>) -> Option<Failure>
 }
 
 /// What a phrase stands for, unless a check fails in it.
-fn passed<P: Drop>(phrase: Phrase<P>) -> Result<P, Unread>
+fn passed(phrase: Phrase<Held>) -> Result<Part, Unread>
     ensures { result ≡ passing phrase.failure phrase.part }
 {
     let Phrase { part, failure, .. } = phrase;
     match failure {
-        None => Ok(part),
+        None => Ok(part.into_part()),
         Some(failure) => Err(Unread::Failed(failure)),
     }
 }

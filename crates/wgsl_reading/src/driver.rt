@@ -16,7 +16,7 @@ use std::mem;
 use wgsl_grammar_tables::class::class_of;
 use wgsl_grammar_tables::{drive, passed_to, rule_label, rule_pattern};
 use wgsl_make::make;
-use wgsl_parts::{ImportLabel, Label, NameLabel, Part};
+use wgsl_parts::{Held, ImportLabel, Label, NameLabel};
 use wgsl_shift_reduce::{Action, Driver, Entry, Shape};
 use wgsl_stack::Stack;
 use wgsl_template_spec::SpannedTemplateToken;
@@ -107,8 +107,8 @@ fn make_into(
     alloc: Global,
     label: Label,
     extent: Extent,
-    phrase: &mut Phrase<Part>,
-    parts: &mut Stack<Part>,
+    phrase: &mut Phrase<Held>,
+    parts: &mut Stack<Held>,
 ) -> Result<(), AllocError>
     ensures { IfOk result (λ _. phrase.new ≡ made label (Some extent) parts.old) }
 {
@@ -116,7 +116,7 @@ fn make_into(
     let severity = severity_failed(label, parts);
     let part = make(alloc, label, extent.span, parts)?;
     let failure = failure_at(extent.last, severity, made_failed(label, &part));
-    drop(mem::replace(&mut phrase.part, part));
+    drop(mem::replace(&mut phrase.part, Held::new(part)));
     phrase.span = extent.span;
     phrase.last = extent.last;
     phrase.failure = first_failure(extent.failure, failure);
@@ -131,8 +131,8 @@ fn make_several(
     alloc: Global,
     rule: u16,
     count: usize,
-    stack: &mut Stack<Entry<Phrase<Part>>>,
-    room: &mut Stack<Part>,
+    stack: &mut Stack<Entry<Phrase<Held>>>,
+    room: &mut Stack<Held>,
 ) -> Result<(), AllocError>
     ensures { IfOk result (λ _. IsMade grammar rule count stack.old stack.new) }
 {
@@ -148,8 +148,8 @@ fn make_several(
 fn make_alone(
     alloc: Global,
     rule: u16,
-    stack: &mut Stack<Entry<Phrase<Part>>>,
-    room: &mut Stack<Part>,
+    stack: &mut Stack<Entry<Phrase<Held>>>,
+    room: &mut Stack<Held>,
 ) -> Result<(), AllocError>
     requires { pattern_at rule ≡ 2 ∷ [] }
     ensures { IfOk result (λ _. IsMade grammar rule 1 stack.old stack.new) }
@@ -170,9 +170,9 @@ fn is_part_alone(pattern: &[u16]) -> bool
 impl Driver for Reader {
     type Token = SpannedTemplateToken;
 
-    type Value = Phrase<Part>;
+    type Value = Phrase<Held>;
 
-    type Room = Stack<Part>;
+    type Room = Stack<Held>;
 
     ghost use Rattle.wgsl_reading.specs.Phrases.{grammar, tables_of, IsKept};
 
@@ -182,10 +182,10 @@ impl Driver for Reader {
 
     ghost kept = { IsKept };
 
-    fn leaf(&self, token: SpannedTemplateToken) -> Phrase<Part> {
+    fn leaf(&self, token: SpannedTemplateToken) -> Phrase<Held> {
         let SpannedTemplateToken { token, span } = token;
         Phrase {
-            part: leaf(token),
+            part: Held::new(leaf(token)),
             span,
             last: span,
             failure: None,
@@ -212,7 +212,7 @@ impl Driver for Reader {
         drive::shape(rule)
     }
 
-    fn room(&self) -> Stack<Part> {
+    fn room(&self) -> Stack<Held> {
         Stack::new(self.alloc)
     }
 
@@ -220,8 +220,8 @@ impl Driver for Reader {
         &self,
         rule: u16,
         count: usize,
-        stack: &mut Stack<Entry<Phrase<Part>>>,
-        room: &mut Stack<Part>,
+        stack: &mut Stack<Entry<Phrase<Held>>>,
+        room: &mut Stack<Held>,
     ) -> Result<(), AllocError> {
         if count == 1 && is_part_alone(rule_pattern(rule)) {
             return make_alone(self.alloc, rule, stack, room);
@@ -230,8 +230,8 @@ impl Driver for Reader {
     }
 
     /// A check of what is passed on is made again, which can fail for attributes and templates of `var` alone.
-    fn is_kept(&self, part: &Phrase<Part>) -> bool {
-        made_failed(Label::Pass, &part.part).is_none()
+    fn is_kept(&self, part: &Phrase<Held>) -> bool {
+        made_failed(Label::Pass, part.part.part()).is_none()
     }
 
     #[tactic(auto, using(crate::proofs::Passing::passes_kept))]

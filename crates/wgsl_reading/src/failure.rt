@@ -8,7 +8,7 @@ use crate::phrase::{Check, Failure};
 use wgsl_attribute_words::{AttributeWord, severity_in, word_named};
 use wgsl_attributes::{Attribute, CustomAttribute};
 use wgsl_choices::severity;
-use wgsl_parts::{AttributeLabel, DirectiveLabel, Label, Part, Stack};
+use wgsl_parts::{AttributeLabel, DirectiveLabel, Held, Label, Part, Stack};
 use wgsl_path::Span;
 use wgsl_simple_statements::DeclarationKind;
 
@@ -63,11 +63,11 @@ pub(crate) fn made_failed(label: Label, part: &Part) -> Option<Check>
     }
 }
 
-fn severity_of(part: Option<&Part>) -> Option<Check>
+fn severity_of(part: Option<&Held>) -> Option<Check>
     ensures { result ≡ failures.part_severity (option_copied part.entry) }
 {
-    match part {
-        Some(Part::Ident(name)) => match severity(name.name.as_str()) {
+    match part?.part() {
+        Part::Ident(name) => match severity(name.name.as_str()) {
             Some(_) => None,
             None => Some(Check::DiagnosticSeverity),
         },
@@ -76,7 +76,7 @@ fn severity_of(part: Option<&Part>) -> Option<Check>
 }
 
 /// Whether the severity of a directive is none.
-pub(crate) fn severity_failed(label: Label, parts: &Stack<Part>) -> Option<Check>
+pub(crate) fn severity_failed(label: Label, parts: &Stack<Held>) -> Option<Check>
     ensures { result ≡ failures.severity_failed label parts.now }
 {
     match label {
@@ -86,7 +86,7 @@ pub(crate) fn severity_failed(label: Label, parts: &Stack<Part>) -> Option<Check
 }
 
 /// Whether the severity of a directive is none, if the directive has this part alone.
-pub(crate) fn severity_alone_failed(label: Label, part: &Part) -> Option<Check>
+pub(crate) fn severity_alone_failed(label: Label, part: &Held) -> Option<Check>
     ensures { result ≡ failures.severity_failed label (part.now ∷ []) }
 {
     match label {

@@ -52,6 +52,16 @@ fn begin<P>(extent: &mut Option<Extent>, phrase: &Phrase<P>)
     }
 }
 
+/// Drops a part. A mark owns nothing, and takes no call.
+#[inline(always)]
+fn let_go<P: Absence>(part: P) {
+    if part.is_mark() {
+        mem::forget(part);
+    } else {
+        drop(part);
+    }
+}
+
 /// Takes a phrase's part, unless the place chooses none, and has the extent begin with the phrase. An absent part is left.
 fn take_part<P: Absence>(
     place: u16,
@@ -65,7 +75,7 @@ fn take_part<P: Absence>(
     begin(extent, phrase);
     let part = mem::replace(&mut phrase.part, P::absent());
     if place == 1 {
-        drop(part);
+        let_go(part);
         return Ok(());
     }
     parts.push(part)

@@ -1,8 +1,8 @@
 //! What a phrase stands for.
 
-ghost use Rattle.std.specs.Prelude.{◌≡◌};
+ghost use Rattle.std.specs.Prelude.{◌≡◌, true};
 
-use wgsl_parts::Part;
+use wgsl_parts::{Held, Part};
 use wgsl_path::Span;
 
 /// What may be left out of a row.
@@ -12,15 +12,27 @@ pub trait Absence: Drop {
 
     fn absent() -> Self
         ensures { result ≡ absent };
+
+    /// What stands for a token that says nothing but that it is there. It owns nothing.
+    ghost mark: { Self };
+
+    fn is_mark(&self) -> bool
+        ensures { result ≡ true → self.now ≡ mark };
 }
 
-impl Absence for Part {
-    ghost use Rattle.wgsl_parts.specs.declared.part.Part.TheVariants.{Absent};
+impl Absence for Held {
+    ghost use Rattle.wgsl_parts.specs.declared.part.Part.TheVariants.{Absent, Mark};
 
     ghost absent = { Absent };
 
-    fn absent() -> Part {
-        Part::Absent
+    ghost mark = { Mark };
+
+    fn absent() -> Held {
+        Held::new(Part::Absent)
+    }
+
+    fn is_mark(&self) -> bool {
+        matches!(self.part(), Part::Mark)
     }
 }
 
