@@ -12,7 +12,8 @@ use Rattle.wgsl_parser.specs.Texts.{IsModuleFault, IsBlank, empty_unit}
 use Rattle.wgsl_parser.proofs.Once.{module_apart}
 use Rattle.wgsl_read_back.proofs.ModuleLaws.{modules_are_read_back}
 use Rattle.wgsl_read_back.proofs.One.{texts_have_one_module}
-use Rattle.wgsl_derivable.specs.Derivable.{Says, SaysTree, IsDerivable, at_most_one}
+use Rattle.wgsl_alone.specs.Alone.{at_most_one}
+use Rattle.wgsl_derivable.specs.Derivable.{Says, SaysTree, IsDerivable}
 
 -- what some text derives, its printed text does
 printed_says : (u : UnitTree) → IsDerivable u → SaysTree (unit_text u) u

@@ -1,9 +1,8 @@
 -- Modules that some text derives.
-use Rattle.std.specs.Prelude.{◌≡◌, ℕ, List, [], ◌∷◌, Option, Some, None, Result, Ok, String, string_bytes}
-use Rattle.std.specs.List.{cons_option}
+use Rattle.std.specs.Prelude.{◌≡◌, ℕ, List, Option, Some, None, Result, Ok, String, string_bytes}
 use Rattle.std.specs.declared.alloc.Global.{Global}
 use Rattle.wgsl_declarations.specs.declared.unit.TranslationUnit.{TranslationUnit}
-use Rattle.wgsl_declarations.specs.Tree.{Decl, UnitTree}
+use Rattle.wgsl_declarations.specs.Tree.{UnitTree}
 use Rattle.wgsl_declarations.specs.View.{unit_tree}
 use Rattle.wgsl_declarations.specs.Print.{unit_text}
 use Rattle.wgsl_parser.specs.Texts.{ParsesModule}
@@ -21,14 +20,6 @@ pub record SaysTree (text : List ℕ) (u : UnitTree) : Type 0 where
 -- Some text derives this.
 abbrev pub IsDerivable : UnitTree → Type 0
 IsDerivable u = (text : List ℕ) × SaysTree text u
-
--- the module of a declaration alone
-abbrev pub alone : Decl → UnitTree
-alone d = record { imports = []; directives = []; declarations = d ∷ [] }
-
--- the module of one declaration, or of a `;`
-abbrev pub at_most_one : Option Decl → UnitTree
-at_most_one o = record { imports = []; directives = []; declarations = cons_option o [] }
 
 -- This is the printed text of the module, and its tree is that of the module; or there is none, since no text derives the module.
 abbrev pub IsPrinted : UnitTree → Option (String Global) → Type 0

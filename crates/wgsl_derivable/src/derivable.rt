@@ -4,16 +4,16 @@ ghost use Rattle.std.specs.Prelude.{◌≡◌, Decides, IfOk};
 ghost use Rattle.wgsl_declarations.specs.View.{declaration_tree, unit_tree};
 ghost use Rattle.wgsl_declarations.specs.Print.{unit_text};
 ghost use Rattle.wgsl_nodes_in_order.specs.Found.{node_of};
-ghost use Rattle.wgsl_derivable.specs.Placed.{holding};
-ghost use Rattle.wgsl_derivable.specs.Derivable.{IsDerivable, IsPrinted, alone, at_most_one};
+ghost use Rattle.wgsl_alone.specs.Placed.{holding};
+ghost use Rattle.wgsl_alone.specs.Alone.{alone, at_most_one};
+ghost use Rattle.wgsl_derivable.specs.Derivable.{IsDerivable, IsPrinted};
 
-use crate::placed::placed;
 use std::alloc::{AllocError, Global};
-use wgsl_declarations::{GlobalDeclaration, TranslationUnit};
-use wgsl_items::{CloneIn, FromIn};
+use wgsl_alone::{with_declaration, with_node};
+use wgsl_declarations::{GlobalDeclaration, TranslationUnit, let_go};
+use wgsl_items::CloneIn;
 use wgsl_nodes_in_order::NodeRef;
 use wgsl_parser::{ErrorKind, parse_str};
-use wgsl_path::Spanned;
 use wgsl_voids::remove_voids;
 
 /// Whether another module stands for the same tree. Both lose their empty items.
@@ -25,7 +25,9 @@ fn is_same(unit: &mut TranslationUnit, other: TranslationUnit) -> bool
     let mut other = other;
     remove_voids(unit);
     remove_voids(&mut other);
-    *unit == other
+    let same = *unit == other;
+    let_go(other);
+    same
 }
 
 /// Whether some text derives a module, by its printed text. The module loses its empty items.
@@ -69,22 +71,21 @@ fn is_derivable_as_it_is(alloc: Global, unit: &mut TranslationUnit) -> Result<bo
     is_said(alloc, printed.as_str(), unit)
 }
 
+/// Whether some text derives a module, which is dropped.
+fn is_dropped_derivable(alloc: Global, unit: TranslationUnit) -> Result<bool, AllocError>
+    ensures { IfOk result (λ derivable. Decides derivable (IsDerivable (unit_tree unit))) }
+{
+    let mut unit = unit;
+    let derivable = is_derivable_as_it_is(alloc, &mut unit);
+    let_go(unit);
+    derivable
+}
+
 /// Whether some text derives a module.
 pub fn is_derivable(alloc: Global, unit: &TranslationUnit) -> Result<bool, AllocError>
     ensures { IfOk result (λ derivable. Decides derivable (IsDerivable (unit_tree unit.now))) }
 {
-    let mut copy = unit.clone_in(alloc)?;
-    is_derivable_as_it_is(alloc, &mut copy)
-}
-
-/// Whether some text derives the module of a declaration alone.
-fn is_derivable_alone(alloc: Global, declaration: GlobalDeclaration) -> Result<bool, AllocError>
-    ensures { IfOk result (λ derivable. Decides derivable (IsDerivable (at_most_one (declaration_tree declaration)))) }
-{
-    let mut unit = TranslationUnit::new(alloc);
-    unit.global_declarations
-        .push(Spanned::from_in(alloc, declaration)?)?;
-    is_derivable_as_it_is(alloc, &mut unit)
+    is_dropped_derivable(alloc, unit.clone_in(alloc)?)
 }
 
 /// Whether some text derives the module of a declaration alone.
@@ -94,12 +95,12 @@ pub fn is_declaration_derivable(
 ) -> Result<bool, AllocError>
     ensures { IfOk result (λ derivable. Decides derivable (IsDerivable (at_most_one (declaration_tree declaration.now)))) }
 {
-    is_derivable_alone(alloc, declaration.clone_in(alloc)?)
+    is_dropped_derivable(alloc, with_declaration(alloc, declaration)?)
 }
 
 /// Whether some text derives the module of a declaration that holds a node alone.
 pub fn is_node_derivable(alloc: Global, node: NodeRef) -> Result<bool, AllocError>
     ensures { IfOk result (λ derivable. Decides derivable (IsDerivable (alone (holding (node_of node.entry))))) }
 {
-    is_derivable_alone(alloc, placed(alloc, node)?)
+    is_dropped_derivable(alloc, with_node(alloc, node)?)
 }

@@ -2,6 +2,5 @@
 #![tactic(auto)]
 
 mod derivable;
-mod placed;
 
 pub use derivable::{is_declaration_derivable, is_derivable, is_node_derivable, print_derivable};

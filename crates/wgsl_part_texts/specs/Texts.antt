@@ -7,12 +7,9 @@ use Rattle.wgsl_declarations.specs.declared.unit.TranslationUnit.{TranslationUni
 use Rattle.wgsl_declarations.specs.View as whole
 use Rattle.wgsl_parser.specs.Texts.{IsModuleFault}
 use Rattle.wgsl_syntax.specs.declared.unit.TranslationUnit.{TranslationUnit}
-use Rattle.wgsl_syntax.specs.declared.import.ImportContent.{ImportContent}
-use Rattle.wgsl_syntax.specs.declared.import.ImportContent.TheVariants.{Item}
 use Rattle.wgsl_syntax.specs.Tree.{UnitTree}
 use Rattle.wgsl_syntax.specs.View.{unit_tree}
 use Rattle.wgsl_syntax.specs.Print.{unit_text}
-use Rattle.wgsl_imports.specs.Tree.{Content, item}
 use Rattle.wgsl_part.specs.declared.error.NarrowError.{NarrowError}
 use Rattle.wgsl_part.specs.declared.error.NarrowError.TheVariants as narrowing
 use Rattle.wgsl_part.specs.Widening.{widen_decl, widen_unit}
@@ -73,9 +70,6 @@ Prints u (Err (unprinted.Unprintable name)) = IsUnprintable u name
 Prints u (Err unprinted.OutOfMemory) = ⊤
 
 -- ---- steps
-
-abbrev pub content_widened : ImportContent → Content
-content_widened (Item x) = item x.ident.name (option_map (λ r. r.name) x.rename)
 
 abbrev pub of_narrowing : NarrowError → PartError
 of_narrowing narrowing.Unsupported = refusal.Unsupported

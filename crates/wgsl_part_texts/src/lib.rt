@@ -2,14 +2,11 @@
 //! printed, by the whole grammar.
 #![tactic(auto)]
 
-mod declarations;
 mod error;
-mod expressions;
 pub mod laws;
 mod parse;
 mod print;
 
-pub use declarations::widen;
 pub use error::{PartError, PrintError};
 pub use parse::parse_part;
 pub use print::print_part;

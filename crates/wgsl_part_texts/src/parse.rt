@@ -8,6 +8,7 @@ ghost use Rattle.wgsl_part_texts.specs.Texts.{Parses, Finds, StandsIn};
 use crate::error::PartError;
 use std::alloc::Global;
 use wgsl_declarations as whole;
+use wgsl_declarations::let_go;
 use wgsl_parser::{ErrorKind, parse_str};
 use wgsl_part::{is_in_part, narrow};
 use wgsl_syntax::TranslationUnit;
@@ -34,7 +35,11 @@ pub fn parse_part(alloc: Global, text: &str) -> Result<TranslationUnit, PartErro
     ensures places { IfOk result (StandsIn text.now) }
 {
     match parse_str(alloc, text) {
-        Ok(module) => unit_of(alloc, &module),
+        Ok(module) => {
+            let unit = unit_of(alloc, &module);
+            let_go(module);
+            unit
+        }
         Err(error) => match error.kind {
             ErrorKind::OutOfMemory => Err(PartError::OutOfMemory),
             _ => Err(PartError::Syntax(error)),

@@ -3,11 +3,12 @@
 ghost use Rattle.wgsl_syntax.specs.View.{unit_tree};
 ghost use Rattle.wgsl_part_texts.specs.Texts.{Prints};
 
-use crate::declarations::widen;
 use crate::error::PrintError;
 use std::alloc::Global;
 use wgsl_check_unit::{Unprintable, print_checked};
+use wgsl_declarations::let_go;
 use wgsl_syntax::TranslationUnit;
+use wgsl_widening::widen;
 
 /// The text of a unit, which is read as that unit. Where no text is, it says so, and names the first node that no text derives, or the
 /// declaration that holds it.
@@ -18,7 +19,9 @@ pub fn print_part(alloc: Global, unit: TranslationUnit) -> Result<String, PrintE
     let widened = widen(alloc, &unit);
     drop(unit);
     let mut module = widened?;
-    match print_checked(alloc, &mut module) {
+    let printed = print_checked(alloc, &mut module);
+    let_go(module);
+    match printed {
         Ok(text) => Ok(text),
         Err(Unprintable::Node(name)) => Err(PrintError::Unprintable(name)),
         Err(Unprintable::OutOfMemory) => Err(PrintError::OutOfMemory),

@@ -7,7 +7,7 @@ ghost use Rattle.wgsl_declarations.specs.View as whole;
 ghost use Rattle.wgsl_syntax.specs.View.{statement_tree, block_tree, parameter_tree, declaration_tree, import_tree, unit_tree};
 ghost use Rattle.wgsl_part.specs.Trees.{statements_tree, parameters_tree, declarations_tree, imports_tree, item_tree, variable_tree, function_tree};
 ghost use Rattle.wgsl_imports.specs.Tree.{item};
-ghost use Rattle.wgsl_part_texts.specs.Texts.{content_widened};
+ghost use Rattle.wgsl_widening.specs.Contents.{content_widened};
 ghost use Rattle.wgsl_part.specs.Widening.{widen_stm, widen_stms, widen_block, widen_param, widen_decl, widen_imp, widen_unit};
 
 use crate::expressions::{widen_attributes, widen_optional, widen_optional_type, widen_type};

@@ -1,7 +1,7 @@
 use Rattle.std.proofs.Common.{◌∙◌}
-use Rattle.wgsl_part_texts.proofs.Steps.{parenthesized_so, unary_so, call_so, plain_type_so, type_so}
-use Rattle.wgsl_part_texts.proofs.expressions.+widen.Goals.{widen_type-in-None, widen_type-in-Some+in_ok-widened-in-Some+in_ok-new-in-Some}
-use Rattle.wgsl_part_texts.proofs.expressions.+widen.Goals as goal
+use Rattle.wgsl_widening.proofs.Steps.{parenthesized_so, unary_so, call_so, plain_type_so, type_so}
+use Rattle.wgsl_widening.proofs.expressions.+widen.Goals.{widen_type-in-None, widen_type-in-Some+in_ok-widened-in-Some+in_ok-new-in-Some}
+use Rattle.wgsl_widening.proofs.expressions.+widen.Goals as goal
 
 pub widen_expression-returns-in_ok-expression-in-Parenthesized : goal.widen_expression-returns-in_ok-expression-in-Parenthesized
 widen_expression-returns-in_ok-expression-in-Parenthesized t c =

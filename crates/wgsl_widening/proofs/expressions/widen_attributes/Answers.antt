@@ -1,8 +1,8 @@
 use Rattle.wgsl_attributes.specs.View as whole
 use Rattle.wgsl_syntax.specs.View.{attribute_tree}
 use Rattle.wgsl_part.specs.Widening.{widen_attr}
-use Rattle.wgsl_part_texts.proofs.Widened.{all_of}
-use Rattle.wgsl_part_texts.proofs.expressions.widen_attributes.Goals as goal
+use Rattle.wgsl_widening.proofs.Widened.{all_of}
+use Rattle.wgsl_widening.proofs.expressions.widen_attributes.Goals as goal
 
 pub returns : goal.returns
 returns c =

@@ -2,8 +2,8 @@ use Rattle.std.proofs.Common.{Some, map}
 use Rattle.wgsl_declarations.specs.View as whole
 use Rattle.wgsl_syntax.specs.View.{declaration_tree}
 use Rattle.wgsl_part.specs.Widening.{widen_decl}
-use Rattle.wgsl_part_texts.proofs.Widened.{all_of, all_there}
-use Rattle.wgsl_part_texts.proofs.declarations.widen_declarations.Goals as goal
+use Rattle.wgsl_widening.proofs.Widened.{all_of, all_there}
+use Rattle.wgsl_widening.proofs.declarations.widen_declarations.Goals as goal
 
 pub returns : goal.returns
 returns c =

@@ -7,7 +7,7 @@ ghost use Rattle.wgsl_statements.specs.View.{statement_tree, stms};
 ghost use Rattle.wgsl_declarations.specs.View.{declaration_tree, member_tree, parameter_tree};
 ghost use Rattle.wgsl_nodes_in_order.specs.Nodes.{attribute_node, expression_node, type_node, statement_node, member_node, parameter_node};
 ghost use Rattle.wgsl_nodes_in_order.specs.Found.{node_of};
-ghost use Rattle.wgsl_derivable.specs.Placed.{empty_function, holding};
+ghost use Rattle.wgsl_alone.specs.Placed.{empty_function, holding};
 
 use std::alloc::{AllocError, Global};
 use wgsl_attributes::Attribute;

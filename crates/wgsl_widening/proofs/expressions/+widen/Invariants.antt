@@ -2,7 +2,7 @@ use Rattle.std.proofs.Common.{◌≡◌, ◌+◌, ◌*◌, take, map}
 use Rattle.wgsl_expressions.specs.View as whole
 use Rattle.wgsl_syntax.specs.View.{node_tree}
 use Rattle.wgsl_part.specs.Widening.{widen_exp}
-use Rattle.wgsl_part_texts.proofs.expressions.+widen.Given as goal
+use Rattle.wgsl_widening.proofs.expressions.+widen.Given as goal
 
 abbrev pub decreases-widen_expression : goal.decreases-widen_expression
 decreases-widen_expression l = 8 * goal.size-widen_expression l + 0

@@ -22,7 +22,7 @@ use Rattle.wgsl_syntax.specs.View.{tree, node_tree, type_tree, typed}
 use Rattle.wgsl_syntax.proofs.Trees as trees
 use Rattle.wgsl_part.specs.Trees.{call_tree}
 use Rattle.wgsl_part.specs.Widening.{widen_exp, widen_exps, widen_typ}
-use Rattle.wgsl_part_texts.proofs.Widened.{exps_of, mapped}
+use Rattle.wgsl_widening.proofs.Widened.{exps_of, mapped}
 
 pub parenthesized_so : (e : Expression) (x : ParenthesizedExpressionOf Expression) (n : Spanned Whole) → e ≡ part.Parenthesized x → whole.node_tree n ≡ widen_exp (node_tree x.expression)
     → whole.tree (code.Parenthesized (record { expression = n })) ≡ widen_exp (tree e)

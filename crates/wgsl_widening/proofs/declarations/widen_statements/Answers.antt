@@ -3,8 +3,8 @@ use Rattle.wgsl_statements.specs.View as whole
 use Rattle.wgsl_statements.specs.View.{stms}
 use Rattle.wgsl_syntax.specs.View.{statement_tree}
 use Rattle.wgsl_part.specs.Widening.{widen_stm}
-use Rattle.wgsl_part_texts.proofs.Widened.{all_of, stms_of}
-use Rattle.wgsl_part_texts.proofs.declarations.widen_statements.Goals as goal
+use Rattle.wgsl_widening.proofs.Widened.{all_of, stms_of}
+use Rattle.wgsl_widening.proofs.declarations.widen_statements.Goals as goal
 
 pub returns : goal.returns
 returns c =

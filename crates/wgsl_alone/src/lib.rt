@@ -1,0 +1,7 @@
+//! Modules that hold a copy of one declaration or of one node alone.
+#![tactic(auto)]
+
+mod module;
+mod placed;
+
+pub use module::{with_declaration, with_node};

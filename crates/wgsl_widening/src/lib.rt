@@ -1,0 +1,7 @@
+//! Units of the part of the language that `link` and `compile` read as modules of the whole language.
+#![tactic(auto)]
+
+mod declarations;
+mod expressions;
+
+pub use declarations::widen;
