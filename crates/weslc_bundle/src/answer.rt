@@ -20,29 +20,28 @@ pub(crate) fn answer(alloc: Global, bundle: Bundle) -> Result<String, ServeError
     ensures text { IfOk result (λ text. IsTextFor bundle.command bundle (string_bytes text)) }
     ensures refusal { IfErr result (λ refusal. IsRefusalFor bundle.command bundle refusal) }
 {
+    let mut bundle = bundle;
     match bundle.command {
-        Command::Link => link_modules(alloc, bundle),
-        Command::Compile => compile_modules(alloc, bundle),
+        Command::Link => link_modules(alloc, &mut bundle),
+        Command::Compile => compile_modules(alloc, &mut bundle),
         Command::Precompile => precompile_root(alloc, &bundle),
     }
 }
 
 #[tactic(auto, using(crate::proofs::Calls::modules_refused))]
-fn link_modules(alloc: Global, bundle: Bundle) -> Result<String, ServeError>
-    ensures text { IfOk result (λ text. IsTextFor Link bundle (string_bytes text)) }
-    ensures refusal { IfErr result (λ refusal. IsRefusalFor Link bundle refusal) }
+fn link_modules(alloc: Global, bundle: &mut Bundle) -> Result<String, ServeError>
+    ensures text { IfOk result (λ text. IsTextFor Link bundle.old (string_bytes text)) }
+    ensures refusal { IfErr result (λ refusal. IsRefusalFor Link bundle.old refusal) }
 {
-    let mut bundle = bundle;
     let (text, _) = link(alloc, &mut bundle.resolver, &bundle.root, &bundle.options)?;
     Ok(text)
 }
 
 #[tactic(auto, using(crate::proofs::Calls::modules_refused))]
-fn compile_modules(alloc: Global, bundle: Bundle) -> Result<String, ServeError>
-    ensures text { IfOk result (λ text. IsTextFor Compile bundle (string_bytes text)) }
-    ensures refusal { IfErr result (λ refusal. IsRefusalFor Compile bundle refusal) }
+fn compile_modules(alloc: Global, bundle: &mut Bundle) -> Result<String, ServeError>
+    ensures text { IfOk result (λ text. IsTextFor Compile bundle.old (string_bytes text)) }
+    ensures refusal { IfErr result (λ refusal. IsRefusalFor Compile bundle.old refusal) }
 {
-    let mut bundle = bundle;
     let (text, _) = compile(alloc, &mut bundle.resolver, &bundle.root, &bundle.options)?;
     Ok(text)
 }

@@ -1,12 +1,16 @@
 //! Implicit conversions of values (WGSL, "Conversion Rank").
 
-ghost use Rattle.std.specs.Prelude.{◌≡◌, Ok, Err};
+ghost use Rattle.std.specs.Prelude.{◌≡◌, Ok, Err, MatchResult};
 ghost use Rattle.std.specs.Option.{option_copied};
+ghost use Rattle.wgsl_shader_type.specs.Alike as types;
 ghost use Rattle.wgsl_shader_type.specs.Literal.{zero_fault};
+ghost use Rattle.wgsl_shader_type.specs.Rank.{converts};
+ghost use Rattle.wgsl_shader_type.specs.declared.error.Error.TheVariants.{OutOfMemory};
 ghost use Rattle.wgsl_scalar.specs.Conversions as scalars;
 ghost use Rattle.wgsl_instance.specs.declared.tree.Instance.TheVariants as instance;
 ghost use Rattle.wgsl_instance.specs.Answer.{Answers, then_with, collected};
 ghost use Rattle.wgsl_instance.specs.Converted as spec;
+ghost use Rattle.wgsl_instance.specs.Typed.{type_of};
 
 use crate::tree::{ArrayInstance, Instance, VecInstance};
 use std::alloc::Global;
@@ -117,6 +121,25 @@ fn mismatch(alloc: Global, from: &Instance, to: &Type) -> Result<Instance, Error
     Err(Error::Conversion(from, to))
 }
 
+/// How the type of a value stands to the type that is asked for.
+#[derive(Clone, Copy)]
+struct Standing {
+    is_same: bool,
+    is_convertible: bool,
+}
+
+fn standing_of(alloc: Global, value: &Instance, ty: &Type) -> Result<Standing, Error>
+    ensures { MatchResult result (λ s. (s.is_same ≡ types.same (type_of value.now) ty.now) × (s.is_convertible ≡ converts (type_of value.now) ty.now)) (λ error. error ≡ OutOfMemory) }
+{
+    let own = value.ty(alloc)?;
+    let standing = Standing {
+        is_same: own == *ty,
+        is_convertible: own.is_convertible_to(ty),
+    };
+    drop(own);
+    Ok(standing)
+}
+
 impl Instance {
     /// The value that it becomes where a value of this type is asked for. The first number that doesn't fit is
     /// `ConvOverflow`; a floating type is `Todo` with its text; types that don't convert are `Conversion`, with the value's
@@ -126,14 +149,11 @@ impl Instance {
     pub fn convert_to(&self, alloc: Global, ty: &Type) -> Result<Instance, Error>
         ensures { Answers (spec.converted self.now ty.now) result }
     {
-        let own = self.ty(alloc)?;
-        let is_same = own == *ty;
-        let is_convertible = own.is_convertible_to(ty);
-        drop(own);
-        if is_same {
+        let standing = standing_of(alloc, self, ty)?;
+        if standing.is_same {
             return Ok(self.clone(alloc)?);
         }
-        if is_convertible {
+        if standing.is_convertible {
             return convert_parts(alloc, self, ty);
         }
         mismatch(alloc, self, ty)

@@ -156,11 +156,11 @@ impl SyntaxNode for GlobalDeclaration {
     fn attributes_mut(&mut self) -> Option<&mut Attributes> {
         match self {
             GlobalDeclaration::Void => None,
-            GlobalDeclaration::Declaration(x) => x.attributes_mut(),
-            GlobalDeclaration::TypeAlias(x) => x.attributes_mut(),
-            GlobalDeclaration::Struct(x) => x.attributes_mut(),
+            GlobalDeclaration::Declaration(x) => Some(&mut x.attributes),
+            GlobalDeclaration::TypeAlias(x) => Some(&mut x.attributes),
+            GlobalDeclaration::Struct(x) => Some(&mut x.attributes),
             GlobalDeclaration::Function(x) => Some(&mut x.attributes),
-            GlobalDeclaration::ConstAssert(x) => x.attributes_mut(),
+            GlobalDeclaration::ConstAssert(x) => Some(&mut x.attributes),
         }
     }
 }

@@ -98,9 +98,9 @@ impl SyntaxNode for GlobalDirective {
 
     fn attributes_mut(&mut self) -> Option<&mut Attributes> {
         match self {
-            GlobalDirective::Diagnostic(x) => x.attributes_mut(),
-            GlobalDirective::Enable(x) => x.attributes_mut(),
-            GlobalDirective::Requires(x) => x.attributes_mut(),
+            GlobalDirective::Diagnostic(x) => Some(&mut x.attributes),
+            GlobalDirective::Enable(x) => Some(&mut x.attributes),
+            GlobalDirective::Requires(x) => Some(&mut x.attributes),
         }
     }
 }
