@@ -8,3 +8,4 @@ pub mod Asked
 pub mod Example
 pub mod Same
 pub mod Agreement
+pub use Rattle.wgsl_programs.specs.Programs

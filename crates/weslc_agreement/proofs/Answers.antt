@@ -22,7 +22,7 @@ use Rattle.weslc_unit.specs.Compiled.{IsCompiled, Refuses}
 use Rattle.weslc_unit.specs.declared.error.UnitRefusal.{UnitRefusal}
 use Rattle.weslc_unit.specs.declared.error.UnitRefusal.TheVariants as of
 use Rattle.weslc_unit.proofs.Once.{compiled_once, refused_once, compiled_or_refused}
-use Rattle.weslc_laws.specs.Headline.{IsLinkedFrom}
+use Rattle.weslc_linking.specs.Headline.{IsLinkedFrom}
 use Rattle.weslc_linking.specs.Answers.{AreLoadedFrom, IsRefusedLoading, IsFirstClashFrom, RefusesLinking}
 use Rattle.weslc_linking.specs.Mapped.{TellsHeld}
 use Rattle.weslc_linking.specs.Told.{about_name, about_maybe, Tells}

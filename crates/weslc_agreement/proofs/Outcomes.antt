@@ -15,7 +15,7 @@ use Rattle.wesl_meaning.proofs.Agreement.{listed_modules_are_alike}
 use Rattle.wesl_meaning.proofs.Asked.{only_what_is_asked_counts}
 use Rattle.wesl_meaning.proofs.Determined.{loads_once}
 use Rattle.wesl_meaning.proofs.Loading.{found_modules}
-use Rattle.weslc_laws.specs.Headline.{AreKept}
+use Rattle.weslc_linking.specs.Headline.{AreKept}
 use Rattle.weslc_linking.specs.Answers.{AreLoadedFrom, IsRefusedLoading, of_the_root, behind_the_root}
 use Rattle.weslc_linking.specs.Asked.{IsAskedOf, the_root, behind_the_root as asked_behind}
 use Rattle.weslc_agreement.specs.Asked.{AgreesOnAsked}

@@ -14,7 +14,7 @@ use Rattle.wesl_meaning.proofs.Agreement.{listed_modules_are_alike, holds_of_ali
 use Rattle.wesl_meaning.proofs.Asked.{only_asked_units_count}
 use Rattle.wesl_meaning.proofs.Loading.{loaded_modules, found_modules}
 use Rattle.wesl_meaning.proofs.Unique.{linked_units_are_one}
-use Rattle.weslc_laws.specs.Headline.{AreKept, IsLinkedFrom}
+use Rattle.weslc_linking.specs.Headline.{AreKept, IsLinkedFrom}
 use Rattle.weslc_linking.specs.Asked.{the_root, behind_the_root}
 use Rattle.weslc_agreement.specs.Asked.{HasAskedUnits}
 

@@ -8,10 +8,10 @@ ghost use Rattle.weslc_linking.specs.Asked.{AreAsked, AreAskedAsLoaded};
 ghost use Rattle.weslc_linking.specs.Answers.{RefusesToLink, RefusesToCompile, IsMapped, IsLinkedText, IsCompiledText};
 
 use std::alloc::Global;
-use wesl_link::{BasicSourceMap, Resolver};
 use weslc_compiled::compile_unit;
-use weslc_linking::{CompileError, Linked, Options, linked_unit};
-use wgsl_part_texts::{PrintError, print_part};
+use weslc_linking::{
+    BasicSourceMap, CompileError, Linked, Options, PrintError, Resolver, linked_unit, print_part,
+};
 use wgsl_path::ModulePath;
 
 /// One text without imports that declares what the kept names of the root reach, and the map from it back to the modules;

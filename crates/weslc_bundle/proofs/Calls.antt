@@ -1,8 +1,8 @@
 -- Refused calls, as the program tells them.
 use Rattle.std.proofs.Common.{◌≡◌, refl, sym, subst, ℕ, List, ◌⊎◌, inl, inr, Some, None}
 use Rattle.wgsl_path.specs.Paths.{path_text}
-use Rattle.weslc_linking.specs.Stored.{text_at}
-use Rattle.weslc_linking.specs.declared.error.CompileError.{CompileError}
+use Rattle.weslc_api.specs.Stored.{text_at}
+use Rattle.weslc_api.specs.CompileError.{CompileError}
 use Rattle.wesl_features.specs.declared.feature.Features.{Features}
 use Rattle.weslc_precompile.specs.declared.error.PrecompileError.{PrecompileError}
 use Rattle.weslc_precompile.specs.declared.error.PrecompileError.TheVariants as precompiling

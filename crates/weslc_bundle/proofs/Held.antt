@@ -8,9 +8,9 @@ use Rattle.std.proofs.lemmas.Bool.{false_from_ne_true}
 use Rattle.std.proofs.lemmas.Slice.Eq.{bytes_eq-Decides}
 use Rattle.wgsl_path.specs.Paths.{path_text}
 use Rattle.wgsl_path.specs.declared.path.ModulePath.{ModulePath}
-use Rattle.weslc_linking.specs.Stored.{text_at, IsAdded}
-use Rattle.weslc_linking.specs.declared.resolver.VirtualResolver.{VirtualResolver}
-use Rattle.weslc_linking.specs.declared.options.Options.{Options}
+use Rattle.weslc_api.specs.Stored.{text_at, IsAdded}
+use Rattle.weslc_api.specs.VirtualResolver.{VirtualResolver}
+use Rattle.weslc_api.specs.Options.{Options}
 use Rattle.weslc_bundle.specs.declared.request.Command.{Command}
 use Rattle.weslc_bundle.specs.declared.request.Module.{Module}
 use Rattle.weslc_bundle.specs.declared.request.Request.{Request}

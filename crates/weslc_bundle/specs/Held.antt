@@ -4,8 +4,8 @@ use Rattle.std.specs.List.{find}
 use Rattle.std.specs.Str.{bytes_eq}
 use Rattle.wgsl_path.specs.Paths.{path_text}
 use Rattle.wesl_resolve.specs.Found.{Answer}
-use Rattle.weslc_linking.specs.Stored.{text_at, found_in}
-use Rattle.weslc_linking.specs.declared.resolver.VirtualResolver.{VirtualResolver}
+use Rattle.weslc_api.specs.Stored.{text_at, found_in}
+use Rattle.weslc_api.specs.VirtualResolver.{VirtualResolver}
 use Rattle.weslc_bundle.specs.declared.request.Module.{Module}
 
 -- the text of the module at a printed path; in a bundle no two are at one

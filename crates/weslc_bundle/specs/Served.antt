@@ -8,11 +8,11 @@ use Rattle.wesl_features.specs.declared.feature.Features.{Features}
 use Rattle.weslc_precompile.specs.declared.error.PrecompileError.{PrecompileError}
 use Rattle.weslc_precompile.specs.declared.error.PrecompileError.TheVariants as precompiling
 use Rattle.weslc_precompile.specs.Precompiling.{IsPrecompiledText, RefusesPrecompiling}
-use Rattle.weslc_linking.specs.Stored.{text_at}
-use Rattle.weslc_linking.specs.declared.options.Options.{Options}
-use Rattle.weslc_linking.specs.Answers.{IsLinkedText, IsCompiledText, RefusesLinking, IsUnprintable, IsRefusedUnit}
-use Rattle.weslc_linking.specs.declared.error.CompileError.{CompileError}
-use Rattle.weslc_linking.specs.declared.error.CompileError.TheVariants as calls
+use Rattle.weslc_api.specs.Stored.{text_at}
+use Rattle.weslc_api.specs.Options.{Options}
+use Rattle.weslc_api.specs.Answers.{IsLinkedText, IsCompiledText, RefusesLinking, IsUnprintable, IsRefusedUnit}
+use Rattle.weslc_api.specs.CompileError.{CompileError}
+use Rattle.weslc_api.specs.CompileError.TheVariants as calls
 use Rattle.weslc_bundle.specs.declared.input.TheConstants.{MAX_BUNDLE_LEN}
 use Rattle.weslc_bundle.specs.declared.input.InputError.{InputError}
 use Rattle.weslc_bundle.specs.declared.input.InputError.TheVariants as input

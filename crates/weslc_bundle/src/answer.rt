@@ -2,7 +2,7 @@
 
 ghost use Rattle.std.specs.Prelude.{◌≡◌, ◌⊎◌, IfOk, IfErr, Some, None, string_bytes};
 ghost use Rattle.wgsl_path.specs.Paths.{path_text};
-ghost use Rattle.weslc_linking.specs.Stored.{text_at};
+ghost use Rattle.weslc_api.specs.Stored.{text_at};
 ghost use Rattle.weslc_bundle.specs.declared.error.ServeError.TheVariants.{NoRoot, OutOfMemory};
 ghost use Rattle.weslc_bundle.specs.declared.request.Command.TheVariants.{Link, Compile, Precompile};
 ghost use Rattle.weslc_bundle.specs.Served.{IsTextFor, IsRefusalFor};

@@ -4,3 +4,4 @@
 mod compile;
 
 pub use compile::compile_unit;
+pub use weslc_unit::{PrintError, UnitRefusal, parse_part, print_part};

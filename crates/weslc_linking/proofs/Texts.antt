@@ -6,7 +6,7 @@ use Rattle.wesl_link_spec.specs.Occurrences.{Name}
 use Rattle.wesl_link_spec.specs.Modules.{Path}
 use Rattle.wesl_link_spec.specs.Rounds.{Sources}
 use Rattle.wesl_meaning.proofs.Existing.{linked_modules_have_one}
-use Rattle.wgsl_part_texts.specs.Texts.{IsTextOf}
+use Rattle.weslc_unit.specs.Texts.{IsTextOf}
 use Rattle.weslc_unit.specs.Compiled.{IsCompiled}
 use Rattle.weslc_unit.proofs.ClearLemmas.{clear-names}
 use Rattle.weslc_laws.specs.Headline.{IsLinkedFrom}

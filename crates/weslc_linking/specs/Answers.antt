@@ -13,12 +13,12 @@ use Rattle.wesl_link_spec.specs.Kept.{kept_names}
 use Rattle.wesl_link_spec.specs.Loaded.{IsClashFree}
 use Rattle.wesl_link_spec.specs.Clashing.{IsFirstClash}
 use Rattle.wesl_link_spec.specs.Same.{SameModules}
-use Rattle.wgsl_programs.specs.Programs.{Program}
+use Rattle.wesl_meaning.specs.Programs.{Program}
 use Rattle.wesl_meaning.specs.Executions.{IsProgramIn}
 use Rattle.wesl_reach.specs.Resolved.{modules_of, IsResolved}
 use Rattle.wesl_link.specs.declared.rounds.Resolutions.{Resolutions}
-use Rattle.wgsl_part_texts.specs.Texts as part
-use Rattle.wgsl_part_texts.specs.Texts.{IsTextOf}
+use Rattle.weslc_unit.specs.Texts as part
+use Rattle.weslc_unit.specs.Texts.{IsTextOf}
 use Rattle.weslc_unit.specs.Compiled.{IsCompiled, Refuses}
 use Rattle.weslc_unit.specs.Located.{declaration_of}
 use Rattle.weslc_unit.specs.declared.error.UnitRefusal.{UnitRefusal}

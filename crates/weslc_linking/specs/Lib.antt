@@ -4,3 +4,4 @@ pub mod Stored
 pub mod Answers
 pub mod Mapped
 pub mod Asked
+pub use Rattle.weslc_laws.specs.Headline

@@ -11,7 +11,7 @@ use Rattle.wgsl_syntax.specs.Tree.{UnitTree}
 use Rattle.wesl_resolve.specs.Found.{Answer, unit_of, not_found, faulty, unsupported}
 use Rattle.wesl_resolve.specs.declared.error.ResolveError.{ResolveError}
 use Rattle.wesl_resolve.specs.declared.error.ResolveError.TheVariants.{ModuleNotFound, Syntax, Unsupported, OutOfMemory}
-use Rattle.wgsl_part_texts.specs.Texts.{IsUnitOfPart, IsBeyondPart}
+use Rattle.weslc_unit.specs.Texts.{IsUnitOfPart, IsBeyondPart}
 use Rattle.weslc_linking.specs.declared.resolver.VirtualModule.{VirtualModule}
 use Rattle.weslc_linking.specs.declared.resolver.VirtualResolver.{VirtualResolver}
 

@@ -15,5 +15,5 @@ pub use resolver::VirtualResolver;
 pub use wesl_link::{
     BasicSourceMap, EscapeMangler, ImportError, ResolveError, Resolver, SourceMap,
 };
-pub use weslc_unit::{Fault, NameFault, ValidateError};
+pub use weslc_unit::{Fault, NameFault, PrintError, ValidateError, print_part};
 pub use wgsl_error::{Error, ErrorKind};

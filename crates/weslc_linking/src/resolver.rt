@@ -5,8 +5,8 @@ ghost use Rattle.weslc_linking.specs.Keyed.{AreKeyed};
 use indexmap::IndexMap;
 use std::alloc::{AllocError, Global};
 use wesl_link::{ResolveError, Resolver};
+use weslc_unit::{PartError, parse_part};
 use wgsl_items::{CloneIn, Text};
-use wgsl_part_texts::{PartError, parse_part};
 use wgsl_path::ModulePath;
 use wgsl_syntax::TranslationUnit;
 

@@ -17,7 +17,7 @@ use Rattle.wesl_cond_spec.specs.Faults.{unit_fault}
 use Rattle.weslc_precompile.specs.declared.error.PrecompileError.{PrecompileError}
 use Rattle.weslc_precompile.specs.declared.error.PrecompileError.TheVariants as refusal
 use Rattle.weslc_precompile.specs.Precompiling.{Precompiles, PrintsBack, Fixes, refused_by, refused_as}
-use Rattle.wgsl_derivable.specs.Derivable.{Says}
+use Rattle.wgsl_check_unit.specs.Derivable.{Says}
 
 -- the first error of a module's conditions
 pub condition_told : (fault : Option CondCompError) (e : CondCompError) → (fault ≡ Some e) ⊎ (e ≡ cond_error.OutOfMemory) → (e ≡ cond_error.OutOfMemory → ⊥) → fault ≡ Some e

@@ -9,7 +9,7 @@ use Rattle.wgsl_error.specs.declared.error.ErrorKind.{ErrorKind}
 use Rattle.wgsl_error.specs.declared.error.ErrorKind.TheVariants as kind
 use Rattle.wgsl_error.specs.declared.error.Error.{Error}
 use Rattle.wgsl_parser.specs.Texts.{IsModuleFault}
-use Rattle.wgsl_derivable.specs.Derivable.{Says, SaysTree, IsDerivable}
+use Rattle.wgsl_check_unit.specs.Derivable.{Says, SaysTree, IsDerivable}
 use Rattle.wgsl_check_unit.specs.Telling.{IsTold}
 use Rattle.wesl_features.specs.declared.feature.Features.{Features}
 use Rattle.wesl_cond_spec.specs.Trees.{unit_left}

@@ -2,7 +2,7 @@
 
 ghost use Rattle.std.specs.Prelude.{◌≡◌};
 ghost use Rattle.wgsl_declarations.specs.View.{unit_tree};
-ghost use Rattle.wgsl_derivable.specs.Derivable.{Says};
+ghost use Rattle.wgsl_check_unit.specs.Derivable.{Says};
 ghost use Rattle.weslc_precompile.specs.Precompiling.{Precompiles, Fixes, refused_as};
 
 use crate::error::PrecompileError;

@@ -3,7 +3,7 @@
 ghost use Rattle.std.specs.Prelude.{Ok, IfOk, IfErr, string_bytes};
 ghost use Rattle.wgsl_syntax.specs.View.{unit_tree};
 ghost use Rattle.wgsl_lower.specs.Keeps.{AreClear, Keeps};
-ghost use Rattle.wgsl_lower_expressions.specs.Lowered.{Lowers};
+ghost use Rattle.wgsl_lower.specs.Lowered.{Lowers};
 ghost use Rattle.weslc_unit.specs.Compiled.{RefusesValues, IsLoweredText, RefusesLowering};
 
 use crate::error::UnitRefusal;

@@ -9,3 +9,4 @@ pub use compiled::print_lowered;
 pub use error::UnitRefusal;
 pub use wesl_validate::{ValidateError, ValidateFault};
 pub use wgsl_eval::{DeclarationFault, Fault, NameFault};
+pub use wgsl_part_texts::{PartError, PrintError, parse_part, print_part};

@@ -6,13 +6,11 @@ use std::alloc::{AllocError, Global};
 use std::collections::HashMap;
 use std::fmt::{Debug, Display};
 use wesl_validate::{ValidateFault, unclear_name, validate_wesl};
-use weslc_compiled::compile_unit;
-use weslc_unit::UnitRefusal;
+use weslc_compiled::{PrintError, UnitRefusal, compile_unit, parse_part, print_part};
 use wgsl_builtin::builtin_names;
 use wgsl_eval::{Declarations, Fault, Scope, Values, eval_ty, eval_value};
 use wgsl_items::{CloneIn, Items, OrOutOfMemory, Text};
 use wgsl_lower::lower;
-use wgsl_part_texts::{PrintError, parse_part, print_part};
 use wgsl_scalar::{IntegerType, ScalarType};
 use wgsl_shader_type::LiteralInstance;
 use wgsl_syntax::{

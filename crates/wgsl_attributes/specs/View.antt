@@ -1,7 +1,7 @@
 -- The attribute without places that a code tree stands for.
 use Rattle.std.specs.Prelude.{List, map}
 use Rattle.std.specs.Option.{option_map}
-use Rattle.wgsl_path.specs.declared.span.Spanned.{Spanned}
+use Rattle.wgsl_expressions.specs.Spanned.{Spanned}
 use Rattle.wgsl_expressions.specs.View.{node_tree}
 use Rattle.wgsl_attributes.specs.declared.attribute.Attribute.{Attribute}
 use Rattle.wgsl_attributes.specs.declared.attribute.Attribute.TheVariants as code

@@ -3,9 +3,7 @@
 use wgsl_enumerations::{
     BuiltinValue, DiagnosticSeverity, InterpolationSampling, InterpolationType,
 };
-use wgsl_expressions::ExpressionNode;
-use wgsl_items::{Boxed, Items, Text};
-use wgsl_path::Spanned;
+use wgsl_expressions::{Boxed, ExpressionNode, Items, Spanned, Text};
 
 /// An attribute and its place.
 pub type AttributeNode = Spanned<Attribute>;

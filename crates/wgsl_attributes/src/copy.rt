@@ -4,7 +4,7 @@ use crate::attribute::{
     Attribute, CustomAttribute, DiagnosticAttribute, InterpolateAttribute, WorkgroupSizeAttribute,
 };
 use std::alloc::{AllocError, Global};
-use wgsl_items::CloneIn;
+use wgsl_expressions::CloneIn;
 
 impl CloneIn for Attribute {
     fn clone_in(&self, alloc: Global) -> Result<Attribute, AllocError> {

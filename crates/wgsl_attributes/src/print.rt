@@ -17,8 +17,7 @@ use crate::attribute::{
 use std::fmt;
 use std::fmt::Display;
 use wgsl_enumerations::{BuiltinValue, InterpolationSampling};
-use wgsl_expressions::{ExpressionNode, write_list};
-use wgsl_items::Items;
+use wgsl_expressions::{ExpressionNode, Items, write_list};
 
 impl fmt::Display for Attribute {
     ghost output = { λ x. Some (attr_text (attribute_tree x)) };

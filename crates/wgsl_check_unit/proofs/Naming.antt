@@ -4,8 +4,8 @@ use Rattle.std.specs.Option.{option_or}
 use Rattle.std.proofs.lemmas.List.{drop_all}
 use Rattle.wgsl_nodes_in_order.specs.declared.node.NodeRef.{NodeRef}
 use Rattle.wgsl_nodes_in_order.specs.Found.{node_of, nodes}
-use Rattle.wgsl_alone.specs.Placed.{holding}
-use Rattle.wgsl_alone.specs.Alone.{alone}
+use Rattle.wgsl_derivable.specs.Placed.{holding}
+use Rattle.wgsl_derivable.specs.Alone.{alone}
 use Rattle.wgsl_derivable.specs.Derivable.{IsDerivable}
 use Rattle.wgsl_check_unit.specs.Names.{node_name}
 use Rattle.wgsl_check_unit.specs.Telling.{IsNamed, whole_is, node_is, further}

@@ -5,8 +5,8 @@ use Rattle.std.specs.declared.alloc.Global.{Global}
 use Rattle.wgsl_declarations.specs.Tree.{Decl, UnitTree}
 use Rattle.wgsl_declarations.specs.Print.{unit_text}
 use Rattle.wgsl_nodes_in_order.specs.Nodes.{Node, in_decl, in_optional_decl}
-use Rattle.wgsl_alone.specs.Placed.{holding}
-use Rattle.wgsl_alone.specs.Alone.{alone}
+use Rattle.wgsl_derivable.specs.Placed.{holding}
+use Rattle.wgsl_derivable.specs.Alone.{alone}
 use Rattle.wgsl_derivable.specs.Derivable.{SaysTree, IsDerivable}
 use Rattle.wgsl_check_unit.specs.Names.{node_name, decl_name}
 use Rattle.wgsl_check_unit.specs.declared.error.Unprintable.{Unprintable}

@@ -1,7 +1,7 @@
 -- The declaration and the module without places that a code tree stands for. `Void` stands for none.
 use Rattle.std.specs.Prelude.{List, map, filter_map, Option, Some, None}
 use Rattle.std.specs.Option.{option_map}
-use Rattle.wgsl_path.specs.declared.span.Spanned.{Spanned}
+use Rattle.wgsl_expressions.specs.Spanned.{Spanned}
 use Rattle.wgsl_expressions.specs.View.{node_tree, type_tree}
 use Rattle.wgsl_attributes.specs.View.{attributes_tree}
 use Rattle.wgsl_simple_statements.specs.declared.declaration.Declaration.{Declaration}

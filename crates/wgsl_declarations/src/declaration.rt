@@ -1,9 +1,7 @@
 //! Declarations of a module (WGSL, "Declaration and Scope", "Type Aliases", "Structure Types", "Functions").
 
 use wgsl_attributes::Attributes;
-use wgsl_expressions::TypeExpression;
-use wgsl_items::Items;
-use wgsl_path::{Ident, Spanned};
+use wgsl_expressions::{Ident, Items, Spanned, TypeExpression};
 use wgsl_simple_statements::{ConstAssert, Declaration};
 use wgsl_statements::CompoundStatement;
 

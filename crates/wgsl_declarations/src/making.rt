@@ -7,9 +7,7 @@ use crate::declaration::{
 };
 use crate::unit::TranslationUnit;
 use std::alloc::Global;
-use wgsl_expressions::TypeExpression;
-use wgsl_items::Items;
-use wgsl_path::Ident;
+use wgsl_expressions::{Ident, Items, TypeExpression};
 use wgsl_simple_statements::{ConstAssert, Declaration};
 use wgsl_statements::CompoundStatement;
 

@@ -8,8 +8,8 @@ use Rattle.wgsl_error.specs.declared.error.ErrorKind.TheVariants as kind
 use Rattle.wgsl_error.specs.declared.error.Error.{Error}
 use Rattle.wgsl_error.specs.Errors.{out_of_memory}
 use Rattle.wgsl_template_spec.specs.Tokens.{start, nothing}
-use Rattle.wgsl_parser.specs.Texts.{IsModuleFault, IsBlank, empty_unit}
-use Rattle.wgsl_parser.proofs.Once.{module_apart}
+use Rattle.wgsl_read_back.specs.Texts.{IsModuleFault, IsBlank, empty_unit}
+use Rattle.wgsl_read_back.proofs.Once.{module_apart}
 use Rattle.wgsl_read_back.proofs.ModuleLaws.{modules_are_read_back}
 use Rattle.wgsl_read_back.proofs.One.{texts_have_one_module}
 use Rattle.wgsl_alone.specs.Alone.{at_most_one}

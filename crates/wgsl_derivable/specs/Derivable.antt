@@ -5,7 +5,7 @@ use Rattle.wgsl_declarations.specs.declared.unit.TranslationUnit.{TranslationUni
 use Rattle.wgsl_declarations.specs.Tree.{UnitTree}
 use Rattle.wgsl_declarations.specs.View.{unit_tree}
 use Rattle.wgsl_declarations.specs.Print.{unit_text}
-use Rattle.wgsl_parser.specs.Texts.{ParsesModule}
+use Rattle.wgsl_read_back.specs.Texts.{ParsesModule}
 
 -- The text is that of this module.
 abbrev pub Says : List ℕ → TranslationUnit → Type 0

@@ -3,17 +3,16 @@
 ghost use Rattle.std.specs.Prelude.{◌≡◌, Decides, IfOk};
 ghost use Rattle.wgsl_declarations.specs.View.{declaration_tree, unit_tree};
 ghost use Rattle.wgsl_declarations.specs.Print.{unit_text};
-ghost use Rattle.wgsl_nodes_in_order.specs.Found.{node_of};
+ghost use Rattle.wgsl_alone.specs.Found.{node_of};
 ghost use Rattle.wgsl_alone.specs.Placed.{holding};
 ghost use Rattle.wgsl_alone.specs.Alone.{alone, at_most_one};
 ghost use Rattle.wgsl_derivable.specs.Derivable.{IsDerivable, IsPrinted};
 
 use std::alloc::{AllocError, Global};
-use wgsl_alone::{with_declaration, with_node};
+use wgsl_alone::{NodeRef, with_declaration, with_node};
 use wgsl_declarations::{GlobalDeclaration, TranslationUnit, let_go};
 use wgsl_items::CloneIn;
-use wgsl_nodes_in_order::NodeRef;
-use wgsl_parser::{ErrorKind, parse_str};
+use wgsl_read_back::{ErrorKind, parse_str};
 use wgsl_voids::remove_voids;
 
 /// Whether another module stands for the same tree. Both lose their empty items.

@@ -8,8 +8,7 @@ use crate::expression::{
     TypeExpression, UnaryExpression,
 };
 use std::alloc::{AllocError, Global};
-use wgsl_items::{Boxed, CloneIn, Items};
-use wgsl_path::Spanned;
+use wgsl_path::{Boxed, CloneIn, Items, Spanned};
 
 #[cycle(copy)]
 fn copied(expression: &Expression, alloc: Global) -> Result<Expression, AllocError>

@@ -17,4 +17,6 @@ pub use expression::{
 pub use layout::{write_indent, write_list};
 pub use print::write_qualifier;
 pub use wgsl_operators::{BinaryOperator, UnaryOperator};
-pub use wgsl_path::{Ident, ModulePath, PathOrigin, Span, Spanned};
+pub use wgsl_path::{
+    Boxed, CloneIn, FromIn, Ident, Items, ModulePath, PathOrigin, Span, Spanned, Text,
+};

@@ -8,8 +8,7 @@ use crate::expression::{
     TypeExpressionOf, UnaryExpression,
 };
 use std::alloc::{AllocError, Global};
-use wgsl_items::{Boxed, FromIn};
-use wgsl_path::{Ident, Spanned};
+use wgsl_path::{Boxed, FromIn, Ident, Spanned};
 
 impl<E> TypeExpressionOf<E> {
     /// A name alone, without the path of a module and without template arguments.

@@ -2,7 +2,7 @@
 
 use wgsl_attributes::Attributes;
 use wgsl_enumerations::DiagnosticSeverity;
-use wgsl_items::{Items, Text};
+use wgsl_expressions::{Items, Text};
 
 /// A directive of a module.
 #[derive(Debug, Drop, PartialEq)]

@@ -2,7 +2,7 @@
 //! member; the plain name is an alias.
 
 use wgsl_attributes::Attributes;
-use wgsl_items::{Boxed, Items, Text};
+use wgsl_expressions::{Boxed, Items, Text};
 use wgsl_path::{Ident, ModulePath};
 
 /// `import`, maybe the path of a module, and what is taken from there.

@@ -12,8 +12,7 @@ use crate::import::{Import, ImportContent, ImportItem, ImportStatement};
 use std::fmt;
 use std::fmt::Display;
 use wgsl_attributes::write_attributes;
-use wgsl_expressions::write_qualifier;
-use wgsl_items::Text;
+use wgsl_expressions::{Text, write_qualifier};
 use wgsl_path::Ident;
 
 fn write_rename<W: fmt::Write>(rename: &Option<Ident>, f: &mut fmt::Formatter<W>) -> fmt::Result

@@ -10,7 +10,7 @@ use std::fmt;
 use std::fmt::Display;
 use wgsl_attributes::write_attributes;
 use wgsl_enumerations::DiagnosticSeverity;
-use wgsl_items::Text;
+use wgsl_expressions::Text;
 
 impl fmt::Display for DiagnosticDirective {
     ghost output = { λ x. Some (directive_text (diagnostic_tree x)) };

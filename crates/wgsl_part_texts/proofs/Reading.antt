@@ -5,7 +5,7 @@ use Rattle.wgsl_error.specs.declared.error.ErrorKind.TheVariants as kind
 use Rattle.wgsl_error.specs.declared.error.Error.{Error}
 use Rattle.wgsl_declarations.specs.declared.unit.TranslationUnit.{TranslationUnit as Module}
 use Rattle.wgsl_declarations.specs.View as whole
-use Rattle.wgsl_parser.specs.Texts.{ParsesModule, IsModuleFault}
+use Rattle.wgsl_check_unit.specs.Texts.{ParsesModule, IsModuleFault}
 use Rattle.wgsl_syntax.specs.declared.unit.TranslationUnit.{TranslationUnit}
 use Rattle.wgsl_syntax.specs.View.{unit_tree}
 use Rattle.wgsl_part.specs.InPart.{is_unit}

@@ -1,7 +1,7 @@
 -- What is told of a module that no text derives is one name.
 use Rattle.std.proofs.Common.{◌≡◌, refl, ℕ, List, [], ◌∷◌, Option, Some, None}
 use Rattle.wgsl_declarations.specs.Tree.{Decl}
-use Rattle.wgsl_nodes_in_order.specs.Nodes.{Node, in_optional_decl}
+use Rattle.wgsl_check_unit.specs.Nodes.{Node, in_optional_decl}
 use Rattle.std.specs.Option.{option_and_then}
 use Rattle.wgsl_check_unit.specs.Names.{decl_name}
 use Rattle.wgsl_check_unit.specs.Telling.{IsNamed, whole_is, node_is, further, IsTold, nothing, here, later}

@@ -8,14 +8,14 @@ use Rattle.wgsl_declarations.specs.Print as whole_text
 use Rattle.wgsl_imports.specs.Tree.{Importing}
 use Rattle.wgsl_syntax.specs.Tree.{UnitTree, Imp}
 use Rattle.wgsl_syntax.specs.Print.{unit_text}
-use Rattle.wgsl_parser.proofs.Once.{module_apart}
+use Rattle.wgsl_check_unit.proofs.Once.{module_apart}
 use Rattle.wgsl_part.specs.Widening.{widen_imp, widen_unit}
 use Rattle.wgsl_part.proofs.Alike.{unit_alike}
 use Rattle.wgsl_part.proofs.Lying.{one_unit}
-use Rattle.wgsl_derivable.specs.Derivable.{SaysTree}
-use Rattle.wgsl_read_back.proofs.ModuleLaws as read_back
-use Rattle.wgsl_read_back.proofs.One.{texts_have_one_module}
-use Rattle.wgsl_read_back.proofs.Apart as apart
+use Rattle.wgsl_check_unit.specs.Derivable.{SaysTree}
+use Rattle.wgsl_check_unit.proofs.ModuleLaws as read_back
+use Rattle.wgsl_check_unit.proofs.One.{texts_have_one_module}
+use Rattle.wgsl_check_unit.proofs.Apart as apart
 use Rattle.wgsl_part_texts.specs.Texts.{IsTextOf, IsUnprintable}
 use Rattle.wgsl_part_texts.specs.Laws.{TextsHaveOneUnit, TextsAreOneThing, UnitsAreReadBack, UnitsAreToldOnce, SameTokensAreTheSameUnit, ImportsOfTextsAreApart}
 use Rattle.wgsl_part_texts.proofs.Told.{told_once}

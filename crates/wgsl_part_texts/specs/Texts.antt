@@ -5,7 +5,7 @@ use Rattle.std.specs.declared.alloc.Global.{Global}
 use Rattle.wgsl_error.specs.declared.error.Error.{Error}
 use Rattle.wgsl_declarations.specs.declared.unit.TranslationUnit.{TranslationUnit as Module}
 use Rattle.wgsl_declarations.specs.View as whole
-use Rattle.wgsl_parser.specs.Texts.{IsModuleFault}
+use Rattle.wgsl_check_unit.specs.Texts.{IsModuleFault}
 use Rattle.wgsl_syntax.specs.declared.unit.TranslationUnit.{TranslationUnit}
 use Rattle.wgsl_syntax.specs.Tree.{UnitTree}
 use Rattle.wgsl_syntax.specs.View.{unit_tree}
@@ -16,7 +16,7 @@ use Rattle.wgsl_part.specs.Widening.{widen_decl, widen_unit}
 use Rattle.wgsl_part.specs.InPart.{IsInPart}
 use Rattle.wgsl_part.specs.Places.{places}
 use Rattle.wgsl_part.specs.ModulePlaces as whole_places
-use Rattle.wgsl_derivable.specs.Derivable.{Says, SaysTree, IsDerivable}
+use Rattle.wgsl_check_unit.specs.Derivable.{Says, SaysTree, IsDerivable}
 use Rattle.wgsl_check_unit.specs.Telling.{IsTold}
 use Rattle.wgsl_part_texts.specs.declared.error.PartError.{PartError}
 use Rattle.wgsl_part_texts.specs.declared.error.PartError.TheVariants as refusal

@@ -7,9 +7,9 @@ ghost use Rattle.wgsl_part_texts.specs.Texts.{Parses, Finds, StandsIn};
 
 use crate::error::PartError;
 use std::alloc::Global;
+use wgsl_check_unit::{ErrorKind, parse_str};
 use wgsl_declarations as whole;
 use wgsl_declarations::let_go;
-use wgsl_parser::{ErrorKind, parse_str};
 use wgsl_part::{is_in_part, narrow};
 use wgsl_syntax::TranslationUnit;
 

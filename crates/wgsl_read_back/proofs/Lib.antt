@@ -35,3 +35,4 @@ pub mod One
 pub mod Apart
 pub mod Whole
 pub mod Same
+pub use Rattle.wgsl_parser.proofs.Once

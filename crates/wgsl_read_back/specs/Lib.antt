@@ -1,1 +1,2 @@
 pub mod Laws
+pub use Rattle.wgsl_parser.specs.Texts

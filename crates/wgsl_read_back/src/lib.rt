@@ -2,3 +2,5 @@
 #![tactic(auto)]
 
 pub mod laws;
+
+pub use wgsl_parser::{ErrorKind, parse_str};

@@ -3,8 +3,7 @@
 
 use wgsl_attributes::Attributes;
 use wgsl_enumerations::{AccessMode, AddressSpace};
-use wgsl_expressions::{ExpressionNode, TypeExpression};
-use wgsl_path::Ident;
+use wgsl_expressions::{ExpressionNode, Ident, TypeExpression};
 
 /// What a value declaration declares. A variable may name its address space, and behind that its access mode.
 #[derive(Clone, Copy, Debug, PartialEq)]

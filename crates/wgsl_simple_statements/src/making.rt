@@ -5,9 +5,7 @@ ghost use Rattle.std.specs.Prelude.{◌≡◌, [], IfOk};
 use crate::declaration::ConstAssert;
 use crate::statement::{CaseSelector, FunctionCallStatement, ReturnStatement};
 use std::alloc::{AllocError, Global};
-use wgsl_expressions::{Expression, ExpressionNode, FunctionCall};
-use wgsl_items::{FromIn, Items};
-use wgsl_path::{Span, Spanned};
+use wgsl_expressions::{Expression, ExpressionNode, FromIn, FunctionCall, Items, Span, Spanned};
 
 impl ConstAssert {
     /// An assertion of an expression, whose place is empty.

@@ -3,8 +3,7 @@
 ghost use Rattle.std.specs.Prelude.{◌≡◌, ◌++◌, [], ◌∷◌, IfOk, IsOkAnd, Some};
 
 use std::alloc::{AllocError, Global};
-use wgsl_items::{FromIn, Items};
-use wgsl_path::{Span, Spanned};
+use wgsl_expressions::{FromIn, Items, Span, Spanned};
 
 /// What is made of the value.
 pub fn converted<T: Drop, S: From<T>>(made: Result<T, AllocError>) -> Result<S, AllocError>

@@ -3,7 +3,7 @@ use Rattle.std.proofs.Common.{◌≡◌, refl, sym, ap, ◌∙◌, ℕ, ◌+◌,
 use Rattle.std.proofs.lemmas.Bool.{ne_eqb}
 use Rattle.std.specs.List.{flat_map, list_any}
 use Rattle.std.specs.Option.{option_map}
-use Rattle.wgsl_path.specs.declared.span.Spanned.{Spanned}
+use Rattle.wgsl_expressions.specs.Spanned.{Spanned}
 use Rattle.wgsl_simple_statements.specs.declared.declaration.Declaration.{Declaration}
 use Rattle.wgsl_simple_statements.specs.declared.declaration.ConstAssert.{ConstAssert}
 use Rattle.wgsl_simple_statements.specs.declared.statement.AssignmentStatement.{AssignmentStatement}

@@ -2,9 +2,8 @@
 //! types has one member; the plain names are aliases.
 
 use wgsl_attributes::Attributes;
-use wgsl_expressions::ExpressionNode;
+use wgsl_expressions::{ExpressionNode, Spanned};
 use wgsl_items::{Boxed, Items};
-use wgsl_path::Spanned;
 use wgsl_simple_statements::{
     AssignmentStatement, BreakIfStatement, BreakStatement, CaseSelector, ConstAssert,
     ContinueStatement, Declaration, DecrementStatement, DiscardStatement, FunctionCallStatement,

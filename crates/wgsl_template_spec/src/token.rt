@@ -1,7 +1,6 @@
 //! Tokens of texts in which template lists are told.
 
-use wgsl_path::Span;
-use wgsl_token::Token;
+use wgsl_token::{Span, Token};
 
 /// A token of a text in which template lists are told (WGSL, "Template Lists").
 #[derive(Debug, Drop, PartialEq)]

@@ -4,8 +4,7 @@ ghost use Rattle.std.specs.Prelude.{◌≡◌, Some};
 ghost use Rattle.wgsl_token.specs.Spelling.{spelling};
 
 use std::fmt;
-use wgsl_items::Text;
-use wgsl_path::Span;
+use wgsl_path::{Span, Text};
 
 /// A token that is spelled in one way: a keyword, a syntactic token, or one of the words that the grammar of imports
 /// names (WGSL, "Keywords" and "Syntactic Tokens"; the words of imports are WESL's).
