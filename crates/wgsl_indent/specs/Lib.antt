@@ -1,0 +1,2 @@
+pub mod Indented
+pub mod Writing
