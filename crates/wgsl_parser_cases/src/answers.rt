@@ -4,8 +4,9 @@
 use crate::{lists, made, places};
 use std::alloc::{AllocError, Global};
 use std::fmt::{Display, Write};
-use wgsl_parser::{
-    Error, check_str, parse_declaration, parse_declaration_kind, parse_directive, parse_expression,
+use wgsl_parse::Error;
+use wgsl_parse::parser::{
+    check_str, parse_declaration, parse_declaration_kind, parse_directive, parse_expression,
     parse_import, parse_statement, parse_str,
 };
 use wgsl_part::{NarrowError, narrow};

@@ -3,9 +3,8 @@
 use crate::answers::cut;
 use std::alloc::{AllocError, Global};
 use std::fmt::{Display, Write};
-use wgsl_template_lexer::{lexer, parser};
-use wgsl_template_spec::{SpannedTemplateToken, TemplateToken};
-use wgsl_token::Token;
+use wgsl_parse::lexer::{self, Lexer, SpannedTemplateToken, TemplateToken, Token};
+use wgsl_parse::parser;
 
 /// The answer to a call.
 pub fn answer(alloc: Global, call: &str, with: &str) -> Result<String, AllocError> {
@@ -59,14 +58,9 @@ fn push_plain(all: &mut String, token: &Token) -> Result<(), AllocError> {
 
 /// Whether the tokens behind the first one begin with a list.
 fn behind_first(alloc: Global, text: &str) -> Result<String, AllocError> {
-    let tokens = lexer::lex(alloc, text)?;
-    match tokens.as_slice().split_first() {
-        Some((_, behind)) => told(alloc, parser::recognize_template_list(alloc, behind)?),
-        None => told(
-            alloc,
-            parser::recognize_template_list(alloc, tokens.as_slice())?,
-        ),
-    }
+    let mut tokens = Lexer::new(alloc, text)?;
+    let _ = tokens.next();
+    told(alloc, parser::recognize_template_list(alloc, tokens)?)
 }
 
 /// How many lists and tokens a text has that is made of parts: so often the first, then the second, and so often the last.

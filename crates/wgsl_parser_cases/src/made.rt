@@ -1,12 +1,10 @@
 //! Modules that no text is: a module's text is parsed, and one name in it is changed. What `check_unit` tells of each.
 
 use std::alloc::{AllocError, Global};
-use wgsl_check_unit::{Unprintable, check_unit};
-use wgsl_declarations::{GlobalDeclaration, TranslationUnit};
-use wgsl_expressions::Expression;
-use wgsl_items::Text;
-use wgsl_parser::parse_str;
-use wgsl_statements::{CompoundStatement, Statement};
+use wgsl_parse::syntax::{
+    CompoundStatement, Expression, GlobalDeclaration, Statement, Text, TranslationUnit,
+};
+use wgsl_parse::{Unprintable, check_unit, parse_str};
 
 /// Changes a callee, or a name that stands alone.
 fn rename_in_expression(expression: &mut Expression, name: Text) {

@@ -4,9 +4,8 @@ use crate::answers::cut;
 use crate::escapes;
 use std::alloc::{AllocError, Global};
 use std::fmt::{Display, Write};
-use wgsl_parser::{Error, ErrorKind, parse_str};
-use wgsl_parser_errors::{ErrorWithSource, WithSource};
-use wgsl_path::Span;
+use wgsl_parse::span::Span;
+use wgsl_parse::{Error, ErrorKind, ErrorWithSource, WithSource, parse_str};
 
 fn written<T: Display>(alloc: Global, value: &T) -> Result<String, AllocError> {
     let mut text = String::new(alloc);

@@ -6,6 +6,3 @@ mod recognize;
 
 pub use iterator::TokenIterator;
 pub use recognize::recognize_template_list;
-
-#[cfg(test)]
-mod tests;
