@@ -289,6 +289,20 @@ STARTS = [
     ("<(b||c)>", True),
 ]
 
+# a text, and whether the tokens behind the first one begin with a list; `$` is no token, and ends them
+BEHIND_FIRST = [
+    ("a<b>", True),
+    ("a<b>c", True),
+    ("a<b<c>>", True),
+    ("a<b", False),
+    ("a b<c>", False),
+    ("a<b>(c) $ d", True),
+    ("a<b || c>d", False),
+    ("a<b $ c>", False),
+    ("a", False),
+    ("", False),
+]
+
 # a text's parts: so often the first, then the second, and so often the last; how many lists and tokens there are
 LONG = [
     (4000, "a<", "", "", "0 lists, 8000 tokens"),
@@ -378,7 +392,7 @@ def main():
         assert (text[:1] == "<" and longest(text, 0) == "<" and opens(text[1:])) == answer, text
         lines.append(f"recognize\t{text}\t{str(answer).lower()}")
     lines += ["", "# Whether the tokens behind the first one begin with a list"]
-    for text, answer in [("a<b>", True), ("a<b>c", True), ("a<b<c>>", True), ("a<b", False), ("a b<c>", False), ("a", False), ("", False)]:
+    for text, answer in BEHIND_FIRST:
         lines.append(f"tokens\t{text}\t{str(answer).lower()}")
     lines += ["", "# Long texts"]
     for count, first, middle, last, answer in LONG:
