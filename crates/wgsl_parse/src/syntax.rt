@@ -15,8 +15,8 @@ pub use wgsl_enumerations::{
 pub use wgsl_expressions::{
     BinaryExpression, BinaryOperator, Boxed, CloneIn, Expression, ExpressionNode, FromIn,
     FunctionCall, Ident, IndexingExpression, Items, LiteralExpression, ModulePath,
-    NamedComponentExpression, ParenthesizedExpression, PathOrigin, TemplateArg,
-    TemplateArgs, Text, TypeExpression, UnaryExpression, UnaryOperator,
+    NamedComponentExpression, ParenthesizedExpression, PathOrigin, TemplateArg, TemplateArgs, Text,
+    TypeExpression, UnaryExpression, UnaryOperator,
 };
 pub use wgsl_imports::{
     DiagnosticDirective, EnableDirective, GlobalDirective, Import, ImportContent, ImportItem,
