@@ -6,7 +6,7 @@ usage: tools/linking_cases.py         It writes crates/weslc_cases/data/linking.
 
 The plain program shares nothing with the linker: it goes over lists, searches again and again, has no tables, and parses
 nothing. A bundle is described by the pieces of its printed text, so that each piece is known for what it is: a name that is
-declared, a parameter, an occurrence in or outside of a body, or anything else. docs/DEFINITIONS.md, "Linking", has the
+declared, a parameter, an occurrence in or outside of a body, or anything else. docs/LANGUAGE.md, "Linking", has the
 definitions that it follows.
 """
 

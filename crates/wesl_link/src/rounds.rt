@@ -37,6 +37,7 @@ pub fn resolve_lazy<R: Resolver>(
     ensures same_answers { SameAnswers (R.answers resolver.old) (R.answers resolver.new) }
     ensures same_texts { SameTexts (R.texts resolver.old) (R.texts resolver.new) }
     ensures same_names { R.display_names resolver.new ≡ R.display_names resolver.old }
+    ensures same_reference { R.holds resolver.new ≡ R.holds resolver.old }
 {
     let Reached {
         modules,

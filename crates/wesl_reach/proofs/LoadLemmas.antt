@@ -53,6 +53,7 @@ module _ (sources : Sources) (max n : ℕ) (path : ModulePath) (p : Path) (is : 
   pub unit_refused : (f : ResolveError) (e : ImportError) → n < max → TellsUnit (sources (path_text path)) path (Err f) → GivesError f e
       → (ps : List Path) → RefusesLoading sources max n (p ∷ ps) (refusal_of e)
   unit_refused resolve.OutOfMemory e less t g = told e None (ap refusal_of g) (λ ps. tt)
+  unit_refused (resolve.GaveUp q r) e less t g = told e None (ap refusal_of g) (λ ps. tt)
   unit_refused (resolve.ModuleNotFound q) e less t g =
       let same : path_text q ≡ p = ap path_text t.0 ∙ is in
       told e (Some (module_not_found p)) (ap refusal_of g ∙ ap (λ x. Some (module_not_found x)) same) (λ ps. is_not_found less (subst (λ x. sources x not_found) is t.1))

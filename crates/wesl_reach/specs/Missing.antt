@@ -15,12 +15,13 @@ use Rattle.wesl_scopes.specs.declared.error.ImportError.TheVariants as import
 use Rattle.wesl_scopes.specs.Outcomes.{Outcome, symbol_at, unloaded, missing, private, free, Loaded, outcome}
 use Rattle.wesl_reach.specs.Reach.{Holding}
 
--- what an error tells, want of memory aside
+-- what an error tells, want of memory aside, and texts that the parser gives up on
 abbrev pub refusal_of : ImportError → Option LoadError
 refusal_of (import.TooManyModules p) = Some (too_many_modules (path_text p))
 refusal_of (import.Resolve (resolve.ModuleNotFound p)) = Some (module_not_found (path_text p))
 refusal_of (import.Resolve (resolve.Syntax p e)) = Some (syntax (path_text p) e)
 refusal_of (import.Resolve (resolve.Unsupported p)) = Some (module_unsupported (path_text p))
+refusal_of (import.Resolve (resolve.GaveUp p r)) = None
 refusal_of (import.Resolve resolve.OutOfMemory) = None
 refusal_of (import.DuplicateSymbol p x) = Some (duplicate_symbol (path_text p) x)
 refusal_of (import.MissingDecl p x) = Some (missing_decl (path_text p) x)

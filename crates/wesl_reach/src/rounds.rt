@@ -48,6 +48,7 @@ pub fn load_reached<R: Resolver>(
     ensures same_answers { SameAnswers (R.answers resolver.old) (R.answers resolver.new) }
     ensures same_texts { SameTexts (R.texts resolver.old) (R.texts resolver.new) }
     ensures same_names { R.display_names resolver.new ≡ R.display_names resolver.old }
+    ensures same_reference { R.holds resolver.new ≡ R.holds resolver.old }
 {
     if max_modules == 0 {
         drop(unit);
@@ -83,6 +84,7 @@ fn load_from_root<R: Resolver>(
     ensures same_answers { SameAnswers (R.answers resolver.old) (R.answers resolver.new) }
     ensures same_texts { SameTexts (R.texts resolver.old) (R.texts resolver.new) }
     ensures same_names { R.display_names resolver.new ≡ R.display_names resolver.old }
+    ensures same_reference { R.holds resolver.new ≡ R.holds resolver.old }
 {
     let mut modules = Modules::new(alloc);
     insert_module(alloc, &mut modules, root.as_str(), module)?;
@@ -116,6 +118,7 @@ fn load_rounds<R: Resolver>(
     ensures same_answers { SameAnswers (R.answers resolver.old) (R.answers resolver.new) }
     ensures same_texts { SameTexts (R.texts resolver.old) (R.texts resolver.new) }
     ensures same_names { R.display_names resolver.new ≡ R.display_names resolver.old }
+    ensures same_reference { R.holds resolver.new ≡ R.holds resolver.old }
 {
     for _round in 1..max_modules {
         if asked.is_empty() {
@@ -166,6 +169,7 @@ fn load_all<R: Resolver>(
     ensures same_answers { SameAnswers (R.answers resolver.old) (R.answers resolver.new) }
     ensures same_texts { SameTexts (R.texts resolver.old) (R.texts resolver.new) }
     ensures same_names { R.display_names resolver.new ≡ R.display_names resolver.old }
+    ensures same_reference { R.holds resolver.new ≡ R.holds resolver.old }
 {
     for (text, module) in asked {
         load_one(
@@ -195,6 +199,7 @@ fn load_one<R: Resolver>(
     ensures same_answers { SameAnswers (R.answers resolver.old) (R.answers resolver.new) }
     ensures same_texts { SameTexts (R.texts resolver.old) (R.texts resolver.new) }
     ensures same_names { R.display_names resolver.new ≡ R.display_names resolver.old }
+    ensures same_reference { R.holds resolver.new ≡ R.holds resolver.old }
 {
     if modules.len() >= max_modules as usize {
         return Err(ImportError::TooManyModules(path.clone_in(alloc)?));

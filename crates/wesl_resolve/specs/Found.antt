@@ -7,7 +7,7 @@ use Rattle.wgsl_syntax.specs.Tree.{UnitTree}
 use Rattle.wgsl_syntax.specs.declared.unit.TranslationUnit.{TranslationUnit}
 use Rattle.wgsl_syntax.specs.View.{unit_tree}
 use Rattle.wesl_resolve.specs.declared.error.ResolveError.{ResolveError}
-use Rattle.wesl_resolve.specs.declared.error.ResolveError.TheVariants.{ModuleNotFound, Syntax, Unsupported, OutOfMemory}
+use Rattle.wesl_resolve.specs.declared.error.ResolveError.TheVariants.{ModuleNotFound, Syntax, Unsupported, GaveUp, OutOfMemory}
 
 -- a module's unit, that there is none, what is wrong with its text, or that it uses what is not supported yet
 pub data Answer : Type 0 where
@@ -16,12 +16,13 @@ pub data Answer : Type 0 where
   faulty : Error → Answer
   unsupported : Answer
 
--- memory aside, a call that asks for the module at a path tells what is found there
+-- memory aside, and texts that the parser gives up on, a call that asks for the module at a path tells what is found there
 abbrev pub TellsUnit : (Answer → Type 0) → ModulePath → Result TranslationUnit ResolveError → Type 0
 TellsUnit found path (Ok unit) = found (unit_of (unit_tree unit))
 TellsUnit found path (Err (ModuleNotFound p)) = (p ≡ path) × found not_found
 TellsUnit found path (Err (Syntax p e)) = (p ≡ path) × found (faulty e)
 TellsUnit found path (Err (Unsupported p)) = (p ≡ path) × found unsupported
+TellsUnit found path (Err (GaveUp p r)) = p ≡ path
 TellsUnit found path (Err OutOfMemory) = ⊤
 
 -- likewise for its text
@@ -30,6 +31,7 @@ TellsText found texts path (Ok text) = texts text
 TellsText found texts path (Err (ModuleNotFound p)) = (p ≡ path) × found not_found
 TellsText found texts path (Err (Syntax p e)) = ⊥
 TellsText found texts path (Err (Unsupported p)) = ⊥
+TellsText found texts path (Err (GaveUp p r)) = ⊥
 TellsText found texts path (Err OutOfMemory) = ⊤
 
 -- nothing is found otherwise

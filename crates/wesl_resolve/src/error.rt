@@ -2,7 +2,7 @@
 
 use std::alloc::AllocError;
 use thiserror::Error as Message;
-use wgsl_error::Error;
+use wgsl_error::{Error, Refusal};
 use wgsl_path::ModulePath;
 
 /// Why a resolver gives no module for a path.
@@ -15,6 +15,9 @@ pub enum ResolveError {
     /// The module uses what is not supported yet.
     #[error("{0} uses what is not supported yet")]
     Unsupported(ModulePath),
+    /// The parser gave up on the module's text, which is nested too deep. This says nothing else of the module.
+    #[error("in {0}: {1}")]
+    GaveUp(ModulePath, Refusal),
     /// Memory was refused. This says nothing of the module.
     #[error("out of memory")]
     OutOfMemory,

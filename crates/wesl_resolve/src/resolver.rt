@@ -1,5 +1,6 @@
 //! Where modules come from.
 
+ghost use base.Fml.{GName};
 ghost use Rattle.std.specs.Prelude.{◌≡◌, ℕ, List, Option, None, IfOk};
 ghost use Rattle.wgsl_path.specs.Paths.{path_text};
 ghost use Rattle.wgsl_syntax.specs.Tree.{UnitTree};
@@ -26,12 +27,17 @@ pub trait Resolver: Drop {
     /// The printed paths of the modules that were asked for so far, in order. `None` claims nothing.
     ghost asked: { Self → Asked } = { λ _. None };
 
+    /// The reference that it holds, where it holds one, which no call replaces. By it the caller who lent the reference knows
+    /// what became of it.
+    ghost holds: { Self → Option GName } = { λ _. None };
+
     /// The text of the module at a path.
     fn resolve_source(&mut self, alloc: Global, path: &ModulePath) -> Result<Text, ResolveError>
         ensures text { TellsText (answers self.old (path_text path.now)) (texts self.old (path_text path.now)) path.now result }
         ensures same_answers { SameAnswers (answers self.old) (answers self.new) }
         ensures same_texts { SameTexts (texts self.old) (texts self.new) }
         ensures same_names { display_names self.new ≡ display_names self.old }
+        ensures same_reference { holds self.new ≡ holds self.old }
         ensures asked { asked self.new ≡ asked self.old };
 
     /// The syntax tree of the module at a path. Where memory is refused, the module may not have been asked for.
@@ -44,6 +50,7 @@ pub trait Resolver: Drop {
         ensures same_answers { SameAnswers (answers self.old) (answers self.new) }
         ensures same_texts { SameTexts (texts self.old) (texts self.new) }
         ensures same_names { display_names self.new ≡ display_names self.old }
+        ensures same_reference { holds self.new ≡ holds self.old }
         ensures asked { AsksFor (asked self.old) (path_text path.now) result (asked self.new) };
 
     /// The name that a message gives the module, where it has one. It is refused for memory alone.
@@ -52,6 +59,7 @@ pub trait Resolver: Drop {
         ensures same_answers { SameAnswers (answers self.old) (answers self.new) }
         ensures same_texts { SameTexts (texts self.old) (texts self.new) }
         ensures same_names { display_names self.new ≡ display_names self.old }
+        ensures same_reference { holds self.new ≡ holds self.old }
         ensures asked { asked self.new ≡ asked self.old };
 
     /// At a path one answer is found at most.

@@ -168,3 +168,48 @@ impl SourceMap for BasicSourceMap {
         }
     }
 }
+
+/// What the map holds, where there is one.
+impl<T: SourceMap> SourceMap for Option<T> {
+    ghost use Rattle.std.specs.Option.{option_and_then};
+
+    ghost decls = { λ m x. option_and_then (λ map. T.decls map x) m };
+
+    ghost sources = { λ m p. option_and_then (λ map. T.sources map p) m };
+
+    ghost display_names = { λ m p. option_and_then (λ map. T.display_names map p) m };
+
+    ghost default_source = { λ m. option_and_then T.default_source m };
+
+    fn get_decl(&self, decl: &str) -> Option<(&ModulePath, &str)> {
+        match self {
+            None => None,
+            Some(map) => map.get_decl(decl),
+        }
+    }
+
+    fn get_source(&self, alloc: Global, path: &ModulePath) -> Result<Option<&str>, AllocError> {
+        match self {
+            None => Ok(None),
+            Some(map) => map.get_source(alloc, path),
+        }
+    }
+
+    fn get_display_name(
+        &self,
+        alloc: Global,
+        path: &ModulePath,
+    ) -> Result<Option<&str>, AllocError> {
+        match self {
+            None => Ok(None),
+            Some(map) => map.get_display_name(alloc, path),
+        }
+    }
+
+    fn get_default_source(&self) -> Option<&str> {
+        match self {
+            None => None,
+            Some(map) => map.get_default_source(),
+        }
+    }
+}

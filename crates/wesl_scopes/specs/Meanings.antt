@@ -89,4 +89,5 @@ abbrev pub GivesError : ResolveError → ImportError → Type 0
 GivesError resolve.OutOfMemory e = e ≡ OutOfMemory
 GivesError (resolve.ModuleNotFound p) e = e ≡ Resolve (resolve.ModuleNotFound p)
 GivesError (resolve.Syntax p f) e = e ≡ Resolve (resolve.Syntax p f)
+GivesError (resolve.GaveUp p r) e = e ≡ Resolve (resolve.GaveUp p r)
 GivesError (resolve.Unsupported p) e = e ≡ Resolve (resolve.Unsupported p)

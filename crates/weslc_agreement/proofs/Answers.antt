@@ -21,6 +21,7 @@ use Rattle.wgsl_part_texts.proofs.Whole.{units_are_told_once}
 use Rattle.weslc_unit.specs.Compiled.{IsCompiled, Refuses}
 use Rattle.weslc_unit.specs.declared.error.UnitRefusal.{UnitRefusal}
 use Rattle.weslc_unit.specs.declared.error.UnitRefusal.TheVariants as of
+use Rattle.weslc_unit.specs.Once as once
 use Rattle.weslc_unit.proofs.Once.{compiled_once, refused_once, compiled_or_refused}
 use Rattle.weslc_linking.specs.Headline.{IsLinkedFrom}
 use Rattle.weslc_linking.specs.Answers.{AreLoadedFrom, IsRefusedLoading, IsFirstClashFrom, RefusesLinking}
@@ -29,9 +30,9 @@ use Rattle.weslc_linking.specs.Told.{about_name, about_maybe, Tells}
 use Rattle.weslc_linking.specs.declared.error.ResolveKind.TheVariants.{ModuleNotFound}
 use Rattle.weslc_linking.specs.declared.error.ImportKind.TheVariants.{DuplicateSymbol, MissingDecl, Private}
 use Rattle.weslc_linking.specs.declared.error.CompileError.{CompileError}
-use Rattle.weslc_linking.specs.declared.error.CompileError.TheVariants.{TooManyModules, Resolve, Syntax, Unsupported, Import, NameClash, Validate, UnclearName, Eval, Unprintable, OutOfMemory}
+use Rattle.weslc_linking.specs.declared.error.CompileError.TheVariants.{TooManyModules, Resolve, Syntax, Unsupported, Import, Condition, ConditionLeft, NameClash, Validate, UnclearName, Eval, Unprintable, GaveUp, OutOfMemory}
 use Rattle.weslc_agreement.specs.Asked.{AgreesOnAsked, HasAskedUnits}
-use Rattle.weslc_agreement.specs.Answers.{SameAnswer, TellTheSame, IsCompiledAnswer, IsLinkedAnswer, CompiledAlike, LinkedAlike}
+use Rattle.weslc_agreement.specs.Answers.{SameAnswer, TellTheSame, TellsNothing, IsCompiledAnswer, IsLinkedAnswer, CompiledAlike, LinkedAlike}
 use Rattle.weslc_agreement.proofs.Units.{units_are_one}
 use Rattle.weslc_agreement.proofs.Outcomes.{refused_outcome, loaded_outcome, same_outcome, loaded_alike, kept_are_one}
 use Rattle.weslc_agreement.proofs.Told.{refused_first, refused_last, TellsLoading, loading_told, clash_told, tell_alike, refusal_told, maybe_same}
@@ -57,15 +58,20 @@ abbrev IsOne : Saying → Type 0
 IsOne Of = (root : Path) (modules others : Modules) → AreAlike root modules others → (keep : List Name) (linked : UnitTree) (one two : Result (List ℕ) CompileError)
     → Of modules root keep linked one → Of others root keep linked two → SameAnswer one two
 
-memory_told : (tell : Telling) (refusal : UnitRefusal) (e : CompileError) → refusal ≡ of.OutOfMemory → Tells tell refusal e → e ≡ OutOfMemory
-memory_told tell refusal e is told = subst (λ r. Tells tell r e) is told
+nothing_told : (tell : Telling) (refusal : UnitRefusal) (e : CompileError) → once.TellsNothing refusal → Tells tell refusal e → TellsNothing e
+nothing_told tell of.OutOfMemory e is told = subst TellsNothing (sym told) tt
+nothing_told tell (of.GaveUp r) e is told = subst TellsNothing (sym told) tt
+nothing_told tell (of.Validate f) e is told = absurd is
+nothing_told tell (of.UnclearName x) e is told = absurd is
+nothing_told tell (of.Eval r) e is told = absurd is
+nothing_told tell (of.Unprintable x) e is told = absurd is
 
 compiling_is_one : (steps : ℕ) → IsOne (OfCompiling steps)
 compiling_is_one steps root modules others alike keep linked (Ok text) (Ok more) a b = compiled_once steps linked text more a b
 compiling_is_one steps root modules others alike keep linked (Ok text) (Err e) a (tell, refusal, held, refused, told) =
-    memory_told tell refusal e (compiled_or_refused steps linked text refusal a refused) told
+    nothing_told tell refusal e (compiled_or_refused steps linked text refusal a refused) told
 compiling_is_one steps root modules others alike keep linked (Err e) (Ok text) (tell, refusal, held, refused, told) b =
-    memory_told tell refusal e (compiled_or_refused steps linked text refusal b refused) told
+    nothing_told tell refusal e (compiled_or_refused steps linked text refusal b refused) told
 compiling_is_one steps root modules others alike keep linked (Err e) (Err f) (tell, r, held, refused, told) (more, q, kept, stopped, said) =
     refusal_told tell more (tell_alike root modules others alike keep tell more held kept) r q (refused_once steps linked r q refused stopped) e f told said
 
@@ -80,7 +86,7 @@ linking_is_one root modules others alike keep linked (Err e) (Err f) (x, is, ref
 
 module _ (Of : Saying) (found : Sources) (root : Path) (asked : List Name) (max : ℕ) where
   data Ends : Result (List ℕ) CompileError → Type 0 where
-    for_memory : Ends (Err OutOfMemory)
+    for_nothing : {e : CompileError} → TellsNothing e → Ends (Err e)
     in_loading : {e : CompileError} (r : LoadError) → IsRefusedLoading found root asked max r → TellsLoading r e → Ends (Err e)
     in_a_clash : {e : CompileError} (y : Name) → IsFirstClashFrom found root asked max y → e ≡ NameClash (about_name y) → Ends (Err e)
     with_a_unit : {answer : Result (List ℕ) CompileError} (linked : UnitTree) (from : IsLinkedFrom found root asked max linked) → Of from.modules root from.kept linked answer → Ends answer
@@ -94,8 +100,11 @@ module _ (Of : Saying) (found : Sources) (root : Path) (asked : List Name) (max 
   refused_ends (Import c MissingDecl) (m, x, is, refused) = in_loading _ refused (m, ap (λ d. Import d MissingDecl) is, refl)
   refused_ends (Import c Private) (m, x, is, refused) = in_loading _ refused (m, ap (λ d. Import d Private) is, refl)
   refused_ends (NameClash c) (y, is, clash) = in_a_clash y clash (ap NameClash is)
-  refused_ends OutOfMemory is = for_memory
+  refused_ends OutOfMemory is = for_nothing tt
+  refused_ends (GaveUp c r) is = for_nothing tt
   refused_ends (Validate c k) is = absurd is
+  refused_ends (Condition c k) is = absurd is
+  refused_ends (ConditionLeft c) is = absurd is
   refused_ends (UnclearName c) is = absurd is
   refused_ends (Eval c f) is = absurd is
   refused_ends (Unprintable c) is = absurd is
@@ -170,18 +179,18 @@ module _ (Of : Saying) (is_one : IsOne Of) (found other : Sources) (functional :
       (subst (λ k. Of onto.modules root k linked two) kept (subst (λ u. Of onto.modules root onto.kept u two) (sym units) b))
 
   ends_alike : (one two : Result (List ℕ) CompileError) → Ends Of found root asked max one → Ends Of other root asked max two → SameAnswer one two
-  ends_alike _ two for_memory b = refused_first two
-  ends_alike _ _ (in_loading {e = e} r l t) for_memory = refused_last (Err e)
+  ends_alike _ two (for_nothing {e = e} h) b = refused_first e h two
+  ends_alike _ _ (in_loading {e = e} r l t) (for_nothing {e = f} h) = refused_last f h (Err e)
   ends_alike _ _ (in_loading {e = e} r l t) (in_loading {e = f} q k u) =
       let same : r ≡ q = same_outcome found other functional functional_too root asked max agree (Err r) (Err q) (refused_outcome found root asked max r l) (refused_outcome other root asked max q k) in
       loading_told r e f t (subst (λ z. TellsLoading z f) (sym same) u)
   ends_alike _ _ (in_loading r l t) (in_a_clash z d j) = absurd (refused_not r l d.kept d.modules d.loaded)
   ends_alike _ two (in_loading r l t) (with_a_unit more onto b) = absurd (refused_not r l onto.kept onto.modules (loaded_of other root asked max more onto))
-  ends_alike _ _ (in_a_clash {e = e} y c i) for_memory = refused_last (Err e)
+  ends_alike _ _ (in_a_clash {e = e} y c i) (for_nothing {e = f} h) = refused_last f h (Err e)
   ends_alike _ _ (in_a_clash y c i) (in_loading q k u) = absurd (not_refused c.kept c.modules c.loaded q k)
   ends_alike _ _ (in_a_clash {e = e} y c i) (in_a_clash {e = f} z d j) = clash_told y z e f i j (clashes_same y z c d)
   ends_alike _ two (in_a_clash y c i) (with_a_unit more onto b) = absurd (clash_not_free y c more onto)
-  ends_alike one _ (with_a_unit linked from a) for_memory = refused_last one
+  ends_alike one _ (with_a_unit linked from a) (for_nothing {e = f} h) = refused_last f h one
   ends_alike one _ (with_a_unit linked from a) (in_loading q k u) = absurd (not_refused from.kept from.modules (loaded_of found root asked max linked from) q k)
   ends_alike one _ (with_a_unit linked from a) (in_a_clash z d j) = absurd (free_not_clash linked from z d)
   ends_alike one two (with_a_unit linked from a) (with_a_unit more onto b) = units_said one two linked more from onto a b

@@ -5,6 +5,7 @@ use Rattle.wgsl_path.specs.Paths.{path_text}
 use Rattle.wesl_link_spec.specs.Occurrences.{Name}
 use Rattle.wesl_link_spec.specs.Modules.{Path, Modules, Symbol}
 use Rattle.wesl_link_spec.specs.Rounds.{LoadError, too_many_modules, module_not_found, syntax, module_unsupported, duplicate_symbol, missing_decl, private}
+use Rattle.wgsl_error.specs.declared.error.Refusal.{Refusal}
 use Rattle.wesl_validate.specs.declared.error.ValidateFault.{ValidateFault}
 use Rattle.wgsl_eval.specs.declared.error.DeclarationFault.{DeclarationFault as Evaluation}
 use Rattle.wesl_meaning.specs.Agreement.{AreAlike}
@@ -17,11 +18,28 @@ use Rattle.weslc_linking.specs.Mapped.{IsTold, TellsHeld}
 use Rattle.weslc_linking.specs.Told.{about_module, about_item, about_name, about_maybe, about_declaration, fault_name, TellsOfFault, TellsOfEvaluation, Tells}
 use Rattle.weslc_linking.specs.declared.error.ResolveKind.TheVariants.{ModuleNotFound}
 use Rattle.weslc_linking.specs.declared.error.ImportKind.TheVariants.{DuplicateSymbol, MissingDecl, Private}
+use Rattle.weslc_linking.specs.declared.error.ErrorContext.{ErrorContext}
 use Rattle.weslc_linking.specs.declared.error.CompileError.{CompileError}
-use Rattle.weslc_linking.specs.declared.error.CompileError.TheVariants.{TooManyModules, Resolve, Syntax, Unsupported, Import, NameClash, Validate, UnclearName, Eval, Unprintable, OutOfMemory}
-use Rattle.weslc_agreement.specs.Answers.{SameContext, TellTheSame, SameAnswer}
+use Rattle.weslc_linking.specs.declared.error.CompileError.TheVariants.{TooManyModules, Resolve, Syntax, Unsupported, Import, Condition, ConditionLeft, NameClash, Validate, UnclearName, Eval, Unprintable, GaveUp, OutOfMemory}
+use Rattle.weslc_agreement.specs.Answers.{SameContext, TellTheSame, TellsNothing, SameAnswer}
 
--- ---- want of memory tells nothing
+-- ---- want of memory tells nothing, nor does that the parser gave up
+
+pub nothing_first : (e f : CompileError) → TellsNothing e → TellTheSame e f
+nothing_first OutOfMemory f h = tt
+nothing_first (GaveUp c r) f h = tt
+nothing_first (TooManyModules c) f h = absurd h
+nothing_first (Resolve c k) f h = absurd h
+nothing_first (Syntax c y) f h = absurd h
+nothing_first (Unsupported c) f h = absurd h
+nothing_first (Import c k) f h = absurd h
+nothing_first (NameClash c) f h = absurd h
+nothing_first (Validate c k) f h = absurd h
+nothing_first (Condition c k) f h = absurd h
+nothing_first (ConditionLeft c) f h = absurd h
+nothing_first (UnclearName c) f h = absurd h
+nothing_first (Eval c y) f h = absurd h
+nothing_first (Unprintable c) f h = absurd h
 
 pub memory_last : (e : CompileError) → TellTheSame e OutOfMemory
 memory_last (TooManyModules c) = tt
@@ -31,18 +49,53 @@ memory_last (Unsupported c) = tt
 memory_last (Import c k) = tt
 memory_last (NameClash c) = tt
 memory_last (Validate c k) = tt
+memory_last (Condition c k) = tt
+memory_last (ConditionLeft c) = tt
 memory_last (UnclearName c) = tt
 memory_last (Eval c f) = tt
 memory_last (Unprintable c) = tt
+memory_last (GaveUp c r) = tt
 memory_last OutOfMemory = tt
 
-pub refused_first : (answer : Result (List ℕ) CompileError) → SameAnswer (Err OutOfMemory) answer
-refused_first (Ok text) = refl
-refused_first (Err e) = tt
+gave_up_last : (e : CompileError) (d : ErrorContext) (q : Refusal) → TellTheSame e (GaveUp d q)
+gave_up_last (TooManyModules c) d q = tt
+gave_up_last (Resolve c k) d q = tt
+gave_up_last (Syntax c f) d q = tt
+gave_up_last (Unsupported c) d q = tt
+gave_up_last (Import c k) d q = tt
+gave_up_last (NameClash c) d q = tt
+gave_up_last (Validate c k) d q = tt
+gave_up_last (Condition c k) d q = tt
+gave_up_last (ConditionLeft c) d q = tt
+gave_up_last (UnclearName c) d q = tt
+gave_up_last (Eval c f) d q = tt
+gave_up_last (Unprintable c) d q = tt
+gave_up_last (GaveUp c r) d q = tt
+gave_up_last OutOfMemory d q = tt
 
-pub refused_last : (answer : Result (List ℕ) CompileError) → SameAnswer answer (Err OutOfMemory)
-refused_last (Ok text) = refl
-refused_last (Err e) = memory_last e
+pub nothing_last : (e f : CompileError) → TellsNothing f → TellTheSame e f
+nothing_last e OutOfMemory h = memory_last e
+nothing_last e (GaveUp d q) h = gave_up_last e d q
+nothing_last e (TooManyModules c) h = absurd h
+nothing_last e (Resolve c k) h = absurd h
+nothing_last e (Syntax c f) h = absurd h
+nothing_last e (Unsupported c) h = absurd h
+nothing_last e (Import c k) h = absurd h
+nothing_last e (NameClash c) h = absurd h
+nothing_last e (Validate c k) h = absurd h
+nothing_last e (Condition c k) h = absurd h
+nothing_last e (ConditionLeft c) h = absurd h
+nothing_last e (UnclearName c) h = absurd h
+nothing_last e (Eval c f) h = absurd h
+nothing_last e (Unprintable c) h = absurd h
+
+pub refused_first : (e : CompileError) → TellsNothing e → (answer : Result (List ℕ) CompileError) → SameAnswer (Err e) answer
+refused_first e h (Ok text) = h
+refused_first e h (Err f) = nothing_first e f h
+
+pub refused_last : (e : CompileError) → TellsNothing e → (answer : Result (List ℕ) CompileError) → SameAnswer answer (Err e)
+refused_last e h (Ok text) = h
+refused_last e h (Err f) = nothing_last f e h
 
 -- ---- what errors are about
 
@@ -132,6 +185,7 @@ error_of tell (of.Validate f) = Validate (about_declaration (tell f.declaration)
 error_of tell (of.UnclearName x) = UnclearName (about_name x)
 error_of tell (of.Eval r) = Eval (about_declaration (tell r.declaration) (fault_name r.fault)) r.fault
 error_of tell (of.Unprintable x) = Unprintable (about_maybe x)
+error_of tell (of.GaveUp r) = GaveUp (about_maybe None) r
 error_of tell of.OutOfMemory = OutOfMemory
 
 fault_tells : (tell : Telling) (f : ValidateFault) (e : CompileError) → TellsOfFault tell f e → (e ≡ OutOfMemory) ⊎ (e ≡ error_of tell (of.Validate f))
@@ -145,7 +199,10 @@ fault_tells tell f (Import c k) t = absurd t
 fault_tells tell f (NameClash c) t = absurd t
 fault_tells tell f (UnclearName c) t = absurd t
 fault_tells tell f (Eval c k) t = absurd t
+fault_tells tell f (Condition c k) t = absurd t
+fault_tells tell f (ConditionLeft c) t = absurd t
 fault_tells tell f (Unprintable c) t = absurd t
+fault_tells tell f (GaveUp c k) t = absurd t
 
 evaluation_tells : (tell : Telling) (r : Evaluation) (e : CompileError) → TellsOfEvaluation tell r e → (e ≡ OutOfMemory) ⊎ (e ≡ error_of tell (of.Eval r))
 evaluation_tells tell r (Eval c f) t =
@@ -160,14 +217,18 @@ evaluation_tells tell r (Unsupported c) t = absurd t
 evaluation_tells tell r (Import c k) t = absurd t
 evaluation_tells tell r (NameClash c) t = absurd t
 evaluation_tells tell r (Validate c k) t = absurd t
+evaluation_tells tell r (Condition c k) t = absurd t
+evaluation_tells tell r (ConditionLeft c) t = absurd t
 evaluation_tells tell r (UnclearName c) t = absurd t
 evaluation_tells tell r (Unprintable c) t = absurd t
+evaluation_tells tell r (GaveUp c k) t = absurd t
 
 tells : (tell : Telling) (r : UnitRefusal) (e : CompileError) → Tells tell r e → (e ≡ OutOfMemory) ⊎ (e ≡ error_of tell r)
 tells tell (of.Validate f) e t = fault_tells tell f e t
 tells tell (of.UnclearName x) e t = inr t
 tells tell (of.Eval r) e t = evaluation_tells tell r e t
 tells tell (of.Unprintable x) e t = inr t
+tells tell (of.GaveUp r) e t = inr t
 tells tell of.OutOfMemory e t = inl t
 
 errors_same : (tell more : Telling) → TellAlike tell more → (r q : UnitRefusal) → SameRefusal r q → TellTheSame (error_of tell r) (error_of more q)
@@ -177,23 +238,28 @@ errors_same tell more alike (of.Validate f) (of.UnclearName y) same = absurd sam
 errors_same tell more alike (of.Validate f) (of.Eval q) same = absurd same
 errors_same tell more alike (of.Validate f) (of.Unprintable y) same = absurd same
 errors_same tell more alike (of.Validate f) of.OutOfMemory same = tt
+errors_same tell more alike (of.Validate f) (of.GaveUp h) same = tt
 errors_same tell more alike (of.UnclearName x) (of.Validate g) same = absurd same
 errors_same tell more alike (of.UnclearName x) (of.UnclearName y) same = names_same x y same
 errors_same tell more alike (of.UnclearName x) (of.Eval q) same = absurd same
 errors_same tell more alike (of.UnclearName x) (of.Unprintable y) same = absurd same
 errors_same tell more alike (of.UnclearName x) of.OutOfMemory same = tt
+errors_same tell more alike (of.UnclearName x) (of.GaveUp h) same = tt
 errors_same tell more alike (of.Eval r) (of.Validate g) same = absurd same
 errors_same tell more alike (of.Eval r) (of.UnclearName y) same = absurd same
 errors_same tell more alike (of.Eval r) (of.Eval q) same =
     subst (λ z. TellTheSame (error_of tell (of.Eval r)) (error_of more (of.Eval z))) same (alike r.declaration (fault_name r.fault), refl)
 errors_same tell more alike (of.Eval r) (of.Unprintable y) same = absurd same
 errors_same tell more alike (of.Eval r) of.OutOfMemory same = tt
+errors_same tell more alike (of.Eval r) (of.GaveUp h) same = tt
 errors_same tell more alike (of.Unprintable x) (of.Validate g) same = absurd same
 errors_same tell more alike (of.Unprintable x) (of.UnclearName y) same = absurd same
 errors_same tell more alike (of.Unprintable x) (of.Eval q) same = absurd same
 errors_same tell more alike (of.Unprintable x) (of.Unprintable y) same = maybe_same x y same
 errors_same tell more alike (of.Unprintable x) of.OutOfMemory same = tt
+errors_same tell more alike (of.Unprintable x) (of.GaveUp h) same = tt
 errors_same tell more alike of.OutOfMemory q same = tt
+errors_same tell more alike (of.GaveUp g) q same = tt
 
 -- two that tell alike tell the same of refusals that are the same
 pub refusal_told : (tell more : Telling) → TellAlike tell more → (r q : UnitRefusal) → SameRefusal r q → (e f : CompileError) → Tells tell r e → Tells more q f → TellTheSame e f

@@ -9,7 +9,7 @@ use Rattle.wesl_link_spec.specs.Named.{ImportsAreApart}
 use Rattle.weslc_linking.specs.Answers.{IsLinkedText, IsCompiledText, RefusesLinking, IsUnprintable, IsRefusedUnit}
 use Rattle.weslc_linking.specs.declared.error.ErrorContext.{ErrorContext}
 use Rattle.weslc_linking.specs.declared.error.CompileError.{CompileError}
-use Rattle.weslc_linking.specs.declared.error.CompileError.TheVariants.{TooManyModules, Resolve, Syntax, Unsupported, Import, NameClash, Validate, UnclearName, Eval, Unprintable, OutOfMemory}
+use Rattle.weslc_linking.specs.declared.error.CompileError.TheVariants.{TooManyModules, Resolve, Syntax, Unsupported, Import, Condition, ConditionLeft, NameClash, Validate, UnclearName, Eval, Unprintable, GaveUp, OutOfMemory}
 use Rattle.weslc_agreement.specs.Asked.{AgreesOnAsked}
 
 -- ---- errors
@@ -27,10 +27,12 @@ pub record SameContext (c d : ErrorContext) : Type 0 where
   pub same_declaration : c.decl ≡ d.decl
   pub same_name : c.name ≡ d.name
 
--- Two errors tell the same. Want of memory tells nothing of the modules.
+-- Two errors tell the same. Want of memory tells nothing of the modules, nor does that the parser gave up.
 abbrev pub TellTheSame : CompileError → CompileError → Type 0
 TellTheSame OutOfMemory e = ⊤
+TellTheSame (GaveUp c r) e = ⊤
 TellTheSame e OutOfMemory = ⊤
+TellTheSame e (GaveUp d q) = ⊤
 TellTheSame (TooManyModules c) (TooManyModules d) = SameContext c d
 TellTheSame (Resolve c k) (Resolve d l) = SameContext c d × (k ≡ l)
 TellTheSame (Syntax c f) (Syntax d g) = SameContext c d × (f ≡ g)
@@ -38,6 +40,8 @@ TellTheSame (Unsupported c) (Unsupported d) = SameContext c d
 TellTheSame (Import c k) (Import d l) = SameContext c d × (k ≡ l)
 TellTheSame (NameClash c) (NameClash d) = SameContext c d
 TellTheSame (Validate c k) (Validate d l) = SameContext c d × (k ≡ l)
+TellTheSame (Condition c k) (Condition d l) = SameContext c d × (k ≡ l)
+TellTheSame (ConditionLeft c) (ConditionLeft d) = SameContext c d
 TellTheSame (UnclearName c) (UnclearName d) = SameContext c d
 TellTheSame (Eval c f) (Eval d g) = SameContext c d × (f ≡ g)
 TellTheSame (Unprintable c) (Unprintable d) = SameContext c d
@@ -45,11 +49,28 @@ TellTheSame e f = ⊥
 
 -- ---- answers
 
--- Two answers are the same: one text, or errors that tell the same; where one is a text, the other is refused for memory at most.
+-- memory was refused, or the parser gave up on a text that is nested too deep
+abbrev pub TellsNothing : CompileError → Type 0
+TellsNothing OutOfMemory = ⊤
+TellsNothing (GaveUp c r) = ⊤
+TellsNothing (TooManyModules c) = ⊥
+TellsNothing (Resolve c k) = ⊥
+TellsNothing (Syntax c f) = ⊥
+TellsNothing (Unsupported c) = ⊥
+TellsNothing (Import c k) = ⊥
+TellsNothing (NameClash c) = ⊥
+TellsNothing (Validate c k) = ⊥
+TellsNothing (Condition c k) = ⊥
+TellsNothing (ConditionLeft c) = ⊥
+TellsNothing (UnclearName c) = ⊥
+TellsNothing (Eval c f) = ⊥
+TellsNothing (Unprintable c) = ⊥
+
+-- Two answers are the same: one text, or errors that tell the same; where one is a text, the other tells nothing at most.
 abbrev pub SameAnswer : Result (List ℕ) CompileError → Result (List ℕ) CompileError → Type 0
 SameAnswer (Ok one) (Ok other) = one ≡ other
-SameAnswer (Ok one) (Err e) = e ≡ OutOfMemory
-SameAnswer (Err e) (Ok other) = e ≡ OutOfMemory
+SameAnswer (Ok one) (Err e) = TellsNothing e
+SameAnswer (Err e) (Ok other) = TellsNothing e
 SameAnswer (Err e) (Err f) = TellTheSame e f
 
 module _ (found : Sources) (root : Path) (asked : List Name) (max : ℕ) where

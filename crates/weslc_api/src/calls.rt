@@ -31,11 +31,13 @@ pub fn link<R: Resolver>(
     ensures same_answers { SameAnswers (R.answers resolver.old) (R.answers resolver.new) }
     ensures same_texts { SameTexts (R.texts resolver.old) (R.texts resolver.new) }
     ensures same_names { R.display_names resolver.new ≡ R.display_names resolver.old }
+    ensures same_reference { R.holds resolver.new ≡ R.holds resolver.old }
 {
     let Linked { unit, map } = linked_unit(alloc, resolver, root, options)?;
     match print_part(alloc, unit) {
         Ok(text) => Ok((text, map)),
         Err(PrintError::Unprintable(name)) => Err(CompileError::unprintable(name)),
+        Err(PrintError::GaveUp(refusal)) => Err(CompileError::gave_up(refusal)),
         Err(PrintError::OutOfMemory) => Err(CompileError::OutOfMemory),
     }
 }
@@ -58,6 +60,7 @@ pub fn compile<R: Resolver>(
     ensures same_answers { SameAnswers (R.answers resolver.old) (R.answers resolver.new) }
     ensures same_texts { SameTexts (R.texts resolver.old) (R.texts resolver.new) }
     ensures same_names { R.display_names resolver.new ≡ R.display_names resolver.old }
+    ensures same_reference { R.holds resolver.new ≡ R.holds resolver.old }
 {
     let Linked { unit, map } = linked_unit(alloc, resolver, root, options)?;
     match compile_unit(alloc, &unit, options.max_steps) {

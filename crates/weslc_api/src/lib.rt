@@ -5,7 +5,7 @@ mod calls;
 
 pub use calls::{compile, link};
 pub use weslc_linking::{
-    BasicSourceMap, CompileError, Error, ErrorContext, ErrorKind, EscapeMangler, Fault,
-    ImportError, ImportKind, NameFault, Options, RecordingResolver, ResolveError, ResolveKind,
-    Resolver, SourceMap, ValidateError, VirtualResolver,
+    BasicSourceMap, CompileError, Error, ErrorContext, ErrorKind, EscapeMangler, Fault, Feature,
+    Features, ImportError, ImportKind, Mode, NameFault, Options, RecordingResolver, Refusal,
+    ResolveError, ResolveKind, Resolver, SourceMap, ValidateError, VirtualResolver,
 };

@@ -8,14 +8,12 @@ use Rattle.std.proofs.lemmas.Bool.{false_from_ne_true}
 use Rattle.std.proofs.lemmas.Slice.Eq.{bytes_eq-Decides}
 use Rattle.wgsl_path.specs.Paths.{path_text}
 use Rattle.wgsl_path.specs.declared.path.ModulePath.{ModulePath}
-use Rattle.weslc_api.specs.Stored.{text_at, IsAdded}
-use Rattle.weslc_api.specs.VirtualResolver.{VirtualResolver}
-use Rattle.weslc_api.specs.Options.{Options}
+use Rattle.weslc_calls.specs.Stored.{text_at, IsAdded}
+use Rattle.weslc_calls.specs.VirtualResolver.{VirtualResolver}
 use Rattle.weslc_bundle.specs.declared.request.Command.{Command}
 use Rattle.weslc_bundle.specs.declared.request.Module.{Module}
 use Rattle.weslc_bundle.specs.declared.request.Request.{Request}
 use Rattle.weslc_bundle.specs.declared.bundle.Bundle.{Bundle}
-use Rattle.weslc_bundle.specs.declared.features.FeatureSettings.{FeatureSettings}
 use Rattle.weslc_bundle.specs.declared.error.ServeError.{ServeError}
 use Rattle.weslc_bundle.specs.declared.error.ServeError.TheVariants as serve
 use Rattle.weslc_bundle.specs.Bundles.{IsApart, IsBundle, HandsOver}
@@ -65,22 +63,20 @@ only_one (m ∷ ms) apart p =
 
 -- ---- what is answered of what a resolver holds is answered of the modules
 
-moved : (request : Request) (bundle : Bundle) → HandsOver request bundle → (P : Command → Texts → ModulePath → FeatureSettings → Options → Type 0)
-    → P bundle.command (text_at bundle.resolver) bundle.root bundle.features bundle.options → P request.command (text_in request.modules) request.root request.features request.options
+moved : (request : Request) (bundle : Bundle) → HandsOver request bundle → (P : Command → Texts → ModulePath → Type 0)
+    → P bundle.command (text_at bundle.resolver) bundle.root → P request.command (text_in request.modules) request.root
 moved request bundle over P is =
-    subst {A = Texts} (λ texts. P request.command texts request.root request.features request.options) (fun_ext over.2)
-    (subst {A = Command} (λ command. P command (text_at bundle.resolver) request.root request.features request.options) over.0
-    (subst {A = ModulePath} (λ root. P bundle.command (text_at bundle.resolver) root request.features request.options) over.1
-    (subst {A = FeatureSettings} (λ features. P bundle.command (text_at bundle.resolver) bundle.root features request.options) over.3
-    (subst {A = Options} (λ options. P bundle.command (text_at bundle.resolver) bundle.root bundle.features options) over.4 is))))
+    subst {A = Texts} (λ texts. P request.command texts request.root) (fun_ext over.2)
+    (subst {A = Command} (λ command. P command (text_at bundle.resolver) request.root) over.0
+    (subst {A = ModulePath} (λ root. P bundle.command (text_at bundle.resolver) root) over.1 is))
 
 answer_moved : (request : Request) (bundle : Bundle) (text : List ℕ) → HandsOver request bundle → IsTextFor bundle.command bundle text → IsAnswer request text
 answer_moved request bundle text over is =
-    moved request bundle over (λ command texts root features options. IsTextOf command texts (path_text root) features options text) is
+    (bundle.options, over.3, moved request bundle over (λ command texts root. IsTextOf command texts root bundle.options text) is)
 
 refusal_moved : (request : Request) (bundle : Bundle) (refusal : ServeError) → HandsOver request bundle → IsRefusalFor bundle.command bundle refusal → IsRefused request refusal
 refusal_moved request bundle refusal over is =
-    moved request bundle over (λ command texts root features options. IsRefusalOf command texts (path_text root) features options refusal) is
+    (bundle.options, over.3, moved request bundle over (λ command texts root. IsRefusalOf command texts root bundle.options refusal) is)
 
 -- ---- the program's answer
 

@@ -7,12 +7,13 @@ use Rattle.wgsl_path.specs.declared.path.ModulePath.{ModulePath}
 use Rattle.wesl_features.specs.declared.feature.Feature.{Feature}
 use Rattle.weslc_bundle.specs.declared.features.Flag.{Flag}
 use Rattle.weslc_bundle.specs.declared.features.FeatureSettings.{FeatureSettings}
+use Rattle.weslc_linking.specs.declared.options.Mode.{Mode}
 use Rattle.weslc_bundle.specs.declared.request.Command.{Command}
 use Rattle.weslc_bundle.specs.declared.request.Module.{Module}
 use Rattle.weslc_bundle.specs.declared.request.Request.{Request}
 use Rattle.weslc_bundle.specs.declared.request.BundleError.{BundleError}
 use Rattle.weslc_bundle.specs.declared.request.BundleError.TheVariants.{NotAnObject, OutOfMemory}
-use Rattle.weslc_bundle.specs.Bundles.{keys_known, command_at, root_at, modules_at, settings_of, flags_at, default_feature_at, features_at, keep_at, max_modules_at, max_steps_at, request_in, value_of, request_of}
+use Rattle.weslc_bundle.specs.Bundles.{keys_known, command_at, root_at, modules_at, settings_of, flags_at, default_feature_at, features_at, keep_at, mode_at, max_modules_at, max_steps_at, request_in, value_of, request_of}
 use Rattle.weslc_bundle.proofs.Answered.{Faults}
 
 pub faults_keys : (d : Data) (e : BundleError) → Faults ⊤ e (keys_known (as_object d)) → Faults Request e (request_in d)
@@ -45,20 +46,25 @@ unfolding request_in
 faults_keep d e u command root modules features is_keys is_command is_root is_modules is_features (inl memory) = inl memory
 faults_keep d e u command root modules features is_keys is_command is_root is_modules is_features (inr is) = inr (rw (is_keys, is_command, is_root, is_modules, is_features, is) refl)
 
-pub faults_max_modules : (d : Data) (e : BundleError) (u : ⊤) (command : Command) (root : ModulePath) (modules : List Module) (features : FeatureSettings) (keep : List (List ℕ)) → keys_known (as_object d) ≡ Ok u → command_at d ≡ Ok command → root_at d ≡ Ok root → modules_at d ≡ Ok modules → features_at d ≡ Ok features → keep_at d ≡ Ok keep → Faults ℕ e (max_modules_at d) → Faults Request e (request_in d)
+pub faults_mode : (d : Data) (e : BundleError) (u : ⊤) (command : Command) (root : ModulePath) (modules : List Module) (features : FeatureSettings) (keep : List (List ℕ)) → keys_known (as_object d) ≡ Ok u → command_at d ≡ Ok command → root_at d ≡ Ok root → modules_at d ≡ Ok modules → features_at d ≡ Ok features → keep_at d ≡ Ok keep → Faults Mode e (mode_at d) → Faults Request e (request_in d)
 unfolding request_in
-faults_max_modules d e u command root modules features keep is_keys is_command is_root is_modules is_features is_keep (inl memory) = inl memory
-faults_max_modules d e u command root modules features keep is_keys is_command is_root is_modules is_features is_keep (inr is) = inr (rw (is_keys, is_command, is_root, is_modules, is_features, is_keep, is) refl)
+faults_mode d e u command root modules features keep is_keys is_command is_root is_modules is_features is_keep (inl memory) = inl memory
+faults_mode d e u command root modules features keep is_keys is_command is_root is_modules is_features is_keep (inr is) = inr (rw (is_keys, is_command, is_root, is_modules, is_features, is_keep, is) refl)
 
-pub faults_max_steps : (d : Data) (e : BundleError) (u : ⊤) (command : Command) (root : ModulePath) (modules : List Module) (features : FeatureSettings) (keep : List (List ℕ)) (max_modules : ℕ) → keys_known (as_object d) ≡ Ok u → command_at d ≡ Ok command → root_at d ≡ Ok root → modules_at d ≡ Ok modules → features_at d ≡ Ok features → keep_at d ≡ Ok keep → max_modules_at d ≡ Ok max_modules → Faults ℕ e (max_steps_at d) → Faults Request e (request_in d)
+pub faults_max_modules : (d : Data) (e : BundleError) (u : ⊤) (command : Command) (root : ModulePath) (modules : List Module) (features : FeatureSettings) (keep : List (List ℕ)) (mode : Mode) → keys_known (as_object d) ≡ Ok u → command_at d ≡ Ok command → root_at d ≡ Ok root → modules_at d ≡ Ok modules → features_at d ≡ Ok features → keep_at d ≡ Ok keep → mode_at d ≡ Ok mode → Faults ℕ e (max_modules_at d) → Faults Request e (request_in d)
 unfolding request_in
-faults_max_steps d e u command root modules features keep max_modules is_keys is_command is_root is_modules is_features is_keep is_max_modules (inl memory) = inl memory
-faults_max_steps d e u command root modules features keep max_modules is_keys is_command is_root is_modules is_features is_keep is_max_modules (inr is) = inr (rw (is_keys, is_command, is_root, is_modules, is_features, is_keep, is_max_modules, is) refl)
+faults_max_modules d e u command root modules features keep mode is_keys is_command is_root is_modules is_features is_keep is_mode (inl memory) = inl memory
+faults_max_modules d e u command root modules features keep mode is_keys is_command is_root is_modules is_features is_keep is_mode (inr is) = inr (rw (is_keys, is_command, is_root, is_modules, is_features, is_keep, is_mode, is) refl)
 
-pub request_whole : (d : Data) (u : ⊤) (command : Command) (root : ModulePath) (modules : List Module) (features : FeatureSettings) (keep : List (List ℕ)) (max_modules : ℕ) (max_steps : ℕ) → keys_known (as_object d) ≡ Ok u → command_at d ≡ Ok command → root_at d ≡ Ok root → modules_at d ≡ Ok modules → features_at d ≡ Ok features → keep_at d ≡ Ok keep → max_modules_at d ≡ Ok max_modules → max_steps_at d ≡ Ok max_steps
-    → request_in d ≡ Ok (record { command = command; root = root; modules = modules; features = features; options = record { keep = keep; max_modules = max_modules; max_steps = max_steps } })
+pub faults_max_steps : (d : Data) (e : BundleError) (u : ⊤) (command : Command) (root : ModulePath) (modules : List Module) (features : FeatureSettings) (keep : List (List ℕ)) (mode : Mode) (max_modules : ℕ) → keys_known (as_object d) ≡ Ok u → command_at d ≡ Ok command → root_at d ≡ Ok root → modules_at d ≡ Ok modules → features_at d ≡ Ok features → keep_at d ≡ Ok keep → mode_at d ≡ Ok mode → max_modules_at d ≡ Ok max_modules → Faults ℕ e (max_steps_at d) → Faults Request e (request_in d)
 unfolding request_in
-request_whole d u command root modules features keep max_modules max_steps is_keys is_command is_root is_modules is_features is_keep is_max_modules is_max_steps = rw (is_keys, is_command, is_root, is_modules, is_features, is_keep, is_max_modules, is_max_steps) refl
+faults_max_steps d e u command root modules features keep mode max_modules is_keys is_command is_root is_modules is_features is_keep is_mode is_max_modules (inl memory) = inl memory
+faults_max_steps d e u command root modules features keep mode max_modules is_keys is_command is_root is_modules is_features is_keep is_mode is_max_modules (inr is) = inr (rw (is_keys, is_command, is_root, is_modules, is_features, is_keep, is_mode, is_max_modules, is) refl)
+
+pub request_whole : (d : Data) (u : ⊤) (command : Command) (root : ModulePath) (modules : List Module) (features : FeatureSettings) (keep : List (List ℕ)) (mode : Mode) (max_modules : ℕ) (max_steps : ℕ) → keys_known (as_object d) ≡ Ok u → command_at d ≡ Ok command → root_at d ≡ Ok root → modules_at d ≡ Ok modules → features_at d ≡ Ok features → keep_at d ≡ Ok keep → mode_at d ≡ Ok mode → max_modules_at d ≡ Ok max_modules → max_steps_at d ≡ Ok max_steps
+    → request_in d ≡ Ok (record { command = command; root = root; modules = modules; features = features; keep = keep; mode = mode; max_modules = max_modules; max_steps = max_steps })
+unfolding request_in
+request_whole d u command root modules features keep mode max_modules max_steps is_keys is_command is_root is_modules is_features is_keep is_mode is_max_modules is_max_steps = rw (is_keys, is_command, is_root, is_modules, is_features, is_keep, is_mode, is_max_modules, is_max_steps) refl
 
 -- ---- feature flags
 

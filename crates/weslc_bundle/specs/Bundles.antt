@@ -24,6 +24,9 @@ use Rattle.weslc_bundle.specs.declared.request.Request.{Request}
 use Rattle.weslc_bundle.specs.declared.bundle.Bundle.{Bundle}
 use Rattle.weslc_bundle.specs.declared.request.BundleError.{BundleError}
 use Rattle.weslc_bundle.specs.declared.request.BundleError.TheVariants.{NotAnObject, UnknownKey, Value, DuplicateModule, OutOfMemory}
+use Rattle.weslc_calls.specs.Options.{Options}
+use Rattle.weslc_linking.specs.declared.options.Mode.{Mode}
+use Rattle.weslc_linking.specs.declared.options.Mode.TheVariants.{Lazy, Eager, Whole}
 use Rattle.weslc_bundle.specs.Held.{Holds}
 
 -- ---- answers
@@ -66,18 +69,18 @@ abbrev pub command_of : List ℕ → Option Command
 command_of name =
     if bytes_eq name (codes "link") then Some Link else if bytes_eq name (codes "compile") then Some Compile else if bytes_eq name (codes "precompile") then Some Precompile else None
 
-abbrev pub if_absolute : PathOrigin → ModulePath → Option ModulePath
-if_absolute Absolute path = Some path
-if_absolute (Relative levels) path = None
-if_absolute (Package name) path = None
+abbrev pub unless_relative : PathOrigin → ModulePath → Option ModulePath
+unless_relative Absolute path = Some path
+unless_relative (Relative levels) path = None
+unless_relative (Package name) path = Some path
 
-abbrev pub absolute : PathResult ModulePath → Option ModulePath
-absolute (Ok path) = if_absolute path.origin path
-absolute (Err e) = None
+abbrev pub not_relative : PathResult ModulePath → Option ModulePath
+not_relative (Ok path) = unless_relative path.origin path
+not_relative (Err e) = None
 
--- a path that begins with `package`
+-- a path that is not relative
 abbrev pub path_in : List ℕ → Option ModulePath
-path_in text = absolute (path_of (parts text))
+path_in text = not_relative (path_of (parts text))
 
 -- a module at a path
 abbrev pub module_at : ModulePath → List ℕ → Module
@@ -149,13 +152,14 @@ key_name key.Modules = codes "modules"
 key_name key.Features = codes "features"
 key_name key.DefaultFeature = codes "default_feature"
 key_name key.Keep = codes "keep"
+key_name key.Mode = codes "mode"
 key_name key.MaxModules = codes "max_modules"
 key_name key.MaxSteps = codes "max_steps"
 
 abbrev pub is_key : List ℕ → Bool
 is_key name =
     bytes_eq name (codes "command") || bytes_eq name (codes "root") || bytes_eq name (codes "modules")
-    || bytes_eq name (codes "features") || bytes_eq name (codes "default_feature") || bytes_eq name (codes "keep") || bytes_eq name (codes "max_modules") || bytes_eq name (codes "max_steps")
+    || bytes_eq name (codes "features") || bytes_eq name (codes "default_feature") || bytes_eq name (codes "keep") || bytes_eq name (codes "mode") || bytes_eq name (codes "max_modules") || bytes_eq name (codes "max_steps")
 
 -- the first key that is none; the members of an object stand in the byte order of their keys
 abbrev pub unknown : Members → Option (List ℕ)
@@ -194,6 +198,17 @@ features_at d = do
 abbrev pub keep_at : Data → Asked (List (List ℕ))
 keep_at d = optional key.Keep [] names_of (get (codes "keep") d)
 
+-- a mode by its word
+abbrev pub mode_named : List ℕ → Option Mode
+mode_named word =
+    if bytes_eq word (codes "lazy") then Some Lazy else if bytes_eq word (codes "eager") then Some Eager else if bytes_eq word (codes "whole") then Some Whole else None
+
+abbrev pub mode_of : Data → Option Mode
+mode_of d = option_and_then mode_named (as_str d)
+
+abbrev pub mode_at : Data → Asked Mode
+mode_at d = optional key.Mode Lazy mode_of (get (codes "mode") d)
+
 abbrev pub max_modules_at : Data → Asked ℕ
 max_modules_at d = optional key.MaxModules 256 u32_of (get (codes "max_modules") d)
 
@@ -211,9 +226,10 @@ request_in d = do
   modules ← modules_at d
   features ← features_at d
   keep ← keep_at d
+  mode ← mode_at d
   max_modules ← max_modules_at d
   max_steps ← max_steps_at d
-  Ok (record { command = command; root = root; modules = modules; features = features; options = record { keep = keep; max_modules = max_modules; max_steps = max_steps } })
+  Ok (record { command = command; root = root; modules = modules; features = features; keep = keep; mode = mode; max_modules = max_modules; max_steps = max_steps })
 
 -- the value that bytes are, if they are UTF-8 and JSON
 abbrev pub value_of : List ℕ → Option Data
@@ -243,11 +259,19 @@ IsFirstTwice modules path =
 abbrev pub IsBundle : List ℕ → Request → Type 0
 IsBundle bytes request = (request_of bytes ≡ Ok request) × IsApart request.modules
 
+-- what the calls are asked for, where the feature flags are these
+abbrev pub options_of : Request → Features → Options
+options_of request features =
+    record { features = features; keep = request.keep; mode = request.mode; max_modules = request.max_modules; max_steps = request.max_steps }
+
+-- These are the options, with each flag set as it is asked for.
+abbrev pub AreOptions : Request → Options → Type 0
+AreOptions request options = (features : Features) × AreSet request.features features × (options ≡ options_of request features)
+
 -- What is handed over is what is asked for.
 abbrev pub HandsOver : Request → Bundle → Type 0
 HandsOver request bundle =
-    (bundle.command ≡ request.command) × (bundle.root ≡ request.root) × Holds bundle.resolver request.modules
-    × (bundle.features ≡ request.features) × (bundle.options ≡ request.options)
+    (bundle.command ≡ request.command) × (bundle.root ≡ request.root) × Holds bundle.resolver request.modules × AreOptions request bundle.options
 
 -- The bytes have this fault; a path that is there twice comes last.
 abbrev pub IsFault : List ℕ → BundleError → Type 0

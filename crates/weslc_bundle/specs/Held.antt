@@ -3,9 +3,9 @@ use Rattle.std.specs.Prelude.{◌≡◌, ℕ, List, Option, option_map}
 use Rattle.std.specs.List.{find}
 use Rattle.std.specs.Str.{bytes_eq}
 use Rattle.wgsl_path.specs.Paths.{path_text}
-use Rattle.wesl_resolve.specs.Found.{Answer}
-use Rattle.weslc_api.specs.Stored.{text_at, found_in}
-use Rattle.weslc_api.specs.VirtualResolver.{VirtualResolver}
+use Rattle.weslc_calls.specs.Stored.{text_at, found_in}
+use Rattle.weslc_calls.specs.VirtualResolver.{VirtualResolver}
+use Rattle.weslc_calls.specs.OfPart.{Finding}
 use Rattle.weslc_bundle.specs.declared.request.Module.{Module}
 
 -- the text of the module at a printed path; in a bundle no two are at one
@@ -20,6 +20,6 @@ Holds resolver modules = (p : List ℕ) → text_at resolver p ≡ text_in modul
 abbrev pub Texts : Type 0
 Texts = List ℕ → Option (List ℕ)
 
--- what is found at a printed path: nothing where no module is, else what its text says: a unit, its fault, or that it is beyond the part
-abbrev pub found_by : Texts → List ℕ → Answer → Type 0
-found_by texts p a = found_in (texts p) a
+-- what is found at a path: nothing where no module is, else what its text says: a module, or its fault
+abbrev pub found_by : Texts → Finding
+found_by texts p a = found_in (texts (path_text p)) a

@@ -2,23 +2,21 @@
 use Rattle.std.specs.Prelude.{◌≡◌, ◌⊎◌, ◌<◌, ◌≤◌, ◌+◌, ⊤, ℕ, List, length, Option, Some, None, IfSome}
 use Rattle.std.specs.Io.KnownBytes.{Consumes}
 use Rattle.wgsl_path.specs.Paths.{path_text}
-use Rattle.wesl_link_spec.specs.Modules.{Path}
-use Rattle.wesl_link_spec.specs.Rounds.{Sources}
-use Rattle.wesl_features.specs.declared.feature.Features.{Features}
+use Rattle.wgsl_path.specs.declared.path.ModulePath.{ModulePath}
 use Rattle.weslc_precompile.specs.declared.error.PrecompileError.{PrecompileError}
 use Rattle.weslc_precompile.specs.declared.error.PrecompileError.TheVariants as precompiling
 use Rattle.weslc_precompile.specs.Precompiling.{IsPrecompiledText, RefusesPrecompiling}
-use Rattle.weslc_api.specs.Stored.{text_at}
-use Rattle.weslc_api.specs.Options.{Options}
-use Rattle.weslc_api.specs.Answers.{IsLinkedText, IsCompiledText, RefusesLinking, IsUnprintable, IsRefusedUnit}
-use Rattle.weslc_api.specs.CompileError.{CompileError}
-use Rattle.weslc_api.specs.CompileError.TheVariants as calls
+use Rattle.weslc_calls.specs.Stored.{text_at}
+use Rattle.weslc_calls.specs.Options.{Options}
+use Rattle.weslc_calls.specs.OfPart.{Finding, sources, IsBeyondLink, IsBeyondCompile}
+use Rattle.weslc_calls.specs.Answers.{IsLinkedText, IsCompiledText, RefusesToLink, RefusesToCompile}
+use Rattle.weslc_calls.specs.CompileError.{CompileError}
+use Rattle.weslc_calls.specs.CompileError.TheVariants as calls
 use Rattle.weslc_bundle.specs.declared.input.TheConstants.{MAX_BUNDLE_LEN}
 use Rattle.weslc_bundle.specs.declared.input.InputError.{InputError}
 use Rattle.weslc_bundle.specs.declared.input.InputError.TheVariants as input
 use Rattle.weslc_bundle.specs.declared.request.Command.{Command}
 use Rattle.weslc_bundle.specs.declared.request.Command.TheVariants.{Link, Compile, Precompile}
-use Rattle.weslc_bundle.specs.declared.features.FeatureSettings.{FeatureSettings}
 use Rattle.weslc_bundle.specs.declared.request.Request.{Request}
 use Rattle.weslc_bundle.specs.declared.request.BundleError.{BundleError}
 use Rattle.weslc_bundle.specs.declared.request.BundleError.TheVariants as bundle
@@ -26,7 +24,7 @@ use Rattle.weslc_bundle.specs.declared.bundle.Bundle.{Bundle}
 use Rattle.weslc_bundle.specs.declared.error.ServeError.{ServeError}
 use Rattle.weslc_bundle.specs.declared.error.ServeError.TheVariants as of
 use Rattle.weslc_bundle.specs.Held.{Texts, text_in, found_by}
-use Rattle.weslc_bundle.specs.Bundles.{AreSet, IsBundle, IsFault}
+use Rattle.weslc_bundle.specs.Bundles.{AreOptions, IsBundle, IsFault}
 use Rattle.weslc_bundle.specs.Output.{AppendsBeginning}
 
 -- ---- bytes
@@ -49,46 +47,50 @@ TakesFew before after = (taken : List ℕ) × Consumes before after taken × (le
 
 -- ---- calls
 
--- memory aside, modules are not linked or compiled, and this is why
-abbrev pub RefusesModules : Command → Sources → Path → Options → CompileError → Type 0
-RefusesModules Link found root options e = RefusesLinking found root options.keep options.max_modules e ⊎ IsUnprintable found root options.keep options.max_modules e
+-- memory aside, modules are not linked or compiled, and this is why, where the call is one of the part's
+abbrev pub RefusesModules : Command → Finding → ModulePath → Options → CompileError → Type 0
+RefusesModules Link found root options e =
+    IsBeyondLink found root options ⊎ RefusesToLink (sources options.features found) (path_text root) options.keep options.max_modules e
 RefusesModules Compile found root options e =
-    RefusesLinking found root options.keep options.max_modules e ⊎ IsRefusedUnit found root options.keep options.max_modules options.max_steps e
+    IsBeyondCompile found root options ⊎ RefusesToCompile (sources options.features found) (path_text root) options.keep options.max_modules options.max_steps e
 RefusesModules Precompile found root options e = ⊥
 
--- of these texts by their printed paths, the command's call answers this text
-abbrev pub IsTextOf : Command → Texts → Path → FeatureSettings → Options → List ℕ → Type 0
-IsTextOf Link texts root settings options text = IsLinkedText (found_by texts) root options.keep options.max_modules text
-IsTextOf Compile texts root settings options text = IsCompiledText (found_by texts) root options.keep options.max_modules options.max_steps text
-IsTextOf Precompile texts root settings options text =
-    (source : List ℕ) × (features : Features) × (texts root ≡ Some source) × AreSet settings features × IsPrecompiledText features source text
+-- of these texts by their printed paths, the command's call answers this text, where it is one of the part's
+abbrev pub IsTextOf : Command → Texts → ModulePath → Options → List ℕ → Type 0
+IsTextOf Link texts root options text =
+    IsBeyondLink (found_by texts) root options
+    ⊎ IsLinkedText (sources options.features (found_by texts)) (path_text root) options.keep options.max_modules text
+IsTextOf Compile texts root options text =
+    IsBeyondCompile (found_by texts) root options
+    ⊎ IsCompiledText (sources options.features (found_by texts)) (path_text root) options.keep options.max_modules options.max_steps text
+IsTextOf Precompile texts root options text =
+    (source : List ℕ) × (texts (path_text root) ≡ Some source) × IsPrecompiledText options.features source text
 
 -- memory aside, the command's call is refused so
-abbrev pub IsRefusalOf : Command → Texts → Path → FeatureSettings → Options → ServeError → Type 0
-IsRefusalOf command texts root settings options (of.Compile e) = RefusesModules command (found_by texts) root options e
-IsRefusalOf command texts root settings options of.NoRoot = (command ≡ Precompile) × (texts root ≡ None)
-IsRefusalOf command texts root settings options (of.Precompile e) =
-    (command ≡ Precompile)
-    × ((source : List ℕ) × (features : Features) × (texts root ≡ Some source) × AreSet settings features × RefusesPrecompiling features source e)
-IsRefusalOf command texts root settings options of.OutOfMemory = ⊤
-IsRefusalOf command texts root settings options of.Read = ⊥
-IsRefusalOf command texts root settings options of.TooLong = ⊥
-IsRefusalOf command texts root settings options (of.Bundle fault) = ⊥
+abbrev pub IsRefusalOf : Command → Texts → ModulePath → Options → ServeError → Type 0
+IsRefusalOf command texts root options (of.Compile e) = RefusesModules command (found_by texts) root options e
+IsRefusalOf command texts root options of.NoRoot = (command ≡ Precompile) × (texts (path_text root) ≡ None)
+IsRefusalOf command texts root options (of.Precompile e) =
+    (command ≡ Precompile) × ((source : List ℕ) × (texts (path_text root) ≡ Some source) × RefusesPrecompiling options.features source e)
+IsRefusalOf command texts root options of.OutOfMemory = ⊤
+IsRefusalOf command texts root options of.Read = ⊥
+IsRefusalOf command texts root options of.TooLong = ⊥
+IsRefusalOf command texts root options (of.Bundle fault) = ⊥
 
 -- the request's call answers this text of its modules
 abbrev pub IsAnswer : Request → List ℕ → Type 0
-IsAnswer request text = IsTextOf request.command (text_in request.modules) (path_text request.root) request.features request.options text
+IsAnswer request text = (options : Options) × AreOptions request options × IsTextOf request.command (text_in request.modules) request.root options text
 
 -- memory aside, it is refused so
 abbrev pub IsRefused : Request → ServeError → Type 0
-IsRefused request refusal = IsRefusalOf request.command (text_in request.modules) (path_text request.root) request.features request.options refusal
+IsRefused request refusal = (options : Options) × AreOptions request options × IsRefusalOf request.command (text_in request.modules) request.root options refusal
 
 -- the same of a bundle, of what its resolver holds
 abbrev pub IsTextFor : Command → Bundle → List ℕ → Type 0
-IsTextFor command bundle text = IsTextOf command (text_at bundle.resolver) (path_text bundle.root) bundle.features bundle.options text
+IsTextFor command bundle text = IsTextOf command (text_at bundle.resolver) bundle.root bundle.options text
 
 abbrev pub IsRefusalFor : Command → Bundle → ServeError → Type 0
-IsRefusalFor command bundle refusal = IsRefusalOf command (text_at bundle.resolver) (path_text bundle.root) bundle.features bundle.options refusal
+IsRefusalFor command bundle refusal = IsRefusalOf command (text_at bundle.resolver) bundle.root bundle.options refusal
 
 -- ---- the program
 
@@ -150,4 +152,5 @@ abbrev pub refused_precompiling : PrecompileError → ServeError
 refused_precompiling (precompiling.Syntax e) = of.Precompile (precompiling.Syntax e)
 refused_precompiling (precompiling.Condition e) = of.Precompile (precompiling.Condition e)
 refused_precompiling (precompiling.Unprintable name) = of.Precompile (precompiling.Unprintable name)
+refused_precompiling (precompiling.GaveUp r) = of.Precompile (precompiling.GaveUp r)
 refused_precompiling precompiling.OutOfMemory = of.OutOfMemory

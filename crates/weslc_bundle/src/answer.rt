@@ -2,17 +2,17 @@
 
 ghost use Rattle.std.specs.Prelude.{◌≡◌, ◌⊎◌, IfOk, IfErr, Some, None, string_bytes};
 ghost use Rattle.wgsl_path.specs.Paths.{path_text};
-ghost use Rattle.weslc_api.specs.Stored.{text_at};
+ghost use Rattle.weslc_calls.specs.Stored.{text_at};
 ghost use Rattle.weslc_bundle.specs.declared.error.ServeError.TheVariants.{NoRoot, OutOfMemory};
 ghost use Rattle.weslc_bundle.specs.declared.request.Command.TheVariants.{Link, Compile, Precompile};
 ghost use Rattle.weslc_bundle.specs.Served.{IsTextFor, IsRefusalFor};
 
 use crate::bundle::Bundle;
 use crate::error::ServeError;
-use crate::features::set_features;
 use crate::request::Command;
+use crate::running::{eval_expression, run_entry};
 use std::alloc::Global;
-use weslc_api::{ResolveError, compile, link};
+use weslc_calls::{ResolveError, compile, link};
 use weslc_precompile::precompile;
 
 /// The text that the call of a bundle answers, or why there is none.
@@ -25,6 +25,8 @@ pub(crate) fn answer(alloc: Global, bundle: Bundle) -> Result<String, ServeError
         Command::Link => link_modules(alloc, &mut bundle),
         Command::Compile => compile_modules(alloc, &mut bundle),
         Command::Precompile => precompile_root(alloc, &bundle),
+        Command::Run => run_entry(alloc, bundle),
+        Command::Eval => eval_expression(alloc, &mut bundle),
     }
 }
 
@@ -52,9 +54,8 @@ fn precompile_root(alloc: Global, bundle: &Bundle) -> Result<String, ServeError>
     ensures text { IfOk result (λ text. IsTextFor Precompile bundle.now (string_bytes text)) }
     ensures refusal { IfErr result (λ refusal. IsRefusalFor Precompile bundle.now refusal) }
 {
-    let features = set_features(alloc, &bundle.features)?;
     let source = root_text(bundle)?;
-    let text = precompile(alloc, source, &features)?;
+    let text = precompile(alloc, source, &bundle.options.features)?;
     Ok(text)
 }
 

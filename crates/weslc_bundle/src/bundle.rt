@@ -4,11 +4,12 @@ ghost use Rattle.std.specs.Prelude.{◌≡◌, ◌⊎◌, IfOk, IfErr, OnOk};
 ghost use Rattle.weslc_bundle.specs.Bundles.{IsApart, IsFirstTwice, IsBundle, HandsOver, IsFault};
 ghost use Rattle.weslc_bundle.specs.Held.{Holds};
 
-use crate::features::FeatureSettings;
+use crate::features::set_features;
 use crate::request::{BundleError, Command, Module, Request, read_request};
 use std::alloc::{AllocError, Global};
 use std::collections::BTreeSet;
-use weslc_api::{Options, VirtualResolver};
+use weslc_calls::{Options, VirtualResolver};
+use weslc_values::RunSettings;
 use wgsl_items::{CloneIn, Items};
 use wgsl_path::ModulePath;
 
@@ -18,8 +19,9 @@ pub struct Bundle {
     pub command: Command,
     pub root: ModulePath,
     pub resolver: VirtualResolver,
-    pub features: FeatureSettings,
     pub options: Options,
+    /// What is handed to a run or an evaluation.
+    pub run: RunSettings,
 }
 
 /// Reads a bundle. After the faults of its keys comes a path that is there twice.
@@ -33,16 +35,27 @@ pub fn read_bundle(alloc: Global, bytes: &[u8]) -> Result<Bundle, BundleError>
         root,
         modules,
         features,
-        options,
+        keep,
+        mode,
+        max_modules,
+        max_steps,
+        run,
     } = read_request(alloc, bytes)?;
     check_paths(alloc, modules.as_slice())?;
     let resolver = resolver_of(alloc, modules)?;
+    let features = set_features(alloc, &features)?;
     Ok(Bundle {
         command,
         root,
         resolver,
-        features,
-        options,
+        options: Options {
+            features,
+            keep,
+            mode,
+            max_modules,
+            max_steps,
+        },
+        run,
     })
 }
 

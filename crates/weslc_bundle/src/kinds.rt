@@ -1,7 +1,7 @@
 //! The words by which a line tells the kind of an inner fault.
 
 use wesl_features::CondCompError;
-use weslc_api::{Fault, NameFault, ValidateError};
+use weslc_calls::{Fault, NameFault, ValidateError};
 use wgsl_error::ErrorKind;
 use wgsl_shader_type::Error;
 
@@ -14,6 +14,9 @@ pub(crate) fn syntax_kind(kind: ErrorKind) -> &'static str {
         ErrorKind::DiagnosticSeverity => "DiagnosticSeverity",
         ErrorKind::Attribute => "Attribute",
         ErrorKind::VarTemplate => "VarTemplate",
+        ErrorKind::TooDeep => "TooDeep",
+        ErrorKind::Misfit => "Misfit",
+        ErrorKind::TooManySteps => "TooManySteps",
         ErrorKind::OutOfMemory => "OutOfMemory",
     }
 }

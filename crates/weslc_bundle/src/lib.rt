@@ -10,6 +10,7 @@ mod input;
 mod kinds;
 mod output;
 mod request;
+mod running;
 mod serve;
 
 pub use serve::serve_bundle;

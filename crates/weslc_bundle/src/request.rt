@@ -3,14 +3,16 @@
 ghost use Rattle.std.specs.Prelude.{◌≡◌, ◌⊎◌, ⊤, List, ℕ, Some, None, IfErr, IfOk, option_map};
 ghost use Rattle.serde_json.specs.View.{view, items_view, members_view};
 ghost use Rattle.serde_json.specs.Find.{as_object, as_str};
-ghost use Rattle.weslc_bundle.specs.Bundles.{Answers, is_key, unknown, keys_known, value_of, request_in, request_of, command_at, root_at, required, text_at, path_in, modules_at, has_two, each, module_of, keep_at, max_modules_at, max_steps_at};
+ghost use Rattle.weslc_bundle.specs.Bundles.{Answers, is_key, unknown, keys_known, value_of, request_in, request_of, command_at, root_at, required, text_at, path_in, modules_at, has_two, each, module_of, keep_at, mode_at, max_modules_at, max_steps_at};
 
 use crate::features::{FeatureSettings, read_features};
 use serde_json::{Map, Value};
 use std::alloc::{AllocError, AllocFailed, Global};
 use std::fmt;
-use weslc_api::Options;
-use wgsl_items::{Items, Text};
+use std::fmt::Display;
+use weslc_calls::Mode;
+use weslc_values::{Needed, RunKey, RunSettings, read_run_settings};
+use wgsl_items::{Items, OrOutOfMemory, Text};
 use wgsl_path::{ModulePath, ModulePathParseError, PathOrigin};
 
 /// Which call a bundle asks for.
@@ -19,6 +21,8 @@ pub enum Command {
     Link,
     Compile,
     Precompile,
+    Run,
+    Eval,
 }
 
 /// A key of a bundle.
@@ -30,8 +34,11 @@ pub enum Key {
     Features,
     DefaultFeature,
     Keep,
+    Mode,
     MaxModules,
     MaxSteps,
+    /// A key of what is handed to a run or an evaluation.
+    Run(RunKey),
 }
 
 /// A module's text, and the path that it stands at.
@@ -48,7 +55,12 @@ pub struct Request {
     pub root: ModulePath,
     pub modules: Items<Module>,
     pub features: FeatureSettings,
-    pub options: Options,
+    pub keep: Items<Text>,
+    pub mode: Mode,
+    pub max_modules: u32,
+    pub max_steps: u64,
+    /// What is handed to a run or an evaluation.
+    pub run: RunSettings,
 }
 
 /// Why bytes are no bundle.
@@ -102,14 +114,17 @@ impl fmt::Display for Key {
             Key::Features => f.write_str("features"),
             Key::DefaultFeature => f.write_str("default_feature"),
             Key::Keep => f.write_str("keep"),
+            Key::Mode => f.write_str("mode"),
             Key::MaxModules => f.write_str("max_modules"),
             Key::MaxSteps => f.write_str("max_steps"),
+            Key::Run(key) => key.fmt(f),
         }
     }
 }
 
 /// Reads what a JSON object asks for. Its keys are tested in a fixed order: unknown ones first, then `command`, `root`,
-/// `modules`, `features`, `default_feature`, `keep`, `max_modules` and `max_steps`.
+/// `modules`, `features`, `default_feature`, `keep`, `mode`, `max_modules`, `max_steps`, and those of a run and an
+/// evaluation.
 pub fn read_request(alloc: Global, bytes: &[u8]) -> Result<Request, BundleError>
     ensures { Answers Request result (request_of bytes.now) }
 {
@@ -139,17 +154,21 @@ fn read_members(alloc: Global, value: &Value) -> Result<Request, BundleError>
     let root = read_root(alloc, value)?;
     let modules = read_modules(alloc, value)?;
     let features = read_features(alloc, value)?;
-    let options = Options {
-        keep: read_keep(alloc, value)?,
-        max_modules: read_max_modules(value)?,
-        max_steps: read_max_steps(value)?,
-    };
+    let keep = read_keep(alloc, value)?;
+    let mode = read_mode(value)?;
+    let max_modules = read_max_modules(value)?;
+    let max_steps = read_max_steps(value)?;
+    let run = read_run(alloc, value, command)?;
     Ok(Request {
         command,
         root,
         modules,
         features,
-        options,
+        keep,
+        mode,
+        max_modules,
+        max_steps,
+        run,
     })
 }
 
@@ -188,8 +207,14 @@ fn is_key(key: &str) -> bool
             | "features"
             | "default_feature"
             | "keep"
+            | "mode"
             | "max_modules"
             | "max_steps"
+            | "entry"
+            | "inputs"
+            | "bindings"
+            | "overrides"
+            | "expression"
     )
 }
 
@@ -200,6 +225,8 @@ fn read_command(value: &Value) -> Result<Command, BundleError>
         Some("link") => Ok(Command::Link),
         Some("compile") => Ok(Command::Compile),
         Some("precompile") => Ok(Command::Precompile),
+        Some("run") => Ok(Command::Run),
+        Some("eval") => Ok(Command::Eval),
         _ => Err(BundleError::Value(Key::Command)),
     }
 }
@@ -220,16 +247,16 @@ fn text_at<'a>(value: &'a Value, key: &str) -> Option<&'a str>
     value.get(key).and_then(Value::as_str)
 }
 
-/// A path that begins with `package`.
+/// A path that is not relative.
 fn read_path(alloc: Global, key: Key, text: &str) -> Result<ModulePath, BundleError>
     ensures { Answers ModulePath result (required (BundleError.Value key) (path_in text.now)) }
 {
     match ModulePath::from_str(alloc, text) {
         Ok(path) => {
-            if matches!(path.origin, PathOrigin::Absolute) {
-                Ok(path)
-            } else {
+            if matches!(path.origin, PathOrigin::Relative(_)) {
                 Err(BundleError::Value(key))
+            } else {
+                Ok(path)
             }
         }
         Err(ModulePathParseError::OutOfMemory) => Err(BundleError::OutOfMemory),
@@ -307,6 +334,20 @@ fn read_names(alloc: Global, values: &[Value]) -> Result<Items<Text>, BundleErro
     Ok(names)
 }
 
+fn read_mode(value: &Value) -> Result<Mode, BundleError>
+    ensures { result ≡ mode_at (view value.now) }
+{
+    let Some(mode) = value.get("mode") else {
+        return Ok(Mode::Lazy);
+    };
+    match mode.as_str() {
+        Some("lazy") => Ok(Mode::Lazy),
+        Some("eager") => Ok(Mode::Eager),
+        Some("whole") => Ok(Mode::Whole),
+        _ => Err(BundleError::Value(Key::Mode)),
+    }
+}
+
 fn read_max_modules(value: &Value) -> Result<u32, BundleError>
     ensures { result ≡ max_modules_at (view value.now) }
 {
@@ -328,5 +369,24 @@ fn read_max_steps(value: &Value) -> Result<u64, BundleError>
     match limit.as_u64() {
         Some(max_steps) => Ok(max_steps),
         None => Err(BundleError::Value(Key::MaxSteps)),
+    }
+}
+
+/// Reads the keys of a run and an evaluation: `entry`, which a run needs, `inputs`, `bindings`, `overrides`, and `expression`, which an
+/// evaluation needs.
+fn read_run(
+    alloc: Global,
+    value: &Value,
+    command: Command,
+) -> Result<RunSettings, BundleError> {
+    let needed = match command {
+        Command::Run => Needed::Entry,
+        Command::Eval => Needed::Expression,
+        Command::Link | Command::Compile | Command::Precompile => Needed::Nothing,
+    };
+    match read_run_settings(alloc, value, needed) {
+        Ok(settings) => Ok(settings),
+        Err(OrOutOfMemory::Error(key)) => Err(BundleError::Value(Key::Run(key))),
+        Err(OrOutOfMemory::OutOfMemory) => Err(BundleError::OutOfMemory),
     }
 }

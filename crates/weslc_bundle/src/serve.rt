@@ -16,8 +16,10 @@ use std::alloc::Global;
 use std::io;
 use std::io::{Read, Write};
 use wesl_features::CondCompError;
-use weslc_api::{CompileError, ErrorContext};
+use weslc_calls::{CompileError, ErrorContext};
 use weslc_precompile::PrecompileError;
+use weslc_run::RunRefusal;
+use wgsl_error::Error;
 use wgsl_items::Text;
 use wgsl_path::{ModulePath, Span};
 
@@ -68,7 +70,7 @@ fn status(refusal: &ServeError) -> u8
 {
     match refusal {
         ServeError::Read | ServeError::TooLong | ServeError::Bundle(_) | ServeError::NoRoot => 2,
-        ServeError::Compile(_) | ServeError::Precompile(_) | ServeError::OutOfMemory => 1,
+        ServeError::Compile(_) | ServeError::Run(_) | ServeError::Precompile(_) | ServeError::OutOfMemory => 1,
     }
 }
 
@@ -81,6 +83,7 @@ fn write_refusal<E: Write>(errors: &mut E, refusal: &ServeError) -> io::Result<(
         ServeError::NoRoot => errors.write_all(b"error: Bundle - - - root\n"),
         ServeError::Bundle(error) => write_bundle_error(errors, error),
         ServeError::Compile(error) => write_compile_error(errors, error),
+        ServeError::Run(refusal) => write_run_refusal(errors, refusal),
         ServeError::Precompile(error) => write_precompile_error(errors, error),
     }?;
     errors.flush()
@@ -112,10 +115,16 @@ fn write_compile_error<E: Write>(errors: &mut E, error: &CompileError) -> io::Re
             write!(errors, "error: Resolve.{kind}")?;
             write_context(errors, context, None)
         }
-        CompileError::Syntax(context, error) => {
-            let kind = syntax_kind(error.kind);
-            write!(errors, "error: Syntax.{kind}")?;
-            write_context(errors, context, Some(error.span))
+        CompileError::Syntax(context, error) => write_syntax_error(errors, context, *error),
+        CompileError::GaveUp(context, refusal) => {
+            write_syntax_error(errors, context, Error::refused(*refusal))
+        }
+        CompileError::Condition(context, error) => {
+            write_module_condition(errors, context, error)
+        }
+        CompileError::ConditionLeft(context) => {
+            errors.write_all(b"error: ConditionLeft")?;
+            write_context(errors, context, None)
         }
         CompileError::Unsupported(context) => {
             errors.write_all(b"error: Unsupported")?;
@@ -151,13 +160,42 @@ fn write_compile_error<E: Write>(errors: &mut E, error: &CompileError) -> io::Re
     }
 }
 
-fn write_precompile_error<E: Write>(errors: &mut E, error: &PrecompileError) -> io::Result<()> {
-    match error {
-        PrecompileError::Syntax(error) => {
+/// The line about a text that is not read. What was printed and is not read again is no module's, and its place is left out.
+fn write_syntax_error<E: Write>(
+    errors: &mut E,
+    context: &ErrorContext,
+    error: Error,
+) -> io::Result<()> {
+    let kind = syntax_kind(error.kind);
+    write!(errors, "error: Syntax.{kind}")?;
+    let span = match &context.module {
+        Some(_) => Some(error.span),
+        None => None,
+    };
+    write_context(errors, context, span)
+}
+
+fn write_run_refusal<E: Write>(errors: &mut E, refusal: &RunRefusal) -> io::Result<()> {
+    match refusal {
+        RunRefusal::Expression(error) => {
             let kind = syntax_kind(error.kind);
             let (start, end) = (error.span.start, error.span.end);
-            writeln!(errors, "error: Syntax.{kind} - - {start}..{end} -")
+            writeln!(errors, "error: Expression.{kind} - - {start}..{end} -")
         }
+        RunRefusal::Compile(error) => write_compile_error(errors, error),
+        RunRefusal::Eval(context, fault) => {
+            let kind = fault.kind();
+            write!(errors, "error: Eval.{kind}")?;
+            write_context(errors, context, None)
+        }
+        RunRefusal::OutOfMemory => errors.write_all(b"error: OutOfMemory - - - -\n"),
+    }
+}
+
+fn write_precompile_error<E: Write>(errors: &mut E, error: &PrecompileError) -> io::Result<()> {
+    match error {
+        PrecompileError::Syntax(error) => write_text_error(errors, *error),
+        PrecompileError::GaveUp(refusal) => write_text_error(errors, Error::refused(*refusal)),
         PrecompileError::Condition(error) => write_condition_error(errors, error),
         PrecompileError::Unprintable(name) => {
             let name = Field(name.as_ref());
@@ -167,10 +205,29 @@ fn write_precompile_error<E: Write>(errors: &mut E, error: &PrecompileError) -> 
     }
 }
 
+/// The line about the text of the root.
+fn write_text_error<E: Write>(errors: &mut E, error: Error) -> io::Result<()> {
+    let kind = syntax_kind(error.kind);
+    let (start, end) = (error.span.start, error.span.end);
+    writeln!(errors, "error: Syntax.{kind} - - {start}..{end} -")
+}
+
 fn write_condition_error<E: Write>(errors: &mut E, error: &CondCompError) -> io::Result<()> {
     let kind = condition_kind(error);
     let flag = Field(flag_of(error));
     writeln!(errors, "error: Condition.{kind} - - - {flag}")
+}
+
+/// The line about the conditions of a module.
+fn write_module_condition<E: Write>(
+    errors: &mut E,
+    context: &ErrorContext,
+    error: &CondCompError,
+) -> io::Result<()> {
+    let kind = condition_kind(error);
+    let module = Field(context.module.as_ref());
+    let flag = Field(flag_of(error));
+    writeln!(errors, "error: Condition.{kind} {module} - - {flag}")
 }
 
 /// The flag that an error is about.

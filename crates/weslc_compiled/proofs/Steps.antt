@@ -2,7 +2,7 @@
 use Rattle.std.proofs.Common.{ℕ, List}
 use Rattle.wgsl_syntax.specs.Tree.{UnitTree}
 use Rattle.weslc_unit.specs.declared.error.UnitRefusal.{UnitRefusal}
-use Rattle.weslc_unit.specs.declared.error.UnitRefusal.TheVariants.{Validate, UnclearName, Eval, Unprintable, OutOfMemory}
+use Rattle.weslc_unit.specs.declared.error.UnitRefusal.TheVariants.{Validate, UnclearName, Eval, Unprintable, GaveUp, OutOfMemory}
 use Rattle.weslc_unit.specs.Compiled.{IsValid, IsClear, IsCompiled, IsLoweredText, RefusesLowering, Refuses}
 use Rattle.weslc_unit.proofs.ClearLemmas.{clear-names}
 
@@ -21,4 +21,5 @@ refused steps unit (Validate f) valid clear h = absurd h
 refused steps unit (UnclearName x) valid clear h = absurd h
 refused steps unit (Eval r) valid clear h = (valid, clear, h)
 refused steps unit (Unprintable x) valid clear (low, lowers, unprintable) = (low, record { valid = valid; clear = clear; lowered = lowers }, unprintable)
+refused steps unit (GaveUp r) valid clear h = tt
 refused steps unit OutOfMemory valid clear h = tt

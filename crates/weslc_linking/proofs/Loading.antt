@@ -106,6 +106,7 @@ module _ (found : Sources) (root : Path) (asked : List Name) (max : ℕ) where
   root_told some path is (resolve.ModuleNotFound m) t = (m, refl, root_not_found some path m is t.0 t.1)
   root_told some path is (resolve.Syntax m f) t = (m, refl, root_faulty some path m f is t.0 t.1)
   root_told some path is (resolve.Unsupported m) t = (m, refl, root_unsupported some path m is t.0 t.1)
+  root_told some path is (resolve.GaveUp m f) t = tt
   root_told some path is resolve.OutOfMemory t = tt
 
   -- something behind the root is refused, in what is found after the root was asked for
@@ -119,6 +120,7 @@ module _ (found : Sources) (root : Path) (asked : List Name) (max : ℕ) where
   loading_told after same unit is (import.Resolve (resolve.ModuleNotFound m)) r = (m, refl, behind after same unit is _ r)
   loading_told after same unit is (import.Resolve (resolve.Syntax m f)) r = (m, refl, behind after same unit is _ r)
   loading_told after same unit is (import.Resolve (resolve.Unsupported m)) r = (m, refl, behind after same unit is _ r)
+  loading_told after same unit is (import.Resolve (resolve.GaveUp m f)) r = tt
   loading_told after same unit is (import.Resolve resolve.OutOfMemory) r = tt
   loading_told after same unit is (import.DuplicateSymbol m x) r = (m, x, refl, behind after same unit is _ r)
   loading_told after same unit is (import.MissingDecl m x) r = (m, x, refl, behind after same unit is _ r)

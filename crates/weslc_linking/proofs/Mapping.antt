@@ -142,6 +142,7 @@ pub refused_for_memory : (found : Answer → Type 0) (texts : List ℕ → Type 
 refused_for_memory found texts path u is one resolve.OutOfMemory told = refl
 refused_for_memory found texts path u is one (resolve.ModuleNotFound p) told = let same : unit_of u ≡ not_found = one (unit_of u) not_found is told.1 in absurd (cc)
 refused_for_memory found texts path u is one (resolve.Syntax p f) told = absurd told
+refused_for_memory found texts path u is one (resolve.GaveUp p f) told = absurd told
 refused_for_memory found texts path u is one (resolve.Unsupported p) told = absurd told
 
 -- another default text leaves the modules' texts

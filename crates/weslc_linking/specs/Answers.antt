@@ -33,7 +33,7 @@ use Rattle.weslc_linking.specs.Told.{about_module, about_item, about_name, about
 use Rattle.weslc_linking.specs.declared.error.ResolveKind.TheVariants.{ModuleNotFound}
 use Rattle.weslc_linking.specs.declared.error.ImportKind.TheVariants.{DuplicateSymbol, MissingDecl, Private}
 use Rattle.weslc_linking.specs.declared.error.CompileError.{CompileError}
-use Rattle.weslc_linking.specs.declared.error.CompileError.TheVariants.{TooManyModules, Resolve, Syntax, Unsupported, Import, NameClash, Validate, UnclearName, Eval, Unprintable, OutOfMemory}
+use Rattle.weslc_linking.specs.declared.error.CompileError.TheVariants.{TooManyModules, Resolve, Syntax, Unsupported, Import, Condition, ConditionLeft, NameClash, Validate, UnclearName, Eval, Unprintable, GaveUp, OutOfMemory}
 
 -- what the map tells of the names of the linked unit: what is held in these tables
 abbrev pub TellsTables : Resolutions → BasicSourceMap → Type 0
@@ -88,7 +88,7 @@ module _ (found : Sources) (root : Path) (asked : List Name) (max : ℕ) where
     pub loaded : AreLoadedFrom kept modules
     pub clash : IsFirstClash modules root kept y
 
-  -- memory aside, an error of linking tells the first refusal: of loading, else the first name that clashes
+  -- Memory aside, and texts that the parser gives up on since they are nested too deep, an error of linking tells the first refusal: of loading, else the first name that clashes
   abbrev pub RefusesLinking : CompileError → Type 0
   RefusesLinking (TooManyModules c) = (m : ModulePath) × (c ≡ about_module m) × IsRefusedLoading (too_many_modules (path_text m))
   RefusesLinking (Resolve c ModuleNotFound) = (m : ModulePath) × (c ≡ about_module m) × IsRefusedLoading (module_not_found (path_text m))
@@ -98,8 +98,11 @@ module _ (found : Sources) (root : Path) (asked : List Name) (max : ℕ) where
   RefusesLinking (Import c MissingDecl) = (m : ModulePath) × (x : Name) × (c ≡ about_item m x) × IsRefusedLoading (missing_decl (path_text m) x)
   RefusesLinking (Import c Private) = (m : ModulePath) × (x : Name) × (c ≡ about_item m x) × IsRefusedLoading (private (path_text m) x)
   RefusesLinking (NameClash c) = (y : Name) × (c ≡ about_name y) × IsFirstClashFrom y
+  RefusesLinking (GaveUp c r) = ⊤
   RefusesLinking OutOfMemory = ⊤
   RefusesLinking (Validate c kind) = ⊥
+  RefusesLinking (Condition c kind) = ⊥
+  RefusesLinking (ConditionLeft c) = ⊥
   RefusesLinking (UnclearName c) = ⊥
   RefusesLinking (Eval c fault) = ⊥
   RefusesLinking (Unprintable c) = ⊥

@@ -10,7 +10,7 @@ use Rattle.wgsl_parser.specs.Texts.{IsModuleFault}
 use Rattle.wgsl_syntax.specs.Tree.{UnitTree}
 use Rattle.wesl_resolve.specs.Found.{Answer, unit_of, not_found, faulty, unsupported}
 use Rattle.wesl_resolve.specs.declared.error.ResolveError.{ResolveError}
-use Rattle.wesl_resolve.specs.declared.error.ResolveError.TheVariants.{ModuleNotFound, Syntax, Unsupported, OutOfMemory}
+use Rattle.wesl_resolve.specs.declared.error.ResolveError.TheVariants.{ModuleNotFound, Syntax, Unsupported, GaveUp, OutOfMemory}
 use Rattle.weslc_unit.specs.Texts.{IsUnitOfPart, IsBeyondPart}
 use Rattle.weslc_linking.specs.declared.resolver.VirtualModule.{VirtualModule}
 use Rattle.weslc_linking.specs.declared.resolver.VirtualResolver.{VirtualResolver}
@@ -80,4 +80,5 @@ TellsStored r path (Ok text) = text_at r (path_text path) ≡ Some text.now
 TellsStored r path (Err (ModuleNotFound p)) = (p ≡ path) × (text_at r (path_text path) ≡ None)
 TellsStored r path (Err (Syntax p e)) = ⊥
 TellsStored r path (Err (Unsupported p)) = ⊥
+TellsStored r path (Err (GaveUp p f)) = ⊥
 TellsStored r path (Err OutOfMemory) = ⊤

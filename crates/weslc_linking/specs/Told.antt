@@ -19,7 +19,7 @@ use Rattle.weslc_linking.specs.declared.error.ImportKind.{ImportKind}
 use Rattle.weslc_linking.specs.declared.error.ResolveKind.TheVariants.{ModuleNotFound}
 use Rattle.weslc_linking.specs.declared.error.ImportKind.TheVariants.{DuplicateSymbol, MissingDecl, Private}
 use Rattle.weslc_linking.specs.declared.error.CompileError.{CompileError}
-use Rattle.weslc_linking.specs.declared.error.CompileError.TheVariants.{TooManyModules, Resolve, Syntax, Unsupported, Import, NameClash, Validate, UnclearName, Eval, Unprintable, OutOfMemory}
+use Rattle.weslc_linking.specs.declared.error.CompileError.TheVariants.{TooManyModules, Resolve, Syntax, Unsupported, Import, Condition, ConditionLeft, NameClash, Validate, UnclearName, Eval, Unprintable, GaveUp, OutOfMemory}
 
 -- ---- what an error is about
 
@@ -51,9 +51,12 @@ context_of (Unsupported c) = Some c
 context_of (Import c kind) = Some c
 context_of (NameClash c) = Some c
 context_of (Validate c kind) = Some c
+context_of (Condition c kind) = Some c
+context_of (ConditionLeft c) = Some c
 context_of (UnclearName c) = Some c
 context_of (Eval c fault) = Some c
 context_of (Unprintable c) = Some c
+context_of (GaveUp c r) = Some c
 context_of OutOfMemory = None
 
 -- the words of what is wrong with an import or a module
@@ -71,6 +74,7 @@ abbrev pub of_resolving : ResolveError → CompileError
 of_resolving (resolve.ModuleNotFound m) = Resolve (about_module m) ModuleNotFound
 of_resolving (resolve.Syntax m f) = Syntax (about_module m) f
 of_resolving (resolve.Unsupported m) = Unsupported (about_module m)
+of_resolving (resolve.GaveUp m r) = GaveUp (about_module m) r
 of_resolving resolve.OutOfMemory = OutOfMemory
 
 abbrev pub of_loading : ImportError → CompileError
@@ -107,4 +111,5 @@ Tells tell (of.Validate f) e = TellsOfFault tell f e
 Tells tell (of.UnclearName x) e = e ≡ UnclearName (about_name x)
 Tells tell (of.Eval r) e = TellsOfEvaluation tell r e
 Tells tell (of.Unprintable x) e = e ≡ Unprintable (about_maybe x)
+Tells tell (of.GaveUp r) e = e ≡ GaveUp (about_maybe None) r
 Tells tell of.OutOfMemory e = e ≡ OutOfMemory

@@ -1,6 +1,6 @@
 //! What a call is refused for.
 
-ghost use Rattle.std.specs.Prelude.{◌≡◌, IfOk, IfSome, MatchOption};
+ghost use Rattle.std.specs.Prelude.{◌≡◌, None, IfOk, IfSome, MatchOption};
 ghost use Rattle.std.specs.Option.{option_copied};
 ghost use Rattle.wesl_resolve.specs.SourceMaps.{decl_at};
 ghost use Rattle.weslc_linking.specs.Told.{context_of, about_module, about_item, about_name, about_maybe, about_declaration, Tells, TellsOfFault, TellsOfEvaluation, fault_name};
@@ -8,9 +8,10 @@ ghost use Rattle.weslc_linking.specs.Told.{context_of, about_module, about_item,
 use std::alloc::{AllocError, AllocFailed, Global};
 use std::fmt;
 use thiserror::Error as Message;
+use wesl_features::CondCompError;
 use wesl_link::{BasicSourceMap, ImportError, ResolveError, SourceMap};
 use weslc_unit::{DeclarationFault, Fault, UnitRefusal, ValidateError, ValidateFault};
-use wgsl_error::Error;
+use wgsl_error::{Error, Refusal};
 use wgsl_items::{CloneIn, Text};
 use wgsl_path::ModulePath;
 
@@ -46,6 +47,12 @@ pub enum CompileError {
     Resolve(ErrorContext, ResolveKind),
     #[error("a module's text is no module: {1}")]
     Syntax(ErrorContext, Error),
+    /// The first error of a module's conditions. The name is that of the flag that it is about.
+    #[error("a module's conditions are at fault: {1}")]
+    Condition(ErrorContext, CondCompError),
+    /// A condition of a module is not decided.
+    #[error("a condition is left")]
+    ConditionLeft(ErrorContext),
     #[error("a module uses what is not supported yet")]
     Unsupported(ErrorContext),
     #[error("a name is declared twice, missing or private")]
@@ -62,13 +69,18 @@ pub enum CompileError {
     Eval(ErrorContext, Fault),
     #[error("no text stands for what is left")]
     Unprintable(ErrorContext),
+    /// The parser gave up: on the text of the module that is named, which is nested too deep, or on what was printed, where none is named.
+    /// This says nothing else of the modules.
+    #[error("{1}")]
+    GaveUp(ErrorContext, Refusal),
     /// Memory was refused. This says nothing of the modules.
     #[error("out of memory")]
     OutOfMemory,
 }
 
 impl ErrorContext {
-    fn of_module(module: ModulePath) -> ErrorContext
+    /// About a module.
+    pub fn of_module(module: ModulePath) -> ErrorContext
         ensures { result ≡ about_module «module» }
     {
         ErrorContext {
@@ -78,7 +90,8 @@ impl ErrorContext {
         }
     }
 
-    fn of_item(module: ModulePath, name: Text) -> ErrorContext
+    /// About a name that is sought in a module.
+    pub fn of_item(module: ModulePath, name: Text) -> ErrorContext
         ensures { result ≡ about_item «module» name }
     {
         ErrorContext {
@@ -88,13 +101,15 @@ impl ErrorContext {
         }
     }
 
-    fn of_name(name: Text) -> ErrorContext
+    /// About a name.
+    pub fn of_name(name: Text) -> ErrorContext
         ensures { result ≡ about_name name }
     {
         ErrorContext::of_maybe(Some(name))
     }
 
-    fn of_maybe(name: Option<Text>) -> ErrorContext
+    /// About a name, where there is one.
+    pub fn of_maybe(name: Option<Text>) -> ErrorContext
         ensures { result ≡ about_maybe name }
     {
         ErrorContext {
@@ -105,7 +120,7 @@ impl ErrorContext {
     }
 
     /// Of a declaration of the linked unit, by the module that has it and its name there.
-    fn of_declaration(
+    pub fn of_declaration(
         alloc: Global,
         map: &BasicSourceMap,
         declaration: &str,
@@ -174,6 +189,13 @@ impl CompileError {
         CompileError::Unprintable(ErrorContext::of_maybe(name))
     }
 
+    /// The parser gave up on what was printed.
+    pub fn gave_up(refusal: Refusal) -> CompileError
+        ensures { result ≡ CompileError.GaveUp (about_maybe None) refusal }
+    {
+        CompileError::GaveUp(ErrorContext::of_maybe(None), refusal)
+    }
+
     /// The refusal of a linked unit, with its declaration as the module names it that declares it.
     pub fn of_unit(alloc: Global, map: &BasicSourceMap, refusal: UnitRefusal) -> CompileError
         ensures { Tells (decl_at map.now) refusal result }
@@ -185,6 +207,7 @@ impl CompileError {
             )),
             UnitRefusal::Eval(refusal) => CompileError::of_evaluation(alloc, map, refusal),
             UnitRefusal::Unprintable(name) => CompileError::unprintable(name),
+            UnitRefusal::GaveUp(refusal) => CompileError::gave_up(refusal),
             UnitRefusal::OutOfMemory => CompileError::OutOfMemory,
         }
     }
@@ -229,6 +252,8 @@ impl CompileError {
             CompileError::TooManyModules(context) => Some(context),
             CompileError::Resolve(context, _) => Some(context),
             CompileError::Syntax(context, _) => Some(context),
+            CompileError::Condition(context, _) => Some(context),
+            CompileError::ConditionLeft(context) => Some(context),
             CompileError::Unsupported(context) => Some(context),
             CompileError::Import(context, _) => Some(context),
             CompileError::NameClash(context) => Some(context),
@@ -236,6 +261,7 @@ impl CompileError {
             CompileError::UnclearName(context) => Some(context),
             CompileError::Eval(context, _) => Some(context),
             CompileError::Unprintable(context) => Some(context),
+            CompileError::GaveUp(context, _) => Some(context),
             CompileError::OutOfMemory => None,
         }
     }
@@ -281,6 +307,9 @@ impl From<ResolveError> for CompileError {
             ResolveError::Unsupported(module) => CompileError::Unsupported(ErrorContext::of_module(
                 module,
             )),
+            ResolveError::GaveUp(module, refusal) => {
+                CompileError::GaveUp(ErrorContext::of_module(module), refusal)
+            }
             ResolveError::OutOfMemory => CompileError::OutOfMemory,
         }
     }

@@ -9,11 +9,12 @@ mod resolver;
 
 pub use error::{CompileError, ErrorContext, ImportKind, ResolveKind};
 pub use linking::{Linked, linked_unit};
-pub use options::Options;
+pub use options::{Mode, Options};
 pub use recording::RecordingResolver;
 pub use resolver::VirtualResolver;
 pub use wesl_link::{
     BasicSourceMap, EscapeMangler, ImportError, ResolveError, Resolver, SourceMap,
 };
+pub use wesl_features::{CondCompError, Feature, Features};
 pub use weslc_unit::{Fault, NameFault, PrintError, ValidateError, print_part};
-pub use wgsl_error::{Error, ErrorKind};
+pub use wgsl_error::{Error, ErrorKind, Refusal};

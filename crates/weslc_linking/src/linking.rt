@@ -44,6 +44,7 @@ pub fn linked_unit<R: Resolver>(
     ensures same_answers { SameAnswers (R.answers resolver.old) (R.answers resolver.new) }
     ensures same_texts { SameTexts (R.texts resolver.old) (R.texts resolver.new) }
     ensures same_names { R.display_names resolver.new ≡ R.display_names resolver.old }
+    ensures same_reference { R.holds resolver.new ≡ R.holds resolver.old }
 {
     let (resolutions, map) = load_and_map(alloc, resolver, root, options)?;
     let unit = resolutions.assemble(alloc)?;
@@ -67,6 +68,7 @@ fn load_and_map<R: Resolver>(
     ensures same_answers { SameAnswers (R.answers resolver.old) (R.answers resolver.new) }
     ensures same_texts { SameTexts (R.texts resolver.old) (R.texts resolver.new) }
     ensures same_names { R.display_names resolver.new ≡ R.display_names resolver.old }
+    ensures same_reference { R.holds resolver.new ≡ R.holds resolver.old }
 {
     let resolutions = loaded(alloc, resolver, root, options)?;
     let map = source_map(alloc, resolver, root, &resolutions)?;
@@ -87,6 +89,7 @@ fn loaded<R: Resolver>(
     ensures same_answers { SameAnswers (R.answers resolver.old) (R.answers resolver.new) }
     ensures same_texts { SameTexts (R.texts resolver.old) (R.texts resolver.new) }
     ensures same_names { R.display_names resolver.new ≡ R.display_names resolver.old }
+    ensures same_reference { R.holds resolver.new ≡ R.holds resolver.old }
 {
     let unit = root_unit(alloc, resolver, root, options.max_modules)?;
     let keep = options.keep.as_slice();
@@ -111,6 +114,7 @@ fn root_unit<R: Resolver>(
     ensures same_answers { SameAnswers (R.answers resolver.old) (R.answers resolver.new) }
     ensures same_texts { SameTexts (R.texts resolver.old) (R.texts resolver.new) }
     ensures same_names { R.display_names resolver.new ≡ R.display_names resolver.old }
+    ensures same_reference { R.holds resolver.new ≡ R.holds resolver.old }
 {
     if max_modules == 0 {
         return Err(CompileError::too_many_modules(alloc, root)?);
@@ -135,6 +139,7 @@ fn source_map<R: Resolver>(
     ensures same_answers { SameAnswers (R.answers resolver.old) (R.answers resolver.new) }
     ensures same_texts { SameTexts (R.texts resolver.old) (R.texts resolver.new) }
     ensures same_names { R.display_names resolver.new ≡ R.display_names resolver.old }
+    ensures same_reference { R.holds resolver.new ≡ R.holds resolver.old }
     ensures same_asked { R.asked resolver.new ≡ R.asked resolver.old }
 {
     let mut map = BasicSourceMap::new(alloc);
@@ -160,6 +165,7 @@ fn add_sources<R: Resolver>(
     ensures same_answers { SameAnswers (R.answers resolver.old) (R.answers resolver.new) }
     ensures same_texts { SameTexts (R.texts resolver.old) (R.texts resolver.new) }
     ensures same_names { R.display_names resolver.new ≡ R.display_names resolver.old }
+    ensures same_reference { R.holds resolver.new ≡ R.holds resolver.old }
     ensures same_asked { R.asked resolver.new ≡ R.asked resolver.old }
 {
     for path in paths {
@@ -183,6 +189,7 @@ fn add_source<R: Resolver>(
     ensures same_answers { SameAnswers (R.answers resolver.old) (R.answers resolver.new) }
     ensures same_texts { SameTexts (R.texts resolver.old) (R.texts resolver.new) }
     ensures same_names { R.display_names resolver.new ≡ R.display_names resolver.old }
+    ensures same_reference { R.holds resolver.new ≡ R.holds resolver.old }
     ensures same_asked { R.asked resolver.new ≡ R.asked resolver.old }
 {
     let name = resolver.display_name(alloc, path)?;

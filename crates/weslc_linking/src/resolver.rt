@@ -110,6 +110,9 @@ impl Resolver for VirtualResolver {
                 error,
             )),
             Err(PartError::Unsupported) => Err(ResolveError::Unsupported(path.clone_in(alloc)?)),
+            Err(PartError::GaveUp(refusal)) => {
+                Err(ResolveError::GaveUp(path.clone_in(alloc)?, refusal))
+            }
             Err(PartError::OutOfMemory) => Err(ResolveError::OutOfMemory),
         }
     }

@@ -1,13 +1,11 @@
 -- What the steps say of the whole.
-use Rattle.std.proofs.Common.{◌≡◌, refl, sym, ap, ◌∙◌, ℕ, List, ◌⊎◌, inl, inr, Option, Some, None, Result, Ok, Err, String}
+use Rattle.std.proofs.Common.{◌≡◌, refl, sym, ◌∙◌, subst, ℕ, List, ◌⊎◌, inl, inr, Option, Some, None, Result, Ok, Err, String}
 use Rattle.std.specs.declared.alloc.Global.{Global}
 use Rattle.wgsl_declarations.specs.declared.unit.TranslationUnit.{TranslationUnit}
 use Rattle.wgsl_declarations.specs.Tree.{UnitTree}
 use Rattle.wgsl_declarations.specs.View.{unit_tree}
-use Rattle.wgsl_error.specs.declared.error.ErrorKind.{ErrorKind}
-use Rattle.wgsl_error.specs.declared.error.ErrorKind.TheVariants as kind
 use Rattle.wgsl_error.specs.declared.error.Error.{Error}
-use Rattle.wgsl_error.specs.Errors.{out_of_memory}
+use Rattle.wgsl_error.specs.Errors.{refusal_of, IsRefusal}
 use Rattle.wgsl_parser.specs.Texts.{IsModuleFault}
 use Rattle.wesl_features.specs.declared.feature.Features.{Features}
 use Rattle.wesl_features.specs.declared.error.CondCompError.{CondCompError}
@@ -16,7 +14,7 @@ use Rattle.wesl_cond_spec.specs.Trees.{unit_left}
 use Rattle.wesl_cond_spec.specs.Faults.{unit_fault}
 use Rattle.weslc_precompile.specs.declared.error.PrecompileError.{PrecompileError}
 use Rattle.weslc_precompile.specs.declared.error.PrecompileError.TheVariants as refusal
-use Rattle.weslc_precompile.specs.Precompiling.{Precompiles, PrintsBack, Fixes, refused_by, refused_as}
+use Rattle.weslc_precompile.specs.Precompiling.{Precompiles, PrintsBack, Fixes, RefusesSo}
 use Rattle.wgsl_check_unit.specs.Derivable.{Says}
 
 -- the first error of a module's conditions
@@ -29,6 +27,7 @@ pub fix_refused : (features : Features) (text : List ℕ) (unit : TranslationUni
     → Precompiles features text (Err e)
 fix_refused features text unit (refusal.Condition e) new says h = (unit, says, h)
 fix_refused features text unit refusal.OutOfMemory new says h = tt
+fix_refused features text unit (refusal.GaveUp r) new says h = absurd h
 fix_refused features text unit (refusal.Syntax e) new says h = absurd h
 fix_refused features text unit (refusal.Unprintable name) new says h = absurd h
 
@@ -38,26 +37,15 @@ pub fixed_printed : (features : Features) (text : List ℕ) (unit : TranslationU
 fixed_printed features text unit new (Ok printed) says fixed h = (new, record { unit = unit; says = says; faultless = fixed.0; is_left = fixed.1 }, h.0, h.1)
 fixed_printed features text unit new (Err (refusal.Unprintable name)) says fixed h = (new, record { unit = unit; says = says; faultless = fixed.0; is_left = fixed.1 }, h.0, h.1)
 fixed_printed features text unit new (Err refusal.OutOfMemory) says fixed h = tt
+fixed_printed features text unit new (Err (refusal.GaveUp r)) says fixed h = tt
 fixed_printed features text unit new (Err (refusal.Syntax e)) says fixed h = absurd h
 fixed_printed features text unit new (Err (refusal.Condition e)) says fixed h = absurd h
 
 -- the fault of a text
-by_kind : (features : Features) (text : List ℕ) (e : Error) (k : ErrorKind) → e.kind ≡ k → IsModuleFault text e ⊎ (e ≡ out_of_memory) → Precompiles features text (Err (refused_by k e))
-by_kind features text e kind.OutOfMemory is h = tt
-by_kind features text e kind.InvalidToken is (inl fault) = fault
-by_kind features text e kind.InvalidToken is (inr memory) = let wrong : kind.OutOfMemory ≡ kind.InvalidToken = sym (ap (λ x. x.kind) memory) ∙ is in absurd (cc)
-by_kind features text e kind.ReservedWord is (inl fault) = fault
-by_kind features text e kind.ReservedWord is (inr memory) = let wrong : kind.OutOfMemory ≡ kind.ReservedWord = sym (ap (λ x. x.kind) memory) ∙ is in absurd (cc)
-by_kind features text e kind.UnexpectedToken is (inl fault) = fault
-by_kind features text e kind.UnexpectedToken is (inr memory) = let wrong : kind.OutOfMemory ≡ kind.UnexpectedToken = sym (ap (λ x. x.kind) memory) ∙ is in absurd (cc)
-by_kind features text e kind.UnexpectedEof is (inl fault) = fault
-by_kind features text e kind.UnexpectedEof is (inr memory) = let wrong : kind.OutOfMemory ≡ kind.UnexpectedEof = sym (ap (λ x. x.kind) memory) ∙ is in absurd (cc)
-by_kind features text e kind.DiagnosticSeverity is (inl fault) = fault
-by_kind features text e kind.DiagnosticSeverity is (inr memory) = let wrong : kind.OutOfMemory ≡ kind.DiagnosticSeverity = sym (ap (λ x. x.kind) memory) ∙ is in absurd (cc)
-by_kind features text e kind.Attribute is (inl fault) = fault
-by_kind features text e kind.Attribute is (inr memory) = let wrong : kind.OutOfMemory ≡ kind.Attribute = sym (ap (λ x. x.kind) memory) ∙ is in absurd (cc)
-by_kind features text e kind.VarTemplate is (inl fault) = fault
-by_kind features text e kind.VarTemplate is (inr memory) = let wrong : kind.OutOfMemory ≡ kind.VarTemplate = sym (ap (λ x. x.kind) memory) ∙ is in absurd (cc)
-
-pub fault_told : (features : Features) (text : List ℕ) (e : Error) → IsModuleFault text e ⊎ (e ≡ out_of_memory) → Precompiles features text (Err (refused_as e))
-fault_told features text e h = by_kind features text e e.kind refl h
+pub fault_told : (features : Features) (text : List ℕ) (e : Error) (told : PrecompileError) → IsModuleFault text e ⊎ IsRefusal e → RefusesSo e told → Precompiles features text (Err told)
+fault_told features text e (refusal.Syntax f) (inl fault) (same, other) = subst (IsModuleFault text) (sym same) fault
+fault_told features text e (refusal.Syntax f) (inr (r, gave_up)) (same, other) = let wrong : Some r ≡ None = sym gave_up ∙ other in absurd (cc)
+fault_told features text e (refusal.GaveUp r) h so = tt
+fault_told features text e refusal.OutOfMemory h so = tt
+fault_told features text e (refusal.Condition f) h so = absurd so
+fault_told features text e (refusal.Unprintable name) h so = absurd so

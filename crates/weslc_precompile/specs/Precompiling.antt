@@ -5,9 +5,8 @@ use Rattle.wgsl_declarations.specs.declared.unit.TranslationUnit.{TranslationUni
 use Rattle.wgsl_declarations.specs.Tree.{UnitTree}
 use Rattle.wgsl_declarations.specs.View.{unit_tree}
 use Rattle.wgsl_declarations.specs.Print.{unit_text}
-use Rattle.wgsl_error.specs.declared.error.ErrorKind.{ErrorKind}
-use Rattle.wgsl_error.specs.declared.error.ErrorKind.TheVariants as kind
 use Rattle.wgsl_error.specs.declared.error.Error.{Error}
+use Rattle.wgsl_error.specs.Errors.{refusal_of}
 use Rattle.wgsl_parser.specs.Texts.{IsModuleFault}
 use Rattle.wgsl_check_unit.specs.Derivable.{Says, SaysTree, IsDerivable}
 use Rattle.wgsl_check_unit.specs.Telling.{IsTold}
@@ -29,7 +28,7 @@ abbrev pub IsPrecompiledText : Features → List ℕ → List ℕ → Type 0
 IsPrecompiledText features text printed =
     (left : UnitTree) × IsFixed features text left × (printed ≡ unit_text left) × SaysTree printed left
 
--- There is none: this is the fault of the text; the first error of its conditions; or no text derives what is left, of which the first such
+-- There is none, memory aside, and texts that the parser gives up on since they are nested too deep: this is the fault of the text; the first error of its conditions; or no text derives what is left, of which the first such
 -- node is told.
 abbrev pub RefusesPrecompiling : Features → List ℕ → PrecompileError → Type 0
 RefusesPrecompiling features text (refusal.Syntax e) = IsModuleFault text e
@@ -37,6 +36,7 @@ RefusesPrecompiling features text (refusal.Condition e) = (unit : TranslationUni
 RefusesPrecompiling features text (refusal.Unprintable name) =
     (left : UnitTree) × IsFixed features text left × (IsDerivable left → ⊥) × IsTold left.declarations name
 RefusesPrecompiling features text refusal.OutOfMemory = Unit
+RefusesPrecompiling features text (refusal.GaveUp r) = Unit
 
 -- what an answer says of a text
 abbrev pub Precompiles : Features → List ℕ → Result (String Global) PrecompileError → Type 0
@@ -50,6 +50,7 @@ abbrev pub PrintsBack : UnitTree → Result (String Global) PrecompileError → 
 PrintsBack u (Ok printed) = (string_bytes printed ≡ unit_text u) × SaysTree (string_bytes printed) u
 PrintsBack u (Err (refusal.Unprintable name)) = (IsDerivable u → ⊥) × IsTold u.declarations name
 PrintsBack u (Err refusal.OutOfMemory) = Unit
+PrintsBack u (Err (refusal.GaveUp r)) = Unit
 PrintsBack u (Err (refusal.Syntax e)) = ⊥
 PrintsBack u (Err (refusal.Condition e)) = ⊥
 
@@ -58,13 +59,14 @@ abbrev pub Fixes : Features → UnitTree → Result Unit PrecompileError → Uni
 Fixes features old (Ok x) new = (unit_fault features old ≡ None) × (new ≡ unit_left features old)
 Fixes features old (Err (refusal.Condition e)) new = unit_fault features old ≡ Some e
 Fixes features old (Err refusal.OutOfMemory) new = Unit
+Fixes features old (Err (refusal.GaveUp r)) new = ⊥
 Fixes features old (Err (refusal.Syntax e)) new = ⊥
 Fixes features old (Err (refusal.Unprintable name)) new = ⊥
 
--- a fault of a text, as it is told
-abbrev pub refused_by : ErrorKind → Error → PrecompileError
-refused_by kind.OutOfMemory e = refusal.OutOfMemory
-refused_by _ e = refusal.Syntax e
-
-abbrev pub refused_as : Error → PrecompileError
-refused_as e = refused_by e.kind e
+-- an error of a text is told as its fault; or the parser gave up
+abbrev pub RefusesSo : Error → PrecompileError → Type 0
+RefusesSo e (refusal.Syntax f) = (f ≡ e) × (refusal_of e ≡ None)
+RefusesSo e (refusal.GaveUp r) = Unit
+RefusesSo e refusal.OutOfMemory = Unit
+RefusesSo e (refusal.Condition f) = ⊥
+RefusesSo e (refusal.Unprintable name) = ⊥

@@ -2,6 +2,7 @@
 
 use std::alloc::AllocError;
 use wesl_cond::CondCompError;
+use wgsl_error::Refusal;
 use wgsl_items::Text;
 use wgsl_parser::Error;
 
@@ -17,6 +18,8 @@ pub enum PrecompileError {
     /// No text derives what is left. The name is what `check_unit` tells of it: that of the first node that no text derives, or of the
     /// declaration that holds it, if there is one.
     Unprintable(Option<Text>),
+    /// The parser gave up: on the text, which is nested too deep, or on what is left of it. This says nothing else of the text.
+    GaveUp(Refusal),
 }
 
 impl From<AllocError> for PrecompileError {

@@ -7,6 +7,7 @@ use crate::error::PrecompileError;
 use std::alloc::Global;
 use wgsl_check_unit::{Unprintable, print_checked};
 use wgsl_declarations::TranslationUnit;
+use wgsl_error::Refusal;
 
 /// The text of a module, which says it.
 pub(crate) fn print_back(
@@ -18,6 +19,7 @@ pub(crate) fn print_back(
     match print_checked(alloc, unit) {
         Ok(printed) => Ok(printed),
         Err(Unprintable::Node(name)) => Err(PrecompileError::Unprintable(name)),
-        Err(Unprintable::OutOfMemory) => Err(PrecompileError::OutOfMemory),
+        Err(Unprintable::GaveUp(Refusal::OutOfMemory)) => Err(PrecompileError::OutOfMemory),
+        Err(Unprintable::GaveUp(refusal)) => Err(PrecompileError::GaveUp(refusal)),
     }
 }

@@ -3,14 +3,15 @@
 ghost use Rattle.std.specs.Prelude.{◌≡◌};
 ghost use Rattle.wgsl_declarations.specs.View.{unit_tree};
 ghost use Rattle.wgsl_check_unit.specs.Derivable.{Says};
-ghost use Rattle.weslc_precompile.specs.Precompiling.{Precompiles, Fixes, refused_as};
+ghost use Rattle.weslc_precompile.specs.Precompiling.{Precompiles, Fixes, RefusesSo};
 
 use crate::error::PrecompileError;
 use crate::print::print_back;
 use std::alloc::Global;
 use wesl_cond::{CondCompError, Features, run};
 use wgsl_declarations::{TranslationUnit, let_go};
-use wgsl_parser::{Error, ErrorKind, parse_str};
+use wgsl_error::Refusal;
+use wgsl_parser::{Error, parse_str};
 
 /// Fixes the flags of a module.
 #[tactic(auto, using(crate::proofs::Steps::condition_told))]
@@ -44,11 +45,12 @@ fn left_text(
 }
 
 fn refusal(error: Error) -> PrecompileError
-    ensures { result ≡ refused_as error }
+    ensures { RefusesSo error result }
 {
-    match error.kind {
-        ErrorKind::OutOfMemory => PrecompileError::OutOfMemory,
-        _ => PrecompileError::Syntax(error),
+    match error.refusal() {
+        None => PrecompileError::Syntax(error),
+        Some(Refusal::OutOfMemory) => PrecompileError::OutOfMemory,
+        Some(refusal) => PrecompileError::GaveUp(refusal),
     }
 }
 
@@ -56,7 +58,7 @@ fn refusal(error: Error) -> PrecompileError
 /// it is parsed again to see that.
 ///
 /// An error is the fault of the text, the first error of its conditions, or that no text derives what is left, as `check_unit` tells it; or
-/// memory was refused.
+/// memory was refused, or the text is nested too deep.
 #[tactic(auto, using(crate::proofs::Steps::fault_told))]
 pub fn precompile(alloc: Global, text: &str, features: &Features) -> Result<String, PrecompileError>
     ensures { Precompiles features.now text.now result }

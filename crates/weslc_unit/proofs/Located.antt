@@ -4,7 +4,7 @@ use Rattle.wgsl_builtin.specs.Builtin.{builtin_names}
 use Rattle.wesl_validate.specs.Scopes.{names}
 use Rattle.wesl_validate.proofs.Located.{faults_are_in_declarations}
 use Rattle.wgsl_lower.proofs.Located as lower
-use Rattle.weslc_unit.specs.declared.error.UnitRefusal.TheVariants.{Validate, UnclearName, Eval, Unprintable, OutOfMemory}
+use Rattle.weslc_unit.specs.declared.error.UnitRefusal.TheVariants.{Validate, UnclearName, Eval, Unprintable, GaveUp, OutOfMemory}
 use Rattle.weslc_unit.specs.Located.{RefusalsAreInDeclarations}
 
 pub refusals_are_in_declarations : RefusalsAreInDeclarations
@@ -17,4 +17,5 @@ refusals_are_in_declarations steps unit (Eval r) y refused is =
     (lower.refusals_are_in_declarations steps unit r refused.2)
 refusals_are_in_declarations steps unit (UnclearName x) y refused is = absurd (cc)
 refusals_are_in_declarations steps unit (Unprintable x) y refused is = absurd (cc)
+refusals_are_in_declarations steps unit (GaveUp r) y refused is = absurd (cc)
 refusals_are_in_declarations steps unit OutOfMemory y refused is = absurd (cc)

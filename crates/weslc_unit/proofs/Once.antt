@@ -15,7 +15,7 @@ use Rattle.wgsl_eval.specs.declared.error.DeclarationFault.{DeclarationFault}
 use Rattle.wgsl_lower.specs.Lowered.{Lowers}
 use Rattle.wgsl_lower.proofs.Once.{lowered_once}
 use Rattle.wesl_validate.specs.Faults.{fault, IsFaultless, IsFirstFault, duplicate, undefined, miscall, ring}
-use Rattle.weslc_unit.specs.declared.error.UnitRefusal.TheVariants.{Validate, UnclearName, Eval, Unprintable, OutOfMemory}
+use Rattle.weslc_unit.specs.declared.error.UnitRefusal.TheVariants.{Validate, UnclearName, Eval, Unprintable, GaveUp, OutOfMemory}
 use Rattle.wgsl_part_texts.specs.Texts.{IsTextOf, IsUnprintable}
 use Rattle.wgsl_part_texts.proofs.Whole.{units_are_told_once}
 use Rattle.weslc_unit.specs.Compiled.{IsLowered, IsCompiled}
@@ -91,23 +91,28 @@ refused_once steps unit (Validate f) (UnclearName y) a b = absurd (faultless_or_
 refused_once steps unit (Validate f) (Eval q) a b = absurd (faultless_or_faulty unit builtin_names f b.0 a)
 refused_once steps unit (Validate f) (Unprintable y) a b = absurd (faultless_or_faulty unit builtin_names f b.1.valid a)
 refused_once steps unit (Validate f) OutOfMemory a b = tt
+refused_once steps unit (Validate f) (GaveUp h) a b = tt
 refused_once steps unit (UnclearName x) (Validate g) a b = absurd (faultless_or_faulty unit builtin_names g a.0 b)
 refused_once steps unit (UnclearName x) (UnclearName y) a b = same_first _ x y a.1 b.1
 refused_once steps unit (UnclearName x) (Eval q) a b = absurd (none _ x b.1 a.1)
 refused_once steps unit (UnclearName x) (Unprintable y) a b = absurd (none _ x b.1.clear a.1)
 refused_once steps unit (UnclearName x) OutOfMemory a b = tt
+refused_once steps unit (UnclearName x) (GaveUp h) a b = tt
 refused_once steps unit (Eval r) (Validate g) a b = absurd (faultless_or_faulty unit builtin_names g a.0 b)
 refused_once steps unit (Eval r) (UnclearName y) a b = absurd (none _ y a.1 b.1)
 refused_once steps unit (Eval r) (Eval q) a b = let is : Err r ≡ Err q = lowered_once steps unit (Err r) (Err q) a.2 b.2 in cc
 refused_once steps unit (Eval r) (Unprintable y) a b = absurd (not_refused steps unit b.0 r b.1 a.2)
 refused_once steps unit (Eval r) OutOfMemory a b = tt
+refused_once steps unit (Eval r) (GaveUp h) a b = tt
 refused_once steps unit (Unprintable x) (Validate g) a b = absurd (faultless_or_faulty unit builtin_names g a.1.valid b)
 refused_once steps unit (Unprintable x) (UnclearName y) a b = absurd (none _ y a.1.clear b.1)
 refused_once steps unit (Unprintable x) (Eval q) a b = absurd (not_refused steps unit a.0 q a.1 b.2)
 refused_once steps unit (Unprintable x) (Unprintable y) a b =
     units_are_told_once a.0 x y a.2 (subst (λ low. IsUnprintable low y) (same_low steps unit b.0 a.0 b.1 a.1) b.2)
 refused_once steps unit (Unprintable x) OutOfMemory a b = tt
+refused_once steps unit (Unprintable x) (GaveUp h) a b = tt
 refused_once steps unit OutOfMemory q a b = tt
+refused_once steps unit (GaveUp g) q a b = tt
 
 pub compiled_or_refused : CompiledOrRefused
 compiled_or_refused steps unit text (Validate f) a b = absurd (faultless_or_faulty unit builtin_names f a.lowered.valid b)
@@ -115,4 +120,5 @@ compiled_or_refused steps unit text (UnclearName x) a b = absurd (none _ x a.low
 compiled_or_refused steps unit text (Eval r) a b = absurd (not_refused steps unit a.low r a.lowered b.2)
 compiled_or_refused steps unit text (Unprintable x) a b =
     absurd (b.2.no_text (text, subst (λ l. IsTextOf l text) (same_low steps unit a.low b.0 a.lowered b.1) a.reads))
-compiled_or_refused steps unit text OutOfMemory a b = refl
+compiled_or_refused steps unit text (GaveUp r) a b = tt
+compiled_or_refused steps unit text OutOfMemory a b = tt

@@ -10,7 +10,7 @@ use Rattle.wesl_validate.specs.Clearness.{unclear}
 use Rattle.wgsl_lower.specs.Lowered.{Lowers}
 use Rattle.wgsl_lower.specs.Keeps.{AreClear, Keeps}
 use Rattle.weslc_unit.specs.declared.error.UnitRefusal.{UnitRefusal}
-use Rattle.weslc_unit.specs.declared.error.UnitRefusal.TheVariants.{Validate, UnclearName, Eval, Unprintable, OutOfMemory}
+use Rattle.weslc_unit.specs.declared.error.UnitRefusal.TheVariants.{Validate, UnclearName, Eval, Unprintable, GaveUp, OutOfMemory}
 
 -- ---- the steps
 
@@ -52,6 +52,7 @@ pub record IsLoweredText (steps : ℕ) (unit : UnitTree) (text : List ℕ) : Typ
 abbrev pub RefusesInvalid : UnitTree → UnitRefusal → Type 0
 RefusesInvalid unit (Validate f) = IsFirstFault unit builtin_names f
 RefusesInvalid unit OutOfMemory = ⊤
+RefusesInvalid unit (GaveUp r) = ⊥
 RefusesInvalid unit (UnclearName x) = ⊥
 RefusesInvalid unit (Eval r) = ⊥
 RefusesInvalid unit (Unprintable x) = ⊥
@@ -59,6 +60,7 @@ RefusesInvalid unit (Unprintable x) = ⊥
 abbrev pub RefusesUnclear : UnitTree → UnitRefusal → Type 0
 RefusesUnclear unit (UnclearName x) = first (unclear unit builtin_names) ≡ Some x
 RefusesUnclear unit OutOfMemory = ⊤
+RefusesUnclear unit (GaveUp r) = ⊥
 RefusesUnclear unit (Validate f) = ⊥
 RefusesUnclear unit (Eval r) = ⊥
 RefusesUnclear unit (Unprintable x) = ⊥
@@ -66,6 +68,7 @@ RefusesUnclear unit (Unprintable x) = ⊥
 abbrev pub RefusesValues : ℕ → UnitTree → UnitRefusal → Type 0
 RefusesValues steps unit (Eval r) = Lowers steps unit (Err r)
 RefusesValues steps unit OutOfMemory = ⊤
+RefusesValues steps unit (GaveUp r) = ⊥
 RefusesValues steps unit (Validate f) = ⊥
 RefusesValues steps unit (UnclearName x) = ⊥
 RefusesValues steps unit (Unprintable x) = ⊥
@@ -75,6 +78,7 @@ abbrev pub RefusesLowering : ℕ → UnitTree → UnitRefusal → Type 0
 RefusesLowering steps unit (Eval r) = Lowers steps unit (Err r)
 RefusesLowering steps unit (Unprintable x) = (low : UnitTree) × Lowers steps unit (Ok low) × IsUnprintable low x
 RefusesLowering steps unit OutOfMemory = ⊤
+RefusesLowering steps unit (GaveUp r) = ⊤
 RefusesLowering steps unit (Validate f) = ⊥
 RefusesLowering steps unit (UnclearName x) = ⊥
 
@@ -84,3 +88,4 @@ Refuses steps unit (UnclearName x) = IsValid unit × (first (unclear unit builti
 Refuses steps unit (Eval r) = IsValid unit × IsClear unit × Lowers steps unit (Err r)
 Refuses steps unit (Unprintable x) = (low : UnitTree) × IsLowered steps unit low × IsUnprintable low x
 Refuses steps unit OutOfMemory = ⊤
+Refuses steps unit (GaveUp r) = ⊤

@@ -4,7 +4,7 @@ use Rattle.std.specs.List.{Contains}
 use Rattle.wgsl_syntax.specs.Tree.{UnitTree}
 use Rattle.wesl_validate.specs.Scopes.{Name, names}
 use Rattle.weslc_unit.specs.declared.error.UnitRefusal.{UnitRefusal}
-use Rattle.weslc_unit.specs.declared.error.UnitRefusal.TheVariants.{Validate, UnclearName, Eval, Unprintable, OutOfMemory}
+use Rattle.weslc_unit.specs.declared.error.UnitRefusal.TheVariants.{Validate, UnclearName, Eval, Unprintable, GaveUp, OutOfMemory}
 use Rattle.weslc_unit.specs.Compiled.{Refuses}
 
 -- the declaration that a refusal names, where it names one: a fault of validation or of evaluation stands in one
@@ -13,6 +13,7 @@ declaration_of (Validate f) = Some f.declaration
 declaration_of (Eval r) = Some r.declaration
 declaration_of (UnclearName x) = None
 declaration_of (Unprintable x) = None
+declaration_of (GaveUp r) = None
 declaration_of OutOfMemory = None
 
 -- it is one that the unit declares

@@ -2,17 +2,19 @@
 use Rattle.std.specs.Prelude.{◌≡◌, ⊤, List, ℕ}
 use Rattle.wgsl_syntax.specs.Tree.{UnitTree}
 use Rattle.weslc_unit.specs.declared.error.UnitRefusal.{UnitRefusal}
-use Rattle.weslc_unit.specs.declared.error.UnitRefusal.TheVariants.{Validate, UnclearName, Eval, Unprintable, OutOfMemory}
+use Rattle.weslc_unit.specs.declared.error.UnitRefusal.TheVariants.{Validate, UnclearName, Eval, Unprintable, GaveUp, OutOfMemory}
 use Rattle.weslc_unit.specs.Compiled.{IsCompiled, Refuses}
 
--- Two refusals tell the same. That memory was refused tells nothing.
+-- Two refusals tell the same. That memory was refused, or that the parser gave up on what was printed, tells nothing.
 abbrev pub SameRefusal : UnitRefusal → UnitRefusal → Type 0
 SameRefusal (Validate f) (Validate g) = f ≡ g
 SameRefusal (UnclearName x) (UnclearName y) = x ≡ y
 SameRefusal (Eval r) (Eval q) = r ≡ q
 SameRefusal (Unprintable x) (Unprintable y) = x ≡ y
 SameRefusal OutOfMemory q = ⊤
+SameRefusal (GaveUp g) q = ⊤
 SameRefusal r OutOfMemory = ⊤
+SameRefusal r (GaveUp h) = ⊤
 SameRefusal r q = ⊥
 
 -- a unit has one compiled text
@@ -23,6 +25,15 @@ CompiledOnce = (steps : ℕ) (unit : UnitTree) (one other : List ℕ) → IsComp
 abbrev pub RefusedOnce : Type 0
 RefusedOnce = (steps : ℕ) (unit : UnitTree) (one other : UnitRefusal) → Refuses steps unit one → Refuses steps unit other → SameRefusal one other
 
--- what is compiled is refused for memory alone
+-- memory was refused, or the parser gave up on what was printed
+abbrev pub TellsNothing : UnitRefusal → Type 0
+TellsNothing (Validate f) = ⊥
+TellsNothing (UnclearName x) = ⊥
+TellsNothing (Eval r) = ⊥
+TellsNothing (Unprintable x) = ⊥
+TellsNothing (GaveUp r) = ⊤
+TellsNothing OutOfMemory = ⊤
+
+-- what is compiled is refused so alone
 abbrev pub CompiledOrRefused : Type 0
-CompiledOrRefused = (steps : ℕ) (unit : UnitTree) (text : List ℕ) (refusal : UnitRefusal) → IsCompiled steps unit text → Refuses steps unit refusal → refusal ≡ OutOfMemory
+CompiledOrRefused = (steps : ℕ) (unit : UnitTree) (text : List ℕ) (refusal : UnitRefusal) → IsCompiled steps unit text → Refuses steps unit refusal → TellsNothing refusal

@@ -43,6 +43,7 @@ pub fn print_lowered(
     match print_part(alloc, low) {
         Ok(text) => Ok(text),
         Err(PrintError::Unprintable(name)) => Err(UnitRefusal::Unprintable(name)),
+        Err(PrintError::GaveUp(refusal)) => Err(UnitRefusal::GaveUp(refusal)),
         Err(PrintError::OutOfMemory) => Err(UnitRefusal::OutOfMemory),
     }
 }

@@ -3,6 +3,7 @@
 use std::alloc::AllocError;
 use thiserror::Error as Message;
 use wesl_validate::ValidateFault;
+use wgsl_error::Refusal;
 use wgsl_eval::DeclarationFault;
 use wgsl_items::Text;
 
@@ -22,6 +23,9 @@ pub enum UnitRefusal {
     /// each of its parts; or that of the declaration that holds it, where the node has no name.
     #[error("no text stands for what is compiled")]
     Unprintable(Option<Text>),
+    /// The parser gave up on the text of what is compiled, which is nested deeper than a text may be. This says nothing else of the unit.
+    #[error("{0}")]
+    GaveUp(Refusal),
     /// Memory was refused. This says nothing of the unit.
     #[error("out of memory")]
     OutOfMemory,

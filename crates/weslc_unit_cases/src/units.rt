@@ -69,7 +69,7 @@ impl Tell for PrintError {
     fn tell(&self, alloc: Global) -> Result<String, AllocError> {
         match self {
             PrintError::Unprintable(name) => textless(alloc, name),
-            PrintError::OutOfMemory => Err(AllocError),
+            PrintError::GaveUp(_) | PrintError::OutOfMemory => Err(AllocError),
         }
     }
 }

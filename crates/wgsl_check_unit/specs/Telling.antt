@@ -35,7 +35,7 @@ pub data IsTold : List Decl → Option (List ℕ) → Type 0 where
 -- No text derives the module, and this is told.
 abbrev pub IsRefused : UnitTree → Unprintable → Type 0
 IsRefused u (refusal.Node name) = (IsDerivable u → ⊥) × IsTold u.declarations name
-IsRefused u refusal.OutOfMemory = Unit
+IsRefused u (refusal.GaveUp r) = Unit
 
 abbrev pub Checks : UnitTree → Result Unit Unprintable → Type 0
 Checks u (Ok x) = IsDerivable u

@@ -18,7 +18,7 @@ fn refusal(alloc: Global, unit: &TranslationUnit) -> Unprintable
 {
     match told(alloc, unit.global_declarations.as_slice()) {
         Ok(name) => Unprintable::Node(name),
-        Err(_) => Unprintable::OutOfMemory,
+        Err(refusal) => Unprintable::GaveUp(refusal),
     }
 }
 

@@ -1,6 +1,6 @@
 //! Why a module has no text.
 
-use std::alloc::AllocError;
+use wgsl_error::Refusal;
 use wgsl_items::Text;
 
 /// Why a module has no text.
@@ -9,17 +9,18 @@ pub enum Unprintable {
     /// No text derives the module. The name is that of the first node that no text derives, in the order of the text, though one derives
     /// each of its parts; or that of the declaration that holds it, where the node has no name. `check_unit` tells which nodes have names.
     Node(Option<Text>),
-    /// Memory was refused. This says nothing of the module.
-    OutOfMemory,
+    /// The parser gave up on what was printed: memory was refused, or the module is nested deeper than a text may be. This says nothing else
+    /// of the module.
+    GaveUp(Refusal),
 }
 
-impl From<AllocError> for Unprintable {
+impl From<Refusal> for Unprintable {
     ghost use Rattle.std.specs.Prelude.{◌≡◌};
-    ghost use Rattle.wgsl_check_unit.specs.declared.error.Unprintable.TheVariants.{OutOfMemory};
+    ghost use Rattle.wgsl_check_unit.specs.declared.error.Unprintable.TheVariants.{GaveUp};
 
-    ghost from_gives = { λ _ error. error ≡ OutOfMemory };
+    ghost from_gives = { λ refusal error. error ≡ GaveUp refusal };
 
-    fn from(_error: AllocError) -> Unprintable {
-        Unprintable::OutOfMemory
+    fn from(refusal: Refusal) -> Unprintable {
+        Unprintable::GaveUp(refusal)
     }
 }

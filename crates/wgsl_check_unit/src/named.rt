@@ -7,8 +7,9 @@ ghost use Rattle.wgsl_nodes_in_order.specs.Found as found;
 ghost use Rattle.wgsl_check_unit.specs.Names as names;
 ghost use Rattle.wgsl_check_unit.specs.Telling.{IsNamed};
 
-use std::alloc::{AllocError, Global};
+use std::alloc::Global;
 use wgsl_derivable::is_node_derivable;
+use wgsl_error::Refusal;
 use wgsl_items::Text;
 use wgsl_nodes_in_order::NodeRef;
 use wgsl_statements::Statement;
@@ -49,7 +50,7 @@ fn either<'a>(name: Option<&'a str>, whole: Option<&'a str>) -> Option<&'a str>
 }
 
 /// A copy of a name.
-fn copied(alloc: Global, name: Option<&str>) -> Result<Option<Text>, AllocError>
+fn copied(alloc: Global, name: Option<&str>) -> Result<Option<Text>, Refusal>
     ensures { IfOk result (λ copy. copy ≡ option_copied name.entry) }
 {
     match name {
@@ -63,7 +64,7 @@ pub(crate) fn named(
     alloc: Global,
     nodes: &[NodeRef],
     whole: Option<&str>,
-) -> Result<Option<Text>, AllocError>
+) -> Result<Option<Text>, Refusal>
     ensures { IfOk result (λ name. IsNamed (option_copied whole.entry) (found.nodes nodes.now) name) }
 {
     for node in nodes {

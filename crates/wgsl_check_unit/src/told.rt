@@ -7,9 +7,10 @@ ghost use Rattle.wgsl_check_unit.specs.Names.{decl_name};
 ghost use Rattle.wgsl_check_unit.specs.Telling.{IsTold, IsToldIn};
 
 use crate::named::named;
-use std::alloc::{AllocError, Global};
+use std::alloc::Global;
 use wgsl_declarations::{GlobalDeclaration, GlobalDeclarationNode};
 use wgsl_derivable::is_declaration_derivable;
+use wgsl_error::Refusal;
 use wgsl_items::Text;
 use wgsl_nodes_in_order::find_nodes;
 
@@ -28,7 +29,7 @@ fn name(declaration: &GlobalDeclaration) -> Option<&str>
 }
 
 /// The name of the first node of a declaration that no text derives, else the declaration's.
-fn told_in(alloc: Global, declaration: &GlobalDeclaration) -> Result<Option<Text>, AllocError>
+fn told_in(alloc: Global, declaration: &GlobalDeclaration) -> Result<Option<Text>, Refusal>
     ensures { IfOk result (IsToldIn (declaration_tree declaration.now)) }
 {
     let nodes = find_nodes(alloc, declaration)?;
@@ -39,7 +40,7 @@ fn told_in(alloc: Global, declaration: &GlobalDeclaration) -> Result<Option<Text
 pub(crate) fn told(
     alloc: Global,
     declarations: &[GlobalDeclarationNode],
-) -> Result<Option<Text>, AllocError>
+) -> Result<Option<Text>, Refusal>
     ensures { IfOk result (λ name. IsTold (declarations_tree declarations.now) name) }
 {
     for declaration in declarations {

@@ -1,12 +1,11 @@
 -- What the printed text of a module says of all texts.
-use Rattle.std.proofs.Common.{◌≡◌, refl, sym, ap, ◌∙◌, subst, ℕ, List, [], Bool, false, ◌⊎◌, inl, inr, None, Decides}
+use Rattle.std.proofs.Common.{◌≡◌, refl, sym, ap, ◌∙◌, subst, ℕ, List, [], Bool, false, ◌⊎◌, inl, inr, Some, None, Decides}
 use Rattle.wgsl_declarations.specs.declared.unit.TranslationUnit.{TranslationUnit}
 use Rattle.wgsl_declarations.specs.Tree.{UnitTree}
 use Rattle.wgsl_declarations.specs.View.{unit_tree}
 use Rattle.wgsl_declarations.specs.Print.{unit_text}
-use Rattle.wgsl_error.specs.declared.error.ErrorKind.TheVariants as kind
 use Rattle.wgsl_error.specs.declared.error.Error.{Error}
-use Rattle.wgsl_error.specs.Errors.{out_of_memory}
+use Rattle.wgsl_error.specs.Errors.{refusal_of, IsRefusal}
 use Rattle.wgsl_template_spec.specs.Tokens.{start, nothing}
 use Rattle.wgsl_read_back.specs.Texts.{IsModuleFault, IsBlank, empty_unit}
 use Rattle.wgsl_read_back.proofs.Once.{module_apart}
@@ -34,7 +33,7 @@ by_module text u other b is says test = (
 )
 
 -- by the fault that it has
-pub by_fault : (text : List ℕ) (u : UnitTree) (e : Error) → text ≡ unit_text u → IsModuleFault text e ⊎ (e ≡ out_of_memory) → (e.kind ≡ kind.OutOfMemory → ⊥) → Decides false (IsDerivable u)
+pub by_fault : (text : List ℕ) (u : UnitTree) (e : Error) → text ≡ unit_text u → IsModuleFault text e ⊎ IsRefusal e → refusal_of e ≡ None → Decides false (IsDerivable u)
 by_fault text u e is (inl fault) other = (
   λ wrong. absurd cc,
   λ d.
@@ -42,7 +41,7 @@ by_fault text u e is (inl fault) other = (
       let P : List ℕ → Type 0 = λ z. Says z s.unit in
       absurd (module_apart text s.unit (subst P (sym is) s.says) e fault),
 )
-by_fault text u e is (inr memory) other = absurd (other (ap (λ x. x.kind) memory))
+by_fault text u e is (inr (r, gave_up)) other = let wrong : Some r ≡ None = sym gave_up ∙ other in absurd cc
 
 pub printed_so : (u : UnitTree) (text : List ℕ) → text ≡ unit_text u → IsDerivable u → SaysTree text u
 printed_so u text is d = let P : List ℕ → Type 0 = λ z. SaysTree z u in subst P (sym is) (printed_says u d)

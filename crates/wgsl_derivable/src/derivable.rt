@@ -8,11 +8,12 @@ ghost use Rattle.wgsl_alone.specs.Placed.{holding};
 ghost use Rattle.wgsl_alone.specs.Alone.{alone, at_most_one};
 ghost use Rattle.wgsl_derivable.specs.Derivable.{IsDerivable, IsPrinted};
 
-use std::alloc::{AllocError, Global};
+use std::alloc::Global;
 use wgsl_alone::{NodeRef, with_declaration, with_node};
 use wgsl_declarations::{GlobalDeclaration, TranslationUnit, let_go};
+use wgsl_error::Refusal;
 use wgsl_items::CloneIn;
-use wgsl_read_back::{ErrorKind, parse_str};
+use wgsl_read_back::parse_str;
 use wgsl_voids::remove_voids;
 
 /// Whether another module stands for the same tree. Both lose their empty items.
@@ -30,16 +31,16 @@ fn is_same(unit: &mut TranslationUnit, other: TranslationUnit) -> bool
 }
 
 /// Whether some text derives a module, by its printed text. The module loses its empty items.
-fn is_said(alloc: Global, printed: &str, unit: &mut TranslationUnit) -> Result<bool, AllocError>
+fn is_said(alloc: Global, printed: &str, unit: &mut TranslationUnit) -> Result<bool, Refusal>
     requires { printed.now ≡ unit_text (unit_tree unit.old) }
     ensures said { IfOk result (λ said. Decides said (IsDerivable (unit_tree unit.old))) }
     ensures tree { unit_tree unit.new ≡ unit_tree unit.old }
 {
     match parse_str(alloc, printed) {
         Ok(other) => Ok(is_same(unit, other)),
-        Err(error) => match error.kind {
-            ErrorKind::OutOfMemory => Err(AllocError),
-            _ => Ok(false),
+        Err(error) => match error.refusal() {
+            Some(refusal) => Err(refusal),
+            None => Ok(false),
         },
     }
 }
@@ -47,10 +48,7 @@ fn is_said(alloc: Global, printed: &str, unit: &mut TranslationUnit) -> Result<b
 /// The printed text of a module, where some text derives the module. That is so exactly where the printed text does. The module loses its
 /// empty items.
 #[tactic(auto, using(crate::proofs::Deciding::printed_so))]
-pub fn print_derivable(
-    alloc: Global,
-    unit: &mut TranslationUnit,
-) -> Result<Option<String>, AllocError>
+pub fn print_derivable(alloc: Global, unit: &mut TranslationUnit) -> Result<Option<String>, Refusal>
     ensures printed { IfOk result (IsPrinted (unit_tree unit.old)) }
     ensures tree { unit_tree unit.new ≡ unit_tree unit.old }
 {
@@ -63,7 +61,7 @@ pub fn print_derivable(
 }
 
 /// Whether some text derives a module. The module loses its empty items.
-fn is_derivable_as_it_is(alloc: Global, unit: &mut TranslationUnit) -> Result<bool, AllocError>
+fn is_derivable_as_it_is(alloc: Global, unit: &mut TranslationUnit) -> Result<bool, Refusal>
     ensures { IfOk result (λ derivable. Decides derivable (IsDerivable (unit_tree unit.old))) }
 {
     let printed = unit.to_string(alloc)?;
@@ -71,7 +69,7 @@ fn is_derivable_as_it_is(alloc: Global, unit: &mut TranslationUnit) -> Result<bo
 }
 
 /// Whether some text derives a module, which is dropped.
-fn is_dropped_derivable(alloc: Global, unit: TranslationUnit) -> Result<bool, AllocError>
+fn is_dropped_derivable(alloc: Global, unit: TranslationUnit) -> Result<bool, Refusal>
     ensures { IfOk result (λ derivable. Decides derivable (IsDerivable (unit_tree unit))) }
 {
     let mut unit = unit;
@@ -81,7 +79,7 @@ fn is_dropped_derivable(alloc: Global, unit: TranslationUnit) -> Result<bool, Al
 }
 
 /// Whether some text derives a module.
-pub fn is_derivable(alloc: Global, unit: &TranslationUnit) -> Result<bool, AllocError>
+pub fn is_derivable(alloc: Global, unit: &TranslationUnit) -> Result<bool, Refusal>
     ensures { IfOk result (λ derivable. Decides derivable (IsDerivable (unit_tree unit.now))) }
 {
     is_dropped_derivable(alloc, unit.clone_in(alloc)?)
@@ -91,14 +89,14 @@ pub fn is_derivable(alloc: Global, unit: &TranslationUnit) -> Result<bool, Alloc
 pub fn is_declaration_derivable(
     alloc: Global,
     declaration: &GlobalDeclaration,
-) -> Result<bool, AllocError>
+) -> Result<bool, Refusal>
     ensures { IfOk result (λ derivable. Decides derivable (IsDerivable (at_most_one (declaration_tree declaration.now)))) }
 {
     is_dropped_derivable(alloc, with_declaration(alloc, declaration)?)
 }
 
 /// Whether some text derives the module of a declaration that holds a node alone.
-pub fn is_node_derivable(alloc: Global, node: NodeRef) -> Result<bool, AllocError>
+pub fn is_node_derivable(alloc: Global, node: NodeRef) -> Result<bool, Refusal>
     ensures { IfOk result (λ derivable. Decides derivable (IsDerivable (alone (holding (node_of node.entry))))) }
 {
     is_dropped_derivable(alloc, with_node(alloc, node)?)

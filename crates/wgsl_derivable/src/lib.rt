@@ -4,4 +4,4 @@
 mod derivable;
 
 pub use derivable::{is_declaration_derivable, is_derivable, is_node_derivable, print_derivable};
-pub use wgsl_read_back::{ErrorKind, parse_str};
+pub use wgsl_read_back::parse_str;

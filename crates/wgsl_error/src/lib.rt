@@ -3,4 +3,4 @@
 
 mod error;
 
-pub use error::{Error, ErrorKind};
+pub use error::{Error, ErrorKind, Refusal};

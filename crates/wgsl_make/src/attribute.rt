@@ -4,12 +4,13 @@ ghost use Rattle.std.specs.Prelude.{◌≡◌, IfOk};
 ghost use Rattle.wgsl_make.specs.Attributes as making;
 
 use crate::take::{arguments, list, reserved, word};
-use std::alloc::{AllocError, Global};
+use std::alloc::Global;
 use wgsl_attribute_words::{attribute_of, template_of};
 use wgsl_attributes::{Attribute, CustomAttribute};
+use wgsl_error::Refusal;
 use wgsl_expressions::ExpressionNode;
-use wgsl_items::{Boxed, Items, Text, both};
-use wgsl_parts::take::{end, ended, expressions, ident};
+use wgsl_items::{Boxed, Items, Text};
+use wgsl_parts::take::{both, end, ended, expressions, ident};
 use wgsl_parts::{AttributeLabel, Held, Part, Stack};
 use wgsl_path::{Span, Spanned};
 use wgsl_simple_statements::DeclarationKind;
@@ -19,7 +20,7 @@ fn checked(
     alloc: Global,
     word: Text,
     arguments: Option<Items<ExpressionNode>>,
-) -> Result<Attribute, AllocError>
+) -> Result<Attribute, Refusal>
     ensures { IfOk result (λ made. made ≡ making.checked word arguments) }
 {
     match attribute_of(alloc, word.as_str(), &arguments)? {
@@ -34,13 +35,13 @@ fn checked(
     }
 }
 
-/// What the production of this label makes of its parts. Parts that do not fit are answered as if memory were refused.
+/// What the production of this label makes of its parts. Parts that do not fit are answered as a misfit.
 pub fn make_attribute(
     alloc: Global,
     label: AttributeLabel,
     span: Span,
     parts: &mut Stack<Held>,
-) -> Result<Part, AllocError>
+) -> Result<Part, Refusal>
     ensures { IfOk result (λ part. part ≡ making.make_attribute label span parts.old) }
 {
     match label {

@@ -4,14 +4,15 @@ ghost use Rattle.std.specs.Prelude.{◌≡◌, IfOk};
 ghost use Rattle.wgsl_make.specs.Statements as making;
 
 use crate::take::{break_if, selectors, statements};
-use std::alloc::{AllocError, Global};
-use wgsl_items::{Boxed, Items, both, three};
-use wgsl_parts::take::{attributes, block, end, ended, expression};
+use std::alloc::Global;
+use wgsl_error::Refusal;
+use wgsl_items::{Boxed, Items};
+use wgsl_parts::take::{attributes, block, both, end, ended, expression, three};
 use wgsl_parts::{ClauseLabel, Held, Part, Stack};
 use wgsl_simple_statements::{BreakIfStatement, CaseSelector};
 use wgsl_statements::{CompoundStatement, ContinuingStatement, ElseIfClause, SwitchClause};
 
-fn continuing_block(alloc: Global, parts: &mut Stack<Held>) -> Result<Part, AllocError>
+fn continuing_block(alloc: Global, parts: &mut Stack<Held>) -> Result<Part, Refusal>
     ensures { IfOk result (λ part. part ≡ making.continuing_block parts.old) }
 {
     let attributes = attributes(alloc, parts);
@@ -34,7 +35,7 @@ fn make_switch_clause(
     alloc: Global,
     label: ClauseLabel,
     parts: &mut Stack<Held>,
-) -> Result<Part, AllocError>
+) -> Result<Part, Refusal>
     ensures { IfOk result (λ part. part ≡ making.make_clause label parts.old) }
 {
     match label {
@@ -58,16 +59,16 @@ fn make_switch_clause(
             };
             Ok(Part::Clause(Boxed::new(alloc, clause)?))
         }
-        _ => Err(AllocError),
+        _ => Err(Refusal::Misfit),
     }
 }
 
-/// What the production of this label makes of its parts. Parts that do not fit are answered as if memory were refused.
+/// What the production of this label makes of its parts. Parts that do not fit are answered as a misfit.
 pub fn make_clause(
     alloc: Global,
     label: ClauseLabel,
     parts: &mut Stack<Held>,
-) -> Result<Part, AllocError>
+) -> Result<Part, Refusal>
     ensures { IfOk result (λ part. part ≡ making.make_clause label parts.old) }
 {
     match label {

@@ -4,13 +4,16 @@ ghost use Rattle.std.specs.Prelude.{◌≡◌, IfOk};
 ghost use Rattle.wgsl_make.specs.Declarations as making;
 
 use crate::take::{directives, globals, imports, members, parameters, returned};
-use std::alloc::{AllocError, Global};
+use std::alloc::Global;
 use wgsl_attributes::Attributes;
 use wgsl_declarations::{
     FormalParameter, Function, GlobalDeclaration, Struct, StructMember, TranslationUnit, TypeAlias,
 };
-use wgsl_items::{Boxed, Items, both, three};
-use wgsl_parts::take::{assertion, attributes, block, declaration, end, ended, ident, ty};
+use wgsl_error::Refusal;
+use wgsl_items::{Boxed, Items};
+use wgsl_parts::take::{
+    assertion, attributes, block, both, declaration, end, ended, ident, three, ty,
+};
 use wgsl_parts::{DeclarationLabel, FunctionResult, Held, Part, Stack};
 use wgsl_path::{Span, Spanned};
 use wgsl_simple_statements::Declaration;
@@ -34,7 +37,7 @@ fn with_attributes(attributes: Attributes, declaration: Declaration) -> Declarat
     }
 }
 
-fn function(alloc: Global, span: Span, parts: &mut Stack<Held>) -> Result<Part, AllocError>
+fn function(alloc: Global, span: Span, parts: &mut Stack<Held>) -> Result<Part, Refusal>
     ensures { IfOk result (λ part. part ≡ making.function span parts.old) }
 {
     let attributes = attributes(alloc, parts);
@@ -58,7 +61,7 @@ fn function(alloc: Global, span: Span, parts: &mut Stack<Held>) -> Result<Part, 
     Ok(Part::Global(Spanned::new(alloc, function, span)?))
 }
 
-fn whole_module(alloc: Global, parts: &mut Stack<Held>) -> Result<Part, AllocError>
+fn whole_module(alloc: Global, parts: &mut Stack<Held>) -> Result<Part, Refusal>
     ensures { IfOk result (λ part. part ≡ making.whole_module parts.old) }
 {
     let imports = imports(alloc, parts);
@@ -82,7 +85,7 @@ fn make_inner(
     label: DeclarationLabel,
     span: Span,
     parts: &mut Stack<Held>,
-) -> Result<Part, AllocError>
+) -> Result<Part, Refusal>
     ensures { IfOk result (λ part. part ≡ making.make_declaration label span parts.old) }
 {
     match label {
@@ -128,17 +131,17 @@ fn make_inner(
             let result = FunctionResult { attributes, ty };
             Ok(Part::Result(Boxed::new(alloc, result)?))
         }
-        _ => Err(AllocError),
+        _ => Err(Refusal::Misfit),
     }
 }
 
-/// What the production of this label makes of its parts. Parts that do not fit are answered as if memory were refused.
+/// What the production of this label makes of its parts. Parts that do not fit are answered as a misfit.
 pub fn make_declaration(
     alloc: Global,
     label: DeclarationLabel,
     span: Span,
     parts: &mut Stack<Held>,
-) -> Result<Part, AllocError>
+) -> Result<Part, Refusal>
     ensures { IfOk result (λ part. part ≡ making.make_declaration label span parts.old) }
 {
     match label {

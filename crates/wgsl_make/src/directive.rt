@@ -4,12 +4,13 @@ ghost use Rattle.std.specs.Prelude.{◌≡◌, IfOk};
 ghost use Rattle.wgsl_make.specs.Imports as making;
 
 use crate::take::{text, texts};
-use std::alloc::{AllocError, Global};
+use std::alloc::Global;
 use wgsl_choices::severity;
 use wgsl_enumerations::DiagnosticSeverity;
+use wgsl_error::Refusal;
 use wgsl_imports::{DiagnosticDirective, EnableDirective, GlobalDirective, RequiresDirective};
-use wgsl_items::{Boxed, Items, both};
-use wgsl_parts::take::{ended, ident};
+use wgsl_items::{Boxed, Items};
+use wgsl_parts::take::{both, ended, ident};
 use wgsl_parts::{DirectiveLabel, Held, Part, Stack};
 
 fn severity_or_off(word: &str) -> DiagnosticSeverity
@@ -21,12 +22,12 @@ fn severity_or_off(word: &str) -> DiagnosticSeverity
     }
 }
 
-/// What the production of this label makes of its parts. Parts that do not fit are answered as if memory were refused.
+/// What the production of this label makes of its parts. Parts that do not fit are answered as a misfit.
 pub fn make_directive(
     alloc: Global,
     label: DirectiveLabel,
     parts: &mut Stack<Held>,
-) -> Result<Part, AllocError>
+) -> Result<Part, Refusal>
     ensures { IfOk result (λ part. part ≡ making.make_directive label parts.old) }
 {
     match label {

@@ -4,19 +4,16 @@ ghost use Rattle.std.specs.Prelude.{◌≡◌, IfOk};
 ghost use Rattle.wgsl_make.specs.Imports as making;
 
 use crate::take::{content, names, path, source, texts, trees};
-use std::alloc::{AllocError, Global};
+use std::alloc::Global;
+use wgsl_error::Refusal;
 use wgsl_imports::{Import, ImportContent, ImportItem, ImportStatement};
-use wgsl_items::{Boxed, Items, both, three};
-use wgsl_parts::take::{attributes, end, ended, ident, ups};
+use wgsl_items::{Boxed, Items};
+use wgsl_parts::take::{attributes, both, end, ended, ident, three, ups};
 use wgsl_parts::{Held, ImportLabel, Part, Stack};
 use wgsl_path::{ModulePath, PathOrigin};
 
 /// What the productions of what is imported, and of imports, make of their parts.
-fn make_content(
-    alloc: Global,
-    label: ImportLabel,
-    parts: &mut Stack<Held>,
-) -> Result<Part, AllocError>
+fn make_content(alloc: Global, label: ImportLabel, parts: &mut Stack<Held>) -> Result<Part, Refusal>
     ensures { IfOk result (λ part. part ≡ making.make_import label parts.old) }
 {
     match label {
@@ -58,16 +55,16 @@ fn make_content(
             };
             Ok(Part::Import(Boxed::new(alloc, import)?))
         }
-        _ => Err(AllocError),
+        _ => Err(Refusal::Misfit),
     }
 }
 
-/// What the production of this label makes of its parts. Parts that do not fit are answered as if memory were refused.
+/// What the production of this label makes of its parts. Parts that do not fit are answered as a misfit.
 pub fn make_import(
     alloc: Global,
     label: ImportLabel,
     parts: &mut Stack<Held>,
-) -> Result<Part, AllocError>
+) -> Result<Part, Refusal>
     ensures { IfOk result (λ part. part ≡ making.make_import label parts.old) }
 {
     match label {

@@ -9,7 +9,8 @@ use crate::declaration::make_declaration;
 use crate::directive::make_directive;
 use crate::import::make_import;
 use crate::statement::make_statement;
-use std::alloc::{AllocError, Global};
+use std::alloc::Global;
+use wgsl_error::Refusal;
 use wgsl_parts::{
     Held, Label, Part, Stack, make_expression, make_first, make_more, make_name, make_plain,
     make_value, pass,
@@ -17,13 +18,13 @@ use wgsl_parts::{
 use wgsl_path::Span;
 
 /// What the production of this label makes of its parts, where the phrase has this extent. It takes what it needs off the parts. Parts
-/// that do not fit, and more `super` than a `usize` counts, are answered as if memory were refused.
+/// that do not fit, and more `super` than a `usize` counts, are answered as a misfit.
 pub fn make(
     alloc: Global,
     label: Label,
     span: Span,
     parts: &mut Stack<Held>,
-) -> Result<Part, AllocError>
+) -> Result<Part, Refusal>
     ensures { IfOk result (λ part. part ≡ making.make label span parts.old) }
 {
     match label {

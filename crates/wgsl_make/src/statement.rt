@@ -4,9 +4,12 @@ ghost use Rattle.std.specs.Prelude.{◌≡◌, IfOk};
 ghost use Rattle.wgsl_make.specs.Statements as making;
 
 use crate::take::{clauses, continuing, else_ifs, otherwise, plain, statement, statements};
-use std::alloc::{AllocError, Global};
-use wgsl_items::{Boxed, both, three};
-use wgsl_parts::take::{attributes, block, end, ended, expression, optional_expression};
+use std::alloc::Global;
+use wgsl_error::Refusal;
+use wgsl_items::Boxed;
+use wgsl_parts::take::{
+    attributes, block, both, end, ended, expression, optional_expression, three,
+};
 use wgsl_parts::{Held, Part, Stack, StatementLabel};
 use wgsl_path::{Span, Spanned};
 use wgsl_statements::{
@@ -20,7 +23,7 @@ fn make_branching(
     label: StatementLabel,
     span: Span,
     parts: &mut Stack<Held>,
-) -> Result<Part, AllocError>
+) -> Result<Part, Refusal>
     ensures { IfOk result (λ part. part ≡ making.make_statement label span parts.old) }
 {
     match label {
@@ -57,7 +60,7 @@ fn make_branching(
             let statement = Statement::Switch(Boxed::new(alloc, statement)?);
             Ok(Part::Statement(Spanned::new(alloc, statement, span)?))
         }
-        _ => Err(AllocError),
+        _ => Err(Refusal::Misfit),
     }
 }
 
@@ -67,7 +70,7 @@ fn make_loop(
     label: StatementLabel,
     span: Span,
     parts: &mut Stack<Held>,
-) -> Result<Part, AllocError>
+) -> Result<Part, Refusal>
     ensures { IfOk result (λ part. part ≡ making.make_statement label span parts.old) }
 {
     match label {
@@ -107,17 +110,17 @@ fn make_loop(
             let statement = Statement::For(Boxed::new(alloc, statement)?);
             Ok(Part::Statement(Spanned::new(alloc, statement, span)?))
         }
-        _ => Err(AllocError),
+        _ => Err(Refusal::Misfit),
     }
 }
 
-/// What the production of this label makes of its parts. Parts that do not fit are answered as if memory were refused.
+/// What the production of this label makes of its parts. Parts that do not fit are answered as a misfit.
 pub fn make_statement(
     alloc: Global,
     label: StatementLabel,
     span: Span,
     parts: &mut Stack<Held>,
-) -> Result<Part, AllocError>
+) -> Result<Part, Refusal>
     ensures { IfOk result (λ part. part ≡ making.make_statement label span parts.old) }
 {
     match label {

@@ -4,9 +4,10 @@ ghost use Rattle.std.specs.Prelude.{◌≡◌, ◌∷◌, IfOk};
 ghost use Rattle.wgsl_parts.specs.Reading.{TakesAs};
 ghost use Rattle.wgsl_make.specs.Reading.{arguments_in, statement_in, else_in, continuing_in, break_if_in, statements_of, else_ifs_of, path_in, names_of, parameters_of, imports_of, directives_of, globals_of, return_attributes_of, return_type_in};
 
-use std::alloc::{AllocError, Global};
+use std::alloc::Global;
 use wgsl_attributes::Attributes;
 use wgsl_declarations::{FormalParameter, GlobalDeclarationNode, StructMemberNode};
+use wgsl_error::Refusal;
 use wgsl_expressions::{ExpressionNode, TypeExpression};
 use wgsl_imports::{GlobalDirective, Import, ImportContent, ImportStatement};
 use wgsl_items::{Boxed, Items, Text};
@@ -18,7 +19,7 @@ use wgsl_statements::{
     ContinuingStatement, ElseClause, ElseIfClause, Statement, StatementNode, SwitchClause,
 };
 
-pub(crate) fn word(parts: &mut Stack<Held>) -> Result<Text, AllocError>
+pub(crate) fn word(parts: &mut Stack<Held>) -> Result<Text, Refusal>
     ensures { IfOk result (λ x. parts.old ≡ Part.Word x ∷ parts.new) }
 {
     match next(parts) {
@@ -27,7 +28,7 @@ pub(crate) fn word(parts: &mut Stack<Held>) -> Result<Text, AllocError>
     }
 }
 
-pub(crate) fn reserved(parts: &mut Stack<Held>) -> Result<Text, AllocError>
+pub(crate) fn reserved(parts: &mut Stack<Held>) -> Result<Text, Refusal>
     ensures { IfOk result (λ x. parts.old ≡ Part.Reserved x ∷ parts.new) }
 {
     match next(parts) {
@@ -36,7 +37,7 @@ pub(crate) fn reserved(parts: &mut Stack<Held>) -> Result<Text, AllocError>
     }
 }
 
-pub(crate) fn list(parts: &mut Stack<Held>) -> Result<Items<ExpressionNode>, AllocError>
+pub(crate) fn list(parts: &mut Stack<Held>) -> Result<Items<ExpressionNode>, Refusal>
     ensures { IfOk result (λ x. parts.old ≡ Part.Expressions x ∷ parts.new) }
 {
     match next(parts) {
@@ -46,9 +47,7 @@ pub(crate) fn list(parts: &mut Stack<Held>) -> Result<Items<ExpressionNode>, All
 }
 
 /// It may be absent.
-pub(crate) fn arguments(
-    parts: &mut Stack<Held>,
-) -> Result<Option<Items<ExpressionNode>>, AllocError>
+pub(crate) fn arguments(parts: &mut Stack<Held>) -> Result<Option<Items<ExpressionNode>>, Refusal>
     ensures { IfOk result (λ x. TakesAs arguments_in parts.old x parts.new) }
 {
     match next(parts) {
@@ -58,7 +57,7 @@ pub(crate) fn arguments(
     }
 }
 
-pub(crate) fn plain(parts: &mut Stack<Held>) -> Result<Boxed<Statement>, AllocError>
+pub(crate) fn plain(parts: &mut Stack<Held>) -> Result<Boxed<Statement>, Refusal>
     ensures { IfOk result (λ x. parts.old ≡ Part.Plain x ∷ parts.new) }
 {
     match next(parts) {
@@ -67,7 +66,7 @@ pub(crate) fn plain(parts: &mut Stack<Held>) -> Result<Boxed<Statement>, AllocEr
     }
 }
 
-pub(crate) fn clauses(parts: &mut Stack<Held>) -> Result<Items<SwitchClause>, AllocError>
+pub(crate) fn clauses(parts: &mut Stack<Held>) -> Result<Items<SwitchClause>, Refusal>
     ensures { IfOk result (λ x. parts.old ≡ Part.Clauses x ∷ parts.new) }
 {
     match next(parts) {
@@ -76,7 +75,7 @@ pub(crate) fn clauses(parts: &mut Stack<Held>) -> Result<Items<SwitchClause>, Al
     }
 }
 
-pub(crate) fn selectors(parts: &mut Stack<Held>) -> Result<Items<CaseSelector>, AllocError>
+pub(crate) fn selectors(parts: &mut Stack<Held>) -> Result<Items<CaseSelector>, Refusal>
     ensures { IfOk result (λ x. parts.old ≡ Part.Selectors x ∷ parts.new) }
 {
     match next(parts) {
@@ -86,7 +85,7 @@ pub(crate) fn selectors(parts: &mut Stack<Held>) -> Result<Items<CaseSelector>, 
 }
 
 /// It may be absent.
-pub(crate) fn statement(parts: &mut Stack<Held>) -> Result<Option<StatementNode>, AllocError>
+pub(crate) fn statement(parts: &mut Stack<Held>) -> Result<Option<StatementNode>, Refusal>
     ensures { IfOk result (λ x. TakesAs statement_in parts.old x parts.new) }
 {
     match next(parts) {
@@ -97,7 +96,7 @@ pub(crate) fn statement(parts: &mut Stack<Held>) -> Result<Option<StatementNode>
 }
 
 /// It may be absent.
-pub(crate) fn otherwise(parts: &mut Stack<Held>) -> Result<Option<ElseClause>, AllocError>
+pub(crate) fn otherwise(parts: &mut Stack<Held>) -> Result<Option<ElseClause>, Refusal>
     ensures { IfOk result (λ x. TakesAs else_in parts.old x parts.new) }
 {
     match next(parts) {
@@ -108,7 +107,7 @@ pub(crate) fn otherwise(parts: &mut Stack<Held>) -> Result<Option<ElseClause>, A
 }
 
 /// It may be absent.
-pub(crate) fn continuing(parts: &mut Stack<Held>) -> Result<Option<ContinuingStatement>, AllocError>
+pub(crate) fn continuing(parts: &mut Stack<Held>) -> Result<Option<ContinuingStatement>, Refusal>
     ensures { IfOk result (λ x. TakesAs continuing_in parts.old x parts.new) }
 {
     match next(parts) {
@@ -119,7 +118,7 @@ pub(crate) fn continuing(parts: &mut Stack<Held>) -> Result<Option<ContinuingSta
 }
 
 /// It may be absent.
-pub(crate) fn break_if(parts: &mut Stack<Held>) -> Result<Option<BreakIfStatement>, AllocError>
+pub(crate) fn break_if(parts: &mut Stack<Held>) -> Result<Option<BreakIfStatement>, Refusal>
     ensures { IfOk result (λ x. TakesAs break_if_in parts.old x parts.new) }
 {
     match next(parts) {
@@ -133,7 +132,7 @@ pub(crate) fn break_if(parts: &mut Stack<Held>) -> Result<Option<BreakIfStatemen
 pub(crate) fn statements(
     alloc: Global,
     parts: &mut Stack<Held>,
-) -> Result<Items<StatementNode>, AllocError>
+) -> Result<Items<StatementNode>, Refusal>
     ensures { IfOk result (λ xs. TakesAs statements_of parts.old xs parts.new) }
 {
     match next(parts) {
@@ -147,7 +146,7 @@ pub(crate) fn statements(
 pub(crate) fn else_ifs(
     alloc: Global,
     parts: &mut Stack<Held>,
-) -> Result<Items<ElseIfClause>, AllocError>
+) -> Result<Items<ElseIfClause>, Refusal>
     ensures { IfOk result (λ xs. TakesAs else_ifs_of parts.old xs parts.new) }
 {
     match next(parts) {
@@ -157,7 +156,7 @@ pub(crate) fn else_ifs(
     }
 }
 
-pub(crate) fn source(parts: &mut Stack<Held>) -> Result<ModulePath, AllocError>
+pub(crate) fn source(parts: &mut Stack<Held>) -> Result<ModulePath, Refusal>
     ensures { IfOk result (λ x. parts.old ≡ Part.ModulePath x ∷ parts.new) }
 {
     match next(parts) {
@@ -166,7 +165,7 @@ pub(crate) fn source(parts: &mut Stack<Held>) -> Result<ModulePath, AllocError>
     }
 }
 
-pub(crate) fn text(parts: &mut Stack<Held>) -> Result<Text, AllocError>
+pub(crate) fn text(parts: &mut Stack<Held>) -> Result<Text, Refusal>
     ensures { IfOk result (λ x. parts.old ≡ Part.Text x ∷ parts.new) }
 {
     match next(parts) {
@@ -175,7 +174,7 @@ pub(crate) fn text(parts: &mut Stack<Held>) -> Result<Text, AllocError>
     }
 }
 
-pub(crate) fn texts(parts: &mut Stack<Held>) -> Result<Items<Text>, AllocError>
+pub(crate) fn texts(parts: &mut Stack<Held>) -> Result<Items<Text>, Refusal>
     ensures { IfOk result (λ x. parts.old ≡ Part.Texts x ∷ parts.new) }
 {
     match next(parts) {
@@ -184,7 +183,7 @@ pub(crate) fn texts(parts: &mut Stack<Held>) -> Result<Items<Text>, AllocError>
     }
 }
 
-pub(crate) fn content(parts: &mut Stack<Held>) -> Result<ImportContent, AllocError>
+pub(crate) fn content(parts: &mut Stack<Held>) -> Result<ImportContent, Refusal>
     ensures { IfOk result (λ x. parts.old ≡ Part.Content x ∷ parts.new) }
 {
     match next(parts) {
@@ -193,7 +192,7 @@ pub(crate) fn content(parts: &mut Stack<Held>) -> Result<ImportContent, AllocErr
     }
 }
 
-pub(crate) fn trees(parts: &mut Stack<Held>) -> Result<Items<Import>, AllocError>
+pub(crate) fn trees(parts: &mut Stack<Held>) -> Result<Items<Import>, Refusal>
     ensures { IfOk result (λ x. parts.old ≡ Part.Trees x ∷ parts.new) }
 {
     match next(parts) {
@@ -206,7 +205,7 @@ pub(crate) fn trees(parts: &mut Stack<Held>) -> Result<Items<Import>, AllocError
 pub(crate) fn path(
     alloc: Global,
     parts: &mut Stack<Held>,
-) -> Result<Option<Boxed<ModulePath>>, AllocError>
+) -> Result<Option<Boxed<ModulePath>>, Refusal>
     ensures { IfOk result (λ x. TakesAs path_in parts.old x parts.new) }
 {
     match next(parts) {
@@ -217,7 +216,7 @@ pub(crate) fn path(
 }
 
 /// It may be absent.
-pub(crate) fn names(alloc: Global, parts: &mut Stack<Held>) -> Result<Items<Text>, AllocError>
+pub(crate) fn names(alloc: Global, parts: &mut Stack<Held>) -> Result<Items<Text>, Refusal>
     ensures { IfOk result (λ xs. TakesAs names_of parts.old xs parts.new) }
 {
     match next(parts) {
@@ -227,7 +226,7 @@ pub(crate) fn names(alloc: Global, parts: &mut Stack<Held>) -> Result<Items<Text
     }
 }
 
-pub(crate) fn members(parts: &mut Stack<Held>) -> Result<Items<StructMemberNode>, AllocError>
+pub(crate) fn members(parts: &mut Stack<Held>) -> Result<Items<StructMemberNode>, Refusal>
     ensures { IfOk result (λ x. parts.old ≡ Part.Members x ∷ parts.new) }
 {
     match next(parts) {
@@ -240,7 +239,7 @@ pub(crate) fn members(parts: &mut Stack<Held>) -> Result<Items<StructMemberNode>
 pub(crate) fn parameters(
     alloc: Global,
     parts: &mut Stack<Held>,
-) -> Result<Items<FormalParameter>, AllocError>
+) -> Result<Items<FormalParameter>, Refusal>
     ensures { IfOk result (λ xs. TakesAs parameters_of parts.old xs parts.new) }
 {
     match next(parts) {
@@ -254,7 +253,7 @@ pub(crate) fn parameters(
 pub(crate) fn imports(
     alloc: Global,
     parts: &mut Stack<Held>,
-) -> Result<Items<ImportStatement>, AllocError>
+) -> Result<Items<ImportStatement>, Refusal>
     ensures { IfOk result (λ xs. TakesAs imports_of parts.old xs parts.new) }
 {
     match next(parts) {
@@ -268,7 +267,7 @@ pub(crate) fn imports(
 pub(crate) fn directives(
     alloc: Global,
     parts: &mut Stack<Held>,
-) -> Result<Items<GlobalDirective>, AllocError>
+) -> Result<Items<GlobalDirective>, Refusal>
     ensures { IfOk result (λ xs. TakesAs directives_of parts.old xs parts.new) }
 {
     match next(parts) {
@@ -282,7 +281,7 @@ pub(crate) fn directives(
 pub(crate) fn globals(
     alloc: Global,
     parts: &mut Stack<Held>,
-) -> Result<Items<GlobalDeclarationNode>, AllocError>
+) -> Result<Items<GlobalDeclarationNode>, Refusal>
     ensures { IfOk result (λ xs. TakesAs globals_of parts.old xs parts.new) }
 {
     match next(parts) {
@@ -296,7 +295,7 @@ pub(crate) fn globals(
 pub(crate) fn returned(
     alloc: Global,
     parts: &mut Stack<Held>,
-) -> Result<(Attributes, Option<TypeExpression>), AllocError>
+) -> Result<(Attributes, Option<TypeExpression>), Refusal>
     ensures { IfOk result (λ found. (part : _) × (parts.old ≡ part ∷ parts.new) × (found.0 ≡ return_attributes_of part) × (found.1 ≡ return_type_in part)) }
 {
     match next(parts) {

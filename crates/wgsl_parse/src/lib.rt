@@ -8,6 +8,6 @@ pub mod parser;
 pub mod span;
 pub mod syntax;
 
-pub use error::{Error, ErrorKind, ErrorWithSource, Unprintable, WithSource};
+pub use error::{Error, ErrorKind, ErrorWithSource, Refusal, Unprintable, WithSource};
 pub use lexer::{Lexer, TokenIterator};
 pub use parser::{FromText, check_unit, parse_str};

@@ -1,19 +1,27 @@
 -- A text that is no module has one fault, and a module has none.
-use Rattle.std.proofs.Common.{◌≡◌, ◌∙◌, sym, ap, subst, ℕ, List, length, inl, inr, Ok, Err}
+use Rattle.std.proofs.Common.{◌≡◌, ◌∙◌, refl, sym, ap, subst, ℕ, false, Some, None, List, length, inl, inr, Ok, Err}
 use Rattle.wgsl_template_spec.proofs.Once.{lexed_once}
 use Rattle.wgsl_declarations.specs.declared.unit.TranslationUnit.{TranslationUnit}
 use Rattle.wgsl_parts.specs.declared.part.Part.TheVariants as part
 use Rattle.wgsl_reading.specs.declared.driver.Start.TheVariants.{Module}
-use Rattle.wgsl_reading.specs.declared.answer.Unread.TheVariants.{OutOfMemory}
-use Rattle.wgsl_reading.specs.Readings.{Reads}
+use Rattle.wgsl_reading.specs.declared.answer.Unread.{Unread}
+use Rattle.wgsl_reading.specs.declared.answer.Unread.TheVariants.{Refused, Failed, Unexpected}
+use Rattle.wgsl_reading.specs.Readings.{Reads, is_refused}
 use Rattle.wgsl_reading.proofs.Once.{unread_once, read_apart}
 use Rattle.wgsl_error.specs.declared.error.Error.{Error}
+use Rattle.wgsl_error.specs.Errors.{refusal_of}
 use Rattle.wgsl_parser.specs.Errors.{error_of}
+use Rattle.wgsl_parser.proofs.Told.{refused_told}
 use Rattle.wgsl_parser.specs.Texts.{IsParsed, IsModuleFault, ParsesModule}
 
--- A fault has a reason in the text.
-reason_told : (text : List ℕ) (e : Error) (h : IsModuleFault text e) → h.fault.reason ≡ OutOfMemory → ⊥
-reason_told text e h r = h.told (ap (λ x. x.kind) (h.fault.same ∙ ap (error_of (length text)) r))
+-- A fault has a reason in the text: the parser did not give up.
+told_so : (n : ℕ) (r : Unread) → refusal_of (error_of n r) ≡ None → is_refused r ≡ false
+told_so n (Refused r) told = let wrong : Some r ≡ None = sym (refused_told r) ∙ told in absurd cc
+told_so n (Failed f) told = refl
+told_so n (Unexpected next) told = refl
+
+reason_told : (text : List ℕ) (e : Error) (h : IsModuleFault text e) → is_refused h.fault.reason ≡ false
+reason_told text e h = told_so (length text) h.fault.reason (sym (ap refusal_of h.fault.same) ∙ h.told)
 
 pub module_fault_once : (text : List ℕ) (e f : Error) → IsModuleFault text e → IsModuleFault text f → f ≡ e
 module_fault_once text e f h k =

@@ -1,5 +1,6 @@
--- Faults are told of texts that are not blank, and no fault is that memory was refused.
+-- Faults are told of texts that are not blank, and no fault is that the parser gave up.
 use Rattle.std.proofs.Common.{◌≡◌, ◌∙◌, refl, sym, ap, subst, ℕ, List, [], length, inl, inr, Some, None, Result, Ok, Err}
+use Rattle.wgsl_path.specs.declared.span.Span.{Span}
 use Rattle.wgsl_token.specs.declared.token.Fixed.{Fixed}
 use Rattle.wgsl_token.specs.declared.token.Fixed.TheVariants as f
 use Rattle.wgsl_token.specs.declared.token.Token.TheVariants as t
@@ -13,42 +14,49 @@ use Rattle.wgsl_reading.specs.declared.phrase.Check.{Check}
 use Rattle.wgsl_reading.specs.declared.phrase.Check.TheVariants as check
 use Rattle.wgsl_reading.specs.declared.driver.Start.TheVariants.{Module}
 use Rattle.wgsl_reading.specs.declared.answer.Unread.{Unread}
-use Rattle.wgsl_reading.specs.declared.answer.Unread.TheVariants.{OutOfMemory, Failed, Unexpected}
+use Rattle.wgsl_reading.specs.declared.answer.Unread.TheVariants.{Refused, Failed, Unexpected}
 use Rattle.wgsl_reading.specs.Readings.{Reads}
-use Rattle.wgsl_error.specs.declared.error.ErrorKind.TheVariants as kind
+use Rattle.wgsl_error.specs.declared.error.Refusal.{Refusal}
+use Rattle.wgsl_error.specs.declared.error.Refusal.TheVariants as gave_up
+use Rattle.wgsl_error.specs.Errors.{refused, refusal_by, refusal_of}
 use Rattle.wgsl_error.specs.declared.error.Error.{Error}
 use Rattle.wgsl_parser.specs.Errors.{kind_of_check, kind_of_fixed, kind_of_token, error_of}
 use Rattle.wgsl_parser.specs.Texts.{ParsesTokens, ParsesModule, TellsModule}
 
-check_told : (c : Check) → kind_of_check c ≡ kind.OutOfMemory → ⊥
-check_told check.Attribute h = cc
-check_told check.DiagnosticSeverity h = cc
-check_told check.VarTemplate h = cc
+pub refused_told : (r : Refusal) → refusal_of (refused r) ≡ Some r
+refused_told gave_up.OutOfMemory = refl
+refused_told (gave_up.TooDeep span) = refl
+refused_told gave_up.Misfit = refl
+refused_told gave_up.TooManySteps = refl
 
-fixed_told : (k : Fixed) → kind_of_fixed k ≡ kind.OutOfMemory → ⊥
-fixed_told f.Import h = cc
-fixed_told f.Package h = cc
-fixed_told f.Super h = cc
-fixed_told f.As h = cc
-fixed_told _ h = cc
+check_told : (c : Check) (span : Span) → refusal_by (kind_of_check c) span ≡ None
+check_told check.Attribute span = refl
+check_told check.DiagnosticSeverity span = refl
+check_told check.VarTemplate span = refl
 
-token_told : (k : TemplateToken) → kind_of_token k ≡ kind.OutOfMemory → ⊥
-token_told (Plain t.Invalid) h = cc
-token_told (Plain (t.Reserved word)) h = cc
-token_told (Plain (t.Fixed k)) h = fixed_told k h
-token_told _ h = cc
+fixed_told : (k : Fixed) (span : Span) → refusal_by (kind_of_fixed k) span ≡ None
+fixed_told f.Import span = refl
+fixed_told f.Package span = refl
+fixed_told f.Super span = refl
+fixed_told f.As span = refl
+fixed_told _ span = refl
 
-error_told : (n : ℕ) (r : Unread) → (r ≡ OutOfMemory → ⊥) → (error_of n r).kind ≡ kind.OutOfMemory → ⊥
-error_told n OutOfMemory told h = told refl
-error_told n (Failed f) told h = check_told f.check h
-error_told n (Unexpected None) told h = cc
-error_told n (Unexpected (Some k)) told h = token_told k.token h
+token_told : (k : TemplateToken) (span : Span) → refusal_by (kind_of_token k) span ≡ None
+token_told (Plain t.Invalid) span = refl
+token_told (Plain (t.Reserved word)) span = refl
+token_told (Plain (t.Fixed k)) span = fixed_told k span
+token_told _ span = refl
 
--- a reason by which tokens were not read
+-- ---- a reason by which tokens were not read
+
+by_kind : (n : ℕ) (tokens : List SpannedTemplateToken) (e : Error) (r : Unread) → (tokens ≡ [] → ⊥) → Reads Module tokens (Err r) → e ≡ error_of n r → refusal_of (error_of n r) ≡ None → TellsModule n tokens (Err e)
+by_kind n tokens e r some h same told = inl (record { some = some; reason = r; unread = h; same = same; told = ap refusal_of same ∙ told })
+
 by_reason : (n : ℕ) (tokens : List SpannedTemplateToken) (e : Error) (r : Unread) → (tokens ≡ [] → ⊥) → Reads Module tokens (Err r) → e ≡ error_of n r → TellsModule n tokens (Err e)
-by_reason n tokens e OutOfMemory some h same = inr same
-by_reason n tokens e (Failed f) some h same = inl (record { some = some; reason = Failed f; unread = h; same = same; told = λ k. error_told n (Failed f) (λ m. absurd cc) (ap (λ x. x.kind) (sym same) ∙ k) })
-by_reason n tokens e (Unexpected next) some h same = inl (record { some = some; reason = Unexpected next; unread = h; same = same; told = λ k. error_told n (Unexpected next) (λ m. absurd cc) (ap (λ x. x.kind) (sym same) ∙ k) })
+by_reason n tokens e (Refused r) some h same = inr (r, ap refusal_of same ∙ refused_told r)
+by_reason n tokens e (Failed f) some h same = by_kind n tokens e (Failed f) some h same (check_told f.check f.span)
+by_reason n tokens e (Unexpected None) some h same = by_kind n tokens e (Unexpected None) some h same refl
+by_reason n tokens e (Unexpected (Some k)) some h same = by_kind n tokens e (Unexpected (Some k)) some h same (token_told k.token k.span)
 
 pub fault_said : (n : ℕ) (tokens : List SpannedTemplateToken) (e : Error) → (tokens ≡ [] → ⊥) → ParsesTokens Module n tokens (Err e) → TellsModule n tokens (Err e)
 fault_said n tokens e some h = by_reason n tokens e h.0 some h.1 h.2

@@ -9,11 +9,11 @@ use Rattle.wgsl_template_spec.specs.declared.token.SpannedTemplateToken.{Spanned
 use Rattle.wgsl_reading.specs.declared.phrase.Check.{Check}
 use Rattle.wgsl_reading.specs.declared.phrase.Check.TheVariants as check
 use Rattle.wgsl_reading.specs.declared.answer.Unread.{Unread}
-use Rattle.wgsl_reading.specs.declared.answer.Unread.TheVariants.{OutOfMemory, Failed, Unexpected}
+use Rattle.wgsl_reading.specs.declared.answer.Unread.TheVariants.{Refused, Failed, Unexpected}
 use Rattle.wgsl_error.specs.declared.error.ErrorKind.{ErrorKind}
 use Rattle.wgsl_error.specs.declared.error.ErrorKind.TheVariants as kind
 use Rattle.wgsl_error.specs.declared.error.Error.{Error}
-use Rattle.wgsl_error.specs.Errors.{out_of_memory}
+use Rattle.wgsl_error.specs.Errors.{refused}
 
 abbrev pub kind_of_check : Check → ErrorKind
 kind_of_check check.Attribute = kind.Attribute
@@ -40,6 +40,6 @@ unexpected length None = record { kind = kind.UnexpectedEof; span = record { sta
 unexpected length (Some k) = record { kind = kind_of_token k.token; span = k.span }
 
 abbrev pub error_of : ℕ → Unread → Error
-error_of length OutOfMemory = out_of_memory
+error_of length (Refused r) = refused r
 error_of length (Failed f) = record { kind = kind_of_check f.check; span = f.span }
 error_of length (Unexpected next) = unexpected length next

@@ -1,5 +1,5 @@
 -- What the parser's answer says of a text.
-use Rattle.std.specs.Prelude.{◌≡◌, ◌⊎◌, ℕ, List, [], length, Result, Ok, Err}
+use Rattle.std.specs.Prelude.{◌≡◌, ◌⊎◌, ℕ, None, List, [], length, Result, Ok, Err}
 use Rattle.wgsl_template_spec.specs.declared.token.SpannedTemplateToken.{SpannedTemplateToken}
 use Rattle.wgsl_template_spec.specs.Tokens.{IsLexed}
 use Rattle.wgsl_declarations.specs.declared.unit.TranslationUnit.{TranslationUnit}
@@ -9,9 +9,8 @@ use Rattle.wgsl_reading.specs.declared.driver.Start.{Start}
 use Rattle.wgsl_reading.specs.declared.driver.Start.TheVariants.{Module}
 use Rattle.wgsl_reading.specs.declared.answer.Unread.{Unread}
 use Rattle.wgsl_reading.specs.Readings.{Reads, IsPart}
-use Rattle.wgsl_error.specs.declared.error.ErrorKind.TheVariants as kind
 use Rattle.wgsl_error.specs.declared.error.Error.{Error}
-use Rattle.wgsl_error.specs.Errors.{out_of_memory}
+use Rattle.wgsl_error.specs.Errors.{refusal_of, IsRefusal}
 use Rattle.wgsl_parser.specs.Errors.{error_of}
 
 -- The tokens of the text derive this part alone, from this start, and no check fails in it.
@@ -33,10 +32,10 @@ abbrev pub ParsesTokens : Start → ℕ → List SpannedTemplateToken → Result
 ParsesTokens s n tokens (Ok x) = IsPart s tokens x
 ParsesTokens s n tokens (Err e) = (reason : Unread) × Reads s tokens (Err reason) × (e ≡ error_of n reason)
 
--- what an answer says, where a tree stands as this part
+-- what an answer says, where a tree stands as this part; nothing, where the parser gave up
 abbrev pub Parses : {A : Type 0} → Start → (A → Part) → List ℕ → Result A Error → Type 0
 Parses s as_part text (Ok x) = IsParsed s text (as_part x)
-Parses s as_part text (Err e) = IsFault s text e ⊎ (e ≡ out_of_memory)
+Parses s as_part text (Err e) = IsFault s text e ⊎ IsRefusal e
 
 abbrev pub empty_unit : TranslationUnit
 empty_unit = record { imports = []; global_directives = []; global_declarations = [] }
@@ -49,12 +48,12 @@ IsBlank text = IsLexed text []
 pub record IsModuleFault (text : List ℕ) (e : Error) : Type 0 where
   pub fault : IsFault Module text e
   pub some : IsBlank text → ⊥
-  pub told : e.kind ≡ kind.OutOfMemory → ⊥
+  pub told : refusal_of e ≡ None
 
 -- of a module, which may have no tokens
 abbrev pub ParsesModule : List ℕ → Result TranslationUnit Error → Type 0
 ParsesModule text (Ok unit) = IsParsed Module text (part.Module unit) ⊎ (IsBlank text × (unit ≡ empty_unit))
-ParsesModule text (Err e) = IsModuleFault text e ⊎ (e ≡ out_of_memory)
+ParsesModule text (Err e) = IsModuleFault text e ⊎ IsRefusal e
 
 -- some tokens of a text of this length are no module, and this is its fault
 pub record IsTokensFault (n : ℕ) (tokens : List SpannedTemplateToken) (e : Error) : Type 0 where
@@ -62,8 +61,8 @@ pub record IsTokensFault (n : ℕ) (tokens : List SpannedTemplateToken) (e : Err
   pub reason : Unread
   pub unread : Reads Module tokens (Err reason)
   pub same : e ≡ error_of n reason
-  pub told : e.kind ≡ kind.OutOfMemory → ⊥
+  pub told : refusal_of e ≡ None
 
 abbrev pub TellsModule : ℕ → List SpannedTemplateToken → Result TranslationUnit Error → Type 0
 TellsModule n tokens (Ok unit) = IsPart Module tokens (part.Module unit) ⊎ ((tokens ≡ []) × (unit ≡ empty_unit))
-TellsModule n tokens (Err e) = IsTokensFault n tokens e ⊎ (e ≡ out_of_memory)
+TellsModule n tokens (Err e) = IsTokensFault n tokens e ⊎ IsRefusal e

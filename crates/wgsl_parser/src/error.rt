@@ -63,7 +63,7 @@ pub(crate) fn error_of(length: usize, unread: Unread) -> Error
     ensures { result ≡ errors.error_of length unread }
 {
     match unread {
-        Unread::OutOfMemory => Error::out_of_memory(),
+        Unread::Refused(refusal) => Error::refused(refusal),
         Unread::Failed(failure) => Error {
             kind: kind_of_check(failure.check),
             span: failure.span,

@@ -53,7 +53,7 @@ pub fn parse_expression(alloc: Global, text: &str) -> Result<ExpressionNode, Err
     match parse(alloc, Start::Expression, text) {
         Ok(part) => match expression(part) {
             Ok(tree) => Ok(tree),
-            Err(AllocError) => Err(Error::out_of_memory()),
+            Err(refusal) => Err(Error::refused(refusal)),
         },
         Err(error) => Err(error),
     }
@@ -66,7 +66,7 @@ pub fn parse_statement(alloc: Global, text: &str) -> Result<StatementNode, Error
     match parse(alloc, Start::Statement, text) {
         Ok(part) => match statement(part) {
             Ok(tree) => Ok(tree),
-            Err(AllocError) => Err(Error::out_of_memory()),
+            Err(refusal) => Err(Error::refused(refusal)),
         },
         Err(error) => Err(error),
     }
@@ -79,7 +79,7 @@ pub fn parse_declaration(alloc: Global, text: &str) -> Result<GlobalDeclarationN
     match parse(alloc, Start::Declaration, text) {
         Ok(part) => match declaration(part) {
             Ok(tree) => Ok(tree),
-            Err(AllocError) => Err(Error::out_of_memory()),
+            Err(refusal) => Err(Error::refused(refusal)),
         },
         Err(error) => Err(error),
     }
@@ -92,7 +92,7 @@ pub fn parse_directive(alloc: Global, text: &str) -> Result<GlobalDirective, Err
     match parse(alloc, Start::Directive, text) {
         Ok(part) => match directive(part) {
             Ok(tree) => Ok(tree),
-            Err(AllocError) => Err(Error::out_of_memory()),
+            Err(refusal) => Err(Error::refused(refusal)),
         },
         Err(error) => Err(error),
     }
@@ -105,7 +105,7 @@ pub fn parse_import(alloc: Global, text: &str) -> Result<ImportStatement, Error>
     match parse(alloc, Start::Import, text) {
         Ok(part) => match import(part) {
             Ok(tree) => Ok(tree),
-            Err(AllocError) => Err(Error::out_of_memory()),
+            Err(refusal) => Err(Error::refused(refusal)),
         },
         Err(error) => Err(error),
     }
@@ -118,7 +118,7 @@ pub fn parse_declaration_kind(alloc: Global, text: &str) -> Result<DeclarationKi
     match parse(alloc, Start::Kind, text) {
         Ok(part) => match kind(part) {
             Ok(tree) => Ok(tree),
-            Err(AllocError) => Err(Error::out_of_memory()),
+            Err(refusal) => Err(Error::refused(refusal)),
         },
         Err(error) => Err(error),
     }
@@ -142,7 +142,7 @@ fn module_of(
     match part_of(alloc, Start::Module, length, tokens) {
         Ok(part) => match module(part) {
             Ok(unit) => Ok(unit),
-            Err(AllocError) => Err(Error::out_of_memory()),
+            Err(refusal) => Err(Error::refused(refusal)),
         },
         Err(error) => Err(error),
     }

@@ -2,8 +2,8 @@
 
 ghost use Rattle.std.specs.Prelude.{◌≡◌, IfOk};
 
-use std::alloc::AllocError;
 use wgsl_declarations::{GlobalDeclarationNode, TranslationUnit};
+use wgsl_error::Refusal;
 use wgsl_expressions::ExpressionNode;
 use wgsl_imports::{GlobalDirective, ImportStatement};
 use wgsl_parts::Part;
@@ -11,7 +11,7 @@ use wgsl_parts::take::misfit;
 use wgsl_simple_statements::DeclarationKind;
 use wgsl_statements::StatementNode;
 
-pub(crate) fn expression(part: Part) -> Result<ExpressionNode, AllocError>
+pub(crate) fn expression(part: Part) -> Result<ExpressionNode, Refusal>
     ensures { IfOk result (λ x. part ≡ Part.Expression x) }
 {
     match part {
@@ -20,7 +20,7 @@ pub(crate) fn expression(part: Part) -> Result<ExpressionNode, AllocError>
     }
 }
 
-pub(crate) fn statement(part: Part) -> Result<StatementNode, AllocError>
+pub(crate) fn statement(part: Part) -> Result<StatementNode, Refusal>
     ensures { IfOk result (λ x. part ≡ Part.Statement x) }
 {
     match part {
@@ -29,7 +29,7 @@ pub(crate) fn statement(part: Part) -> Result<StatementNode, AllocError>
     }
 }
 
-pub(crate) fn declaration(part: Part) -> Result<GlobalDeclarationNode, AllocError>
+pub(crate) fn declaration(part: Part) -> Result<GlobalDeclarationNode, Refusal>
     ensures { IfOk result (λ x. part ≡ Part.Global x) }
 {
     match part {
@@ -38,7 +38,7 @@ pub(crate) fn declaration(part: Part) -> Result<GlobalDeclarationNode, AllocErro
     }
 }
 
-pub(crate) fn directive(part: Part) -> Result<GlobalDirective, AllocError>
+pub(crate) fn directive(part: Part) -> Result<GlobalDirective, Refusal>
     ensures { IfOk result (λ x. part ≡ Part.Directive x) }
 {
     match part {
@@ -47,7 +47,7 @@ pub(crate) fn directive(part: Part) -> Result<GlobalDirective, AllocError>
     }
 }
 
-pub(crate) fn import(part: Part) -> Result<ImportStatement, AllocError>
+pub(crate) fn import(part: Part) -> Result<ImportStatement, Refusal>
     ensures { IfOk result (λ x. part ≡ Part.Import x) }
 {
     match part {
@@ -56,7 +56,7 @@ pub(crate) fn import(part: Part) -> Result<ImportStatement, AllocError>
     }
 }
 
-pub(crate) fn module(part: Part) -> Result<TranslationUnit, AllocError>
+pub(crate) fn module(part: Part) -> Result<TranslationUnit, Refusal>
     ensures { IfOk result (λ x. part ≡ Part.Module x) }
 {
     match part {
@@ -65,7 +65,7 @@ pub(crate) fn module(part: Part) -> Result<TranslationUnit, AllocError>
     }
 }
 
-pub(crate) fn kind(part: Part) -> Result<DeclarationKind, AllocError>
+pub(crate) fn kind(part: Part) -> Result<DeclarationKind, Refusal>
     ensures { IfOk result (λ x. part ≡ Part.Kind x) }
 {
     match part {

@@ -60,7 +60,7 @@ fn told(alloc: Global, unit: &TranslationUnit) -> Result<String, AllocError> {
         Ok(()) => String::from_str(alloc, "derivable"),
         Err(Unprintable::Node(Some(name))) => String::from_str(alloc, name.as_str()),
         Err(Unprintable::Node(None)) => String::from_str(alloc, "none"),
-        Err(Unprintable::OutOfMemory) => Err(AllocError),
+        Err(Unprintable::GaveUp(_)) => Err(AllocError),
     }
 }
 

@@ -1,7 +1,7 @@
 -- What is parsed of a text, and that it is one thing.
-use Rattle.std.proofs.Common.{◌≡◌, inl, inr, sym, ap, ◌∙◌, ℕ, List, true, false, Result, Ok, Err}
+use Rattle.std.proofs.Common.{◌≡◌, inl, inr, sym, ap, ◌∙◌, ℕ, List, true, false, Some, None, Result, Ok, Err}
 use Rattle.std.specs.Prelude.{IfOk}
-use Rattle.wgsl_error.specs.declared.error.ErrorKind.TheVariants as kind
+use Rattle.wgsl_error.specs.Errors.{refusal_of}
 use Rattle.wgsl_error.specs.declared.error.Error.{Error}
 use Rattle.wgsl_declarations.specs.declared.unit.TranslationUnit.{TranslationUnit as Module}
 use Rattle.wgsl_declarations.specs.View as whole
@@ -36,13 +36,14 @@ parsed text m (Ok u) says (is, there) = record { is_text = record { unit = m; sa
 parsed text m (Err (refusal.Syntax e)) says wrong = absurd wrong
 parsed text m (Err refusal.Unsupported) says none = record { unit = m; says = says; beyond = none }
 parsed text m (Err refusal.OutOfMemory) says none = tt
+parsed text m (Err (refusal.GaveUp r)) says wrong = absurd wrong
 
 pub stands : (text : List ℕ) (module_ : Module) (r : Result TranslationUnit PartError) → ParsesModule text (Ok module_) → IfOk r (λ u. places u ≡ whole_places.places module_)
     → IfOk r (StandsIn text)
 stands text m (Ok u) says same = record { unit = m; says = says; same_places = same }
 stands text m (Err e) says same = tt
 
--- an error of another kind than want of memory is the fault of the text
-pub whole_fault : (text : List ℕ) (e : Error) → (e.kind ≡ kind.OutOfMemory → ⊥) → ParsesModule text (Err e) → IsModuleFault text e
+-- an error that does not say that the parser gave up is the fault of the text
+pub whole_fault : (text : List ℕ) (e : Error) → refusal_of e ≡ None → ParsesModule text (Err e) → IsModuleFault text e
 whole_fault text e other (inl fault) = fault
-whole_fault text e other (inr memory) = absurd (other (ap (λ (x : Error). x.kind) memory))
+whole_fault text e other (inr (r, gave_up)) = let wrong : Some r ≡ None = sym gave_up ∙ other in absurd (cc)

@@ -50,12 +50,13 @@ pub record StandsIn (text : List ℕ) (u : TranslationUnit) : Type 0 where
 
 -- ---- what calls say
 
--- memory aside, what an answer says of a text
+-- memory aside, and texts that the parser gives up on since they are nested too deep, what an answer says of a text
 abbrev pub Parses : List ℕ → Result TranslationUnit PartError → Type 0
 Parses text (Ok unit) = IsUnitOfPart text (unit_tree unit)
 Parses text (Err (refusal.Syntax e)) = IsModuleFault text e
 Parses text (Err refusal.Unsupported) = IsBeyondPart text
 Parses text (Err refusal.OutOfMemory) = ⊤
+Parses text (Err (refusal.GaveUp r)) = ⊤
 
 -- No text is read as the unit. Of the first declaration that no text derives, the first node that no text derives is told by its name, else by
 -- the declaration's.
@@ -63,11 +64,12 @@ pub record IsUnprintable (u : UnitTree) (name : Option (List ℕ)) : Type 0 wher
   pub no_text : HasText u → ⊥
   pub told : IsTold (map widen_decl u.declarations) name
 
--- memory aside, the printed text of the unit, which is read as the unit; or that there is none
+-- memory aside, and units that are nested too deep to be parsed, the printed text of the unit, which is read as the unit; or that there is none
 abbrev pub Prints : UnitTree → Result (String Global) PrintError → Type 0
 Prints u (Ok text) = (string_bytes text ≡ unit_text u) × IsTextOf u (string_bytes text)
 Prints u (Err (unprinted.Unprintable name)) = IsUnprintable u name
 Prints u (Err unprinted.OutOfMemory) = ⊤
+Prints u (Err (unprinted.GaveUp r)) = ⊤
 
 -- ---- steps
 
@@ -81,3 +83,4 @@ Finds unit (Ok u) = (widen_unit (unit_tree u) ≡ whole.unit_tree unit) × IsInP
 Finds unit (Err (refusal.Syntax e)) = ⊥
 Finds unit (Err refusal.Unsupported) = (u : UnitTree) → widen_unit u ≡ whole.unit_tree unit → IsInPart u → ⊥
 Finds unit (Err refusal.OutOfMemory) = ⊤
+Finds unit (Err (refusal.GaveUp r)) = ⊥

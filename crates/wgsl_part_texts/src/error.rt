@@ -2,7 +2,7 @@
 
 use std::alloc::AllocError;
 use thiserror::Error as Message;
-use wgsl_error::Error;
+use wgsl_error::{Error, Refusal};
 use wgsl_items::Text;
 use wgsl_part::NarrowError;
 
@@ -15,6 +15,9 @@ pub enum PartError {
     /// The text is a module, and uses what is beyond the part.
     #[error("it uses what is not supported yet")]
     Unsupported,
+    /// The parser gave up on the text, which is nested too deep. This says nothing else of it.
+    #[error("{0}")]
+    GaveUp(Refusal),
     /// Memory was refused. This says nothing of the text.
     #[error("out of memory")]
     OutOfMemory,
@@ -27,6 +30,9 @@ pub enum PrintError {
     /// of its parts; or that of the declaration that holds it, where the node has no name.
     #[error("no text stands for it")]
     Unprintable(Option<Text>),
+    /// The parser gave up on what was printed, which is nested deeper than a text may be. This says nothing else of the unit.
+    #[error("{0}")]
+    GaveUp(Refusal),
     /// Memory was refused. This says nothing of the unit.
     #[error("out of memory")]
     OutOfMemory,

@@ -7,9 +7,10 @@ ghost use Rattle.wgsl_part_texts.specs.Texts.{Parses, Finds, StandsIn};
 
 use crate::error::PartError;
 use std::alloc::Global;
-use wgsl_check_unit::{ErrorKind, parse_str};
+use wgsl_check_unit::parse_str;
 use wgsl_declarations as whole;
 use wgsl_declarations::let_go;
+use wgsl_error::Refusal;
 use wgsl_part::{is_in_part, narrow};
 use wgsl_syntax::TranslationUnit;
 
@@ -40,9 +41,10 @@ pub fn parse_part(alloc: Global, text: &str) -> Result<TranslationUnit, PartErro
             let_go(module);
             unit
         }
-        Err(error) => match error.kind {
-            ErrorKind::OutOfMemory => Err(PartError::OutOfMemory),
-            _ => Err(PartError::Syntax(error)),
+        Err(error) => match error.refusal() {
+            None => Err(PartError::Syntax(error)),
+            Some(Refusal::OutOfMemory) => Err(PartError::OutOfMemory),
+            Some(refusal) => Err(PartError::GaveUp(refusal)),
         },
     }
 }

@@ -7,6 +7,7 @@ use crate::error::PrintError;
 use std::alloc::Global;
 use wgsl_check_unit::{Unprintable, print_checked};
 use wgsl_declarations::let_go;
+use wgsl_error::Refusal;
 use wgsl_syntax::TranslationUnit;
 use wgsl_widening::widen;
 
@@ -24,6 +25,7 @@ pub fn print_part(alloc: Global, unit: TranslationUnit) -> Result<String, PrintE
     match printed {
         Ok(text) => Ok(text),
         Err(Unprintable::Node(name)) => Err(PrintError::Unprintable(name)),
-        Err(Unprintable::OutOfMemory) => Err(PrintError::OutOfMemory),
+        Err(Unprintable::GaveUp(Refusal::OutOfMemory)) => Err(PrintError::OutOfMemory),
+        Err(Unprintable::GaveUp(refusal)) => Err(PrintError::GaveUp(refusal)),
     }
 }

@@ -6,23 +6,24 @@ ghost use Rattle.wgsl_parts.specs.Making as making;
 use crate::held::Held;
 use crate::label::ExpressionLabel;
 use crate::part::{Part, QualifiedName};
-use crate::take::{call, end, ended, expression, ident, literal, path, ty};
-use std::alloc::{AllocError, Global};
+use crate::take::{both, call, end, ended, expression, ident, literal, path, ty};
+use std::alloc::Global;
+use wgsl_error::Refusal;
 use wgsl_expressions::{
     BinaryExpression, Expression, IndexingExpression, NamedComponentExpression,
     ParenthesizedExpression, TypeExpression, UnaryExpression,
 };
-use wgsl_items::{Text, both};
+use wgsl_items::Text;
 use wgsl_path::{Ident, Span, Spanned};
 use wgsl_stack::Stack;
 
-/// Expressions with operands. The other labels are answered as if memory were refused.
+/// Expressions with operands. The other labels are answered as a misfit.
 fn make_operation(
     alloc: Global,
     label: ExpressionLabel,
     span: Span,
     parts: &mut Stack<Held>,
-) -> Result<Part, AllocError>
+) -> Result<Part, Refusal>
     ensures { IfOk result (λ part. part ≡ making.make_expression label span parts.old) }
 {
     let operation = match label {
@@ -52,18 +53,18 @@ fn make_operation(
                 right,
             })
         }
-        _ => return Err(AllocError),
+        _ => return Err(Refusal::Misfit),
     };
     Ok(Part::Expression(Spanned::new(alloc, operation, span)?))
 }
 
-/// What the production of this label makes of its parts. Parts that do not fit are answered as if memory were refused.
+/// What the production of this label makes of its parts. Parts that do not fit are answered as a misfit.
 pub fn make_expression(
     alloc: Global,
     label: ExpressionLabel,
     span: Span,
     parts: &mut Stack<Held>,
-) -> Result<Part, AllocError>
+) -> Result<Part, Refusal>
     ensures { IfOk result (λ part. part ≡ making.make_expression label span parts.old) }
 {
     let expression = match label {

@@ -8,17 +8,18 @@ use crate::more::joined;
 use crate::part::Part;
 use crate::take::{end, first, misfit};
 use std::alloc::{AllocError, Global};
+use wgsl_error::Refusal;
 use wgsl_items::Items;
 use wgsl_stack::Stack;
 
 /// The one part.
-pub fn pass(parts: &mut Stack<Held>) -> Result<Part, AllocError>
+pub fn pass(parts: &mut Stack<Held>) -> Result<Part, Refusal>
     ensures { IfOk result (λ part. part ≡ making.pass parts.old) }
 {
     let part = first(parts)?;
     match end(parts) {
         Ok(()) => Ok(part),
-        Err(AllocError) => misfit(part),
+        Err(_) => misfit(part),
     }
 }
 
@@ -32,7 +33,7 @@ pub fn one<T: Drop>(alloc: Global, item: T) -> Result<Items<T>, AllocError>
 }
 
 /// A list of the one part.
-pub fn make_first(alloc: Global, parts: &mut Stack<Held>) -> Result<Part, AllocError>
+pub fn make_first(alloc: Global, parts: &mut Stack<Held>) -> Result<Part, Refusal>
     ensures { IfOk result (λ part. part ≡ making.make_first parts.old) }
 {
     match pass(parts)? {
@@ -54,12 +55,12 @@ pub fn make_first(alloc: Global, parts: &mut Stack<Held>) -> Result<Part, AllocE
 }
 
 /// A list, and one more.
-pub fn make_more(parts: &mut Stack<Held>) -> Result<Part, AllocError>
+pub fn make_more(parts: &mut Stack<Held>) -> Result<Part, Refusal>
     ensures { IfOk result (λ part. part ≡ making.make_more parts.old) }
 {
     let list = first(parts)?;
     match pass(parts) {
         Ok(part) => joined(list, part),
-        Err(AllocError) => misfit(list),
+        Err(_) => misfit(list),
     }
 }

@@ -6,6 +6,7 @@ ghost use Rattle.wgsl_parts.specs.Lists as making;
 use crate::part::Part;
 use crate::take::misfit;
 use std::alloc::AllocError;
+use wgsl_error::Refusal;
 use wgsl_items::Items;
 
 fn pushed<T: Drop>(items: Items<T>, item: T) -> Result<Items<T>, AllocError>
@@ -17,17 +18,17 @@ fn pushed<T: Drop>(items: Items<T>, item: T) -> Result<Items<T>, AllocError>
 }
 
 /// Two parts that do not fit.
-fn misfits(list: Part, part: Part) -> Result<Part, AllocError>
+fn misfits(list: Part, part: Part) -> Result<Part, Refusal>
     ensures { IfOk result (λ _. ⊥) }
 {
     match misfit(list) {
         Ok(()) => misfit(part),
-        Err(AllocError) => misfit(part),
+        Err(_) => misfit(part),
     }
 }
 
 /// A list, and one more.
-pub(crate) fn joined(list: Part, part: Part) -> Result<Part, AllocError>
+pub(crate) fn joined(list: Part, part: Part) -> Result<Part, Refusal>
     ensures { IfOk result (λ made. made ≡ making.joined list part) }
 {
     match (list, part) {

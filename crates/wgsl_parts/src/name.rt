@@ -7,23 +7,24 @@ use crate::held::Held;
 use crate::label::NameLabel;
 use crate::part::{Part, QualifiedName};
 use crate::path::{template, within};
-use crate::take::{end, ended, expressions, ident, list, path, ty, ups};
-use std::alloc::{AllocError, Global};
+use crate::take::{both, end, ended, expressions, ident, list, path, ty, ups};
+use std::alloc::Global;
+use wgsl_error::Refusal;
 use wgsl_expressions::{FunctionCall, TypeExpression};
-use wgsl_items::{Boxed, Items, both};
+use wgsl_items::{Boxed, Items};
 use wgsl_path::{Ident, ModulePath, PathOrigin};
 use wgsl_stack::Stack;
 
 /// A name behind a path.
-fn behind(alloc: Global, path: ModulePath, ident: Ident) -> Result<QualifiedName, AllocError>
+fn behind(alloc: Global, path: ModulePath, ident: Ident) -> Result<QualifiedName, Refusal>
     ensures { IfOk result (λ name. Part.Path name ≡ making.behind path ident) }
 {
     let path = Some(Boxed::new(alloc, path)?);
     Ok(QualifiedName { path, ident })
 }
 
-/// Names behind paths, and levels above. The other labels are answered as if memory were refused.
-fn make_path(alloc: Global, label: NameLabel, parts: &mut Stack<Held>) -> Result<Part, AllocError>
+/// Names behind paths, and levels above. The other labels are answered as a misfit.
+fn make_path(alloc: Global, label: NameLabel, parts: &mut Stack<Held>) -> Result<Part, Refusal>
     ensures { IfOk result (λ part. part ≡ making.make_name label parts.old) }
 {
     match label {
@@ -55,20 +56,16 @@ fn make_path(alloc: Global, label: NameLabel, parts: &mut Stack<Held>) -> Result
         }
         NameLabel::FurtherUp => {
             let levels = ended(ups(parts), parts)?;
-            let levels = levels.checked_add(1).ok_or(AllocError)?;
+            let levels = levels.checked_add(1).ok_or(Refusal::Misfit)?;
             Ok(Part::Ups(levels))
         }
-        _ => Err(AllocError),
+        _ => Err(Refusal::Misfit),
     }
 }
 
-/// What the production of this label makes of its parts. Parts that do not fit, and more levels than a `usize` counts, are answered as if
-/// memory were refused.
-pub fn make_name(
-    alloc: Global,
-    label: NameLabel,
-    parts: &mut Stack<Held>,
-) -> Result<Part, AllocError>
+/// What the production of this label makes of its parts. Parts that do not fit, and more levels than a `usize` counts, are answered as a
+/// misfit.
+pub fn make_name(alloc: Global, label: NameLabel, parts: &mut Stack<Held>) -> Result<Part, Refusal>
     ensures { IfOk result (λ part. part ≡ making.make_name label parts.old) }
 {
     match label {

@@ -6,9 +6,12 @@ ghost use Rattle.wgsl_parts.specs.Values as making;
 use crate::held::Held;
 use crate::label::PlainLabel;
 use crate::part::Part;
-use crate::take::{assertion, call, declaration, end, ended, expression, optional_expression};
-use std::alloc::{AllocError, Global};
-use wgsl_items::{Boxed, Items, both};
+use crate::take::{
+    assertion, both, call, declaration, end, ended, expression, optional_expression,
+};
+use std::alloc::Global;
+use wgsl_error::Refusal;
+use wgsl_items::{Boxed, Items};
 use wgsl_simple_statements::{
     AssignmentStatement, BreakStatement, ContinueStatement, DecrementStatement, DiscardStatement,
     FunctionCallStatement, IncrementStatement, ReturnStatement,
@@ -16,12 +19,8 @@ use wgsl_simple_statements::{
 use wgsl_stack::Stack;
 use wgsl_statements::Statement;
 
-/// Statements of a keyword, and declarations. The other labels are answered as if memory were refused.
-fn make_keyword(
-    alloc: Global,
-    label: PlainLabel,
-    parts: &mut Stack<Held>,
-) -> Result<Part, AllocError>
+/// Statements of a keyword, and declarations. The other labels are answered as a misfit.
+fn make_keyword(alloc: Global, label: PlainLabel, parts: &mut Stack<Held>) -> Result<Part, Refusal>
     ensures { IfOk result (λ part. part ≡ making.make_plain label parts.old) }
 {
     let statement = match label {
@@ -49,17 +48,17 @@ fn make_keyword(
         }
         PlainLabel::Local => Statement::Declaration(ended(declaration(parts), parts)?),
         PlainLabel::Asserted => Statement::ConstAssert(ended(assertion(parts), parts)?),
-        _ => return Err(AllocError),
+        _ => return Err(Refusal::Misfit),
     };
     Ok(Part::Plain(Boxed::new(alloc, statement)?))
 }
 
-/// What the production of this label makes of its parts. Parts that do not fit are answered as if memory were refused.
+/// What the production of this label makes of its parts. Parts that do not fit are answered as a misfit.
 pub fn make_plain(
     alloc: Global,
     label: PlainLabel,
     parts: &mut Stack<Held>,
-) -> Result<Part, AllocError>
+) -> Result<Part, Refusal>
     ensures { IfOk result (λ part. part ≡ making.make_plain label parts.old) }
 {
     let statement = match label {

@@ -6,8 +6,9 @@ ghost use Rattle.wgsl_parts.specs.Reading.{TakesAs, expression_in, expressions_o
 
 use crate::held::{Held, next};
 use crate::part::{Part, QualifiedName, TypedName};
-use std::alloc::{AllocError, Global};
+use std::alloc::Global;
 use wgsl_attributes::Attributes;
+use wgsl_error::Refusal;
 use wgsl_expressions::{ExpressionNode, FunctionCall, LiteralExpression, TypeExpression};
 use wgsl_items::{Boxed, Items};
 use wgsl_path::Ident;
@@ -16,17 +17,17 @@ use wgsl_stack::Stack;
 use wgsl_statements::CompoundStatement;
 
 /// The first part.
-pub fn first(parts: &mut Stack<Held>) -> Result<Part, AllocError>
+pub fn first(parts: &mut Stack<Held>) -> Result<Part, Refusal>
     ensures { IfOk result (λ part. parts.old ≡ part ∷ parts.new) }
 {
     match next(parts) {
         Some(part) => Ok(part),
-        None => Err(AllocError),
+        None => Err(Refusal::Misfit),
     }
 }
 
 /// No part is left.
-pub fn end(parts: &mut Stack<Held>) -> Result<(), AllocError>
+pub fn end(parts: &mut Stack<Held>) -> Result<(), Refusal>
     ensures { IfOk result (λ _. parts.old ≡ []) }
 {
     match next(parts) {
@@ -36,26 +37,23 @@ pub fn end(parts: &mut Stack<Held>) -> Result<(), AllocError>
 }
 
 /// A part that does not fit.
-pub fn misfit<T>(part: Part) -> Result<T, AllocError>
+pub fn misfit<T>(part: Part) -> Result<T, Refusal>
     ensures { IfOk result (λ _. ⊥) }
 {
     drop(part);
-    Err(AllocError)
+    Err(Refusal::Misfit)
 }
 
 /// A part that does not fit, or none.
-pub fn unfit<T>(part: Option<Part>) -> Result<T, AllocError>
+pub fn unfit<T>(part: Option<Part>) -> Result<T, Refusal>
     ensures { IfOk result (λ _. ⊥) }
 {
     drop(part);
-    Err(AllocError)
+    Err(Refusal::Misfit)
 }
 
 /// What was taken, if no part is left.
-pub fn ended<T: Drop>(
-    taken: Result<T, AllocError>,
-    parts: &mut Stack<Held>,
-) -> Result<T, AllocError>
+pub fn ended<T: Drop>(taken: Result<T, Refusal>, parts: &mut Stack<Held>) -> Result<T, Refusal>
     ensures { IfOk result (λ x. (taken ≡ Ok x) × (parts.old ≡ [])) }
 {
     let taken = taken?;
@@ -63,7 +61,7 @@ pub fn ended<T: Drop>(
     Ok(taken)
 }
 
-pub fn ident(parts: &mut Stack<Held>) -> Result<Ident, AllocError>
+pub fn ident(parts: &mut Stack<Held>) -> Result<Ident, Refusal>
     ensures { IfOk result (λ x. parts.old ≡ Part.Ident x ∷ parts.new) }
 {
     match next(parts) {
@@ -72,16 +70,16 @@ pub fn ident(parts: &mut Stack<Held>) -> Result<Ident, AllocError>
     }
 }
 
-fn ups_in(part: &Option<Part>) -> Result<usize, AllocError>
+fn ups_in(part: &Option<Part>) -> Result<usize, Refusal>
     ensures { IfOk result (λ n. part.now ≡ Some (Part.Ups n)) }
 {
     match part {
         Some(Part::Ups(n)) => Ok(*n),
-        _ => Err(AllocError),
+        _ => Err(Refusal::Misfit),
     }
 }
 
-pub fn ups(parts: &mut Stack<Held>) -> Result<usize, AllocError>
+pub fn ups(parts: &mut Stack<Held>) -> Result<usize, Refusal>
     ensures { IfOk result (λ n. parts.old ≡ Part.Ups n ∷ parts.new) }
 {
     let part = next(parts);
@@ -90,7 +88,7 @@ pub fn ups(parts: &mut Stack<Held>) -> Result<usize, AllocError>
     levels
 }
 
-pub fn ty(parts: &mut Stack<Held>) -> Result<TypeExpression, AllocError>
+pub fn ty(parts: &mut Stack<Held>) -> Result<TypeExpression, Refusal>
     ensures { IfOk result (λ x. parts.old ≡ Part.Type x ∷ parts.new) }
 {
     match next(parts) {
@@ -99,7 +97,7 @@ pub fn ty(parts: &mut Stack<Held>) -> Result<TypeExpression, AllocError>
     }
 }
 
-pub fn call(parts: &mut Stack<Held>) -> Result<Boxed<FunctionCall>, AllocError>
+pub fn call(parts: &mut Stack<Held>) -> Result<Boxed<FunctionCall>, Refusal>
     ensures { IfOk result (λ x. parts.old ≡ Part.Call x ∷ parts.new) }
 {
     match next(parts) {
@@ -108,7 +106,7 @@ pub fn call(parts: &mut Stack<Held>) -> Result<Boxed<FunctionCall>, AllocError>
     }
 }
 
-pub fn expression(parts: &mut Stack<Held>) -> Result<ExpressionNode, AllocError>
+pub fn expression(parts: &mut Stack<Held>) -> Result<ExpressionNode, Refusal>
     ensures { IfOk result (λ x. parts.old ≡ Part.Expression x ∷ parts.new) }
 {
     match next(parts) {
@@ -117,7 +115,7 @@ pub fn expression(parts: &mut Stack<Held>) -> Result<ExpressionNode, AllocError>
     }
 }
 
-pub fn declaration(parts: &mut Stack<Held>) -> Result<Boxed<Declaration>, AllocError>
+pub fn declaration(parts: &mut Stack<Held>) -> Result<Boxed<Declaration>, Refusal>
     ensures { IfOk result (λ x. parts.old ≡ Part.Declaration x ∷ parts.new) }
 {
     match next(parts) {
@@ -126,7 +124,7 @@ pub fn declaration(parts: &mut Stack<Held>) -> Result<Boxed<Declaration>, AllocE
     }
 }
 
-pub fn assertion(parts: &mut Stack<Held>) -> Result<ConstAssert, AllocError>
+pub fn assertion(parts: &mut Stack<Held>) -> Result<ConstAssert, Refusal>
     ensures { IfOk result (λ x. parts.old ≡ Part.Assertion x ∷ parts.new) }
 {
     match next(parts) {
@@ -135,7 +133,7 @@ pub fn assertion(parts: &mut Stack<Held>) -> Result<ConstAssert, AllocError>
     }
 }
 
-pub fn block(parts: &mut Stack<Held>) -> Result<CompoundStatement, AllocError>
+pub fn block(parts: &mut Stack<Held>) -> Result<CompoundStatement, Refusal>
     ensures { IfOk result (λ x. parts.old ≡ Part.Block x ∷ parts.new) }
 {
     match next(parts) {
@@ -145,7 +143,7 @@ pub fn block(parts: &mut Stack<Held>) -> Result<CompoundStatement, AllocError>
 }
 
 /// An expression that may be absent.
-pub fn optional_expression(parts: &mut Stack<Held>) -> Result<Option<ExpressionNode>, AllocError>
+pub fn optional_expression(parts: &mut Stack<Held>) -> Result<Option<ExpressionNode>, Refusal>
     ensures { IfOk result (λ x. TakesAs expression_in parts.old x parts.new) }
 {
     match next(parts) {
@@ -156,10 +154,7 @@ pub fn optional_expression(parts: &mut Stack<Held>) -> Result<Option<ExpressionN
 }
 
 /// Expressions that may be absent.
-pub fn expressions(
-    alloc: Global,
-    parts: &mut Stack<Held>,
-) -> Result<Items<ExpressionNode>, AllocError>
+pub fn expressions(alloc: Global, parts: &mut Stack<Held>) -> Result<Items<ExpressionNode>, Refusal>
     ensures { IfOk result (λ xs. TakesAs expressions_of parts.old xs parts.new) }
 {
     match next(parts) {
@@ -170,7 +165,7 @@ pub fn expressions(
 }
 
 /// Attributes that may be absent.
-pub fn attributes(alloc: Global, parts: &mut Stack<Held>) -> Result<Attributes, AllocError>
+pub fn attributes(alloc: Global, parts: &mut Stack<Held>) -> Result<Attributes, Refusal>
     ensures { IfOk result (λ xs. TakesAs attributes_of parts.old xs parts.new) }
 {
     match next(parts) {
@@ -180,7 +175,7 @@ pub fn attributes(alloc: Global, parts: &mut Stack<Held>) -> Result<Attributes, 
     }
 }
 
-pub(crate) fn literal(parts: &mut Stack<Held>) -> Result<LiteralExpression, AllocError>
+pub(crate) fn literal(parts: &mut Stack<Held>) -> Result<LiteralExpression, Refusal>
     ensures { IfOk result (λ x. parts.old ≡ Part.Literal x ∷ parts.new) }
 {
     match next(parts) {
@@ -189,7 +184,7 @@ pub(crate) fn literal(parts: &mut Stack<Held>) -> Result<LiteralExpression, Allo
     }
 }
 
-pub(crate) fn path(parts: &mut Stack<Held>) -> Result<QualifiedName, AllocError>
+pub(crate) fn path(parts: &mut Stack<Held>) -> Result<QualifiedName, Refusal>
     ensures { IfOk result (λ x. parts.old ≡ Part.Path x ∷ parts.new) }
 {
     match next(parts) {
@@ -199,7 +194,7 @@ pub(crate) fn path(parts: &mut Stack<Held>) -> Result<QualifiedName, AllocError>
 }
 
 /// Expressions that are never absent.
-pub(crate) fn list(parts: &mut Stack<Held>) -> Result<Items<ExpressionNode>, AllocError>
+pub(crate) fn list(parts: &mut Stack<Held>) -> Result<Items<ExpressionNode>, Refusal>
     ensures { IfOk result (λ xs. parts.old ≡ Part.Expressions xs ∷ parts.new) }
 {
     match next(parts) {
@@ -208,16 +203,16 @@ pub(crate) fn list(parts: &mut Stack<Held>) -> Result<Items<ExpressionNode>, All
     }
 }
 
-fn kind_in(part: &Option<Part>) -> Result<DeclarationKind, AllocError>
+fn kind_in(part: &Option<Part>) -> Result<DeclarationKind, Refusal>
     ensures { IfOk result (λ x. part.now ≡ Some (Part.Kind x)) }
 {
     match part {
         Some(Part::Kind(x)) => Ok(*x),
-        _ => Err(AllocError),
+        _ => Err(Refusal::Misfit),
     }
 }
 
-pub(crate) fn kind(parts: &mut Stack<Held>) -> Result<DeclarationKind, AllocError>
+pub(crate) fn kind(parts: &mut Stack<Held>) -> Result<DeclarationKind, Refusal>
     ensures { IfOk result (λ x. parts.old ≡ Part.Kind x ∷ parts.new) }
 {
     let part = next(parts);
@@ -226,11 +221,35 @@ pub(crate) fn kind(parts: &mut Stack<Held>) -> Result<DeclarationKind, AllocErro
     kind
 }
 
-pub(crate) fn typed_name(parts: &mut Stack<Held>) -> Result<TypedName, AllocError>
+pub(crate) fn typed_name(parts: &mut Stack<Held>) -> Result<TypedName, Refusal>
     ensures { IfOk result (λ x. parts.old ≡ Part.Typed x ∷ parts.new) }
 {
     match next(parts) {
         Some(Part::Typed(x)) => Ok(x.into_inner()),
         other => unfit(other),
     }
+}
+
+/// Both of what was taken.
+pub fn both<A: Drop, B: Drop>(
+    a: Result<A, Refusal>,
+    b: Result<B, Refusal>,
+) -> Result<(A, B), Refusal>
+    ensures { IfOk result (λ pair. (a ≡ Ok pair.0) × (b ≡ Ok pair.1)) }
+{
+    let a = a?;
+    let b = b?;
+    Ok((a, b))
+}
+
+/// All three.
+pub fn three<A: Drop, B: Drop, C: Drop>(
+    a: Result<A, Refusal>,
+    b: Result<B, Refusal>,
+    c: Result<C, Refusal>,
+) -> Result<(A, B, C), Refusal>
+    ensures { IfOk result (λ taken. (a ≡ Ok taken.0) × (b ≡ Ok taken.1) × (c ≡ Ok taken.2)) }
+{
+    let (a, (b, c)) = both(a, both(b, c))?;
+    Ok((a, b, c))
 }

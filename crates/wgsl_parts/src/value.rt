@@ -6,10 +6,11 @@ ghost use Rattle.wgsl_parts.specs.Values as making;
 use crate::held::Held;
 use crate::label::ValueLabel;
 use crate::part::{Part, TypedName};
-use crate::take::{ended, expression, ident, kind, ty, typed_name};
+use crate::take::{both, ended, expression, ident, kind, three, ty, typed_name};
 use std::alloc::{AllocError, Global};
+use wgsl_error::Refusal;
 use wgsl_expressions::ExpressionNode;
-use wgsl_items::{Boxed, Items, both, three};
+use wgsl_items::{Boxed, Items};
 use wgsl_simple_statements::{ConstAssert, Declaration, DeclarationKind};
 use wgsl_stack::Stack;
 
@@ -32,12 +33,12 @@ fn declared(
     Boxed::new(alloc, declaration)
 }
 
-/// Declarations. The other labels are answered as if memory were refused.
+/// Declarations. The other labels are answered as a misfit.
 fn make_declaration(
     alloc: Global,
     label: ValueLabel,
     parts: &mut Stack<Held>,
-) -> Result<Part, AllocError>
+) -> Result<Part, Refusal>
     ensures { IfOk result (λ part. part ≡ making.make_value label parts.old) }
 {
     let (kind, name, initializer) = match label {
@@ -63,7 +64,7 @@ fn make_declaration(
                 ValueLabel::Const => DeclarationKind::Const,
                 ValueLabel::Let => DeclarationKind::Let,
                 ValueLabel::OverrideSet => DeclarationKind::Override,
-                _ => return Err(AllocError),
+                _ => return Err(Refusal::Misfit),
             };
             let name = typed_name(parts);
             let value = expression(parts);
@@ -74,12 +75,12 @@ fn make_declaration(
     Ok(Part::Declaration(declared(alloc, kind, name, initializer)?))
 }
 
-/// What the production of this label makes of its parts. Parts that do not fit are answered as if memory were refused.
+/// What the production of this label makes of its parts. Parts that do not fit are answered as a misfit.
 pub fn make_value(
     alloc: Global,
     label: ValueLabel,
     parts: &mut Stack<Held>,
-) -> Result<Part, AllocError>
+) -> Result<Part, Refusal>
     ensures { IfOk result (λ part. part ≡ making.make_value label parts.old) }
 {
     match label {

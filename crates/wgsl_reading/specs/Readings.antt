@@ -1,5 +1,5 @@
 -- What reading tokens from a start says of them.
-use Rattle.std.specs.Prelude.{◌≡◌, ℕ, List, [], ◌∷◌, Option, Some, None, Result, Ok, Err}
+use Rattle.std.specs.Prelude.{◌≡◌, ℕ, Bool, true, false, List, [], ◌∷◌, Option, Some, None, Result, Ok, Err}
 use Rattle.wgsl_template_spec.specs.declared.token.SpannedTemplateToken.{SpannedTemplateToken}
 use Rattle.wgsl_stack.specs.Tops.{first}
 use Rattle.wgsl_shift_reduce.specs.declared.machine.Entry.{Entry}
@@ -12,7 +12,7 @@ use Rattle.wgsl_reading.specs.Gathering.{either}
 use Rattle.wgsl_grammar_tables.specs.Starts.{start}
 use Rattle.wgsl_reading.specs.declared.driver.Start.{Start as From}
 use Rattle.wgsl_reading.specs.declared.answer.Unread.{Unread}
-use Rattle.wgsl_reading.specs.declared.answer.Unread.TheVariants.{OutOfMemory, Failed, Unexpected}
+use Rattle.wgsl_reading.specs.declared.answer.Unread.TheVariants.{Refused, Failed, Unexpected}
 use Rattle.wgsl_reading.specs.Phrases.{grammar, number, tables_of}
 
 -- The nonterminal of what is read.
@@ -67,4 +67,10 @@ abbrev pub Reads : From → List SpannedTemplateToken → Result Part Unread →
 Reads s tokens (Ok part) = IsPart s tokens part
 Reads s tokens (Err (Failed f)) = IsFailed s tokens f
 Reads s tokens (Err (Unexpected next)) = IsUnexpected s tokens next
-Reads s tokens (Err OutOfMemory) = Unit
+Reads s tokens (Err (Refused e)) = Unit
+
+-- whether the parser gave up
+abbrev pub is_refused : Unread → Bool
+is_refused (Failed f) = false
+is_refused (Unexpected next) = false
+is_refused (Refused e) = true

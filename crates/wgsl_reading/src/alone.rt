@@ -10,7 +10,8 @@ use crate::driver::deeper;
 use crate::failure::{failure_at, made_failed, severity_alone_failed};
 use crate::gather::first_failure;
 use crate::phrase::Phrase;
-use std::alloc::{AllocError, Global};
+use std::alloc::Global;
+use wgsl_error::Refusal;
 use wgsl_expressions::{Expression, TypeExpression};
 use wgsl_make::make;
 use wgsl_parts::{
@@ -65,10 +66,10 @@ fn expression_in_place(
     alloc: Global,
     label: ExpressionLabel,
     value: &mut Phrase<Held>,
-) -> Result<bool, AllocError>
+) -> Result<bool, Refusal>
     ensures { IfOk result (MakesAlone (Label.Expression label) value.old value.new) }
 {
-    let depth = deeper(Label::Expression(label), value.depth)?;
+    let depth = deeper(Label::Expression(label), value.depth, value.span)?;
     let expression = match (label, value.part.take()) {
         (ExpressionLabel::ALiteral, Part::Literal(literal)) => Expression::Literal(literal),
         (ExpressionLabel::Named, Part::Type(ty)) => Expression::TypeOrIdentifier(ty),
@@ -85,7 +86,7 @@ fn expression_in_place(
 }
 
 /// Makes a list of an expression in its place. Whether it did; if not, the phrase stays. No check of a list fails.
-fn list_in_place(alloc: Global, value: &mut Phrase<Held>) -> Result<bool, AllocError>
+fn list_in_place(alloc: Global, value: &mut Phrase<Held>) -> Result<bool, Refusal>
     ensures { IfOk result (MakesAlone Label.First value.old value.new) }
 {
     match value.part.take() {
@@ -103,7 +104,7 @@ fn list_in_place(alloc: Global, value: &mut Phrase<Held>) -> Result<bool, AllocE
 }
 
 /// The most frequent productions of one part. Whether it was one; if not, the phrase stays.
-fn made_in_place(alloc: Global, label: Label, value: &mut Phrase<Held>) -> Result<bool, AllocError>
+fn made_in_place(alloc: Global, label: Label, value: &mut Phrase<Held>) -> Result<bool, Refusal>
     ensures { IfOk result (MakesAlone label value.old value.new) }
 {
     match label {
@@ -122,7 +123,7 @@ fn make_in_room(
     span: Span,
     part: Part,
     room: &mut Stack<Held>,
-) -> Result<Part, AllocError>
+) -> Result<Part, Refusal>
     ensures { IfOk result (λ made. made ≡ making.make label span (part ∷ [])) }
 {
     room.clear();
@@ -137,10 +138,10 @@ fn remade_in_room(
     label: Label,
     value: &mut Phrase<Held>,
     room: &mut Stack<Held>,
-) -> Result<(), AllocError>
+) -> Result<(), Refusal>
     ensures { IfOk result (λ _. value.new ≡ made label (Some (extent_of value.old)) (value.old.part ∷ [])) }
 {
-    let depth = deeper(label, value.depth)?;
+    let depth = deeper(label, value.depth, value.span)?;
     let severity = severity_alone_failed(label, &value.part);
     let part = value.part.take();
     let part = make_in_room(alloc, label, value.span, part, room)?;
@@ -157,7 +158,7 @@ pub(crate) fn remade(
     label: Label,
     value: &mut Phrase<Held>,
     room: &mut Stack<Held>,
-) -> Result<(), AllocError>
+) -> Result<(), Refusal>
     ensures { IfOk result (λ _. value.new ≡ made label (Some (extent_of value.old)) (value.old.part ∷ [])) }
 {
     if made_in_place(alloc, label, value)? {

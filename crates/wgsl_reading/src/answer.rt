@@ -8,6 +8,7 @@ use crate::driver::{Reader, Start};
 use crate::gather::first_failure;
 use crate::phrase::{Failure, Phrase};
 use std::alloc::Global;
+use wgsl_error::Refusal;
 use wgsl_parts::{Held, Part};
 use wgsl_shift_reduce::{Entry, Stopped, run};
 use wgsl_stack::{Queue, Stack};
@@ -16,8 +17,8 @@ use wgsl_template_spec::SpannedTemplateToken;
 /// Why nothing was read.
 #[derive(Drop)]
 pub enum Unread {
-    /// Memory was refused, or trees are nested too deep.
-    OutOfMemory,
+    /// The parser gave up: memory was refused, or a node is nested too deep.
+    Refused(Refusal),
     /// A check of arguments fails.
     Failed(Failure),
     /// No phrase goes on with this token, or ends at the end where it is none.
@@ -70,7 +71,7 @@ pub fn read(
     let reader = Reader { alloc, start };
     match run(&reader, alloc, start.number(), tokens) {
         Ok(phrase) => passed(phrase),
-        Err(Stopped::OutOfMemory) => Err(Unread::OutOfMemory),
+        Err(Stopped::Refused(refusal)) => Err(Unread::Refused(refusal)),
         Err(Stopped::Unexpected(stack, tokens)) => Err(stopped(stack, tokens)),
     }
 }

@@ -1,6 +1,6 @@
 //! The driver of the parser.
 
-ghost use Rattle.std.specs.Prelude.{◌≡◌, ◌<◌, ◌+◌, ◌∷◌, [], true, Some, None, if◌then◌else◌, IfOk, MatchOption};
+ghost use Rattle.std.specs.Prelude.{◌≡◌, ◌<◌, ◌≤◌, ◌+◌, ◌∷◌, [], true, Some, None, if◌then◌else◌, IfOk, IfErr, MatchOption};
 ghost use Rattle.wgsl_reading.specs.declared.phrase.Phrase as declared_phrase;
 ghost use Rattle.wgsl_shift_reduce.specs.Runs.{IsMade, PassesKept};
 ghost use Rattle.wgsl_grammar_tables.specs.Labels.{pattern_at};
@@ -11,17 +11,20 @@ use crate::failure::{failure_at, made_failed, severity_failed};
 use crate::gather::{Extent, first_failure, gathered};
 use crate::leaf::leaf;
 use crate::phrase::Phrase;
-use std::alloc::{AllocError, Global};
+use std::alloc::Global;
 use std::mem;
+use wgsl_error::Refusal;
 use wgsl_grammar_tables::class::class_of;
 use wgsl_grammar_tables::{drive, passed_to, rule_label, rule_pattern};
 use wgsl_make::make;
 use wgsl_parts::{Held, ImportLabel, Label, NameLabel};
+use wgsl_path::Span;
 use wgsl_shift_reduce::{Action, Driver, Entry, Shape};
 use wgsl_stack::Stack;
 use wgsl_template_spec::SpannedTemplateToken;
 
-/// How deep trees may be nested. A deeper one is refused as if memory were: what walks trees takes room on the call stack at each level.
+/// How deep trees may be nested. The first node that is one level deeper is refused, with its place: what walks trees takes room on the
+/// call stack at each level.
 pub const MAX_DEPTH: u32 = 2500;
 
 /// What a text or some tokens are read as.
@@ -89,15 +92,16 @@ fn nests(label: Label) -> bool
     }
 }
 
-/// How deep trees are nested in what a production makes.
-pub(crate) fn deeper(label: Label, depth: u32) -> Result<u32, AllocError>
-    ensures { IfOk result (λ d. d ≡ (if nests label then depth + 1 else depth)) }
+/// How deep trees are nested in what a production makes at this place. A node that is nested too deep is refused there.
+pub(crate) fn deeper(label: Label, depth: u32, span: Span) -> Result<u32, Refusal>
+    ensures depth { IfOk result (λ d. d ≡ (if nests label then depth + 1 else depth)) }
+    ensures refusal { IfErr result (λ r. (r ≡ Refusal.TooDeep span) × (nests label ≡ true) × (2500 ≤ depth)) }
 {
     if !nests(label) {
         return Ok(depth);
     }
     if depth >= MAX_DEPTH {
-        return Err(AllocError);
+        return Err(Refusal::TooDeep(span));
     }
     Ok(depth + 1)
 }
@@ -109,10 +113,10 @@ fn make_into(
     extent: Extent,
     phrase: &mut Phrase<Held>,
     parts: &mut Stack<Held>,
-) -> Result<(), AllocError>
+) -> Result<(), Refusal>
     ensures { IfOk result (λ _. phrase.new ≡ made label (Some extent) parts.old) }
 {
-    let depth = deeper(label, extent.depth)?;
+    let depth = deeper(label, extent.depth, extent.span)?;
     let severity = severity_failed(label, parts);
     let part = make(alloc, label, extent.span, parts)?;
     let failure = failure_at(extent.last, severity, made_failed(label, &part));
@@ -133,12 +137,12 @@ fn make_several(
     count: usize,
     stack: &mut Stack<Entry<Phrase<Held>>>,
     room: &mut Stack<Held>,
-) -> Result<(), AllocError>
+) -> Result<(), Refusal>
     ensures { IfOk result (λ _. IsMade grammar rule count stack.old stack.new) }
 {
     let extent = gathered(rule_pattern(rule), count, stack, room)?;
     let Some(entry) = stack.top_mut() else {
-        return Err(AllocError);
+        return Err(Refusal::Misfit);
     };
     make_into(alloc, rule_label(rule), extent, &mut entry.value, room)
 }
@@ -150,12 +154,12 @@ fn make_alone(
     rule: u16,
     stack: &mut Stack<Entry<Phrase<Held>>>,
     room: &mut Stack<Held>,
-) -> Result<(), AllocError>
+) -> Result<(), Refusal>
     requires { pattern_at rule ≡ 2 ∷ [] }
     ensures { IfOk result (λ _. IsMade grammar rule 1 stack.old stack.new) }
 {
     let Some(entry) = stack.top_mut() else {
-        return Err(AllocError);
+        return Err(Refusal::Misfit);
     };
     remade(alloc, rule_label(rule), &mut entry.value, room)
 }
@@ -222,7 +226,7 @@ impl Driver for Reader {
         count: usize,
         stack: &mut Stack<Entry<Phrase<Held>>>,
         room: &mut Stack<Held>,
-    ) -> Result<(), AllocError> {
+    ) -> Result<(), Refusal> {
         if count == 1 && is_part_alone(rule_pattern(rule)) {
             return make_alone(self.alloc, rule, stack, room);
         }

@@ -4,8 +4,8 @@ ghost use Rattle.std.specs.Prelude.{◌≡◌, ◌==◌, ◌∷◌, if◌then◌
 ghost use Rattle.wgsl_reading.specs.Gathering.{begun, either, IsGathered, Takes};
 
 use crate::phrase::{Absence, Failure, Phrase};
-use std::alloc::AllocError;
 use std::mem;
+use wgsl_error::Refusal;
 use wgsl_path::Span;
 use wgsl_shift_reduce::Entry;
 use wgsl_stack::Stack;
@@ -68,7 +68,7 @@ fn take_part<P: Absence>(
     phrase: &mut Phrase<P>,
     extent: &mut Option<Extent>,
     parts: &mut Stack<P>,
-) -> Result<(), AllocError>
+) -> Result<(), Refusal>
     ensures extent { IfOk result (λ _. extent.new ≡ Some (begun phrase.old extent.old)) }
     ensures parts { IfOk result (λ _. parts.new ≡ (if place == 1 then parts.old else phrase.old.part ∷ parts.old)) }
 {
@@ -78,7 +78,8 @@ fn take_part<P: Absence>(
         let_go(part);
         return Ok(());
     }
-    parts.push(part)
+    parts.push(part)?;
+    Ok(())
 }
 
 /// Does what one place of a pattern says, from the last to the first: so many phrases are left to take, of which the lowest stays
@@ -89,18 +90,19 @@ fn take_place<P: Absence>(
     stack: &mut Stack<Entry<Phrase<P>>>,
     extent: &mut Option<Extent>,
     parts: &mut Stack<P>,
-) -> Result<(), AllocError>
+) -> Result<(), Refusal>
     ensures { IfOk result (λ _. Takes P.absent place left.old left.new stack.old stack.new extent.old extent.new parts.old parts.new) }
 {
     if place == 0 {
-        return parts.push(P::absent());
+        parts.push(P::absent())?;
+        return Ok(());
     }
     if *left == 0 {
-        return Err(AllocError);
+        return Err(Refusal::Misfit);
     }
     *left -= 1;
     let Some(entry) = stack.top_mut() else {
-        return Err(AllocError);
+        return Err(Refusal::Misfit);
     };
     take_part(place, &mut entry.value, extent, parts)?;
     if *left > 0 {
@@ -116,11 +118,11 @@ pub fn gathered<P: Absence>(
     count: usize,
     stack: &mut Stack<Entry<Phrase<P>>>,
     parts: &mut Stack<P>,
-) -> Result<Extent, AllocError>
+) -> Result<Extent, Refusal>
     ensures { IfOk result (λ extent. IsGathered P.absent count pattern.now stack.old stack.new extent parts.new) }
 {
     if count == 0 {
-        return Err(AllocError);
+        return Err(Refusal::Misfit);
     }
     parts.clear();
     let mut extent = None;
@@ -132,6 +134,6 @@ pub fn gathered<P: Absence>(
     }
     match extent {
         Some(extent) if left == 0 => Ok(extent),
-        _ => Err(AllocError),
+        _ => Err(Refusal::Misfit),
     }
 }

@@ -52,7 +52,7 @@ module _ {T V : Type 0} (g : Grammar T V) where
   ahead_of None = 0
   ahead_of (Some k) = suc (g.class_of k)
 
--- What comes of a run: a tree is read; or nothing can be done, with this stack; or memory was refused.
+-- What comes of a run: a tree is read; or nothing can be done, with this stack; or the parser gave up.
 pub data Outcome (V : Type 0) : Type 0 where
   read : V → Outcome V
   stops : List (Entry V) → Outcome V

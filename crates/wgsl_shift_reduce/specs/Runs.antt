@@ -4,7 +4,7 @@ use Rattle.wgsl_shift_reduce.specs.declared.machine.Entry.{Entry}
 use Rattle.wgsl_shift_reduce.specs.declared.machine.Progress.{Progress}
 use Rattle.wgsl_shift_reduce.specs.declared.machine.Progress.TheVariants.{Shifted, GoesOn, Read, Stops}
 use Rattle.wgsl_shift_reduce.specs.declared.machine.Stopped.{Stopped}
-use Rattle.wgsl_shift_reduce.specs.declared.machine.Stopped.TheVariants.{OutOfMemory, Unexpected}
+use Rattle.wgsl_shift_reduce.specs.declared.machine.Stopped.TheVariants.{Refused, Unexpected}
 use Rattle.wgsl_shift_reduce.specs.Grammars.{phrase, Rule, Grammar}
 use Rattle.wgsl_shift_reduce.specs.declared.machine.Action.{Action}
 use Rattle.wgsl_shift_reduce.specs.declared.machine.Action.TheVariants.{Reduce}
@@ -81,4 +81,4 @@ module _ {T V : Type 0} (g : Grammar T V) (a : Tables) (from : ℕ) where
   abbrev pub Said : List T → Result V (Stopped T V) → Type 0
   Said tokens (Ok x) = (left : List T) × Comes g a from [] tokens (read x) left
   Said tokens (Err (Unexpected stack left)) = Comes g a from [] tokens (stops stack) left
-  Said tokens (Err OutOfMemory) = Unit
+  Said tokens (Err (Refused e)) = Unit

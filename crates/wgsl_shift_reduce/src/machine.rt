@@ -7,7 +7,8 @@ ghost use Rattle.wgsl_shift_reduce.specs.Machine.{Tables, action, below_top, ahe
 ghost use Rattle.wgsl_shift_reduce.specs.Machine as machine;
 ghost use Rattle.wgsl_shift_reduce.specs.Runs.{IsShift, IsMade, PassesKept, PassesKeptBy, Passes, IsSettled, IsReduction, Advances, Said};
 
-use std::alloc::{AllocError, Global};
+use std::alloc::Global;
+use wgsl_error::Refusal;
 use wgsl_stack::{Queue, Stack};
 
 /// What a parser does next.
@@ -53,19 +54,19 @@ pub enum Progress<V> {
 /// Why no sentence was read.
 #[derive(Debug, Drop)]
 pub enum Stopped<T, V> {
-    /// Memory was refused, or the parser took more steps than the tokens need.
-    OutOfMemory,
+    /// The driver gave up, or the parser took more steps than the tokens need.
+    Refused(Refusal),
     /// No sentence goes on with the first of these tokens, or ends where they are none; and what was read before them.
     Unexpected(Stack<Entry<V>>, Queue<T>),
 }
 
-impl<T, V> From<AllocError> for Stopped<T, V> {
-    ghost use Rattle.wgsl_shift_reduce.specs.declared.machine.Stopped.TheVariants.{OutOfMemory};
+impl<T, V> From<Refusal> for Stopped<T, V> {
+    ghost use Rattle.wgsl_shift_reduce.specs.declared.machine.Stopped.TheVariants.{Refused};
 
-    ghost from_gives = { λ _ stop. stop ≡ OutOfMemory };
+    ghost from_gives = { λ refusal stop. stop ≡ Refused refusal };
 
-    fn from(_error: AllocError) -> Stopped<T, V> {
-        Stopped::OutOfMemory
+    fn from(refusal: Refusal) -> Stopped<T, V> {
+        Stopped::Refused(refusal)
     }
 }
 
@@ -120,7 +121,7 @@ pub trait Driver {
         count: usize,
         stack: &mut Stack<Entry<Self::Value>>,
         room: &mut Self::Room,
-    ) -> Result<(), AllocError>
+    ) -> Result<(), Refusal>
         ensures { IfOk result (λ _. IsMade grammar rule count stack.old stack.new) };
 
     /// Whether rules that make nothing new of their one symbol keep this tree as it stands.
@@ -138,16 +139,17 @@ fn shift<D: Driver>(
     to: u16,
     stack: &mut Stack<Entry<D::Value>>,
     tokens: &mut Queue<D::Token>,
-) -> Result<(), AllocError>
+) -> Result<(), Refusal>
     ensures { IfOk result (λ _. IsShift D.grammar to stack.old stack.new tokens.old tokens.new) }
 {
     let Some(token) = tokens.pop() else {
-        return Err(AllocError);
+        return Err(Refusal::Misfit);
     };
     stack.push(Entry {
         state: to,
         value: driver.leaf(token),
-    })
+    })?;
+    Ok(())
 }
 
 /// The state below the uppermost symbol, of a parser that began in the first.
@@ -185,7 +187,7 @@ fn settle<D: Driver>(
     part: &D::Value,
     from: u16,
     ahead: u16,
-) -> Result<Next, AllocError>
+) -> Result<Next, Refusal>
     requires { D.kept part.now }
     ensures passes { IfOk result (λ s. Passes D.grammar (D.tables driver.now) below ahead part.now from s.state) }
     ensures action { IfOk result (λ s. s.action ≡ action (D.tables driver.now) s.state ahead) }
@@ -197,11 +199,11 @@ fn settle<D: Driver>(
             return Ok(Next { state, action });
         };
         let Some(to) = driver.state_behind(below, left) else {
-            return Err(AllocError);
+            return Err(Refusal::Misfit);
         };
         state = to;
     }
-    Err(AllocError)
+    Err(Refusal::TooManySteps)
 }
 
 /// Passes the uppermost symbol on as long as its tree stays as it stands, and returns what is done then.
@@ -210,7 +212,7 @@ fn settled<D: Driver>(
     from: u16,
     ahead: u16,
     stack: &mut Stack<Entry<D::Value>>,
-) -> Result<Action, AllocError>
+) -> Result<Action, Refusal>
     ensures { IfOk result (IsSettled D.grammar (D.tables driver.now) from ahead stack.old stack.new) }
 {
     let below = state_below(from, stack);
@@ -232,18 +234,18 @@ fn reduce<D: Driver>(
     rule: u16,
     stack: &mut Stack<Entry<D::Value>>,
     room: &mut D::Room,
-) -> Result<(), AllocError>
+) -> Result<(), Refusal>
     ensures { IfOk result (λ _. IsReduction D.grammar (D.tables driver.now) from rule stack.old stack.new) }
 {
     let Some(shape) = driver.shape(rule) else {
-        return Err(AllocError);
+        return Err(Refusal::Misfit);
     };
     driver.make(rule, shape.length, stack, room)?;
     let Some(to) = driver.state_behind(state_below(from, stack), shape.left) else {
-        return Err(AllocError);
+        return Err(Refusal::Misfit);
     };
     let Some(entry) = stack.top_mut() else {
-        return Err(AllocError);
+        return Err(Refusal::Misfit);
     };
     entry.state = to;
     Ok(())
@@ -257,7 +259,7 @@ fn advance<D: Driver>(
     stack: &mut Stack<Entry<D::Value>>,
     tokens: &mut Queue<D::Token>,
     room: &mut D::Room,
-) -> Result<Progress<D::Value>, AllocError>
+) -> Result<Progress<D::Value>, Refusal>
     requires { ahead ≡ machine.ahead D.grammar tokens.old }
     ensures { IfOk result (Advances D.grammar (D.tables driver.now) from stack.old stack.new tokens.old tokens.new) }
 {
@@ -272,7 +274,7 @@ fn advance<D: Driver>(
         }
         Action::Accept => match stack.pop() {
             Some(Entry { value, .. }) => Ok(Progress::Read(value)),
-            None => Err(AllocError),
+            None => Err(Refusal::Misfit),
         },
         Action::Stop => Ok(Progress::Stops),
     }
@@ -311,5 +313,5 @@ pub fn run<D: Driver>(
             Progress::Stops => return Err(Stopped::Unexpected(stack, tokens)),
         }
     }
-    Err(Stopped::OutOfMemory)
+    Err(Stopped::Refused(Refusal::TooManySteps))
 }

@@ -1,7 +1,7 @@
 use Rattle.std.proofs.Common.{sym}
 use Rattle.std.proofs.lemmas.Result.{err_from_is_err_and}
 use Rattle.weslc_bundle.proofs.Answered.{faults_of}
-use Rattle.weslc_bundle.proofs.Requests.{faults_keys, faults_command, faults_root, faults_modules, faults_features, faults_keep, faults_max_modules, faults_max_steps, request_whole}
+use Rattle.weslc_bundle.proofs.Requests.{faults_keys, faults_command, faults_root, faults_modules, faults_features, faults_keep, faults_mode, faults_max_modules, faults_max_steps, request_whole}
 use Rattle.weslc_bundle.proofs.request.read_members.Goals as goal
 
 pub returns-in_err-check_keys : goal.returns-in_err-check_keys
@@ -29,20 +29,25 @@ returns-in_err-features c =
     let p = err_from_is_err_and c.from_residual-in_err-features.result c.from_residual-in_err-features.ensures.1 in
     rw (p.1, p.2) (faults_features _ _ _ _ _ _ c.in_ok-check_keys.ensures (sym c.in_ok-command.ensures) c.in_ok-root.ensures c.in_ok-modules.ensures c.in_err-features.ensures)
 
-pub returns-in_err-read_keep : goal.returns-in_err-read_keep
-returns-in_err-read_keep c =
-    let p = err_from_is_err_and c.from_residual-in_err-read_keep.result c.from_residual-in_err-read_keep.ensures.1 in
-    rw (p.1, p.2) (faults_keep _ _ _ _ _ _ _ c.in_ok-check_keys.ensures (sym c.in_ok-command.ensures) c.in_ok-root.ensures c.in_ok-modules.ensures c.in_ok-features.ensures c.in_err-read_keep.ensures)
+pub returns-in_err-keep : goal.returns-in_err-keep
+returns-in_err-keep c =
+    let p = err_from_is_err_and c.from_residual-in_err-keep.result c.from_residual-in_err-keep.ensures.1 in
+    rw (p.1, p.2) (faults_keep _ _ _ _ _ _ _ c.in_ok-check_keys.ensures (sym c.in_ok-command.ensures) c.in_ok-root.ensures c.in_ok-modules.ensures c.in_ok-features.ensures c.in_err-keep.ensures)
 
-pub returns-in_err-read_max_modules : goal.returns-in_err-read_max_modules
-returns-in_err-read_max_modules c =
-    let p = err_from_is_err_and c.from_residual-in_err-read_max_modules.result c.from_residual-in_err-read_max_modules.ensures.1 in
-    rw (p.1, p.2) (faults_max_modules _ _ _ _ _ _ _ _ c.in_ok-check_keys.ensures (sym c.in_ok-command.ensures) c.in_ok-root.ensures c.in_ok-modules.ensures c.in_ok-features.ensures c.in_ok-read_keep.ensures (faults_of c.in_err-read_max_modules.ensures))
+pub returns-in_err-mode : goal.returns-in_err-mode
+returns-in_err-mode c =
+    let p = err_from_is_err_and c.from_residual-in_err-mode.result c.from_residual-in_err-mode.ensures.1 in
+    rw (p.1, p.2) (faults_mode _ _ _ _ _ _ _ _ c.in_ok-check_keys.ensures (sym c.in_ok-command.ensures) c.in_ok-root.ensures c.in_ok-modules.ensures c.in_ok-features.ensures c.in_ok-keep.ensures (faults_of c.in_err-mode.ensures))
 
-pub returns-in_err-read_max_steps : goal.returns-in_err-read_max_steps
-returns-in_err-read_max_steps c =
-    let p = err_from_is_err_and c.from_residual-in_err-read_max_steps.result c.from_residual-in_err-read_max_steps.ensures.1 in
-    rw (p.1, p.2) (faults_max_steps _ _ _ _ _ _ _ _ _ c.in_ok-check_keys.ensures (sym c.in_ok-command.ensures) c.in_ok-root.ensures c.in_ok-modules.ensures c.in_ok-features.ensures c.in_ok-read_keep.ensures (sym c.in_ok-read_max_modules.ensures) (faults_of c.in_err-read_max_steps.ensures))
+pub returns-in_err-max_modules : goal.returns-in_err-max_modules
+returns-in_err-max_modules c =
+    let p = err_from_is_err_and c.from_residual-in_err-max_modules.result c.from_residual-in_err-max_modules.ensures.1 in
+    rw (p.1, p.2) (faults_max_modules _ _ _ _ _ _ _ _ _ c.in_ok-check_keys.ensures (sym c.in_ok-command.ensures) c.in_ok-root.ensures c.in_ok-modules.ensures c.in_ok-features.ensures c.in_ok-keep.ensures (sym c.in_ok-mode.ensures) (faults_of c.in_err-max_modules.ensures))
+
+pub returns-in_err-max_steps : goal.returns-in_err-max_steps
+returns-in_err-max_steps c =
+    let p = err_from_is_err_and c.from_residual-in_err-max_steps.result c.from_residual-in_err-max_steps.ensures.1 in
+    rw (p.1, p.2) (faults_max_steps _ _ _ _ _ _ _ _ _ _ c.in_ok-check_keys.ensures (sym c.in_ok-command.ensures) c.in_ok-root.ensures c.in_ok-modules.ensures c.in_ok-features.ensures c.in_ok-keep.ensures (sym c.in_ok-mode.ensures) (sym c.in_ok-max_modules.ensures) (faults_of c.in_err-max_steps.ensures))
 
 pub returns : goal.returns
-returns c = request_whole _ _ _ _ _ _ _ _ _ c.in_ok-check_keys.ensures (sym c.in_ok-command.ensures) c.in_ok-root.ensures c.in_ok-modules.ensures c.in_ok-features.ensures c.in_ok-read_keep.ensures (sym c.in_ok-read_max_modules.ensures) (sym c.in_ok-read_max_steps.ensures)
+returns c = request_whole _ _ _ _ _ _ _ _ _ _ c.in_ok-check_keys.ensures (sym c.in_ok-command.ensures) c.in_ok-root.ensures c.in_ok-modules.ensures c.in_ok-features.ensures c.in_ok-keep.ensures (sym c.in_ok-mode.ensures) (sym c.in_ok-max_modules.ensures) (sym c.in_ok-max_steps.ensures)

@@ -7,5 +7,5 @@ use Rattle.wgsl_derivable.proofs.derivable.is_said.Goals as goal
 pub returns-in-Ok-clause-said : goal.returns-in-Ok-clause-said
 returns-in-Ok-clause-said c = by_module c.args.printed.now (unit_tree c.args.unit.now) c.in-Ok.other c.is_same.result c.requires c.in-Ok.ensures c.is_same.ensures.same
 
-pub returns-in_default : goal.returns-in_default
-returns-in_default c = record { said = by_fault c.args.printed.now (unit_tree c.args.unit.now) c.in-Err.error c.requires c.in-Err.ensures c.in_default.not-OutOfMemory; tree = refl }
+pub returns-in-None : goal.returns-in-None
+returns-in-None c = record { said = by_fault c.args.printed.now (unit_tree c.args.unit.now) c.in-Err.error c.requires c.in-Err.ensures c.in-None.ensures; tree = refl }

@@ -1,0 +1,12 @@
+//! What names lead to in the loaded modules.
+#![tactic(auto)]
+
+mod asked;
+mod closing;
+mod missing;
+mod starts;
+
+pub use asked::{Asked, AskedModule};
+pub use closing::{Closing, Reached};
+pub use missing::first_missing;
+pub use starts::{all_places, kept_places};

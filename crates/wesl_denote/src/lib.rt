@@ -1,0 +1,8 @@
+//! What the names of loaded modules denote.
+#![tactic(auto)]
+
+mod denote;
+mod turns;
+
+pub use denote::{Denoted, Link, Start, Step, denotation, found_at, start_of};
+pub use turns::Turns;

@@ -1,0 +1,43 @@
+//! Tables of names and of references, which give each a number.
+
+ghost use Rattle.std.specs.Prelude.{◌≡◌, IfOk};
+
+use indexmap::IndexSet;
+use std::alloc::{AllocError, Global};
+use wgsl_path::ModulePath;
+
+/// A name as a tree uses it, maybe behind the path of a module. `name` is the number of its text.
+#[derive(Drop, PartialEq, Eq, Hash)]
+pub struct Reference {
+    pub path: Option<ModulePath>,
+    pub name: u32,
+}
+
+/// The number of a name, which is added where it is not there yet. More names than a `u32` counts are out of memory.
+pub(crate) fn name_number(
+    alloc: Global,
+    names: &mut IndexSet<String>,
+    name: &str,
+) -> Result<u32, AllocError> {
+    let (at, _) = names.insert_full(String::from_str(alloc, name)?)?;
+    numbered(at)
+}
+
+/// The number of a reference, which is added where it is not there yet. More than a `u32` counts are out of memory.
+pub(crate) fn reference_number(
+    references: &mut IndexSet<Reference>,
+    reference: Reference,
+) -> Result<u32, AllocError> {
+    let (at, _) = references.insert_full(reference)?;
+    numbered(at)
+}
+
+/// A number as a `u32`. One that does not fit is out of memory.
+pub(crate) fn numbered(at: usize) -> Result<u32, AllocError>
+    ensures { IfOk result (λ number. number ≡ at) }
+{
+    match u32::try_from(at) {
+        Ok(number) => Ok(number),
+        Err(_) => Err(AllocError),
+    }
+}

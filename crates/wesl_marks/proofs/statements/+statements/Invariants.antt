@@ -1,0 +1,35 @@
+use Rattle.std.proofs.Common.{◌+◌, ◌*◌}
+use Rattle.wesl_marks.proofs.statements.+statements.Given as goal
+
+abbrev pub decreases-mark_statement : goal.decreases-mark_statement
+decreases-mark_statement l = 8 * goal.size-mark_statement l + 0
+
+abbrev pub decreases-mark_statements : goal.decreases-mark_statements
+decreases-mark_statements l = 8 * goal.size-mark_statements l + 1
+
+abbrev pub decreases-mark_part : goal.decreases-mark_part
+decreases-mark_part l = 8 * goal.size-mark_part l + 1
+
+abbrev pub decreases-mark_block : goal.decreases-mark_block
+decreases-mark_block l = 8 * goal.size-mark_block l + 2
+
+abbrev pub decreases-mark_continuing : goal.decreases-mark_continuing
+decreases-mark_continuing l = 8 * goal.size-mark_continuing l + 2
+
+abbrev pub decreases-mark_if : goal.decreases-mark_if
+decreases-mark_if l = 8 * goal.size-mark_if l + 3
+
+abbrev pub decreases-mark_switch : goal.decreases-mark_switch
+decreases-mark_switch l = 8 * goal.size-mark_switch l + 3
+
+abbrev pub decreases-mark_loop : goal.decreases-mark_loop
+decreases-mark_loop l = 8 * goal.size-mark_loop l + 3
+
+abbrev pub decreases-mark_for : goal.decreases-mark_for
+decreases-mark_for l = 8 * goal.size-mark_for l + 3
+
+abbrev pub decreases-mark_while : goal.decreases-mark_while
+decreases-mark_while l = 8 * goal.size-mark_while l + 3
+
+abbrev pub decreases-mark_header : goal.decreases-mark_header
+decreases-mark_header l = 8 * goal.size-mark_header l + 2

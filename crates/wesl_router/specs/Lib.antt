@@ -1,0 +1,5 @@
+pub mod Choice
+pub mod Routing
+pub mod Laws
+pub mod Telling
+pub mod Longest

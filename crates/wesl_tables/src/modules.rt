@@ -1,0 +1,90 @@
+//! The loaded modules.
+
+use crate::module::Module;
+use std::alloc::{AllocError, Global};
+use std::collections::BTreeMap;
+
+/// A declaration, assertion or directive of a loaded module: the module's number and the place there.
+#[derive(Clone, Copy, Debug, PartialEq, Eq)]
+pub struct Spot {
+    pub module: usize,
+    pub place: usize,
+}
+
+/// The loaded modules, each with a number in the order of loading. The root has number 0.
+#[derive(Drop)]
+pub struct Modules {
+    list: Vec<Module>,
+    numbers: BTreeMap<String, usize>,
+    item_count: usize,
+}
+
+impl Modules {
+    pub fn new(alloc: Global) -> Modules {
+        Modules {
+            list: Vec::new(alloc),
+            numbers: BTreeMap::new(alloc),
+            item_count: 0,
+        }
+    }
+
+    /// How many modules are loaded; their numbers are those below it.
+    pub fn len(&self) -> usize {
+        self.list.len()
+    }
+
+    pub fn is_empty(&self) -> bool {
+        self.list.is_empty()
+    }
+
+    /// How many items the imports of all modules have.
+    pub fn item_count(&self) -> usize {
+        self.item_count
+    }
+
+    /// The module of this number.
+    pub fn get(&self, number: usize) -> Option<&Module> {
+        self.list.get(number)
+    }
+
+    /// The number of the module at a printed path.
+    pub fn number_of(&self, printed_path: &str) -> Option<usize> {
+        match self.numbers.get(printed_path) {
+            Some(number) => Some(*number),
+            None => None,
+        }
+    }
+
+    /// Adds a module, with the next number.
+    pub fn push(&mut self, alloc: Global, module: Module) -> Result<(), AllocError> {
+        let text = String::from_str(alloc, module.target.printed_path.as_str())?;
+        let count = self.item_count.saturating_add(module.items.len());
+        let number = self.list.len();
+        self.list.push(module)?;
+        self.numbers.insert(text, number)?;
+        self.item_count = count;
+        Ok(())
+    }
+
+    /// The numbers of the modules in byte order of their printed paths.
+    pub fn in_path_order(&self, alloc: Global) -> Result<Vec<usize>, AllocError> {
+        let mut numbers = Vec::new(alloc);
+        for number in self.numbers.values() {
+            numbers.push(*number)?;
+        }
+        Ok(numbers)
+    }
+
+    /// The numbers of the modules in the order of the linked unit: the root's, then those of the others in byte order of their printed
+    /// paths.
+    pub fn in_linked_order(&self, alloc: Global) -> Result<Vec<usize>, AllocError> {
+        let mut numbers = Vec::new(alloc);
+        numbers.push(0)?;
+        for number in self.numbers.values() {
+            if *number != 0 {
+                numbers.push(*number)?;
+            }
+        }
+        Ok(numbers)
+    }
+}

@@ -1,0 +1,91 @@
+//! Modules that a module names.
+
+use std::alloc::{AllocError, Global};
+use wgsl_items::{CloneIn, Items, Text};
+use wgsl_path::{ModulePath, ModulePathParseError, PathOrigin};
+
+/// A module that is named, loaded or not. Paths that print alike name one module.
+#[derive(Debug, Drop)]
+pub struct Target {
+    /// The path that the text is read as; of a text that is no path, a package of that name.
+    pub path: ModulePath,
+    /// The path as it is printed.
+    pub printed_path: String,
+}
+
+impl Target {
+    /// The module at a path.
+    pub fn new(alloc: Global, path: &ModulePath) -> Result<Target, AllocError> {
+        let printed_path = path.to_string(alloc)?;
+        Ok(Target {
+            path: path_of_text(alloc, printed_path.as_str())?,
+            printed_path,
+        })
+    }
+}
+
+fn path_of_text(alloc: Global, text: &str) -> Result<ModulePath, AllocError> {
+    match ModulePath::from_str(alloc, text) {
+        Ok(path) => Ok(path),
+        Err(ModulePathParseError::OutOfMemory) => Err(AllocError),
+        Err(_) => package(alloc, text),
+    }
+}
+
+/// The root of a package of this name.
+pub(crate) fn package(alloc: Global, name: &str) -> Result<ModulePath, AllocError> {
+    Ok(ModulePath {
+        origin: PathOrigin::Package(Text::from_str(alloc, name)?),
+        components: Items::new(alloc),
+    })
+}
+
+/// A path that a module writes, as it is meant there: `package` is the root of the module's own package, `super` counts from the
+/// module's own path.
+pub(crate) fn meant(
+    alloc: Global,
+    own: &ModulePath,
+    written: &ModulePath,
+) -> Result<ModulePath, AllocError> {
+    match &written.origin {
+        PathOrigin::Absolute => Ok(ModulePath {
+            origin: own.origin.clone_in(alloc)?,
+            components: written.components.clone_in(alloc)?,
+        }),
+        PathOrigin::Relative(_) => own.join_path(alloc, written),
+        PathOrigin::Package(_) => written.clone_in(alloc),
+    }
+}
+
+/// What a name that is imported stands for.
+#[derive(Debug, Drop)]
+pub struct ImportItem {
+    /// The module before the last name; `None` where the import is one bare name.
+    pub module: Option<Target>,
+    /// The last name: that of the item in that module.
+    pub name: Text,
+    /// Whether other modules may import the item from here.
+    pub is_published: bool,
+}
+
+impl ImportItem {
+    /// The whole path of the import, as a module, and names behind it.
+    pub fn path_behind(
+        &self,
+        alloc: Global,
+        names: &Items<Text>,
+    ) -> Result<ModulePath, AllocError> {
+        let names = names.clone_in(alloc)?;
+        self.whole_path(alloc)?.join(names)
+    }
+
+    fn whole_path(&self, alloc: Global) -> Result<ModulePath, AllocError> {
+        match &self.module {
+            None => package(alloc, self.name.as_str()),
+            Some(target) => {
+                let name = self.name.clone_in(alloc)?;
+                target.path.clone_in(alloc)?.with_name(name)
+            }
+        }
+    }
+}

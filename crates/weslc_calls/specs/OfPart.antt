@@ -1,0 +1,72 @@
+-- Which calls the part of the language answers whose linking and compiling is proved.
+use Rattle.std.specs.Prelude.{◌≡◌, ◌⊎◌, ⊤, ℕ, List, Bool, true, false, Result, String}
+use Rattle.std.specs.declared.alloc.Global.{Global}
+use Rattle.wgsl_path.specs.declared.path.ModulePath.{ModulePath}
+use Rattle.wgsl_path.specs.declared.path.PathOrigin.{PathOrigin}
+use Rattle.wgsl_path.specs.declared.path.PathOrigin.TheVariants.{Absolute, Relative, Package}
+use Rattle.wgsl_path.specs.Paths.{path_text}
+use Rattle.wesl_features.specs.declared.feature.Features.{Features}
+use Rattle.wesl_resolvers.specs.Found as whole
+use Rattle.wesl_preprocess.specs.Applying.{IsMadeOf}
+use Rattle.wesl_preprocess.specs.Conditions.{decided}
+use Rattle.wesl_link_spec.specs.Rounds.{Sources}
+use Rattle.weslc_part.specs.Found.{part_found}
+use Rattle.weslc_linking.specs.declared.options.Options.{Options}
+use Rattle.weslc_linking.specs.declared.options.Mode.{Mode}
+use Rattle.weslc_linking.specs.declared.options.Mode.TheVariants.{Lazy, Eager, Whole}
+use Rattle.wesl_resolve.specs.declared.source_map.BasicSourceMap.{BasicSourceMap}
+use Rattle.weslc_calls.specs.declared.part.Tried.{Tried}
+use Rattle.weslc_calls.specs.declared.part.Tried.TheVariants.{Answered, Beyond}
+use Rattle.weslc_linking.specs.declared.error.ErrorContext.{ErrorContext}
+use Rattle.weslc_linking.specs.declared.error.CompileError.{CompileError}
+use Rattle.weslc_linking.specs.declared.error.CompileError.TheVariants.{Unsupported}
+use Rattle.weslc_linking.specs.Answers.{RefusesToLink, RefusesToCompile}
+
+-- what a resolver finds at each path
+abbrev pub Finding : Type 1
+Finding = ModulePath → whole.Answer → Type 0
+
+-- what is found once conditions are decided by these features
+abbrev pub decided_by : Features → Finding → Finding
+decided_by features found p a = IsMadeOf (decided features) (found p) a
+
+-- what the part finds at each printed path, conditions decided
+abbrev pub sources : Features → Finding → Sources
+sources features found = part_found (decided_by features found)
+
+abbrev pub is_lazy : Mode → Bool
+is_lazy Lazy = true
+is_lazy Eager = false
+is_lazy Whole = false
+
+-- a path of the own package
+abbrev pub is_own : PathOrigin → Bool
+is_own Absolute = true
+is_own (Relative levels) = false
+is_own (Package name) = false
+
+-- The call is none of the part's: it is not lazy, or its root is in another package.
+abbrev pub IsOther : ModulePath → Options → Type 0
+IsOther root options = (is_lazy options.mode ≡ false) ⊎ (is_own root.origin ≡ false)
+
+-- Or linking meets a module beyond the part before any other fault.
+abbrev pub IsBeyondLink : Finding → ModulePath → Options → Type 0
+IsBeyondLink found root options =
+    IsOther root options
+    ⊎ ((c : ErrorContext) × RefusesToLink (sources options.features found) (path_text root) options.keep options.max_modules (Unsupported c))
+
+-- likewise of compiling
+abbrev pub IsBeyondCompile : Finding → ModulePath → Options → Type 0
+IsBeyondCompile found root options =
+    IsOther root options
+    ⊎ ((c : ErrorContext) × RefusesToCompile (sources options.features found) (path_text root) options.keep options.max_modules options.max_steps (Unsupported c))
+
+-- ---- calls that the part is tried on
+
+abbrev pub IfAnswered : Tried → (Result (String Global × BasicSourceMap) CompileError → Type 0) → Type 0
+IfAnswered (Answered answer) P = P answer
+IfAnswered (Beyond m) P = ⊤
+
+abbrev pub IfBeyond : Tried → Type 0 → Type 0
+IfBeyond (Answered answer) P = ⊤
+IfBeyond (Beyond m) P = P

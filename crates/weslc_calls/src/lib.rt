@@ -1,0 +1,15 @@
+//! The calls of `weslc`.
+#![tactic(auto)]
+
+mod calls;
+mod part;
+mod whole;
+
+pub use calls::{compile, link};
+pub use wesl_preprocess::Preprocessor;
+pub use wesl_resolvers::{NoResolver, RecordingResolver, ResolveError, Resolver};
+pub use weslc_api::{
+    BasicSourceMap, CompileError, Error, ErrorContext, ErrorKind, EscapeMangler, Fault, Feature,
+    Features, ImportKind, Mode, NameFault, Options, ResolveKind, SourceMap, ValidateError,
+};
+pub use weslc_texts::VirtualResolver;

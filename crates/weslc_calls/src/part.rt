@@ -1,0 +1,101 @@
+//! The calls of the part of the language whose linking and compiling is proved.
+
+ghost use Rattle.std.specs.Prelude.{◌≡◌, IfOk, IfErr, string_bytes};
+ghost use Rattle.wgsl_path.specs.Paths.{path_text};
+ghost use Rattle.weslc_part.specs.Found.{at_text, part_names};
+ghost use Rattle.weslc_linking.specs.Mapped.{HasNames};
+ghost use Rattle.weslc_linking.specs.Answers.{RefusesToLink, RefusesToCompile, IsMapped, IsLinkedText, IsCompiledText};
+ghost use Rattle.weslc_calls.specs.OfPart.{is_lazy, is_own, sources, IsBeyondLink, IsBeyondCompile, IfAnswered, IfBeyond};
+
+use std::alloc::Global;
+use wesl_preprocess::{Conditions, Preprocessor};
+use wesl_resolvers::Resolver;
+use weslc_api::{BasicSourceMap, CompileError, Mode, Options};
+use weslc_part::{Beyond, PartResolver};
+use wgsl_path::{ModulePath, PathOrigin};
+
+/// What a call answers.
+pub(crate) type Answer = Result<(String, BasicSourceMap), CompileError>;
+
+/// What comes of a call that the part is tried on.
+#[derive(Drop)]
+pub(crate) enum Tried {
+    Answered(Answer),
+    /// It is none of the part's. The module that shows it may be parsed already.
+    Beyond(Option<Beyond>),
+}
+
+fn is_lazy(mode: Mode) -> bool
+    ensures { result ≡ is_lazy mode }
+{
+    match mode {
+        Mode::Lazy => true,
+        Mode::Eager | Mode::Whole => false,
+    }
+}
+
+/// Whether a path is one of the own package.
+fn is_own(origin: &PathOrigin) -> bool
+    ensures { result ≡ is_own origin.now }
+{
+    match origin {
+        PathOrigin::Absolute => true,
+        PathOrigin::Relative(_) | PathOrigin::Package(_) => false,
+    }
+}
+
+/// Links by the part, where the call is one of its.
+pub(crate) fn try_link<R: Resolver>(
+    alloc: Global,
+    resolver: &mut R,
+    root: &ModulePath,
+    options: &Options,
+) -> Tried
+    ensures text { IfAnswered result (λ r. IfOk r (λ answer. IsLinkedText (sources options.now.features (R.answers resolver.old)) (path_text root.now) options.now.keep options.now.max_modules (string_bytes answer.0))) }
+    ensures map { IfAnswered result (λ r. IfOk r (λ answer. IsMapped (sources options.now.features (R.answers resolver.old)) (path_text root.now) options.now.keep options.now.max_modules (at_text (R.texts resolver.old)) answer.1)) }
+    ensures names { IfAnswered result (λ r. IfOk r (λ answer. HasNames (part_names (R.display_names resolver.old)) answer.1)) }
+    ensures refusal { IfAnswered result (λ r. IfErr r (RefusesToLink (sources options.now.features (R.answers resolver.old)) (path_text root.now) options.now.keep options.now.max_modules)) }
+    ensures beyond { IfBeyond result (IsBeyondLink (R.answers resolver.old) root.now options.now) }
+{
+    if !is_lazy(options.mode) {
+        return Tried::Beyond(None);
+    }
+    if !is_own(&root.origin) {
+        return Tried::Beyond(None);
+    }
+    let features = &options.features;
+    let decided = Preprocessor::new(resolver, Conditions { features });
+    let mut part = PartResolver::new(decided);
+    match weslc_api::link(alloc, &mut part, root, options) {
+        Err(CompileError::Unsupported(_)) => Tried::Beyond(part.into_beyond()),
+        answer => Tried::Answered(answer),
+    }
+}
+
+/// Compiles by the part, where the call is one of its.
+pub(crate) fn try_compile<R: Resolver>(
+    alloc: Global,
+    resolver: &mut R,
+    root: &ModulePath,
+    options: &Options,
+) -> Tried
+    ensures text { IfAnswered result (λ r. IfOk r (λ answer. IsCompiledText (sources options.now.features (R.answers resolver.old)) (path_text root.now) options.now.keep options.now.max_modules options.now.max_steps (string_bytes answer.0))) }
+    ensures map { IfAnswered result (λ r. IfOk r (λ answer. IsMapped (sources options.now.features (R.answers resolver.old)) (path_text root.now) options.now.keep options.now.max_modules (at_text (R.texts resolver.old)) answer.1)) }
+    ensures names { IfAnswered result (λ r. IfOk r (λ answer. HasNames (part_names (R.display_names resolver.old)) answer.1)) }
+    ensures refusal { IfAnswered result (λ r. IfErr r (RefusesToCompile (sources options.now.features (R.answers resolver.old)) (path_text root.now) options.now.keep options.now.max_modules options.now.max_steps)) }
+    ensures beyond { IfBeyond result (IsBeyondCompile (R.answers resolver.old) root.now options.now) }
+{
+    if !is_lazy(options.mode) {
+        return Tried::Beyond(None);
+    }
+    if !is_own(&root.origin) {
+        return Tried::Beyond(None);
+    }
+    let features = &options.features;
+    let decided = Preprocessor::new(resolver, Conditions { features });
+    let mut part = PartResolver::new(decided);
+    match weslc_api::compile(alloc, &mut part, root, options) {
+        Err(CompileError::Unsupported(_)) => Tried::Beyond(part.into_beyond()),
+        answer => Tried::Answered(answer),
+    }
+}

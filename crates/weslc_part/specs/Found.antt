@@ -1,0 +1,71 @@
+-- What the part of the language finds where whole modules are found.
+use Rattle.std.specs.Prelude.{◌≡◌, ◌⊎◌, ⊤, ℕ, List, Option, Some, None, Result, Ok, Err}
+use Rattle.wgsl_path.specs.declared.path.ModulePath.{ModulePath}
+use Rattle.wgsl_path.specs.Reading.{PathResult, parts, path_of}
+use Rattle.wesl_features.specs.declared.error.CondCompError.{CondCompError}
+use Rattle.wgsl_declarations.specs.Tree as whole_trees
+use Rattle.wgsl_syntax.specs.Tree.{UnitTree}
+use Rattle.wgsl_part.specs.Widening.{widen_unit}
+use Rattle.wgsl_part.specs.InPart.{IsInPart}
+use Rattle.wesl_resolvers.specs.Found as whole
+use Rattle.wesl_resolvers.specs.declared.error.ResolveError as whole_error
+use Rattle.wesl_resolvers.specs.declared.error.ResolveError.TheVariants as wholly
+use Rattle.wesl_resolve.specs.declared.error.ResolveError.{ResolveError}
+use Rattle.wesl_resolve.specs.declared.error.ResolveError.TheVariants as part
+use Rattle.wgsl_syntax.specs.declared.unit.TranslationUnit.{TranslationUnit}
+use Rattle.wgsl_syntax.specs.View.{unit_tree}
+use Rattle.wgsl_part.specs.declared.error.NarrowError.{NarrowError}
+use Rattle.wgsl_part.specs.declared.error.NarrowError.TheVariants as narrowing
+use Rattle.wesl_resolve.specs.Found.{Answer, unit_of, not_found, faulty, unsupported}
+
+-- a condition of a module is at fault, or left open
+abbrev pub IsFaulty : whole_error.ResolveError → Type 0
+IsFaulty e = (q : ModulePath) × (f : CondCompError) × (e ≡ wholly.Condition q f)
+
+abbrev pub IsLeft : whole_error.ResolveError → Type 0
+IsLeft e = (q : ModulePath) × (e ≡ wholly.ConditionLeft q)
+
+-- What is found is beyond the part: a module that no unit of the part is, or one whose conditions are at fault or are left open.
+pub data IsBeyond (found : whole.Answer → Type 0) : Type 0 where
+  a_module : (m : whole_trees.UnitTree) → found (whole.unit_of m) → ((u : UnitTree) → widen_unit u ≡ m → IsInPart u → ⊥) → IsBeyond found
+  a_condition : (e : CondCompError) → found (whole.conditioned e) → IsBeyond found
+  left_open : found whole.left_open → IsBeyond found
+
+-- what the part finds: the unit that a module is, no module, the fault of its text, or what is beyond the part
+abbrev pub IsPartAnswer : (whole.Answer → Type 0) → Answer → Type 0
+IsPartAnswer found (unit_of u) = found (whole.unit_of (widen_unit u)) × IsInPart u
+IsPartAnswer found not_found = found whole.not_found
+IsPartAnswer found (faulty e) = found (whole.faulty e)
+IsPartAnswer found unsupported = IsBeyond found
+
+-- what is found at the path that a text is read as
+abbrev pub at_text : {A : Type 0} → (ModulePath → A → Type 0) → List ℕ → A → Type 0
+at_text found p a = (q : ModulePath) × (path_of (parts p) ≡ Ok q) × found q a
+
+-- what the part finds at a printed path
+abbrev pub part_found : (ModulePath → whole.Answer → Type 0) → List ℕ → Answer → Type 0
+part_found found = at_text (λ q. IsPartAnswer (found q))
+
+-- the name that a message gives the module at a printed path
+abbrev pub name_by : {A : Type 0} → (ModulePath → Option A) → PathResult ModulePath → Option A
+name_by names (Ok q) = names q
+name_by names (Err e) = None
+
+abbrev pub part_names : {A : Type 0} → (ModulePath → Option A) → List ℕ → Option A
+part_names names p = name_by names (path_of (parts p))
+
+-- ---- steps
+
+-- of a module, the unit of the part that it is, or that it is beyond the part
+abbrev pub Finds : whole_trees.UnitTree → Result TranslationUnit NarrowError → Type 0
+Finds m (Ok u) = (widen_unit (unit_tree u) ≡ m) × IsInPart (unit_tree u)
+Finds m (Err narrowing.Unsupported) = (u : UnitTree) → widen_unit u ≡ m → IsInPart u → ⊥
+Finds m (Err narrowing.OutOfMemory) = ⊤
+
+-- memory aside, what is told of the refusal of a whole module at a path
+abbrev pub TellsRefused : whole_error.ResolveError → ModulePath → ResolveError → Type 0
+TellsRefused e path (part.ModuleNotFound p) = (p ≡ path) × ((q : ModulePath) × (e ≡ wholly.ModuleNotFound q))
+TellsRefused e path (part.Syntax p f) = (p ≡ path) × ((q : ModulePath) × (e ≡ wholly.Syntax q f))
+TellsRefused e path (part.Unsupported p) = (p ≡ path) × (IsLeft e ⊎ IsFaulty e)
+TellsRefused e path (part.GaveUp p r) = p ≡ path
+TellsRefused e path part.OutOfMemory = ⊤

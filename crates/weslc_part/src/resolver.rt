@@ -1,0 +1,150 @@
+//! The units of the part that a resolver's modules are.
+
+ghost use Rattle.wgsl_path.specs.Reading.{parts, path_of};
+ghost use Rattle.wgsl_path.specs.Paths.{path_text};
+ghost use Rattle.std.specs.Prelude.{◌≡◌, Ok, IfOk};
+ghost use Rattle.weslc_part.specs.Found.{TellsRefused};
+
+use crate::narrowed::narrowed;
+use std::alloc::{AllocError, Global};
+use wesl_resolve::ResolveError;
+use wesl_resolvers as whole;
+use wesl_rounds::HeldUnit;
+use wgsl_items::{CloneIn, Text};
+use wgsl_part::NarrowError;
+use wgsl_path::{ModulePath, ModulePathParseError};
+use wgsl_syntax::TranslationUnit;
+
+/// A module beyond the part, and its path.
+#[derive(Drop)]
+pub struct Beyond {
+    pub path: ModulePath,
+    pub unit: HeldUnit,
+}
+
+/// A resolver of whole modules as one of the part: it answers the unit of the part that a module is, and refuses a module that is none,
+/// or whose conditions are at fault, as unsupported. Paths that print alike are one path.
+#[derive(Drop)]
+pub struct PartResolver<R> {
+    pub resolver: R,
+    /// The module that was last refused as unsupported, so that nobody has to parse it again.
+    pub beyond: Option<Beyond>,
+}
+
+impl<R: whole::Resolver> PartResolver<R> {
+    pub fn new(resolver: R) -> PartResolver<R>
+        ensures { result.resolver ≡ resolver }
+    {
+        PartResolver {
+            resolver,
+            beyond: None,
+        }
+    }
+
+    /// The module that was last refused as unsupported.
+    pub fn into_beyond(self) -> Option<Beyond> {
+        let PartResolver { resolver, beyond } = self;
+        drop(resolver);
+        beyond
+    }
+
+    fn refuse(&mut self, alloc: Global, path: &ModulePath, unit: HeldUnit) -> ResolveError {
+        match (path.clone_in(alloc), path.clone_in(alloc)) {
+            (Ok(path), Ok(same)) => {
+                self.beyond = Some(Beyond { path, unit });
+                ResolveError::Unsupported(same)
+            }
+            _ => ResolveError::OutOfMemory,
+        }
+    }
+}
+
+/// The path that a path's text is read as. A text that is no path is out of memory: no module names another by such a path.
+fn read_again(alloc: Global, path: &ModulePath) -> Result<ModulePath, AllocError>
+    ensures { IfOk result (λ own. path_of (parts (path_text path.now)) ≡ Ok own) }
+{
+    let text = path.to_string(alloc)?;
+    match ModulePath::from_str(alloc, text.as_str()) {
+        Ok(path) => Ok(path),
+        Err(ModulePathParseError::OutOfMemory) => Err(AllocError),
+        Err(_) => Err(AllocError),
+    }
+}
+
+/// The refusal of the module at a path, as one of the part.
+fn refused(alloc: Global, path: &ModulePath, error: whole::ResolveError) -> ResolveError
+    ensures { TellsRefused error path.now result }
+{
+    let Ok(path) = path.clone_in(alloc) else {
+        return ResolveError::OutOfMemory;
+    };
+    match error {
+        whole::ResolveError::ModuleNotFound(_) => ResolveError::ModuleNotFound(path),
+        whole::ResolveError::Syntax(_, error) => ResolveError::Syntax(path, error),
+        whole::ResolveError::GaveUp(_, refusal) => ResolveError::GaveUp(path, refusal),
+        whole::ResolveError::Condition(..) | whole::ResolveError::ConditionLeft(_) => {
+            ResolveError::Unsupported(path)
+        }
+        whole::ResolveError::OutOfMemory => ResolveError::OutOfMemory,
+    }
+}
+
+impl<R: whole::Resolver> wesl_resolve::Resolver for PartResolver<R> {
+    ghost use Rattle.std.specs.Option.{option_map};
+    ghost use Rattle.std.specs.Prelude.{map};
+    ghost use Rattle.wgsl_path.specs.Paths.{path_text};
+    ghost use Rattle.weslc_part.specs.Found.{at_text, part_found, part_names};
+    ghost use Rattle.weslc_part.specs.Laws.{one_part_answer, one_part_text, text_of_part};
+
+    ghost answers = { λ r. part_found (R.answers r.resolver) };
+
+    ghost texts = { λ r. at_text (R.texts r.resolver) };
+
+    ghost display_names = { λ r. part_names (R.display_names r.resolver) };
+
+    ghost asked = { λ r. option_map (map path_text) (R.asked r.resolver) };
+
+    ghost holds = { λ r. R.holds r.resolver };
+
+    fn resolve_source(&mut self, alloc: Global, path: &ModulePath) -> Result<Text, ResolveError> {
+        let own = read_again(alloc, path)?;
+        match self.resolver.resolve_source(alloc, &own) {
+            Ok(text) => Ok(text),
+            Err(error) => Err(refused(alloc, path, error)),
+        }
+    }
+
+    fn resolve_module(
+        &mut self,
+        alloc: Global,
+        path: &ModulePath,
+    ) -> Result<TranslationUnit, ResolveError> {
+        let own = read_again(alloc, path)?;
+        match self.resolver.resolve_module(alloc, &own) {
+            Ok(unit) => {
+                let unit = HeldUnit::new(unit);
+                match narrowed(alloc, unit.get()) {
+                    Ok(narrow) => Ok(narrow),
+                    Err(NarrowError::Unsupported) => Err(self.refuse(alloc, path, unit)),
+                    Err(NarrowError::OutOfMemory) => Err(ResolveError::OutOfMemory),
+                }
+            }
+            Err(error) => Err(refused(alloc, path, error)),
+        }
+    }
+
+    fn display_name(
+        &mut self,
+        alloc: Global,
+        path: &ModulePath,
+    ) -> Result<Option<Text>, AllocError> {
+        let own = read_again(alloc, path)?;
+        self.resolver.display_name(alloc, &own)
+    }
+
+    ghost one_answer = { λ r. one_part_answer (R.answers r.resolver) (R.one_answer r.resolver) };
+
+    ghost one_text = { λ r. one_part_text (R.texts r.resolver) (R.one_text r.resolver) };
+
+    ghost text_of_unit = { λ r. text_of_part (R.answers r.resolver) (R.texts r.resolver) (R.text_of_unit r.resolver) };
+}

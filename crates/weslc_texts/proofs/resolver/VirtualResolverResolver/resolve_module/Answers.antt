@@ -1,0 +1,9 @@
+-- What is answered the text says, and nothing else.
+use Rattle.std.proofs.Common.{refl}
+use Rattle.wgsl_declarations.specs.View.{unit_tree}
+use Rattle.weslc_texts.proofs.Said.{unit_there, refused_there}
+use Rattle.weslc_texts.proofs.resolver.VirtualResolverResolver.resolve_module.Goals as goal
+
+pub returns-in-Ok-clause-unit : goal.returns-in-Ok-clause-unit
+returns-in-Ok-clause-unit c =
+    unit_there c.in_ok-text.text.now _ c.in_ok-text.ensures (unit_tree c.in-Ok.unit) (record { unit = c.in-Ok.unit; parsed = c.in-Ok.ensures; tree = refl })

@@ -1,0 +1,7 @@
+//! Modules whose texts are handed in.
+#![tactic(auto)]
+
+mod refusal;
+mod resolver;
+
+pub use resolver::VirtualResolver;
