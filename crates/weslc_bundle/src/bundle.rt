@@ -9,7 +9,6 @@ use crate::request::{BundleError, Command, Module, Request, read_request};
 use std::alloc::{AllocError, Global};
 use std::collections::BTreeSet;
 use weslc_calls::{Options, VirtualResolver};
-use weslc_values::RunSettings;
 use wgsl_items::{CloneIn, Items};
 use wgsl_path::ModulePath;
 
@@ -20,8 +19,6 @@ pub struct Bundle {
     pub root: ModulePath,
     pub resolver: VirtualResolver,
     pub options: Options,
-    /// What is handed to a run or an evaluation.
-    pub run: RunSettings,
 }
 
 /// Reads a bundle. After the faults of its keys comes a path that is there twice.
@@ -39,7 +36,6 @@ pub fn read_bundle(alloc: Global, bytes: &[u8]) -> Result<Bundle, BundleError>
         mode,
         max_modules,
         max_steps,
-        run,
     } = read_request(alloc, bytes)?;
     check_paths(alloc, modules.as_slice())?;
     let resolver = resolver_of(alloc, modules)?;
@@ -55,7 +51,6 @@ pub fn read_bundle(alloc: Global, bytes: &[u8]) -> Result<Bundle, BundleError>
             max_modules,
             max_steps,
         },
-        run,
     })
 }
 

@@ -7,7 +7,6 @@ use crate::request::BundleError;
 use std::alloc::AllocError;
 use weslc_calls::CompileError;
 use weslc_precompile::PrecompileError;
-use weslc_run::RunRefusal;
 
 /// Why the program writes no text.
 #[derive(Debug, Drop)]
@@ -20,8 +19,6 @@ pub enum ServeError {
     Bundle(BundleError),
     /// The modules are not linked or compiled.
     Compile(CompileError),
-    /// The run or the evaluation goes wrong, or the expression is none.
-    Run(RunRefusal),
     /// No module stands at the root that is to be precompiled.
     NoRoot,
     /// The root is not precompiled.

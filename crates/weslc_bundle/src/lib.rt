@@ -10,7 +10,6 @@ mod input;
 mod kinds;
 mod output;
 mod request;
-mod running;
 mod serve;
 
 pub use serve::serve_bundle;

@@ -11,8 +11,7 @@ use std::alloc::{AllocError, AllocFailed, Global};
 use std::fmt;
 use std::fmt::Display;
 use weslc_calls::Mode;
-use weslc_values::{Needed, RunKey, RunSettings, read_run_settings};
-use wgsl_items::{Items, OrOutOfMemory, Text};
+use wgsl_items::{Items, Text};
 use wgsl_path::{ModulePath, ModulePathParseError, PathOrigin};
 
 /// Which call a bundle asks for.
@@ -21,8 +20,6 @@ pub enum Command {
     Link,
     Compile,
     Precompile,
-    Run,
-    Eval,
 }
 
 /// A key of a bundle.
@@ -37,8 +34,6 @@ pub enum Key {
     Mode,
     MaxModules,
     MaxSteps,
-    /// A key of what is handed to a run or an evaluation.
-    Run(RunKey),
 }
 
 /// A module's text, and the path that it stands at.
@@ -59,8 +54,6 @@ pub struct Request {
     pub mode: Mode,
     pub max_modules: u32,
     pub max_steps: u64,
-    /// What is handed to a run or an evaluation.
-    pub run: RunSettings,
 }
 
 /// Why bytes are no bundle.
@@ -117,14 +110,12 @@ impl fmt::Display for Key {
             Key::Mode => f.write_str("mode"),
             Key::MaxModules => f.write_str("max_modules"),
             Key::MaxSteps => f.write_str("max_steps"),
-            Key::Run(key) => key.fmt(f),
         }
     }
 }
 
 /// Reads what a JSON object asks for. Its keys are tested in a fixed order: unknown ones first, then `command`, `root`,
-/// `modules`, `features`, `default_feature`, `keep`, `mode`, `max_modules`, `max_steps`, and those of a run and an
-/// evaluation.
+/// `modules`, `features`, `default_feature`, `keep`, `mode`, `max_modules`, `max_steps`.
 pub fn read_request(alloc: Global, bytes: &[u8]) -> Result<Request, BundleError>
     ensures { Answers Request result (request_of bytes.now) }
 {
@@ -158,7 +149,6 @@ fn read_members(alloc: Global, value: &Value) -> Result<Request, BundleError>
     let mode = read_mode(value)?;
     let max_modules = read_max_modules(value)?;
     let max_steps = read_max_steps(value)?;
-    let run = read_run(alloc, value, command)?;
     Ok(Request {
         command,
         root,
@@ -168,7 +158,6 @@ fn read_members(alloc: Global, value: &Value) -> Result<Request, BundleError>
         mode,
         max_modules,
         max_steps,
-        run,
     })
 }
 
@@ -210,11 +199,6 @@ fn is_key(key: &str) -> bool
             | "mode"
             | "max_modules"
             | "max_steps"
-            | "entry"
-            | "inputs"
-            | "bindings"
-            | "overrides"
-            | "expression"
     )
 }
 
@@ -225,8 +209,6 @@ fn read_command(value: &Value) -> Result<Command, BundleError>
         Some("link") => Ok(Command::Link),
         Some("compile") => Ok(Command::Compile),
         Some("precompile") => Ok(Command::Precompile),
-        Some("run") => Ok(Command::Run),
-        Some("eval") => Ok(Command::Eval),
         _ => Err(BundleError::Value(Key::Command)),
     }
 }
@@ -369,24 +351,5 @@ fn read_max_steps(value: &Value) -> Result<u64, BundleError>
     match limit.as_u64() {
         Some(max_steps) => Ok(max_steps),
         None => Err(BundleError::Value(Key::MaxSteps)),
-    }
-}
-
-/// Reads the keys of a run and an evaluation: `entry`, which a run needs, `inputs`, `bindings`, `overrides`, and `expression`, which an
-/// evaluation needs.
-fn read_run(
-    alloc: Global,
-    value: &Value,
-    command: Command,
-) -> Result<RunSettings, BundleError> {
-    let needed = match command {
-        Command::Run => Needed::Entry,
-        Command::Eval => Needed::Expression,
-        Command::Link | Command::Compile | Command::Precompile => Needed::Nothing,
-    };
-    match read_run_settings(alloc, value, needed) {
-        Ok(settings) => Ok(settings),
-        Err(OrOutOfMemory::Error(key)) => Err(BundleError::Value(Key::Run(key))),
-        Err(OrOutOfMemory::OutOfMemory) => Err(BundleError::OutOfMemory),
     }
 }

@@ -18,7 +18,6 @@ use std::io::{Read, Write};
 use wesl_features::CondCompError;
 use weslc_calls::{CompileError, ErrorContext};
 use weslc_precompile::PrecompileError;
-use weslc_run::RunRefusal;
 use wgsl_error::Error;
 use wgsl_items::Text;
 use wgsl_path::{ModulePath, Span};
@@ -70,7 +69,7 @@ fn status(refusal: &ServeError) -> u8
 {
     match refusal {
         ServeError::Read | ServeError::TooLong | ServeError::Bundle(_) | ServeError::NoRoot => 2,
-        ServeError::Compile(_) | ServeError::Run(_) | ServeError::Precompile(_) | ServeError::OutOfMemory => 1,
+        ServeError::Compile(_) | ServeError::Precompile(_) | ServeError::OutOfMemory => 1,
     }
 }
 
@@ -83,7 +82,6 @@ fn write_refusal<E: Write>(errors: &mut E, refusal: &ServeError) -> io::Result<(
         ServeError::NoRoot => errors.write_all(b"error: Bundle - - - root\n"),
         ServeError::Bundle(error) => write_bundle_error(errors, error),
         ServeError::Compile(error) => write_compile_error(errors, error),
-        ServeError::Run(refusal) => write_run_refusal(errors, refusal),
         ServeError::Precompile(error) => write_precompile_error(errors, error),
     }?;
     errors.flush()
@@ -173,23 +171,6 @@ fn write_syntax_error<E: Write>(
         None => None,
     };
     write_context(errors, context, span)
-}
-
-fn write_run_refusal<E: Write>(errors: &mut E, refusal: &RunRefusal) -> io::Result<()> {
-    match refusal {
-        RunRefusal::Expression(error) => {
-            let kind = syntax_kind(error.kind);
-            let (start, end) = (error.span.start, error.span.end);
-            writeln!(errors, "error: Expression.{kind} - - {start}..{end} -")
-        }
-        RunRefusal::Compile(error) => write_compile_error(errors, error),
-        RunRefusal::Eval(context, fault) => {
-            let kind = fault.kind();
-            write!(errors, "error: Eval.{kind}")?;
-            write_context(errors, context, None)
-        }
-        RunRefusal::OutOfMemory => errors.write_all(b"error: OutOfMemory - - - -\n"),
-    }
 }
 
 fn write_precompile_error<E: Write>(errors: &mut E, error: &PrecompileError) -> io::Result<()> {

@@ -1,2 +1,0 @@
-import package::bytes::two;
-fn main() -> u32 { return two; }

@@ -1,2 +1,0 @@
-import package::folder::two;
-fn main() -> u32 { return two; }

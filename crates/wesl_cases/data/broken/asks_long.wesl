@@ -1,2 +1,0 @@
-import package::long::two;
-fn main() -> u32 { return two; }

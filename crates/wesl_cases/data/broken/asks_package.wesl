@@ -1,2 +1,0 @@
-import noise::simplex::two;
-fn main() -> u32 { return two; }

@@ -1,2 +1,0 @@
-import package::syntax::main as other;
-fn main() -> u32 { return other(); }

@@ -1,2 +1,0 @@
-import super::super::super::values::two;
-fn main() -> u32 { return two; }

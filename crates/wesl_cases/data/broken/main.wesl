@@ -1,2 +1,0 @@
-import package::gone::two;
-fn main() -> u32 { return two; }

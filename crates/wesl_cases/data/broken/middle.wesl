@@ -1,1 +1,0 @@
-import package::values::two;

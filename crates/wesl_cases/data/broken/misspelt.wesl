@@ -1,2 +1,0 @@
-import package::values::tow;
-fn main() -> u32 { return tow; }

@@ -1,2 +1,0 @@
-import package::middle::two;
-fn main() -> u32 { return two; }

@@ -1,2 +1,0 @@
-import package::values::ring;
-fn main() -> u32 { return ring; }

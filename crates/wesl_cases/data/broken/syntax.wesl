@@ -1,3 +1,0 @@
-fn main() -> u32 {
-    return (1 + ;
-}

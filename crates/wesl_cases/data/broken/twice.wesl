@@ -1,3 +1,0 @@
-const a = 1;
-const b = 2;
-const a = 3;

@@ -1,4 +1,0 @@
-import package::config::levels;
-
-const first = levels * levels;
-const second = levels;

@@ -1,3 +1,0 @@
-import package::config::one;
-
-const seed = one * 3 + 17;

@@ -1,2 +1,0 @@
-const hour = 60 * 60;
-const day = hour * 24;
