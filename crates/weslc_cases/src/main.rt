@@ -26,7 +26,7 @@ const CALLS: [&str; 8] = [
 ];
 
 /// The files of inputs of the program, each a list.
-const FILES: [&str; 9] = [
+const FILES: [&str; 10] = [
     "bundles.json",
     "fields.json",
     "texts.json",
@@ -34,6 +34,7 @@ const FILES: [&str; 9] = [
     "compiled.json",
     "examples.json",
     "linking.json",
+    "modules.json",
     "precompiled.json",
     "nesting.json",
 ];
