@@ -2,7 +2,7 @@
 
 use std::alloc::Global;
 use std::test::Fail;
-use weslc_api::{
+use weslc_calls::{
     BasicSourceMap, EscapeMangler, Options, SourceMap, VirtualResolver, compile, link,
 };
 use wgsl_items::Text;
@@ -17,11 +17,29 @@ const LINKED: &str =
 
 const COMPILED: &str = "fn g() -> u32 {\n    return 3u;\n}\n";
 
+/// A root beyond what is compiled.
+const WHOLE_ROOT: &str =
+    "import package::m::two; struct S { a: u32 } fn g() -> S { return S(two + 1); }";
+
+const WHOLE_LINKED: &str = "struct S {\n    a: u32,\n}\nfn g() -> S {\n    return S(package_m_two + 1);\n}\nconst package_m_two = 2;\n";
+
 /// The calls that are made.
 #[derive(Clone, Copy)]
 enum Call {
     Link,
     Compile,
+    /// Links a root beyond what is compiled.
+    LinkWhole,
+}
+
+impl Call {
+    /// The root's text.
+    fn root(self) -> &'static str {
+        match self {
+            Call::Link | Call::Compile => ROOT,
+            Call::LinkWhole => WHOLE_ROOT,
+        }
+    }
 }
 
 fn add(resolver: &mut VirtualResolver, alloc: Global, path: &str, text: &str) -> Option<()> {
@@ -31,8 +49,8 @@ fn add(resolver: &mut VirtualResolver, alloc: Global, path: &str, text: &str) ->
         .ok()
 }
 
-fn add_both(resolver: &mut VirtualResolver, alloc: Global) -> Option<()> {
-    add(resolver, alloc, "package", ROOT)?;
+fn add_both(resolver: &mut VirtualResolver, alloc: Global, call: Call) -> Option<()> {
+    add(resolver, alloc, "package", call.root())?;
     add(resolver, alloc, "package::m", M)
 }
 
@@ -49,23 +67,24 @@ fn is_declared(map: &BasicSourceMap, m: &ModulePath) -> bool {
 }
 
 /// Whether the map has the texts of both modules.
-fn has_texts(alloc: Global, map: &BasicSourceMap, m: &ModulePath) -> bool {
-    map.get_source(alloc, m).ok() == Some(Some(M)) && map.get_default_source() == Some(ROOT)
+fn has_texts(alloc: Global, map: &BasicSourceMap, m: &ModulePath, root: &str) -> bool {
+    map.get_source(alloc, m).ok() == Some(Some(M)) && map.get_default_source() == Some(root)
 }
 
-fn maps_back(alloc: Global, map: &BasicSourceMap) -> Option<bool> {
+fn maps_back(alloc: Global, map: &BasicSourceMap, root: &str) -> Option<bool> {
     let m = ModulePath::from_str(alloc, "package::m").ok()?;
-    Some(is_declared(map, &m) && has_texts(alloc, map, &m))
+    Some(is_declared(map, &m) && has_texts(alloc, map, &m, root))
 }
 
 /// Whether a call gives this text and a map that maps its names back. Over any errors, since to prove their drop is dear.
 fn gives<E: Drop>(
     alloc: Global,
     answer: Result<(String, BasicSourceMap), E>,
+    root: &str,
     wanted: &str,
 ) -> Option<bool> {
     let (text, map) = answer.ok()?;
-    Some(text.as_str() == wanted && maps_back(alloc, &map)?)
+    Some(text.as_str() == wanted && maps_back(alloc, &map, root)?)
 }
 
 fn answers(
@@ -75,9 +94,11 @@ fn answers(
     root: &ModulePath,
     options: &Options,
 ) -> Option<bool> {
+    let source = call.root();
     match call {
-        Call::Link => gives(alloc, link(alloc, resolver, root, options), LINKED),
-        Call::Compile => gives(alloc, compile(alloc, resolver, root, options), COMPILED),
+        Call::Link => gives(alloc, link(alloc, resolver, root, options), source, LINKED),
+        Call::Compile => gives(alloc, compile(alloc, resolver, root, options), source, COMPILED),
+        Call::LinkWhole => gives(alloc, link(alloc, resolver, root, options), source, WHOLE_LINKED),
     }
 }
 
@@ -100,13 +121,19 @@ fn of_root(alloc: Global, call: Call, resolver: &mut VirtualResolver) -> Option<
 /// Whether a call on the two modules gives what it should; nothing where it, or what it needs, is refused.
 fn is_right(alloc: Global, call: Call) -> Option<bool> {
     let mut resolver = VirtualResolver::new(alloc);
-    add_both(&mut resolver, alloc)?;
+    add_both(&mut resolver, alloc, call)?;
     of_root(alloc, call, &mut resolver)
 }
 
 #[test]
 fn linked_names_map_back(rt: HostRuntime) -> Result<(), Fail> {
     assert_eq!(rt; is_right(rt.alloc(), Call::Link), Some(true));
+    Ok(())
+}
+
+#[test]
+fn names_of_whole_modules_map_back(rt: HostRuntime) -> Result<(), Fail> {
+    assert_eq!(rt; is_right(rt.alloc(), Call::LinkWhole), Some(true));
     Ok(())
 }
 
