@@ -7,7 +7,7 @@ use Rattle.wgsl_declarations.specs.declared.unit.TranslationUnit.{TranslationUni
 use Rattle.wgsl_declarations.specs.View.{unit_tree}
 use Rattle.wesl_resolvers.specs.declared.error.ResolveError.{ResolveError}
 use Rattle.wesl_resolvers.specs.declared.error.ResolveError.TheVariants as resolve
-use Rattle.wesl_resolvers.specs.Found.{Answer, unit_of, not_found, faulty, conditioned, left_open, IsSomeText}
+use Rattle.wesl_resolvers.specs.Found.{Answer, unit_of, not_found, faulty, conditioned, left_open, is_unit, IsSomeText}
 use Rattle.wesl_resolve_fn.specs.declared.resolve_fn.ApplyError.{ApplyError}
 use Rattle.wesl_resolve_fn.specs.declared.resolve_fn.ApplyError.TheVariants.{Condition, Left, OutOfMemory}
 
@@ -57,10 +57,10 @@ module _ (f : UnitTree → Answer) (found : Answer → Type 0) where
 
   text_by : (texts : List ℕ → Type 0) → ((u : UnitTree) → found (unit_of u) → IsSomeText texts) → (u : UnitTree) (b : Answer) → found b → unit_of u ≡ made_of f b → IsSomeText texts
   text_by texts there u (unit_of v) is made = there v is
-  text_by texts there u not_found is made = absurd (cc)
-  text_by texts there u (faulty e) is made = absurd (cc)
-  text_by texts there u (conditioned e) is made = absurd (cc)
-  text_by texts there u left_open is made = absurd (cc)
+  text_by texts there u not_found is made = absurd (subst is_unit made tt)
+  text_by texts there u (faulty e) is made = absurd (subst is_unit made tt)
+  text_by texts there u (conditioned e) is made = absurd (subst is_unit made tt)
+  text_by texts there u left_open is made = absurd (subst is_unit made tt)
 
   -- a module is made of a module alone
   pub text_of_made : (texts : List ℕ → Type 0) → ((u : UnitTree) → found (unit_of u) → IsSomeText texts) → (u : UnitTree) → IsMadeOf f found (unit_of u) → IsSomeText texts

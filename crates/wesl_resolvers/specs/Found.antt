@@ -18,6 +18,14 @@ pub data Answer : Type 0 where
   conditioned : CondCompError → Answer
   left_open : Answer
 
+-- it is a unit
+abbrev pub is_unit : Answer → Type 0
+is_unit (unit_of u) = ⊤
+is_unit not_found = ⊥
+is_unit (faulty e) = ⊥
+is_unit (conditioned e) = ⊥
+is_unit left_open = ⊥
+
 -- memory aside, and texts that the parser gave up on, a call that asks for the module at a path tells what is found there
 abbrev pub TellsUnit : (Answer → Type 0) → ModulePath → Result TranslationUnit ResolveError → Type 0
 TellsUnit found path (Ok unit) = found (unit_of (unit_tree unit))

@@ -8,8 +8,8 @@ use wesl_check::names_clash;
 use wesl_resolvers::Resolver;
 use wesl_rounds::{HeldUnit, Resolutions, resolve_eager, resolve_lazy, test_root};
 use wesl_tables::{Module, Modules, Spot};
-use weslc_part::Beyond;
 use weslc_linking::{BasicSourceMap, CompileError, EscapeMangler, Mode, Options};
+use weslc_part::Beyond;
 use wgsl_items::Text;
 use wgsl_path::ModulePath;
 
@@ -79,7 +79,13 @@ fn link_root<R: Resolver>(
         names.as_slice(),
     )?;
     let mut origins = Vec::new(alloc);
-    let unit = assembled(alloc, &mut resolutions, &numbering, names.as_slice(), &mut origins)?;
+    let unit = assembled(
+        alloc,
+        &mut resolutions,
+        &numbering,
+        names.as_slice(),
+        &mut origins,
+    )?;
     match names_clash(alloc, unit.get())? {
         Some(name) => Err(CompileError::name_clash(name)),
         None => {
@@ -138,7 +144,14 @@ fn lazily<R: Resolver>(
     options: &Options,
 ) -> Result<Resolutions, CompileError> {
     let keep = options.keep.as_slice();
-    match resolve_lazy(alloc, keep, unit.into_inner(), root, resolver, options.max_modules) {
+    match resolve_lazy(
+        alloc,
+        keep,
+        unit.into_inner(),
+        root,
+        resolver,
+        options.max_modules,
+    ) {
         Ok(resolutions) => Ok(resolutions),
         Err(error) => Err(of_import(error)),
     }
@@ -154,7 +167,13 @@ fn eagerly<R: Resolver>(
     if let Err(error) = test_root(alloc, options.keep.as_slice(), unit.get(), root) {
         return Err(of_import(error));
     }
-    match resolve_eager(alloc, unit.into_inner(), root, resolver, options.max_modules) {
+    match resolve_eager(
+        alloc,
+        unit.into_inner(),
+        root,
+        resolver,
+        options.max_modules,
+    ) {
         Ok(resolutions) => Ok(resolutions),
         Err(error) => Err(of_import(error)),
     }

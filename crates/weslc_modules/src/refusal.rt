@@ -30,7 +30,10 @@ pub fn of_resolve(error: ResolveError) -> CompileError {
 pub(crate) fn of_import(error: ImportError) -> CompileError {
     match error {
         ImportError::DuplicateSymbol(path, name) => {
-            CompileError::Import(ErrorContext::of_item(path, name), ImportKind::DuplicateSymbol)
+            CompileError::Import(
+                ErrorContext::of_item(path, name),
+                ImportKind::DuplicateSymbol,
+            )
         }
         ImportError::MissingDecl(path, name) => {
             CompileError::Import(ErrorContext::of_item(path, name), ImportKind::MissingDecl)

@@ -18,13 +18,6 @@ use Rattle.wgsl_part.specs.declared.error.NarrowError.{NarrowError}
 use Rattle.wgsl_part.specs.declared.error.NarrowError.TheVariants as narrowing
 use Rattle.wesl_resolve.specs.Found.{Answer, unit_of, not_found, faulty, unsupported}
 
--- a condition of a module is at fault, or left open
-abbrev pub IsFaulty : whole_error.ResolveError → Type 0
-IsFaulty e = (q : ModulePath) × (f : CondCompError) × (e ≡ wholly.Condition q f)
-
-abbrev pub IsLeft : whole_error.ResolveError → Type 0
-IsLeft e = (q : ModulePath) × (e ≡ wholly.ConditionLeft q)
-
 -- What is found is beyond the part: a module that no unit of the part is, or one whose conditions are at fault or are left open.
 pub data IsBeyond (found : whole.Answer → Type 0) : Type 0 where
   a_module : (m : whole_trees.UnitTree) → found (whole.unit_of m) → ((u : UnitTree) → widen_unit u ≡ m → IsInPart u → ⊥) → IsBeyond found
@@ -62,10 +55,28 @@ Finds m (Ok u) = (widen_unit (unit_tree u) ≡ m) × IsInPart (unit_tree u)
 Finds m (Err narrowing.Unsupported) = (u : UnitTree) → widen_unit u ≡ m → IsInPart u → ⊥
 Finds m (Err narrowing.OutOfMemory) = ⊤
 
--- memory aside, what is told of the refusal of a whole module at a path
+-- memory aside, what is told of a module that was found at a path
+abbrev pub TellsPart : whole_trees.UnitTree → ModulePath → Result TranslationUnit ResolveError → Type 0
+TellsPart m path (Ok u) = (widen_unit (unit_tree u) ≡ m) × IsInPart (unit_tree u)
+TellsPart m path (Err (part.ModuleNotFound p)) = ⊥
+TellsPart m path (Err (part.Syntax p f)) = ⊥
+TellsPart m path (Err (part.Unsupported p)) = (p ≡ path) × ((u : UnitTree) → widen_unit u ≡ m → IsInPart u → ⊥)
+TellsPart m path (Err (part.GaveUp p r)) = ⊥
+TellsPart m path (Err part.OutOfMemory) = ⊤
+
+-- the module at a path is unsupported, or memory was refused
+abbrev pub IsUnsupportedAt : ModulePath → ResolveError → Type 0
+IsUnsupportedAt path told = (told ≡ part.Unsupported path) ⊎ (told ≡ part.OutOfMemory)
+
+-- the refusal of a whole module, as one of the part
+abbrev pub part_refusal : ModulePath → whole_error.ResolveError → ResolveError
+part_refusal path (wholly.ModuleNotFound q) = part.ModuleNotFound path
+part_refusal path (wholly.Syntax q f) = part.Syntax path f
+part_refusal path (wholly.GaveUp q r) = part.GaveUp path r
+part_refusal path (wholly.Condition q f) = part.Unsupported path
+part_refusal path (wholly.ConditionLeft q) = part.Unsupported path
+part_refusal path wholly.OutOfMemory = part.OutOfMemory
+
+-- that, or memory was refused
 abbrev pub TellsRefused : whole_error.ResolveError → ModulePath → ResolveError → Type 0
-TellsRefused e path (part.ModuleNotFound p) = (p ≡ path) × ((q : ModulePath) × (e ≡ wholly.ModuleNotFound q))
-TellsRefused e path (part.Syntax p f) = (p ≡ path) × ((q : ModulePath) × (e ≡ wholly.Syntax q f))
-TellsRefused e path (part.Unsupported p) = (p ≡ path) × (IsLeft e ⊎ IsFaulty e)
-TellsRefused e path (part.GaveUp p r) = p ≡ path
-TellsRefused e path part.OutOfMemory = ⊤
+TellsRefused e path told = (told ≡ part_refusal path e) ⊎ (told ≡ part.OutOfMemory)

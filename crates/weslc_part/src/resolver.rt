@@ -2,14 +2,18 @@
 
 ghost use Rattle.wgsl_path.specs.Reading.{parts, path_of};
 ghost use Rattle.wgsl_path.specs.Paths.{path_text};
+ghost use Rattle.wgsl_declarations.specs.View as whole_views;
 ghost use Rattle.std.specs.Prelude.{◌≡◌, Ok, IfOk};
-ghost use Rattle.weslc_part.specs.Found.{TellsRefused};
+ghost use Rattle.weslc_part.specs.Found.{TellsPart, TellsRefused, IsUnsupportedAt};
 
 use crate::narrowed::narrowed;
 use std::alloc::{AllocError, Global};
+use std::mem;
 use wesl_resolve::ResolveError;
 use wesl_resolvers as whole;
 use wesl_rounds::HeldUnit;
+use wgsl_declarations as declarations;
+use wgsl_declarations::let_go;
 use wgsl_items::{CloneIn, Text};
 use wgsl_part::NarrowError;
 use wgsl_path::{ModulePath, ModulePathParseError};
@@ -47,21 +51,54 @@ impl<R: whole::Resolver> PartResolver<R> {
         drop(resolver);
         beyond
     }
+}
 
-    fn refuse(&mut self, alloc: Global, path: &ModulePath, unit: HeldUnit) -> ResolveError {
-        match (path.clone_in(alloc), path.clone_in(alloc)) {
-            (Ok(path), Ok(same)) => {
-                self.beyond = Some(Beyond { path, unit });
-                ResolveError::Unsupported(same)
-            }
-            _ => ResolveError::OutOfMemory,
+/// Keeps a module beyond the part, and refuses it as unsupported.
+fn refuse(
+    alloc: Global,
+    beyond: &mut Option<Beyond>,
+    path: &ModulePath,
+    unit: HeldUnit,
+) -> ResolveError
+    ensures { IsUnsupportedAt path.now result }
+{
+    let Ok(same) = path.clone_in(alloc) else {
+        return ResolveError::OutOfMemory;
+    };
+    let Ok(path) = path.clone_in(alloc) else {
+        return ResolveError::OutOfMemory;
+    };
+    drop(mem::replace(beyond, Some(Beyond { path, unit })));
+    ResolveError::Unsupported(same)
+}
+
+/// The unit of the part that the module at a path is. A module that is none is kept.
+#[tactic(auto, using(crate::proofs::Telling::part_told, crate::proofs::Telling::beyond_told))]
+fn part_of(
+    alloc: Global,
+    beyond: &mut Option<Beyond>,
+    path: &ModulePath,
+    unit: declarations::TranslationUnit,
+) -> Result<TranslationUnit, ResolveError>
+    ensures { TellsPart (whole_views.unit_tree unit) path.now result }
+{
+    match narrowed(alloc, &unit) {
+        Ok(part) => {
+            let_go(unit);
+            Ok(part)
+        }
+        Err(NarrowError::Unsupported) => Err(refuse(alloc, beyond, path, HeldUnit::new(unit))),
+        Err(NarrowError::OutOfMemory) => {
+            let_go(unit);
+            Err(ResolveError::OutOfMemory)
         }
     }
 }
 
 /// The path that a path's text is read as. A text that is no path is out of memory: no module names another by such a path.
 fn read_again(alloc: Global, path: &ModulePath) -> Result<ModulePath, AllocError>
-    ensures { IfOk result (λ own. path_of (parts (path_text path.now)) ≡ Ok own) }
+    ensures read { IfOk result (λ own. path_of (parts (path_text path.now)) ≡ Ok own) }
+    ensures text { IfOk result (λ own. path_text own ≡ path_text path.now) }
 {
     let text = path.to_string(alloc)?;
     match ModulePath::from_str(alloc, text.as_str()) {
@@ -106,6 +143,7 @@ impl<R: whole::Resolver> wesl_resolve::Resolver for PartResolver<R> {
 
     ghost holds = { λ r. R.holds r.resolver };
 
+    #[tactic(auto, using(crate::proofs::Telling::text_told, crate::proofs::Telling::text_refused, crate::proofs::Telling::same_part, crate::proofs::Telling::same_part_texts, crate::proofs::Telling::same_part_names))]
     fn resolve_source(&mut self, alloc: Global, path: &ModulePath) -> Result<Text, ResolveError> {
         let own = read_again(alloc, path)?;
         match self.resolver.resolve_source(alloc, &own) {
@@ -114,6 +152,7 @@ impl<R: whole::Resolver> wesl_resolve::Resolver for PartResolver<R> {
         }
     }
 
+    #[tactic(auto, using(crate::proofs::Telling::unit_told, crate::proofs::Telling::unit_refused, crate::proofs::Telling::same_part, crate::proofs::Telling::same_part_texts, crate::proofs::Telling::same_part_names, crate::proofs::Telling::asks_told, crate::proofs::Telling::asks_refused))]
     fn resolve_module(
         &mut self,
         alloc: Global,
@@ -121,25 +160,20 @@ impl<R: whole::Resolver> wesl_resolve::Resolver for PartResolver<R> {
     ) -> Result<TranslationUnit, ResolveError> {
         let own = read_again(alloc, path)?;
         match self.resolver.resolve_module(alloc, &own) {
-            Ok(unit) => {
-                let unit = HeldUnit::new(unit);
-                match narrowed(alloc, unit.get()) {
-                    Ok(narrow) => Ok(narrow),
-                    Err(NarrowError::Unsupported) => Err(self.refuse(alloc, path, unit)),
-                    Err(NarrowError::OutOfMemory) => Err(ResolveError::OutOfMemory),
-                }
-            }
+            Ok(unit) => part_of(alloc, &mut self.beyond, path, unit),
             Err(error) => Err(refused(alloc, path, error)),
         }
     }
 
+    #[tactic(auto, using(crate::proofs::Telling::name_told, crate::proofs::Telling::same_part, crate::proofs::Telling::same_part_texts, crate::proofs::Telling::same_part_names))]
     fn display_name(
         &mut self,
         alloc: Global,
         path: &ModulePath,
     ) -> Result<Option<Text>, AllocError> {
         let own = read_again(alloc, path)?;
-        self.resolver.display_name(alloc, &own)
+        let name = self.resolver.display_name(alloc, &own)?;
+        Ok(name)
     }
 
     ghost one_answer = { λ r. one_part_answer (R.answers r.resolver) (R.one_answer r.resolver) };

@@ -10,7 +10,7 @@ use Rattle.wgsl_parser.specs.Texts.{IsModuleFault, ParsesModule}
 use Rattle.wgsl_declarations.specs.Tree.{UnitTree}
 use Rattle.wgsl_declarations.specs.View.{unit_tree}
 use Rattle.wgsl_declarations.specs.declared.unit.TranslationUnit.{TranslationUnit}
-use Rattle.wesl_resolvers.specs.Found.{Answer, unit_of, not_found, faulty, conditioned, left_open}
+use Rattle.wesl_resolvers.specs.Found.{Answer, unit_of, not_found, faulty, conditioned, left_open, is_unit}
 use Rattle.wesl_resolvers.specs.declared.error.ResolveError.{ResolveError}
 use Rattle.wesl_resolvers.specs.declared.error.ResolveError.TheVariants.{ModuleNotFound, Syntax, GaveUp, Condition, ConditionLeft, OutOfMemory}
 use Rattle.weslc_texts.specs.declared.resolver.VirtualModule.{VirtualModule}
@@ -65,13 +65,6 @@ pub record SaysOnly (text : List ℕ) (a : Answer) : Type 0 where
 abbrev pub found_in : Option (List ℕ) → Answer → Type 0
 found_in None a = a ≡ not_found
 found_in (Some text) a = SaysOnly text a
-
-abbrev is_unit : Answer → Type 0
-is_unit (unit_of u) = ⊤
-is_unit not_found = ⊥
-is_unit (faulty e) = ⊥
-is_unit (conditioned e) = ⊥
-is_unit left_open = ⊥
 
 -- where a unit is found there is a text
 pub text_of_found : (o : Option (List ℕ)) (u : UnitTree) → found_in o (unit_of u) → (text : List ℕ) × (o ≡ Some text)
