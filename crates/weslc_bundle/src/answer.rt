@@ -27,7 +27,6 @@ pub(crate) fn answer(alloc: Global, bundle: Bundle) -> Result<String, ServeError
     }
 }
 
-#[tactic(auto, using(crate::proofs::Calls::modules_refused))]
 fn link_modules(alloc: Global, bundle: &mut Bundle) -> Result<String, ServeError>
     ensures text { IfOk result (λ text. IsTextFor Link bundle.old (string_bytes text)) }
     ensures refusal { IfErr result (λ refusal. IsRefusalFor Link bundle.old refusal) }
@@ -36,7 +35,6 @@ fn link_modules(alloc: Global, bundle: &mut Bundle) -> Result<String, ServeError
     Ok(text)
 }
 
-#[tactic(auto, using(crate::proofs::Calls::modules_refused))]
 fn compile_modules(alloc: Global, bundle: &mut Bundle) -> Result<String, ServeError>
     ensures text { IfOk result (λ text. IsTextFor Compile bundle.old (string_bytes text)) }
     ensures refusal { IfErr result (λ refusal. IsRefusalFor Compile bundle.old refusal) }

@@ -7,7 +7,7 @@ use Rattle.wgsl_path.specs.declared.path.PathOrigin.TheVariants.{Absolute, Relat
 use Rattle.wgsl_path.specs.Paths.{path_text}
 use Rattle.wesl_features.specs.declared.feature.Features.{Features}
 use Rattle.wesl_resolvers.specs.Found as whole
-use Rattle.wesl_preprocess.specs.Applying.{IsMadeOf}
+use Rattle.wesl_resolve_fn.specs.Applying.{IsMadeOf}
 use Rattle.wesl_preprocess.specs.Conditions.{decided}
 use Rattle.wesl_link_spec.specs.Rounds.{Sources}
 use Rattle.weslc_part.specs.Found.{part_found}

@@ -20,6 +20,7 @@ loop-text-init g c = record {
       (sym c.into_iter-text-iterator.ensures.into_iter_gives.0)
       (none_loaded (g.R.Resolver.answers c.args.resolver.now) c.args.max_modules c.args.modules.now listed c.args.asked.now tabled sought c.into_iter-text-iterator.ensures.into_iter_gives.5);
   names = refl;
+  reference = refl;
   asks = λ listed tabled sought.
       let before = g.R.Resolver.asked c.args.resolver.now in
       subst (IsAskedTo (g.R.Resolver.answers c.args.resolver.now) c.args.max_modules c.args.modules.now listed c.args.asked.now before before c.args.modules.now)
@@ -43,6 +44,7 @@ loop-text-preserved g c = record {
       (subst (λ q. IsLoadedOne (g.R.Resolver.answers c.loop-text.resolver) c.args.max_modules c.loop-text.modules e.1.path q c.load_one.new.modules) c.as_str.ensures.value
       (c.in_ok-load_one.ensures.loads (printed ∙ sym c.as_str.ensures.value))));
   names = c.load_one.ensures.same_names ∙ c.loop-text.invariant.names;
+  reference = c.load_one.ensures.same_reference ∙ c.loop-text.invariant.reference;
   asks = λ listed tabled sought.
       let sources = g.R.Resolver.answers c.args.resolver.now in
       let t = c.loop-text.invariant.asks listed tabled sought in

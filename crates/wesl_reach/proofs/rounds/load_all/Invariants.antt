@@ -13,6 +13,7 @@ invariant-loop-text g l = record {
   loads : (listed : ListedModules) → AreTabled l.initial.modules listed → AreSought l.initial.modules l.asked
       → IsLoadedTo (g.R.Resolver.answers l.initial.resolver) l.max_modules l.initial.modules listed l.asked l.modules l.text-iterator;
   names : g.R.Resolver.display_names l.resolver ≡ g.R.Resolver.display_names l.initial.resolver;
+  reference : g.R.Resolver.holds l.resolver ≡ g.R.Resolver.holds l.initial.resolver;
   asks : (listed : ListedModules) → AreTabled l.initial.modules listed → AreSought l.initial.modules l.asked
       → IsAskedTo (g.R.Resolver.answers l.initial.resolver) l.max_modules l.initial.modules listed l.asked (g.R.Resolver.asked l.initial.resolver) (g.R.Resolver.asked l.resolver) l.modules l.text-iterator;
 }

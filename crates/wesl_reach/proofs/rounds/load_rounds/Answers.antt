@@ -75,6 +75,7 @@ loop-round-preserved g c = record {
       → IsClosed c.load_all.new.modules q c.args.keep.now c.close_asked.new.held c.in_ok-asked.asked) here
       (λ closed. c.in_ok-asked.ensures.closed c.loop-round.reached.modules all.tabled.keyed closed all.on) e.closed);
   names = c.load_all.ensures.same_names ∙ c.loop-round.invariant.names;
+  reference = c.load_all.ensures.same_reference ∙ c.loop-round.invariant.reference;
   asks = λ start.
       let sources = g.R.Resolver.answers c.args.resolver.now in
       let root : Path = string_bytes c.args.reached.root in

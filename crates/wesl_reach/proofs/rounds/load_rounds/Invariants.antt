@@ -13,6 +13,7 @@ invariant-loop-round g l = record {
   loading : IsRoundEnd (g.R.Resolver.answers l.initial.resolver) l.max_modules (string_bytes l.initial.reached.root) l.keep l.initial.reached l.initial.asked 1
       → IsRoundEnd (g.R.Resolver.answers l.initial.resolver) l.max_modules (string_bytes l.initial.reached.root) l.keep l.reached l.asked l._round;
   names : g.R.Resolver.display_names l.resolver ≡ g.R.Resolver.display_names l.initial.resolver;
+  reference : g.R.Resolver.holds l.resolver ≡ g.R.Resolver.holds l.initial.resolver;
   asks : IsAskedEnd (g.R.Resolver.answers l.initial.resolver) (string_bytes l.initial.reached.root) l.keep l.max_modules (g.R.Resolver.asked l.initial.resolver) (g.R.Resolver.asked l.initial.resolver) l.initial.reached l.initial.asked 1
       → IsAskedEnd (g.R.Resolver.answers l.initial.resolver) (string_bytes l.initial.reached.root) l.keep l.max_modules (g.R.Resolver.asked l.initial.resolver) (g.R.Resolver.asked l.resolver) l.reached l.asked l._round;
 }

@@ -1,3 +1,4 @@
+use Rattle.std.proofs.Common.{refl}
 use Rattle.std.proofs.lemmas.Result.{err_from_is_err_and}
 use Rattle.weslc_bundle.proofs.Paths.{twice_of_none}
 use Rattle.weslc_bundle.proofs.bundle.read_bundle.Goals as goal
@@ -6,3 +7,10 @@ pub returns-in_err-check_paths-clause-only : goal.returns-in_err-check_paths-cla
 returns-in_err-check_paths-clause-only c =
     let p = err_from_is_err_and c.from_residual-in_err-check_paths.result c.from_residual-in_err-check_paths.ensures.1 in
     rw (p.1, p.2) (twice_of_none _ c.in_ok-command.field-0 _ c.in_ok-command.ensures (rw c.as_slice.ensures at c.in_err-check_paths.ensures.twice))
+
+pub returns-clause-bundle : goal.returns-clause-bundle
+returns-clause-bundle c = (
+  c.in_ok-command.field-0,
+  (c.in_ok-command.ensures, rw c.as_slice.ensures at c.in_ok-check_paths.ensures.apart),
+  (refl, refl, c.in_ok-resolver.ensures, (c.in_ok-features.features, c.in_ok-features.ensures, refl)),
+)

@@ -15,6 +15,7 @@ loop-path-init g c = record {
   same_answers = λ p a. (λ h. h, λ h. h);
   same_texts = λ p a. (λ h. h, λ h. h);
   same_names = refl;
+  same_reference = refl;
   same_asked = refl;
 }
 
@@ -43,6 +44,7 @@ loop-path-preserved g c =
       same_answers = same_before (g.R.Resolver.answers c.args.resolver.now) (g.R.Resolver.answers c.loop-path.resolver) (g.R.Resolver.answers c.add_source.new.resolver) c.loop-path.invariant.same_answers c.in_ok-add_source.ensures.same_answers;
       same_texts = texts_before first before (g.R.Resolver.texts c.add_source.new.resolver) same c.in_ok-add_source.ensures.same_texts;
       same_names = c.in_ok-add_source.ensures.same_names ∙ c.loop-path.invariant.same_names;
+      same_reference = c.in_ok-add_source.ensures.same_reference ∙ c.loop-path.invariant.same_reference;
       same_asked = c.in_ok-add_source.ensures.same_asked ∙ c.loop-path.invariant.same_asked;
     }
 

@@ -15,5 +15,6 @@ invariant-loop-path g l = record {
   same_answers : SameAnswers (g.R.Resolver.answers l.initial.resolver) (g.R.Resolver.answers l.resolver);
   same_texts : SameTexts (g.R.Resolver.texts l.initial.resolver) (g.R.Resolver.texts l.resolver);
   same_names : g.R.Resolver.display_names l.resolver ≡ g.R.Resolver.display_names l.initial.resolver;
+  same_reference : g.R.Resolver.holds l.resolver ≡ g.R.Resolver.holds l.initial.resolver;
   same_asked : g.R.Resolver.asked l.resolver ≡ g.R.Resolver.asked l.initial.resolver;
 }
