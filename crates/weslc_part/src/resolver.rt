@@ -6,7 +6,7 @@ ghost use Rattle.wgsl_declarations.specs.View as whole_views;
 ghost use Rattle.std.specs.Prelude.{◌≡◌, Ok, IfOk};
 ghost use Rattle.weslc_part.specs.Found.{TellsPart, TellsRefused, IsUnsupportedAt};
 
-use crate::narrowed::narrowed;
+use crate::narrowing::narrowed;
 use std::alloc::{AllocError, Global};
 use std::mem;
 use wesl_resolve::ResolveError;
