@@ -86,6 +86,7 @@ impl<R: Resolver, M: Mangler> SourceMapper<R, M> {
     }
 
     /// Records the text and the display name of a module that was resolved.
+    #[tactic(auto, using(crate::proofs::Telling::text_refused, crate::proofs::Telling::two_same))]
     fn note(&mut self, alloc: Global, path: &ModulePath) -> Result<(), ResolveError>
         ensures told { TellsNoText (R.answers self.old.resolver path.now) path.now result }
         ensures same_answers { SameAnswers (R.answers self.old.resolver) (R.answers self.new.resolver) }
@@ -113,6 +114,7 @@ impl<R: Resolver, M: Mangler> Resolver for SourceMapper<R, M> {
 
     ghost holds = { λ m. R.holds m.resolver };
 
+    #[tactic(auto, using(crate::proofs::Telling::two_same))]
     fn resolve_source(&mut self, alloc: Global, path: &ModulePath) -> Result<Text, ResolveError> {
         let text = self.resolver.resolve_source(alloc, path)?;
         let display_name = self.resolver.display_name(alloc, path)?;
@@ -121,6 +123,7 @@ impl<R: Resolver, M: Mangler> Resolver for SourceMapper<R, M> {
         Ok(text)
     }
 
+    #[tactic(auto, using(crate::proofs::Telling::unit_refused, crate::proofs::Telling::two_same, crate::proofs::Telling::asks_still))]
     fn resolve_module(
         &mut self,
         alloc: Global,

@@ -4,8 +4,8 @@
 mod link;
 mod map;
 mod refusal;
-mod validate;
+mod validation;
 
 pub use link::{LinkedModules, link_modules};
 pub use refusal::of_resolve;
-pub use validate::validate;
+pub use validation::validate;

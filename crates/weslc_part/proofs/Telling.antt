@@ -116,11 +116,11 @@ asked_by (Some ps) after path own same h = ap (option_map (map path_text)) h ∙
 pub asks_told : (before after : whole.Asked) (path own : ModulePath) (unit : whole_unit.TranslationUnit) (r : Result TranslationUnit ResolveError)
     → path_text own ≡ path_text path → whole.AsksFor before own (Ok unit) after → AsksFor (option_map (map path_text) before) (path_text path) r (option_map (map path_text) after)
 asks_told before after path own unit r same (inl h) = inl (asked_by before after path own same h)
-asks_told before after path own unit r same (inr h) = let no : Ok unit ≡ Err wholly.OutOfMemory = h.0 in absurd (cc)
+asks_told before after path own unit r same (inr h) = let wrong : Ok unit ≡ Err wholly.OutOfMemory = h.0 in absurd (cc)
 
 refused_memory : (e : whole_error.ResolveError) (path : ModulePath) (told : ResolveError) → e ≡ wholly.OutOfMemory → TellsRefused e path told → told ≡ part.OutOfMemory
-refused_memory e path told no (inl is) = is ∙ ap (part_refusal path) no
-refused_memory e path told no (inr is) = is
+refused_memory e path told memory (inl is) = is ∙ ap (part_refusal path) memory
+refused_memory e path told memory (inr is) = is
 
 pub asks_refused : (before after : whole.Asked) (path own : ModulePath) (e : whole_error.ResolveError) (told : ResolveError)
     → path_text own ≡ path_text path → TellsRefused e path told → whole.AsksFor before own (Err e) after → AsksFor (option_map (map path_text) before) (path_text path) (Err told) (option_map (map path_text) after)

@@ -1,7 +1,7 @@
 //! A resolver of whole modules, seen by the part of the language whose linking and compiling is proved.
 #![tactic(auto)]
 
-mod narrowed;
+mod narrowing;
 mod resolver;
 
 pub use resolver::{Beyond, PartResolver};

@@ -6,7 +6,7 @@ ghost use Rattle.wgsl_declarations.specs.View as whole_views;
 ghost use Rattle.std.specs.Prelude.{◌≡◌, Ok, IfOk};
 ghost use Rattle.weslc_part.specs.Found.{TellsPart, TellsRefused, IsUnsupportedAt};
 
-use crate::narrowed::narrowed;
+use crate::narrowing::narrowed;
 use std::alloc::{AllocError, Global};
 use std::mem;
 use wesl_resolve::ResolveError;
@@ -143,7 +143,7 @@ impl<R: whole::Resolver> wesl_resolve::Resolver for PartResolver<R> {
 
     ghost holds = { λ r. R.holds r.resolver };
 
-    #[tactic(auto, using(crate::proofs::Telling::text_told, crate::proofs::Telling::text_refused, crate::proofs::Telling::same_part, crate::proofs::Telling::same_part_texts, crate::proofs::Telling::same_part_names))]
+    #[tactic(auto, using(crate::proofs::Telling::text_told, crate::proofs::Telling::text_refused, crate::proofs::Telling::same_part_texts, crate::proofs::Telling::same_part_names))]
     fn resolve_source(&mut self, alloc: Global, path: &ModulePath) -> Result<Text, ResolveError> {
         let own = read_again(alloc, path)?;
         match self.resolver.resolve_source(alloc, &own) {
@@ -152,7 +152,7 @@ impl<R: whole::Resolver> wesl_resolve::Resolver for PartResolver<R> {
         }
     }
 
-    #[tactic(auto, using(crate::proofs::Telling::unit_told, crate::proofs::Telling::unit_refused, crate::proofs::Telling::same_part, crate::proofs::Telling::same_part_texts, crate::proofs::Telling::same_part_names, crate::proofs::Telling::asks_told, crate::proofs::Telling::asks_refused))]
+    #[tactic(auto, using(crate::proofs::Telling::same_part_texts, crate::proofs::Telling::same_part_names))]
     fn resolve_module(
         &mut self,
         alloc: Global,
@@ -165,7 +165,7 @@ impl<R: whole::Resolver> wesl_resolve::Resolver for PartResolver<R> {
         }
     }
 
-    #[tactic(auto, using(crate::proofs::Telling::name_told, crate::proofs::Telling::same_part, crate::proofs::Telling::same_part_texts, crate::proofs::Telling::same_part_names))]
+    #[tactic(auto, using(crate::proofs::Telling::name_told, crate::proofs::Telling::same_part_texts, crate::proofs::Telling::same_part_names))]
     fn display_name(
         &mut self,
         alloc: Global,

@@ -1,7 +1,7 @@
 //! Modules whose texts are handed in.
 #![tactic(auto)]
 
-mod refusal;
+mod fault;
 mod resolver;
 
 pub use resolver::VirtualResolver;

@@ -2,7 +2,7 @@
 
 ghost use Rattle.weslc_texts.specs.Keyed.{AreKeyed};
 
-use crate::refusal::refusal;
+use crate::fault::refusal;
 use indexmap::IndexMap;
 use std::alloc::{AllocError, Global};
 use wesl_resolvers::{ResolveError, Resolver};
