@@ -105,5 +105,5 @@ module _ {M : Type 0} (found : M → ModulePath → Answer → Type 0) (texts : 
     names_by None p = asked_names before after p fallback
     names_by (Some s) p = asked_names (slice_get old s.place) (slice_get new s.place) (rest_behind s.names p) (mounts s.place)
 
-    pub same_names : (λ p. named names (target prefixes new after p)) ≡ (λ p. named names (target prefixes old before p))
+    pub same_names : ◌≡◌ {A = ModulePath → Option (List ℕ)} (λ p. named names (target prefixes new after p)) (λ p. named names (target prefixes old before p))
     same_names = fun_ext (λ p. names_by (best_of p prefixes) p)

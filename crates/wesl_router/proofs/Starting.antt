@@ -78,8 +78,8 @@ to_test path prefix h =
 by_test : (path prefix : ModulePath) (b t : Bool) → starts path prefix ≡ t → IsTrue b ↔ StartsWith path prefix → b ≡ t
 by_test path prefix true true is h = refl
 by_test path prefix false false is h = refl
-by_test path prefix true false is h = let t : starts path prefix ≡ true = to_test path prefix (h.0 tt) in absurd (cc)
-by_test path prefix false true is h = absurd (h.1 (from_test path prefix is))
+by_test path prefix true false is h = sym (to_test path prefix (h.0 refl)) ∙ is
+by_test path prefix false true is h = h.1 (from_test path prefix is)
 
 pub told : (path prefix : ModulePath) (b : Bool) → IsTrue b ↔ StartsWith path prefix → b ≡ starts path prefix
 told path prefix b h = by_test path prefix b (starts path prefix) refl h
