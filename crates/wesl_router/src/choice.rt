@@ -24,7 +24,6 @@ fn is_no_shorter_than(best: Option<Served>, names: usize) -> bool
     }
 }
 
-#[tactic(auto, using(crate::proofs::Starting::told))]
 fn begins(path: &ModulePath, prefix: &ModulePath) -> bool
     ensures { result ≡ starts path.now prefix.now }
 {
