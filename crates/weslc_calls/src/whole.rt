@@ -65,11 +65,7 @@ pub(crate) fn compile_whole<R: Resolver>(
     Ok((text, map))
 }
 
-fn compiled(
-    alloc: Global,
-    linked: &LinkedModules,
-    max_steps: u64,
-) -> Result<String, CompileError> {
+fn compiled(alloc: Global, linked: &LinkedModules, max_steps: u64) -> Result<String, CompileError> {
     let unit = match narrow(alloc, linked.unit.get()) {
         Ok(unit) => unit,
         Err(NarrowError::Unsupported) => {

@@ -21,7 +21,8 @@ const COMPILED: &str = "fn g() -> u32 {\n    return 3u;\n}\n";
 const WHOLE_ROOT: &str =
     "import package::m::two; struct S { a: u32 } fn g() -> S { return S(two + 1); }";
 
-const WHOLE_LINKED: &str = "struct S {\n    a: u32,\n}\nfn g() -> S {\n    return S(package_m_two + 1);\n}\nconst package_m_two = 2;\n";
+const WHOLE_LINKED: &str =
+    "struct S {\n    a: u32,\n}\nfn g() -> S {\n    return S(package_m_two + 1);\n}\nconst package_m_two = 2;\n";
 
 /// The calls that are made.
 #[derive(Clone, Copy)]
@@ -97,8 +98,18 @@ fn answers(
     let source = call.root();
     match call {
         Call::Link => gives(alloc, link(alloc, resolver, root, options), source, LINKED),
-        Call::Compile => gives(alloc, compile(alloc, resolver, root, options), source, COMPILED),
-        Call::LinkWhole => gives(alloc, link(alloc, resolver, root, options), source, WHOLE_LINKED),
+        Call::Compile => gives(
+            alloc,
+            compile(alloc, resolver, root, options),
+            source,
+            COMPILED,
+        ),
+        Call::LinkWhole => gives(
+            alloc,
+            link(alloc, resolver, root, options),
+            source,
+            WHOLE_LINKED,
+        ),
     }
 }
 

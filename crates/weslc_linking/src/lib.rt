@@ -12,9 +12,9 @@ pub use linking::{Linked, linked_unit};
 pub use options::{Mode, Options};
 pub use recording::RecordingResolver;
 pub use resolver::VirtualResolver;
+pub use wesl_features::{CondCompError, Feature, Features};
 pub use wesl_link::{
     BasicSourceMap, EscapeMangler, ImportError, ResolveError, Resolver, SourceMap,
 };
-pub use wesl_features::{CondCompError, Feature, Features};
 pub use weslc_unit::{Fault, NameFault, PrintError, ValidateError, print_part};
 pub use wgsl_error::{Error, ErrorKind, Refusal};

@@ -3,6 +3,9 @@ use Rattle.std.proofs.lemmas.Result.{err_from_is_err_and}
 use Rattle.weslc_bundle.proofs.Paths.{twice_of_none}
 use Rattle.weslc_bundle.proofs.bundle.read_bundle.Goals as goal
 
+pub resolver_of-requires : goal.resolver_of-requires
+resolver_of-requires c = rw c.as_slice.ensures at c.in_ok-check_paths.ensures.apart
+
 pub returns-in_err-check_paths-clause-only : goal.returns-in_err-check_paths-clause-only
 returns-in_err-check_paths-clause-only c =
     let p = err_from_is_err_and c.from_residual-in_err-check_paths.result c.from_residual-in_err-check_paths.ensures.1 in
