@@ -1,9 +1,9 @@
 //! A source map that is made while modules are resolved and items are mangled.
 
-ghost use Rattle.std.specs.Prelude.{◌≡◌, ℕ, List, None, OnOk, OnErr};
+ghost use Rattle.std.specs.Prelude.{◌≡◌, ◌↔◌, ℕ, List, Some, None, OnOk, OnErr, IsTrue};
 ghost use Rattle.wgsl_path.specs.Paths.{path_text};
 ghost use Rattle.wesl_resolve.specs.declared.source_map.BasicSourceMap.{BasicSourceMap as Map};
-ghost use Rattle.wesl_resolve.specs.SourceMaps.{decl_at, source_at};
+ghost use Rattle.wesl_resolve.specs.SourceMaps.{decl_at, source_at, display_name_at, IsSet};
 ghost use Rattle.wesl_mangle.specs.Recorded.{IsRecorded, IsUnchangedMap};
 
 use crate::mangler::Mangler;
@@ -24,7 +24,36 @@ pub struct SourceMapper<R, M> {
     pub map: BasicSourceMap,
 }
 
+/// Whether a path is the root's.
+#[tactic(auto, using(crate::proofs::Recording::same_path))]
+fn is_root(path: &ModulePath, root: &ModulePath) -> bool
+    ensures { IsTrue result ↔ (path.now ≡ root.now) }
+{
+    path == root
+}
+
+/// Records the text and the display name of the root, whose text is the default source. Where memory is refused nothing is changed.
+fn keep_root(
+    alloc: Global,
+    map: &mut BasicSourceMap,
+    path: &ModulePath,
+    display_name: Option<Text>,
+    text: Text,
+) -> Result<(), AllocError>
+    ensures text { OnOk result (IsSet (source_at map.old) (path_text path.now) (Some text) (source_at map.new)) }
+    ensures name { OnOk result (IsSet (display_name_at map.old) (path_text path.now) display_name (display_name_at map.new)) }
+    ensures default_source { OnOk result (map.new.default_source ≡ Some text) }
+    ensures decls { OnOk result (map.new.decls ≡ map.old.decls) }
+    ensures refused { OnErr result (IsUnchangedMap map.old map.new) }
+{
+    let copy = text.clone_in(alloc)?;
+    map.add_source(path, display_name, text)?;
+    map.set_default_source(copy);
+    Ok(())
+}
+
 /// Records the text and the display name of a module. Where memory is refused nothing is changed.
+#[tactic(auto, using(crate::proofs::Recording::root_recorded, crate::proofs::Recording::other_recorded))]
 fn keep_source(
     alloc: Global,
     map: &mut BasicSourceMap,
@@ -36,15 +65,11 @@ fn keep_source(
     ensures recorded { OnOk result (IsRecorded root.now path.now display_name text map.old map.new) }
     ensures refused { OnErr result (IsUnchangedMap map.old map.new) }
 {
-    let default = if path == root {
-        Some(text.clone_in(alloc)?)
-    } else {
-        None
-    };
-    map.add_source(path, display_name, text)?;
-    if let Some(text) = default {
-        map.set_default_source(text);
+    if is_root(path, root) {
+        keep_root(alloc, map, path, display_name, text)?;
+        return Ok(());
     }
+    map.add_source(path, display_name, text)?;
     Ok(())
 }
 
