@@ -7,3 +7,7 @@ use Rattle.weslc_texts.proofs.resolver.VirtualResolverResolver.resolve_module.Go
 pub returns-in-Ok-clause-unit : goal.returns-in-Ok-clause-unit
 returns-in-Ok-clause-unit c =
     unit_there c.in_ok-text.text.now _ c.in_ok-text.ensures (unit_tree c.in-Ok.unit) (record { unit = c.in-Ok.unit; parsed = c.in-Ok.ensures; tree = refl })
+
+pub returns-in-Err-clause-unit : goal.returns-in-Err-clause-unit
+returns-in-Err-clause-unit c =
+    refused_there c.in_ok-text.text.now _ c.in_ok-text.ensures c.args.path.now c.in-Err.error c.refusal.result c.in-Err.ensures c.refusal.ensures
