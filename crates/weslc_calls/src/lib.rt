@@ -2,6 +2,7 @@
 #![tactic(auto)]
 
 mod calls;
+mod deciding;
 mod part;
 mod whole;
 

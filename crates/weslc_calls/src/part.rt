@@ -7,8 +7,8 @@ ghost use Rattle.weslc_linking.specs.Mapped.{HasNames};
 ghost use Rattle.weslc_linking.specs.Answers.{RefusesToLink, RefusesToCompile, IsMapped, IsLinkedText, IsCompiledText};
 ghost use Rattle.weslc_calls.specs.OfPart.{is_lazy, is_own, sources, IsBeyondLink, IsBeyondCompile, IfAnswered, IfBeyond};
 
+use crate::deciding::Decided;
 use std::alloc::Global;
-use wesl_preprocess::{Conditions, Preprocessor};
 use wesl_resolvers::Resolver;
 use weslc_api::{BasicSourceMap, CompileError, Mode, Options};
 use weslc_part::{Beyond, PartResolver};
@@ -63,8 +63,7 @@ pub(crate) fn try_link<R: Resolver>(
     if !is_own(&root.origin) {
         return Tried::Beyond(None);
     }
-    let features = &options.features;
-    let decided = Preprocessor::new(resolver, Conditions { features });
+    let decided = Decided::new(resolver, &options.features);
     let mut part = PartResolver::new(decided);
     match weslc_api::link(alloc, &mut part, root, options) {
         Err(CompileError::Unsupported(_)) => Tried::Beyond(part.into_beyond()),
@@ -91,8 +90,7 @@ pub(crate) fn try_compile<R: Resolver>(
     if !is_own(&root.origin) {
         return Tried::Beyond(None);
     }
-    let features = &options.features;
-    let decided = Preprocessor::new(resolver, Conditions { features });
+    let decided = Decided::new(resolver, &options.features);
     let mut part = PartResolver::new(decided);
     match weslc_api::compile(alloc, &mut part, root, options) {
         Err(CompileError::Unsupported(_)) => Tried::Beyond(part.into_beyond()),

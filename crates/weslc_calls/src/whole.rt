@@ -1,7 +1,7 @@
 //! The calls over the whole language.
 
+use crate::deciding::Decided;
 use std::alloc::Global;
-use wesl_preprocess::{Conditions, Preprocessor};
 use wesl_resolvers::Resolver;
 use wesl_rounds::HeldUnit;
 use weslc_api::{BasicSourceMap, CompileError, ErrorContext, Options};
@@ -21,8 +21,7 @@ pub(crate) fn link_whole<R: Resolver>(
     root: &ModulePath,
     options: &Options,
 ) -> Result<(String, BasicSourceMap), CompileError> {
-    let features = &options.features;
-    let mut decided = Preprocessor::new(resolver, Conditions { features });
+    let mut decided = Decided::new(resolver, &options.features);
     let linked = link_modules(alloc, &mut decided, beyond, root, options)?;
     let LinkedModules {
         unit,
@@ -51,8 +50,7 @@ pub(crate) fn compile_whole<R: Resolver>(
     root: &ModulePath,
     options: &Options,
 ) -> Result<(String, BasicSourceMap), CompileError> {
-    let features = &options.features;
-    let mut decided = Preprocessor::new(resolver, Conditions { features });
+    let mut decided = Decided::new(resolver, &options.features);
     let linked = link_modules(alloc, &mut decided, beyond, root, options)?;
     validate(alloc, &linked)?;
     let text = compiled(alloc, &linked, options.max_steps)?;
