@@ -1,7 +1,0 @@
-//! Resolvers, manglers and source maps, at work together.
-#![tactic(auto)]
-
-#[cfg(test)]
-mod manglers;
-#[cfg(test)]
-mod resolvers;
