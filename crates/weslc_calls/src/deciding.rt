@@ -3,7 +3,6 @@
 use std::alloc::{AllocError, Global};
 use wesl_preprocess::{Conditions, Preprocessor};
 use wesl_resolvers::{ResolveError, Resolver};
-use weslc_api::Features;
 use wgsl_declarations::TranslationUnit;
 use wgsl_items::Text;
 use wgsl_path::ModulePath;
@@ -12,18 +11,6 @@ use wgsl_path::ModulePath;
 #[derive(Drop)]
 pub(crate) struct Decided<'a, R> {
     pub inner: Preprocessor<&'a mut R, Conditions<'a>>,
-}
-
-impl<'a, R: Resolver> Decided<'a, R> {
-    ghost use Rattle.std.specs.Prelude.{◌≡◌};
-
-    pub fn new(resolver: &'a mut R, features: &'a Features) -> Decided<'a, R>
-        ensures { result ≡ record { inner = record { resolver = resolver; preprocess = record { features = features } } } }
-    {
-        Decided {
-            inner: Preprocessor::new(resolver, Conditions { features }),
-        }
-    }
 }
 
 impl<'a, R: Resolver> Resolver for Decided<'a, R> {

@@ -9,6 +9,7 @@ ghost use Rattle.weslc_calls.specs.OfPart.{is_lazy, is_own, sources, IsBeyondLin
 
 use crate::deciding::Decided;
 use std::alloc::Global;
+use wesl_preprocess::{Conditions, Preprocessor};
 use wesl_resolvers::Resolver;
 use weslc_api::{BasicSourceMap, CompileError, Mode, Options};
 use weslc_part::{Beyond, PartResolver};
@@ -63,8 +64,9 @@ pub(crate) fn try_link<R: Resolver>(
     if !is_own(&root.origin) {
         return Tried::Beyond(None);
     }
-    let decided = Decided::new(resolver, &options.features);
-    let mut part = PartResolver::new(decided);
+    let features = &options.features;
+    let decided = Preprocessor::new(resolver, Conditions { features });
+    let mut part = PartResolver::new(Decided { inner: decided });
     match weslc_api::link(alloc, &mut part, root, options) {
         Err(CompileError::Unsupported(_)) => Tried::Beyond(part.into_beyond()),
         answer => Tried::Answered(answer),
@@ -90,8 +92,9 @@ pub(crate) fn try_compile<R: Resolver>(
     if !is_own(&root.origin) {
         return Tried::Beyond(None);
     }
-    let decided = Decided::new(resolver, &options.features);
-    let mut part = PartResolver::new(decided);
+    let features = &options.features;
+    let decided = Preprocessor::new(resolver, Conditions { features });
+    let mut part = PartResolver::new(Decided { inner: decided });
     match weslc_api::compile(alloc, &mut part, root, options) {
         Err(CompileError::Unsupported(_)) => Tried::Beyond(part.into_beyond()),
         answer => Tried::Answered(answer),

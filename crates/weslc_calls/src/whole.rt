@@ -2,6 +2,7 @@
 
 use crate::deciding::Decided;
 use std::alloc::Global;
+use wesl_preprocess::{Conditions, Preprocessor};
 use wesl_resolvers::Resolver;
 use wesl_rounds::HeldUnit;
 use weslc_api::{BasicSourceMap, CompileError, ErrorContext, Options};
@@ -21,7 +22,9 @@ pub(crate) fn link_whole<R: Resolver>(
     root: &ModulePath,
     options: &Options,
 ) -> Result<(String, BasicSourceMap), CompileError> {
-    let mut decided = Decided::new(resolver, &options.features);
+    let features = &options.features;
+    let inner = Preprocessor::new(resolver, Conditions { features });
+    let mut decided = Decided { inner };
     let linked = link_modules(alloc, &mut decided, beyond, root, options)?;
     let LinkedModules {
         unit,
@@ -50,7 +53,9 @@ pub(crate) fn compile_whole<R: Resolver>(
     root: &ModulePath,
     options: &Options,
 ) -> Result<(String, BasicSourceMap), CompileError> {
-    let mut decided = Decided::new(resolver, &options.features);
+    let features = &options.features;
+    let inner = Preprocessor::new(resolver, Conditions { features });
+    let mut decided = Decided { inner };
     let linked = link_modules(alloc, &mut decided, beyond, root, options)?;
     validate(alloc, &linked)?;
     let text = compiled(alloc, &linked, options.max_steps)?;
