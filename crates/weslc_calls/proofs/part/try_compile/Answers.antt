@@ -1,6 +1,28 @@
--- The refusal is one of what the modules are once their conditions are decided.
-use Rattle.std.proofs.Common.{inr}
+-- What the proved chain tells is told of the modules once their conditions are decided.
+use Rattle.std.proofs.Common.{rules, IfOk, IfErr, string_bytes, inr}
+use Rattle.wgsl_path.specs.Paths.{path_text}
+use Rattle.weslc_part.specs.Found.{at_text}
+use Rattle.weslc_linking.specs.Answers.{RefusesToCompile, IsMapped, IsCompiledText}
+use Rattle.weslc_calls.specs.OfPart.{sources}
 use Rattle.weslc_calls.proofs.part.try_compile.Goals as goal
+
+pub returns-in_default-clause-text : goal.returns-in_default-clause-text
+returns-in_default-clause-text g c =
+    let told : IfOk c.compile.result (λ answer. IsCompiledText (sources c.args.options.now.features (g.R.Resolver.answers c.args.resolver.now)) (path_text c.args.root.now) c.args.options.now.keep c.args.options.now.max_modules c.args.options.now.max_steps (string_bytes answer.0)) =
+    rw (c.new-part.ensures, c.new-decided.ensures) at c.compile.ensures.text in
+    search (rules, told)
+
+pub returns-in_default-clause-map : goal.returns-in_default-clause-map
+returns-in_default-clause-map g c =
+    let told : IfOk c.compile.result (λ answer. IsMapped (sources c.args.options.now.features (g.R.Resolver.answers c.args.resolver.now)) (path_text c.args.root.now) c.args.options.now.keep c.args.options.now.max_modules (at_text (g.R.Resolver.texts c.args.resolver.now)) answer.1) =
+    rw (c.new-part.ensures, c.new-decided.ensures) at c.compile.ensures.map in
+    search (rules, told)
+
+pub returns-in_default-clause-refusal : goal.returns-in_default-clause-refusal
+returns-in_default-clause-refusal g c =
+    let told : IfErr c.compile.result (RefusesToCompile (sources c.args.options.now.features (g.R.Resolver.answers c.args.resolver.now)) (path_text c.args.root.now) c.args.options.now.keep c.args.options.now.max_modules c.args.options.now.max_steps) =
+    rw (c.new-part.ensures, c.new-decided.ensures) at c.compile.ensures.refusal in
+    search (rules, told)
 
 pub returns-in-Err-Unsupported-clause-beyond : goal.returns-in-Err-Unsupported-clause-beyond
 returns-in-Err-Unsupported-clause-beyond g c =
