@@ -6,6 +6,7 @@ use Rattle.wgsl_declarations.specs.Tree.{UnitTree}
 use Rattle.wgsl_declarations.specs.View.{unit_tree}
 use Rattle.wgsl_declarations.specs.Print.{unit_text}
 use Rattle.wgsl_error.specs.declared.error.Error.{Error}
+use Rattle.wgsl_error.specs.declared.error.Refusal.TheVariants as why
 use Rattle.wgsl_error.specs.Errors.{refusal_of}
 use Rattle.wgsl_parser.specs.Texts.{IsModuleFault}
 use Rattle.wgsl_check_unit.specs.Derivable.{Says, SaysTree, IsDerivable}
@@ -66,7 +67,7 @@ Fixes features old (Err (refusal.Unprintable name)) new = ⊥
 -- an error of a text is told as its fault; or the parser gave up
 abbrev pub RefusesSo : Error → PrecompileError → Type 0
 RefusesSo e (refusal.Syntax f) = (f ≡ e) × (refusal_of e ≡ None)
-RefusesSo e (refusal.GaveUp r) = Unit
-RefusesSo e refusal.OutOfMemory = Unit
+RefusesSo e (refusal.GaveUp r) = refusal_of e ≡ Some r
+RefusesSo e refusal.OutOfMemory = refusal_of e ≡ Some why.OutOfMemory
 RefusesSo e (refusal.Condition f) = ⊥
 RefusesSo e (refusal.Unprintable name) = ⊥
