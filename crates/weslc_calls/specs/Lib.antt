@@ -1,4 +1,5 @@
 pub mod OfPart
+pub mod Plain
 pub use Rattle.weslc_linking.specs.Answers
 pub use Rattle.weslc_linking.specs.declared.options.Options
 pub use Rattle.weslc_linking.specs.declared.error.CompileError

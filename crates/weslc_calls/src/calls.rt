@@ -6,6 +6,7 @@ ghost use Rattle.weslc_part.specs.Found.{at_text, part_names};
 ghost use Rattle.weslc_linking.specs.Mapped.{HasNames};
 ghost use Rattle.weslc_linking.specs.Answers.{RefusesToLink, RefusesToCompile, IsMapped, IsLinkedText, IsCompiledText};
 ghost use Rattle.weslc_calls.specs.OfPart.{sources, IsBeyondLink, IsBeyondCompile};
+ghost use Rattle.weslc_calls.specs.Plain.{IsPlain};
 
 use crate::part::{Tried, try_compile, try_link};
 use crate::whole::{compile_whole, link_whole};
@@ -22,6 +23,7 @@ pub fn link<R: Resolver>(
     root: &ModulePath,
     options: &Options,
 ) -> Result<(String, BasicSourceMap), CompileError>
+    ensures plain { IfOk result (λ answer. IsPlain (string_bytes answer.0)) }
     ensures text { IsBeyondLink (R.answers resolver.old) root.now options.now ⊎ IfOk result (λ answer. IsLinkedText (sources options.now.features (R.answers resolver.old)) (path_text root.now) options.now.keep options.now.max_modules (string_bytes answer.0)) }
     ensures map { IsBeyondLink (R.answers resolver.old) root.now options.now ⊎ IfOk result (λ answer. IsMapped (sources options.now.features (R.answers resolver.old)) (path_text root.now) options.now.keep options.now.max_modules (at_text (R.texts resolver.old)) answer.1) }
     ensures names { IsBeyondLink (R.answers resolver.old) root.now options.now ⊎ IfOk result (λ answer. HasNames (part_names (R.display_names resolver.old)) answer.1) }

@@ -6,6 +6,7 @@ ghost use Rattle.weslc_part.specs.Found.{at_text, part_names};
 ghost use Rattle.weslc_linking.specs.Mapped.{HasNames};
 ghost use Rattle.weslc_linking.specs.Answers.{RefusesToLink, RefusesToCompile, IsMapped, IsLinkedText, IsCompiledText};
 ghost use Rattle.weslc_calls.specs.OfPart.{is_lazy, is_own, sources, IsBeyondLink, IsBeyondCompile, IfAnswered, IfBeyond};
+ghost use Rattle.weslc_calls.specs.Plain.{IsPlain};
 
 use crate::deciding::Decided;
 use std::alloc::Global;
@@ -52,6 +53,7 @@ pub(crate) fn try_link<R: Resolver>(
     root: &ModulePath,
     options: &Options,
 ) -> Tried
+    ensures plain { IfAnswered result (λ r. IfOk r (λ answer. IsPlain (string_bytes answer.0))) }
     ensures text { IfAnswered result (λ r. IfOk r (λ answer. IsLinkedText (sources options.now.features (R.answers resolver.old)) (path_text root.now) options.now.keep options.now.max_modules (string_bytes answer.0))) }
     ensures map { IfAnswered result (λ r. IfOk r (λ answer. IsMapped (sources options.now.features (R.answers resolver.old)) (path_text root.now) options.now.keep options.now.max_modules (at_text (R.texts resolver.old)) answer.1)) }
     ensures names { IfAnswered result (λ r. IfOk r (λ answer. HasNames (part_names (R.display_names resolver.old)) answer.1)) }

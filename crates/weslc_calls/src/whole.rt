@@ -1,5 +1,10 @@
 //! The calls over the whole language.
 
+ghost use Rattle.std.specs.Prelude.{◌≡◌, IfOk, string_bytes};
+ghost use Rattle.wgsl_declarations.specs.View.{unit_tree};
+ghost use Rattle.wgsl_check_unit.specs.Derivable.{SaysTree};
+ghost use Rattle.weslc_calls.specs.Plain.{IsPlain};
+
 use crate::deciding::Decided;
 use std::alloc::Global;
 use wesl_preprocess::{Conditions, Preprocessor};
@@ -10,18 +15,22 @@ use weslc_compiled::compile_unit;
 use weslc_modules::{LinkedModules, link_modules, validate};
 use weslc_part::Beyond;
 use wgsl_check_unit::{Unprintable, print_checked};
+use wgsl_declarations::let_go;
 use wgsl_error::Refusal;
 use wgsl_part::{NarrowError, is_in_part, narrow};
 use wgsl_path::ModulePath;
 
 /// Linked modules as a text. Their conditions are decided as each is resolved.
+#[tactic(auto, using(crate::proofs::Plain::plain_of_unit))]
 pub(crate) fn link_whole<R: Resolver>(
     alloc: Global,
     resolver: &mut R,
     beyond: Option<Beyond>,
     root: &ModulePath,
     options: &Options,
-) -> Result<(String, BasicSourceMap), CompileError> {
+) -> Result<(String, BasicSourceMap), CompileError>
+    ensures { IfOk result (λ answer. IsPlain (string_bytes answer.0)) }
+{
     let features = &options.features;
     let inner = Preprocessor::new(resolver, Conditions { features });
     let mut decided = Decided { inner };
@@ -35,9 +44,13 @@ pub(crate) fn link_whole<R: Resolver>(
     Ok((printed(alloc, unit)?, map))
 }
 
-fn printed(alloc: Global, unit: HeldUnit) -> Result<String, CompileError> {
-    let mut unit = unit;
-    match print_checked(alloc, unit.get_mut()) {
+fn printed(alloc: Global, unit: HeldUnit) -> Result<String, CompileError>
+    ensures { IfOk result (λ text. SaysTree (string_bytes text) (unit_tree unit)) }
+{
+    let mut unit = unit.into_inner();
+    let printed = print_checked(alloc, &mut unit);
+    let_go(unit);
+    match printed {
         Ok(text) => Ok(text),
         Err(Unprintable::Node(name)) => Err(CompileError::unprintable(name)),
         Err(Unprintable::GaveUp(Refusal::OutOfMemory)) => Err(CompileError::OutOfMemory),

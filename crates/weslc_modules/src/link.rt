@@ -1,5 +1,7 @@
 //! Modules of the whole language, loaded, and linked into one unit.
 
+ghost use Rattle.std.specs.Prelude.{◌≡◌, [], IfOk};
+
 use crate::map::source_map;
 use crate::refusal::{of_import, of_resolve};
 use std::alloc::{AllocError, Global};
@@ -34,7 +36,9 @@ pub fn link_modules<R: Resolver>(
     beyond: Option<Beyond>,
     root: &ModulePath,
     options: &Options,
-) -> Result<LinkedModules, CompileError> {
+) -> Result<LinkedModules, CompileError>
+    ensures { IfOk result (λ linked. linked.unit.imports ≡ []) }
+{
     if options.max_modules == 0 {
         return Err(CompileError::too_many_modules(alloc, root)?);
     }
@@ -66,7 +70,9 @@ fn link_root<R: Resolver>(
     resolver: &mut R,
     root: &ModulePath,
     options: &Options,
-) -> Result<LinkedModules, CompileError> {
+) -> Result<LinkedModules, CompileError>
+    ensures { IfOk result (λ linked. linked.unit.imports ≡ []) }
+{
     let mut resolutions = resolved(alloc, unit, resolver, root, options)?;
     let numbering = number_held(alloc, &resolutions)?;
     let names = printed_names(alloc, &resolutions.modules, &numbering)?;
@@ -110,7 +116,9 @@ fn assembled(
     numbering: &Numbering,
     names: &[Text],
     origins: &mut Vec<Spot>,
-) -> Result<HeldUnit, AllocError> {
+) -> Result<HeldUnit, AllocError>
+    ensures { IfOk result (λ unit. unit.imports ≡ []) }
+{
     match assemble(alloc, resolutions, numbering, names, origins) {
         Ok(unit) => Ok(HeldUnit::new(unit)),
         Err(error) => Err(error),

@@ -4,6 +4,8 @@ use Rattle.wgsl_path.specs.Paths.{path_text}
 use Rattle.weslc_part.specs.Found.{at_text}
 use Rattle.weslc_linking.specs.Answers.{RefusesToLink, IsMapped, IsLinkedText}
 use Rattle.weslc_calls.specs.OfPart.{sources}
+use Rattle.weslc_calls.specs.Plain.{IsPlain}
+use Rattle.weslc_calls.proofs.Plain.{plain_answer}
 use Rattle.weslc_calls.proofs.part.try_link.Goals as goal
 
 pub returns-in_default-clause-text : goal.returns-in_default-clause-text
@@ -11,6 +13,14 @@ returns-in_default-clause-text g c =
     let told : IfOk c.link.result (λ answer. IsLinkedText (sources c.args.options.now.features (g.R.Resolver.answers c.args.resolver.now)) (path_text c.args.root.now) c.args.options.now.keep c.args.options.now.max_modules (string_bytes answer.0)) =
     rw (c.new-part.ensures, c.new-decided.ensures) at c.link.ensures.text in
     search (rules, told)
+
+pub returns-in_default-clause-plain : goal.returns-in_default-clause-plain
+returns-in_default-clause-plain g c =
+    let told : IfOk c.link.result (λ answer. IsLinkedText (sources c.args.options.now.features (g.R.Resolver.answers c.args.resolver.now)) (path_text c.args.root.now) c.args.options.now.keep c.args.options.now.max_modules (string_bytes answer.0)) =
+    rw (c.new-part.ensures, c.new-decided.ensures) at c.link.ensures.text in
+    let plain : IfOk c.link.result (λ answer. IsPlain (string_bytes answer.0)) =
+    plain_answer _ _ _ _ c.link.result told in
+    search (rules, plain)
 
 pub returns-in_default-clause-map : goal.returns-in_default-clause-map
 returns-in_default-clause-map g c =

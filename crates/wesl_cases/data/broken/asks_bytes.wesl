@@ -1,0 +1,2 @@
+import package::bytes::two;
+fn main() -> u32 { return two; }

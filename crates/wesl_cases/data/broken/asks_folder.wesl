@@ -1,0 +1,2 @@
+import package::folder::two;
+fn main() -> u32 { return two; }

@@ -1,0 +1,2 @@
+import package::long::two;
+fn main() -> u32 { return two; }

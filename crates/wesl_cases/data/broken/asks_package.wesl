@@ -1,0 +1,2 @@
+import noise::simplex::two;
+fn main() -> u32 { return two; }

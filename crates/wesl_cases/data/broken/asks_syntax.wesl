@@ -1,0 +1,2 @@
+import package::syntax::main as other;
+fn main() -> u32 { return other(); }

@@ -1,0 +1,2 @@
+import super::super::other::two;
+fn main() -> u32 { return two; }

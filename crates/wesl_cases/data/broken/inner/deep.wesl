@@ -1,0 +1,2 @@
+import super::super::super::values::two;
+fn main() -> u32 { return two; }

@@ -1,0 +1,2 @@
+import package::gone::two;
+fn main() -> u32 { return two; }

@@ -1,0 +1,2 @@
+import package::values::tow;
+fn main() -> u32 { return tow; }

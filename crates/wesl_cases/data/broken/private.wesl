@@ -1,0 +1,2 @@
+import package::middle::two;
+fn main() -> u32 { return two; }

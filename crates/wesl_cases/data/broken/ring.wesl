@@ -1,0 +1,2 @@
+import package::values::ring;
+fn main() -> u32 { return ring; }

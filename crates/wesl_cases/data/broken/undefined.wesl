@@ -1,0 +1,2 @@
+import package::values::two;
+@fragment fn main() { _ = two + missing; }

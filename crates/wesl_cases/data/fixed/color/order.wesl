@@ -1,0 +1,4 @@
+import package::config::levels;
+
+const first = levels * levels;
+const second = levels;

@@ -1,0 +1,7 @@
+fn square(x: u32) -> u32 {
+    return x * x;
+}
+
+fn cube(x: u32) -> u32 {
+    return square(x) * x;
+}

@@ -1,0 +1,3 @@
+// Plain WGSL: it imports nothing.
+const factor = 25173;
+const shift = 13849;

@@ -1,0 +1,3 @@
+import package::config::one;
+
+const seed = one * 3 + 17;

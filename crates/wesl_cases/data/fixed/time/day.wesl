@@ -1,0 +1,2 @@
+const hour = 60 * 60;
+const day = hour * 24;

@@ -1,0 +1,1 @@
+const tile = 8;

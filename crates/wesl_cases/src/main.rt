@@ -1,0 +1,99 @@
+//! The cases of `wesl`: each line of the file `commands` is a command line, which is run over the folders beside it; what it writes
+//! and its status are printed. Each pair of lines of the file `same` is a command line, and the members of a bundle of the same
+//! modules, of which `weslc` has to make the same text, error line and status.
+#![tactic(auto)]
+
+use std::io::Write;
+use std::{fs, io};
+use weslc_bundle::serve_bundle;
+use weslc_tool::run_words;
+
+/// The longest text that a file may have, and one byte more.
+const TOO_LONG: usize = 16_777_217;
+
+/// A file that is too long, which is made here since it is too long to be kept.
+fn write_long_file(rt: &HostRuntime) -> io::Result<()> {
+    let mut text = Vec::new(rt.alloc());
+    text.resize(TOO_LONG, b' ')?;
+    fs::write(rt, "broken/long.wesl", text.as_slice())
+}
+
+fn words_of(rt: &HostRuntime, line: &str) -> io::Result<Vec<String>> {
+    let mut words = Vec::new(rt.alloc());
+    words.push(String::from_str(rt.alloc(), "wesl")?)?;
+    for word in line.split(' ') {
+        words.push(String::from_str(rt.alloc(), word)?)?;
+    }
+    Ok(words)
+}
+
+/// Runs a command line, and prints what it writes.
+fn run_line<W: Write>(rt: &HostRuntime, line: &str, out: &mut W) -> io::Result<()> {
+    let words = words_of(rt, line)?;
+    let mut text = Vec::new(rt.alloc());
+    let mut errors = Vec::new(rt.alloc());
+    let status = run_words(rt, words.as_slice(), &mut text, &mut errors)?;
+    writeln!(out, "$ wesl {line}")?;
+    out.write_all(text.as_slice())?;
+    out.write_all(errors.as_slice())?;
+    writeln!(out, "status {status}")
+}
+
+/// Runs a command line, and `weslc` over a bundle, and prints whether both write the same.
+fn compare<W: Write>(rt: &HostRuntime, line: &str, bundle: &str, out: &mut W) -> io::Result<()> {
+    let words = words_of(rt, line)?;
+    let mut text = Vec::new(rt.alloc());
+    let mut errors = Vec::new(rt.alloc());
+    let status = run_words(rt, words.as_slice(), &mut text, &mut errors)?;
+    let mut reader = bundle.as_bytes();
+    let mut wanted = Vec::new(rt.alloc());
+    let mut line_wanted = Vec::new(rt.alloc());
+    let status_wanted = serve_bundle(rt.alloc(), &mut reader, &mut wanted, &mut line_wanted);
+    let is_same = status == status_wanted
+        && text.as_slice() == wanted.as_slice()
+        && errors.as_slice() == line_wanted.as_slice();
+    let (what, length) = (if is_same { "same" } else { "DIFFERS" }, text.len());
+    writeln!(
+        out,
+        "$ wesl {line}\n{what}: status {status}, {length} bytes"
+    )
+}
+
+/// Compares the command lines of the file `same` with bundles of all modules.
+fn compare_all<W: Write>(rt: &HostRuntime, out: &mut W) -> io::Result<()> {
+    let modules = fs::read_to_string(rt, "shaders.json")?;
+    let modules = modules.as_str();
+    let pairs = fs::read_to_string(rt, "same")?;
+    let mut command: Option<&str> = None;
+    for line in pairs.as_str().lines() {
+        command = match command {
+            None => Some(line),
+            Some(command) => {
+                let bundle = format!(in rt.alloc(); "{{{line}, \"modules\": {modules}}}")?;
+                compare(rt, command, bundle.as_str(), out)?;
+                None
+            }
+        };
+    }
+    Ok(())
+}
+
+/// Prints the files that the last command lines have written.
+fn show_file<W: Write>(rt: &HostRuntime, file: &str, out: &mut W) -> io::Result<()> {
+    let text = fs::read_to_string(rt, file)?;
+    writeln!(out, "{file}:")?;
+    out.write_all(text.as_str().as_bytes())
+}
+
+fn main(rt: HostRuntime) -> io::Result<()> {
+    write_long_file(&rt)?;
+    let commands = fs::read_to_string(&rt, "commands")?;
+    let mut out = rt.stdout();
+    for line in commands.as_str().lines() {
+        run_line(&rt, line, &mut out)?;
+    }
+    compare_all(&rt, &mut out)?;
+    show_file(&rt, "linked.wgsl", &mut out)?;
+    show_file(&rt, "map.json", &mut out)?;
+    out.flush()
+}

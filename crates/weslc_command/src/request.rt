@@ -1,0 +1,80 @@
+//! What a command line asks for.
+
+/// What is to be done.
+#[derive(Clone, Copy, Debug, PartialEq, Eq)]
+pub enum Verb {
+    Link,
+    Precompile,
+    Compile,
+    Check,
+}
+
+impl Verb {
+    /// The word of the command line.
+    pub fn name(self) -> &'static str {
+        match self {
+            Verb::Link => "link",
+            Verb::Precompile => "precompile",
+            Verb::Compile => "compile",
+            Verb::Check => "check",
+        }
+    }
+
+    /// What it does, as help says it.
+    pub fn about(self) -> &'static str {
+        match self {
+            Verb::Link => "Put what the kept names use into one text",
+            Verb::Precompile => "Fix flags in the text of FILE alone",
+            Verb::Compile => "Link, validate and evaluate constants",
+            Verb::Check => "Parse, link and validate; write no text",
+        }
+    }
+
+    /// The command of a bundle that does it. `Check` links.
+    pub fn command(self) -> &'static str {
+        match self {
+            Verb::Link | Verb::Check => "link",
+            Verb::Precompile => "precompile",
+            Verb::Compile => "compile",
+        }
+    }
+}
+
+/// How an error is written.
+#[derive(Clone, Copy, Debug, PartialEq, Eq)]
+pub enum Format {
+    /// For people: a sentence, the place with its line, and what to change where that is known.
+    Text,
+    /// The line that `weslc` writes.
+    Line,
+    /// One JSON object.
+    Json,
+}
+
+/// A feature flag, and the word for what it is set to.
+#[derive(Clone, Copy, Debug)]
+pub struct Flag<'a> {
+    pub name: &'a str,
+    pub setting: &'a str,
+}
+
+/// What a command line asks for, in its words.
+#[derive(Drop)]
+pub struct Request<'a> {
+    pub verb: Verb,
+    /// The root module's file.
+    pub file: &'a str,
+    /// The folder of its package, where one is named.
+    pub root: Option<&'a str>,
+    /// The other packages, each `NAME=FOLDER`.
+    pub packages: Vec<&'a str>,
+    pub keep: Vec<&'a str>,
+    pub flags: Vec<Flag<'a>>,
+    pub default_feature: Option<&'a str>,
+    pub mode: Option<&'a str>,
+    pub max_modules: Option<u32>,
+    pub max_steps: Option<u64>,
+    pub output: Option<&'a str>,
+    pub map: Option<&'a str>,
+    pub format: Format,
+}

@@ -1,0 +1,127 @@
+//! What is wrong, in a sentence, and what to change.
+
+use crate::error_line::ErrorLine;
+use std::alloc::AllocError;
+
+/// The sentence of a kind of error. `%m` stands for the module, `%d` for the declaration, `%s` for the name.
+pub(crate) fn sentence_of(kind: &str) -> &'static str {
+    match kind {
+        "Resolve.ModuleNotFound" => "there is no module `%m`",
+        "TooManyModules" => "`%m` is one module too many",
+        "Unsupported" => "`%m` uses what is not taken yet",
+        "ConditionLeft" => "a condition in `%m` is not decided",
+        "Import.DuplicateSymbol" => "`%s` is declared or imported twice in `%m`",
+        "Import.MissingDecl" => "`%m` does not declare `%s`",
+        "Import.Private" => "`%m` imports `%s` and does not publish it",
+        "NameClash" => "`%s` would be read as something else in the text",
+        "UnclearName" => "`%s` would hide another name in the text",
+        "Unprintable" => "no text says what is left of `%s`",
+        "OutOfMemory" => "out of memory",
+        "Read" => "reading failed",
+        "Bundle" => "`%s` is not taken",
+        "DuplicateModule" => "`%m` is there twice",
+        _ => match kind.split_once('.') {
+            Some(("Syntax", inner)) | Some(("Expression", inner)) => syntax_sentence(inner),
+            Some(("Condition", inner)) => condition_sentence(inner),
+            Some(("Validate", inner)) => validation_sentence(inner),
+            Some(("Eval", inner)) => evaluation_sentence(inner),
+            _ => "this goes wrong",
+        },
+    }
+}
+
+fn syntax_sentence(kind: &str) -> &'static str {
+    match kind {
+        "InvalidToken" => "this is no token",
+        "ReservedWord" => "this word is reserved",
+        "UnexpectedToken" => "this is not expected here",
+        "UnexpectedEof" => "the text ends too early",
+        "Attribute" => "the attribute does not take these arguments",
+        "VarTemplate" => "`var` takes an address space, and maybe an access mode",
+        "DiagnosticSeverity" => "the severity is `error`, `warning`, `info` or `off`",
+        "TooDeep" => "this is nested too deep",
+        _ => "this is no module",
+    }
+}
+
+fn condition_sentence(kind: &str) -> &'static str {
+    match kind {
+        "InvalidFeatureFlag" => "`%s` is no feature flag",
+        "UnexpectedFeatureFlag" => "the flag `%s` is not expected",
+        "InvalidExpression" => {
+            "a condition has flags, `true`, `false`, `!`, `&&`, `||` and parentheses alone"
+        }
+        "NoPrecedingIf" => "there is no `@if` before this `@else` or `@elif`",
+        "DuplicateIf" => "an item has two conditions",
+        _ => "a condition is wrong",
+    }
+}
+
+fn validation_sentence(kind: &str) -> &'static str {
+    match kind {
+        "UndefinedSymbol" => "nothing declares `%s`",
+        "NotCallable" => "`%s` can't be called",
+        "ParamCount" => "a call of `%s` has a wrong number of arguments",
+        "Duplicate" => "`%s` is declared twice",
+        "Cycle" => "`%s` needs itself",
+        _ => "the linked text is wrong",
+    }
+}
+
+fn evaluation_sentence(kind: &str) -> &'static str {
+    match kind {
+        "Todo" => "`%s` is not evaluated yet",
+        "DivByZero" | "RemZeroDiv" => "division by zero in `%d`",
+        "AddOverflow" | "SubOverflow" | "MulOverflow" | "NegOverflow" | "ConvOverflow" => {
+            "a value in `%d` leaves the range of its type"
+        }
+        "StepLimit" => "the evaluation of `%d` takes too many steps",
+        "CyclicDecl" => "`%s` needs itself",
+        _ => "`%d` can't be evaluated",
+    }
+}
+
+/// What to change, where that is known. `%f` stands for the file of the error's module.
+pub(crate) fn advice_of(kind: &str) -> Option<&'static str> {
+    match kind {
+        "Import.Private" => Some("did you forget `@publish` before the import in %f?"),
+        "ConditionLeft" => Some("set each flag by --enable or --disable"),
+        "TooManyModules" => Some("--max-modules allows more"),
+        "Eval.StepLimit" => Some("--max-steps allows more"),
+        "Unsupported" => Some("`wesl link` takes the whole language"),
+        "Condition.UnexpectedFeatureFlag" => Some("set the flag by --enable or --disable"),
+        _ => None,
+    }
+}
+
+/// Adds a sentence, with the names of an error in it.
+pub(crate) fn push_sentence<'a>(
+    out: &mut String,
+    sentence: &str,
+    line: &ErrorLine<'a>,
+    file: &'a str,
+) -> Result<(), AllocError> {
+    let mut is_marked = false;
+    for character in sentence.chars() {
+        match (is_marked, character) {
+            (false, '%') => is_marked = true,
+            (false, _) => out.push(character)?,
+            (true, _) => {
+                out.push_str(named(character, line, file))?;
+                is_marked = false;
+            }
+        }
+    }
+    Ok(())
+}
+
+/// What a letter behind `%` stands for.
+fn named<'a>(letter: char, line: &ErrorLine<'a>, file: &'a str) -> &'a str {
+    match letter {
+        'm' => line.module.unwrap_or("the root"),
+        'd' => line.declaration.unwrap_or("the declaration"),
+        's' => line.subject.unwrap_or("it"),
+        'f' => file,
+        _ => "",
+    }
+}

@@ -1,0 +1,12 @@
+//! The steps of declarations and calls.
+#![tactic(auto)]
+
+mod applying;
+mod entering;
+mod initial;
+mod inputs;
+mod starting;
+mod stepping;
+
+pub use entering::push_entry;
+pub use stepping::step;

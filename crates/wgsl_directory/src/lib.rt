@@ -1,0 +1,10 @@
+//! The declarations of a module by their names and numbers, without the statements of functions.
+#![tactic(auto)]
+
+mod declared;
+mod directory;
+mod follow;
+
+pub use declared::{Declared, Header};
+pub use directory::Directory;
+pub use follow::{Meaning, Target};

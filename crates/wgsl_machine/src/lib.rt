@@ -1,0 +1,20 @@
+//! What an evaluation has computed so far, and what is left to do.
+#![tactic(auto)]
+
+mod bindings;
+mod faults;
+mod frames;
+mod machine;
+mod operands;
+mod parts;
+mod slots;
+
+pub use bindings::Bound;
+pub use frames::{
+    CallFrame, ConversionPlace, DeclarationFrame, Frame, Frames, TypeFrame, ValueFrame,
+    WrittenFrame,
+};
+pub use machine::{Flow, Local, Machine, Start};
+pub use operands::{Operand, Root};
+pub use parts::{find_part, is_small, nests_in_bounds};
+pub use slots::Slot;
