@@ -1,5 +1,6 @@
 """What the tools that write cases of programs share: how a text stands in a case, and the files of a program's crate."""
 import os
+import sys
 
 CRATES = os.path.join(os.path.dirname(os.path.abspath(__file__)), "..", "crates")
 
@@ -27,3 +28,20 @@ def write(crate, name, lines):
         for line in counted:
             file.write(f"{name}: {count} cases\n" if line.startswith(f"{name}: ") else line + "\n")
     return count
+
+
+def read(path):
+    with open(path, encoding="utf-8") as file:
+        return file.read()
+
+
+def write_or_check(file, text, arguments, usage, stale):
+    """Writes a file that a tool makes; with --check it writes nothing, and ends with this message where the file is another."""
+    if arguments == ["--check"]:
+        if read(file) != text:
+            sys.exit(stale)
+        return
+    if arguments:
+        sys.exit(usage)
+    with open(file, "w", encoding="utf-8") as kept:
+        kept.write(text)

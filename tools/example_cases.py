@@ -9,14 +9,11 @@ import json
 import os
 import sys
 
+from cases import read, write_or_check
+
 TOP = os.path.join(os.path.dirname(os.path.abspath(__file__)), "..")
 EXAMPLES = os.path.join(TOP, "examples")
 FILE = os.path.join(TOP, "crates", "weslc_cases", "data", "examples.json")
-
-
-def read(path):
-    with open(path, encoding="utf-8") as file:
-        return file.read()
 
 
 def case(name):
@@ -30,14 +27,7 @@ def case(name):
 def main(arguments):
     names = sorted(name[: -len(".json")] for name in os.listdir(EXAMPLES) if name.endswith(".json"))
     cases = json.dumps([case(name) for name in names], indent=1, ensure_ascii=False) + "\n"
-    if arguments == ["--check"]:
-        if read(FILE) != cases:
-            sys.exit("the cases are not those of examples/: run tools/example_cases.py")
-        return
-    if arguments:
-        sys.exit(__doc__)
-    with open(FILE, "w", encoding="utf-8") as file:
-        file.write(cases)
+    write_or_check(FILE, cases, arguments, __doc__, "the cases are not those of examples/: run tools/example_cases.py")
 
 
 main(sys.argv[1:])

@@ -9,14 +9,11 @@ import json
 import os
 import sys
 
+from cases import read, write_or_check
+
 DATA = os.path.join(os.path.dirname(os.path.abspath(__file__)), "..", "crates", "wesl_cases", "data")
 FOLDER = os.path.join(DATA, "shaders")
 FILE = os.path.join(DATA, "shaders.json")
-
-
-def read(path):
-    with open(path, encoding="utf-8") as file:
-        return file.read()
 
 
 def modules():
@@ -28,14 +25,7 @@ def modules():
 
 def main(arguments):
     text = json.dumps(list(modules()), indent=1, ensure_ascii=False) + "\n"
-    if arguments == ["--check"]:
-        if read(FILE) != text:
-            sys.exit("the modules are not those of the folder: run tools/wesl_cases.py")
-        return
-    if arguments:
-        sys.exit(__doc__)
-    with open(FILE, "w", encoding="utf-8") as file:
-        file.write(text)
+    write_or_check(FILE, text, arguments, __doc__, "the modules are not those of the folder: run tools/wesl_cases.py")
 
 
 main(sys.argv[1:])
