@@ -294,10 +294,6 @@ TYPES, SAMPLINGS = {"perspective", "linear", "flat"}, {"center", "centroid", "sa
 SPACES, MODES = set("function private workgroup uniform storage".split()), {"read", "write", "read_write"}
 
 
-class Unclear(Exception):
-    """Two checks fail at once, and no rule says which of them is told."""
-
-
 def arguments(tokens, opening):
     """The arguments of a list that opens at this index, and the index of the token that closes it (or none)."""
     found, depth = [[]], 0
@@ -335,11 +331,9 @@ def attribute_fault(word, args):
         good = count in (1, 2, 3)
     elif word == "diagnostic":
         shape = count == 2 and [kind for kind, _ in args[1]] in (["id"], ["id", "symbol", "id"]) and args[1][1:2] in ([], [("symbol", ".")])
-        if count and not among(args[0], SEVERITIES):
-            if not shape or [kind for kind, _ in args[0]] != ["id"]:
-                raise Unclear
+        good = shape and [kind for kind, _ in args[0]] == ["id"]
+        if good and not among(args[0], SEVERITIES):
             return "DiagnosticSeverity"
-        good = shape
     else:
         good = True
     return None if good else "Attribute"
@@ -376,10 +370,14 @@ def fault(start, text):
             answer = f"{kind} {token[2]}..{token[3]}"
             break
         read.append(token)
-    if failed := failed_check(read):
+    if not answer and not reader.whole():
+        answer = f"UnexpectedEof {len(text)}..{len(text)}"
+    failed = failed_check(read)
+    # of a check and a text that end together the end of the text is told
+    if failed and not (answer and answer.startswith("UnexpectedEof") and read[failed[0]][3] == len(text)):
         closing, kind = failed
         return f"{kind} {read[closing][2]}..{read[closing][3]}"
-    return answer or ("none" if reader.whole() else f"UnexpectedEof {len(text)}..{len(text)}")
+    return answer or "none"
 
 
 # ---- The samples: tokens with spaces between them.
@@ -516,13 +514,7 @@ def chosen():
 
 
 def made_lines():
-    lines = []
-    for start, text in chosen():
-        try:
-            lines.append(f"fault\t{start}\t{text}\t{fault(start, text)}")
-        except Unclear:
-            pass
-    return lines
+    return [f"fault\t{start}\t{text}\t{fault(start, text)}" for start, text in chosen()]
 
 
 def main():

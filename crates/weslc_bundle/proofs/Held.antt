@@ -88,6 +88,7 @@ module _ (left : Option (List ℕ)) (bytes : List ℕ) (read : AreRead left byte
   call_refused (serve.Compile e) (request, whole, over) is = (bytes, request, read, whole, refusal_moved request bundle (serve.Compile e) over is)
   call_refused serve.NoRoot (request, whole, over) is = (bytes, request, read, whole, refusal_moved request bundle serve.NoRoot over is)
   call_refused (serve.Precompile e) (request, whole, over) is = (bytes, request, read, whole, refusal_moved request bundle (serve.Precompile e) over is)
+  call_refused (serve.Run e) (request, whole, over) is = (bytes, request, read, whole, refusal_moved request bundle (serve.Run e) over is)
   call_refused serve.OutOfMemory handed is = tt
   call_refused serve.Read handed is = absurd is
   call_refused serve.TooLong handed is = absurd is

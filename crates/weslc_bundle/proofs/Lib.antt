@@ -8,3 +8,4 @@ pub mod Paths
 pub mod Read
 pub mod Requests
 pub mod Written
+pub mod HandedKeys

@@ -16,7 +16,7 @@ use Rattle.wesl_features.specs.Settings.{setting}
 use Rattle.weslc_bundle.specs.declared.features.Flag.{Flag}
 use Rattle.weslc_bundle.specs.declared.features.FeatureSettings.{FeatureSettings}
 use Rattle.weslc_bundle.specs.declared.request.Command.{Command}
-use Rattle.weslc_bundle.specs.declared.request.Command.TheVariants.{Link, Compile, Precompile}
+use Rattle.weslc_bundle.specs.declared.request.Command.TheVariants.{Link, Compile, Precompile, Run, Eval}
 use Rattle.weslc_bundle.specs.declared.request.Key.{Key}
 use Rattle.weslc_bundle.specs.declared.request.Key.TheVariants as key
 use Rattle.weslc_bundle.specs.declared.request.Module.{Module}
@@ -67,7 +67,7 @@ text_at name d = option_and_then as_str (get name d)
 
 abbrev pub command_of : List ℕ → Option Command
 command_of name =
-    if bytes_eq name (codes "link") then Some Link else if bytes_eq name (codes "compile") then Some Compile else if bytes_eq name (codes "precompile") then Some Precompile else None
+    if bytes_eq name (codes "link") then Some Link else if bytes_eq name (codes "compile") then Some Compile else if bytes_eq name (codes "precompile") then Some Precompile else if bytes_eq name (codes "run") then Some Run else if bytes_eq name (codes "eval") then Some Eval else None
 
 abbrev pub unless_relative : PathOrigin → ModulePath → Option ModulePath
 unless_relative Absolute path = Some path
@@ -155,11 +155,24 @@ key_name key.Keep = codes "keep"
 key_name key.Mode = codes "mode"
 key_name key.MaxModules = codes "max_modules"
 key_name key.MaxSteps = codes "max_steps"
+key_name key.Entry = codes "entry"
+key_name key.Inputs = codes "inputs"
+key_name key.Bindings = codes "bindings"
+key_name key.Overrides = codes "overrides"
+key_name key.Expression = codes "expression"
 
-abbrev pub is_key : List ℕ → Bool
-is_key name =
+abbrev pub is_call_key : List ℕ → Bool
+is_call_key name =
     bytes_eq name (codes "command") || bytes_eq name (codes "root") || bytes_eq name (codes "modules")
     || bytes_eq name (codes "features") || bytes_eq name (codes "default_feature") || bytes_eq name (codes "keep") || bytes_eq name (codes "mode") || bytes_eq name (codes "max_modules") || bytes_eq name (codes "max_steps")
+
+-- a key of what is handed to a run or an evaluation
+abbrev pub is_run_key : List ℕ → Bool
+is_run_key name =
+    bytes_eq name (codes "entry") || bytes_eq name (codes "inputs") || bytes_eq name (codes "bindings") || bytes_eq name (codes "overrides") || bytes_eq name (codes "expression")
+
+abbrev pub is_key : List ℕ → Bool
+is_key name = is_call_key name || is_run_key name
 
 -- the first key that is none; the members of an object stand in the byte order of their keys
 abbrev pub unknown : Members → Option (List ℕ)
@@ -238,6 +251,31 @@ value_of bytes = if is_utf8 bytes then read bytes else None
 -- what a JSON object asks for
 unfoldable pub request_of : List ℕ → Asked Request
 request_of bytes = required NotAnObject (value_of bytes) >>= request_in
+
+-- ---- what is handed to a run or an evaluation
+
+-- The command needs the key.
+abbrev pub IsNeeded : Command → Key → Type 0
+IsNeeded Run key.Entry = ⊤
+IsNeeded Eval key.Expression = ⊤
+IsNeeded _ _ = ⊥
+
+abbrev pub IsRunKey : Key → Type 0
+IsRunKey key.Entry = ⊤
+IsRunKey key.Inputs = ⊤
+IsRunKey key.Bindings = ⊤
+IsRunKey key.Overrides = ⊤
+IsRunKey key.Expression = ⊤
+IsRunKey _ = ⊥
+
+-- Something stands at such a key, or it is missing and the command needs it.
+abbrev pub MayBeWrong : Command → Data → Key → Type 0
+MayBeWrong command d k = IsRunKey k × ((get (key_name k) d ≡ None) → IsNeeded command k)
+
+-- the fault of such a key, behind all that is asked for
+abbrev pub IsHandedFault : List ℕ → BundleError → Type 0
+IsHandedFault bytes fault =
+    (request : Request) × (d : Data) × (k : Key) × (request_of bytes ≡ Ok request) × (value_of bytes ≡ Some d) × MayBeWrong request.command d k × (fault ≡ Value k)
 
 -- ---- paths
 

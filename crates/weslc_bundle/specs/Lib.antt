@@ -3,3 +3,4 @@ pub mod Fields
 pub mod Held
 pub mod Output
 pub mod Served
+pub mod Handed

@@ -16,7 +16,7 @@ use Rattle.weslc_bundle.specs.declared.input.TheConstants.{MAX_BUNDLE_LEN}
 use Rattle.weslc_bundle.specs.declared.input.InputError.{InputError}
 use Rattle.weslc_bundle.specs.declared.input.InputError.TheVariants as input
 use Rattle.weslc_bundle.specs.declared.request.Command.{Command}
-use Rattle.weslc_bundle.specs.declared.request.Command.TheVariants.{Link, Compile, Precompile}
+use Rattle.weslc_bundle.specs.declared.request.Command.TheVariants.{Link, Compile, Precompile, Run, Eval}
 use Rattle.weslc_bundle.specs.declared.request.Request.{Request}
 use Rattle.weslc_bundle.specs.declared.request.BundleError.{BundleError}
 use Rattle.weslc_bundle.specs.declared.request.BundleError.TheVariants as bundle
@@ -24,7 +24,7 @@ use Rattle.weslc_bundle.specs.declared.bundle.Bundle.{Bundle}
 use Rattle.weslc_bundle.specs.declared.error.ServeError.{ServeError}
 use Rattle.weslc_bundle.specs.declared.error.ServeError.TheVariants as of
 use Rattle.weslc_bundle.specs.Held.{Texts, text_in, found_by}
-use Rattle.weslc_bundle.specs.Bundles.{AreOptions, IsBundle, IsFault}
+use Rattle.weslc_bundle.specs.Bundles.{AreOptions, IsBundle, IsFault, IsHandedFault}
 use Rattle.weslc_bundle.specs.Output.{AppendsBeginning}
 
 -- ---- bytes
@@ -54,6 +54,8 @@ RefusesModules Link found root options e =
 RefusesModules Compile found root options e =
     IsBeyondCompile found root options ⊎ RefusesToCompile (sources options.features found) (path_text root) options.keep options.max_modules options.max_steps e
 RefusesModules Precompile found root options e = ⊥
+RefusesModules Run found root options e = ⊤
+RefusesModules Eval found root options e = ⊤
 
 -- of these texts by their printed paths, the command's call answers this text, where it is one of the part's
 abbrev pub IsTextOf : Command → Texts → ModulePath → Options → List ℕ → Type 0
@@ -65,6 +67,19 @@ IsTextOf Compile texts root options text =
     ⊎ IsCompiledText (sources options.features (found_by texts)) (path_text root) options.keep options.max_modules options.max_steps text
 IsTextOf Precompile texts root options text =
     (source : List ℕ) × (texts (path_text root) ≡ Some source) × IsPrecompiledText options.features source text
+IsTextOf Run texts root options text = ⊤
+IsTextOf Eval texts root options text = ⊤
+
+-- a run or an evaluation, of whose answers nothing is said
+abbrev pub RunsOrEvaluates : Command → Type 0
+RunsOrEvaluates command = (command ≡ Run) ⊎ (command ≡ Eval)
+
+-- what a run or an evaluation may be refused for
+abbrev pub IsOfRun : ServeError → Type 0
+IsOfRun (of.Compile e) = ⊤
+IsOfRun (of.Run e) = ⊤
+IsOfRun of.OutOfMemory = ⊤
+IsOfRun _ = ⊥
 
 -- memory aside, the command's call is refused so
 abbrev pub IsRefusalOf : Command → Texts → ModulePath → Options → ServeError → Type 0
@@ -72,6 +87,7 @@ IsRefusalOf command texts root options (of.Compile e) = RefusesModules command (
 IsRefusalOf command texts root options of.NoRoot = (command ≡ Precompile) × (texts (path_text root) ≡ None)
 IsRefusalOf command texts root options (of.Precompile e) =
     (command ≡ Precompile) × ((source : List ℕ) × (texts (path_text root) ≡ Some source) × RefusesPrecompiling options.features source e)
+IsRefusalOf command texts root options (of.Run e) = RunsOrEvaluates command
 IsRefusalOf command texts root options of.OutOfMemory = ⊤
 IsRefusalOf command texts root options of.Read = ⊥
 IsRefusalOf command texts root options of.TooLong = ⊥
@@ -106,10 +122,11 @@ IsRefusedCall left refusal = (bytes : List ℕ) × (request : Request) × AreRea
 abbrev pub Refused : Option (List ℕ) → ServeError → Type 0
 Refused left of.Read = ⊤
 Refused left of.TooLong = AreTooMany left
-Refused left (of.Bundle fault) = (bytes : List ℕ) × AreRead left bytes × IsFault bytes fault
+Refused left (of.Bundle fault) = (bytes : List ℕ) × AreRead left bytes × (IsFault bytes fault ⊎ IsHandedFault bytes fault)
 Refused left (of.Compile e) = IsRefusedCall left (of.Compile e)
 Refused left of.NoRoot = IsRefusedCall left of.NoRoot
 Refused left (of.Precompile e) = IsRefusedCall left (of.Precompile e)
+Refused left (of.Run e) = IsRefusedCall left (of.Run e)
 Refused left of.OutOfMemory = ⊤
 
 -- There is no text, for such a reason.
@@ -128,6 +145,7 @@ status_of (of.Bundle fault) = 2
 status_of of.NoRoot = 2
 status_of (of.Compile e) = 1
 status_of (of.Precompile e) = 1
+status_of (of.Run e) = 1
 status_of of.OutOfMemory = 1
 
 -- ---- one error as another

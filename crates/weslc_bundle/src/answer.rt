@@ -10,6 +10,7 @@ ghost use Rattle.weslc_bundle.specs.Served.{IsTextFor, IsRefusalFor};
 use crate::bundle::Bundle;
 use crate::error::ServeError;
 use crate::request::Command;
+use crate::running::{eval_expression, run_entry};
 use std::alloc::Global;
 use weslc_calls::{ResolveError, compile, link};
 use weslc_precompile::precompile;
@@ -24,6 +25,8 @@ pub(crate) fn answer(alloc: Global, bundle: Bundle) -> Result<String, ServeError
         Command::Link => link_modules(alloc, &mut bundle),
         Command::Compile => compile_modules(alloc, &mut bundle),
         Command::Precompile => precompile_root(alloc, &bundle),
+        Command::Run => run_entry(alloc, bundle),
+        Command::Eval => eval_expression(alloc, &mut bundle),
     }
 }
 

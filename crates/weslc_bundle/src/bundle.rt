@@ -1,14 +1,16 @@
 //! A bundle: what the program is asked for.
 
 ghost use Rattle.std.specs.Prelude.{◌≡◌, ◌⊎◌, IfOk, IfErr, OnOk};
-ghost use Rattle.weslc_bundle.specs.Bundles.{IsApart, IsFirstTwice, IsBundle, HandsOver, IsFault};
+ghost use Rattle.weslc_bundle.specs.Bundles.{IsApart, IsFirstTwice, IsBundle, HandsOver, IsFault, IsHandedFault};
 ghost use Rattle.weslc_bundle.specs.Held.{Holds};
 
 use crate::features::set_features;
-use crate::request::{BundleError, Command, Module, Request, read_request};
+use crate::handed::{Asked, read_asked};
+use crate::request::{BundleError, Command, Module, Request};
 use std::alloc::{AllocError, Global};
 use std::collections::BTreeSet;
 use weslc_calls::{Options, VirtualResolver};
+use weslc_values::RunSettings;
 use wgsl_items::{CloneIn, Items};
 use wgsl_path::ModulePath;
 
@@ -19,14 +21,18 @@ pub struct Bundle {
     pub root: ModulePath,
     pub resolver: VirtualResolver,
     pub options: Options,
+    /// What is handed to a run or an evaluation.
+    pub handed: RunSettings,
 }
 
 /// Reads a bundle. After the faults of its keys comes a path that is there twice.
 pub fn read_bundle(alloc: Global, bytes: &[u8]) -> Result<Bundle, BundleError>
     ensures bundle { IfOk result (λ bundle. (request : Request) × IsBundle bytes.now request × HandsOver request bundle) }
-    ensures fault { IfErr result (λ e. (e ≡ BundleError.OutOfMemory) ⊎ IsFault bytes.now e) }
-    ensures only { IfErr result (λ e. (e ≡ BundleError.OutOfMemory) ⊎ ((request : Request) → ¬ IsBundle bytes.now request)) }
+    ensures fault { IfErr result (λ e. (e ≡ BundleError.OutOfMemory) ⊎ (IsFault bytes.now e ⊎ IsHandedFault bytes.now e)) }
+    ensures only { IfErr result (λ e. (e ≡ BundleError.OutOfMemory) ⊎ (IsHandedFault bytes.now e ⊎ ((request : Request) → ¬ IsBundle bytes.now request))) }
 {
+    let asked = read_asked(alloc, bytes)?;
+    let Asked { request, handed } = asked;
     let Request {
         command,
         root,
@@ -36,7 +42,7 @@ pub fn read_bundle(alloc: Global, bytes: &[u8]) -> Result<Bundle, BundleError>
         mode,
         max_modules,
         max_steps,
-    } = read_request(alloc, bytes)?;
+    } = request;
     check_paths(alloc, modules.as_slice())?;
     let resolver = resolver_of(alloc, modules)?;
     let features = set_features(alloc, &features)?;
@@ -51,6 +57,7 @@ pub fn read_bundle(alloc: Global, bytes: &[u8]) -> Result<Bundle, BundleError>
             max_modules,
             max_steps,
         },
+        handed,
     })
 }
 

@@ -7,6 +7,7 @@ use crate::request::BundleError;
 use std::alloc::AllocError;
 use weslc_calls::CompileError;
 use weslc_precompile::PrecompileError;
+use weslc_run::RunRefusal;
 
 /// Why the program writes no text.
 #[derive(Debug, Drop)]
@@ -23,6 +24,8 @@ pub enum ServeError {
     NoRoot,
     /// The root is not precompiled.
     Precompile(PrecompileError),
+    /// The run or the evaluation goes wrong, or the expression is none.
+    Run(RunRefusal),
     /// Memory was refused. This says nothing of the bytes.
     OutOfMemory,
 }

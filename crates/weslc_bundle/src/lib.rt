@@ -6,10 +6,12 @@ mod bundle;
 mod error;
 mod features;
 mod field;
+mod handed;
 mod input;
 mod kinds;
 mod output;
 mod request;
+mod running;
 mod serve;
 
 pub use serve::serve_bundle;

@@ -3,7 +3,7 @@
 ghost use Rattle.std.specs.Prelude.{◌≡◌, ◌⊎◌, ⊤, List, ℕ, Some, None, IfErr, IfOk, option_map};
 ghost use Rattle.serde_json.specs.View.{view, items_view, members_view};
 ghost use Rattle.serde_json.specs.Find.{as_object, as_str};
-ghost use Rattle.weslc_bundle.specs.Bundles.{Answers, is_key, unknown, keys_known, value_of, request_in, request_of, command_at, root_at, required, text_at, path_in, modules_at, has_two, each, module_of, keep_at, mode_at, max_modules_at, max_steps_at};
+ghost use Rattle.weslc_bundle.specs.Bundles.{Answers, is_call_key, is_run_key, is_key, unknown, keys_known, value_of, request_in, command_at, root_at, required, text_at, path_in, modules_at, has_two, each, module_of, keep_at, mode_at, max_modules_at, max_steps_at};
 
 use crate::features::{FeatureSettings, read_features};
 use serde_json::{Map, Value};
@@ -20,6 +20,8 @@ pub enum Command {
     Link,
     Compile,
     Precompile,
+    Run,
+    Eval,
 }
 
 /// A key of a bundle.
@@ -34,6 +36,11 @@ pub enum Key {
     Mode,
     MaxModules,
     MaxSteps,
+    Entry,
+    Inputs,
+    Bindings,
+    Overrides,
+    Expression,
 }
 
 /// A module's text, and the path that it stands at.
@@ -110,20 +117,16 @@ impl fmt::Display for Key {
             Key::Mode => f.write_str("mode"),
             Key::MaxModules => f.write_str("max_modules"),
             Key::MaxSteps => f.write_str("max_steps"),
+            Key::Entry => f.write_str("entry"),
+            Key::Inputs => f.write_str("inputs"),
+            Key::Bindings => f.write_str("bindings"),
+            Key::Overrides => f.write_str("overrides"),
+            Key::Expression => f.write_str("expression"),
         }
     }
 }
 
-/// Reads what a JSON object asks for. Its keys are tested in a fixed order: unknown ones first, then `command`, `root`,
-/// `modules`, `features`, `default_feature`, `keep`, `mode`, `max_modules`, `max_steps`.
-pub fn read_request(alloc: Global, bytes: &[u8]) -> Result<Request, BundleError>
-    ensures { Answers Request result (request_of bytes.now) }
-{
-    let value = read_value(alloc, bytes)?;
-    read_members(alloc, &value)
-}
-
-fn read_value(alloc: Global, bytes: &[u8]) -> Result<Value, BundleError>
+pub(crate) fn read_value(alloc: Global, bytes: &[u8]) -> Result<Value, BundleError>
     ensures value { IfOk result (λ value. value_of bytes.now ≡ Some (view value)) }
     ensures fault { IfErr result (λ e. (e ≡ BundleError.OutOfMemory) ⊎ ((e ≡ BundleError.NotAnObject) × (value_of bytes.now ≡ None))) }
 {
@@ -137,7 +140,9 @@ fn read_value(alloc: Global, bytes: &[u8]) -> Result<Value, BundleError>
     }
 }
 
-fn read_members(alloc: Global, value: &Value) -> Result<Request, BundleError>
+/// Reads what a JSON object asks for. Its keys are tested in a fixed order: unknown ones first, then `command`, `root`,
+/// `modules`, `features`, `default_feature`, `keep`, `mode`, `max_modules`, `max_steps`.
+pub(crate) fn read_members(alloc: Global, value: &Value) -> Result<Request, BundleError>
     ensures { Answers Request result (request_in (view value.now)) }
 {
     check_keys(alloc, value)?;
@@ -188,6 +193,12 @@ fn unknown_key(members: &Map<String, Value>) -> Option<&str>
 fn is_key(key: &str) -> bool
     ensures { result ≡ is_key key.now }
 {
+    is_call_key(key) || is_run_key(key)
+}
+
+fn is_call_key(key: &str) -> bool
+    ensures { result ≡ is_call_key key.now }
+{
     matches!(
         key,
         "command"
@@ -202,6 +213,16 @@ fn is_key(key: &str) -> bool
     )
 }
 
+/// Whether a key is one of what is handed to a run or an evaluation.
+fn is_run_key(key: &str) -> bool
+    ensures { result ≡ is_run_key key.now }
+{
+    matches!(
+        key,
+        "entry" | "inputs" | "bindings" | "overrides" | "expression"
+    )
+}
+
 fn read_command(value: &Value) -> Result<Command, BundleError>
     ensures { result ≡ command_at (view value.now) }
 {
@@ -209,6 +230,8 @@ fn read_command(value: &Value) -> Result<Command, BundleError>
         Some("link") => Ok(Command::Link),
         Some("compile") => Ok(Command::Compile),
         Some("precompile") => Ok(Command::Precompile),
+        Some("run") => Ok(Command::Run),
+        Some("eval") => Ok(Command::Eval),
         _ => Err(BundleError::Value(Key::Command)),
     }
 }

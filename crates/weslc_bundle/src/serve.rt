@@ -18,6 +18,7 @@ use std::io::{Read, Write};
 use wesl_features::CondCompError;
 use weslc_calls::{CompileError, ErrorContext};
 use weslc_precompile::PrecompileError;
+use weslc_run::RunRefusal;
 use wgsl_error::Error;
 use wgsl_items::Text;
 use wgsl_path::{ModulePath, Span};
@@ -69,7 +70,10 @@ fn status(refusal: &ServeError) -> u8
 {
     match refusal {
         ServeError::Read | ServeError::TooLong | ServeError::Bundle(_) | ServeError::NoRoot => 2,
-        ServeError::Compile(_) | ServeError::Precompile(_) | ServeError::OutOfMemory => 1,
+        ServeError::Compile(_)
+        | ServeError::Precompile(_)
+        | ServeError::Run(_)
+        | ServeError::OutOfMemory => 1,
     }
 }
 
@@ -83,6 +87,7 @@ fn write_refusal<E: Write>(errors: &mut E, refusal: &ServeError) -> io::Result<(
         ServeError::Bundle(error) => write_bundle_error(errors, error),
         ServeError::Compile(error) => write_compile_error(errors, error),
         ServeError::Precompile(error) => write_precompile_error(errors, error),
+        ServeError::Run(refusal) => write_run_refusal(errors, refusal),
     }?;
     errors.flush()
 }
@@ -155,6 +160,24 @@ fn write_compile_error<E: Write>(errors: &mut E, error: &CompileError) -> io::Re
             write_context(errors, context, None)
         }
         CompileError::OutOfMemory => errors.write_all(b"error: OutOfMemory - - - -\n"),
+    }
+}
+
+/// The line about a run or an evaluation.
+fn write_run_refusal<E: Write>(errors: &mut E, refusal: &RunRefusal) -> io::Result<()> {
+    match refusal {
+        RunRefusal::Expression(error) => {
+            let kind = syntax_kind(error.kind);
+            let (start, end) = (error.span.start, error.span.end);
+            writeln!(errors, "error: Expression.{kind} - - {start}..{end} -")
+        }
+        RunRefusal::Compile(error) => write_compile_error(errors, error),
+        RunRefusal::Eval(context, fault) => {
+            let kind = fault.kind();
+            write!(errors, "error: Eval.{kind}")?;
+            write_context(errors, context, None)
+        }
+        RunRefusal::OutOfMemory => errors.write_all(b"error: OutOfMemory - - - -\n"),
     }
 }
 

@@ -26,7 +26,7 @@ const CALLS: [&str; 8] = [
 ];
 
 /// The files of inputs of the program, each a list.
-const FILES: [&str; 10] = [
+const FILES: [&str; 11] = [
     "bundles.json",
     "fields.json",
     "texts.json",
@@ -37,6 +37,7 @@ const FILES: [&str; 10] = [
     "modules.json",
     "precompiled.json",
     "nesting.json",
+    "runs.json",
 ];
 
 fn main(rt: HostRuntime) -> io::Result<()> {

@@ -1,5 +1,5 @@
 -- The names that expressions are.
-use Rattle.std.specs.Prelude.{ℕ, List, ◌++◌, codes, Option, Some, None}
+use Rattle.std.specs.Prelude.{ℕ, List, ◌++◌, codes, Option, Some, None, Bool, ◌&&◌, is_some}
 use Rattle.std.specs.Option.{option_map, option_and_then}
 use Rattle.wgsl_path.specs.declared.span.Spanned.{Spanned}
 use Rattle.wgsl_enumerations.specs.declared.address.AddressSpace.{AddressSpace}
@@ -36,6 +36,10 @@ layer_rule x = layer_name x
 
 abbrev pub rule_of : Expression → Option (List ℕ)
 rule_of x = layer_rule (out-Expression x)
+
+-- whether two arguments have the form of a diagnostic's: a name, known as a severity or not, and a rule
+abbrev pub is_setting : Spanned Expression → Spanned Expression → Bool
+is_setting x y = is_some (name_of x.node) && is_some (rule_of y.node)
 
 -- ---- the values of fixed choice that expressions name
 

@@ -7,6 +7,6 @@ mod template;
 mod word;
 
 pub use attribute::attribute_of;
-pub use name::severity_in;
+pub use name::{is_setting, severity_in};
 pub use template::template_of;
 pub use word::{AttributeWord, word_named};

@@ -1,6 +1,6 @@
 //! The names that expressions are.
 
-ghost use Rattle.std.specs.Prelude.{◌≡◌, IfOk};
+ghost use Rattle.std.specs.Prelude.{◌≡◌, IfOk, is_some};
 ghost use Rattle.std.specs.Option.{option_copied};
 ghost use Rattle.wgsl_attribute_words.specs.Names as names;
 
@@ -69,6 +69,23 @@ pub(crate) fn rule_of(alloc: Global, expression: &Expression) -> Result<Option<T
         Expression::NamedComponent(x) => two_names(alloc, x),
         other => name_text(alloc, other),
     }
+}
+
+/// Whether an expression is a rule of a diagnostic.
+fn is_rule(expression: &Expression) -> bool
+    ensures { result ≡ is_some (names.rule_of expression.now) }
+{
+    match expression {
+        Expression::NamedComponent(x) => name_of(x.base.node()).is_some(),
+        other => name_of(other).is_some(),
+    }
+}
+
+/// Whether two arguments have the form of a diagnostic's: a name, known as a severity or not, and a rule.
+pub fn is_setting(severity: &ExpressionNode, rule: &ExpressionNode) -> bool
+    ensures { result ≡ names.is_setting severity.now rule.now }
+{
+    name_of(severity.node()).is_some() && is_rule(rule.node())
 }
 
 pub fn severity_in(node: &ExpressionNode) -> Option<DiagnosticSeverity>

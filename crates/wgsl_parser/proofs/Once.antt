@@ -5,7 +5,7 @@ use Rattle.wgsl_declarations.specs.declared.unit.TranslationUnit.{TranslationUni
 use Rattle.wgsl_parts.specs.declared.part.Part.TheVariants as part
 use Rattle.wgsl_reading.specs.declared.driver.Start.TheVariants.{Module}
 use Rattle.wgsl_reading.specs.declared.answer.Unread.{Unread}
-use Rattle.wgsl_reading.specs.declared.answer.Unread.TheVariants.{Refused, Failed, Unexpected}
+use Rattle.wgsl_reading.specs.declared.answer.Unread.TheVariants.{Refused, Failed, FailedAtEnd, Unexpected}
 use Rattle.wgsl_reading.specs.Readings.{Reads, is_refused}
 use Rattle.wgsl_reading.proofs.Once.{unread_once, read_apart}
 use Rattle.wgsl_error.specs.declared.error.Error.{Error}
@@ -18,6 +18,7 @@ use Rattle.wgsl_parser.specs.Texts.{IsParsed, IsModuleFault, ParsesModule}
 told_so : (n : ℕ) (r : Unread) → refusal_of (error_of n r) ≡ None → is_refused r ≡ false
 told_so n (Refused r) told = let wrong : Some r ≡ None = sym (refused_told r) ∙ told in absurd cc
 told_so n (Failed f) told = refl
+told_so n (FailedAtEnd f) told = refl
 told_so n (Unexpected next) told = refl
 
 reason_told : (text : List ℕ) (e : Error) (h : IsModuleFault text e) → is_refused h.fault.reason ≡ false

@@ -1,5 +1,5 @@
 -- Faults are told of texts that are not blank, and no fault is that the parser gave up.
-use Rattle.std.proofs.Common.{◌≡◌, ◌∙◌, refl, sym, ap, subst, ℕ, List, [], length, inl, inr, Some, None, Result, Ok, Err}
+use Rattle.std.proofs.Common.{◌≡◌, ◌∙◌, refl, sym, ap, subst, ℕ, nat_lt, Bool, true, false, if◌then◌else◌, List, [], length, inl, inr, Some, None, Result, Ok, Err}
 use Rattle.wgsl_path.specs.declared.span.Span.{Span}
 use Rattle.wgsl_token.specs.declared.token.Fixed.{Fixed}
 use Rattle.wgsl_token.specs.declared.token.Fixed.TheVariants as f
@@ -10,17 +10,18 @@ use Rattle.wgsl_template_spec.specs.declared.token.SpannedTemplateToken.{Spanned
 use Rattle.wgsl_template_spec.specs.Tokens.{IsLexed}
 use Rattle.wgsl_template_spec.proofs.Once.{lexed_once}
 use Rattle.wgsl_declarations.specs.declared.unit.TranslationUnit.{TranslationUnit}
+use Rattle.wgsl_reading.specs.declared.phrase.Failure.{Failure}
 use Rattle.wgsl_reading.specs.declared.phrase.Check.{Check}
 use Rattle.wgsl_reading.specs.declared.phrase.Check.TheVariants as check
 use Rattle.wgsl_reading.specs.declared.driver.Start.TheVariants.{Module}
 use Rattle.wgsl_reading.specs.declared.answer.Unread.{Unread}
-use Rattle.wgsl_reading.specs.declared.answer.Unread.TheVariants.{Refused, Failed, Unexpected}
+use Rattle.wgsl_reading.specs.declared.answer.Unread.TheVariants.{Refused, Failed, FailedAtEnd, Unexpected}
 use Rattle.wgsl_reading.specs.Readings.{Reads}
 use Rattle.wgsl_error.specs.declared.error.Refusal.{Refusal}
 use Rattle.wgsl_error.specs.declared.error.Refusal.TheVariants as gave_up
 use Rattle.wgsl_error.specs.Errors.{refused, refusal_by, refusal_of}
 use Rattle.wgsl_error.specs.declared.error.Error.{Error}
-use Rattle.wgsl_parser.specs.Errors.{kind_of_check, kind_of_fixed, kind_of_token, error_of}
+use Rattle.wgsl_parser.specs.Errors.{kind_of_check, kind_of_fixed, kind_of_token, failed, failed_at_end, unexpected, error_of}
 use Rattle.wgsl_parser.specs.Texts.{ParsesTokens, ParsesModule, TellsModule}
 
 pub refused_told : (r : Refusal) → refusal_of (refused r) ≡ Some r
@@ -47,6 +48,10 @@ token_told (Plain (t.Reserved word)) span = refl
 token_told (Plain (t.Fixed k)) span = fixed_told k span
 token_told _ span = refl
 
+at_end_told : (n : ℕ) (f : Failure) (b : Bool) → nat_lt f.span.end n ≡ b → refusal_of (failed_at_end n f) ≡ None
+at_end_told n f true is = ap (λ b. refusal_of (if b then failed f else unexpected n None)) is ∙ check_told f.check f.span
+at_end_told n f false is = ap (λ b. refusal_of (if b then failed f else unexpected n None)) is
+
 -- ---- a reason by which tokens were not read
 
 by_kind : (n : ℕ) (tokens : List SpannedTemplateToken) (e : Error) (r : Unread) → (tokens ≡ [] → ⊥) → Reads Module tokens (Err r) → e ≡ error_of n r → refusal_of (error_of n r) ≡ None → TellsModule n tokens (Err e)
@@ -55,6 +60,7 @@ by_kind n tokens e r some h same told = inl (record { some = some; reason = r; u
 by_reason : (n : ℕ) (tokens : List SpannedTemplateToken) (e : Error) (r : Unread) → (tokens ≡ [] → ⊥) → Reads Module tokens (Err r) → e ≡ error_of n r → TellsModule n tokens (Err e)
 by_reason n tokens e (Refused r) some h same = inr (r, ap refusal_of same ∙ refused_told r)
 by_reason n tokens e (Failed f) some h same = by_kind n tokens e (Failed f) some h same (check_told f.check f.span)
+by_reason n tokens e (FailedAtEnd f) some h same = by_kind n tokens e (FailedAtEnd f) some h same (at_end_told n f (nat_lt f.span.end n) refl)
 by_reason n tokens e (Unexpected None) some h same = by_kind n tokens e (Unexpected None) some h same refl
 by_reason n tokens e (Unexpected (Some k)) some h same = by_kind n tokens e (Unexpected (Some k)) some h same (token_told k.token k.span)
 

@@ -1,5 +1,5 @@
 -- The fault of a text, by why its tokens were not read.
-use Rattle.std.specs.Prelude.{ℕ, Option, Some, None}
+use Rattle.std.specs.Prelude.{ℕ, nat_lt, if◌then◌else◌, Option, Some, None}
 use Rattle.wgsl_token.specs.declared.token.Fixed.{Fixed}
 use Rattle.wgsl_token.specs.declared.token.Fixed.TheVariants as f
 use Rattle.wgsl_token.specs.declared.token.Token.TheVariants as t
@@ -8,8 +8,9 @@ use Rattle.wgsl_template_spec.specs.declared.token.TemplateToken.TheVariants.{Pl
 use Rattle.wgsl_template_spec.specs.declared.token.SpannedTemplateToken.{SpannedTemplateToken}
 use Rattle.wgsl_reading.specs.declared.phrase.Check.{Check}
 use Rattle.wgsl_reading.specs.declared.phrase.Check.TheVariants as check
+use Rattle.wgsl_reading.specs.declared.phrase.Failure.{Failure}
 use Rattle.wgsl_reading.specs.declared.answer.Unread.{Unread}
-use Rattle.wgsl_reading.specs.declared.answer.Unread.TheVariants.{Refused, Failed, Unexpected}
+use Rattle.wgsl_reading.specs.declared.answer.Unread.TheVariants.{Refused, Failed, FailedAtEnd, Unexpected}
 use Rattle.wgsl_error.specs.declared.error.ErrorKind.{ErrorKind}
 use Rattle.wgsl_error.specs.declared.error.ErrorKind.TheVariants as kind
 use Rattle.wgsl_error.specs.declared.error.Error.{Error}
@@ -39,7 +40,15 @@ abbrev pub unexpected : ℕ → Option SpannedTemplateToken → Error
 unexpected length None = record { kind = kind.UnexpectedEof; span = record { start = length; end = length } }
 unexpected length (Some k) = record { kind = kind_of_token k.token; span = k.span }
 
+abbrev pub failed : Failure → Error
+failed f = record { kind = kind_of_check f.check; span = f.span }
+
+-- Of a check and a text that end together the end of the text is told.
+abbrev pub failed_at_end : ℕ → Failure → Error
+failed_at_end length f = if nat_lt f.span.end length then failed f else unexpected length None
+
 abbrev pub error_of : ℕ → Unread → Error
 error_of length (Refused r) = refused r
-error_of length (Failed f) = record { kind = kind_of_check f.check; span = f.span }
+error_of length (Failed f) = failed f
+error_of length (FailedAtEnd f) = failed_at_end length f
 error_of length (Unexpected next) = unexpected length next

@@ -5,7 +5,7 @@ ghost use Rattle.wgsl_parser.specs.Errors as errors;
 
 use wgsl_error::{Error, ErrorKind};
 use wgsl_path::Span;
-use wgsl_reading::{Check, Unread};
+use wgsl_reading::{Check, Failure, Unread};
 use wgsl_template_spec::{SpannedTemplateToken, TemplateToken};
 use wgsl_token::{Fixed, Token};
 
@@ -58,16 +58,34 @@ fn unexpected(length: usize, next: Option<SpannedTemplateToken>) -> Error
     }
 }
 
+fn failed(failure: Failure) -> Error
+    ensures { result ≡ errors.failed failure }
+{
+    Error {
+        kind: kind_of_check(failure.check),
+        span: failure.span,
+    }
+}
+
+/// Of a check and a text that end together the end of the text is told.
+fn failed_at_end(length: usize, failure: Failure) -> Error
+    ensures { result ≡ errors.failed_at_end length failure }
+{
+    if failure.span.end < length {
+        failed(failure)
+    } else {
+        unexpected(length, None)
+    }
+}
+
 /// The fault of a text of this length, by why its tokens were not read.
 pub(crate) fn error_of(length: usize, unread: Unread) -> Error
     ensures { result ≡ errors.error_of length unread }
 {
     match unread {
         Unread::Refused(refusal) => Error::refused(refusal),
-        Unread::Failed(failure) => Error {
-            kind: kind_of_check(failure.check),
-            span: failure.span,
-        },
+        Unread::Failed(failure) => failed(failure),
+        Unread::FailedAtEnd(failure) => failed_at_end(length, failure),
         Unread::Unexpected(next) => unexpected(length, next),
     }
 }

@@ -58,10 +58,15 @@ read_by s tokens x h (Some f) e = in_tree x h e
 pub read_is : (s : From) (tokens left : List SpannedTemplateToken) (x : Phrase Part) → Comes grammar (tables_of s) (number s) [] tokens (read x) left → Reads s tokens (passing x.failure x.part)
 read_is s tokens left x c = let a = answers s tokens left (read x) c in read_by s tokens x a.0 x.failure refl
 
+failed_by : (s : From) (tokens left : List SpannedTemplateToken) (stack : List (Entry (Phrase Part))) → IsStopped grammar (goal_of s) tokens stack left → StopsAt s tokens stack left → (f : Failure)
+    → first_failed stack ≡ Some f → (next : Option SpannedTemplateToken) → first left ≡ next → Reads s tokens (Err (stopping (Some f) next))
+failed_by s tokens left stack h c f e None ended = record { stack = stack; left = left; stopped = h; comes = c; failed = e; ended = ended }
+failed_by s tokens left stack h c f e (Some k) next = in_front stack left k h c e next
+
 stopped_by : (s : From) (tokens left : List SpannedTemplateToken) (stack : List (Entry (Phrase Part))) → IsStopped grammar (goal_of s) tokens stack left → StopsAt s tokens stack left → (o : Option Failure)
     → first_failed stack ≡ o → Reads s tokens (Err (stopping o (first left)))
 stopped_by s tokens left stack h c None e = record { stack = stack; left = left; stopped = h; comes = c; passed = e; first_left = refl }
-stopped_by s tokens left stack h c (Some f) e = in_front stack left h c e
+stopped_by s tokens left stack h c (Some f) e = failed_by s tokens left stack h c f e (first left) refl
 
 pub stopped_is : (s : From) (tokens left : List SpannedTemplateToken) (stack : List (Entry (Phrase Part))) → Comes grammar (tables_of s) (number s) [] tokens (stops stack) left
     → Reads s tokens (Err (stopping (first_failed stack) (first left)))

@@ -9,7 +9,7 @@ use Rattle.wgsl_reading.specs.declared.phrase.Phrase.{Phrase}
 use Rattle.wgsl_reading.specs.declared.phrase.Failure.{Failure}
 use Rattle.wgsl_reading.specs.declared.driver.Start.{Start as From}
 use Rattle.wgsl_reading.specs.declared.answer.Unread.{Unread}
-use Rattle.wgsl_reading.specs.declared.answer.Unread.TheVariants.{Refused, Failed, Unexpected}
+use Rattle.wgsl_reading.specs.declared.answer.Unread.TheVariants.{Refused, Failed, FailedAtEnd, Unexpected}
 use Rattle.wgsl_reading.specs.Phrases.{grammar, number, tables_of}
 use Rattle.wgsl_reading.specs.Readings.{first_failed, stopping, IsFailed, in_tree, in_front, IsPart, Reads, is_refused}
 use Rattle.wgsl_reading.proofs.Answering.{derived_comes}
@@ -36,11 +36,19 @@ record Ends (s : From) (tokens : List SpannedTemplateToken) (r : Unread) : Type 
 
 ends_failed : (s : From) (tokens : List SpannedTemplateToken) (f : Failure) → IsFailed s tokens f → Ends s tokens (Failed f)
 ends_failed s tokens f (in_tree x derived e) = record { outcome = read x; left = []; comes = derived_comes s tokens x derived; some = λ h. absurd cc; same = ap failing (sym e) }
-ends_failed s tokens f (in_front stack left stopped c e) = record { outcome = stops stack; left = left; comes = c; some = λ h. absurd cc; same = ap (λ o. stopping o (first left)) (sym e) }
+ends_failed s tokens f (in_front stack left next stopped c e n) =
+    record { outcome = stops stack; left = left; comes = c; some = λ h. absurd cc; same = ap (stopping (Some f)) (sym n) ∙ ap (λ o. stopping o (first left)) (sym e) }
 
 ends : (s : From) (tokens : List SpannedTemplateToken) (r : Unread) → Reads s tokens (Err r) → is_refused r ≡ false → Ends s tokens r
 ends s tokens (Refused e) h told = absurd cc
 ends s tokens (Failed f) h told = ends_failed s tokens f h
+ends s tokens (FailedAtEnd f) h told = record {
+  outcome = stops h.stack;
+  left = h.left;
+  comes = h.comes;
+  some = λ e. absurd cc;
+  same = ap (stopping (Some f)) (sym h.ended) ∙ ap (λ o. stopping o (first h.left)) (sym h.failed);
+}
 ends s tokens (Unexpected next) h told = record {
   outcome = stops h.stack;
   left = h.left;

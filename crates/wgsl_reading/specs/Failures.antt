@@ -1,5 +1,5 @@
 -- Which checks fail: of the arguments of an attribute, of the template of `var`, and of the severity of a diagnostic.
-use Rattle.std.specs.Prelude.{List, ◌∷◌, Option, Some, None}
+use Rattle.std.specs.Prelude.{List, [], ◌∷◌, Option, Some, None, Bool, true, false}
 use Rattle.std.specs.Option.{option_map}
 use Rattle.wgsl_stack.specs.Tops.{first}
 use Rattle.wgsl_path.specs.declared.span.Span.{Span}
@@ -13,7 +13,7 @@ use Rattle.wgsl_choices.specs.Choices.{severity_of}
 use Rattle.wgsl_attribute_words.specs.declared.word.AttributeWord.{AttributeWord}
 use Rattle.wgsl_attribute_words.specs.declared.word.AttributeWord.TheVariants.{Diagnostic}
 use Rattle.wgsl_attribute_words.specs.Words.{word_named}
-use Rattle.wgsl_attribute_words.specs.Names.{severity_in}
+use Rattle.wgsl_attribute_words.specs.Names.{severity_in, is_setting}
 use Rattle.wgsl_parts.specs.declared.part.Part.{Part}
 use Rattle.wgsl_parts.specs.declared.part.Part.TheVariants as part
 use Rattle.wgsl_parts.specs.declared.label.Label.{Label}
@@ -24,13 +24,17 @@ use Rattle.wgsl_reading.specs.declared.phrase.Check.{Check}
 use Rattle.wgsl_reading.specs.declared.phrase.Check.TheVariants as check
 use Rattle.wgsl_reading.specs.declared.phrase.Failure.{Failure}
 
--- an attribute whose severity is none, or whose arguments are not its own
 abbrev pub unless_severity : Option DiagnosticSeverity → Check
 unless_severity (Some severity) = check.Attribute
 unless_severity None = check.DiagnosticSeverity
 
+-- arguments of a diagnostic that fail: by their form, else by the severity
+abbrev pub of_setting : Bool → Option DiagnosticSeverity → Check
+of_setting false severity = check.Attribute
+of_setting true severity = unless_severity severity
+
 abbrev pub of_word : AttributeWord → Option (List (Spanned Expression)) → Check
-of_word Diagnostic (Some (x ∷ xs)) = unless_severity (severity_in x)
+of_word Diagnostic (Some (x ∷ y ∷ [])) = of_setting (is_setting x y) (severity_in x)
 of_word _ _ = check.Attribute
 
 -- An attribute that is custom though its word is known has failed its check.

@@ -12,7 +12,7 @@ use Rattle.wgsl_reading.specs.Gathering.{either}
 use Rattle.wgsl_grammar_tables.specs.Starts.{start}
 use Rattle.wgsl_reading.specs.declared.driver.Start.{Start as From}
 use Rattle.wgsl_reading.specs.declared.answer.Unread.{Unread}
-use Rattle.wgsl_reading.specs.declared.answer.Unread.TheVariants.{Refused, Failed, Unexpected}
+use Rattle.wgsl_reading.specs.declared.answer.Unread.TheVariants.{Refused, Failed, FailedAtEnd, Unexpected}
 use Rattle.wgsl_reading.specs.Phrases.{grammar, number, tables_of}
 
 -- The nonterminal of what is read.
@@ -31,7 +31,8 @@ passing (Some f) part = Err (Failed f)
 
 -- why a parser stopped, by the first check that fails and the next token
 abbrev pub stopping : Option Failure → Option SpannedTemplateToken → Unread
-stopping (Some f) next = Failed f
+stopping (Some f) (Some k) = Failed f
+stopping (Some f) None = FailedAtEnd f
 stopping None next = Unexpected next
 
 -- The tokens derive this tree, and no other.
@@ -42,11 +43,20 @@ Derived s tokens x = IsRead grammar (goal_of s) tokens x
 abbrev pub StopsAt : From → List SpannedTemplateToken → List (Entry (Phrase Part)) → List SpannedTemplateToken → Type 0
 StopsAt s tokens stack left = Comes grammar (tables_of s) (number s) [] tokens (stops stack) left
 
--- A check fails: in the tree that the tokens derive, or in what was read of tokens that derive none.
+-- A check fails: in the tree that the tokens derive, or in what was read before a token with which no phrase goes on.
 pub data IsFailed (s : From) (tokens : List SpannedTemplateToken) (f : Failure) : Type 0 where
   in_tree : (x : Phrase Part) → Derived s tokens x → x.failure ≡ Some f → IsFailed s tokens f
-  in_front : (stack : List (Entry (Phrase Part))) (left : List SpannedTemplateToken) → IsStopped grammar (goal_of s) tokens stack left → StopsAt s tokens stack left → first_failed stack ≡ Some f
-      → IsFailed s tokens f
+  in_front : (stack : List (Entry (Phrase Part))) (left : List SpannedTemplateToken) (next : SpannedTemplateToken) → IsStopped grammar (goal_of s) tokens stack left → StopsAt s tokens stack left
+      → first_failed stack ≡ Some f → first left ≡ Some next → IsFailed s tokens f
+
+-- A check fails in what was read, and the tokens end where no phrase does.
+pub record IsFailedAtEnd (s : From) (tokens : List SpannedTemplateToken) (f : Failure) : Type 0 where
+  pub stack : List (Entry (Phrase Part))
+  pub left : List SpannedTemplateToken
+  pub stopped : IsStopped grammar (goal_of s) tokens stack left
+  pub comes : StopsAt s tokens stack left
+  pub failed : first_failed stack ≡ Some f
+  pub ended : first left ≡ None
 
 -- No phrase goes on with this token, or ends at the end; and no check fails in what was read before.
 pub record IsUnexpected (s : From) (tokens : List SpannedTemplateToken) (next : Option SpannedTemplateToken) : Type 0 where
@@ -66,11 +76,13 @@ pub record IsPart (s : From) (tokens : List SpannedTemplateToken) (part : Part) 
 abbrev pub Reads : From → List SpannedTemplateToken → Result Part Unread → Type 0
 Reads s tokens (Ok part) = IsPart s tokens part
 Reads s tokens (Err (Failed f)) = IsFailed s tokens f
+Reads s tokens (Err (FailedAtEnd f)) = IsFailedAtEnd s tokens f
 Reads s tokens (Err (Unexpected next)) = IsUnexpected s tokens next
 Reads s tokens (Err (Refused e)) = Unit
 
 -- whether the parser gave up
 abbrev pub is_refused : Unread → Bool
 is_refused (Failed f) = false
+is_refused (FailedAtEnd f) = false
 is_refused (Unexpected next) = false
 is_refused (Refused e) = true

@@ -19,8 +19,10 @@ use wgsl_template_spec::SpannedTemplateToken;
 pub enum Unread {
     /// The parser gave up: memory was refused, or a node is nested too deep.
     Refused(Refusal),
-    /// A check of arguments fails.
+    /// A check of arguments fails: before a token with which no phrase goes on, or in a whole phrase.
     Failed(Failure),
+    /// A check of arguments fails in what was read, and the tokens end where no phrase does.
+    FailedAtEnd(Failure),
     /// No phrase goes on with this token, or ends at the end where it is none.
     Unexpected(Option<SpannedTemplateToken>),
 }
@@ -55,6 +57,7 @@ fn stopped<P: Drop>(stack: Stack<Entry<Phrase<P>>>, tokens: Queue<SpannedTemplat
 {
     let mut tokens = tokens;
     match failure_on(stack) {
+        Some(failure) if tokens.is_empty() => Unread::FailedAtEnd(failure),
         Some(failure) => Unread::Failed(failure),
         None => Unread::Unexpected(tokens.pop()),
     }

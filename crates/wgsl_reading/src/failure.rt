@@ -2,15 +2,29 @@
 
 ghost use Rattle.std.specs.Prelude.{◌≡◌, ◌∷◌, []};
 ghost use Rattle.std.specs.Option.{option_copied};
+ghost use Rattle.wgsl_attribute_words.specs.Names.{is_setting, severity_in};
 ghost use Rattle.wgsl_reading.specs.Failures as failures;
 
 use crate::phrase::{Check, Failure};
-use wgsl_attribute_words::{AttributeWord, severity_in, word_named};
+use wgsl_attribute_words::{AttributeWord, is_setting, severity_in, word_named};
 use wgsl_attributes::{Attribute, CustomAttribute};
 use wgsl_choices::severity;
+use wgsl_expressions::ExpressionNode;
 use wgsl_parts::{AttributeLabel, DirectiveLabel, Held, Label, Part, Stack};
 use wgsl_path::Span;
 use wgsl_simple_statements::DeclarationKind;
+
+fn setting_failed(severity: &ExpressionNode, rule: &ExpressionNode) -> Check
+    ensures { result ≡ failures.of_setting (is_setting severity.now rule.now) (severity_in severity.now) }
+{
+    if !is_setting(severity, rule) {
+        return Check::Attribute;
+    }
+    match severity_in(severity) {
+        Some(_) => Check::Attribute,
+        None => Check::DiagnosticSeverity,
+    }
+}
 
 fn custom_failed(word: AttributeWord, attribute: &CustomAttribute) -> Check
     ensures { result ≡ failures.of_word word attribute.now.arguments }
@@ -22,11 +36,8 @@ fn custom_failed(word: AttributeWord, attribute: &CustomAttribute) -> Check
         return Check::Attribute;
     };
     match arguments.as_slice() {
-        [first, ..] => match severity_in(first) {
-            Some(_) => Check::Attribute,
-            None => Check::DiagnosticSeverity,
-        },
-        [] => Check::Attribute,
+        [severity, rule] => setting_failed(severity, rule),
+        _ => Check::Attribute,
     }
 }
 

@@ -1,5 +1,0 @@
-pub mod Table
-pub mod Examples
-pub mod Laws
-pub mod Places
-pub mod Choices

@@ -1,5 +1,0 @@
-use Rattle.wgsl_module_texts.proofs.Statements as statements
-use Rattle.wgsl_module_texts.proofs.laws.block_is_printed.Goals as goal
-
-pub returns : goal.returns
-returns c x = statements.block_is_printed x

@@ -1,5 +1,0 @@
-use Rattle.wgsl_module_texts.proofs.Modules as modules
-use Rattle.wgsl_module_texts.proofs.laws.directive_is_printed.Goals as goal
-
-pub returns : goal.returns
-returns c x = modules.directive_is_printed x

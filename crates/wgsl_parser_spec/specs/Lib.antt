@@ -1,4 +1,0 @@
-pub mod Languages
-pub mod Sequences
-pub mod Sentences
-pub mod Parsing

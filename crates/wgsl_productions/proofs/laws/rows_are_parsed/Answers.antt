@@ -1,5 +1,0 @@
-use Rattle.wgsl_productions.proofs.Descent as choose
-use Rattle.wgsl_productions.proofs.laws.rows_are_parsed.Goals as goal
-
-pub returns : goal.returns
-returns g c = choose.rows_are_parsed _ _
