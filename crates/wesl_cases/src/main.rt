@@ -5,8 +5,7 @@
 
 use std::io::Write;
 use std::{fs, io};
-use weslc_bundle::serve_bundle;
-use weslc_tool::run_words;
+use weslc_tool::{run_words, serve_bundle};
 
 /// The longest text that a file may have, and one byte more.
 const TOO_LONG: usize = 16_777_217;
@@ -78,7 +77,7 @@ fn compare_all<W: Write>(rt: &HostRuntime, out: &mut W) -> io::Result<()> {
     Ok(())
 }
 
-/// Prints the files that the last command lines have written.
+/// Prints a file that a command line has written.
 fn show_file<W: Write>(rt: &HostRuntime, file: &str, out: &mut W) -> io::Result<()> {
     let text = fs::read_to_string(rt, file)?;
     writeln!(out, "{file}:")?;
@@ -95,5 +94,6 @@ fn main(rt: HostRuntime) -> io::Result<()> {
     compare_all(&rt, &mut out)?;
     show_file(&rt, "linked.wgsl", &mut out)?;
     show_file(&rt, "map.json", &mut out)?;
+    show_file(&rt, "squared.txt", &mut out)?;
     out.flush()
 }

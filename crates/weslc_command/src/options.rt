@@ -13,6 +13,10 @@ static FORMATS: [&str; 3] = ["text", "line", "json"];
 /// What the value of an option is.
 #[derive(Clone, Copy, Debug, PartialEq, Eq)]
 enum Takes {
+    /// A word that stands by itself, and is needed.
+    Word,
+    /// A text, and the option is needed.
+    Needed,
     Text,
     /// A text, and the option may stand several times.
     Texts,
@@ -28,15 +32,22 @@ enum Takes {
 enum Scope {
     All,
     /// All but `precompile`.
+    Reading,
+    /// `link`, `compile` and `check`.
     Linking,
     /// All but `check`.
     Writing,
     /// `link` and `compile`.
     Mapping,
-    Compiling,
+    /// `compile`, `run` and `eval`.
+    Evaluating,
+    /// `run`.
+    Running,
+    /// `eval`.
+    Answering,
 }
 
-/// An option.
+/// An option, or a word that stands by itself.
 #[derive(Clone, Copy)]
 struct Row {
     name: &'static str,
@@ -47,15 +58,31 @@ struct Row {
     scope: Scope,
 }
 
-const OPTION_COUNT: usize = 13;
+const OPTION_COUNT: usize = 19;
 
-/// The options, in the order in which help shows them.
+/// The words and options, in the order in which help shows them.
 static OPTIONS: [Row; OPTION_COUNT] = [
+    Row {
+        name: "file",
+        short: None,
+        value: "FILE",
+        help: "the root module",
+        takes: Takes::Word,
+        scope: Scope::All,
+    },
+    Row {
+        name: "expression",
+        short: None,
+        value: "EXPRESSION",
+        help: "what is evaluated, as FILE would write it",
+        takes: Takes::Word,
+        scope: Scope::Answering,
+    },
     Row {
         name: "root",
         short: None,
         value: "FOLDER",
-        help: "the folder of FILE's package [default: FILE's]",
+        help: "FILE's package [default: FILE's folder]",
         takes: Takes::Text,
         scope: Scope::All,
     },
@@ -68,10 +95,42 @@ static OPTIONS: [Row; OPTION_COUNT] = [
         scope: Scope::All,
     },
     Row {
+        name: "entry",
+        short: None,
+        value: "NAME",
+        help: "the entry point of FILE that is run",
+        takes: Takes::Needed,
+        scope: Scope::Running,
+    },
+    Row {
+        name: "bindings",
+        short: None,
+        value: "JSON",
+        help: "a file: what is bound, by group and number",
+        takes: Takes::Text,
+        scope: Scope::Running,
+    },
+    Row {
+        name: "inputs",
+        short: None,
+        value: "JSON",
+        help: "a file: what the entry point is handed",
+        takes: Takes::Text,
+        scope: Scope::Running,
+    },
+    Row {
+        name: "overrides",
+        short: None,
+        value: "JSON",
+        help: "a file: the values of overrides",
+        takes: Takes::Text,
+        scope: Scope::Running,
+    },
+    Row {
         name: "keep",
         short: Some('k'),
         value: "NAME",
-        help: "what of FILE is kept [default: its entry points]",
+        help: "what of FILE is kept [default: entry points]",
         takes: Takes::Texts,
         scope: Scope::Linking,
     },
@@ -79,7 +138,7 @@ static OPTIONS: [Row; OPTION_COUNT] = [
         name: "mode",
         short: Some('m'),
         value: "MODE",
-        help: "which modules are read",
+        help: "how modules are read: lazy, eager or whole",
         takes: Takes::Mode,
         scope: Scope::Linking,
     },
@@ -89,7 +148,7 @@ static OPTIONS: [Row; OPTION_COUNT] = [
         value: "N",
         help: "how many modules may be read [default: 256]",
         takes: Takes::Modules,
-        scope: Scope::Linking,
+        scope: Scope::Reading,
     },
     Row {
         name: "enable",
@@ -127,15 +186,15 @@ static OPTIONS: [Row; OPTION_COUNT] = [
         name: "max-steps",
         short: None,
         value: "N",
-        help: "loop bodies and calls of an evaluation [default: 1000000]",
+        help: "loop bodies and calls [default: 1000000]",
         takes: Takes::Steps,
-        scope: Scope::Compiling,
+        scope: Scope::Evaluating,
     },
     Row {
         name: "output",
         short: Some('o'),
         value: "FILE",
-        help: "where the text goes [default: standard output]",
+        help: "where the text goes [default: stdout]",
         takes: Takes::Text,
         scope: Scope::Writing,
     },
@@ -151,7 +210,7 @@ static OPTIONS: [Row; OPTION_COUNT] = [
         name: "error-format",
         short: None,
         value: "FORMAT",
-        help: "how an error is written",
+        help: "how errors are told: text, line or json",
         takes: Takes::Format,
         scope: Scope::All,
     },
@@ -161,10 +220,13 @@ static OPTIONS: [Row; OPTION_COUNT] = [
 fn is_taken(scope: Scope, verb: Verb) -> bool {
     match scope {
         Scope::All => true,
-        Scope::Linking => verb != Verb::Precompile,
+        Scope::Reading => verb != Verb::Precompile,
+        Scope::Linking => verb == Verb::Link || verb == Verb::Compile || verb == Verb::Check,
         Scope::Writing => verb != Verb::Check,
         Scope::Mapping => verb == Verb::Link || verb == Verb::Compile,
-        Scope::Compiling => verb == Verb::Compile,
+        Scope::Evaluating => verb == Verb::Compile || verb == Verb::Run || verb == Verb::Eval,
+        Scope::Running => verb == Verb::Run,
+        Scope::Answering => verb == Verb::Eval,
     }
 }
 
@@ -175,34 +237,27 @@ fn action_of(takes: Takes) -> ArgAction {
     }
 }
 
-/// An option as the parser of command lines takes it.
+/// An option as the parser of command lines takes it. Its values stand in its help, where they are words.
 fn argument<'a>(alloc: Global, row: &'a Row) -> Arg<'a> {
     let argument = Arg::new(alloc, row.name)
-        .long(row.name)
         .value_name(row.value)
         .help(row.help)
+        .hide_possible_values(true)
         .action(action_of(row.takes));
     let argument = match row.short {
         Some(short) => argument.short(short),
         None => argument,
     };
     match row.takes {
-        Takes::Text | Takes::Texts => argument,
-        Takes::Setting => argument.value_parser(SETTINGS.as_slice()),
-        Takes::Mode => argument.value_parser(MODES.as_slice()),
-        Takes::Format => argument.value_parser(FORMATS.as_slice()),
-        Takes::Modules => argument.value_parser(value_parser!(u32)),
-        Takes::Steps => argument.value_parser(value_parser!(u64)),
+        Takes::Word => argument.required(true),
+        Takes::Needed => argument.long(row.name).required(true),
+        Takes::Text | Takes::Texts => argument.long(row.name),
+        Takes::Setting => argument.long(row.name).value_parser(SETTINGS.as_slice()),
+        Takes::Mode => argument.long(row.name).value_parser(MODES.as_slice()),
+        Takes::Format => argument.long(row.name).value_parser(FORMATS.as_slice()),
+        Takes::Modules => argument.long(row.name).value_parser(value_parser!(u32)),
+        Takes::Steps => argument.long(row.name).value_parser(value_parser!(u64)),
     }
-}
-
-/// The file of the root module.
-fn file_argument<'a>(alloc: Global) -> Arg<'a> {
-    Arg::new(alloc, "file")
-        .value_name("FILE")
-        .help("the root module")
-        .required(true)
-        .action(ArgAction::Set)
 }
 
 /// A command, with those of the options that it takes.
@@ -213,8 +268,7 @@ fn command_of<'a>(
     about: &'a str,
     options: &'a [Row],
 ) -> Result<Command<'a>, AllocError> {
-    let command = Command::new(alloc, name).about(about);
-    let mut command = command.arg(file_argument(alloc))?;
+    let mut command = Command::new(alloc, name).about(about);
     for row in options {
         if is_taken(row.scope, verb) {
             command = command.arg(argument(alloc, row))?;
@@ -223,7 +277,17 @@ fn command_of<'a>(
     Ok(command)
 }
 
-static VERBS: [Verb; 4] = [Verb::Link, Verb::Compile, Verb::Precompile, Verb::Check];
+const VERB_COUNT: usize = 6;
+
+/// The commands, in the order in which help shows them.
+static VERBS: [Verb; VERB_COUNT] = [
+    Verb::Link,
+    Verb::Compile,
+    Verb::Precompile,
+    Verb::Check,
+    Verb::Run,
+    Verb::Eval,
+];
 
 /// The commands of a program, with their options.
 fn with_commands<'a>(
@@ -242,7 +306,7 @@ fn with_commands<'a>(
 /// The command line of the program: its commands, and their options.
 pub(crate) fn wesl_command<'a>(alloc: Global) -> Result<Command<'a>, AllocError> {
     let command = Command::new(alloc, "wesl")
-        .about("Links WESL shader modules that lie in folders")
+        .about("Links and runs WESL shader modules that lie in folders")
         .version("0.1.0")
         .subcommand_required(true)
         .arg_required_else_help(true);

@@ -7,6 +7,8 @@ pub enum Verb {
     Precompile,
     Compile,
     Check,
+    Run,
+    Eval,
 }
 
 impl Verb {
@@ -17,6 +19,8 @@ impl Verb {
             Verb::Precompile => "precompile",
             Verb::Compile => "compile",
             Verb::Check => "check",
+            Verb::Run => "run",
+            Verb::Eval => "eval",
         }
     }
 
@@ -27,6 +31,8 @@ impl Verb {
             Verb::Precompile => "Fix flags in the text of FILE alone",
             Verb::Compile => "Link, validate and evaluate constants",
             Verb::Check => "Parse, link and validate; write no text",
+            Verb::Run => "Run an entry point over bound values",
+            Verb::Eval => "Evaluate a constant expression",
         }
     }
 
@@ -36,6 +42,8 @@ impl Verb {
             Verb::Link | Verb::Check => "link",
             Verb::Precompile => "precompile",
             Verb::Compile => "compile",
+            Verb::Run => "run",
+            Verb::Eval => "eval",
         }
     }
 }
@@ -76,5 +84,13 @@ pub struct Request<'a> {
     pub max_steps: Option<u64>,
     pub output: Option<&'a str>,
     pub map: Option<&'a str>,
+    /// What is run.
+    pub entry: Option<&'a str>,
+    /// The files that have what a run is handed, as JSON.
+    pub bindings: Option<&'a str>,
+    pub inputs: Option<&'a str>,
+    pub overrides: Option<&'a str>,
+    /// What is evaluated.
+    pub expression: Option<&'a str>,
     pub format: Format,
 }

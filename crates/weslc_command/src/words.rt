@@ -47,6 +47,8 @@ fn verb_of(name: &str) -> Option<Verb> {
         "precompile" => Some(Verb::Precompile),
         "compile" => Some(Verb::Compile),
         "check" => Some(Verb::Check),
+        "run" => Some(Verb::Run),
+        "eval" => Some(Verb::Eval),
         _ => None,
     }
 }
@@ -130,6 +132,11 @@ fn request_of<'a>(
         max_steps: matches.get_one::<u64>("max-steps"),
         output: matches.get_str("output"),
         map: matches.get_str("map"),
+        entry: matches.get_str("entry"),
+        bindings: matches.get_str("bindings"),
+        inputs: matches.get_str("inputs"),
+        overrides: matches.get_str("overrides"),
+        expression: matches.get_str("expression"),
         format: format_of(matches.get_str("error-format")),
     }))
 }

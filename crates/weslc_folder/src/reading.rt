@@ -20,6 +20,8 @@ pub enum FileProblem {
     NotUtf8,
     #[error("it is longer than 16777216 bytes")]
     TooLong,
+    #[error("it is no JSON")]
+    NotJson,
     #[error("it may not be read")]
     Denied,
     #[error("reading it failed")]

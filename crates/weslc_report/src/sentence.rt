@@ -3,7 +3,8 @@
 use crate::error_line::ErrorLine;
 use std::alloc::AllocError;
 
-/// The sentence of a kind of error. `%m` stands for the module, `%d` for the declaration, `%s` for the name.
+/// The sentence of a kind of error. `%m` stands for the module, `%s` for the name, and `%d` for the declaration, in
+/// quotes.
 pub(crate) fn sentence_of(kind: &str) -> &'static str {
     match kind {
         "Resolve.ModuleNotFound" => "there is no module `%m`",
@@ -18,7 +19,7 @@ pub(crate) fn sentence_of(kind: &str) -> &'static str {
         "Unprintable" => "no text says what is left of `%s`",
         "OutOfMemory" => "out of memory",
         "Read" => "reading failed",
-        "Bundle" => "`%s` is not taken",
+        "Bundle" => "this is nothing that `%s` takes",
         "DuplicateModule" => "`%m` is there twice",
         _ => match kind.split_once('.') {
             Some(("Syntax", inner)) | Some(("Expression", inner)) => syntax_sentence(inner),
@@ -71,13 +72,19 @@ fn validation_sentence(kind: &str) -> &'static str {
 fn evaluation_sentence(kind: &str) -> &'static str {
     match kind {
         "Todo" => "`%s` is not evaluated yet",
-        "DivByZero" | "RemZeroDiv" => "division by zero in `%d`",
+        "DivByZero" | "RemZeroDiv" => "division by zero in %d",
         "AddOverflow" | "SubOverflow" | "MulOverflow" | "NegOverflow" | "ConvOverflow" => {
-            "a value in `%d` leaves the range of its type"
+            "a value in %d leaves the range of its type"
         }
-        "StepLimit" => "the evaluation of `%d` takes too many steps",
+        "StepLimit" => "the evaluation of %d takes too many steps",
         "CyclicDecl" => "`%s` needs itself",
-        _ => "`%d` can't be evaluated",
+        "OutOfBounds" => "an index in %d is out of bounds",
+        "NotEntrypoint" => "`%s` is no entry point",
+        "MissingResource" => "%d is not bound",
+        "AddressSpace" | "AccessMode" => "%d is not bound as it is declared",
+        "MissingBuiltinInput" | "MissingUserInput" => "%d is not handed `%s`",
+        "UninitOverride" => "`%s` has no value",
+        _ => "%d can't be evaluated",
     }
 }
 
@@ -89,6 +96,11 @@ pub(crate) fn advice_of(kind: &str) -> Option<&'static str> {
         "TooManyModules" => Some("--max-modules allows more"),
         "Eval.StepLimit" => Some("--max-steps allows more"),
         "Unsupported" => Some("`wesl link` takes the whole language"),
+        "Eval.MissingResource" => Some("the file of --bindings binds it"),
+        "Eval.MissingBuiltinInput" | "Eval.MissingUserInput" => {
+            Some("the file of --inputs hands it in")
+        }
+        "Eval.UninitOverride" => Some("the file of --overrides gives it one"),
         "Condition.UnexpectedFeatureFlag" => Some("set the flag by --enable or --disable"),
         _ => None,
     }
@@ -106,6 +118,10 @@ pub(crate) fn push_sentence<'a>(
         match (is_marked, character) {
             (false, '%') => is_marked = true,
             (false, _) => out.push(character)?,
+            (true, 'd') => {
+                push_declaration(out, line)?;
+                is_marked = false;
+            }
             (true, _) => {
                 out.push_str(named(character, line, file))?;
                 is_marked = false;
@@ -115,11 +131,23 @@ pub(crate) fn push_sentence<'a>(
     Ok(())
 }
 
-/// What a letter behind `%` stands for.
+/// Adds the name of an error's declaration. What is at fault beside the modules is an expression.
+fn push_declaration(out: &mut String, line: &ErrorLine<'_>) -> Result<(), AllocError> {
+    match (line.declaration, line.module) {
+        (Some(name), _) => {
+            out.push('`')?;
+            out.push_str(name)?;
+            out.push('`')
+        }
+        (None, Some(_)) => out.push_str("the declaration"),
+        (None, None) => out.push_str("the expression"),
+    }
+}
+
+/// What another letter behind `%` stands for.
 fn named<'a>(letter: char, line: &ErrorLine<'a>, file: &'a str) -> &'a str {
     match letter {
         'm' => line.module.unwrap_or("the root"),
-        'd' => line.declaration.unwrap_or("the declaration"),
         's' => line.subject.unwrap_or("it"),
         'f' => file,
         _ => "",

@@ -11,11 +11,13 @@ pub struct BundleModule<'a> {
     pub text: &'a str,
 }
 
-/// The bundle of a request, with these modules. `command` is a bundle's command, `root` the path of the root as it is printed.
+/// The bundle of a request, with these modules. `command` is a bundle's command, `root` the path of the root as it is printed, `handed`
+/// the members for a run, as `push_handed` adds them.
 pub fn bundle_text(
     alloc: Global,
     request: &Request<'_>,
     command: &str,
+    handed: &str,
     root: &str,
     modules: &[BundleModule<'_>],
 ) -> Result<String, AllocError> {
@@ -30,11 +32,18 @@ pub fn bundle_text(
         push_member(&mut json, "default_feature", setting)?;
     }
     push_limits(&mut json, request)?;
+    if let Some(entry) = request.entry {
+        push_member(&mut json, "entry", entry)?;
+    }
+    if let Some(expression) = request.expression {
+        push_member(&mut json, "expression", expression)?;
+    }
+    json.push_str(handed)?;
     json.push('}')?;
     Ok(json)
 }
 
-fn push_key(json: &mut String, key: &str) -> Result<(), AllocError> {
+pub(crate) fn push_key(json: &mut String, key: &str) -> Result<(), AllocError> {
     json.push_str(",\"")?;
     json.push_str(key)?;
     json.push_str("\":")

@@ -3,6 +3,7 @@
 
 mod bundle;
 mod functions;
+mod handed;
 mod map;
 mod modules;
 mod run;
@@ -10,3 +11,4 @@ mod serve;
 mod told;
 
 pub use run::run_words;
+pub use weslc_bundle::serve_bundle;

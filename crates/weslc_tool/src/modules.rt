@@ -41,12 +41,16 @@ pub fn as_bundle<'a>(
     Ok(views)
 }
 
-/// The modules as an error shows them.
+/// The modules as an error shows them, and before them what is at fault beside them.
 pub fn as_sources<'a>(
     alloc: Global,
+    beside: Option<SourceFile<'a>>,
     modules: &'a [Module],
 ) -> Result<Vec<SourceFile<'a>>, AllocError> {
     let mut views = Vec::new(alloc);
+    if let Some(source) = beside {
+        views.push(source)?;
+    }
     for module in modules {
         views.push(SourceFile {
             path: module.path.as_str(),

@@ -2,6 +2,7 @@
 
 use crate::bundle::bundle_text;
 use crate::functions::is_wgsl_function;
+use crate::handed::{handed_of, push_handed, source_beside};
 use crate::map::map_text;
 use crate::modules::{Module, as_bundle, as_sources, folders_of, has_module};
 use crate::run::refuse;
@@ -32,6 +33,7 @@ fn answer(
     alloc: Global,
     request: &Request<'_>,
     command: &str,
+    handed: &str,
     modules: &[Module],
 ) -> Result<Outcome, AllocError> {
     let views = as_bundle(alloc, modules)?;
@@ -39,7 +41,7 @@ fn answer(
         Some(root) => root.path,
         None => "package",
     };
-    let bundle = bundle_text(alloc, request, command, root, views.as_slice())?;
+    let bundle = bundle_text(alloc, request, command, handed, root, views.as_slice())?;
     let mut reader = bundle.as_str().as_bytes();
     let mut text = Vec::new(alloc);
     let mut errors = Vec::new(alloc);
@@ -108,11 +110,12 @@ fn answer_reading<R: Files + AllocGlobal>(
     rt: &R,
     request: &Request<'_>,
     command: &str,
+    handed: &str,
     folders: &Folders,
     modules: &mut Vec<Module>,
 ) -> Result<Outcome, AllocError> {
     for _turn in 0..u64::MAX {
-        let mut found = answer(rt.alloc(), request, command, modules.as_slice())?;
+        let mut found = answer(rt.alloc(), request, command, handed, modules.as_slice())?;
         let Some(path) = missing_path(rt.alloc(), found.line.as_str())? else {
             return Ok(found);
         };
@@ -132,7 +135,7 @@ fn answer_reading<R: Files + AllocGlobal>(
 
 /// The map of the printed names of a text, as JSON.
 fn map_of(alloc: Global, text: &[u8], modules: &[Module]) -> Result<String, AllocError> {
-    let sources = as_sources(alloc, modules)?;
+    let sources = as_sources(alloc, None, modules)?;
     match (sources.first(), str::from_utf8(text)) {
         (Some(root), Ok(text)) => map_text(alloc, text, root),
         _ => Ok(String::new(alloc)),
@@ -180,7 +183,8 @@ fn write_answer<R: Files + AllocGlobal, W: Write, E: Write>(
         (0, Verb::Check) => Ok(0),
         (0, _) => write_made(rt, request, found.text.as_slice(), modules, out, errors),
         (status, _) => {
-            let sources = as_sources(rt.alloc(), modules)?;
+            let beside = source_beside(request, found.line.as_str());
+            let sources = as_sources(rt.alloc(), beside, modules)?;
             let reason = match &found.reason {
                 Some(reason) => Some(reason.as_str()),
                 None => None,
@@ -222,19 +226,20 @@ fn refuse_file<E: Write>(
     refuse(errors, why.as_str())
 }
 
-/// The answer to a request whose root has this text, over modules that are read as they are asked for. `modules` has them afterwards.
+/// The answer to a request, over modules that are read as they are asked for: `modules` has the root, and all of them afterwards.
 fn answer_request<R: Files + AllocGlobal>(
     rt: &R,
     request: &Request<'_>,
+    handed: &str,
     folders: &Folders,
     modules: &mut Vec<Module>,
 ) -> Result<Outcome, AllocError> {
     let command = request.verb.command();
-    let found = answer_reading(rt, request, command, folders, modules)?;
+    let found = answer_reading(rt, request, command, handed, folders, modules)?;
     if found.status != 0 || request.verb != Verb::Check {
         return Ok(found);
     }
-    let checked = answer(rt.alloc(), request, "compile", modules.as_slice())?;
+    let checked = answer(rt.alloc(), request, "compile", handed, modules.as_slice())?;
     if is_invalid(checked.line.as_str()) {
         return Ok(checked);
     }
@@ -258,10 +263,19 @@ fn serve_root<R: Files + AllocGlobal, W: Write, E: Write>(
             return refuse_file(alloc, errors, request.file, problem.as_str());
         }
     };
+    let mut members = String::new(alloc);
+    for handed in &handed_of(request)[..] {
+        if let Some(file) = handed.file {
+            if let Err(problem) = push_handed(rt, &mut members, handed.key, file) {
+                let problem = problem.to_string(alloc)?;
+                return refuse_file(alloc, errors, file, problem.as_str());
+            }
+        }
+    }
     let file = Text::from_str(alloc, request.file)?;
     let mut modules = Vec::new(alloc);
     modules.push(Module::new(alloc, root.path.as_str(), Source { file, text })?)?;
-    let found = answer_request(rt, request, folders, &mut modules)?;
+    let found = answer_request(rt, request, members.as_str(), folders, &mut modules)?;
     write_answer(rt, request, &found, modules.as_slice(), out, errors)
 }
 
