@@ -1,7 +1,7 @@
 #!/usr/bin/env python3
 """Times `weslc compile` on generated bundles: compile.py [PROGRAM]   (default: ../crates/weslc/out/weslc)
 
-Each bundle is one module of so many declarations. Beside the time of compiling stands the time that the same program needs to
+Each bundle is one module of so many declarations, statements or levels. Beside the time of compiling stands the time that the same program needs to
 link the same bundle, and the peak of memory. Each figure is the least of a few runs; a run of more than a minute is given up."""
 import json
 import os
@@ -43,7 +43,53 @@ def long_sums(n):
     return functions(n, 200)
 
 
+def entry(body):
+    """An entry point over one buffer, that is beyond the part."""
+    return "@group(0) @binding(0) var<storage, read_write> b: array<u32>;\n@compute @workgroup_size(1) fn main() {\n" + body + "}\n"
+
+
+def whole_before(n):
+    """As `before`, with an entry point that uses the last."""
+    return before(n)[0] + entry(f"    b[0] = u32(c{n - 1});\n"), ["main"]
+
+
+def kernels(n):
+    """Functions with a loop, each calls the one before."""
+    body = "var s = x; for (var i = 0u; i < 4u; i++) { if i % 2u == 0u { s += b[i]; } else { s ^= K; } } "
+    rest = "".join(f"fn step{i}(x: u32) -> u32 {{ {body}return step{i - 1}(s); }}\n" for i in range(1, n))
+    return "const K = 3u * 5u;\nfn step0(x: u32) -> u32 { return x; }\n" + rest + entry(f"    b[0] = step{n - 1}(b[1]);\n"), ["main"]
+
+
+def statements(n):
+    """One function of so many statements."""
+    return entry("    var s = b[0];\n" + "    s = (s + 3u * 5u) % 65521u;\n" * n + "    b[1] = s;\n"), ["main"]
+
+
 SHAPES = {"each const uses the one before": before, "each const uses the next": after, "all use one": fan, "functions use ten each": functions, "functions use two hundred each": long_sums}
+WHOLE = {"consts, with an entry point": whole_before, "functions with loops": kernels, "statements in one function": statements}
+
+
+def deep_sum(n):
+    return entry(f"    let x = b[0];\n    b[1] = x{' + 1u' * n};\n"), ["main"]
+
+
+def deep_value(n):
+    return entry(f"    let x = b[0];\n    b[1] = 1u{' + x' * n};\n"), ["main"]
+
+
+def deep_parentheses(n):
+    return entry(f"    let x = b[0];\n    b[1] = {'(' * n}x{')' * n};\n"), ["main"]
+
+
+def deep_calls(n):
+    return "fn f(x: u32) -> u32 { return x + b[0]; }\n" + entry(f"    b[1] = {'f(' * n}b[0]{')' * n};\n"), ["main"]
+
+
+def deep_blocks(n):
+    return entry("    var s = b[0];\n" + "    if s > 1u { s += 1u; " * n + "}" * n + "\n    b[1] = s;\n"), ["main"]
+
+
+LEVELS = {"a sum of a variable": deep_sum, "a sum that begins with a value": deep_value, "parentheses": deep_parentheses, "calls of a function": deep_calls, "blocks": deep_blocks}
 
 
 def bundle(command, text, keep):
@@ -73,15 +119,16 @@ def main(argv):
     program = [os.path.abspath(argv[0] if argv else os.path.join(HERE, "../crates/weslc/out/weslc"))]
     print("| shape | declarations | bundle, bytes | linked, s | compiled, s | ratio | peak, times the bundle |")
     print("|---|---|---|---|---|---|---|")
-    for name, shape in SHAPES.items():
-        for n in (10, 100, 1000, 10000):
-            text, keep = shape(n)
-            data = bundle("compile", text, keep)
-            linked, compiled = timed(program, bundle("link", text, keep)), timed(program, data)
-            both = isinstance(linked, float) and isinstance(compiled, float)
-            ratio = f"{compiled / linked:.1f}" if both else "-"
-            peak = f"{peak_of(program, data) / len(data):.1f}" if both else "-"
-            print(f"| {name} | {n} | {len(data)} | {shown(linked)} | {shown(compiled)} | {ratio} | {peak} |", flush=True)
+    rows = [(name, shape, n) for name, shape in [*SHAPES.items(), *WHOLE.items()] for n in (10, 100, 1000, 10000)]
+    rows += [(f"{name}, levels", shape, n) for name, shape in LEVELS.items() for n in (20, 200, 1200)]
+    for name, shape, n in rows:
+        text, keep = shape(n)
+        data = bundle("compile", text, keep)
+        linked, compiled = timed(program, bundle("link", text, keep)), timed(program, data)
+        both = isinstance(linked, float) and isinstance(compiled, float)
+        ratio = f"{compiled / linked:.1f}" if both else "-"
+        peak = f"{peak_of(program, data) / len(data):.1f}" if both else "-"
+        print(f"| {name} | {n} | {len(data)} | {shown(linked)} | {shown(compiled)} | {ratio} | {peak} |", flush=True)
 
 
 if __name__ == "__main__":

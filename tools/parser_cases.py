@@ -20,7 +20,8 @@ NAME = "parser.txt"
 MARK = "# By tools/parser_cases.py"
 MOST = 2900
 
-# ---- The grammar: `{x}` any number, `[x]` optional, `x+` one or more, `L(x)` a list. `‹` and `›` are the ends of a template.
+# ---- The grammar: `{x}` any number, `[x]` optional, `x+` one or more, `L(x)` a list. `‹` and `›` are the ends of a template,
+# and `(@` is a parenthesis right behind the word of an attribute, which always opens its arguments.
 
 GRAMMAR = """
 module: {import} {directive} {item}
@@ -28,10 +29,10 @@ item: ';' | declaration
 import: A 'import' [origin] tree ';'
 origin: 'package' '::' | ('super' '::')+
 tree: id ['as' id] | id '::' tree | '{' L(tree) '}'
-directive: 'diagnostic' '(' id ',' id ['.' id] [','] ')' ';' | 'enable' L(id) ';' | 'requires' L(id) ';'
+directive: A 'diagnostic' '(' id ',' id ['.' id] [','] ')' ';' | A 'enable' L(id) ';' | A 'requires' L(id) ';'
 declaration: A 'var' [template] typed ['=' expr] ';' | A 'override' typed ['=' expr] ';'
-  | 'const' typed '=' expr ';' | 'alias' id '=' type ';' | 'struct' id '{' L(A id ':' type) '}'
-  | A 'fn' id '(' [L(A id ':' type)] ')' ['->' A type] block | 'const_assert' expr ';'
+  | A 'const' typed '=' expr ';' | A 'alias' id '=' type ';' | A 'struct' id '{' L(A id ':' type) '}'
+  | A 'fn' id '(' [L(A id ':' type)] ')' ['->' A type] block | A 'const_assert' expr ';'
 typed: id [':' type]
 type: name [template]
 name: [origin] {id '::'} id
@@ -39,7 +40,7 @@ block: A '{' {statement} '}'
 statement: ';' | block | A 'if' expr block {'else' 'if' expr block} ['else' block]
   | A 'switch' expr A '{' clause+ '}' | A 'loop' A '{' {statement} [continuing] '}'
   | A 'for' '(' [init] ';' [expr] ';' [update] ')' block | A 'while' expr block
-  | 'break' ';' | 'continue' ';' | 'return' [expr] ';' | 'discard' ';' | 'const_assert' expr ';' | local ';' | update ';'
+  | A 'break' ';' | A 'continue' ';' | A 'return' [expr] ';' | A 'discard' ';' | A 'const_assert' expr ';' | A local ';' | A update ';'
 clause: 'case' L('default' | expr) [':'] block | 'default' [':'] block
 continuing: 'continuing' A '{' {statement} ['break' 'if' expr ';'] '}'
 local: 'var' [template] typed ['=' expr] | 'let' typed '=' expr | 'const' typed '=' expr
@@ -59,7 +60,7 @@ primary: literal | '(' expr ')' | type | call
 call: type '(' [L(expr)] ')'
 template: '‹' L(expr) '›'
 A: {attribute}
-attribute: '@' word ['(' [L(expr)] ')']
+attribute: '@' word ['(@' [L(expr)] ')']
 """
 STARTS = {"module": "module", "expression": "expr", "statement": "statement", "declaration": "item", "directive": "directive",
           "import": "import", "kind": "kind"}
@@ -134,7 +135,7 @@ for ways in RULES.values():
     for way in ways:
         assert all(part in RULES or part in SPECIAL or part[0] == "'" for part in way), way
 
-# ---- Tokens: kind, spelling, place. Kinds: id, keyword, reserved, number, symbol, invalid, start, end.
+# ---- Tokens: kind, spelling, place. Kinds: id, keyword, reserved, number, symbol, invalid, start, end, and arguments for `(@`.
 
 KEYWORDS = set("""alias break case const const_assert continue continuing default diagnostic discard else enable false fn for if let
 loop override requires return struct switch true var while""".split())
@@ -181,7 +182,7 @@ def one_token(text, at):
 
 def tokens_of(text, at=0, opened=()):
     """The tokens of a text from a place on, where these brackets are open."""
-    opened, before = list(opened), ("symbol", "<")
+    opened, before, word = list(opened), ("symbol", "<"), False
     while at < len(text):
         if text[at] == " ":
             at += 1
@@ -196,9 +197,12 @@ def tokens_of(text, at=0, opened=()):
             opened.append("list")
         elif spelling in ("(", "["):
             opened.append("plain")
+            if word and spelling == "(":
+                kind = "arguments"
         elif spelling in (")", "]"):
             opened[-1:] = []
         yield kind, spelling, at, end
+        word = before[1] == "@" and kind in ("id", "keyword", "reserved")
         at, before = end, (kind, spelling)
 
 
@@ -234,6 +238,8 @@ def fits(part, token):
         return kind == "number" or spelling in ("true", "false")
     if part in ("'‹'", "'›'"):
         return kind == ("start" if part == "'‹'" else "end")
+    if part == "'(@'":
+        return kind == "arguments"
     return kind in ("symbol", "keyword", "reserved") and part == f"'{spelling}'"
 
 
@@ -390,6 +396,9 @@ directive: diagnostic ( off , a . b , ) ;
 directive: diagnostic ( info , a ) ;
 directive: enable f16 , a ;
 directive: requires a , b , ;
+directive: @ a @ if ( b ) diagnostic ( off , c ) ;
+directive: @ else enable a ;
+directive: @ a ( b ) requires c ;
 declaration: @ group ( 0 ) @ binding ( 1 , ) var < storage , read_write > b : array < vec4 < u32 > , 2 > = f ( ) ;
 declaration: var < private > x = - 1 ;
 declaration: @ x ( ) var < workgroup , > a : b ;
@@ -403,9 +412,14 @@ declaration: @ compute @ workgroup_size ( 1 , 2 , 3 ) fn f ( @ builtin ( positio
 declaration: fn f ( ) -> @ location ( 0 ) @ interpolate ( flat , center ) T @ y { return ; }
 declaration: @ must_use @ diagnostic ( off , a . b ) fn f ( a : T ) -> T { ; }
 declaration: @ interpolate ( linear ) @ diagnostic ( warning , a , ) @ blend_src ( 1 ) @ import @ fn ( a ) fn f ( ) { }
+declaration: @ if ( a ) const b = 1 ;
+declaration: @ a ( ) alias b = c ;
+declaration: @ a struct b { @ c d : e }
+declaration: @ a @ elif ( b ) const_assert c ;
 declaration: const_assert a < b ;
 declaration: const_assert a < b > ( c ) ;
 declaration: ;
+module: @ a import b ; @ c enable d ; @ e const f = 1 ; @ g struct h { i : j } ; @ k ( ) const_assert l ;
 module: @ x import a ; import b ; enable c ; requires d ; ; const a = 1 ; var b : i32 ; @ vertex fn f ( ) { }
 module: diagnostic ( error , a ) ; diagnostic ( off , b . c ) ; alias a = b ; struct c { d : e } ; const_assert f ;
 module: import super :: a :: { b } ; @ if ( a ) fn c ( ) { if d { } else { } } @ else var e : f ; override g = 1 ;
@@ -435,6 +449,27 @@ statement: let a : b = c ;
 statement: const a = 1u ;
 statement: f ( a , b , ) ;
 statement: package :: a :: f < b > ( ) ;
+statement: @ a break ;
+statement: @ if ( a ) return ;
+statement: @ a ( ) return b ;
+statement: @ a @ b continue ;
+statement: @ else discard ;
+statement: @ a const_assert b ;
+statement: @ a let b = 1 ;
+statement: @ a @ b ( c ) var < function > d : e ;
+statement: @ a b ( ) ;
+statement: @ a * b = 1 ;
+statement: @ a & b ++ ;
+statement: @ a _ = b ;
+statement: @ a b . c += 1 ;
+statement: @ a ( b ) ( c ) . d = 1 ;
+statement: @ a @ b ( ) ( c ) [ 0 ] -- ;
+statement: @ a ( b ) @ c ( d ) ( * e ) ++ ;
+statement: ( a ) = 1 ;
+statement: { @ if ( a ) return ; ; @ else { } @ b c = 1 ; @ d ( e ) ( f ) = 1 ; ( g ) ++ ; }
+statement: loop { @ a break ; continuing { @ b c ( ) ; break if d ; } }
+statement: for ( ( a ) = 1 ; b ; ( c ) ++ ) { }
+statement: switch a { case b { @ c break ; } }
 statement: * a . b [ c ] = d ;
 statement: ( * & a ) [ 1 ] . b <<= 2 ;
 statement: _ = a ;

@@ -63,6 +63,8 @@ def choices(piece):
         return [([kind], kind not in ("opens", "closes"))]
     if kind in ("mark", "truth", "kind", "may_mark"):
         return ([([], False)] if kind == "may_mark" else []) + [([name], kind in ("truth", "kind"))]
+    if kind == "lacking":
+        return [([], True)]
     form, may_be_absent = FORMS[kind]
     return ([([], True)] if may_be_absent else []) + [([(name[2:], form)], True)]
 

@@ -4,11 +4,14 @@ use Rattle.std.specs.Prelude.{IfOk, IfErr, string_bytes}
 use Rattle.wgsl_path.specs.Paths.{path_text}
 use Rattle.weslc_calls.specs.Stored.{text_at}
 use Rattle.weslc_calls.specs.CompileError.{CompileError}
+use Rattle.weslc_whole.specs.Whole.{IsBeyond, RefusesPart}
+use Rattle.weslc_whole.specs.declared.refusal.WholeRefusal.{WholeRefusal}
+use Rattle.weslc_whole.specs.declared.refusal.WholeRefusal.TheVariants as whole
 use Rattle.weslc_precompile.specs.declared.error.PrecompileError.{PrecompileError}
 use Rattle.weslc_precompile.specs.declared.error.PrecompileError.TheVariants as precompiling
 use Rattle.weslc_precompile.specs.Precompiling.{RefusesPrecompiling}
 use Rattle.weslc_bundle.specs.declared.request.Command.{Command}
-use Rattle.weslc_bundle.specs.declared.request.Command.TheVariants.{Precompile, Run, Eval}
+use Rattle.weslc_bundle.specs.declared.request.Command.TheVariants.{Compile, Precompile, Run, Eval}
 use Rattle.weslc_bundle.specs.declared.bundle.Bundle.{Bundle}
 use Rattle.weslc_bundle.specs.declared.error.ServeError.{ServeError}
 use Rattle.weslc_bundle.specs.declared.error.ServeError.TheVariants as serve
@@ -16,12 +19,19 @@ use Rattle.weslc_bundle.specs.Held.{found_by}
 use Rattle.weslc_bundle.specs.declared.request.BundleError.{BundleError}
 use Rattle.weslc_bundle.specs.declared.request.BundleError.TheVariants as bundle
 use Rattle.weslc_bundle.specs.Bundles.{IsFault, IsHandedFault}
-use Rattle.weslc_bundle.specs.Served.{AreRead, Refused, RefusesModules, IsOfRun, IsTextFor, IsRefusalFor, RefusesCall, refused_bundle, refused_precompiling}
+use Rattle.weslc_bundle.specs.Served.{AreRead, Refused, RefusesModules, IsOfRun, IsTextFor, IsRefusalFor, RefusesCall, RefusesWholeCall, refused_bundle, refused_precompiling}
 
 pub modules_refused : (command : Command) (bundle : Bundle) (e : CompileError) (refusal : ServeError)
     → RefusesModules command (found_by (text_at bundle.resolver)) bundle.root bundle.options e → RefusesCall e refusal → IsRefusalFor command bundle refusal
 modules_refused command bundle e refusal h (inl same) = subst (IsRefusalFor command bundle) (sym same) h
 modules_refused command bundle e refusal h (inr memory) = subst (IsRefusalFor command bundle) (sym memory.1) tt
+
+pub whole_refused : (bundle : Bundle) (e : WholeRefusal) (refusal : ServeError)
+    → IsBeyond (found_by (text_at bundle.resolver)) bundle.root bundle.options ⊎ RefusesPart (found_by (text_at bundle.resolver)) bundle.root bundle.options e
+    → RefusesWholeCall e refusal → IsRefusalFor Compile bundle refusal
+whole_refused bundle (whole.Compile e) refusal h same = modules_refused Compile bundle e refusal h same
+whole_refused bundle (whole.Eval c fault) refusal (inl beyond) same = subst (IsRefusalFor Compile bundle) (sym same) (refl, beyond)
+whole_refused bundle (whole.Eval c fault) refusal (inr none) same = absurd none
 
 pub precompile_refused : (bundle : Bundle) (source : List ℕ) (e : PrecompileError)
     → text_at bundle.resolver (path_text bundle.root) ≡ Some source → RefusesPrecompiling bundle.options.features source e
@@ -41,6 +51,7 @@ root_refused bundle refusal (inr none) = subst (IsRefusalFor Precompile bundle) 
 
 run_refused : (bundle : Bundle) (refusal : ServeError) → IsOfRun refusal → IsRefusalFor Run bundle refusal
 run_refused bundle (serve.Compile e) is = tt
+run_refused bundle (serve.Eval c fault) is = absurd is
 run_refused bundle (serve.Run e) is = inl refl
 run_refused bundle serve.OutOfMemory is = tt
 run_refused bundle serve.Read is = absurd is
@@ -51,6 +62,7 @@ run_refused bundle (serve.Precompile e) is = absurd is
 
 eval_refused : (bundle : Bundle) (refusal : ServeError) → IsOfRun refusal → IsRefusalFor Eval bundle refusal
 eval_refused bundle (serve.Compile e) is = tt
+eval_refused bundle (serve.Eval c fault) is = absurd is
 eval_refused bundle (serve.Run e) is = inr refl
 eval_refused bundle serve.OutOfMemory is = tt
 eval_refused bundle serve.Read is = absurd is

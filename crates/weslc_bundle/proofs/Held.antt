@@ -86,6 +86,7 @@ module _ (left : Option (List ℕ)) (bytes : List ℕ) (read : AreRead left byte
 
   pub call_refused : (refusal : ServeError) → (request : Request) × IsBundle bytes request × HandsOver request bundle → IsRefusalFor bundle.command bundle refusal → Refused left refusal
   call_refused (serve.Compile e) (request, whole, over) is = (bytes, request, read, whole, refusal_moved request bundle (serve.Compile e) over is)
+  call_refused (serve.Eval c fault) (request, whole, over) is = (bytes, request, read, whole, refusal_moved request bundle (serve.Eval c fault) over is)
   call_refused serve.NoRoot (request, whole, over) is = (bytes, request, read, whole, refusal_moved request bundle serve.NoRoot over is)
   call_refused (serve.Precompile e) (request, whole, over) is = (bytes, request, read, whole, refusal_moved request bundle (serve.Precompile e) over is)
   call_refused (serve.Run e) (request, whole, over) is = (bytes, request, read, whole, refusal_moved request bundle (serve.Run e) over is)

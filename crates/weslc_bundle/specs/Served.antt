@@ -8,8 +8,11 @@ use Rattle.weslc_precompile.specs.declared.error.PrecompileError.TheVariants as 
 use Rattle.weslc_precompile.specs.Precompiling.{IsPrecompiledText, RefusesPrecompiling}
 use Rattle.weslc_calls.specs.Stored.{text_at}
 use Rattle.weslc_calls.specs.Options.{Options}
-use Rattle.weslc_calls.specs.OfPart.{Finding, sources, IsBeyondLink, IsBeyondCompile}
-use Rattle.weslc_calls.specs.Answers.{IsLinkedText, IsCompiledText, RefusesToLink, RefusesToCompile}
+use Rattle.weslc_calls.specs.OfPart.{Finding, sources, IsBeyondLink}
+use Rattle.weslc_whole.specs.Whole.{IsBeyond, IsTextOfPart}
+use Rattle.weslc_whole.specs.declared.refusal.WholeRefusal.{WholeRefusal}
+use Rattle.weslc_whole.specs.declared.refusal.WholeRefusal.TheVariants as whole
+use Rattle.weslc_calls.specs.Answers.{IsLinkedText, RefusesToLink, RefusesToCompile}
 use Rattle.weslc_calls.specs.CompileError.{CompileError}
 use Rattle.weslc_calls.specs.CompileError.TheVariants as calls
 use Rattle.weslc_bundle.specs.declared.input.TheConstants.{MAX_BUNDLE_LEN}
@@ -52,7 +55,7 @@ abbrev pub RefusesModules : Command → Finding → ModulePath → Options → C
 RefusesModules Link found root options e =
     IsBeyondLink found root options ⊎ RefusesToLink (sources options.features found) (path_text root) options.keep options.max_modules e
 RefusesModules Compile found root options e =
-    IsBeyondCompile found root options ⊎ RefusesToCompile (sources options.features found) (path_text root) options.keep options.max_modules options.max_steps e
+    IsBeyond found root options ⊎ RefusesToCompile (sources options.features found) (path_text root) options.keep options.max_modules options.max_steps e
 RefusesModules Precompile found root options e = ⊥
 RefusesModules Run found root options e = ⊤
 RefusesModules Eval found root options e = ⊤
@@ -63,8 +66,7 @@ IsTextOf Link texts root options text =
     IsBeyondLink (found_by texts) root options
     ⊎ IsLinkedText (sources options.features (found_by texts)) (path_text root) options.keep options.max_modules text
 IsTextOf Compile texts root options text =
-    IsBeyondCompile (found_by texts) root options
-    ⊎ IsCompiledText (sources options.features (found_by texts)) (path_text root) options.keep options.max_modules options.max_steps text
+    IsBeyond (found_by texts) root options ⊎ IsTextOfPart (found_by texts) root options text
 IsTextOf Precompile texts root options text =
     (source : List ℕ) × (texts (path_text root) ≡ Some source) × IsPrecompiledText options.features source text
 IsTextOf Run texts root options text = ⊤
@@ -77,6 +79,7 @@ RunsOrEvaluates command = (command ≡ Run) ⊎ (command ≡ Eval)
 -- what a run or an evaluation may be refused for
 abbrev pub IsOfRun : ServeError → Type 0
 IsOfRun (of.Compile e) = ⊤
+IsOfRun (of.Eval c fault) = ⊥
 IsOfRun (of.Run e) = ⊤
 IsOfRun of.OutOfMemory = ⊤
 IsOfRun _ = ⊥
@@ -84,6 +87,7 @@ IsOfRun _ = ⊥
 -- memory aside, the command's call is refused so
 abbrev pub IsRefusalOf : Command → Texts → ModulePath → Options → ServeError → Type 0
 IsRefusalOf command texts root options (of.Compile e) = RefusesModules command (found_by texts) root options e
+IsRefusalOf command texts root options (of.Eval c fault) = (command ≡ Compile) × IsBeyond (found_by texts) root options
 IsRefusalOf command texts root options of.NoRoot = (command ≡ Precompile) × (texts (path_text root) ≡ None)
 IsRefusalOf command texts root options (of.Precompile e) =
     (command ≡ Precompile) × ((source : List ℕ) × (texts (path_text root) ≡ Some source) × RefusesPrecompiling options.features source e)
@@ -124,6 +128,7 @@ Refused left of.Read = ⊤
 Refused left of.TooLong = AreTooMany left
 Refused left (of.Bundle fault) = (bytes : List ℕ) × AreRead left bytes × (IsFault bytes fault ⊎ IsHandedFault bytes fault)
 Refused left (of.Compile e) = IsRefusedCall left (of.Compile e)
+Refused left (of.Eval c fault) = IsRefusedCall left (of.Eval c fault)
 Refused left of.NoRoot = IsRefusedCall left of.NoRoot
 Refused left (of.Precompile e) = IsRefusedCall left (of.Precompile e)
 Refused left (of.Run e) = IsRefusedCall left (of.Run e)
@@ -144,6 +149,7 @@ status_of of.TooLong = 2
 status_of (of.Bundle fault) = 2
 status_of of.NoRoot = 2
 status_of (of.Compile e) = 1
+status_of (of.Eval c fault) = 1
 status_of (of.Precompile e) = 1
 status_of (of.Run e) = 1
 status_of of.OutOfMemory = 1
@@ -165,6 +171,10 @@ refused_bundle bundle.OutOfMemory = of.OutOfMemory
 -- a refusal of a call, or that memory was refused
 abbrev pub RefusesCall : CompileError → ServeError → Type 0
 RefusesCall e refusal = (refusal ≡ of.Compile e) ⊎ ((e ≡ calls.OutOfMemory) × (refusal ≡ of.OutOfMemory))
+
+abbrev pub RefusesWholeCall : WholeRefusal → ServeError → Type 0
+RefusesWholeCall (whole.Compile e) refusal = RefusesCall e refusal
+RefusesWholeCall (whole.Eval c fault) refusal = refusal ≡ of.Eval c fault
 
 abbrev pub refused_precompiling : PrecompileError → ServeError
 refused_precompiling (precompiling.Syntax e) = of.Precompile (precompiling.Syntax e)

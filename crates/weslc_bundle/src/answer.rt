@@ -12,8 +12,9 @@ use crate::error::ServeError;
 use crate::request::Command;
 use crate::running::{eval_expression, run_entry};
 use std::alloc::Global;
-use weslc_calls::{ResolveError, compile, link};
+use weslc_calls::{ResolveError, link};
 use weslc_precompile::precompile;
+use weslc_whole::compile;
 
 /// The text that the call of a bundle answers, or why there is none.
 pub(crate) fn answer(alloc: Global, bundle: Bundle) -> Result<String, ServeError>

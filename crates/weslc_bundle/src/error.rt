@@ -5,9 +5,11 @@ ghost use Rattle.std.specs.Prelude.{◌≡◌};
 use crate::input::InputError;
 use crate::request::BundleError;
 use std::alloc::AllocError;
-use weslc_calls::CompileError;
+use weslc_calls::{CompileError, ErrorContext};
 use weslc_precompile::PrecompileError;
 use weslc_run::RunRefusal;
+use weslc_whole::WholeRefusal;
+use wgsl_fault::Fault;
 
 /// Why the program writes no text.
 #[derive(Debug, Drop)]
@@ -20,6 +22,8 @@ pub enum ServeError {
     Bundle(BundleError),
     /// The modules are not linked or compiled.
     Compile(CompileError),
+    /// A fault of evaluation, in the declaration that is named, where modules are compiled that are beyond the proved part.
+    Eval(ErrorContext, Fault),
     /// No module stands at the root that is to be precompiled.
     NoRoot,
     /// The root is not precompiled.
@@ -66,6 +70,19 @@ impl From<CompileError> for ServeError {
         match error {
             CompileError::OutOfMemory => ServeError::OutOfMemory,
             error => ServeError::Compile(error),
+        }
+    }
+}
+
+impl From<WholeRefusal> for ServeError {
+    ghost use Rattle.weslc_bundle.specs.Served.{RefusesWholeCall};
+
+    ghost from_gives = { RefusesWholeCall };
+
+    fn from(refusal: WholeRefusal) -> ServeError {
+        match refusal {
+            WholeRefusal::Compile(error) => ServeError::from(error),
+            WholeRefusal::Eval(context, fault) => ServeError::Eval(context, fault),
         }
     }
 }

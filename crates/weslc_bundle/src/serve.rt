@@ -20,6 +20,7 @@ use weslc_calls::{CompileError, ErrorContext};
 use weslc_precompile::PrecompileError;
 use weslc_run::RunRefusal;
 use wgsl_error::Error;
+use wgsl_fault::Fault;
 use wgsl_items::Text;
 use wgsl_path::{ModulePath, Span};
 
@@ -71,6 +72,7 @@ fn status(refusal: &ServeError) -> u8
     match refusal {
         ServeError::Read | ServeError::TooLong | ServeError::Bundle(_) | ServeError::NoRoot => 2,
         ServeError::Compile(_)
+        | ServeError::Eval(_, _)
         | ServeError::Precompile(_)
         | ServeError::Run(_)
         | ServeError::OutOfMemory => 1,
@@ -86,6 +88,7 @@ fn write_refusal<E: Write>(errors: &mut E, refusal: &ServeError) -> io::Result<(
         ServeError::NoRoot => errors.write_all(b"error: Bundle - - - root\n"),
         ServeError::Bundle(error) => write_bundle_error(errors, error),
         ServeError::Compile(error) => write_compile_error(errors, error),
+        ServeError::Eval(context, fault) => write_fault(errors, context, fault),
         ServeError::Precompile(error) => write_precompile_error(errors, error),
         ServeError::Run(refusal) => write_run_refusal(errors, refusal),
     }?;
@@ -172,13 +175,16 @@ fn write_run_refusal<E: Write>(errors: &mut E, refusal: &RunRefusal) -> io::Resu
             writeln!(errors, "error: Expression.{kind} - - {start}..{end} -")
         }
         RunRefusal::Compile(error) => write_compile_error(errors, error),
-        RunRefusal::Eval(context, fault) => {
-            let kind = fault.kind();
-            write!(errors, "error: Eval.{kind}")?;
-            write_context(errors, context, None)
-        }
+        RunRefusal::Eval(context, fault) => write_fault(errors, context, fault),
         RunRefusal::OutOfMemory => errors.write_all(b"error: OutOfMemory - - - -\n"),
     }
+}
+
+/// The line about a fault of evaluation.
+fn write_fault<E: Write>(errors: &mut E, context: &ErrorContext, fault: &Fault) -> io::Result<()> {
+    let kind = fault.kind();
+    write!(errors, "error: Eval.{kind}")?;
+    write_context(errors, context, None)
 }
 
 /// The line about a text that is not read. What was printed and is not read again is no module's, and its place is left out.

@@ -1,15 +1,15 @@
-//! The calls.
+//! The call `link`.
 
 ghost use Rattle.std.specs.Prelude.{◌≡◌, ◌⊎◌, IfOk, IfErr, string_bytes};
 ghost use Rattle.wgsl_path.specs.Paths.{path_text};
 ghost use Rattle.weslc_part.specs.Found.{at_text, part_names};
 ghost use Rattle.weslc_linking.specs.Mapped.{HasNames};
-ghost use Rattle.weslc_linking.specs.Answers.{RefusesToLink, RefusesToCompile, IsMapped, IsLinkedText, IsCompiledText};
-ghost use Rattle.weslc_calls.specs.OfPart.{sources, IsBeyondLink, IsBeyondCompile};
+ghost use Rattle.weslc_linking.specs.Answers.{RefusesToLink, IsMapped, IsLinkedText};
+ghost use Rattle.weslc_calls.specs.OfPart.{sources, IsBeyondLink};
 ghost use Rattle.weslc_calls.specs.Plain.{IsPlain};
 
-use crate::part::{Tried, try_compile, try_link};
-use crate::whole::{compile_whole, link_whole};
+use crate::part::{Tried, try_link};
+use crate::whole::link_whole;
 use std::alloc::Global;
 use wesl_resolvers::Resolver;
 use weslc_api::{BasicSourceMap, CompileError, Options};
@@ -32,25 +32,5 @@ pub fn link<R: Resolver>(
     match try_link(alloc, resolver, root, options) {
         Tried::Answered(answer) => answer,
         Tried::Beyond(beyond) => link_whole(alloc, resolver, beyond, root, options),
-    }
-}
-
-/// One text without imports and consts in which what the options ask for of the modules is validated and lowered, and the map from it back
-/// to the modules; or the first fault. Each evaluation of an expression or a declaration may take so many steps as the options say. What
-/// is linked and is beyond the part that is evaluated is refused as unsupported, behind validation. The root is not relative.
-pub fn compile<R: Resolver>(
-    alloc: Global,
-    resolver: &mut R,
-    root: &ModulePath,
-    options: &Options,
-) -> Result<(String, BasicSourceMap), CompileError>
-    ensures text { IsBeyondCompile (R.answers resolver.old) root.now options.now ⊎ IfOk result (λ answer. IsCompiledText (sources options.now.features (R.answers resolver.old)) (path_text root.now) options.now.keep options.now.max_modules options.now.max_steps (string_bytes answer.0)) }
-    ensures map { IsBeyondCompile (R.answers resolver.old) root.now options.now ⊎ IfOk result (λ answer. IsMapped (sources options.now.features (R.answers resolver.old)) (path_text root.now) options.now.keep options.now.max_modules (at_text (R.texts resolver.old)) answer.1) }
-    ensures names { IsBeyondCompile (R.answers resolver.old) root.now options.now ⊎ IfOk result (λ answer. HasNames (part_names (R.display_names resolver.old)) answer.1) }
-    ensures refusal { IsBeyondCompile (R.answers resolver.old) root.now options.now ⊎ IfErr result (RefusesToCompile (sources options.now.features (R.answers resolver.old)) (path_text root.now) options.now.keep options.now.max_modules options.now.max_steps) }
-{
-    match try_compile(alloc, resolver, root, options) {
-        Tried::Answered(answer) => answer,
-        Tried::Beyond(beyond) => compile_whole(alloc, resolver, beyond, root, options),
     }
 }

@@ -9,7 +9,7 @@ use wgsl_path::ModulePath;
 
 /// A resolver that is lent, whose modules have their conditions decided by feature flags.
 #[derive(Drop)]
-pub(crate) struct Decided<'a, R> {
+pub struct Decided<'a, R> {
     pub inner: Preprocessor<&'a mut R, Conditions<'a>>,
 }
 

@@ -6,11 +6,14 @@ mod deciding;
 mod part;
 mod whole;
 
-pub use calls::{compile, link};
+pub use calls::link;
+pub use deciding::Decided;
+pub use part::{Answer, Tried, try_compile};
 pub use wesl_preprocess::Preprocessor;
 pub use wesl_resolvers::{NoResolver, RecordingResolver, ResolveError, Resolver};
 pub use weslc_api::{
     BasicSourceMap, CompileError, Error, ErrorContext, ErrorKind, EscapeMangler, Fault, Feature,
     Features, ImportKind, Mode, NameFault, Options, ResolveKind, SourceMap, ValidateError,
 };
+pub use weslc_part::Beyond;
 pub use weslc_texts::VirtualResolver;

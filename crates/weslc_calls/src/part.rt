@@ -17,11 +17,11 @@ use weslc_part::{Beyond, PartResolver};
 use wgsl_path::{ModulePath, PathOrigin};
 
 /// What a call answers.
-pub(crate) type Answer = Result<(String, BasicSourceMap), CompileError>;
+pub type Answer = Result<(String, BasicSourceMap), CompileError>;
 
 /// What comes of a call that the part is tried on.
 #[derive(Drop)]
-pub(crate) enum Tried {
+pub enum Tried {
     Answered(Answer),
     /// It is none of the part's. The module that shows it may be parsed already.
     Beyond(Option<Beyond>),
@@ -75,8 +75,10 @@ pub(crate) fn try_link<R: Resolver>(
     }
 }
 
-/// Compiles by the part, where the call is one of its.
-pub(crate) fn try_compile<R: Resolver>(
+/// One text without imports and consts in which what the options ask for of the modules is validated and lowered, and the map from it back
+/// to the modules; or the first fault: where the call is one of the part's. Each evaluation of an expression or a declaration may take so
+/// many steps as the options say. The root is not relative.
+pub fn try_compile<R: Resolver>(
     alloc: Global,
     resolver: &mut R,
     root: &ModulePath,

@@ -1,4 +1,4 @@
-//! The calls over the whole language.
+//! Linking over the whole language.
 
 ghost use Rattle.std.specs.Prelude.{◌≡◌, IfOk, string_bytes};
 ghost use Rattle.wgsl_declarations.specs.View.{unit_tree};
@@ -10,14 +10,12 @@ use std::alloc::Global;
 use wesl_preprocess::{Conditions, Preprocessor};
 use wesl_resolvers::Resolver;
 use wesl_rounds::HeldUnit;
-use weslc_api::{BasicSourceMap, CompileError, ErrorContext, Options};
-use weslc_compiled::compile_unit;
-use weslc_modules::{LinkedModules, link_modules, validate};
+use weslc_api::{BasicSourceMap, CompileError, Options};
+use weslc_modules::{LinkedModules, link_modules};
 use weslc_part::Beyond;
 use wgsl_check_unit::{Unprintable, print_checked};
 use wgsl_declarations::let_go;
 use wgsl_error::Refusal;
-use wgsl_part::{NarrowError, is_in_part, narrow};
 use wgsl_path::ModulePath;
 
 /// Linked modules as a text. Their conditions are decided as each is resolved.
@@ -55,45 +53,5 @@ fn printed(alloc: Global, unit: HeldUnit) -> Result<String, CompileError>
         Err(Unprintable::Node(name)) => Err(CompileError::unprintable(name)),
         Err(Unprintable::GaveUp(Refusal::OutOfMemory)) => Err(CompileError::OutOfMemory),
         Err(Unprintable::GaveUp(refusal)) => Err(CompileError::gave_up(refusal)),
-    }
-}
-
-/// Linked modules as a compiled text. A linked unit beyond the part that is evaluated is refused as unsupported, behind validation.
-pub(crate) fn compile_whole<R: Resolver>(
-    alloc: Global,
-    resolver: &mut R,
-    beyond: Option<Beyond>,
-    root: &ModulePath,
-    options: &Options,
-) -> Result<(String, BasicSourceMap), CompileError> {
-    let features = &options.features;
-    let inner = Preprocessor::new(resolver, Conditions { features });
-    let mut decided = Decided { inner };
-    let linked = link_modules(alloc, &mut decided, beyond, root, options)?;
-    validate(alloc, &linked)?;
-    let text = compiled(alloc, &linked, options.max_steps)?;
-    let LinkedModules {
-        unit: _,
-        modules: _,
-        origins: _,
-        map,
-    } = linked;
-    Ok((text, map))
-}
-
-fn compiled(alloc: Global, linked: &LinkedModules, max_steps: u64) -> Result<String, CompileError> {
-    let unit = match narrow(alloc, linked.unit.get()) {
-        Ok(unit) => unit,
-        Err(NarrowError::Unsupported) => {
-            return Err(CompileError::Unsupported(ErrorContext::of_maybe(None)));
-        }
-        Err(NarrowError::OutOfMemory) => return Err(CompileError::OutOfMemory),
-    };
-    if !is_in_part(&unit) {
-        return Err(CompileError::Unsupported(ErrorContext::of_maybe(None)));
-    }
-    match compile_unit(alloc, &unit, max_steps) {
-        Ok(text) => Ok(text),
-        Err(refusal) => Err(CompileError::of_unit(alloc, &linked.map, refusal)),
     }
 }

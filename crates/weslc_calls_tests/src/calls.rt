@@ -3,7 +3,7 @@
 use std::alloc::Global;
 use std::test::Fail;
 use weslc_calls::{
-    BasicSourceMap, EscapeMangler, Options, SourceMap, VirtualResolver, compile, link,
+    BasicSourceMap, EscapeMangler, Options, SourceMap, Tried, VirtualResolver, link, try_compile,
 };
 use wgsl_items::Text;
 use wgsl_path::ModulePath;
@@ -98,12 +98,10 @@ fn answers(
     let source = call.root();
     match call {
         Call::Link => gives(alloc, link(alloc, resolver, root, options), source, LINKED),
-        Call::Compile => gives(
-            alloc,
-            compile(alloc, resolver, root, options),
-            source,
-            COMPILED,
-        ),
+        Call::Compile => match try_compile(alloc, resolver, root, options) {
+            Tried::Answered(answer) => gives(alloc, answer, source, COMPILED),
+            Tried::Beyond(_) => None,
+        },
         Call::LinkWhole => gives(
             alloc,
             link(alloc, resolver, root, options),

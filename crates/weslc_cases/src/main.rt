@@ -26,12 +26,14 @@ const CALLS: [&str; 8] = [
 ];
 
 /// The files of inputs of the program, each a list.
-const FILES: [&str; 11] = [
+const FILES: [&str; 13] = [
     "bundles.json",
     "fields.json",
     "texts.json",
     "links.json",
     "compiled.json",
+    "lowered.json",
+    "kernels.json",
     "examples.json",
     "linking.json",
     "modules.json",

@@ -10,7 +10,7 @@ use Rattle.wgsl_error.specs.declared.error.Refusal.TheVariants as why
 use Rattle.wgsl_error.specs.Errors.{refusal_of}
 use Rattle.wgsl_parser.specs.Texts.{IsModuleFault}
 use Rattle.wgsl_check_unit.specs.Derivable.{Says, SaysTree, IsDerivable}
-use Rattle.wgsl_check_unit.specs.Telling.{IsTold}
+use Rattle.wgsl_check_unit.specs.Telling.{IsToldOf}
 use Rattle.wesl_features.specs.declared.feature.Features.{Features}
 use Rattle.wesl_cond_spec.specs.Trees.{unit_left}
 use Rattle.wesl_cond_spec.specs.Faults.{unit_fault}
@@ -35,7 +35,7 @@ abbrev pub RefusesPrecompiling : Features → List ℕ → PrecompileError → T
 RefusesPrecompiling features text (refusal.Syntax e) = IsModuleFault text e
 RefusesPrecompiling features text (refusal.Condition e) = (unit : TranslationUnit) × Says text unit × (unit_fault features (unit_tree unit) ≡ Some e)
 RefusesPrecompiling features text (refusal.Unprintable name) =
-    (left : UnitTree) × IsFixed features text left × (IsDerivable left → ⊥) × IsTold left.declarations name
+    (left : UnitTree) × IsFixed features text left × (IsDerivable left → ⊥) × IsToldOf left name
 RefusesPrecompiling features text refusal.OutOfMemory = Unit
 RefusesPrecompiling features text (refusal.GaveUp r) = Unit
 
@@ -49,7 +49,7 @@ Precompiles features text (Err e) = RefusesPrecompiling features text e
 -- what comes of a module, printed and read back
 abbrev pub PrintsBack : UnitTree → Result (String Global) PrecompileError → Type 0
 PrintsBack u (Ok printed) = (string_bytes printed ≡ unit_text u) × SaysTree (string_bytes printed) u
-PrintsBack u (Err (refusal.Unprintable name)) = (IsDerivable u → ⊥) × IsTold u.declarations name
+PrintsBack u (Err (refusal.Unprintable name)) = (IsDerivable u → ⊥) × IsToldOf u name
 PrintsBack u (Err refusal.OutOfMemory) = Unit
 PrintsBack u (Err (refusal.GaveUp r)) = Unit
 PrintsBack u (Err (refusal.Syntax e)) = ⊥

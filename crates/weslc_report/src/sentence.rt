@@ -9,7 +9,6 @@ pub(crate) fn sentence_of(kind: &str) -> &'static str {
     match kind {
         "Resolve.ModuleNotFound" => "there is no module `%m`",
         "TooManyModules" => "`%m` is one module too many",
-        "Unsupported" => "`%m` uses what is not taken yet",
         "ConditionLeft" => "a condition in `%m` is not decided",
         "Import.DuplicateSymbol" => "`%s` is declared or imported twice in `%m`",
         "Import.MissingDecl" => "`%m` does not declare `%s`",
@@ -95,7 +94,6 @@ pub(crate) fn advice_of(kind: &str) -> Option<&'static str> {
         "ConditionLeft" => Some("set each flag by --enable or --disable"),
         "TooManyModules" => Some("--max-modules allows more"),
         "Eval.StepLimit" => Some("--max-steps allows more"),
-        "Unsupported" => Some("`wesl link` takes the whole language"),
         "Eval.MissingResource" => Some("the file of --bindings binds it"),
         "Eval.MissingBuiltinInput" | "Eval.MissingUserInput" => {
             Some("the file of --inputs hands it in")

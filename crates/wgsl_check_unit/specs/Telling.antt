@@ -4,7 +4,7 @@ use Rattle.std.specs.Option.{option_and_then, option_or}
 use Rattle.std.specs.declared.alloc.Global.{Global}
 use Rattle.wgsl_declarations.specs.Tree.{Decl, UnitTree}
 use Rattle.wgsl_declarations.specs.Print.{unit_text}
-use Rattle.wgsl_nodes_in_order.specs.Nodes.{Node, in_decl, in_optional_decl}
+use Rattle.wgsl_nodes_in_order.specs.Nodes.{Node, in_decl, in_optional_decl, in_directives}
 use Rattle.wgsl_derivable.specs.Placed.{holding}
 use Rattle.wgsl_derivable.specs.Alone.{alone}
 use Rattle.wgsl_derivable.specs.Derivable.{SaysTree, IsDerivable}
@@ -12,16 +12,16 @@ use Rattle.wgsl_check_unit.specs.Names.{node_name, decl_name}
 use Rattle.wgsl_check_unit.specs.declared.error.Unprintable.{Unprintable}
 use Rattle.wgsl_check_unit.specs.declared.error.Unprintable.TheVariants as refusal
 
--- Of the first node that no text derives this is the name; where that has none, or there is no such node, it is the name of the whole
--- declaration. The nodes stand in the order in which they end, so one derives each part of the node that is told.
-pub data IsNamed (whole : Option (List ℕ)) : List Node → Option (List ℕ) → Type 0 where
-  whole_is : IsNamed whole [] whole
-  node_is : {n : Node} {ns : List Node} → (IsDerivable (alone (holding n)) → ⊥) → IsNamed whole (n ∷ ns) (option_or (node_name n) whole)
-  further : {n : Node} {ns : List Node} {name : Option (List ℕ)} → IsDerivable (alone (holding n)) → IsNamed whole ns name → IsNamed whole (n ∷ ns) name
+-- Of the first node that no text derives this is the name, where that has none its owner's; where there is no such node, it is what is told of
+-- the rest. The nodes stand in the order in which they end, so one derives each part of the node that is told.
+pub data IsNamed (owner rest : Option (List ℕ)) : List Node → Option (List ℕ) → Type 0 where
+  rest_is : IsNamed owner rest [] rest
+  node_is : {n : Node} {ns : List Node} → (IsDerivable (alone (holding n)) → ⊥) → IsNamed owner rest (n ∷ ns) (option_or (node_name n) owner)
+  further : {n : Node} {ns : List Node} {name : Option (List ℕ)} → IsDerivable (alone (holding n)) → IsNamed owner rest ns name → IsNamed owner rest (n ∷ ns) name
 
 -- This is told of what may be a declaration: nothing, where it is none.
 abbrev pub IsToldIn : Option Decl → Option (List ℕ) → Type 0
-IsToldIn o name = IsNamed (option_and_then decl_name o) (in_optional_decl o) name
+IsToldIn o name = IsNamed (option_and_then decl_name o) (option_and_then decl_name o) (in_optional_decl o) name
 
 -- In the first declaration that no text derives, this is the name of the first node that no text derives; none, where there is no such
 -- declaration.
@@ -30,11 +30,15 @@ pub data IsTold : List Decl → Option (List ℕ) → Type 0 where
   here : {d : Decl} {ds : List Decl} {name : Option (List ℕ)} → (IsDerivable (alone d) → ⊥) → IsToldIn (Some d) name → IsTold (d ∷ ds) name
   later : {d : Decl} {ds : List Decl} {name : Option (List ℕ)} → IsDerivable (alone d) → IsTold ds name → IsTold (d ∷ ds) name
 
+-- This is told of a module: of the attributes of its directives, which no declaration owns, else of its declarations.
+abbrev pub IsToldOf : UnitTree → Option (List ℕ) → Type 0
+IsToldOf u name = (rest : Option (List ℕ)) × IsTold u.declarations rest × IsNamed None rest (in_directives u.directives) name
+
 -- ---- what calls say
 
 -- No text derives the module, and this is told.
 abbrev pub IsRefused : UnitTree → Unprintable → Type 0
-IsRefused u (refusal.Node name) = (IsDerivable u → ⊥) × IsTold u.declarations name
+IsRefused u (refusal.Node name) = (IsDerivable u → ⊥) × IsToldOf u name
 IsRefused u (refusal.GaveUp r) = Unit
 
 abbrev pub Checks : UnitTree → Result Unit Unprintable → Type 0

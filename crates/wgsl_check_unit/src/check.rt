@@ -6,7 +6,7 @@ ghost use Rattle.wgsl_derivable.specs.Derivable.{IsDerivable};
 ghost use Rattle.wgsl_check_unit.specs.Telling.{IsRefused, Checks, Prints};
 
 use crate::error::Unprintable;
-use crate::told::told;
+use crate::told::told_of;
 use std::alloc::Global;
 use wgsl_declarations::TranslationUnit;
 use wgsl_derivable::{is_derivable, print_derivable};
@@ -16,7 +16,7 @@ fn refusal(alloc: Global, unit: &TranslationUnit) -> Unprintable
     requires { IsDerivable (unit_tree unit.now) → ⊥ }
     ensures { IsRefused (unit_tree unit.now) result }
 {
-    match told(alloc, unit.global_declarations.as_slice()) {
+    match told_of(alloc, unit) {
         Ok(name) => Unprintable::Node(name),
         Err(refusal) => Unprintable::GaveUp(refusal),
     }
@@ -37,7 +37,8 @@ pub fn print_checked(alloc: Global, unit: &mut TranslationUnit) -> Result<String
 /// Whether some text derives a module, that is, whether some text is a module with the same tree.
 ///
 /// Where none is, it names the first node that no text derives though one derives each of its parts, in the order of the text. Nodes are
-/// the attributes, expressions, types, statements, members and parameters of declarations, and the declarations themselves. Declarations
+/// the attributes of directives and what is in them, the attributes, expressions, types, statements, members and parameters of declarations,
+/// and the declarations themselves. Declarations
 /// (local ones too), members, parameters and types have names; a callee and any other name in an expression is a type. What has none is
 /// told by the declaration of the module that holds it.
 pub fn check_unit(alloc: Global, unit: &TranslationUnit) -> Result<(), Unprintable>

@@ -39,13 +39,13 @@ fn node_name<'a>(node: NodeRef<'a>) -> Option<&'a str>
     }
 }
 
-/// A name, or the whole's.
-fn either<'a>(name: Option<&'a str>, whole: Option<&'a str>) -> Option<&'a str>
-    ensures { option_copied result ≡ option_or (option_copied name.entry) (option_copied whole.entry) }
+/// A name, or the owner's.
+fn either<'a>(name: Option<&'a str>, owner: Option<&'a str>) -> Option<&'a str>
+    ensures { option_copied result ≡ option_or (option_copied name.entry) (option_copied owner.entry) }
 {
     match name {
         Some(name) => Some(name),
-        None => whole,
+        None => owner,
     }
 }
 
@@ -59,18 +59,19 @@ fn copied(alloc: Global, name: Option<&str>) -> Result<Option<Text>, Refusal>
     }
 }
 
-/// The name of the first node that no text derives, else the whole's.
+/// The name of the first node that no text derives, where it has none the owner's; where there is no such node, the rest's.
 pub(crate) fn named(
     alloc: Global,
     nodes: &[NodeRef],
-    whole: Option<&str>,
+    owner: Option<&str>,
+    rest: Option<&str>,
 ) -> Result<Option<Text>, Refusal>
-    ensures { IfOk result (λ name. IsNamed (option_copied whole.entry) (found.nodes nodes.now) name) }
+    ensures { IfOk result (λ name. IsNamed (option_copied owner.entry) (option_copied rest.entry) (found.nodes nodes.now) name) }
 {
     for node in nodes {
         if !is_node_derivable(alloc, *node)? {
-            return copied(alloc, either(node_name(*node), whole));
+            return copied(alloc, either(node_name(*node), owner));
         }
     }
-    copied(alloc, whole)
+    copied(alloc, rest)
 }

@@ -2,17 +2,17 @@
 
 ghost use Rattle.std.specs.Prelude.{◌≡◌, IfOk};
 ghost use Rattle.std.specs.Option.{option_copied, option_and_then};
-ghost use Rattle.wgsl_declarations.specs.View.{declaration_tree, declarations_tree};
+ghost use Rattle.wgsl_declarations.specs.View.{declaration_tree, declarations_tree, unit_tree};
 ghost use Rattle.wgsl_check_unit.specs.Names.{decl_name};
-ghost use Rattle.wgsl_check_unit.specs.Telling.{IsTold, IsToldIn};
+ghost use Rattle.wgsl_check_unit.specs.Telling.{IsTold, IsToldIn, IsToldOf};
 
 use crate::named::named;
 use std::alloc::Global;
-use wgsl_declarations::{GlobalDeclaration, GlobalDeclarationNode};
+use wgsl_declarations::{GlobalDeclaration, GlobalDeclarationNode, TranslationUnit};
 use wgsl_derivable::is_declaration_derivable;
 use wgsl_error::Refusal;
 use wgsl_items::Text;
-use wgsl_nodes_in_order::find_nodes;
+use wgsl_nodes_in_order::{find_directive_nodes, find_nodes};
 
 /// The name of a declaration.
 fn name(declaration: &GlobalDeclaration) -> Option<&str>
@@ -33,14 +33,12 @@ fn told_in(alloc: Global, declaration: &GlobalDeclaration) -> Result<Option<Text
     ensures { IfOk result (IsToldIn (declaration_tree declaration.now)) }
 {
     let nodes = find_nodes(alloc, declaration)?;
-    named(alloc, nodes.as_slice(), name(declaration))
+    let name = name(declaration);
+    named(alloc, nodes.as_slice(), name, name)
 }
 
 /// The name of the first node that no text derives, in the first declaration that no text derives.
-pub(crate) fn told(
-    alloc: Global,
-    declarations: &[GlobalDeclarationNode],
-) -> Result<Option<Text>, Refusal>
+fn told(alloc: Global, declarations: &[GlobalDeclarationNode]) -> Result<Option<Text>, Refusal>
     ensures { IfOk result (λ name. IsTold (declarations_tree declarations.now) name) }
 {
     for declaration in declarations {
@@ -49,4 +47,23 @@ pub(crate) fn told(
         }
     }
     Ok(None)
+}
+
+/// A name, lent.
+fn lent(name: &Option<Text>) -> Option<&str>
+    ensures { option_copied result ≡ name.now }
+{
+    match name {
+        Some(name) => Some(name.as_str()),
+        None => None,
+    }
+}
+
+/// The name of the first node that no text derives: in the attributes of directives, else in the first declaration that no text derives.
+pub(crate) fn told_of(alloc: Global, unit: &TranslationUnit) -> Result<Option<Text>, Refusal>
+    ensures { IfOk result (IsToldOf (unit_tree unit.now)) }
+{
+    let rest = told(alloc, unit.global_declarations.as_slice())?;
+    let nodes = find_directive_nodes(alloc, unit.global_directives.as_slice())?;
+    named(alloc, nodes.as_slice(), None, lent(&rest))
 }

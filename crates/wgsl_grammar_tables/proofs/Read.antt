@@ -134,7 +134,7 @@ left_is p lt = eqb-true (slice_index LEFT p) (listed.rule p).left (each_below RU
 
 pub left_beyond : (p : ℕ) → RULE_COUNT ≤ p → 0 ≡ (listed.rule p).left
 unfolding listed
-left_beyond p le = sym (ap (λ z. if z then number_at (groups 20 LEFT) p else 0) (le-ltb p RULE_COUNT le))
+left_beyond p le = sym (ap (λ z. if z then number_at (groups 22 LEFT) p else 0) (le-ltb p RULE_COUNT le))
 
 -- ---- which rule is reduced by
 

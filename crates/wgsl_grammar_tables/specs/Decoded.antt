@@ -79,11 +79,11 @@ listed_as lefts rights steps finals kernels corners ways rules follow first = re
   order = ORDER;
 }
 
--- 20 groups of 32 hold every state, and so every rule and nonterminal
+-- 22 groups of 32 hold every state, and so every rule and nonterminal
 abbrev pub grouped : {X : Type 0} → List ℕ → List X → List (List (List X))
-grouped starts xs = groups 20 (rows starts xs)
+grouped starts xs = groups 22 (rows starts xs)
 
 unfoldable pub listed : Listed
 listed =
-    listed_as (groups 20 LEFT) (grouped RIGHT_STARTS (map symbol_of RIGHT)) (grouped STEPS_STARTS (map step_of STEPS)) (grouped FINALS_STARTS FINALS) (grouped KERNEL_STARTS (map item_of KERNEL))
+    listed_as (groups 22 LEFT) (grouped RIGHT_STARTS (map symbol_of RIGHT)) (grouped STEPS_STARTS (map step_of STEPS)) (grouped FINALS_STARTS FINALS) (grouped KERNEL_STARTS (map item_of KERNEL))
     (grouped CORNERS_STARTS CORNERS) (grouped WAYS_STARTS WAYS) (grouped RULES_STARTS RULES) (grouped FOLLOW_STARTS FOLLOW) (grouped FIRST_STARTS FIRST)

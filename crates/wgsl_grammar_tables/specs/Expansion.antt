@@ -9,7 +9,7 @@ use Rattle.wgsl_parts.specs.declared.label.Label.{Label}
 use Rattle.wgsl_parts.specs.declared.label.Label.TheVariants as l
 use Rattle.wgsl_grammar_tables.specs.Classes.{class_of, fixed_class}
 use Rattle.wgsl_grammar_tables.specs.Nonterminals.{Nonterminal, number}
-use Rattle.wgsl_grammar_tables.specs.Grammar.{Piece, mark, truth, kind, may_mark, word, literal, reserved, opens, closes, one, may, some, any, listed, any_listed, Line, repeated, separated, begun, lines}
+use Rattle.wgsl_grammar_tables.specs.Grammar.{Piece, mark, truth, kind, may_mark, word, literal, reserved, opens, closes, one, may, some, any, listed, any_listed, lacking, Line, repeated, separated, begun, lines}
 
 -- A rule, what it makes, and the pattern of its parts: 0 for one that is absent, 1 for a symbol that is none, 2 for one that is.
 pub record Made : Type 0 where
@@ -64,6 +64,7 @@ choices (some n) = stands (phrase (in_a_row n)) true ∷ []
 choices (any n) = absent true ∷ stands (phrase (in_a_row n)) true ∷ []
 choices (listed n) = stands (phrase (in_a_list n)) true ∷ []
 choices (any_listed n) = absent true ∷ stands (phrase (in_a_list n)) true ∷ []
+choices lacking = absent true ∷ []
 
 abbrev pub with_part : Bool → List Symbol → ℕ → List ℕ → List ℕ
 with_part false [] k parts = parts

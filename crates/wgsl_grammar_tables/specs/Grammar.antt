@@ -21,7 +21,7 @@ use Rattle.wgsl_grammar_tables.specs.Nonterminals as n
 use Rattle.wgsl_grammar_tables.specs.Nonterminals.{Nonterminal}
 
 -- A token: a mark that stands there, one that is a literal, one that is a kind of declaration, one that may be absent, a word, a literal, a reserved word, or what opens and closes a template list.
--- Or phrases: one, one or none, some in a row, those or none, a list with commas, one that may be absent.
+-- Or phrases: one, one or none, some in a row, those or none, a list with commas, one that may be absent. Or a part that is always absent.
 pub data Piece : Type 0 where
   mark : Fixed → Piece
   truth : Fixed → Piece
@@ -38,6 +38,7 @@ pub data Piece : Type 0 where
   any : Nonterminal → Piece
   listed : Nonterminal → Piece
   any_listed : Nonterminal → Piece
+  lacking : Piece
 
 pub record Line : Type 0 where
   pub label : Label
@@ -160,7 +161,12 @@ lines =
     row (l.Attribute (attr.Keyword f.Super)) n.Word (mark f.Super ∷ []) ∷
     row (l.Attribute (attr.Keyword f.As)) n.Word (mark f.As ∷ []) ∷
     row (l.Attribute attr.Arguments) n.Arguments (mark f.ParenLeft ∷ any_listed n.Expression ∷ mark f.ParenRight ∷ []) ∷
-    row (l.Attribute attr.Attribute) n.Attribute (mark f.Attr ∷ one n.Word ∷ may n.Arguments ∷ []) ∷
+    row (l.Attribute attr.Attribute) n.Attribute (mark f.Attr ∷ one n.Word ∷ lacking ∷ []) ∷
+    row l.Pass n.Attribute (one n.ClosedAttribute ∷ []) ∷
+    -- one with parentheses, and some of which the last has them: before what begins with a parenthesis there stand no others
+    row (l.Attribute attr.Attribute) n.ClosedAttribute (mark f.Attr ∷ one n.Word ∷ one n.Arguments ∷ []) ∷
+    row l.First n.ClosedAttributes (one n.ClosedAttribute ∷ []) ∷
+    row l.More n.ClosedAttributes (some n.Attribute ∷ one n.ClosedAttribute ∷ []) ∷
     -- declared values
     row (l.Attribute attr.VarKind) n.VarHead (mark f.Var ∷ []) ∷
     row (l.Attribute attr.VarIn) n.VarHead (mark f.Var ∷ opens ∷ listed n.Item ∷ closes ∷ []) ∷
@@ -176,30 +182,47 @@ lines =
     row l.Pass n.Local (one n.Const ∷ []) ∷
     row l.Pass n.Local (one n.Let ∷ []) ∷
     row (l.Value val.Assertion) n.Assertion (mark f.ConstAssert ∷ one n.Expression ∷ []) ∷
-    -- what is assigned to, and what changes it
-    row (l.Expression (exp.Unary u.Indirection)) n.Place (mark f.Star ∷ one n.Place ∷ []) ∷
-    row (l.Expression (exp.Unary u.AddressOf)) n.Place (mark f.And ∷ one n.Place ∷ []) ∷
-    row l.Pass n.Place (one n.Target ∷ []) ∷
+    -- what is assigned to, and what changes it: what begins with no parenthesis, and what does
+    row (l.Expression (exp.Unary u.Indirection)) n.OpenPlace (mark f.Star ∷ one n.Place ∷ []) ∷
+    row (l.Expression (exp.Unary u.AddressOf)) n.OpenPlace (mark f.And ∷ one n.Place ∷ []) ∷
+    row l.Pass n.OpenPlace (one n.Target ∷ []) ∷
     row (l.Expression exp.PlaceName) n.Target (one n.Name ∷ []) ∷
-    row (l.Expression exp.Parenthesized) n.Target (mark f.ParenLeft ∷ one n.Place ∷ mark f.ParenRight ∷ []) ∷
     row (l.Expression exp.Component) n.Target (one n.Target ∷ mark f.Period ∷ word ∷ []) ∷
     row (l.Expression exp.Indexed) n.Target (one n.Target ∷ mark f.BracketLeft ∷ one n.Expression ∷ mark f.BracketRight ∷ []) ∷
+    row (l.Expression exp.Parenthesized) n.EnclosedPlace (mark f.ParenLeft ∷ one n.Place ∷ mark f.ParenRight ∷ []) ∷
+    row (l.Expression exp.Component) n.EnclosedPlace (one n.EnclosedPlace ∷ mark f.Period ∷ word ∷ []) ∷
+    row (l.Expression exp.Indexed) n.EnclosedPlace (one n.EnclosedPlace ∷ mark f.BracketLeft ∷ one n.Expression ∷ mark f.BracketRight ∷ []) ∷
+    row l.Pass n.Place (one n.OpenPlace ∷ []) ∷
+    row l.Pass n.Place (one n.EnclosedPlace ∷ []) ∷
     row (l.Expression exp.Underscore) n.Phony (mark f.Underscore ∷ []) ∷
     row (l.Plain plain.CalledStatement) n.Update (one n.Call ∷ []) ∷
-    row (l.Plain (plain.Assignment a.Equal)) n.Update (one n.Place ∷ mark f.Equal ∷ one n.Expression ∷ []) ∷
-    row (l.Plain (plain.Assignment a.PlusEqual)) n.Update (one n.Place ∷ mark f.PlusEqual ∷ one n.Expression ∷ []) ∷
-    row (l.Plain (plain.Assignment a.MinusEqual)) n.Update (one n.Place ∷ mark f.MinusEqual ∷ one n.Expression ∷ []) ∷
-    row (l.Plain (plain.Assignment a.TimesEqual)) n.Update (one n.Place ∷ mark f.TimesEqual ∷ one n.Expression ∷ []) ∷
-    row (l.Plain (plain.Assignment a.DivisionEqual)) n.Update (one n.Place ∷ mark f.DivisionEqual ∷ one n.Expression ∷ []) ∷
-    row (l.Plain (plain.Assignment a.ModuloEqual)) n.Update (one n.Place ∷ mark f.ModuloEqual ∷ one n.Expression ∷ []) ∷
-    row (l.Plain (plain.Assignment a.AndEqual)) n.Update (one n.Place ∷ mark f.AndEqual ∷ one n.Expression ∷ []) ∷
-    row (l.Plain (plain.Assignment a.OrEqual)) n.Update (one n.Place ∷ mark f.OrEqual ∷ one n.Expression ∷ []) ∷
-    row (l.Plain (plain.Assignment a.XorEqual)) n.Update (one n.Place ∷ mark f.XorEqual ∷ one n.Expression ∷ []) ∷
-    row (l.Plain (plain.Assignment a.ShiftRightAssign)) n.Update (one n.Place ∷ mark f.ShiftRightAssign ∷ one n.Expression ∷ []) ∷
-    row (l.Plain (plain.Assignment a.ShiftLeftAssign)) n.Update (one n.Place ∷ mark f.ShiftLeftAssign ∷ one n.Expression ∷ []) ∷
+    row (l.Plain (plain.Assignment a.Equal)) n.Update (one n.OpenPlace ∷ mark f.Equal ∷ one n.Expression ∷ []) ∷
+    row (l.Plain (plain.Assignment a.PlusEqual)) n.Update (one n.OpenPlace ∷ mark f.PlusEqual ∷ one n.Expression ∷ []) ∷
+    row (l.Plain (plain.Assignment a.MinusEqual)) n.Update (one n.OpenPlace ∷ mark f.MinusEqual ∷ one n.Expression ∷ []) ∷
+    row (l.Plain (plain.Assignment a.TimesEqual)) n.Update (one n.OpenPlace ∷ mark f.TimesEqual ∷ one n.Expression ∷ []) ∷
+    row (l.Plain (plain.Assignment a.DivisionEqual)) n.Update (one n.OpenPlace ∷ mark f.DivisionEqual ∷ one n.Expression ∷ []) ∷
+    row (l.Plain (plain.Assignment a.ModuloEqual)) n.Update (one n.OpenPlace ∷ mark f.ModuloEqual ∷ one n.Expression ∷ []) ∷
+    row (l.Plain (plain.Assignment a.AndEqual)) n.Update (one n.OpenPlace ∷ mark f.AndEqual ∷ one n.Expression ∷ []) ∷
+    row (l.Plain (plain.Assignment a.OrEqual)) n.Update (one n.OpenPlace ∷ mark f.OrEqual ∷ one n.Expression ∷ []) ∷
+    row (l.Plain (plain.Assignment a.XorEqual)) n.Update (one n.OpenPlace ∷ mark f.XorEqual ∷ one n.Expression ∷ []) ∷
+    row (l.Plain (plain.Assignment a.ShiftRightAssign)) n.Update (one n.OpenPlace ∷ mark f.ShiftRightAssign ∷ one n.Expression ∷ []) ∷
+    row (l.Plain (plain.Assignment a.ShiftLeftAssign)) n.Update (one n.OpenPlace ∷ mark f.ShiftLeftAssign ∷ one n.Expression ∷ []) ∷
     row (l.Plain (plain.Assignment a.Equal)) n.Update (one n.Phony ∷ mark f.Equal ∷ one n.Expression ∷ []) ∷
-    row (l.Plain plain.Increment) n.Update (one n.Place ∷ mark f.PlusPlus ∷ []) ∷
-    row (l.Plain plain.Decrement) n.Update (one n.Place ∷ mark f.MinusMinus ∷ []) ∷
+    row (l.Plain plain.Increment) n.Update (one n.OpenPlace ∷ mark f.PlusPlus ∷ []) ∷
+    row (l.Plain plain.Decrement) n.Update (one n.OpenPlace ∷ mark f.MinusMinus ∷ []) ∷
+    row (l.Plain (plain.Assignment a.Equal)) n.EnclosedUpdate (one n.EnclosedPlace ∷ mark f.Equal ∷ one n.Expression ∷ []) ∷
+    row (l.Plain (plain.Assignment a.PlusEqual)) n.EnclosedUpdate (one n.EnclosedPlace ∷ mark f.PlusEqual ∷ one n.Expression ∷ []) ∷
+    row (l.Plain (plain.Assignment a.MinusEqual)) n.EnclosedUpdate (one n.EnclosedPlace ∷ mark f.MinusEqual ∷ one n.Expression ∷ []) ∷
+    row (l.Plain (plain.Assignment a.TimesEqual)) n.EnclosedUpdate (one n.EnclosedPlace ∷ mark f.TimesEqual ∷ one n.Expression ∷ []) ∷
+    row (l.Plain (plain.Assignment a.DivisionEqual)) n.EnclosedUpdate (one n.EnclosedPlace ∷ mark f.DivisionEqual ∷ one n.Expression ∷ []) ∷
+    row (l.Plain (plain.Assignment a.ModuloEqual)) n.EnclosedUpdate (one n.EnclosedPlace ∷ mark f.ModuloEqual ∷ one n.Expression ∷ []) ∷
+    row (l.Plain (plain.Assignment a.AndEqual)) n.EnclosedUpdate (one n.EnclosedPlace ∷ mark f.AndEqual ∷ one n.Expression ∷ []) ∷
+    row (l.Plain (plain.Assignment a.OrEqual)) n.EnclosedUpdate (one n.EnclosedPlace ∷ mark f.OrEqual ∷ one n.Expression ∷ []) ∷
+    row (l.Plain (plain.Assignment a.XorEqual)) n.EnclosedUpdate (one n.EnclosedPlace ∷ mark f.XorEqual ∷ one n.Expression ∷ []) ∷
+    row (l.Plain (plain.Assignment a.ShiftRightAssign)) n.EnclosedUpdate (one n.EnclosedPlace ∷ mark f.ShiftRightAssign ∷ one n.Expression ∷ []) ∷
+    row (l.Plain (plain.Assignment a.ShiftLeftAssign)) n.EnclosedUpdate (one n.EnclosedPlace ∷ mark f.ShiftLeftAssign ∷ one n.Expression ∷ []) ∷
+    row (l.Plain plain.Increment) n.EnclosedUpdate (one n.EnclosedPlace ∷ mark f.PlusPlus ∷ []) ∷
+    row (l.Plain plain.Decrement) n.EnclosedUpdate (one n.EnclosedPlace ∷ mark f.MinusMinus ∷ []) ∷
     -- statements
     row (l.Plain plain.Break) n.Plain (mark f.Break ∷ []) ∷
     row (l.Plain plain.Continue) n.Plain (mark f.Continue ∷ []) ∷
@@ -210,10 +233,13 @@ lines =
     row (l.Plain plain.Asserted) n.Plain (one n.Assertion ∷ []) ∷
     row (l.Plain plain.Local) n.First (one n.Local ∷ []) ∷
     row l.Pass n.First (one n.Update ∷ []) ∷
+    row l.Pass n.First (one n.EnclosedUpdate ∷ []) ∷
     row (l.Statement stm.Header) n.Initializer (one n.First ∷ []) ∷
     row (l.Statement stm.Header) n.Next (one n.Update ∷ []) ∷
+    row (l.Statement stm.Header) n.Next (one n.EnclosedUpdate ∷ []) ∷
     row (l.Statement stm.VoidStatement) n.Statement (mark f.Semicolon ∷ []) ∷
-    row (l.Statement stm.PlainStatement) n.Statement (one n.Plain ∷ mark f.Semicolon ∷ []) ∷
+    row (l.Statement stm.PlainStatement) n.Statement (any n.Attribute ∷ one n.Plain ∷ mark f.Semicolon ∷ []) ∷
+    row (l.Statement stm.PlainStatement) n.Statement (may n.ClosedAttributes ∷ one n.EnclosedUpdate ∷ mark f.Semicolon ∷ []) ∷
     row (l.Statement stm.Compound) n.Statement (one n.Block ∷ []) ∷
     row (l.Statement stm.If) n.Statement (any n.Attribute ∷ mark f.If ∷ one n.Expression ∷ one n.Block ∷ any n.ElseIf ∷ may n.Else ∷ []) ∷
     row (l.Clause part.ElseIf) n.ElseIf (mark f.Else ∷ mark f.If ∷ one n.Expression ∷ one n.Block ∷ []) ∷
@@ -245,18 +271,18 @@ lines =
     row (l.Directive dir.Rule) n.Rule (word ∷ []) ∷
     row (l.Directive dir.RuleOf) n.Rule (word ∷ mark f.Period ∷ word ∷ []) ∷
     row (l.Directive dir.Diagnostic) n.Control (mark f.Diagnostic ∷ mark f.ParenLeft ∷ word ∷ mark f.Comma ∷ one n.Rule ∷ may_mark f.Comma ∷ mark f.ParenRight ∷ []) ∷
-    row l.Pass n.Directive (one n.Control ∷ mark f.Semicolon ∷ []) ∷
+    row (l.Directive dir.Control) n.Directive (any n.Attribute ∷ one n.Control ∷ mark f.Semicolon ∷ []) ∷
     row (l.Directive dir.Extension) n.Extension (word ∷ []) ∷
-    row (l.Directive dir.Enable) n.Directive (mark f.Enable ∷ listed n.Extension ∷ mark f.Semicolon ∷ []) ∷
-    row (l.Directive dir.Requires) n.Directive (mark f.Requires ∷ listed n.Extension ∷ mark f.Semicolon ∷ []) ∷
+    row (l.Directive dir.Enable) n.Directive (any n.Attribute ∷ mark f.Enable ∷ listed n.Extension ∷ mark f.Semicolon ∷ []) ∷
+    row (l.Directive dir.Requires) n.Directive (any n.Attribute ∷ mark f.Requires ∷ listed n.Extension ∷ mark f.Semicolon ∷ []) ∷
     -- declarations of a module
     row (l.Declaration decl.VoidDeclaration) n.Declaration (mark f.Semicolon ∷ []) ∷
     row (l.Declaration decl.Global) n.Declaration (any n.Attribute ∷ one n.Var ∷ mark f.Semicolon ∷ []) ∷
     row (l.Declaration decl.Global) n.Declaration (any n.Attribute ∷ one n.Override ∷ mark f.Semicolon ∷ []) ∷
-    row (l.Declaration decl.GlobalConst) n.Declaration (one n.Const ∷ mark f.Semicolon ∷ []) ∷
-    row (l.Declaration decl.Alias) n.Declaration (mark f.Alias ∷ word ∷ mark f.Equal ∷ one n.TypeExpression ∷ mark f.Semicolon ∷ []) ∷
-    row (l.Declaration decl.GlobalAssertion) n.Declaration (one n.Assertion ∷ mark f.Semicolon ∷ []) ∷
-    row (l.Declaration decl.Struct) n.Declaration (mark f.Struct ∷ word ∷ mark f.BraceLeft ∷ listed n.Member ∷ mark f.BraceRight ∷ []) ∷
+    row (l.Declaration decl.Global) n.Declaration (any n.Attribute ∷ one n.Const ∷ mark f.Semicolon ∷ []) ∷
+    row (l.Declaration decl.Alias) n.Declaration (any n.Attribute ∷ mark f.Alias ∷ word ∷ mark f.Equal ∷ one n.TypeExpression ∷ mark f.Semicolon ∷ []) ∷
+    row (l.Declaration decl.GlobalAssertion) n.Declaration (any n.Attribute ∷ one n.Assertion ∷ mark f.Semicolon ∷ []) ∷
+    row (l.Declaration decl.Struct) n.Declaration (any n.Attribute ∷ mark f.Struct ∷ word ∷ mark f.BraceLeft ∷ listed n.Member ∷ mark f.BraceRight ∷ []) ∷
     row (l.Declaration decl.Member) n.Member (any n.Attribute ∷ word ∷ mark f.Colon ∷ one n.TypeExpression ∷ []) ∷
     row (l.Declaration decl.Function) n.Declaration (any n.Attribute ∷ mark f.Fn ∷ word ∷ mark f.ParenLeft ∷ any_listed n.Parameter ∷ mark f.ParenRight ∷ may n.Result ∷ one n.Block ∷ []) ∷
     row (l.Declaration decl.Parameter) n.Parameter (any n.Attribute ∷ word ∷ mark f.Colon ∷ one n.TypeExpression ∷ []) ∷

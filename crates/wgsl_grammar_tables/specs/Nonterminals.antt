@@ -26,6 +26,8 @@ pub data Nonterminal : Type 0 where
   Word : Nonterminal
   Arguments : Nonterminal
   Attribute : Nonterminal
+  ClosedAttribute : Nonterminal
+  ClosedAttributes : Nonterminal
   VarHead : Nonterminal
   Typed : Nonterminal
   Var : Nonterminal
@@ -34,10 +36,13 @@ pub data Nonterminal : Type 0 where
   Override : Nonterminal
   Local : Nonterminal
   Assertion : Nonterminal
-  Place : Nonterminal
+  OpenPlace : Nonterminal
   Target : Nonterminal
+  EnclosedPlace : Nonterminal
+  Place : Nonterminal
   Phony : Nonterminal
   Update : Nonterminal
+  EnclosedUpdate : Nonterminal
   Plain : Nonterminal
   First : Nonterminal
   Initializer : Nonterminal
@@ -91,42 +96,47 @@ number Expression = 20
 number Word = 21
 number Arguments = 22
 number Attribute = 23
-number VarHead = 24
-number Typed = 25
-number Var = 26
-number Const = 27
-number Let = 28
-number Override = 29
-number Local = 30
-number Assertion = 31
-number Place = 32
-number Target = 33
-number Phony = 34
-number Update = 35
-number Plain = 36
-number First = 37
-number Initializer = 38
-number Next = 39
-number Statement = 40
-number ElseIf = 41
-number Else = 42
-number Block = 43
-number Selector = 44
-number Clause = 45
-number Continuing = 46
-number BreakIf = 47
-number Source = 48
-number Path = 49
-number Content = 50
-number Tree = 51
-number Import = 52
-number Rule = 53
-number Control = 54
-number Directive = 55
-number Extension = 56
-number Declaration = 57
-number Member = 58
-number Parameter = 59
-number Result = 60
-number Module = 61
-number Kind = 62
+number ClosedAttribute = 24
+number ClosedAttributes = 25
+number VarHead = 26
+number Typed = 27
+number Var = 28
+number Const = 29
+number Let = 30
+number Override = 31
+number Local = 32
+number Assertion = 33
+number OpenPlace = 34
+number Target = 35
+number EnclosedPlace = 36
+number Place = 37
+number Phony = 38
+number Update = 39
+number EnclosedUpdate = 40
+number Plain = 41
+number First = 42
+number Initializer = 43
+number Next = 44
+number Statement = 45
+number ElseIf = 46
+number Else = 47
+number Block = 48
+number Selector = 49
+number Clause = 50
+number Continuing = 51
+number BreakIf = 52
+number Source = 53
+number Path = 54
+number Content = 55
+number Tree = 56
+number Import = 57
+number Rule = 58
+number Control = 59
+number Directive = 60
+number Extension = 61
+number Declaration = 62
+number Member = 63
+number Parameter = 64
+number Result = 65
+number Module = 66
+number Kind = 67

@@ -4,6 +4,7 @@ use Rattle.wgsl_path.specs.declared.span.Span.{Span}
 use Rattle.wgsl_path.specs.declared.span.Spanned.{Spanned}
 use Rattle.wgsl_attributes.specs.declared.attribute.Attribute.{Attribute}
 use Rattle.wgsl_simple_statements.specs.declared.declaration.Declaration.{Declaration}
+use Rattle.wgsl_simple_statements.specs.declared.declaration.ConstAssert.{ConstAssert}
 use Rattle.wgsl_declarations.specs.declared.declaration.GlobalDeclaration.{GlobalDeclaration}
 use Rattle.wgsl_declarations.specs.declared.declaration.GlobalDeclaration.TheVariants as declaration
 use Rattle.wgsl_parts.specs.declared.part.Part.{Part}
@@ -27,20 +28,19 @@ abbrev pub global : Span → List Part → Part
 global s (attributes ∷ part.Declaration x ∷ []) = declaration_at s (declaration.Declaration (with_attributes (attributes_of attributes) x))
 global s _ = part.Absent
 
-abbrev pub global_const : Span → List Part → Part
-global_const s (part.Declaration x ∷ []) = declaration_at s (declaration.Declaration x)
-global_const s _ = part.Absent
-
 abbrev pub alias : Span → List Part → Part
-alias s (part.Ident x ∷ part.Type ty ∷ []) = declaration_at s (declaration.TypeAlias (record { attributes = []; ident = x; ty = ty }))
+alias s (attributes ∷ part.Ident x ∷ part.Type ty ∷ []) = declaration_at s (declaration.TypeAlias (record { attributes = attributes_of attributes; ident = x; ty = ty }))
 alias s _ = part.Absent
 
+abbrev pub asserted : List (Spanned Attribute) → ConstAssert → ConstAssert
+asserted attributes x = record { attributes = attributes; expression = x.expression }
+
 abbrev pub global_assertion : Span → List Part → Part
-global_assertion s (part.Assertion x ∷ []) = declaration_at s (declaration.ConstAssert x)
+global_assertion s (attributes ∷ part.Assertion x ∷ []) = declaration_at s (declaration.ConstAssert (asserted (attributes_of attributes) x))
 global_assertion s _ = part.Absent
 
 abbrev pub structure : Span → List Part → Part
-structure s (part.Ident x ∷ part.Members members ∷ []) = declaration_at s (declaration.Struct (record { attributes = []; ident = x; members = members }))
+structure s (attributes ∷ part.Ident x ∷ part.Members members ∷ []) = declaration_at s (declaration.Struct (record { attributes = attributes_of attributes; ident = x; members = members }))
 structure s _ = part.Absent
 
 abbrev pub member : Span → List Part → Part
@@ -78,7 +78,6 @@ whole_module _ = part.Absent
 abbrev pub make_declaration : DeclarationLabel → Span → List Part → Part
 make_declaration label.VoidDeclaration s parts = void_declaration s parts
 make_declaration label.Global s parts = global s parts
-make_declaration label.GlobalConst s parts = global_const s parts
 make_declaration label.Alias s parts = alias s parts
 make_declaration label.GlobalAssertion s parts = global_assertion s parts
 make_declaration label.Struct s parts = structure s parts

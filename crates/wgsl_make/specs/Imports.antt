@@ -8,6 +8,7 @@ use Rattle.wgsl_enumerations.specs.declared.words.DiagnosticSeverity.TheVariants
 use Rattle.wgsl_choices.specs.Choices.{severity_of}
 use Rattle.wgsl_imports.specs.declared.import.ImportContent.TheVariants as content
 use Rattle.wgsl_imports.specs.declared.directive.GlobalDirective.TheVariants as directive
+use Rattle.wgsl_nodes.specs.Directives.{directive_with}
 use Rattle.wgsl_parts.specs.declared.part.Part.{Part}
 use Rattle.wgsl_parts.specs.declared.part.Part.TheVariants as part
 use Rattle.wgsl_parts.specs.declared.label.ImportLabel.{ImportLabel}
@@ -101,18 +102,24 @@ abbrev pub diagnostic : List Part → Part
 diagnostic (part.Ident x ∷ part.Text rule ∷ []) = part.Directive (directive.Diagnostic (record { attributes = []; severity = severity_or_off x.name; rule_name = rule }))
 diagnostic _ = part.Absent
 
+-- behind these attributes
+abbrev pub control : List Part → Part
+control (attributes ∷ part.Directive x ∷ []) = part.Directive (directive_with x (attributes_of attributes))
+control _ = part.Absent
+
 abbrev pub enable : List Part → Part
-enable (part.Texts names ∷ []) = part.Directive (directive.Enable (record { attributes = []; extensions = names }))
+enable (attributes ∷ part.Texts names ∷ []) = part.Directive (directive.Enable (record { attributes = attributes_of attributes; extensions = names }))
 enable _ = part.Absent
 
 abbrev pub requires_extensions : List Part → Part
-requires_extensions (part.Texts names ∷ []) = part.Directive (directive.Requires (record { attributes = []; extensions = names }))
+requires_extensions (attributes ∷ part.Texts names ∷ []) = part.Directive (directive.Requires (record { attributes = attributes_of attributes; extensions = names }))
 requires_extensions _ = part.Absent
 
 abbrev pub make_directive : DirectiveLabel → List Part → Part
 make_directive labels.Rule parts = name parts
 make_directive labels.RuleOf parts = rule_of parts
 make_directive labels.Diagnostic parts = diagnostic parts
+make_directive labels.Control parts = control parts
 make_directive labels.Extension parts = name parts
 make_directive labels.Enable parts = enable parts
 make_directive labels.Requires parts = requires_extensions parts

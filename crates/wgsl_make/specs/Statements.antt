@@ -4,6 +4,7 @@ use Rattle.wgsl_path.specs.declared.span.Span.{Span}
 use Rattle.wgsl_simple_statements.specs.declared.statement.CaseSelector.TheVariants as selectors
 use Rattle.wgsl_statements.specs.declared.statement.Statement.{Statement}
 use Rattle.wgsl_statements.specs.declared.statement.Statement.TheVariants as statement
+use Rattle.wgsl_nodes.specs.Statements.{statement_with}
 use Rattle.wgsl_parts.specs.declared.part.Part.{Part}
 use Rattle.wgsl_parts.specs.declared.part.Part.TheVariants as part
 use Rattle.wgsl_parts.specs.declared.label.StatementLabel.{StatementLabel}
@@ -22,6 +23,11 @@ statement_at s x = part.Statement (record { node = x; span = s })
 abbrev pub placed : Span → List Part → Part
 placed s (part.Plain x ∷ []) = statement_at s x
 placed s _ = part.Absent
+
+-- and one behind these attributes
+abbrev pub attributed : Span → List Part → Part
+attributed s (attributes ∷ part.Plain x ∷ []) = statement_at s (statement_with x (attributes_of attributes))
+attributed s _ = part.Absent
 
 abbrev pub void_statement : Span → List Part → Part
 void_statement s [] = statement_at s statement.Void
@@ -79,7 +85,7 @@ while_statement s _ = part.Absent
 abbrev pub make_statement : StatementLabel → Span → List Part → Part
 make_statement label.Header s parts = placed s parts
 make_statement label.VoidStatement s parts = void_statement s parts
-make_statement label.PlainStatement s parts = placed s parts
+make_statement label.PlainStatement s parts = attributed s parts
 make_statement label.Compound s parts = compound s parts
 make_statement label.If s parts = if_statement s parts
 make_statement label.Switch s parts = switch_statement s parts

@@ -10,13 +10,13 @@ use wgsl_declarations::{
     FormalParameter, Function, GlobalDeclaration, Struct, StructMember, TranslationUnit, TypeAlias,
 };
 use wgsl_error::Refusal;
-use wgsl_items::{Boxed, Items};
+use wgsl_items::Boxed;
 use wgsl_parts::take::{
     assertion, attributes, block, both, declaration, end, ended, ident, three, ty,
 };
 use wgsl_parts::{DeclarationLabel, FunctionResult, Held, Part, Stack};
 use wgsl_path::{Span, Spanned};
-use wgsl_simple_statements::Declaration;
+use wgsl_simple_statements::{ConstAssert, Declaration};
 
 fn with_attributes(attributes: Attributes, declaration: Declaration) -> Declaration
     ensures { result ≡ making.with_attributes attributes declaration }
@@ -34,6 +34,19 @@ fn with_attributes(attributes: Attributes, declaration: Declaration) -> Declarat
         ident,
         ty,
         initializer,
+    }
+}
+
+fn asserted(attributes: Attributes, assertion: ConstAssert) -> ConstAssert
+    ensures { result ≡ making.asserted attributes assertion }
+{
+    let ConstAssert {
+        attributes: _none,
+        expression,
+    } = assertion;
+    ConstAssert {
+        attributes,
+        expression,
     }
 }
 
@@ -90,11 +103,12 @@ fn make_inner(
 {
     match label {
         DeclarationLabel::Struct => {
+            let attributes = attributes(alloc, parts);
             let ident = ident(parts);
             let members = members(parts);
-            let (ident, members) = ended(both(ident, members), parts)?;
+            let (attributes, ident, members) = ended(three(attributes, ident, members), parts)?;
             let structure = GlobalDeclaration::Struct(Struct {
-                attributes: Items::new(alloc),
+                attributes,
                 ident,
                 members,
             });
@@ -157,24 +171,23 @@ pub fn make_declaration(
             let declaration = GlobalDeclaration::Declaration(declaration);
             Ok(Part::Global(Spanned::new(alloc, declaration, span)?))
         }
-        DeclarationLabel::GlobalConst => {
-            let declaration = ended(declaration(parts), parts)?;
-            let declaration = GlobalDeclaration::Declaration(declaration.into_inner());
-            Ok(Part::Global(Spanned::new(alloc, declaration, span)?))
-        }
         DeclarationLabel::Alias => {
+            let attributes = attributes(alloc, parts);
             let ident = ident(parts);
             let ty = ty(parts);
-            let (ident, ty) = ended(both(ident, ty), parts)?;
+            let (attributes, ident, ty) = ended(three(attributes, ident, ty), parts)?;
             let alias = GlobalDeclaration::TypeAlias(TypeAlias {
-                attributes: Items::new(alloc),
+                attributes,
                 ident,
                 ty,
             });
             Ok(Part::Global(Spanned::new(alloc, alias, span)?))
         }
         DeclarationLabel::GlobalAssertion => {
-            let assertion = GlobalDeclaration::ConstAssert(ended(assertion(parts), parts)?);
+            let attributes = attributes(alloc, parts);
+            let assertion = assertion(parts);
+            let (attributes, assertion) = ended(both(attributes, assertion), parts)?;
+            let assertion = GlobalDeclaration::ConstAssert(asserted(attributes, assertion));
             Ok(Part::Global(Spanned::new(alloc, assertion, span)?))
         }
         DeclarationLabel::Function => function(alloc, span, parts),

@@ -3,14 +3,15 @@
 ghost use Rattle.std.specs.Prelude.{◌≡◌, IfOk};
 ghost use Rattle.wgsl_make.specs.Imports as making;
 
-use crate::take::{text, texts};
+use crate::attributed::directive_behind;
+use crate::take::{directive, text, texts};
 use std::alloc::Global;
 use wgsl_choices::severity;
 use wgsl_enumerations::DiagnosticSeverity;
 use wgsl_error::Refusal;
 use wgsl_imports::{DiagnosticDirective, EnableDirective, GlobalDirective, RequiresDirective};
 use wgsl_items::{Boxed, Items};
-use wgsl_parts::take::{both, ended, ident};
+use wgsl_parts::take::{attributes, both, ended, ident};
 use wgsl_parts::{DirectiveLabel, Held, Part, Stack};
 
 fn severity_or_off(word: &str) -> DiagnosticSeverity
@@ -55,18 +56,28 @@ pub fn make_directive(
             });
             Ok(Part::Directive(Boxed::new(alloc, diagnostic)?))
         }
+        DirectiveLabel::Control => {
+            let attributes = attributes(alloc, parts);
+            let control = directive(parts);
+            let (attributes, control) = ended(both(attributes, control), parts)?;
+            Ok(Part::Directive(directive_behind(attributes, control)))
+        }
         DirectiveLabel::Enable => {
-            let extensions = ended(texts(parts), parts)?;
+            let attributes = attributes(alloc, parts);
+            let extensions = texts(parts);
+            let (attributes, extensions) = ended(both(attributes, extensions), parts)?;
             let names = GlobalDirective::Enable(EnableDirective {
-                attributes: Items::new(alloc),
+                attributes,
                 extensions,
             });
             Ok(Part::Directive(Boxed::new(alloc, names)?))
         }
         DirectiveLabel::Requires => {
-            let extensions = ended(texts(parts), parts)?;
+            let attributes = attributes(alloc, parts);
+            let extensions = texts(parts);
+            let (attributes, extensions) = ended(both(attributes, extensions), parts)?;
             let names = GlobalDirective::Requires(RequiresDirective {
-                attributes: Items::new(alloc),
+                attributes,
                 extensions,
             });
             Ok(Part::Directive(Boxed::new(alloc, names)?))

@@ -3,6 +3,7 @@
 #![tactic(auto)]
 
 mod attribute;
+mod attributed;
 mod clause;
 mod declaration;
 mod directive;

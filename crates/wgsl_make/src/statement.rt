@@ -3,6 +3,7 @@
 ghost use Rattle.std.specs.Prelude.{◌≡◌, IfOk};
 ghost use Rattle.wgsl_make.specs.Statements as making;
 
+use crate::attributed::statement_behind;
 use crate::take::{clauses, continuing, else_ifs, otherwise, plain, statement, statements};
 use std::alloc::Global;
 use wgsl_error::Refusal;
@@ -124,8 +125,15 @@ pub fn make_statement(
     ensures { IfOk result (λ part. part ≡ making.make_statement label span parts.old) }
 {
     match label {
-        StatementLabel::Header | StatementLabel::PlainStatement => {
+        StatementLabel::Header => {
             let statement = ended(plain(parts), parts)?;
+            Ok(Part::Statement(Spanned::new_boxed(statement, span)))
+        }
+        StatementLabel::PlainStatement => {
+            let attributes = attributes(alloc, parts);
+            let statement = plain(parts);
+            let (attributes, statement) = ended(both(attributes, statement), parts)?;
+            let statement = statement_behind(attributes, statement);
             Ok(Part::Statement(Spanned::new_boxed(statement, span)))
         }
         StatementLabel::VoidStatement => {

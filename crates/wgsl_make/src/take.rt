@@ -57,6 +57,15 @@ pub(crate) fn arguments(parts: &mut Stack<Held>) -> Result<Option<Items<Expressi
     }
 }
 
+pub(crate) fn directive(parts: &mut Stack<Held>) -> Result<Boxed<GlobalDirective>, Refusal>
+    ensures { IfOk result (λ x. parts.old ≡ Part.Directive x ∷ parts.new) }
+{
+    match next(parts) {
+        Some(Part::Directive(x)) => Ok(x),
+        other => unfit(other),
+    }
+}
+
 pub(crate) fn plain(parts: &mut Stack<Held>) -> Result<Boxed<Statement>, Refusal>
     ensures { IfOk result (λ x. parts.old ≡ Part.Plain x ∷ parts.new) }
 {

@@ -8,7 +8,7 @@ use Rattle.wgsl_declarations.specs.Print.{decl_text, unit_text}
 use Rattle.wgsl_declarations.specs.Tree.{UnitTree}
 use Rattle.wgsl_tree_tokens.specs.Printable.{AreSpelled}
 use Rattle.wgsl_tree_tokens.proofs.Expressions.{Run}
-use Rattle.wgsl_tree_tokens.proofs.Directives.{directive_run}
+use Rattle.wgsl_tree_tokens.proofs.DirectiveLines.{directive_run}
 use Rattle.wgsl_tree_tokens.proofs.Imports.{nothing_run, import_run}
 use Rattle.wgsl_module_tokens.specs.Declarations.{RowTokens, row_end, row_and, UnitTokens, a_unit}
 use Rattle.wgsl_module_tokens.specs.Laws.{ModulesAreLaidOut}

@@ -10,6 +10,8 @@ use Rattle.wgsl_template_spec.specs.declared.token.TemplateToken.{TemplateToken}
 use Rattle.wgsl_enumerations.specs.Texts.{assignment_operator_text}
 use Rattle.wgsl_expressions.specs.Print.{commas, exp_text}
 use Rattle.wgsl_expressions.specs.Tree.{Exp, call, Typ}
+use Rattle.wgsl_attributes.specs.Print.{attrs_text}
+use Rattle.wgsl_attributes.specs.Tree.{Attr}
 use Rattle.wgsl_simple_statements.specs.declared.declaration.DeclarationKind.{DeclarationKind}
 use Rattle.wgsl_simple_statements.specs.Print.{kind_text, annotation_text, initializer_text, value_text, asserted_text, declared_text, simple_text, selector_text, case_head}
 use Rattle.wgsl_simple_statements.specs.Tree.{Simple, Selector, default_selector, selected}
@@ -22,8 +24,8 @@ use Rattle.wgsl_tree_tokens.proofs.Leaves.{Leaf, keyword_leaf}
 use Rattle.wgsl_tree_tokens.proofs.Expressions.{ends, Run, run_then, run_where, sign_run, leaf_run, free, stops, stops_end, exp_phrase}
 use Rattle.wgsl_tree_tokens.proofs.DeclarationKinds.{kind_run}
 use Rattle.wgsl_tree_tokens.proofs.Imports.{nothing_run}
-use Rattle.wgsl_module_tokens.specs.Simple.{assignment_sign, annotation_tokens, initializer_tokens, declared_tokens, annotation_is_apart, value_is_apart, asserted_tokens, value_tokens, PlaceTokens, phony, place, SimpleTokens, assigned, incremented, decremented, breaks, continues, returns, discards, called, asserted, declared, selector_tokens, more_selectors_tokens, selectors_tokens, case_tokens, selector_is_apart, selectors_are_apart}
-use Rattle.wgsl_module_tokens.proofs.Runs.{and_then, Sequel, no_sequel, behind, sequel_then, stopped, run_as_text, Sign, sign_then, space, colon_space, comma_space, lays_plus_plus, lays_minus_minus, at_plus, at_minus, keyword_run, name_run, exp_run, typ_run, word_then, parted, five}
+use Rattle.wgsl_module_tokens.specs.Simple.{assignment_sign, annotation_tokens, initializer_tokens, declared_tokens, annotation_is_apart, value_is_apart, asserted_tokens, value_tokens, PlaceTokens, phony, place, SimpleTokens, attributed, assigned, incremented, decremented, breaks, continues, returns, discards, called, asserted, declared, selector_tokens, more_selectors_tokens, selectors_tokens, case_tokens, selector_is_apart, selectors_are_apart}
+use Rattle.wgsl_module_tokens.proofs.Runs.{and_then, Sequel, no_sequel, behind, sequel_then, stopped, run_as_text, Sign, sign_then, space, colon_space, comma_space, lays_plus_plus, lays_minus_minus, at_plus, at_minus, keyword_run, name_run, exp_run, typ_run, word_then, parted, five, six}
 use Rattle.wgsl_module_tokens.proofs.Operators.{lays_equal, operator_run}
 
 -- ---- declared values
@@ -89,6 +91,21 @@ simple_run _ _ discards s = keyword_run f.Discard refl
 simple_run _ _ (called {t = t} {xs = xs} apart) s = exp_run (call t xs) s apart
 simple_run _ _ (asserted {x = x} apart) s = asserted_run x s apart
 simple_run _ _ (declared kind name {type = type} {value = value} h g) s = declared_run kind name type value s h g
+
+-- what is printed of a statement with attributes
+pub attributed_text : (attributes : List Attr) (x : Simple) (ts : List TemplateToken) → SimpleTokens x ts → attrs_text attributes ++ simple_text x ≡ simple_text (attributed attributes x)
+attributed_text attributes _ _ (assigned o {x = x} {y = y} is apart) =
+    let text = assignment_operator_text o in
+    ap (λ z. attrs_text attributes ++ z) (five (exp_text x) (codes " ") text (codes " ") (exp_text y)) ∙ sym (six (attrs_text attributes) (exp_text x) (codes " ") text (codes " ") (exp_text y))
+attributed_text attributes _ _ (incremented {x = x} e apart) = sym (append_assoc (attrs_text attributes) (exp_text x) (codes "++"))
+attributed_text attributes _ _ (decremented {x = x} e apart) = sym (append_assoc (attrs_text attributes) (exp_text x) (codes "--"))
+attributed_text attributes _ _ breaks = refl
+attributed_text attributes _ _ continues = refl
+attributed_text attributes _ _ (returns {value = value} apart) = sym (append_assoc (attrs_text attributes) (codes "return") (value_text value))
+attributed_text attributes _ _ discards = refl
+attributed_text attributes _ _ (called apart) = refl
+attributed_text attributes _ _ (asserted apart) = refl
+attributed_text attributes _ _ (declared kind name h g) = refl
 
 -- ---- selectors
 

@@ -7,7 +7,7 @@ use Rattle.wgsl_expressions.specs.Print.{exp_text, indent}
 use Rattle.wgsl_expressions.specs.Tree.{Exp}
 use Rattle.wgsl_attributes.specs.Print.{attrs_text}
 use Rattle.wgsl_simple_statements.specs.Tree.{BreakIf}
-use Rattle.wgsl_simple_statements.specs.Print.{case_head}
+use Rattle.wgsl_simple_statements.specs.Print.{simple_text, case_head}
 use Rattle.wgsl_statements.specs.Print.{braced, head_text, condition_text, header_text, break_line, end_text, bare_text, stms_text, block_text, elses_text, clauses_text, continuing_text, part_text}
 use Rattle.wgsl_statements.specs.Tree.{Stm, Stms, Block, Elses, Clauses, Continuing, Part}
 use Rattle.wgsl_tree_tokens.specs.Tokens.{mark, exp_tokens}
@@ -19,7 +19,7 @@ use Rattle.wgsl_module_tokens.specs.Simple.{value_is_apart, value_tokens, case_t
 use Rattle.wgsl_module_tokens.specs.Statements.{BreakIfTokens, no_break_if, a_break_if, PartTokens, no_part, a_part, in_braces, StmTokens, a_simple, a_compound, an_if, a_switch, a_loop, a_for, a_while, StmsTokens, no_statements, statements_and, BlockTokens, a_block, ElsesTokens, none, otherwise, else_if, ClausesTokens, no_clause, clause_and, ContinuingTokens, no_end, an_end}
 use Rattle.wgsl_module_tokens.specs.Laws.{StatementsAreLaidOut}
 use Rattle.wgsl_module_tokens.proofs.Runs.{any_rest, and_then, behind, stopped, run_as_text, sign_then, sign_alone, space, semicolon_space, semicolon_end, paren_right_space, colon_space, indent_run, blank_run, exp_run, word_then, parted, four, eight}
-use Rattle.wgsl_module_tokens.proofs.Simple.{simple_run, case_run}
+use Rattle.wgsl_module_tokens.proofs.Simple.{simple_run, attributed_text, case_run}
 
 -- ---- lines in braces
 
@@ -75,9 +75,11 @@ header_run {first = first} {update = update} {body = body} o p s h q b =
 mutual
   -- from behind its line's spaces to the end of its last line
   line_run : (x : Stm) (ts : List TemplateToken) → StmTokens x ts → AreSpelled ts → (level : ℕ) → Run any_rest ts (bare_text level x ++ end_text x)
-  line_run _ _ (a_simple {x = x} {ts = ts} h) s level =
-      let (first, others) = parted ts (mark f.Semicolon ∷ []) s in
-      behind (simple_run x ts h first) (sign_alone semicolon_end)
+  line_run _ _ (a_simple {attributes = attributes} {x = x} {ts = ts} {us = us} h k) s level =
+      let (first, others) = parted ts (us ++ (mark f.Semicolon ∷ [])) s in
+      let (second, end) = parted us (mark f.Semicolon ∷ []) others in
+      run_as_text (sym (append_assoc (attrs_text attributes) (simple_text x) (codes ";\n")) ∙ ap (λ z. z ++ codes ";\n") (attributed_text attributes x us k))
+      (and_then (attributes_run attributes ts h first) (behind (simple_run x us k second) (sign_alone semicolon_end)))
   line_run _ _ (a_compound {b = b} {ts = ts} h) s level = broken (block_run b ts h s level)
   line_run _ _ (an_if {attributes = attributes} {x = x} {b = b} {more = more} {ts = ts} {us = us} {vs = vs} h apart k l) s level =
       let (first, others) = parted ts (mark f.If ∷ (exp_tokens x ++ (us ++ vs))) s in

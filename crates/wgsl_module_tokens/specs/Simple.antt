@@ -6,6 +6,7 @@ use Rattle.wgsl_template_spec.specs.declared.token.TemplateToken.{TemplateToken}
 use Rattle.wgsl_enumerations.specs.declared.words.AssignmentOperator.{AssignmentOperator}
 use Rattle.wgsl_enumerations.specs.declared.words.AssignmentOperator.TheVariants as a
 use Rattle.wgsl_expressions.specs.Tree.{Exp, call, Exps, Typ}
+use Rattle.wgsl_attributes.specs.Tree.{Attr}
 use Rattle.wgsl_simple_statements.specs.declared.declaration.DeclarationKind.{DeclarationKind}
 use Rattle.wgsl_simple_statements.specs.Tree.{Simple, assignment, increment, decrement, breaking, continuing, returning, discarding, calling, asserting, declaring, Selector, default_selector, selected}
 use Rattle.wgsl_tree_tokens.specs.Tokens.{mark, word, exp_tokens, typ_tokens}
@@ -65,7 +66,7 @@ pub data PlaceTokens : Exp → List TemplateToken → Type 0 where
   phony : PlaceTokens (name_exp (codes "_")) (mark f.Underscore ∷ [])
   place : {x : Exp} → is_apart x ≡ true → PlaceTokens x (exp_tokens x)
 
--- Of statements without attributes, since no text has others. Before `++` and `--` stands no number, of which the first `+` or `-` could be a part.
+-- Of statements without attributes. Before `++` and `--` stands no number, of which the first `+` or `-` could be a part.
 pub data SimpleTokens : Simple → List TemplateToken → Type 0 where
   assigned : (o : AssignmentOperator) {x y : Exp} {ts : List TemplateToken} → PlaceTokens x ts → is_apart y ≡ true → SimpleTokens (assignment [] o x y) (ts ++ (mark (assignment_sign o) ∷ exp_tokens y))
   incremented : {x : Exp} → ends_in_number x ≡ false → is_apart x ≡ true → SimpleTokens (increment [] x) (exp_tokens x ++ (mark f.PlusPlus ∷ []))
@@ -77,6 +78,19 @@ pub data SimpleTokens : Simple → List TemplateToken → Type 0 where
   called : {t : Typ} {xs : Exps} → is_apart (call t xs) ≡ true → SimpleTokens (calling [] t xs) (exp_tokens (call t xs))
   asserted : {x : Exp} → is_apart x ≡ true → SimpleTokens (asserting [] x) (asserted_tokens x)
   declared : (kind : DeclarationKind) (name : List ℕ) {type : Option Typ} {value : Option Exp} → annotation_is_apart type ≡ true → value_is_apart value ≡ true → SimpleTokens (declaring [] kind name type value) (declared_tokens kind name type value)
+
+-- a statement with these attributes in the place of its own
+abbrev pub attributed : List Attr → Simple → Simple
+attributed new (assignment attributes o x y) = assignment new o x y
+attributed new (increment attributes x) = increment new x
+attributed new (decrement attributes x) = decrement new x
+attributed new (breaking attributes) = breaking new
+attributed new (continuing attributes) = continuing new
+attributed new (returning attributes value) = returning new value
+attributed new (discarding attributes) = discarding new
+attributed new (calling attributes t xs) = calling new t xs
+attributed new (asserting attributes x) = asserting new x
+attributed new (declaring attributes kind name type value) = declaring new kind name type value
 
 -- ---- selectors of `switch`
 

@@ -10,7 +10,7 @@ use Rattle.wgsl_statements.specs.Tree.{Stm, simple, compound_statement, if_state
 use Rattle.wgsl_tree_tokens.specs.Tokens.{mark, exp_tokens}
 use Rattle.wgsl_tree_tokens.specs.Printable.{is_apart}
 use Rattle.wgsl_tree_tokens.specs.Imports.{AttributesTokens}
-use Rattle.wgsl_module_tokens.specs.Simple.{SimpleTokens, value_is_apart, value_tokens, case_tokens, selectors_are_apart}
+use Rattle.wgsl_module_tokens.specs.Simple.{SimpleTokens, attributed, value_is_apart, value_tokens, case_tokens, selectors_are_apart}
 
 -- `break if` without attributes, and its `;`
 pub data BreakIfTokens : Option BreakIf → List TemplateToken → Type 0 where
@@ -28,7 +28,7 @@ in_braces ts = mark f.BraceLeft ∷ (ts ++ (mark f.BraceRight ∷ []))
 
 mutual
   pub data StmTokens : Stm → List TemplateToken → Type 0 where
-    a_simple : {x : s.Simple} {ts : List TemplateToken} → SimpleTokens x ts → StmTokens (simple x) (ts ++ (mark f.Semicolon ∷ []))
+    a_simple : {attributes : List Attr} {x : s.Simple} {ts us : List TemplateToken} → AttributesTokens attributes ts → SimpleTokens x us → StmTokens (simple (attributed attributes x)) (ts ++ (us ++ (mark f.Semicolon ∷ [])))
     a_compound : {b : Block} {ts : List TemplateToken} → BlockTokens b ts → StmTokens (compound_statement b) ts
     an_if : {attributes : List Attr} {x : Exp} {b : Block} {more : Elses} {ts us vs : List TemplateToken} → AttributesTokens attributes ts → is_apart x ≡ true → BlockTokens b us → ElsesTokens more vs
         → StmTokens (if_statement attributes x b more) (ts ++ (mark f.If ∷ (exp_tokens x ++ (us ++ vs))))

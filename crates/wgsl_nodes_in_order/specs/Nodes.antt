@@ -11,6 +11,7 @@ use Rattle.wgsl_attributes.specs.Tree.{Attr}
 use Rattle.wgsl_simple_statements.specs.Tree.{Simple, assignment, increment, decrement, breaking, continuing, returning, discarding, calling, asserting, declaring, BreakIf, Selector, default_selector, selected}
 use Rattle.wgsl_statements.specs.Tree as stm
 use Rattle.wgsl_statements.specs.Tree.{Stm, Stms, Block, block, Elses, no_else, else_clause, else_if_clause, Clauses, no_clauses, switch_clause, Continuing, no_continuing, continuing_statement, Part, absent, present}
+use Rattle.wgsl_imports.specs.Tree.{Directive, diagnostic, enabling, requiring}
 use Rattle.wgsl_declarations.specs.Tree.{Member, Param, Decl, variable, alias, structure, function, assertion}
 
 -- a node; a statement stands as the list of it alone, which is empty where it is a `;`
@@ -191,3 +192,13 @@ in_decl (assertion attributes x) = in_attrs attributes ++ in_exp x
 -- where there is a declaration
 abbrev pub in_optional_decl : Option Decl → List Node
 in_optional_decl o = in_option in_decl o
+
+-- ---- directives: their attributes
+
+abbrev pub in_directive : Directive → List Node
+in_directive (diagnostic attributes severity rule) = in_attrs attributes
+in_directive (enabling attributes names) = in_attrs attributes
+in_directive (requiring attributes names) = in_attrs attributes
+
+abbrev pub in_directives : List Directive → List Node
+in_directives ds = flat_map in_directive ds

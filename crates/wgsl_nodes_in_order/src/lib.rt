@@ -1,10 +1,12 @@
-//! The nodes of a declaration, in the order in which they end in its text.
+//! The nodes of a declaration, and of the attributes of directives, in the order in which they end in its text.
 #![tactic(auto)]
 
 mod find;
 mod find_declarations;
+mod find_directives;
 mod find_statements;
 mod node;
 
 pub use find_declarations::find_nodes;
+pub use find_directives::find_directive_nodes;
 pub use node::NodeRef;

@@ -13,7 +13,6 @@ use wgsl_widening::widen;
 
 /// The text of a unit, which is read as that unit. Where no text is, it says so, and names the first node that no text derives, or the
 /// declaration that holds it.
-#[tactic(auto, using(crate::proofs::Printing::printed, crate::proofs::Printing::refused))]
 pub fn print_part(alloc: Global, unit: TranslationUnit) -> Result<String, PrintError>
     ensures { Prints (unit_tree unit) result }
 {

@@ -144,6 +144,7 @@ pub enum DirectiveLabel {
     Rule,
     RuleOf,
     Diagnostic,
+    Control,
     Extension,
     Enable,
     Requires,
@@ -154,7 +155,6 @@ pub enum DirectiveLabel {
 pub enum DeclarationLabel {
     VoidDeclaration,
     Global,
-    GlobalConst,
     Alias,
     GlobalAssertion,
     Struct,

@@ -43,7 +43,7 @@ use Rattle.wgsl_read_back.proofs.Views as v
 use Rattle.wgsl_read_back.proofs.Items.{BeginsOutside, begins_then, Again, Item, Back, OneToken, Steps, cont_as, split, places_append, moved, closes}
 use Rattle.wgsl_read_back.proofs.Rows.{concat, nil as no_more, more, list_more, RowBack, again_row, likewise_row, made_again, Fine, steps_row, spelled_row, stood_back, Stood, stood_pass, Makes, make_of, makes_of, made_check_passes, Rebuild, back_of, of_one, of_two, of_three}
 use Rattle.wgsl_read_back.proofs.Places.{mark_of, word_of, reserved_of}
-use Rattle.wgsl_read_back.proofs.Families.{token_item, mark_item}
+use Rattle.wgsl_read_back.proofs.Families.{token_item, mark_item, pass_back}
 use Rattle.wgsl_read_back.proofs.Operands.{Listed, word_item, word_part}
 use Rattle.wgsl_read_back.proofs.AttributeTrees.{tree_attribute, checked_found, found_again, attribute_written}
 
@@ -293,6 +293,9 @@ full_attribute n m r rebuild {a = a} {b = b} {c = c} {x = x} {y = y} {z = z} i g
         places_append a (b ++ (c ++ [])) ∙ (λ k. first k ++ (places_append b (c ++ []) ∙ (λ j. g.2.tokens j ++ (places_append c [] ∙ append-nil (without_places c)) j)) k) in
         ap (λ z. z ++ us) (sym whole)
 
+pub pass_attribute : (n m : ℕ) → Rebuild n (phrase m ∷ []) l.Pass (2 ∷ []) → {u : List SpannedTemplateToken} {x : Phrase Part} → Attributed m u x → Attributed n (u ++ []) (make_of l.Pass (2 ∷ []) (x ∷ []))
+pass_attribute n m rebuild {u = u} g = (g.0, g.1, g.2, pass_back n m (v.attribute g.0 g.1) rebuild g.3, begins_then u [] g.4)
+
 -- ---- attributes one behind the other
 
 abbrev pub AttributesRowed : ℕ → List SpannedTemplateToken → Phrase Part → Type 0
@@ -329,14 +332,14 @@ first_attribute n m rebuild {u = u} g = (
             makes_of l.First (2 ∷ []) c [] (v.attributes (a ∷ []) ts) (λ s. part.Attributes (y ∷ [])) (λ s i. lists.started (is i)) (λ s. v.some_attributes (y ∷ []) refl (p, tt) (λ i. q i ∷ [])) (λ ps. refl) (λ s. refl)
             (stood_pass (c ∷ []) (v.attribute a ts ∷ []) h)
 
-pub more_attributes : (n m : ℕ) → Rebuild n (phrase n ∷ phrase m ∷ []) l.More (2 ∷ 2 ∷ []) → {a b : List SpannedTemplateToken} {x y : Phrase Part} → AttributesRowed n a x → Attributed m b y
+pub more_attributes : (n r m : ℕ) → Rebuild n (phrase r ∷ phrase m ∷ []) l.More (2 ∷ 2 ∷ []) → {a b : List SpannedTemplateToken} {x y : Phrase Part} → AttributesRowed r a x → Attributed m b y
     → AttributesRowed n (a ++ (b ++ [])) (make_of l.More (2 ∷ 2 ∷ []) (x ∷ y ∷ []))
-more_attributes n m rebuild {a = a} {b = b} g h = (
+more_attributes n r m rebuild {a = a} {b = b} g h = (
   g.0,
   g.1 ++ (h.0 ∷ []),
   g.2 ++ h.1,
   attributes_last h.0 h.1 g.3 h.2,
-  back_of n (phrase n ∷ phrase m ∷ []) l.More (2 ∷ 2 ∷ []) rebuild (v.attributes (g.0 ∷ g.1) g.2 ∷ v.attribute h.0 h.1 ∷ []) (v.attributes (g.0 ∷ (g.1 ++ (h.0 ∷ []))) (g.2 ++ h.1)) (ap (λ z. g.2 ++ z) (append-nil h.1))
+  back_of n (phrase r ∷ phrase m ∷ []) l.More (2 ∷ 2 ∷ []) rebuild (v.attributes (g.0 ∷ g.1) g.2 ∷ v.attribute h.0 h.1 ∷ []) (v.attributes (g.0 ∷ (g.1 ++ (h.0 ∷ []))) (g.2 ++ h.1)) (ap (λ z. g.2 ++ z) (append-nil h.1))
       (of_two (λ ys. Makes (v.attributes (g.0 ∷ (g.1 ++ (h.0 ∷ []))) (g.2 ++ h.1)) (make_of l.More (2 ∷ 2 ∷ []) ys)) (makes g.0 g.1 g.2 h.0 h.1))
       (more g.4.item (more h.3.item no_more)) (λ c p. tt) (λ c p. h.3.level _ _ ∙ g.4.level c p) (λ c p. tt),
   begins_then a (b ++ []) g.5,

@@ -9,7 +9,6 @@ use Rattle.wgsl_token_layout.specs.Laws.{without_places}
 use Rattle.wgsl_token_layout.specs.OptionalMarks.{Before, outside, begins_outside}
 use Rattle.wgsl_expressions.specs.Tree.{Exp, Typ}
 use Rattle.wgsl_attributes.specs.Tree.{Attr}
-use Rattle.wgsl_attributes.specs.View.{attributes_tree}
 use Rattle.wgsl_simple_statements.specs.declared.declaration.DeclarationKind.{DeclarationKind}
 use Rattle.wgsl_statements.specs.Tree.{Block}
 use Rattle.wgsl_declarations.specs.declared.declaration.GlobalDeclaration.{GlobalDeclaration}
@@ -37,7 +36,7 @@ use Rattle.wgsl_read_back.proofs.Views.{View, Stands, a_type, a_declared, an_ass
 use Rattle.wgsl_read_back.proofs.Views as v
 use Rattle.wgsl_read_back.proofs.Items.{places_append, begins_then, AgainAs, Back, OneToken, closes}
 use Rattle.wgsl_read_back.proofs.Rows.{make_of, Rebuild}
-use Rattle.wgsl_read_back.proofs.Pieces.{Pieces, Fine, pieces_steps, end, a_mark, a_leaf, a_part, a_list, a_cut_list, no_part, Made, made_as, pieces_back, of_one_part, of_two_parts, of_five_parts}
+use Rattle.wgsl_read_back.proofs.Pieces.{Pieces, Fine, pieces_steps, end, a_mark, a_leaf, a_part, a_list, a_cut_list, no_part, Made, made_as, pieces_back, of_two_parts, of_three_parts, of_five_parts}
 use Rattle.wgsl_read_back.proofs.Places.{word_of}
 use Rattle.wgsl_read_back.proofs.Families.{Typed, mark_item, mark_tokens}
 use Rattle.wgsl_read_back.proofs.Operands.{word_item, word_part}
@@ -121,79 +120,108 @@ global_attributed n r m rebuild {b = b} {y = y} h g i =
     (a_part h.4 (a_part g.6 (a_mark (mark_item f.Semicolon b y i) end))) refl
     (of_two_parts (λ qs. Made (l.Declaration label.Global) qs (v.declaration d ts)) (global_makes (h.0 ∷ h.1) h.2 g.0 g.1 g.2 g.3 ts)) (λ c o. tt) (λ c o. refl) (λ c o. refl))
 
-const_makes : (k : DeclarationKind) (y : List ℕ) (t : Option Typ) (o : Option Exp) (us : List TemplateToken) (q : Part) → Stands q (v.declared k y t o) → Made (l.Declaration label.GlobalConst) (q ∷ []) (v.declaration (variable [] k y t o) us)
-const_makes k y t o us q (a_declared z is none kind name type value) =
-    made_as (l.Declaration label.GlobalConst) (q ∷ []) (v.declaration (variable [] k y t o) us) (λ s. make.declaration_at s (code.Declaration z)) (λ s i. make.global_const s (is i ∷ []))
-    (λ s. a_declaration _ refl (λ i. Some (variable (attributes_tree (none i)) (kind i) (name i) (type i) (value i)))) (λ s. refl) refl
+assertion_makes : (xs : List Attr) (ts : List TemplateToken) (e : Exp) (us : List TemplateToken) (p q : Part) → Stands p (v.attributes xs ts) → Stands q (v.asserted e) → Made (l.Declaration label.GlobalAssertion) (p ∷ q ∷ []) (v.declaration (assertion xs e) us)
+assertion_makes xs ts e us p q h (an_asserted z is none same) =
+    made_as (l.Declaration label.GlobalAssertion) (p ∷ q ∷ []) (v.declaration (assertion xs e) us) (λ s. make.declaration_at s (code.ConstAssert (make.asserted (attributes_of p) z))) (λ s i. make.global_assertion s (p ∷ is i ∷ []))
+    (λ s. a_declaration _ refl (λ i. Some (assertion (attributes_are p xs ts h i) (same i)))) (λ s. refl) refl
 
-pub const_declared : (n m : ℕ) → Rebuild n (ended_row m) (l.Declaration label.GlobalConst) (2 ∷ 1 ∷ []) → {a b : List SpannedTemplateToken} {x y : Phrase Part} → ValueDeclared m a x → OneToken (fixed_class f.Semicolon) b y
-    → Declared n (a ++ (b ++ [])) (make_of (l.Declaration label.GlobalConst) (2 ∷ 1 ∷ []) (x ∷ y ∷ []))
-const_declared n m rebuild {b = b} {y = y} g i =
-    let d = variable [] g.0 g.1 g.2 g.3 in
-    let ts = declared_tokens g.0 g.1 g.2 g.3 ++ a_semicolon in
-    declares d ts (a_variable g.0 g.1 no_attributes g.4 g.5)
-    (pieces_back n (ended_row m) (2 ∷ 1 ∷ []) (phrase m) (token (fixed_class f.Semicolon) ∷ []) (2 ∷ 1 ∷ []) (l.Declaration label.GlobalConst) rebuild rebuild (v.declaration d ts)
-    (a_part g.6 (a_mark (mark_item f.Semicolon b y i) end)) refl (of_one_part (λ qs. Made (l.Declaration label.GlobalConst) qs (v.declaration d ts)) (const_makes g.0 g.1 g.2 g.3 ts)) (λ c o. tt) (λ c o. refl) (λ c o. refl))
-
-assertion_makes : (e : Exp) (us : List TemplateToken) (q : Part) → Stands q (v.asserted e) → Made (l.Declaration label.GlobalAssertion) (q ∷ []) (v.declaration (assertion [] e) us)
-assertion_makes e us q (an_asserted z is none same) =
-    made_as (l.Declaration label.GlobalAssertion) (q ∷ []) (v.declaration (assertion [] e) us) (λ s. make.declaration_at s (code.ConstAssert z)) (λ s i. make.global_assertion s (is i ∷ []))
-    (λ s. a_declaration _ refl (λ i. Some (assertion (attributes_tree (none i)) (same i)))) (λ s. refl) refl
-
-pub assertion_declared : (n m : ℕ) → Rebuild n (ended_row m) (l.Declaration label.GlobalAssertion) (2 ∷ 1 ∷ []) → {a b : List SpannedTemplateToken} {x y : Phrase Part} → Asserted m a x → OneToken (fixed_class f.Semicolon) b y
-    → Declared n (a ++ (b ++ [])) (make_of (l.Declaration label.GlobalAssertion) (2 ∷ 1 ∷ []) (x ∷ y ∷ []))
-assertion_declared n m rebuild {b = b} {y = y} g i =
+pub assertion_bare : (n m : ℕ) → Rebuild n (ended_row m) (l.Declaration label.GlobalAssertion) (0 ∷ 2 ∷ 1 ∷ []) → {a b : List SpannedTemplateToken} {x y : Phrase Part} → Asserted m a x → OneToken (fixed_class f.Semicolon) b y
+    → Declared n (a ++ (b ++ [])) (make_of (l.Declaration label.GlobalAssertion) (0 ∷ 2 ∷ 1 ∷ []) (x ∷ y ∷ []))
+assertion_bare n m rebuild {b = b} {y = y} g i =
     let d = assertion [] g.0 in
     let ts = asserted_tokens g.0 ++ a_semicolon in
     declares d ts (an_assertion no_attributes g.1)
-    (pieces_back n (ended_row m) (2 ∷ 1 ∷ []) (phrase m) (token (fixed_class f.Semicolon) ∷ []) (2 ∷ 1 ∷ []) (l.Declaration label.GlobalAssertion) rebuild rebuild (v.declaration d ts)
-    (a_part g.2 (a_mark (mark_item f.Semicolon b y i) end)) refl (of_one_part (λ qs. Made (l.Declaration label.GlobalAssertion) qs (v.declaration d ts)) (assertion_makes g.0 ts)) (λ c o. tt) (λ c o. refl) (λ c o. refl))
+    (pieces_back n (ended_row m) (0 ∷ 2 ∷ 1 ∷ []) (phrase m) (token (fixed_class f.Semicolon) ∷ []) (0 ∷ 2 ∷ 1 ∷ []) (l.Declaration label.GlobalAssertion) rebuild rebuild (v.declaration d ts)
+    (no_part (v.attributes [] []) (v.no_attributes refl) (a_part g.2 (a_mark (mark_item f.Semicolon b y i) end))) refl
+    (of_two_parts (λ qs. Made (l.Declaration label.GlobalAssertion) qs (v.declaration d ts)) (assertion_makes [] [] g.0 ts)) (λ c o. tt) (λ c o. refl) (λ c o. refl))
+
+pub assertion_attributed : (n r m : ℕ) → Rebuild n (attributes_ended_row r m) (l.Declaration label.GlobalAssertion) (2 ∷ 2 ∷ 1 ∷ []) → {e a b : List SpannedTemplateToken} {w x y : Phrase Part} → AttributesRowed r e w → Asserted m a x → OneToken (fixed_class f.Semicolon) b y
+    → Declared n (e ++ (a ++ (b ++ []))) (make_of (l.Declaration label.GlobalAssertion) (2 ∷ 2 ∷ 1 ∷ []) (w ∷ x ∷ y ∷ []))
+assertion_attributed n r m rebuild {b = b} {y = y} h g i =
+    let d = assertion (h.0 ∷ h.1) g.0 in
+    let ts = h.2 ++ (asserted_tokens g.0 ++ a_semicolon) in
+    declares d ts (an_assertion h.3 g.1)
+    (pieces_back n (attributes_ended_row r m) (2 ∷ 2 ∷ 1 ∷ []) (phrase r) (ended_row m) (2 ∷ 2 ∷ 1 ∷ []) (l.Declaration label.GlobalAssertion) rebuild rebuild (v.declaration d ts)
+    (a_part h.4 (a_part g.2 (a_mark (mark_item f.Semicolon b y i) end))) refl
+    (of_two_parts (λ qs. Made (l.Declaration label.GlobalAssertion) qs (v.declaration d ts)) (assertion_makes (h.0 ∷ h.1) h.2 g.0 ts)) (λ c o. tt) (λ c o. refl) (λ c o. refl))
 
 -- ---- other names for types
 
 abbrev pub alias_row : ℕ → List Symbol
 alias_row m = token (fixed_class f.Alias) ∷ token 77 ∷ token (fixed_class f.Equal) ∷ ended_row m
 
-pub alias_declared : (n m : ℕ) → Rebuild n (alias_row m) (l.Declaration label.Alias) (1 ∷ 2 ∷ 1 ∷ 2 ∷ 1 ∷ []) → {a b c d e : List SpannedTemplateToken} {x y z w k : Phrase Part}
+abbrev pub attributes_alias_row : ℕ → ℕ → List Symbol
+attributes_alias_row r m = phrase r ∷ alias_row m
+
+alias_makes : (xs : List Attr) (ts : List TemplateToken) (y : List ℕ) (t : Typ) (us : List TemplateToken) (p q r : Part) → Stands p (v.attributes xs ts) → Stands q (v.token (word y)) → Stands r (v.type t) → Made (l.Declaration label.Alias) (p ∷ q ∷ r ∷ []) (v.declaration (alias xs y t) us)
+alias_makes xs ts y t us p q r k h (a_type z is e) =
+    made_as (l.Declaration label.Alias) (p ∷ q ∷ r ∷ []) (v.declaration (alias xs y t) us) (λ s. make.declaration_at s (code.TypeAlias (record { attributes = attributes_of p; ident = ident_of y; ty = z })))
+    (λ s i. make.alias s (p ∷ word_part q y h i ∷ is i ∷ [])) (λ s. a_declaration _ refl (λ i. Some (alias (attributes_are p xs ts k i) y (e i)))) (λ s. refl) refl
+
+pub alias_bare : (n m : ℕ) → Rebuild n (alias_row m) (l.Declaration label.Alias) (0 ∷ 1 ∷ 2 ∷ 1 ∷ 2 ∷ 1 ∷ []) → {a b c d e : List SpannedTemplateToken} {x y z w k : Phrase Part}
     → OneToken (fixed_class f.Alias) a x → OneToken 77 b y → OneToken (fixed_class f.Equal) c z → Typed m d w → OneToken (fixed_class f.Semicolon) e k
-    → Declared n (a ++ (b ++ (c ++ (d ++ (e ++ []))))) (make_of (l.Declaration label.Alias) (1 ∷ 2 ∷ 1 ∷ 2 ∷ 1 ∷ []) (x ∷ y ∷ z ∷ w ∷ k ∷ []))
-alias_declared n m rebuild {a = a} {b = b} {c = c} {e = e} {x = x} {y = y} {z = z} {k = k} i j p g r =
+    → Declared n (a ++ (b ++ (c ++ (d ++ (e ++ []))))) (make_of (l.Declaration label.Alias) (0 ∷ 1 ∷ 2 ∷ 1 ∷ 2 ∷ 1 ∷ []) (x ∷ y ∷ z ∷ w ∷ k ∷ []))
+alias_bare n m rebuild {a = a} {b = b} {c = c} {e = e} {x = x} {y = y} {z = z} {k = k} i j p g r =
     let name = (word_of j.one.token j.class).0 in
     let d = alias [] name g.0 in
     let ts = mark f.Alias ∷ word name ∷ mark f.Equal ∷ (typ_tokens g.0 ++ a_semicolon) in
     declares d ts (an_alias name no_attributes g.1)
-    (pieces_back n (alias_row m) (1 ∷ 2 ∷ 1 ∷ 2 ∷ 1 ∷ []) (token (fixed_class f.Alias)) (token 77 ∷ token (fixed_class f.Equal) ∷ ended_row m) (1 ∷ 2 ∷ 1 ∷ 2 ∷ 1 ∷ []) (l.Declaration label.Alias) rebuild rebuild (v.declaration d ts)
-    (a_mark (mark_item f.Alias a x i) (a_leaf (word_item b y j) (a_mark (mark_item f.Equal c z p) (a_part g.2 (a_mark (mark_item f.Semicolon e k r) end))))) refl
-    (of_two_parts (λ qs. Made (l.Declaration label.Alias) qs (v.declaration d ts)) (makes name g.0 ts)) (λ c o. tt) (λ c o. refl) (λ c o. refl))
-  where
-    makes : (y : List ℕ) (t : Typ) (us : List TemplateToken) (p q : Part) → Stands p (v.token (word y)) → Stands q (v.type t) → Made (l.Declaration label.Alias) (p ∷ q ∷ []) (v.declaration (alias [] y t) us)
-    makes y t us p q h (a_type z is e) =
-        made_as (l.Declaration label.Alias) (p ∷ q ∷ []) (v.declaration (alias [] y t) us) (λ s. make.declaration_at s (code.TypeAlias (record { attributes = []; ident = ident_of y; ty = z })))
-        (λ s i. make.alias s (word_part p y h i ∷ is i ∷ [])) (λ s. a_declaration _ refl (λ i. Some (alias [] y (e i)))) (λ s. refl) refl
+    (pieces_back n (alias_row m) (0 ∷ 1 ∷ 2 ∷ 1 ∷ 2 ∷ 1 ∷ []) (token (fixed_class f.Alias)) (token 77 ∷ token (fixed_class f.Equal) ∷ ended_row m) (0 ∷ 1 ∷ 2 ∷ 1 ∷ 2 ∷ 1 ∷ []) (l.Declaration label.Alias) rebuild rebuild (v.declaration d ts)
+    (no_part (v.attributes [] []) (v.no_attributes refl) (a_mark (mark_item f.Alias a x i) (a_leaf (word_item b y j) (a_mark (mark_item f.Equal c z p) (a_part g.2 (a_mark (mark_item f.Semicolon e k r) end)))))) refl
+    (of_three_parts (λ qs. Made (l.Declaration label.Alias) qs (v.declaration d ts)) (alias_makes [] [] name g.0 ts)) (λ c o. tt) (λ c o. refl) (λ c o. refl))
+
+pub alias_attributed : (n s m : ℕ) → Rebuild n (attributes_alias_row s m) (l.Declaration label.Alias) (2 ∷ 1 ∷ 2 ∷ 1 ∷ 2 ∷ 1 ∷ []) → {q a b c d e : List SpannedTemplateToken} {u x y z w k : Phrase Part}
+    → AttributesRowed s q u → OneToken (fixed_class f.Alias) a x → OneToken 77 b y → OneToken (fixed_class f.Equal) c z → Typed m d w → OneToken (fixed_class f.Semicolon) e k
+    → Declared n (q ++ (a ++ (b ++ (c ++ (d ++ (e ++ [])))))) (make_of (l.Declaration label.Alias) (2 ∷ 1 ∷ 2 ∷ 1 ∷ 2 ∷ 1 ∷ []) (u ∷ x ∷ y ∷ z ∷ w ∷ k ∷ []))
+alias_attributed n s m rebuild {a = a} {b = b} {c = c} {e = e} {x = x} {y = y} {z = z} {k = k} h i j p g r =
+    let name = (word_of j.one.token j.class).0 in
+    let d = alias (h.0 ∷ h.1) name g.0 in
+    let ts = h.2 ++ (mark f.Alias ∷ word name ∷ mark f.Equal ∷ (typ_tokens g.0 ++ a_semicolon)) in
+    declares d ts (an_alias name h.3 g.1)
+    (pieces_back n (attributes_alias_row s m) (2 ∷ 1 ∷ 2 ∷ 1 ∷ 2 ∷ 1 ∷ []) (phrase s) (alias_row m) (2 ∷ 1 ∷ 2 ∷ 1 ∷ 2 ∷ 1 ∷ []) (l.Declaration label.Alias) rebuild rebuild (v.declaration d ts)
+    (a_part h.4 (a_mark (mark_item f.Alias a x i) (a_leaf (word_item b y j) (a_mark (mark_item f.Equal c z p) (a_part g.2 (a_mark (mark_item f.Semicolon e k r) end)))))) refl
+    (of_three_parts (λ qs. Made (l.Declaration label.Alias) qs (v.declaration d ts)) (alias_makes (h.0 ∷ h.1) h.2 name g.0 ts)) (λ c o. tt) (λ c o. refl) (λ c o. refl))
 
 -- ---- structures
 
 abbrev pub structure_row : ℕ → List Symbol
 structure_row m = token (fixed_class f.Struct) ∷ token 77 ∷ token (fixed_class f.BraceLeft) ∷ phrase m ∷ token (fixed_class f.BraceRight) ∷ []
 
-pub structure_declared : (n m : ℕ) → Rebuild n (structure_row m) (l.Declaration label.Struct) (1 ∷ 2 ∷ 1 ∷ 2 ∷ 1 ∷ []) → {a b c d e : List SpannedTemplateToken} {x y z w k : Phrase Part}
+abbrev pub attributes_structure_row : ℕ → ℕ → List Symbol
+attributes_structure_row r m = phrase r ∷ structure_row m
+
+structure_makes : (xs : List Attr) (ts : List TemplateToken) (y : List ℕ) (ms : List Member) (us ws : List TemplateToken) (p q r : Part) → Stands p (v.attributes xs ts) → Stands q (v.token (word y)) → Stands r (v.members ms us)
+    → Made (l.Declaration label.Struct) (p ∷ q ∷ r ∷ []) (v.declaration (structure xs y ms) ws)
+structure_makes xs ts y ms us ws p q r k h (some_members zs is e) =
+    made_as (l.Declaration label.Struct) (p ∷ q ∷ r ∷ []) (v.declaration (structure xs y ms) ws) (λ s. make.declaration_at s (code.Struct (record { attributes = attributes_of p; ident = ident_of y; members = zs })))
+    (λ s i. make.structure s (p ∷ word_part q y h i ∷ is i ∷ [])) (λ s. a_declaration _ refl (λ i. Some (structure (attributes_are p xs ts k i) y (e i)))) (λ s. refl) refl
+
+pub structure_bare : (n m : ℕ) → Rebuild n (structure_row m) (l.Declaration label.Struct) (0 ∷ 1 ∷ 2 ∷ 1 ∷ 2 ∷ 1 ∷ []) → {a b c d e : List SpannedTemplateToken} {x y z w k : Phrase Part}
     → OneToken (fixed_class f.Struct) a x → OneToken 77 b y → OneToken (fixed_class f.BraceLeft) c z → MembersListed m d w → OneToken (fixed_class f.BraceRight) e k
-    → Declared n (a ++ (b ++ (c ++ (d ++ (e ++ []))))) (make_of (l.Declaration label.Struct) (1 ∷ 2 ∷ 1 ∷ 2 ∷ 1 ∷ []) (x ∷ y ∷ z ∷ w ∷ k ∷ []))
-structure_declared n m rebuild {a = a} {b = b} {c = c} {e = e} {x = x} {y = y} {z = z} {k = k} i j p g r =
+    → Declared n (a ++ (b ++ (c ++ (d ++ (e ++ []))))) (make_of (l.Declaration label.Struct) (0 ∷ 1 ∷ 2 ∷ 1 ∷ 2 ∷ 1 ∷ []) (x ∷ y ∷ z ∷ w ∷ k ∷ []))
+structure_bare n m rebuild {a = a} {b = b} {c = c} {e = e} {x = x} {y = y} {z = z} {k = k} i j p g r =
     let name = (word_of j.one.token j.class).0 in
     let d = structure [] name g.0 in
     let ts = mark f.Struct ∷ word name ∷ in_braces g.1 in
     declares d ts (a_structure name no_attributes g.2)
-    (pieces_back n (structure_row m) (1 ∷ 2 ∷ 1 ∷ 2 ∷ 1 ∷ []) (token (fixed_class f.Struct)) (token 77 ∷ token (fixed_class f.BraceLeft) ∷ phrase m ∷ token (fixed_class f.BraceRight) ∷ []) (1 ∷ 2 ∷ 1 ∷ 2 ∷ 1 ∷ []) (l.Declaration label.Struct) rebuild rebuild
+    (pieces_back n (structure_row m) (0 ∷ 1 ∷ 2 ∷ 1 ∷ 2 ∷ 1 ∷ []) (token (fixed_class f.Struct)) (token 77 ∷ token (fixed_class f.BraceLeft) ∷ phrase m ∷ token (fixed_class f.BraceRight) ∷ []) (0 ∷ 1 ∷ 2 ∷ 1 ∷ 2 ∷ 1 ∷ []) (l.Declaration label.Struct) rebuild rebuild
     (v.declaration d ts)
-    (a_mark (mark_item f.Struct a x i) (a_leaf (word_item b y j) (a_mark (mark_item f.BraceLeft c z p)
-    (a_cut_list g.3 (begins_then e [] (λ us. ap (λ z. begins_outside (z ++ us)) (mark_tokens f.BraceRight r))) (λ us. refl) (a_mark (mark_item f.BraceRight e k r) end))))) refl
-    (of_two_parts (λ qs. Made (l.Declaration label.Struct) qs (v.declaration d ts)) (makes name g.0 g.1 ts)) (λ c o. tt) (λ c o. refl) (λ c o. refl))
-  where
-    makes : (y : List ℕ) (ms : List Member) (ts us : List TemplateToken) (p q : Part) → Stands p (v.token (word y)) → Stands q (v.members ms ts) → Made (l.Declaration label.Struct) (p ∷ q ∷ []) (v.declaration (structure [] y ms) us)
-    makes y ms ts us p q h (some_members zs is e) =
-        made_as (l.Declaration label.Struct) (p ∷ q ∷ []) (v.declaration (structure [] y ms) us) (λ s. make.declaration_at s (code.Struct (record { attributes = []; ident = ident_of y; members = zs })))
-        (λ s i. make.structure s (word_part p y h i ∷ is i ∷ [])) (λ s. a_declaration _ refl (λ i. Some (structure [] y (e i)))) (λ s. refl) refl
+    (no_part (v.attributes [] []) (v.no_attributes refl) (a_mark (mark_item f.Struct a x i) (a_leaf (word_item b y j) (a_mark (mark_item f.BraceLeft c z p)
+    (a_cut_list g.3 (begins_then e [] (λ us. ap (λ z. begins_outside (z ++ us)) (mark_tokens f.BraceRight r))) (λ us. refl) (a_mark (mark_item f.BraceRight e k r) end)))))) refl
+    (of_three_parts (λ qs. Made (l.Declaration label.Struct) qs (v.declaration d ts)) (structure_makes [] [] name g.0 g.1 ts)) (λ c o. tt) (λ c o. refl) (λ c o. refl))
+
+pub structure_attributed : (n s m : ℕ) → Rebuild n (attributes_structure_row s m) (l.Declaration label.Struct) (2 ∷ 1 ∷ 2 ∷ 1 ∷ 2 ∷ 1 ∷ []) → {q a b c d e : List SpannedTemplateToken} {u x y z w k : Phrase Part}
+    → AttributesRowed s q u → OneToken (fixed_class f.Struct) a x → OneToken 77 b y → OneToken (fixed_class f.BraceLeft) c z → MembersListed m d w → OneToken (fixed_class f.BraceRight) e k
+    → Declared n (q ++ (a ++ (b ++ (c ++ (d ++ (e ++ [])))))) (make_of (l.Declaration label.Struct) (2 ∷ 1 ∷ 2 ∷ 1 ∷ 2 ∷ 1 ∷ []) (u ∷ x ∷ y ∷ z ∷ w ∷ k ∷ []))
+structure_attributed n s m rebuild {a = a} {b = b} {c = c} {e = e} {x = x} {y = y} {z = z} {k = k} h i j p g r =
+    let name = (word_of j.one.token j.class).0 in
+    let d = structure (h.0 ∷ h.1) name g.0 in
+    let ts = h.2 ++ (mark f.Struct ∷ word name ∷ in_braces g.1) in
+    declares d ts (a_structure name h.3 g.2)
+    (pieces_back n (attributes_structure_row s m) (2 ∷ 1 ∷ 2 ∷ 1 ∷ 2 ∷ 1 ∷ []) (phrase s) (structure_row m) (2 ∷ 1 ∷ 2 ∷ 1 ∷ 2 ∷ 1 ∷ []) (l.Declaration label.Struct) rebuild rebuild (v.declaration d ts)
+    (a_part h.4 (a_mark (mark_item f.Struct a x i) (a_leaf (word_item b y j) (a_mark (mark_item f.BraceLeft c z p)
+    (a_cut_list g.3 (begins_then e [] (λ us. ap (λ z. begins_outside (z ++ us)) (mark_tokens f.BraceRight r))) (λ us. refl) (a_mark (mark_item f.BraceRight e k r) end)))))) refl
+    (of_three_parts (λ qs. Made (l.Declaration label.Struct) qs (v.declaration d ts)) (structure_makes (h.0 ∷ h.1) h.2 name g.0 g.1 ts)) (λ c o. tt) (λ c o. refl) (λ c o. refl))
 
 -- ---- functions
 

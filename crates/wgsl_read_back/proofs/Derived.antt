@@ -21,10 +21,10 @@ use Rattle.wgsl_read_back.proofs.Items.{OneToken}
 use Rattle.wgsl_read_back.proofs.Rows.{make_of, Rebuild, AllPass, made_parts_pass}
 use Rattle.wgsl_parts.specs.declared.label.DirectiveLabel.TheVariants as dir
 use Rattle.wgsl_read_back.proofs.Directives.{bare_row, bare_pattern}
-use Rattle.wgsl_read_back.proofs.Steps.{PlainStep, always, s_rule, s_rule_of, s_extension, s_setting, s_setting_with, s_directive, s_enable, s_requires, s_first_name, s_more_names, s_names_without, s_names_with, s_var, s_var_in, s_const_kind, s_override_kind, s_let_kind, s_pass_kind, s_attribute_word, s_reserved_word, s_keyword, s_no_arguments, s_arguments, s_bare_attribute, s_attribute, s_first_attribute, s_more_attributes, s_from_package, s_from_own, s_from_above, s_from_within, s_first_step, s_next_step, s_item, s_renamed, s_collection, s_tree_alone, s_tree_further, s_first_tree, s_more_trees, s_trees_without, s_trees_with, s_import_plain, s_import_from, s_import_attributed, s_import_attributed_from, Sort, unknown, sort_of, GoodAs, Good, GoodRow, good_end, good_next, Step, as_expressed, s_binary, s_unary, s_pass, s_pass_singles, s_pass_types, s_name_alone, s_name_above, s_name_in_package, s_name_within, s_one_up, s_further_up, s_simple, s_templated, s_call_without, s_call_with, s_number, s_true, s_false, s_named, s_called, s_parenthesized, s_component, s_indexed, s_first, s_more, s_listed_without, s_listed_with}
-use Rattle.wgsl_read_back.proofs.ValueSteps.{s_asserted, s_assertion, s_assigned, s_break, s_break_if, s_call_stated, s_case, s_case_colon, s_compound, s_const, s_continue, s_decremented, s_default, s_default_colon, s_default_selector, s_discard, s_else, s_else_if, s_first_clause, s_first_else_if, s_first_selector, s_first_statement, s_headed, s_incremented, s_let, s_local, s_more_clause, s_more_else_if, s_more_selectors, s_more_statements, s_override, s_override_set, s_pass_declared, s_pass_placed, s_pass_stated, s_phony, s_phony_assigned, s_place_behind, s_place_component, s_place_indexed, s_place_name, s_place_of, s_place_parenthesized, s_plain_statement, s_return, s_return_with, s_selector, s_selectors_with, s_selectors_without, s_typed, s_typed_as, s_variable, s_variable_set, s_void_statement}
+use Rattle.wgsl_read_back.proofs.Steps.{PlainStep, always, s_rule, s_rule_of, s_extension, s_setting, s_setting_with, s_control_bare, s_control_attributed, s_enable_bare, s_enable_attributed, s_requires_bare, s_requires_attributed, s_first_name, s_more_names, s_names_without, s_names_with, s_var, s_var_in, s_const_kind, s_override_kind, s_let_kind, s_pass_kind, s_attribute_word, s_reserved_word, s_keyword, s_no_arguments, s_arguments, s_bare_attribute, s_pass_attribute, s_attribute, s_first_attribute, s_more_attributes, s_from_package, s_from_own, s_from_above, s_from_within, s_first_step, s_next_step, s_item, s_renamed, s_collection, s_tree_alone, s_tree_further, s_first_tree, s_more_trees, s_trees_without, s_trees_with, s_import_plain, s_import_from, s_import_attributed, s_import_attributed_from, Sort, unknown, sort_of, GoodAs, Good, GoodRow, good_end, good_next, Step, as_expressed, s_binary, s_unary, s_pass, s_pass_singles, s_pass_types, s_name_alone, s_name_above, s_name_in_package, s_name_within, s_one_up, s_further_up, s_simple, s_templated, s_call_without, s_call_with, s_number, s_true, s_false, s_named, s_called, s_parenthesized, s_component, s_indexed, s_first, s_more, s_listed_without, s_listed_with}
+use Rattle.wgsl_read_back.proofs.ValueSteps.{s_asserted, s_assertion, s_assigned, s_break, s_break_if, s_call_stated, s_case, s_case_colon, s_compound, s_const, s_continue, s_decremented, s_default, s_default_colon, s_default_selector, s_discard, s_else, s_else_if, s_first_clause, s_first_else_if, s_first_selector, s_first_statement, s_headed, s_incremented, s_let, s_local, s_more_clause, s_more_else_if, s_more_selectors, s_more_statements, s_override, s_override_set, s_pass_declared, s_pass_placed, s_pass_stated, s_phony, s_phony_assigned, s_place_behind, s_place_component, s_place_indexed, s_place_name, s_place_of, s_place_parenthesized, s_plain_bare, s_plain_attributed, s_return, s_return_with, s_selector, s_selectors_with, s_selectors_without, s_typed, s_typed_as, s_variable, s_variable_set, s_void_statement}
 use Rattle.wgsl_read_back.proofs.StatementSteps.{s_braces, s_braces_attributed, s_braces_attributed_filled, s_braces_filled, s_continuing, s_continuing_attributed, s_continuing_attributed_broken, s_continuing_attributed_filled, s_continuing_attributed_filled_broken, s_continuing_broken, s_continuing_filled, s_continuing_filled_broken, s_for_statement, s_for_statement_attributed, s_for_statement_attributed_by, s_for_statement_attributed_from, s_for_statement_attributed_from_by, s_for_statement_attributed_from_while, s_for_statement_attributed_from_while_by, s_for_statement_attributed_while, s_for_statement_attributed_while_by, s_for_statement_by, s_for_statement_from, s_for_statement_from_by, s_for_statement_from_while, s_for_statement_from_while_by, s_for_statement_while, s_for_statement_while_by, s_if_statement, s_if_statement_attributed, s_if_statement_attributed_else, s_if_statement_attributed_else_if, s_if_statement_attributed_else_if_else, s_if_statement_else, s_if_statement_else_if, s_if_statement_else_if_else, s_loop_statement, s_loop_statement_attributed, s_loop_statement_attributed_continuing, s_loop_statement_attributed_filled, s_loop_statement_attributed_filled_continuing, s_loop_statement_attributed_inner, s_loop_statement_attributed_inner_continuing, s_loop_statement_attributed_inner_filled, s_loop_statement_attributed_inner_filled_continuing, s_loop_statement_continuing, s_loop_statement_filled, s_loop_statement_filled_continuing, s_loop_statement_inner, s_loop_statement_inner_continuing, s_loop_statement_inner_filled, s_loop_statement_inner_filled_continuing, s_switch_statement, s_switch_statement_attributed, s_switch_statement_attributed_inner, s_switch_statement_inner, s_while_statement, s_while_statement_attributed}
-use Rattle.wgsl_read_back.proofs.ModuleSteps.{s_alias_declared, s_assertion_declared, s_const_declared, s_first_declaration, s_first_directive, s_first_import, s_first_member, s_first_parameter, s_function_attributed_of_none, s_function_attributed_of_none_returning, s_function_attributed_of_some, s_function_attributed_of_some_returning, s_function_of_none, s_function_of_none_returning, s_function_of_some, s_function_of_some_returning, s_global_attributed, s_global_bare, s_member_attributed, s_member_bare, s_members_with, s_members_without, s_module_of_declarations, s_module_of_directives, s_module_of_directives_declarations, s_module_of_imports, s_module_of_imports_declarations, s_module_of_imports_directives, s_module_of_imports_directives_declarations, s_more_declarations, s_more_directives, s_more_imports, s_more_members, s_more_parameters, s_parameter_attributed, s_parameter_bare, s_parameters_with, s_parameters_without, s_result_attributed, s_result_bare, s_structure_declared, s_void_declared}
+use Rattle.wgsl_read_back.proofs.ModuleSteps.{s_alias_bare, s_alias_attributed, s_assertion_bare, s_assertion_attributed, s_first_declaration, s_first_directive, s_first_import, s_first_member, s_first_parameter, s_function_attributed_of_none, s_function_attributed_of_none_returning, s_function_attributed_of_some, s_function_attributed_of_some_returning, s_function_of_none, s_function_of_none_returning, s_function_of_some, s_function_of_some_returning, s_global_attributed, s_global_bare, s_member_attributed, s_member_bare, s_members_with, s_members_without, s_module_of_declarations, s_module_of_directives, s_module_of_directives_declarations, s_module_of_imports, s_module_of_imports_declarations, s_module_of_imports_directives, s_module_of_imports_directives_declarations, s_more_declarations, s_more_directives, s_more_imports, s_more_members, s_more_parameters, s_parameter_attributed, s_parameter_bare, s_parameters_with, s_parameters_without, s_result_attributed, s_result_bare, s_structure_bare, s_structure_attributed, s_void_declared}
 
 -- ---- rules by number
 
@@ -106,23 +106,23 @@ all_unknown (m ∷ ms) e = let h = and_parts (is_unknown (sort_of m.left)) (list
 
 bare_Item : Rebuild (in_a_list n.Item) (phrase (with_commas n.Item) ∷ []) l.Pass (2 ∷ [])
 unfolding made_rules
-bare_Item = rebuild_at 289 (record { left = in_a_list n.Item; right = phrase (with_commas n.Item) ∷ []; label = l.Pass; parts = 2 ∷ [] }) refl
+bare_Item = rebuild_at 321 (record { left = in_a_list n.Item; right = phrase (with_commas n.Item) ∷ []; label = l.Pass; parts = 2 ∷ [] }) refl
 
 bare_Control : Rebuild (plain n.Control) (bare_row (plain n.Rule)) (l.Directive dir.Diagnostic) bare_pattern
 unfolding made_rules
-bare_Control = rebuild_at 235 (record { left = plain n.Control; right = bare_row (plain n.Rule); label = l.Directive dir.Diagnostic; parts = bare_pattern }) refl
+bare_Control = rebuild_at 260 (record { left = plain n.Control; right = bare_row (plain n.Rule); label = l.Directive dir.Diagnostic; parts = bare_pattern }) refl
 
 bare_Tree : Rebuild (in_a_list n.Tree) (phrase (with_commas n.Tree) ∷ []) l.Pass (2 ∷ [])
 unfolding made_rules
-bare_Tree = rebuild_at 301 (record { left = in_a_list n.Tree; right = phrase (with_commas n.Tree) ∷ []; label = l.Pass; parts = 2 ∷ [] }) refl
+bare_Tree = rebuild_at 333 (record { left = in_a_list n.Tree; right = phrase (with_commas n.Tree) ∷ []; label = l.Pass; parts = 2 ∷ [] }) refl
 
 bare_Extension : Rebuild (in_a_list n.Extension) (phrase (with_commas n.Extension) ∷ []) l.Pass (2 ∷ [])
 unfolding made_rules
-bare_Extension = rebuild_at 305 (record { left = in_a_list n.Extension; right = phrase (with_commas n.Extension) ∷ []; label = l.Pass; parts = 2 ∷ [] }) refl
+bare_Extension = rebuild_at 337 (record { left = in_a_list n.Extension; right = phrase (with_commas n.Extension) ∷ []; label = l.Pass; parts = 2 ∷ [] }) refl
 
 bare_Expression : Rebuild (in_a_list n.Expression) (phrase (with_commas n.Expression) ∷ []) l.Pass (2 ∷ [])
 unfolding made_rules
-bare_Expression = rebuild_at 293 (record { left = in_a_list n.Expression; right = phrase (with_commas n.Expression) ∷ []; label = l.Pass; parts = 2 ∷ [] }) refl
+bare_Expression = rebuild_at 325 (record { left = in_a_list n.Expression; right = phrase (with_commas n.Expression) ∷ []; label = l.Pass; parts = 2 ∷ [] }) refl
 
 -- from attributes on, from `var` on, from what is behind it on, and so on: each list begins where the one before it has no more of its own
 abbrev rules_of_attributes : List Made
@@ -132,19 +132,19 @@ abbrev rules_of_whole_attributes : List Made
 rules_of_whole_attributes = drop 34 rules_of_attributes
 
 abbrev rules_of_var : List Made
-rules_of_var = drop 2 rules_of_whole_attributes
+rules_of_var = drop 5 rules_of_whole_attributes
 
 abbrev rules_of_values : List Made
 rules_of_values = drop 2 rules_of_var
 
 abbrev rules_of_plain : List Made
-rules_of_plain = drop 20 rules_of_values
+rules_of_plain = drop 24 rules_of_values
 
 abbrev rules_of_if : List Made
-rules_of_if = drop 27 rules_of_plain
+rules_of_if = drop 42 rules_of_plain
 
 abbrev rules_of_switch : List Made
-rules_of_switch = drop 13 rules_of_if
+rules_of_switch = drop 16 rules_of_if
 
 abbrev rules_of_for : List Made
 rules_of_for = drop 20 rules_of_switch
@@ -159,10 +159,10 @@ abbrev rules_of_directives : List Made
 rules_of_directives = drop 15 rules_of_imports
 
 abbrev rules_of_declarations : List Made
-rules_of_declarations = drop 8 rules_of_directives
+rules_of_declarations = drop 11 rules_of_directives
 
 abbrev rules_of_kinds : List Made
-rules_of_kinds = drop 30 rules_of_declarations
+rules_of_kinds = drop 34 rules_of_declarations
 
 abbrev rules_of_rows : List Made
 rules_of_rows = drop 4 rules_of_kinds
@@ -269,17 +269,20 @@ list_steps =
     & tt
 
 -- rules and settings of diagnostics, extensions and directives
-directive_steps : Each (take 8 rules_of_directives)
+directive_steps : Each (take 11 rules_of_directives)
 unfolding made_rules
 directive_steps =
     (λ r u xs row pass. s_rule (plain n.Rule) (λ w x h. h) r u xs row)
     & (λ r u xs row pass. s_rule_of (plain n.Rule) (λ w x h. h) r u xs row)
     & s_setting (plain n.Control) (plain n.Rule) (λ w x h. h) (λ w x h. h)
     & s_setting_with (plain n.Control) (plain n.Rule) (λ w x h. h) (λ w x h. h) bare_Control
-    & (λ r u xs row pass. s_directive (plain n.Directive) (plain n.Control) (λ w x h. h) (λ w x h. h) r u xs row)
+    & (λ r u xs row pass. s_control_bare (plain n.Directive) (plain n.Control) (λ w x h. h) (λ w x h. h) r u xs row)
+    & (λ r u xs row pass. s_control_attributed (plain n.Directive) (in_a_row n.Attribute) (plain n.Control) (λ w x h. h) (λ w x h. h) (λ w x h. h) r u xs row)
     & (λ r u xs row pass. s_extension (plain n.Extension) (λ w x h. h) r u xs row)
-    & (λ r u xs row pass. s_enable (plain n.Directive) (in_a_list n.Extension) (λ w x h. h) (λ w x h. h) r u xs row)
-    & (λ r u xs row pass. s_requires (plain n.Directive) (in_a_list n.Extension) (λ w x h. h) (λ w x h. h) r u xs row)
+    & (λ r u xs row pass. s_enable_bare (plain n.Directive) (in_a_list n.Extension) (λ w x h. h) (λ w x h. h) r u xs row)
+    & (λ r u xs row pass. s_enable_attributed (plain n.Directive) (in_a_row n.Attribute) (in_a_list n.Extension) (λ w x h. h) (λ w x h. h) (λ w x h. h) r u xs row)
+    & (λ r u xs row pass. s_requires_bare (plain n.Directive) (in_a_list n.Extension) (λ w x h. h) (λ w x h. h) r u xs row)
+    & (λ r u xs row pass. s_requires_attributed (plain n.Directive) (in_a_row n.Attribute) (in_a_list n.Extension) (λ w x h. h) (λ w x h. h) (λ w x h. h) r u xs row)
     & tt
 
 -- lists of extensions
@@ -351,11 +354,14 @@ word_steps =
     & tt
 
 -- attributes
-attribute_steps : Each (take 2 rules_of_whole_attributes)
+attribute_steps : Each (take 5 rules_of_whole_attributes)
 unfolding made_rules
 attribute_steps =
     s_bare_attribute (plain n.Attribute) (plain n.Word) (λ w x h. h) (λ w x h. h)
-    & s_attribute (plain n.Attribute) (plain n.Word) (plain n.Arguments) (λ w x h. h) (λ w x h. h) (λ w x h. h)
+    & (λ r u xs row pass. s_pass_attribute (plain n.Attribute) (plain n.ClosedAttribute) (λ w x h. h) (λ w x h. h) r u xs row)
+    & s_attribute (plain n.ClosedAttribute) (plain n.Word) (plain n.Arguments) (λ w x h. h) (λ w x h. h) (λ w x h. h)
+    & (λ r u xs row pass. s_first_attribute (plain n.ClosedAttributes) (plain n.ClosedAttribute) (λ w x h. h) (λ w x h. h) r u xs row)
+    & (λ r u xs row pass. s_more_attributes (plain n.ClosedAttributes) (in_a_row n.Attribute) (plain n.ClosedAttribute) (λ w x h. h) (λ w x h. h) (λ w x h. h) r u xs row)
     & tt
 
 -- attributes in a row
@@ -363,7 +369,7 @@ row_steps : EachPlain (take 2 rules_of_rows)
 unfolding made_rules
 row_steps =
     s_first_attribute (in_a_row n.Attribute) (plain n.Attribute) (λ w x h. h) (λ w x h. h)
-    & s_more_attributes (in_a_row n.Attribute) (plain n.Attribute) (λ w x h. h) (λ w x h. h) (λ w x h. h)
+    & s_more_attributes (in_a_row n.Attribute) (in_a_row n.Attribute) (plain n.Attribute) (λ w x h. h) (λ w x h. h) (λ w x h. h)
     & tt
 
 -- import statements and what they consist of
@@ -398,7 +404,7 @@ tree_steps =
     & tt
 
 -- names with types, declared values, assertions, and what is assigned to
-value_steps : EachPlain (take 20 rules_of_values)
+value_steps : EachPlain (take 24 rules_of_values)
 unfolding made_rules
 value_steps =
     s_typed (plain n.Typed) (λ w x h. h)
@@ -413,35 +419,52 @@ value_steps =
     & s_pass_declared (plain n.Local) (plain n.Const) (λ w x h. h) (λ w x h. h)
     & s_pass_declared (plain n.Local) (plain n.Let) (λ w x h. h) (λ w x h. h)
     & s_assertion (plain n.Assertion) (plain n.Expression) (λ w x h. h) (λ w x h. h)
-    & s_place_behind (plain n.Place) (plain n.Place) (λ w x h. h) (λ w x h. h)
-    & s_place_of (plain n.Place) (plain n.Place) (λ w x h. h) (λ w x h. h)
-    & s_pass_placed (plain n.Place) (plain n.Target) (λ w x h. h) (λ w x h. h)
+    & s_place_behind (plain n.OpenPlace) (plain n.Place) (λ w x h. h) (λ w x h. h)
+    & s_place_of (plain n.OpenPlace) (plain n.Place) (λ w x h. h) (λ w x h. h)
+    & s_pass_placed (plain n.OpenPlace) (plain n.Target) (λ w x h. h) (λ w x h. h)
     & s_place_name (plain n.Target) (plain n.Name) (λ w x h. h) (λ w x h. h)
-    & s_place_parenthesized (plain n.Target) (plain n.Place) (λ w x h. h) (λ w x h. h)
     & s_place_component (plain n.Target) (plain n.Target) (λ w x h. h) (λ w x h. h)
     & s_place_indexed (plain n.Target) (plain n.Target) (plain n.Expression) (λ w x h. h) (λ w x h. h) (λ w x h. h)
+    & s_place_parenthesized (plain n.EnclosedPlace) (plain n.Place) (λ w x h. h) (λ w x h. h)
+    & s_place_component (plain n.EnclosedPlace) (plain n.EnclosedPlace) (λ w x h. h) (λ w x h. h)
+    & s_place_indexed (plain n.EnclosedPlace) (plain n.EnclosedPlace) (plain n.Expression) (λ w x h. h) (λ w x h. h) (λ w x h. h)
+    & s_pass_placed (plain n.Place) (plain n.OpenPlace) (λ w x h. h) (λ w x h. h)
+    & s_pass_placed (plain n.Place) (plain n.EnclosedPlace) (λ w x h. h) (λ w x h. h)
     & s_phony (plain n.Phony) (λ w x h. h)
     & tt
 
 -- statements that hold no other, without their `;`, and the parts of the header of `for`
-plain_steps : EachPlain (take 27 rules_of_plain)
+plain_steps : EachPlain (take 42 rules_of_plain)
 unfolding made_rules
 plain_steps =
     s_call_stated (plain n.Update) (plain n.Call) (λ w x h. h) (λ w x h. h)
-    & s_assigned a.Equal (plain n.Update) (plain n.Place) (plain n.Expression) (λ w x h. h) (λ w x h. h) (λ w x h. h)
-    & s_assigned a.PlusEqual (plain n.Update) (plain n.Place) (plain n.Expression) (λ w x h. h) (λ w x h. h) (λ w x h. h)
-    & s_assigned a.MinusEqual (plain n.Update) (plain n.Place) (plain n.Expression) (λ w x h. h) (λ w x h. h) (λ w x h. h)
-    & s_assigned a.TimesEqual (plain n.Update) (plain n.Place) (plain n.Expression) (λ w x h. h) (λ w x h. h) (λ w x h. h)
-    & s_assigned a.DivisionEqual (plain n.Update) (plain n.Place) (plain n.Expression) (λ w x h. h) (λ w x h. h) (λ w x h. h)
-    & s_assigned a.ModuloEqual (plain n.Update) (plain n.Place) (plain n.Expression) (λ w x h. h) (λ w x h. h) (λ w x h. h)
-    & s_assigned a.AndEqual (plain n.Update) (plain n.Place) (plain n.Expression) (λ w x h. h) (λ w x h. h) (λ w x h. h)
-    & s_assigned a.OrEqual (plain n.Update) (plain n.Place) (plain n.Expression) (λ w x h. h) (λ w x h. h) (λ w x h. h)
-    & s_assigned a.XorEqual (plain n.Update) (plain n.Place) (plain n.Expression) (λ w x h. h) (λ w x h. h) (λ w x h. h)
-    & s_assigned a.ShiftRightAssign (plain n.Update) (plain n.Place) (plain n.Expression) (λ w x h. h) (λ w x h. h) (λ w x h. h)
-    & s_assigned a.ShiftLeftAssign (plain n.Update) (plain n.Place) (plain n.Expression) (λ w x h. h) (λ w x h. h) (λ w x h. h)
+    & s_assigned a.Equal (plain n.Update) (plain n.OpenPlace) (plain n.Expression) (λ w x h. h) (λ w x h. h) (λ w x h. h)
+    & s_assigned a.PlusEqual (plain n.Update) (plain n.OpenPlace) (plain n.Expression) (λ w x h. h) (λ w x h. h) (λ w x h. h)
+    & s_assigned a.MinusEqual (plain n.Update) (plain n.OpenPlace) (plain n.Expression) (λ w x h. h) (λ w x h. h) (λ w x h. h)
+    & s_assigned a.TimesEqual (plain n.Update) (plain n.OpenPlace) (plain n.Expression) (λ w x h. h) (λ w x h. h) (λ w x h. h)
+    & s_assigned a.DivisionEqual (plain n.Update) (plain n.OpenPlace) (plain n.Expression) (λ w x h. h) (λ w x h. h) (λ w x h. h)
+    & s_assigned a.ModuloEqual (plain n.Update) (plain n.OpenPlace) (plain n.Expression) (λ w x h. h) (λ w x h. h) (λ w x h. h)
+    & s_assigned a.AndEqual (plain n.Update) (plain n.OpenPlace) (plain n.Expression) (λ w x h. h) (λ w x h. h) (λ w x h. h)
+    & s_assigned a.OrEqual (plain n.Update) (plain n.OpenPlace) (plain n.Expression) (λ w x h. h) (λ w x h. h) (λ w x h. h)
+    & s_assigned a.XorEqual (plain n.Update) (plain n.OpenPlace) (plain n.Expression) (λ w x h. h) (λ w x h. h) (λ w x h. h)
+    & s_assigned a.ShiftRightAssign (plain n.Update) (plain n.OpenPlace) (plain n.Expression) (λ w x h. h) (λ w x h. h) (λ w x h. h)
+    & s_assigned a.ShiftLeftAssign (plain n.Update) (plain n.OpenPlace) (plain n.Expression) (λ w x h. h) (λ w x h. h) (λ w x h. h)
     & s_phony_assigned (plain n.Update) (plain n.Phony) (plain n.Expression) (λ w x h. h) (λ w x h. h) (λ w x h. h)
-    & s_incremented (plain n.Update) (plain n.Place) (λ w x h. h) (λ w x h. h)
-    & s_decremented (plain n.Update) (plain n.Place) (λ w x h. h) (λ w x h. h)
+    & s_incremented (plain n.Update) (plain n.OpenPlace) (λ w x h. h) (λ w x h. h)
+    & s_decremented (plain n.Update) (plain n.OpenPlace) (λ w x h. h) (λ w x h. h)
+    & s_assigned a.Equal (plain n.EnclosedUpdate) (plain n.EnclosedPlace) (plain n.Expression) (λ w x h. h) (λ w x h. h) (λ w x h. h)
+    & s_assigned a.PlusEqual (plain n.EnclosedUpdate) (plain n.EnclosedPlace) (plain n.Expression) (λ w x h. h) (λ w x h. h) (λ w x h. h)
+    & s_assigned a.MinusEqual (plain n.EnclosedUpdate) (plain n.EnclosedPlace) (plain n.Expression) (λ w x h. h) (λ w x h. h) (λ w x h. h)
+    & s_assigned a.TimesEqual (plain n.EnclosedUpdate) (plain n.EnclosedPlace) (plain n.Expression) (λ w x h. h) (λ w x h. h) (λ w x h. h)
+    & s_assigned a.DivisionEqual (plain n.EnclosedUpdate) (plain n.EnclosedPlace) (plain n.Expression) (λ w x h. h) (λ w x h. h) (λ w x h. h)
+    & s_assigned a.ModuloEqual (plain n.EnclosedUpdate) (plain n.EnclosedPlace) (plain n.Expression) (λ w x h. h) (λ w x h. h) (λ w x h. h)
+    & s_assigned a.AndEqual (plain n.EnclosedUpdate) (plain n.EnclosedPlace) (plain n.Expression) (λ w x h. h) (λ w x h. h) (λ w x h. h)
+    & s_assigned a.OrEqual (plain n.EnclosedUpdate) (plain n.EnclosedPlace) (plain n.Expression) (λ w x h. h) (λ w x h. h) (λ w x h. h)
+    & s_assigned a.XorEqual (plain n.EnclosedUpdate) (plain n.EnclosedPlace) (plain n.Expression) (λ w x h. h) (λ w x h. h) (λ w x h. h)
+    & s_assigned a.ShiftRightAssign (plain n.EnclosedUpdate) (plain n.EnclosedPlace) (plain n.Expression) (λ w x h. h) (λ w x h. h) (λ w x h. h)
+    & s_assigned a.ShiftLeftAssign (plain n.EnclosedUpdate) (plain n.EnclosedPlace) (plain n.Expression) (λ w x h. h) (λ w x h. h) (λ w x h. h)
+    & s_incremented (plain n.EnclosedUpdate) (plain n.EnclosedPlace) (λ w x h. h) (λ w x h. h)
+    & s_decremented (plain n.EnclosedUpdate) (plain n.EnclosedPlace) (λ w x h. h) (λ w x h. h)
     & s_break (plain n.Plain) (λ w x h. h)
     & s_continue (plain n.Plain) (λ w x h. h)
     & s_return (plain n.Plain) (λ w x h. h)
@@ -452,16 +475,21 @@ plain_steps =
     & s_asserted (plain n.Plain) (plain n.Assertion) (λ w x h. h) (λ w x h. h)
     & s_local (plain n.First) (plain n.Local) (λ w x h. h) (λ w x h. h)
     & s_pass_stated (plain n.First) (plain n.Update) (λ w x h. h) (λ w x h. h)
+    & s_pass_stated (plain n.First) (plain n.EnclosedUpdate) (λ w x h. h) (λ w x h. h)
     & s_headed (plain n.Initializer) (plain n.First) (λ w x h. h) (λ w x h. h)
     & s_headed (plain n.Next) (plain n.Update) (λ w x h. h) (λ w x h. h)
+    & s_headed (plain n.Next) (plain n.EnclosedUpdate) (λ w x h. h) (λ w x h. h)
     & tt
 
 -- a `;` alone, statements that end in one, blocks as statements, and `if`
-if_steps : EachPlain (take 13 rules_of_if)
+if_steps : EachPlain (take 16 rules_of_if)
 unfolding made_rules
 if_steps =
     s_void_statement (plain n.Statement) (λ w x h. h)
-    & s_plain_statement (plain n.Statement) (plain n.Plain) (λ w x h. h) (λ w x h. h)
+    & s_plain_bare (plain n.Statement) (plain n.Plain) (λ w x h. h) (λ w x h. h)
+    & s_plain_attributed (plain n.Statement) (in_a_row n.Attribute) (plain n.Plain) (λ w x h. h) (λ w x h. h) (λ w x h. h)
+    & s_plain_bare (plain n.Statement) (plain n.EnclosedUpdate) (λ w x h. h) (λ w x h. h)
+    & s_plain_attributed (plain n.Statement) (plain n.ClosedAttributes) (plain n.EnclosedUpdate) (λ w x h. h) (λ w x h. h) (λ w x h. h)
     & s_compound (plain n.Statement) (plain n.Block) (λ w x h. h) (λ w x h. h)
     & s_if_statement (plain n.Statement) (plain n.Expression) (plain n.Block) (λ w x h. h) (λ w x h. h) (λ w x h. h)
     & s_if_statement_else (plain n.Statement) (plain n.Expression) (plain n.Block) (plain n.Else) (λ w x h. h) (λ w x h. h) (λ w x h. h) (λ w x h. h)
@@ -485,20 +513,20 @@ switch_and_loop_steps =
     & s_switch_statement_attributed_inner (plain n.Statement) (in_a_row n.Attribute) (plain n.Expression) (in_a_row n.Attribute) (in_a_row n.Clause) (λ w x h. h) (λ w x h. h) (λ w x h. h) (λ w x h. h) (λ w x h. h)
     & s_loop_statement (plain n.Statement) (λ w x h. h)
     & s_loop_statement_continuing (plain n.Statement) (plain n.Continuing) (λ w x h. h) (λ w x h. h)
-    & s_loop_statement_filled (plain n.Statement) (in_a_row n.Statement) (λ w x h. h) (λ w x h. h) (rebuild_at 165 _ refl)
-    & s_loop_statement_filled_continuing (plain n.Statement) (in_a_row n.Statement) (plain n.Continuing) (λ w x h. h) (λ w x h. h) (λ w x h. h) (rebuild_at 166 _ refl)
+    & s_loop_statement_filled (plain n.Statement) (in_a_row n.Statement) (λ w x h. h) (λ w x h. h) (rebuild_at 190 _ refl)
+    & s_loop_statement_filled_continuing (plain n.Statement) (in_a_row n.Statement) (plain n.Continuing) (λ w x h. h) (λ w x h. h) (λ w x h. h) (rebuild_at 191 _ refl)
     & s_loop_statement_inner (plain n.Statement) (in_a_row n.Attribute) (λ w x h. h) (λ w x h. h)
     & s_loop_statement_inner_continuing (plain n.Statement) (in_a_row n.Attribute) (plain n.Continuing) (λ w x h. h) (λ w x h. h) (λ w x h. h)
-    & s_loop_statement_inner_filled (plain n.Statement) (in_a_row n.Attribute) (in_a_row n.Statement) (λ w x h. h) (λ w x h. h) (λ w x h. h) (rebuild_at 169 _ refl)
-    & s_loop_statement_inner_filled_continuing (plain n.Statement) (in_a_row n.Attribute) (in_a_row n.Statement) (plain n.Continuing) (λ w x h. h) (λ w x h. h) (λ w x h. h) (λ w x h. h) (rebuild_at 170 _ refl)
+    & s_loop_statement_inner_filled (plain n.Statement) (in_a_row n.Attribute) (in_a_row n.Statement) (λ w x h. h) (λ w x h. h) (λ w x h. h) (rebuild_at 194 _ refl)
+    & s_loop_statement_inner_filled_continuing (plain n.Statement) (in_a_row n.Attribute) (in_a_row n.Statement) (plain n.Continuing) (λ w x h. h) (λ w x h. h) (λ w x h. h) (λ w x h. h) (rebuild_at 195 _ refl)
     & s_loop_statement_attributed (plain n.Statement) (in_a_row n.Attribute) (λ w x h. h) (λ w x h. h)
     & s_loop_statement_attributed_continuing (plain n.Statement) (in_a_row n.Attribute) (plain n.Continuing) (λ w x h. h) (λ w x h. h) (λ w x h. h)
-    & s_loop_statement_attributed_filled (plain n.Statement) (in_a_row n.Attribute) (in_a_row n.Statement) (λ w x h. h) (λ w x h. h) (λ w x h. h) (rebuild_at 173 _ refl)
-    & s_loop_statement_attributed_filled_continuing (plain n.Statement) (in_a_row n.Attribute) (in_a_row n.Statement) (plain n.Continuing) (λ w x h. h) (λ w x h. h) (λ w x h. h) (λ w x h. h) (rebuild_at 174 _ refl)
+    & s_loop_statement_attributed_filled (plain n.Statement) (in_a_row n.Attribute) (in_a_row n.Statement) (λ w x h. h) (λ w x h. h) (λ w x h. h) (rebuild_at 198 _ refl)
+    & s_loop_statement_attributed_filled_continuing (plain n.Statement) (in_a_row n.Attribute) (in_a_row n.Statement) (plain n.Continuing) (λ w x h. h) (λ w x h. h) (λ w x h. h) (λ w x h. h) (rebuild_at 199 _ refl)
     & s_loop_statement_attributed_inner (plain n.Statement) (in_a_row n.Attribute) (in_a_row n.Attribute) (λ w x h. h) (λ w x h. h) (λ w x h. h)
     & s_loop_statement_attributed_inner_continuing (plain n.Statement) (in_a_row n.Attribute) (in_a_row n.Attribute) (plain n.Continuing) (λ w x h. h) (λ w x h. h) (λ w x h. h) (λ w x h. h)
-    & s_loop_statement_attributed_inner_filled (plain n.Statement) (in_a_row n.Attribute) (in_a_row n.Attribute) (in_a_row n.Statement) (λ w x h. h) (λ w x h. h) (λ w x h. h) (λ w x h. h) (rebuild_at 177 _ refl)
-    & s_loop_statement_attributed_inner_filled_continuing (plain n.Statement) (in_a_row n.Attribute) (in_a_row n.Attribute) (in_a_row n.Statement) (plain n.Continuing) (λ w x h. h) (λ w x h. h) (λ w x h. h) (λ w x h. h) (λ w x h. h) (rebuild_at 178 _ refl)
+    & s_loop_statement_attributed_inner_filled (plain n.Statement) (in_a_row n.Attribute) (in_a_row n.Attribute) (in_a_row n.Statement) (λ w x h. h) (λ w x h. h) (λ w x h. h) (λ w x h. h) (rebuild_at 202 _ refl)
+    & s_loop_statement_attributed_inner_filled_continuing (plain n.Statement) (in_a_row n.Attribute) (in_a_row n.Attribute) (in_a_row n.Statement) (plain n.Continuing) (λ w x h. h) (λ w x h. h) (λ w x h. h) (λ w x h. h) (λ w x h. h) (rebuild_at 203 _ refl)
     & tt
 
 -- `for` and `while`
@@ -530,28 +558,28 @@ block_steps : EachPlain (take 19 rules_of_blocks)
 unfolding made_rules
 block_steps =
     s_braces (plain n.Block) (λ w x h. h)
-    & s_braces_filled (plain n.Block) (in_a_row n.Statement) (λ w x h. h) (λ w x h. h) (rebuild_at 199 _ refl)
+    & s_braces_filled (plain n.Block) (in_a_row n.Statement) (λ w x h. h) (λ w x h. h) (rebuild_at 224 _ refl)
     & s_braces_attributed (plain n.Block) (in_a_row n.Attribute) (λ w x h. h) (λ w x h. h)
-    & s_braces_attributed_filled (plain n.Block) (in_a_row n.Attribute) (in_a_row n.Statement) (λ w x h. h) (λ w x h. h) (λ w x h. h) (rebuild_at 201 _ refl)
+    & s_braces_attributed_filled (plain n.Block) (in_a_row n.Attribute) (in_a_row n.Statement) (λ w x h. h) (λ w x h. h) (λ w x h. h) (rebuild_at 226 _ refl)
     & s_default_selector (plain n.Selector) (λ w x h. h)
     & s_selector (plain n.Selector) (plain n.Expression) (λ w x h. h) (λ w x h. h)
-    & s_case (plain n.Clause) (plain n.Block) (in_a_list n.Selector) (λ w x h. h) (λ w x h. h) (λ w x h. h) (rebuild_at 208 _ refl) (rebuild_at 206 _ refl)
-    & s_case_colon (plain n.Clause) (plain n.Block) (in_a_list n.Selector) (λ w x h. h) (λ w x h. h) (λ w x h. h) (rebuild_at 208 _ refl)
-    & s_default (plain n.Clause) (plain n.Block) (λ w x h. h) (λ w x h. h) (rebuild_at 208 _ refl)
+    & s_case (plain n.Clause) (plain n.Block) (in_a_list n.Selector) (λ w x h. h) (λ w x h. h) (λ w x h. h) (rebuild_at 233 _ refl) (rebuild_at 231 _ refl)
+    & s_case_colon (plain n.Clause) (plain n.Block) (in_a_list n.Selector) (λ w x h. h) (λ w x h. h) (λ w x h. h) (rebuild_at 233 _ refl)
+    & s_default (plain n.Clause) (plain n.Block) (λ w x h. h) (λ w x h. h) (rebuild_at 233 _ refl)
     & s_default_colon (plain n.Clause) (plain n.Block) (λ w x h. h) (λ w x h. h)
     & s_continuing (plain n.Continuing) (λ w x h. h)
     & s_continuing_broken (plain n.Continuing) (plain n.BreakIf) (λ w x h. h) (λ w x h. h)
-    & s_continuing_filled (plain n.Continuing) (in_a_row n.Statement) (λ w x h. h) (λ w x h. h) (rebuild_at 209 _ refl)
-    & s_continuing_filled_broken (plain n.Continuing) (in_a_row n.Statement) (plain n.BreakIf) (λ w x h. h) (λ w x h. h) (λ w x h. h) (rebuild_at 210 _ refl)
+    & s_continuing_filled (plain n.Continuing) (in_a_row n.Statement) (λ w x h. h) (λ w x h. h) (rebuild_at 234 _ refl)
+    & s_continuing_filled_broken (plain n.Continuing) (in_a_row n.Statement) (plain n.BreakIf) (λ w x h. h) (λ w x h. h) (λ w x h. h) (rebuild_at 235 _ refl)
     & s_continuing_attributed (plain n.Continuing) (in_a_row n.Attribute) (λ w x h. h) (λ w x h. h)
     & s_continuing_attributed_broken (plain n.Continuing) (in_a_row n.Attribute) (plain n.BreakIf) (λ w x h. h) (λ w x h. h) (λ w x h. h)
-    & s_continuing_attributed_filled (plain n.Continuing) (in_a_row n.Attribute) (in_a_row n.Statement) (λ w x h. h) (λ w x h. h) (λ w x h. h) (rebuild_at 213 _ refl)
-    & s_continuing_attributed_filled_broken (plain n.Continuing) (in_a_row n.Attribute) (in_a_row n.Statement) (plain n.BreakIf) (λ w x h. h) (λ w x h. h) (λ w x h. h) (λ w x h. h) (rebuild_at 214 _ refl)
+    & s_continuing_attributed_filled (plain n.Continuing) (in_a_row n.Attribute) (in_a_row n.Statement) (λ w x h. h) (λ w x h. h) (λ w x h. h) (rebuild_at 238 _ refl)
+    & s_continuing_attributed_filled_broken (plain n.Continuing) (in_a_row n.Attribute) (in_a_row n.Statement) (plain n.BreakIf) (λ w x h. h) (λ w x h. h) (λ w x h. h) (λ w x h. h) (rebuild_at 239 _ refl)
     & s_break_if (plain n.BreakIf) (plain n.Expression) (λ w x h. h) (λ w x h. h)
     & tt
 
 -- declarations and what they consist of, and modules
-declaration_steps : EachPlain (take 30 rules_of_declarations)
+declaration_steps : EachPlain (take 34 rules_of_declarations)
 unfolding made_rules
 declaration_steps =
     s_void_declared (plain n.Declaration) (λ w x h. h)
@@ -559,10 +587,14 @@ declaration_steps =
     & s_global_attributed (plain n.Declaration) (in_a_row n.Attribute) (plain n.Var) (λ w x h. h) (λ w x h. h) (λ w x h. h)
     & s_global_bare (plain n.Declaration) (plain n.Override) (λ w x h. h) (λ w x h. h)
     & s_global_attributed (plain n.Declaration) (in_a_row n.Attribute) (plain n.Override) (λ w x h. h) (λ w x h. h) (λ w x h. h)
-    & s_const_declared (plain n.Declaration) (plain n.Const) (λ w x h. h) (λ w x h. h)
-    & s_alias_declared (plain n.Declaration) (plain n.TypeExpression) (λ w x h. h) (λ w x h. h)
-    & s_assertion_declared (plain n.Declaration) (plain n.Assertion) (λ w x h. h) (λ w x h. h)
-    & s_structure_declared (plain n.Declaration) (in_a_list n.Member) (λ w x h. h) (λ w x h. h)
+    & s_global_bare (plain n.Declaration) (plain n.Const) (λ w x h. h) (λ w x h. h)
+    & s_global_attributed (plain n.Declaration) (in_a_row n.Attribute) (plain n.Const) (λ w x h. h) (λ w x h. h) (λ w x h. h)
+    & s_alias_bare (plain n.Declaration) (plain n.TypeExpression) (λ w x h. h) (λ w x h. h)
+    & s_alias_attributed (plain n.Declaration) (in_a_row n.Attribute) (plain n.TypeExpression) (λ w x h. h) (λ w x h. h) (λ w x h. h)
+    & s_assertion_bare (plain n.Declaration) (plain n.Assertion) (λ w x h. h) (λ w x h. h)
+    & s_assertion_attributed (plain n.Declaration) (in_a_row n.Attribute) (plain n.Assertion) (λ w x h. h) (λ w x h. h) (λ w x h. h)
+    & s_structure_bare (plain n.Declaration) (in_a_list n.Member) (λ w x h. h) (λ w x h. h)
+    & s_structure_attributed (plain n.Declaration) (in_a_row n.Attribute) (in_a_list n.Member) (λ w x h. h) (λ w x h. h) (λ w x h. h)
     & s_member_bare (plain n.Member) (plain n.TypeExpression) (λ w x h. h) (λ w x h. h)
     & s_member_attributed (plain n.Member) (in_a_row n.Attribute) (plain n.TypeExpression) (λ w x h. h) (λ w x h. h) (λ w x h. h)
     & s_function_of_none (plain n.Declaration) (plain n.Block) (λ w x h. h) (λ w x h. h)
@@ -579,11 +611,11 @@ declaration_steps =
     & s_result_attributed (plain n.Result) (in_a_row n.Attribute) (plain n.TypeExpression) (λ w x h. h) (λ w x h. h) (λ w x h. h)
     & s_module_of_declarations (plain n.Module) (in_a_row n.Declaration) (λ w x h. h) (λ w x h. h)
     & s_module_of_directives (plain n.Module) (in_a_row n.Directive) (λ w x h. h) (λ w x h. h)
-    & s_module_of_directives_declarations (plain n.Module) (in_a_row n.Directive) (in_a_row n.Declaration) (λ w x h. h) (λ w x h. h) (λ w x h. h) (rebuild_at 265 _ refl)
+    & s_module_of_directives_declarations (plain n.Module) (in_a_row n.Directive) (in_a_row n.Declaration) (λ w x h. h) (λ w x h. h) (λ w x h. h) (rebuild_at 297 _ refl)
     & s_module_of_imports (plain n.Module) (in_a_row n.Import) (λ w x h. h) (λ w x h. h)
-    & s_module_of_imports_declarations (plain n.Module) (in_a_row n.Import) (in_a_row n.Declaration) (λ w x h. h) (λ w x h. h) (λ w x h. h) (rebuild_at 267 _ refl)
+    & s_module_of_imports_declarations (plain n.Module) (in_a_row n.Import) (in_a_row n.Declaration) (λ w x h. h) (λ w x h. h) (λ w x h. h) (rebuild_at 299 _ refl)
     & s_module_of_imports_directives (plain n.Module) (in_a_row n.Import) (in_a_row n.Directive) (λ w x h. h) (λ w x h. h) (λ w x h. h)
-    & s_module_of_imports_directives_declarations (plain n.Module) (in_a_row n.Import) (in_a_row n.Directive) (in_a_row n.Declaration) (λ w x h. h) (λ w x h. h) (λ w x h. h) (λ w x h. h) (rebuild_at 269 _ refl)
+    & s_module_of_imports_directives_declarations (plain n.Module) (in_a_row n.Import) (in_a_row n.Directive) (in_a_row n.Declaration) (λ w x h. h) (λ w x h. h) (λ w x h. h) (λ w x h. h) (rebuild_at 301 _ refl)
     & tt
 
 -- `else if`, clauses, statements, imports, directives and declarations in a row
@@ -595,13 +627,13 @@ more_row_steps =
     & s_first_clause (in_a_row n.Clause) (plain n.Clause) (λ w x h. h) (λ w x h. h)
     & s_more_clause (in_a_row n.Clause) (plain n.Clause) (λ w x h. h) (λ w x h. h) (λ w x h. h)
     & s_first_statement (in_a_row n.Statement) (plain n.Statement) (λ w x h. h) (λ w x h. h)
-    & s_more_statements (in_a_row n.Statement) (plain n.Statement) (λ w x h. h) (λ w x h. h) (λ w x h. h) (rebuild_at 281 _ refl)
+    & s_more_statements (in_a_row n.Statement) (plain n.Statement) (λ w x h. h) (λ w x h. h) (λ w x h. h) (rebuild_at 313 _ refl)
     & s_first_import (in_a_row n.Import) (plain n.Import) (λ w x h. h) (λ w x h. h)
     & s_more_imports (in_a_row n.Import) (plain n.Import) (λ w x h. h) (λ w x h. h) (λ w x h. h)
     & s_first_directive (in_a_row n.Directive) (plain n.Directive) (λ w x h. h) (λ w x h. h)
     & s_more_directives (in_a_row n.Directive) (plain n.Directive) (λ w x h. h) (λ w x h. h) (λ w x h. h)
     & s_first_declaration (in_a_row n.Declaration) (plain n.Declaration) (λ w x h. h) (λ w x h. h)
-    & s_more_declarations (in_a_row n.Declaration) (plain n.Declaration) (λ w x h. h) (λ w x h. h) (λ w x h. h) (rebuild_at 287 _ refl)
+    & s_more_declarations (in_a_row n.Declaration) (plain n.Declaration) (λ w x h. h) (λ w x h. h) (λ w x h. h) (rebuild_at 319 _ refl)
     & tt
 
 -- lists of selectors
@@ -609,7 +641,7 @@ selector_steps : EachPlain (take 4 rules_of_selectors)
 unfolding made_rules
 selector_steps =
     s_selectors_without (in_a_list n.Selector) (with_commas n.Selector) (λ w x h. h) (λ w x h. h)
-    & s_selectors_with (in_a_list n.Selector) (with_commas n.Selector) (λ w x h. h) (λ w x h. h) (rebuild_at 297 _ refl)
+    & s_selectors_with (in_a_list n.Selector) (with_commas n.Selector) (λ w x h. h) (λ w x h. h) (rebuild_at 329 _ refl)
     & s_first_selector (with_commas n.Selector) (plain n.Selector) (λ w x h. h) (λ w x h. h)
     & s_more_selectors (with_commas n.Selector) (plain n.Selector) (λ w x h. h) (λ w x h. h) (λ w x h. h)
     & tt
@@ -618,12 +650,12 @@ selector_steps =
 member_steps : EachPlain (take 8 rules_of_members)
 unfolding made_rules
 member_steps =
-    s_members_without (in_a_list n.Member) (with_commas n.Member) (λ w x h. h) (λ w x h. h) (rebuild_at 310 _ refl)
+    s_members_without (in_a_list n.Member) (with_commas n.Member) (λ w x h. h) (λ w x h. h) (rebuild_at 342 _ refl)
     & s_members_with (in_a_list n.Member) (with_commas n.Member) (λ w x h. h) (λ w x h. h)
     & s_first_member (with_commas n.Member) (plain n.Member) (λ w x h. h) (λ w x h. h)
     & s_more_members (with_commas n.Member) (plain n.Member) (λ w x h. h) (λ w x h. h) (λ w x h. h)
     & s_parameters_without (in_a_list n.Parameter) (with_commas n.Parameter) (λ w x h. h) (λ w x h. h)
-    & s_parameters_with (in_a_list n.Parameter) (with_commas n.Parameter) (λ w x h. h) (λ w x h. h) (rebuild_at 313 _ refl)
+    & s_parameters_with (in_a_list n.Parameter) (with_commas n.Parameter) (λ w x h. h) (λ w x h. h) (rebuild_at 345 _ refl)
     & s_first_parameter (with_commas n.Parameter) (plain n.Parameter) (λ w x h. h) (λ w x h. h)
     & s_more_parameters (with_commas n.Parameter) (plain n.Parameter) (λ w x h. h) (λ w x h. h) (λ w x h. h)
     & tt
@@ -640,17 +672,17 @@ steps : Each made_rules
 steps =
     both_steps 63 made_rules (each_plain _ first_steps)
     (both_steps 34 rules_of_attributes (each_plain _ word_steps)
-    (both_steps 2 rules_of_whole_attributes attribute_steps
+    (both_steps 5 rules_of_whole_attributes attribute_steps
     (both_steps 2 rules_of_var var_steps
-    (both_steps 20 rules_of_values (each_plain _ value_steps)
-    (both_steps 27 rules_of_plain (each_plain _ plain_steps)
-    (both_steps 13 rules_of_if (each_plain _ if_steps)
+    (both_steps 24 rules_of_values (each_plain _ value_steps)
+    (both_steps 42 rules_of_plain (each_plain _ plain_steps)
+    (both_steps 16 rules_of_if (each_plain _ if_steps)
     (both_steps 20 rules_of_switch (each_plain _ switch_and_loop_steps)
     (both_steps 18 rules_of_for (each_plain _ for_steps)
     (both_steps 19 rules_of_blocks (each_plain _ block_steps)
     (both_steps 15 rules_of_imports (each_plain _ import_steps)
-    (both_steps 8 rules_of_directives directive_steps
-    (both_steps 30 rules_of_declarations (each_plain _ declaration_steps)
+    (both_steps 11 rules_of_directives directive_steps
+    (both_steps 34 rules_of_declarations (each_plain _ declaration_steps)
     (both_steps 4 rules_of_kinds (each_plain _ kind_steps)
     (both_steps 2 rules_of_rows (each_plain _ row_steps)
     (both_steps 12 rules_of_more_rows (each_plain _ more_row_steps)

@@ -13,13 +13,22 @@ use Rattle.wgsl_template_spec.specs.declared.token.TemplateToken.{TemplateToken}
 use Rattle.wgsl_template_spec.specs.declared.token.SpannedTemplateToken.{SpannedTemplateToken}
 use Rattle.wgsl_token_layout.specs.Laws.{without_places}
 use Rattle.wgsl_token_layout.specs.OptionalMarks.{Before, before, may_end_so, outer, comma, first_has}
+use Rattle.wgsl_path.specs.declared.span.Spanned.{Spanned}
+use Rattle.wgsl_attributes.specs.declared.attribute.Attribute.{Attribute}
+use Rattle.wgsl_attributes.specs.Tree.{Attr}
+use Rattle.wgsl_attributes.specs.View.{attributes_tree}
+use Rattle.wgsl_imports.specs.declared.directive.GlobalDirective.{GlobalDirective}
 use Rattle.wgsl_imports.specs.declared.directive.GlobalDirective.TheVariants as directive
 use Rattle.wgsl_imports.specs.Tree.{Directive, diagnostic, enabling, requiring}
+use Rattle.wgsl_imports.specs.View.{directive_tree}
+use Rattle.wgsl_nodes.specs.Directives.{directive_with}
 use Rattle.wgsl_tree_tokens.specs.Tokens.{mark, word}
 use Rattle.wgsl_tree_tokens.specs.Directives.{IsRule, one_name, two_names, more_names_tokens, names_tokens, setting_tokens, HasTokens, of_diagnostic, of_enable, of_requires}
+use Rattle.wgsl_tree_tokens.specs.Imports.{no_attributes}
 use Rattle.wgsl_tree_tokens.proofs.Expressions.{are_front, are_behind, are_both}
 use Rattle.wgsl_choices.specs.Choices.{severity_of}
 use Rattle.wgsl_shift_reduce.specs.Grammars.{Symbol, token, phrase}
+use Rattle.wgsl_parts.specs.Reading.{attributes_of}
 use Rattle.wgsl_parts.specs.declared.part.Part.{Part}
 use Rattle.wgsl_parts.specs.declared.part.Part.TheVariants as part
 use Rattle.wgsl_parts.specs.declared.label.Label.TheVariants as l
@@ -31,8 +40,10 @@ use Rattle.wgsl_reading.specs.Failures.{part_severity, unknown_severity}
 use Rattle.wgsl_grammar_tables.specs.Classes.{fixed_class}
 use Rattle.wgsl_read_back.proofs.Views.{View, view_tokens, Stands, a_token, a_text, some_texts, a_directive}
 use Rattle.wgsl_read_back.proofs.Views as v
+use Rattle.wgsl_read_back.proofs.Pieces.{end, a_mark, a_part, a_list, no_part, Made, made_as, pieces_back, of_two_parts}
+use Rattle.wgsl_read_back.proofs.AttributeRows.{AttributesRowed, attributes_are}
 use Rattle.wgsl_read_back.proofs.Items.{Item, Back, ListBack, OneToken, cuts, places_append, moved}
-use Rattle.wgsl_read_back.proofs.Rows.{concat, nil as no_more, more, list_more, RowBack, likewise_row, made_again, Fine, steps_row, spelled_row, stood_back, Stood, stood_pass, Makes, make_of, makes_of, makes_checked, made_severity_passes, Rebuild, back_of, of_one, of_two, of_three, of_six, of_seven}
+use Rattle.wgsl_read_back.proofs.Rows.{concat, nil as no_more, more, RowBack, likewise_row, made_again, Fine, steps_row, spelled_row, stood_back, Stood, stood_pass, Makes, make_of, makes_of, makes_checked, made_severity_passes, Rebuild, back_of, of_one, of_three, of_six, of_seven}
 use Rattle.wgsl_read_back.proofs.Places.{mark_of, word_of}
 use Rattle.wgsl_read_back.proofs.Families.{token_item, mark_item}
 use Rattle.wgsl_read_back.proofs.Operands.{word_item, word_part}
@@ -317,56 +328,119 @@ setting_with n m read rebuild {a = a} {b = b} {c = c} {d = d} {e = e} {k = k} {g
 
 -- ---- directives
 
-pub directive_of_setting : (n m : ℕ) → Rebuild n (phrase m ∷ token (fixed_class f.Semicolon) ∷ []) l.Pass (2 ∷ 1 ∷ []) → {a b : List SpannedTemplateToken} {x y : Phrase Part} → Controlled m a x → OneToken (fixed_class f.Semicolon) b y
-    → Directed n (a ++ (b ++ [])) (make_of l.Pass (2 ∷ 1 ∷ []) (x ∷ y ∷ []))
-directive_of_setting n m rebuild {b = b} {y = y} g k = (
-  diagnostic [] g.0 g.1,
-  setting_tokens g.0 g.2 ++ (mark f.Semicolon ∷ []),
-  of_diagnostic g.0 g.3,
-  back_of n (phrase m ∷ token (fixed_class f.Semicolon) ∷ []) l.Pass (2 ∷ 1 ∷ []) rebuild (v.setting (diagnostic [] g.0 g.1) (setting_tokens g.0 g.2) ∷ v.token (mark f.Semicolon) ∷ [])
-      (v.directive (diagnostic [] g.0 g.1) (setting_tokens g.0 g.2 ++ (mark f.Semicolon ∷ []))) refl
-      (of_two (λ ys. Makes (v.directive (diagnostic [] g.0 g.1) (setting_tokens g.0 g.2 ++ (mark f.Semicolon ∷ []))) (make_of l.Pass (2 ∷ 1 ∷ []) ys)) (makes (diagnostic [] g.0 g.1) (setting_tokens g.0 g.2)))
-      (more g.4.item (more (mark_item f.Semicolon b y k) no_more)) (λ c p. tt) (λ c p. g.4.level c p) (λ c p. refl),
-)
-  where
-    makes : (d : Directive) (ts : List TemplateToken) (a b : Phrase Part) → Stood (a ∷ b ∷ []) (v.setting d ts ∷ v.token (mark f.Semicolon) ∷ []) → Makes (v.directive d (ts ++ (mark f.Semicolon ∷ []))) (make_of l.Pass (2 ∷ 1 ∷ []) (a ∷ b ∷ []))
-    makes d ts a b h = go h.0.0
-      where
-        go : Stands a.part (v.setting d ts) → Makes (v.directive d (ts ++ (mark f.Semicolon ∷ []))) (make_of l.Pass (2 ∷ 1 ∷ []) (a ∷ b ∷ []))
-        go (v.a_setting y e p) =
-            makes_of l.Pass (2 ∷ 1 ∷ []) a (b ∷ []) (v.directive d (ts ++ (mark f.Semicolon ∷ []))) (λ z. part.Directive y) (λ z. e) (λ z. a_directive y refl p) (λ ps. refl) (λ z. refl)
-            (stood_pass (a ∷ b ∷ []) (v.setting d ts ∷ v.token (mark f.Semicolon) ∷ []) h)
+abbrev pub control_row : ℕ → List Symbol
+control_row m = phrase m ∷ token (fixed_class f.Semicolon) ∷ []
+
+abbrev pub attributes_control_row : ℕ → ℕ → List Symbol
+attributes_control_row r m = phrase r ∷ control_row m
+
+-- a setting with other attributes
+with_setting : (y : GlobalDirective) (s : DiagnosticSeverity) (rule : List ℕ) → directive_tree y ≡ diagnostic [] s rule → (zs : List (Spanned Attribute)) → directive_tree (directive_with y zs) ≡ diagnostic (attributes_tree zs) s rule
+with_setting (directive.Diagnostic x) s rule e zs =
+    let same : diagnostic (attributes_tree x.attributes) x.severity x.rule_name ≡ diagnostic [] s rule = e in
+    let one : x.severity ≡ s = cc in
+    let two : x.rule_name ≡ rule = cc in
+    (λ i. diagnostic (attributes_tree zs) (one i) (two i))
+with_setting (directive.Enable x) s rule e zs = absurd (let other : enabling (attributes_tree x.attributes) x.extensions ≡ diagnostic [] s rule = e in cc)
+with_setting (directive.Requires x) s rule e zs = absurd (let other : requiring (attributes_tree x.attributes) x.extensions ≡ diagnostic [] s rule = e in cc)
+
+control_makes : (xs : List Attr) (ts : List TemplateToken) (s : DiagnosticSeverity) (rule : List ℕ) (us ws : List TemplateToken) (p q : Part) → Stands p (v.attributes xs ts) → Stands q (v.setting (diagnostic [] s rule) us)
+    → Made (l.Directive label.Control) (p ∷ q ∷ []) (v.directive (diagnostic xs s rule) ws)
+control_makes xs ts s rule us ws p q h (v.a_setting y is e) =
+    made_as (l.Directive label.Control) (p ∷ q ∷ []) (v.directive (diagnostic xs s rule) ws) (λ z. part.Directive (directive_with y (attributes_of p))) (λ z i. make.control (p ∷ is i ∷ []))
+    (λ z. a_directive _ refl (with_setting y s rule e (attributes_of p) ∙ ap (λ zs. diagnostic zs s rule) (attributes_are p xs ts h))) (λ z. refl) refl
+
+pub control_bare : (n m : ℕ) → Rebuild n (control_row m) (l.Directive label.Control) (0 ∷ 2 ∷ 1 ∷ []) → {a b : List SpannedTemplateToken} {x y : Phrase Part} → Controlled m a x → OneToken (fixed_class f.Semicolon) b y
+    → Directed n (a ++ (b ++ [])) (make_of (l.Directive label.Control) (0 ∷ 2 ∷ 1 ∷ []) (x ∷ y ∷ []))
+control_bare n m rebuild {b = b} {y = y} g k =
+    let d : Directive = diagnostic [] g.0 g.1 in
+    let ts : List TemplateToken = setting_tokens g.0 g.2 ++ (mark f.Semicolon ∷ []) in (
+      d,
+      ts,
+      of_diagnostic no_attributes g.0 g.3,
+      pieces_back n (control_row m) (0 ∷ 2 ∷ 1 ∷ []) (phrase m) (token (fixed_class f.Semicolon) ∷ []) (0 ∷ 2 ∷ 1 ∷ []) (l.Directive label.Control) rebuild rebuild (v.directive d ts)
+          (no_part (v.attributes [] []) (v.no_attributes refl) (a_part g.4 (a_mark (mark_item f.Semicolon b y k) end))) refl
+          (of_two_parts (λ qs. Made (l.Directive label.Control) qs (v.directive d ts)) (control_makes [] [] g.0 g.1 (setting_tokens g.0 g.2) ts)) (λ c o. tt) (λ c o. refl) (λ c o. refl),
+    )
+
+pub control_attributed : (n r m : ℕ) → Rebuild n (attributes_control_row r m) (l.Directive label.Control) (2 ∷ 2 ∷ 1 ∷ []) → {e a b : List SpannedTemplateToken} {w x y : Phrase Part} → AttributesRowed r e w → Controlled m a x → OneToken (fixed_class f.Semicolon) b y
+    → Directed n (e ++ (a ++ (b ++ []))) (make_of (l.Directive label.Control) (2 ∷ 2 ∷ 1 ∷ []) (w ∷ x ∷ y ∷ []))
+control_attributed n r m rebuild {b = b} {y = y} h g k =
+    let d : Directive = diagnostic (h.0 ∷ h.1) g.0 g.1 in
+    let ts : List TemplateToken = h.2 ++ (setting_tokens g.0 g.2 ++ (mark f.Semicolon ∷ [])) in (
+      d,
+      ts,
+      of_diagnostic h.3 g.0 g.3,
+      pieces_back n (attributes_control_row r m) (2 ∷ 2 ∷ 1 ∷ []) (phrase r) (control_row m) (2 ∷ 2 ∷ 1 ∷ []) (l.Directive label.Control) rebuild rebuild (v.directive d ts)
+          (a_part h.4 (a_part g.4 (a_mark (mark_item f.Semicolon b y k) end))) refl
+          (of_two_parts (λ qs. Made (l.Directive label.Control) qs (v.directive d ts)) (control_makes (h.0 ∷ h.1) h.2 g.0 g.1 (setting_tokens g.0 g.2) ts)) (λ c o. tt) (λ c o. refl) (λ c o. refl),
+    )
 
 abbrev pub names_row : Fixed → ℕ → List Symbol
 names_row g m = token (fixed_class g) ∷ phrase m ∷ token (fixed_class f.Semicolon) ∷ []
 
+abbrev pub attributes_names_row : Fixed → ℕ → ℕ → List Symbol
+attributes_names_row g r m = phrase r ∷ names_row g m
+
 semicolon_tokens : {b : List SpannedTemplateToken} {y : Phrase Part} → (k : OneToken (fixed_class f.Semicolon) b y) → without_places b ≡ mark f.Semicolon ∷ []
 semicolon_tokens k = ap without_places (sym k.whole) ∙ ap (λ z. z ∷ []) (mark_of k.one.token f.Semicolon k.class)
 
-pub enabled : (n m : ℕ) → Rebuild n (names_row f.Enable m) (l.Directive label.Enable) (1 ∷ 2 ∷ 1 ∷ []) → {a b c : List SpannedTemplateToken} {x y z : Phrase Part} → OneToken (fixed_class f.Enable) a x → NamesListed m b y → OneToken (fixed_class f.Semicolon) c z
-    → Directed n (a ++ (b ++ (c ++ []))) (make_of (l.Directive label.Enable) (1 ∷ 2 ∷ 1 ∷ []) (x ∷ y ∷ z ∷ []))
-enabled n m rebuild {a = a} {c = c} {x = x} {z = z} i g k =
+enable_makes : (xs : List Attr) (ts : List TemplateToken) (ys : List (List ℕ)) (ws : List TemplateToken) (p q : Part) → Stands p (v.attributes xs ts) → Stands q (v.texts ys) → Made (l.Directive label.Enable) (p ∷ q ∷ []) (v.directive (enabling xs ys) ws)
+enable_makes xs ts ys ws p q h g =
+    made_as (l.Directive label.Enable) (p ∷ q ∷ []) (v.directive (enabling xs ys) ws) (λ s. part.Directive (directive.Enable (record { attributes = attributes_of p; extensions = ys }))) (λ s i. make.enable (p ∷ texts_part q ys g i ∷ []))
+    (λ s. a_directive _ refl (λ i. enabling (attributes_are p xs ts h i) ys)) (λ s. refl) refl
+
+pub enabled_bare : (n m : ℕ) → Rebuild n (names_row f.Enable m) (l.Directive label.Enable) (0 ∷ 1 ∷ 2 ∷ 1 ∷ []) → {a b c : List SpannedTemplateToken} {x y z : Phrase Part} → OneToken (fixed_class f.Enable) a x → NamesListed m b y → OneToken (fixed_class f.Semicolon) c z
+    → Directed n (a ++ (b ++ (c ++ []))) (make_of (l.Directive label.Enable) (0 ∷ 1 ∷ 2 ∷ 1 ∷ []) (x ∷ y ∷ z ∷ []))
+enabled_bare n m rebuild {a = a} {c = c} {x = x} {z = z} i g k =
     let ts : List TemplateToken = mark f.Enable ∷ (names_tokens g.0 ++ (mark f.Semicolon ∷ [])) in (
       enabling [] g.0,
       ts,
-      of_enable g.0,
-      back_of n (names_row f.Enable m) (l.Directive label.Enable) (1 ∷ 2 ∷ 1 ∷ []) rebuild (v.token (mark f.Enable) ∷ v.texts g.0 ∷ v.token (mark f.Semicolon) ∷ []) (v.directive (enabling [] g.0) ts) refl
-          (of_three (λ ys. Makes (v.directive (enabling [] g.0) ts) (make_of (l.Directive label.Enable) (1 ∷ 2 ∷ 1 ∷ []) ys)) (λ d e h w.
-          makes_of (l.Directive label.Enable) (1 ∷ 2 ∷ 1 ∷ []) d (e ∷ h ∷ []) (v.directive (enabling [] g.0) ts) (λ s. part.Directive (directive.Enable (record { attributes = []; extensions = g.0 }))) (λ s i. make.enable (texts_part e.part g.0 w.1.0.0 i ∷ []))
-          (λ s. a_directive _ refl refl) (λ ps. refl) (λ s. refl) (stood_pass (d ∷ e ∷ h ∷ []) (v.token (mark f.Enable) ∷ v.texts g.0 ∷ v.token (mark f.Semicolon) ∷ []) w)))
-          (more (mark_item f.Enable a x i) (list_more g.1 (mark_item f.Semicolon c z k) (semicolon_tokens k) (cuts (λ xs. refl)) no_more)) (λ c p. (tt, tt)) (λ c p. refl) (λ c p. refl),
+      of_enable no_attributes g.0,
+      pieces_back n (names_row f.Enable m) (0 ∷ 1 ∷ 2 ∷ 1 ∷ []) (token (fixed_class f.Enable)) (phrase m ∷ token (fixed_class f.Semicolon) ∷ []) (0 ∷ 1 ∷ 2 ∷ 1 ∷ []) (l.Directive label.Enable) rebuild rebuild (v.directive (enabling [] g.0) ts)
+          (no_part (v.attributes [] []) (v.no_attributes refl) (a_mark (mark_item f.Enable a x i) (a_list g.1 (mark_item f.Semicolon c z k) (semicolon_tokens k) (cuts (λ xs. refl)) end))) refl
+          (of_two_parts (λ qs. Made (l.Directive label.Enable) qs (v.directive (enabling [] g.0) ts)) (enable_makes [] [] g.0 ts)) (λ c o. (tt, tt)) (λ c o. refl) (λ c o. refl),
     )
 
-pub required : (n m : ℕ) → Rebuild n (names_row f.Requires m) (l.Directive label.Requires) (1 ∷ 2 ∷ 1 ∷ []) → {a b c : List SpannedTemplateToken} {x y z : Phrase Part} → OneToken (fixed_class f.Requires) a x → NamesListed m b y → OneToken (fixed_class f.Semicolon) c z
-    → Directed n (a ++ (b ++ (c ++ []))) (make_of (l.Directive label.Requires) (1 ∷ 2 ∷ 1 ∷ []) (x ∷ y ∷ z ∷ []))
-required n m rebuild {a = a} {c = c} {x = x} {z = z} i g k =
+pub enabled_attributed : (n r m : ℕ) → Rebuild n (attributes_names_row f.Enable r m) (l.Directive label.Enable) (2 ∷ 1 ∷ 2 ∷ 1 ∷ []) → {e a b c : List SpannedTemplateToken} {w x y z : Phrase Part} → AttributesRowed r e w → OneToken (fixed_class f.Enable) a x → NamesListed m b y → OneToken (fixed_class f.Semicolon) c z
+    → Directed n (e ++ (a ++ (b ++ (c ++ [])))) (make_of (l.Directive label.Enable) (2 ∷ 1 ∷ 2 ∷ 1 ∷ []) (w ∷ x ∷ y ∷ z ∷ []))
+enabled_attributed n r m rebuild {a = a} {c = c} {x = x} {z = z} h i g k =
+    let d : Directive = enabling (h.0 ∷ h.1) g.0 in
+    let ts : List TemplateToken = h.2 ++ (mark f.Enable ∷ (names_tokens g.0 ++ (mark f.Semicolon ∷ []))) in (
+      d,
+      ts,
+      of_enable h.3 g.0,
+      pieces_back n (attributes_names_row f.Enable r m) (2 ∷ 1 ∷ 2 ∷ 1 ∷ []) (phrase r) (names_row f.Enable m) (2 ∷ 1 ∷ 2 ∷ 1 ∷ []) (l.Directive label.Enable) rebuild rebuild (v.directive d ts)
+          (a_part h.4 (a_mark (mark_item f.Enable a x i) (a_list g.1 (mark_item f.Semicolon c z k) (semicolon_tokens k) (cuts (λ xs. refl)) end))) refl
+          (of_two_parts (λ qs. Made (l.Directive label.Enable) qs (v.directive d ts)) (enable_makes (h.0 ∷ h.1) h.2 g.0 ts)) (λ c o. (tt, tt)) (λ c o. refl) (λ c o. refl),
+    )
+
+requires_makes : (xs : List Attr) (ts : List TemplateToken) (ys : List (List ℕ)) (ws : List TemplateToken) (p q : Part) → Stands p (v.attributes xs ts) → Stands q (v.texts ys) → Made (l.Directive label.Requires) (p ∷ q ∷ []) (v.directive (requiring xs ys) ws)
+requires_makes xs ts ys ws p q h g =
+    made_as (l.Directive label.Requires) (p ∷ q ∷ []) (v.directive (requiring xs ys) ws) (λ s. part.Directive (directive.Requires (record { attributes = attributes_of p; extensions = ys }))) (λ s i. make.requires_extensions (p ∷ texts_part q ys g i ∷ []))
+    (λ s. a_directive _ refl (λ i. requiring (attributes_are p xs ts h i) ys)) (λ s. refl) refl
+
+pub required_bare : (n m : ℕ) → Rebuild n (names_row f.Requires m) (l.Directive label.Requires) (0 ∷ 1 ∷ 2 ∷ 1 ∷ []) → {a b c : List SpannedTemplateToken} {x y z : Phrase Part} → OneToken (fixed_class f.Requires) a x → NamesListed m b y → OneToken (fixed_class f.Semicolon) c z
+    → Directed n (a ++ (b ++ (c ++ []))) (make_of (l.Directive label.Requires) (0 ∷ 1 ∷ 2 ∷ 1 ∷ []) (x ∷ y ∷ z ∷ []))
+required_bare n m rebuild {a = a} {c = c} {x = x} {z = z} i g k =
     let ts : List TemplateToken = mark f.Requires ∷ (names_tokens g.0 ++ (mark f.Semicolon ∷ [])) in (
       requiring [] g.0,
       ts,
-      of_requires g.0,
-      back_of n (names_row f.Requires m) (l.Directive label.Requires) (1 ∷ 2 ∷ 1 ∷ []) rebuild (v.token (mark f.Requires) ∷ v.texts g.0 ∷ v.token (mark f.Semicolon) ∷ []) (v.directive (requiring [] g.0) ts) refl
-          (of_three (λ ys. Makes (v.directive (requiring [] g.0) ts) (make_of (l.Directive label.Requires) (1 ∷ 2 ∷ 1 ∷ []) ys)) (λ d e h w.
-          makes_of (l.Directive label.Requires) (1 ∷ 2 ∷ 1 ∷ []) d (e ∷ h ∷ []) (v.directive (requiring [] g.0) ts) (λ s. part.Directive (directive.Requires (record { attributes = []; extensions = g.0 })))
-          (λ s i. make.requires_extensions (texts_part e.part g.0 w.1.0.0 i ∷ [])) (λ s. a_directive _ refl refl) (λ ps. refl) (λ s. refl) (stood_pass (d ∷ e ∷ h ∷ []) (v.token (mark f.Requires) ∷ v.texts g.0 ∷ v.token (mark f.Semicolon) ∷ []) w)))
-          (more (mark_item f.Requires a x i) (list_more g.1 (mark_item f.Semicolon c z k) (semicolon_tokens k) (cuts (λ xs. refl)) no_more)) (λ c p. (tt, tt)) (λ c p. refl) (λ c p. refl),
+      of_requires no_attributes g.0,
+      pieces_back n (names_row f.Requires m) (0 ∷ 1 ∷ 2 ∷ 1 ∷ []) (token (fixed_class f.Requires)) (phrase m ∷ token (fixed_class f.Semicolon) ∷ []) (0 ∷ 1 ∷ 2 ∷ 1 ∷ []) (l.Directive label.Requires) rebuild rebuild (v.directive (requiring [] g.0) ts)
+          (no_part (v.attributes [] []) (v.no_attributes refl) (a_mark (mark_item f.Requires a x i) (a_list g.1 (mark_item f.Semicolon c z k) (semicolon_tokens k) (cuts (λ xs. refl)) end))) refl
+          (of_two_parts (λ qs. Made (l.Directive label.Requires) qs (v.directive (requiring [] g.0) ts)) (requires_makes [] [] g.0 ts)) (λ c o. (tt, tt)) (λ c o. refl) (λ c o. refl),
+    )
+
+pub required_attributed : (n r m : ℕ) → Rebuild n (attributes_names_row f.Requires r m) (l.Directive label.Requires) (2 ∷ 1 ∷ 2 ∷ 1 ∷ []) → {e a b c : List SpannedTemplateToken} {w x y z : Phrase Part} → AttributesRowed r e w → OneToken (fixed_class f.Requires) a x → NamesListed m b y → OneToken (fixed_class f.Semicolon) c z
+    → Directed n (e ++ (a ++ (b ++ (c ++ [])))) (make_of (l.Directive label.Requires) (2 ∷ 1 ∷ 2 ∷ 1 ∷ []) (w ∷ x ∷ y ∷ z ∷ []))
+required_attributed n r m rebuild {a = a} {c = c} {x = x} {z = z} h i g k =
+    let d : Directive = requiring (h.0 ∷ h.1) g.0 in
+    let ts : List TemplateToken = h.2 ++ (mark f.Requires ∷ (names_tokens g.0 ++ (mark f.Semicolon ∷ []))) in (
+      d,
+      ts,
+      of_requires h.3 g.0,
+      pieces_back n (attributes_names_row f.Requires r m) (2 ∷ 1 ∷ 2 ∷ 1 ∷ []) (phrase r) (names_row f.Requires m) (2 ∷ 1 ∷ 2 ∷ 1 ∷ []) (l.Directive label.Requires) rebuild rebuild (v.directive d ts)
+          (a_part h.4 (a_mark (mark_item f.Requires a x i) (a_list g.1 (mark_item f.Semicolon c z k) (semicolon_tokens k) (cuts (λ xs. refl)) end))) refl
+          (of_two_parts (λ qs. Made (l.Directive label.Requires) qs (v.directive d ts)) (requires_makes (h.0 ∷ h.1) h.2 g.0 ts)) (λ c o. (tt, tt)) (λ c o. refl) (λ c o. refl),
     )

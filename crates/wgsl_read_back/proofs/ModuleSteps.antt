@@ -15,7 +15,7 @@ use Rattle.wgsl_read_back.proofs.Values.{ValueDeclared, Asserted}
 use Rattle.wgsl_read_back.proofs.Blocks.{Blocked}
 use Rattle.wgsl_read_back.proofs.Parameters.{Parametered, ParametersSeparated, ParametersListed, Resulted, typed_row, attributes_typed_row, result_row, attributes_result_row, typed_bare, typed_attributed, parameter_view, parameter_makes, first_parameter, more_parameters, parameters_without, parameters_with, result_bare, result_attributed}
 use Rattle.wgsl_read_back.proofs.Members.{Membered, MembersSeparated, MembersListed, comma_row, member_view, member_makes, first_member, more_members, members_without, members_with}
-use Rattle.wgsl_read_back.proofs.Declarations.{Declared, ended_row, attributes_ended_row, alias_row, structure_row, head_row, body_row, result_body_row, void_declared, global_bare, global_attributed, const_declared, assertion_declared, alias_declared, structure_declared, function_of_none, function_of_none_returning, function_of_some, function_of_some_returning, function_attributed_of_none, function_attributed_of_none_returning, function_attributed_of_some, function_attributed_of_some_returning}
+use Rattle.wgsl_read_back.proofs.Declarations.{Declared, ended_row, attributes_ended_row, alias_row, attributes_alias_row, structure_row, attributes_structure_row, head_row, body_row, result_body_row, void_declared, global_bare, global_attributed, assertion_bare, assertion_attributed, alias_bare, alias_attributed, structure_bare, structure_attributed, function_of_none, function_of_none_returning, function_of_some, function_of_some_returning, function_attributed_of_none, function_attributed_of_none_returning, function_attributed_of_some, function_attributed_of_some_returning}
 use Rattle.wgsl_read_back.proofs.ModuleRows.{ImportsRowed, DirectivesRowed, DeclarationsRowed, first_import, more_imports, first_directive, more_directives, first_declaration, more_declarations}
 use Rattle.wgsl_read_back.proofs.Modules.{ModuleRead, module_of_imports_directives_declarations, module_of_imports_directives, module_of_imports_declarations, module_of_imports, module_of_directives_declarations, module_of_directives, module_of_declarations}
 use Rattle.wgsl_read_back.proofs.Steps.{good_end, good_next, Is, As, Makes}
@@ -25,7 +25,7 @@ use Rattle.wgsl_read_back.proofs.Steps.{good_end, good_next, Is, As, Makes}
 pub s_void_declared : (k : ℕ) → Is Declared k → Makes k (token (fixed_class f.Semicolon) ∷ []) (l.Declaration decl.VoidDeclaration) (1 ∷ [])
 s_void_declared k out rebuild _ _ (good_next _ i good_end) = out _ _ (void_declared k rebuild i)
 
--- decl.Global, of n.Var and of n.Override, each without attributes and then with them
+-- decl.Global, of n.Var, of n.Override and of n.Const, each without attributes and then with them
 
 pub s_global_bare : (k m : ℕ) → Is Declared k → As ValueDeclared m → Makes k (ended_row m) (l.Declaration decl.Global) (0 ∷ 2 ∷ 1 ∷ [])
 s_global_bare k m out a rebuild _ _ (good_next _ h (good_next _ i good_end)) = out _ _ (global_bare k m rebuild (a _ _ h) i)
@@ -33,25 +33,29 @@ s_global_bare k m out a rebuild _ _ (good_next _ h (good_next _ i good_end)) = o
 pub s_global_attributed : (k r m : ℕ) → Is Declared k → As AttributesRowed r → As ValueDeclared m → Makes k (attributes_ended_row r m) (l.Declaration decl.Global) (2 ∷ 2 ∷ 1 ∷ [])
 s_global_attributed k r m out b a rebuild _ _ (good_next _ t (good_next _ h (good_next _ i good_end))) = out _ _ (global_attributed k r m rebuild (b _ _ t) (a _ _ h) i)
 
--- decl.GlobalConst, of n.Const
-
-pub s_const_declared : (k m : ℕ) → Is Declared k → As ValueDeclared m → Makes k (ended_row m) (l.Declaration decl.GlobalConst) (2 ∷ 1 ∷ [])
-s_const_declared k m out a rebuild _ _ (good_next _ h (good_next _ i good_end)) = out _ _ (const_declared k m rebuild (a _ _ h) i)
-
 -- decl.Alias, of n.TypeExpression
 
-pub s_alias_declared : (k m : ℕ) → Is Declared k → As Typed m → Makes k (alias_row m) (l.Declaration decl.Alias) (1 ∷ 2 ∷ 1 ∷ 2 ∷ 1 ∷ [])
-s_alias_declared k m out a rebuild _ _ (good_next _ g (good_next _ h (good_next _ i (good_next _ t (good_next _ j good_end))))) = out _ _ (alias_declared k m rebuild g h i (a _ _ t) j)
+pub s_alias_bare : (k m : ℕ) → Is Declared k → As Typed m → Makes k (alias_row m) (l.Declaration decl.Alias) (0 ∷ 1 ∷ 2 ∷ 1 ∷ 2 ∷ 1 ∷ [])
+s_alias_bare k m out a rebuild _ _ (good_next _ g (good_next _ h (good_next _ i (good_next _ t (good_next _ j good_end))))) = out _ _ (alias_bare k m rebuild g h i (a _ _ t) j)
+
+pub s_alias_attributed : (k r m : ℕ) → Is Declared k → As AttributesRowed r → As Typed m → Makes k (attributes_alias_row r m) (l.Declaration decl.Alias) (2 ∷ 1 ∷ 2 ∷ 1 ∷ 2 ∷ 1 ∷ [])
+s_alias_attributed k r m out b a rebuild _ _ (good_next _ s (good_next _ g (good_next _ h (good_next _ i (good_next _ t (good_next _ j good_end)))))) = out _ _ (alias_attributed k r m rebuild (b _ _ s) g h i (a _ _ t) j)
 
 -- decl.GlobalAssertion, of n.Assertion
 
-pub s_assertion_declared : (k m : ℕ) → Is Declared k → As Asserted m → Makes k (ended_row m) (l.Declaration decl.GlobalAssertion) (2 ∷ 1 ∷ [])
-s_assertion_declared k m out a rebuild _ _ (good_next _ h (good_next _ i good_end)) = out _ _ (assertion_declared k m rebuild (a _ _ h) i)
+pub s_assertion_bare : (k m : ℕ) → Is Declared k → As Asserted m → Makes k (ended_row m) (l.Declaration decl.GlobalAssertion) (0 ∷ 2 ∷ 1 ∷ [])
+s_assertion_bare k m out a rebuild _ _ (good_next _ h (good_next _ i good_end)) = out _ _ (assertion_bare k m rebuild (a _ _ h) i)
+
+pub s_assertion_attributed : (k r m : ℕ) → Is Declared k → As AttributesRowed r → As Asserted m → Makes k (attributes_ended_row r m) (l.Declaration decl.GlobalAssertion) (2 ∷ 2 ∷ 1 ∷ [])
+s_assertion_attributed k r m out b a rebuild _ _ (good_next _ t (good_next _ h (good_next _ i good_end))) = out _ _ (assertion_attributed k r m rebuild (b _ _ t) (a _ _ h) i)
 
 -- decl.Struct, of in_a_list n.Member
 
-pub s_structure_declared : (k m : ℕ) → Is Declared k → As MembersListed m → Makes k (structure_row m) (l.Declaration decl.Struct) (1 ∷ 2 ∷ 1 ∷ 2 ∷ 1 ∷ [])
-s_structure_declared k m out a rebuild _ _ (good_next _ g (good_next _ h (good_next _ i (good_next _ t (good_next _ j good_end))))) = out _ _ (structure_declared k m rebuild g h i (a _ _ t) j)
+pub s_structure_bare : (k m : ℕ) → Is Declared k → As MembersListed m → Makes k (structure_row m) (l.Declaration decl.Struct) (0 ∷ 1 ∷ 2 ∷ 1 ∷ 2 ∷ 1 ∷ [])
+s_structure_bare k m out a rebuild _ _ (good_next _ g (good_next _ h (good_next _ i (good_next _ t (good_next _ j good_end))))) = out _ _ (structure_bare k m rebuild g h i (a _ _ t) j)
+
+pub s_structure_attributed : (k r m : ℕ) → Is Declared k → As AttributesRowed r → As MembersListed m → Makes k (attributes_structure_row r m) (l.Declaration decl.Struct) (2 ∷ 1 ∷ 2 ∷ 1 ∷ 2 ∷ 1 ∷ [])
+s_structure_attributed k r m out b a rebuild _ _ (good_next _ s (good_next _ g (good_next _ h (good_next _ i (good_next _ t (good_next _ j good_end)))))) = out _ _ (structure_attributed k r m rebuild (b _ _ s) g h i (a _ _ t) j)
 
 -- decl.Member
 

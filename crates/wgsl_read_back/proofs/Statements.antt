@@ -10,19 +10,24 @@ use Rattle.wgsl_token_layout.specs.Laws.{without_places}
 use Rattle.wgsl_token_layout.specs.OptionalMarks.{Before, outside}
 use Rattle.wgsl_expressions.specs.Tree.{Exp}
 use Rattle.wgsl_expressions.specs.View.{node_tree}
+use Rattle.wgsl_attributes.specs.declared.attribute.Attribute.{Attribute}
 use Rattle.wgsl_attributes.specs.Tree.{Attr}
+use Rattle.wgsl_attributes.specs.View.{attributes_tree}
 use Rattle.wgsl_simple_statements.specs.Tree as s
-use Rattle.wgsl_statements.specs.declared.statement.Statement.{Statement}
+use Rattle.wgsl_simple_statements.specs.View.{assignment_tree, increment_tree, decrement_tree, break_tree, continue_tree, return_tree, discard_tree, call_tree, assertion_tree, value_tree}
+use Rattle.wgsl_statements.specs.declared.statement.Statement.{Statement, out-Statement}
+use Rattle.wgsl_statements.specs.declared.statement.Statement.TheOpen.{Statement-F}
 use Rattle.wgsl_statements.specs.declared.statement.Statement.TheVariants as statement
 use Rattle.wgsl_statements.specs.declared.statement.ElseClauseOf.{ElseClauseOf}
 use Rattle.wgsl_statements.specs.declared.statement.ElseIfClauseOf.{ElseIfClauseOf}
 use Rattle.wgsl_statements.specs.Tree.{simple, compound_statement, if_statement, switch_statement, loop_statement, for_statement, while_statement, Stms, Block, block, Elses, no_else, else_clause, else_if_clause, Clauses, Continuing, Part as HeaderPart, absent, present}
-use Rattle.wgsl_statements.specs.View.{statement_tree, block_tree, elses_layer, continuing_layer, part_layer, part as header_part}
-use Rattle.wgsl_statements.proofs.Trees.{tree_of_void, tree_of_compound, tree_of_if, tree_of_switch, tree_of_loop, tree_of_for, tree_of_while}
+use Rattle.wgsl_statements.specs.View.{layer, statement_tree, block_tree, elses_layer, continuing_layer, part_layer, part as header_part}
+use Rattle.wgsl_nodes.specs.Statements.{with_in, statement_with}
+use Rattle.wgsl_statements.proofs.Trees.{tree_out, tree_of_assignment, tree_of_increment, tree_of_decrement, tree_of_break, tree_of_continue, tree_of_return, tree_of_discard, tree_of_call, tree_of_assertion, tree_of_value, tree_of_void, tree_of_compound, tree_of_if, tree_of_switch, tree_of_loop, tree_of_for, tree_of_while}
 use Rattle.wgsl_tree_tokens.specs.Tokens.{mark, exp_tokens}
 use Rattle.wgsl_tree_tokens.specs.Printable.{is_apart}
-use Rattle.wgsl_tree_tokens.specs.Imports.{AttributesTokens}
-use Rattle.wgsl_module_tokens.specs.Simple.{SimpleTokens, value_tokens, value_is_apart}
+use Rattle.wgsl_tree_tokens.specs.Imports.{AttributesTokens, no_attributes}
+use Rattle.wgsl_module_tokens.specs.Simple.{SimpleTokens, attributed, value_tokens, value_is_apart}
 use Rattle.wgsl_module_tokens.specs.Statements.{PartTokens, no_part, a_part, in_braces, StmTokens, a_simple, a_compound, an_if, a_switch, a_loop, a_for, a_while, StmsTokens, BlockTokens, ElsesTokens, ClausesTokens, ContinuingTokens}
 use Rattle.wgsl_module_tokens.specs.Statements as m
 use Rattle.wgsl_shift_reduce.specs.Grammars.{Symbol, token, phrase, Derives, done, next}
@@ -40,10 +45,10 @@ use Rattle.wgsl_read_back.proofs.Views.{View, view_tokens, Stands, an_expression
 use Rattle.wgsl_read_back.proofs.Views as v
 use Rattle.wgsl_read_back.proofs.Items.{OneToken, AgainAs}
 use Rattle.wgsl_read_back.proofs.Rows.{make_of, Rebuild}
-use Rattle.wgsl_read_back.proofs.Pieces.{StandAll, Pieces, end, a_mark, Fine, pieces_steps, Made, made_as, made_of_parts, pieces_back, of_no_part, of_one_part, of_three_parts, of_four_parts, of_five_parts, phrase_back}
+use Rattle.wgsl_read_back.proofs.Pieces.{StandAll, Pieces, end, a_mark, Fine, pieces_steps, Made, made_as, made_of_parts, pieces_back, of_no_part, of_two_parts, of_three_parts, of_four_parts, of_five_parts, phrase_back}
 use Rattle.wgsl_read_back.proofs.Pieces as p
 use Rattle.wgsl_read_back.proofs.Families.{mark_item, mark_tokens}
-use Rattle.wgsl_read_back.proofs.AttributeRows.{attributes_are}
+use Rattle.wgsl_read_back.proofs.AttributeRows.{AttributesRowed, attributes_are}
 use Rattle.wgsl_read_back.proofs.Plain.{PlainStated}
 use Rattle.wgsl_read_back.proofs.Blocks.{Blocked, StatementRead, a_stated, a_void, IsVoidStatement, ElseIfsTokens, no_else_ifs, else_ifs_and}
 use Rattle.wgsl_read_back.proofs.Clauses.{statements_are}
@@ -70,19 +75,60 @@ void_statement n rebuild {u = u} {x = x} k = a_void (void x.span) refl tree_of_v
           passes = passes a.value a.passes;
         }
 
-pub plain_statement : (n m : ℕ) → Rebuild n (phrase m ∷ token (fixed_class f.Semicolon) ∷ []) (l.Statement label.PlainStatement) (2 ∷ 1 ∷ []) → {a b : List SpannedTemplateToken} {x y : Phrase Part} → PlainStated m a x → OneToken (fixed_class f.Semicolon) b y
-    → StatementRead n (a ++ (b ++ [])) (make_of (l.Statement label.PlainStatement) (2 ∷ 1 ∷ []) (x ∷ y ∷ []))
-plain_statement n m rebuild {b = b} {y = y} g k =
-    let ts : List TemplateToken = g.1 ++ (mark f.Semicolon ∷ []) in
-    a_stated (a_simple g.2)
-    (pieces_back n (phrase m ∷ token (fixed_class f.Semicolon) ∷ []) (2 ∷ 1 ∷ []) (phrase m) (token (fixed_class f.Semicolon) ∷ []) (2 ∷ 1 ∷ []) (l.Statement label.PlainStatement) rebuild rebuild (v.statement (simple g.0) ts) (p.a_part g.3 (a_mark (mark_item f.Semicolon b y k) end)) refl
-    (makes g.0 g.1 ts) (λ b o. tt) (λ b o. refl) (λ b o. refl))
+-- a statement that holds no other with other attributes
+with_tree : (y : Statement) (x : s.Simple) → statement_tree y ≡ Some (simple x) → (zs : List (Spanned Attribute)) → statement_tree (statement_with y zs) ≡ Some (simple (attributed (attributes_tree zs) x))
+with_tree y x e zs = go (out-Statement y) (sym (tree_out y) ∙ e)
   where
-    makes : (x : s.Simple) (ts us : List TemplateToken) (qs : List Part) → StandAll qs (v.plain x ts ∷ []) → Made (l.Statement label.PlainStatement) qs (v.statement (simple x) us)
-    makes x ts us = of_one_part (λ qs. Made (l.Statement label.PlainStatement) qs (v.statement (simple x) us)) go
-      where
-        go : (q : Part) → Stands q (v.plain x ts) → Made (l.Statement label.PlainStatement) (q ∷ []) (v.statement (simple x) us)
-        go q (a_plain y is tree) = made_as (l.Statement label.PlainStatement) (q ∷ []) (v.statement (simple x) us) (λ z. make.statement_at z y) (λ z i. make.placed z (is i ∷ [])) (λ z. a_statement _ refl tree) (λ z. refl) refl
+    other : (z : s.Simple) (w : Statement) → statement_tree w ≡ Some (simple (attributed (attributes_tree zs) z)) → Some (simple z) ≡ Some (simple x) → statement_tree w ≡ Some (simple (attributed (attributes_tree zs) x))
+    other z w tree e = let same : z ≡ x = cc in tree ∙ ap (λ r. Some (simple (attributed (attributes_tree zs) r))) same
+
+    go : (z : Statement-F Statement) → layer statement_tree z ≡ Some (simple x) → statement_tree (with_in z zs) ≡ Some (simple (attributed (attributes_tree zs) x))
+    go Statement-F.Void e = absurd cc
+    go (Statement-F.Compound z) e = absurd cc
+    go (Statement-F.Assignment z) e = other (assignment_tree z) (statement.Assignment (record z { attributes = zs })) (tree_of_assignment (record z { attributes = zs })) e
+    go (Statement-F.Increment z) e = other (increment_tree z) (statement.Increment (record z { attributes = zs })) (tree_of_increment (record z { attributes = zs })) e
+    go (Statement-F.Decrement z) e = other (decrement_tree z) (statement.Decrement (record z { attributes = zs })) (tree_of_decrement (record z { attributes = zs })) e
+    go (Statement-F.If z) e = absurd cc
+    go (Statement-F.Switch z) e = absurd cc
+    go (Statement-F.Loop z) e = absurd cc
+    go (Statement-F.For z) e = absurd cc
+    go (Statement-F.While z) e = absurd cc
+    go (Statement-F.Break z) e = other (break_tree z) (statement.Break (record z { attributes = zs })) (tree_of_break (record z { attributes = zs })) e
+    go (Statement-F.Continue z) e = other (continue_tree z) (statement.Continue (record z { attributes = zs })) (tree_of_continue (record z { attributes = zs })) e
+    go (Statement-F.Return z) e = other (return_tree z) (statement.Return (record z { attributes = zs })) (tree_of_return (record z { attributes = zs })) e
+    go (Statement-F.Discard z) e = other (discard_tree z) (statement.Discard (record z { attributes = zs })) (tree_of_discard (record z { attributes = zs })) e
+    go (Statement-F.FunctionCall z) e = other (call_tree z) (statement.FunctionCall (record z { attributes = zs })) (tree_of_call (record z { attributes = zs })) e
+    go (Statement-F.ConstAssert z) e = other (assertion_tree z) (statement.ConstAssert (record z { attributes = zs })) (tree_of_assertion (record z { attributes = zs })) e
+    go (Statement-F.Declaration z) e = other (value_tree z) (statement.Declaration (record z { attributes = zs })) (tree_of_value (record z { attributes = zs })) e
+
+plain_makes : (xs : List Attr) (ts : List TemplateToken) (x : s.Simple) (us ws : List TemplateToken) (p q : Part) → Stands p (v.attributes xs ts) → Stands q (v.plain x us) → Made (l.Statement label.PlainStatement) (p ∷ q ∷ []) (v.statement (simple (attributed xs x)) ws)
+plain_makes xs ts x us ws p q h (a_plain y is tree) =
+    made_as (l.Statement label.PlainStatement) (p ∷ q ∷ []) (v.statement (simple (attributed xs x)) ws) (λ z. make.statement_at z (statement_with y (attributes_of p))) (λ z i. make.attributed z (p ∷ is i ∷ []))
+    (λ z. a_statement _ refl (with_tree y x tree (attributes_of p) ∙ ap (λ zs. Some (simple (attributed zs x))) (attributes_are p xs ts h))) (λ z. refl) refl
+
+abbrev pub plain_row : ℕ → List Symbol
+plain_row m = phrase m ∷ token (fixed_class f.Semicolon) ∷ []
+
+abbrev pub attributes_plain_row : ℕ → ℕ → List Symbol
+attributes_plain_row r m = phrase r ∷ plain_row m
+
+pub plain_bare : (n m : ℕ) → Rebuild n (plain_row m) (l.Statement label.PlainStatement) (0 ∷ 2 ∷ 1 ∷ []) → {a b : List SpannedTemplateToken} {x y : Phrase Part} → PlainStated m a x → OneToken (fixed_class f.Semicolon) b y
+    → StatementRead n (a ++ (b ++ [])) (make_of (l.Statement label.PlainStatement) (0 ∷ 2 ∷ 1 ∷ []) (x ∷ y ∷ []))
+plain_bare n m rebuild {b = b} {y = y} g k =
+    let ts : List TemplateToken = g.1 ++ (mark f.Semicolon ∷ []) in
+    a_stated (a_simple no_attributes g.2)
+    (pieces_back n (plain_row m) (0 ∷ 2 ∷ 1 ∷ []) (phrase m) (token (fixed_class f.Semicolon) ∷ []) (0 ∷ 2 ∷ 1 ∷ []) (l.Statement label.PlainStatement) rebuild rebuild (v.statement (simple (attributed [] g.0)) ts)
+    (p.no_part (v.attributes [] []) (v.no_attributes refl) (p.a_part g.3 (a_mark (mark_item f.Semicolon b y k) end))) refl
+    (of_two_parts (λ qs. Made (l.Statement label.PlainStatement) qs (v.statement (simple (attributed [] g.0)) ts)) (plain_makes [] [] g.0 g.1 ts)) (λ b o. tt) (λ b o. refl) (λ b o. refl))
+
+pub plain_attributed : (n r m : ℕ) → Rebuild n (attributes_plain_row r m) (l.Statement label.PlainStatement) (2 ∷ 2 ∷ 1 ∷ []) → {e a b : List SpannedTemplateToken} {w x y : Phrase Part} → AttributesRowed r e w → PlainStated m a x → OneToken (fixed_class f.Semicolon) b y
+    → StatementRead n (e ++ (a ++ (b ++ []))) (make_of (l.Statement label.PlainStatement) (2 ∷ 2 ∷ 1 ∷ []) (w ∷ x ∷ y ∷ []))
+plain_attributed n r m rebuild {b = b} {y = y} h g k =
+    let ts : List TemplateToken = h.2 ++ (g.1 ++ (mark f.Semicolon ∷ [])) in
+    a_stated (a_simple h.3 g.2)
+    (pieces_back n (attributes_plain_row r m) (2 ∷ 2 ∷ 1 ∷ []) (phrase r) (plain_row m) (2 ∷ 2 ∷ 1 ∷ []) (l.Statement label.PlainStatement) rebuild rebuild (v.statement (simple (attributed (h.0 ∷ h.1) g.0)) ts)
+    (p.a_part h.4 (p.a_part g.3 (a_mark (mark_item f.Semicolon b y k) end))) refl
+    (of_two_parts (λ qs. Made (l.Statement label.PlainStatement) qs (v.statement (simple (attributed (h.0 ∷ h.1) g.0)) ts)) (plain_makes (h.0 ∷ h.1) h.2 g.0 g.1 ts)) (λ b o. tt) (λ b o. refl) (λ b o. refl))
 
 pub compound : (n m : ℕ) → Rebuild n (phrase m ∷ []) (l.Statement label.Compound) (2 ∷ []) → {u : List SpannedTemplateToken} {x : Phrase Part} → Blocked m u x → StatementRead n (u ++ []) (make_of (l.Statement label.Compound) (2 ∷ []) (x ∷ []))
 compound n m rebuild g =

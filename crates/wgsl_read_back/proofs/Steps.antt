@@ -21,7 +21,7 @@ use Rattle.wgsl_read_back.proofs.Rows.{make_of, Rebuild}
 use Rattle.wgsl_read_back.proofs.Places.{mark_of}
 use Rattle.wgsl_read_back.proofs.Families.{Expressed, Single, Typed, pass_expressed, pass_single, pass_typed, binary_expressed, unary_expressed}
 use Rattle.wgsl_read_back.proofs.Operands.{Named, Upped, Called, Separated, Listed, name_alone, name_above, name_in_package, name_within, one_up, further_up, simple_typed, template_typed, call_without, call_with}
-use Rattle.wgsl_read_back.proofs.Directives.{Ruled, Extended, Enumerated, NamesListed, Controlled, Directed, rule_alone, rule_of_two, extension, first_enumerated, more_enumerated, names_without, names_with, bare_row, bare_pattern, comma_row, comma_pattern, setting_without, setting_with, names_row, directive_of_setting, enabled, required}
+use Rattle.wgsl_read_back.proofs.Directives.{Ruled, Extended, Enumerated, NamesListed, Controlled, Directed, rule_alone, rule_of_two, extension, first_enumerated, more_enumerated, names_without, names_with, bare_row, bare_pattern, comma_row, comma_pattern, setting_without, setting_with, names_row, attributes_names_row, control_row, attributes_control_row, control_bare, control_attributed, enabled_bare, enabled_attributed, required_bare, required_attributed}
 use Rattle.wgsl_parts.specs.declared.label.DirectiveLabel.TheVariants as dir
 use Rattle.wgsl_simple_statements.specs.declared.declaration.DeclarationKind.TheVariants as kinds
 use Rattle.wgsl_parts.specs.declared.label.AttributeLabel.TheVariants as attr
@@ -29,7 +29,7 @@ use Rattle.wgsl_read_back.proofs.DeclarationKinds.{Kinded, var_alone, template_r
 use Rattle.wgsl_token.specs.declared.token.Fixed.{Fixed}
 use Rattle.wgsl_template_spec.specs.Kinds.{kind}
 use Rattle.wgsl_token_layout.specs.OptionalMarks.{Before, groups, is_any_word}
-use Rattle.wgsl_read_back.proofs.AttributeRows.{Worded, word_alone, reserved_alone, keyword_alone, Argued, empty_row, arguments_row, no_arguments, some_arguments_read, Attributed, bare_attribute_row, attribute_row, bare_attribute, full_attribute, AttributesRowed, first_attribute, more_attributes}
+use Rattle.wgsl_read_back.proofs.AttributeRows.{Worded, word_alone, reserved_alone, keyword_alone, Argued, empty_row, arguments_row, no_arguments, some_arguments_read, Attributed, bare_attribute_row, attribute_row, bare_attribute, full_attribute, AttributesRowed, pass_attribute, first_attribute, more_attributes}
 use Rattle.wgsl_parts.specs.declared.label.ImportLabel.TheVariants as imp
 use Rattle.wgsl_read_back.proofs.Imports.{Sourced, Stepped, Contained, Treed, TreesSeparated, TreesListed, Imported, step_row, own_row, further_row, renamed_row, collection_row, plain_row, from_row, attributes_plain_row, attributes_from_row, from_package, from_own, from_above, from_within, first_step, next_step, item_read, renamed_read, collection_read, tree_alone, tree_further, first_tree, more_trees, trees_without, trees_with, import_plain, import_from, import_attributed, import_attributed_from}
 use Rattle.wgsl_read_back.proofs.Values.{NameTyped, ValueDeclared, Asserted}
@@ -111,7 +111,7 @@ sort_in [] k = unknown
 sort_in (e ∷ es) k = if k == e.0 then e.1 else sort_in es k
 
 abbrev pub sort_of : ℕ → Sort
-sort_of = sort_in ((plain n.Name, names) ∷ (plain n.Ups, upses) ∷ (plain n.Simple, types) ∷ (plain n.Templated, types) ∷ (plain n.TypeExpression, types) ∷ (plain n.Callee, types) ∷ (plain n.Call, calls) ∷ (plain n.Primary, singles) ∷ (plain n.Singular, singles) ∷ (plain n.Unary, expressed) ∷ (plain n.Product, expressed) ∷ (plain n.Sum, expressed) ∷ (plain n.Shift, expressed) ∷ (plain n.Relational, expressed) ∷ (plain n.Ands, expressed) ∷ (plain n.Xors, expressed) ∷ (plain n.Ors, expressed) ∷ (plain n.AllOf, expressed) ∷ (plain n.AnyOf, expressed) ∷ (plain n.Item, expressed) ∷ (plain n.Expression, expressed) ∷ (in_a_list n.Item, lists) ∷ (with_commas n.Item, separated) ∷ (in_a_list n.Expression, lists) ∷ (with_commas n.Expression, separated) ∷ (plain n.Rule, rules) ∷ (plain n.Control, settings) ∷ (plain n.Directive, directives) ∷ (plain n.Extension, extensions) ∷ (in_a_list n.Extension, names_lists) ∷ (with_commas n.Extension, enumerated) ∷ (plain n.VarHead, declaration_kinds) ∷ (plain n.Kind, declaration_kinds) ∷ (plain n.Word, words) ∷ (plain n.Arguments, arguments) ∷ (plain n.Attribute, attributes) ∷ (in_a_row n.Attribute, attribute_rows) ∷ (plain n.Source, sources) ∷ (plain n.Path, paths) ∷ (plain n.Content, contents) ∷ (plain n.Tree, trees) ∷ (with_commas n.Tree, separated_trees) ∷ (in_a_list n.Tree, tree_lists) ∷ (plain n.Import, imports) ∷ (plain n.Typed, names_typed) ∷ (plain n.Var, values) ∷ (plain n.Const, values) ∷ (plain n.Let, values) ∷ (plain n.Override, values) ∷ (plain n.Local, values) ∷ (plain n.Assertion, assertions) ∷ (plain n.Place, places) ∷ (plain n.Target, places) ∷ (plain n.Phony, phonies) ∷ (plain n.Update, plains) ∷ (plain n.Plain, plains) ∷ (plain n.First, plains) ∷ (plain n.Initializer, headers) ∷ (plain n.Next, headers) ∷ (plain n.Statement, statements) ∷ (in_a_row n.Statement, statement_rows) ∷ (plain n.ElseIf, else_ifs) ∷ (in_a_row n.ElseIf, else_if_rows) ∷ (plain n.Else, otherwises) ∷ (plain n.Block, blocks) ∷ (plain n.Selector, selectors) ∷ (with_commas n.Selector, separated_selectors) ∷ (in_a_list n.Selector, selector_lists) ∷ (plain n.Clause, clauses) ∷ (in_a_row n.Clause, clause_rows) ∷ (plain n.Continuing, endings) ∷ (plain n.BreakIf, break_ifs) ∷ (plain n.Member, members) ∷ (with_commas n.Member, separated_members) ∷ (in_a_list n.Member, member_lists) ∷ (plain n.Parameter, parameters) ∷ (with_commas n.Parameter, separated_parameters) ∷ (in_a_list n.Parameter, parameter_lists) ∷ (plain n.Result, results) ∷ (plain n.Declaration, declarations) ∷ (in_a_row n.Declaration, declaration_rows) ∷ (in_a_row n.Import, import_rows) ∷ (in_a_row n.Directive, directive_rows) ∷ (plain n.Module, modules) ∷ [])
+sort_of = sort_in ((plain n.Name, names) ∷ (plain n.Ups, upses) ∷ (plain n.Simple, types) ∷ (plain n.Templated, types) ∷ (plain n.TypeExpression, types) ∷ (plain n.Callee, types) ∷ (plain n.Call, calls) ∷ (plain n.Primary, singles) ∷ (plain n.Singular, singles) ∷ (plain n.Unary, expressed) ∷ (plain n.Product, expressed) ∷ (plain n.Sum, expressed) ∷ (plain n.Shift, expressed) ∷ (plain n.Relational, expressed) ∷ (plain n.Ands, expressed) ∷ (plain n.Xors, expressed) ∷ (plain n.Ors, expressed) ∷ (plain n.AllOf, expressed) ∷ (plain n.AnyOf, expressed) ∷ (plain n.Item, expressed) ∷ (plain n.Expression, expressed) ∷ (in_a_list n.Item, lists) ∷ (with_commas n.Item, separated) ∷ (in_a_list n.Expression, lists) ∷ (with_commas n.Expression, separated) ∷ (plain n.Rule, rules) ∷ (plain n.Control, settings) ∷ (plain n.Directive, directives) ∷ (plain n.Extension, extensions) ∷ (in_a_list n.Extension, names_lists) ∷ (with_commas n.Extension, enumerated) ∷ (plain n.VarHead, declaration_kinds) ∷ (plain n.Kind, declaration_kinds) ∷ (plain n.Word, words) ∷ (plain n.Arguments, arguments) ∷ (plain n.Attribute, attributes) ∷ (in_a_row n.Attribute, attribute_rows) ∷ (plain n.ClosedAttribute, attributes) ∷ (plain n.ClosedAttributes, attribute_rows) ∷ (plain n.Source, sources) ∷ (plain n.Path, paths) ∷ (plain n.Content, contents) ∷ (plain n.Tree, trees) ∷ (with_commas n.Tree, separated_trees) ∷ (in_a_list n.Tree, tree_lists) ∷ (plain n.Import, imports) ∷ (plain n.Typed, names_typed) ∷ (plain n.Var, values) ∷ (plain n.Const, values) ∷ (plain n.Let, values) ∷ (plain n.Override, values) ∷ (plain n.Local, values) ∷ (plain n.Assertion, assertions) ∷ (plain n.OpenPlace, places) ∷ (plain n.Target, places) ∷ (plain n.EnclosedPlace, places) ∷ (plain n.Place, places) ∷ (plain n.Phony, phonies) ∷ (plain n.Update, plains) ∷ (plain n.EnclosedUpdate, plains) ∷ (plain n.Plain, plains) ∷ (plain n.First, plains) ∷ (plain n.Initializer, headers) ∷ (plain n.Next, headers) ∷ (plain n.Statement, statements) ∷ (in_a_row n.Statement, statement_rows) ∷ (plain n.ElseIf, else_ifs) ∷ (in_a_row n.ElseIf, else_if_rows) ∷ (plain n.Else, otherwises) ∷ (plain n.Block, blocks) ∷ (plain n.Selector, selectors) ∷ (with_commas n.Selector, separated_selectors) ∷ (in_a_list n.Selector, selector_lists) ∷ (plain n.Clause, clauses) ∷ (in_a_row n.Clause, clause_rows) ∷ (plain n.Continuing, endings) ∷ (plain n.BreakIf, break_ifs) ∷ (plain n.Member, members) ∷ (with_commas n.Member, separated_members) ∷ (in_a_list n.Member, member_lists) ∷ (plain n.Parameter, parameters) ∷ (with_commas n.Parameter, separated_parameters) ∷ (in_a_list n.Parameter, parameter_lists) ∷ (plain n.Result, results) ∷ (plain n.Declaration, declarations) ∷ (in_a_row n.Declaration, declaration_rows) ∷ (in_a_row n.Import, import_rows) ∷ (in_a_row n.Directive, directive_rows) ∷ (plain n.Module, modules) ∷ [])
 
 abbrev pub GoodAs : Sort → ℕ → List SpannedTemplateToken → Phrase Part → Type 0
 GoodAs unknown k u x = Unit {0}
@@ -309,14 +309,23 @@ s_setting k m out a rebuild _ _ (good_next _ h (good_next _ i (good_next _ j (go
 pub s_setting_with : (k m : ℕ) → Is Controlled k → As Ruled m → Rebuild k (bare_row m) (l.Directive dir.Diagnostic) bare_pattern → MakesWhen k (comma_row m) (l.Directive dir.Diagnostic) comma_pattern
 s_setting_with k m out a bare rebuild _ _ (good_next _ h (good_next _ i (good_next _ j (good_next _ g (good_next _ r (good_next _ c (good_next _ e good_end))))))) pass = out _ _ (setting_with k m rebuild bare h i j g (a _ _ r) c e pass)
 
-pub s_directive : (k m : ℕ) → Is Directed k → As Controlled m → Makes k (phrase m ∷ token (fixed_class f.Semicolon) ∷ []) l.Pass (2 ∷ 1 ∷ [])
-s_directive k m out a rebuild _ _ (good_next _ h (good_next _ i good_end)) = out _ _ (directive_of_setting k m rebuild (a _ _ h) i)
+pub s_control_bare : (k m : ℕ) → Is Directed k → As Controlled m → Makes k (control_row m) (l.Directive dir.Control) (0 ∷ 2 ∷ 1 ∷ [])
+s_control_bare k m out a rebuild _ _ (good_next _ h (good_next _ i good_end)) = out _ _ (control_bare k m rebuild (a _ _ h) i)
 
-pub s_enable : (k m : ℕ) → Is Directed k → As NamesListed m → Makes k (names_row f.Enable m) (l.Directive dir.Enable) (1 ∷ 2 ∷ 1 ∷ [])
-s_enable k m out a rebuild _ _ (good_next _ i (good_next _ h (good_next _ j good_end))) = out _ _ (enabled k m rebuild i (a _ _ h) j)
+pub s_control_attributed : (k r m : ℕ) → Is Directed k → As AttributesRowed r → As Controlled m → Makes k (attributes_control_row r m) (l.Directive dir.Control) (2 ∷ 2 ∷ 1 ∷ [])
+s_control_attributed k r m out b a rebuild _ _ (good_next _ t (good_next _ h (good_next _ i good_end))) = out _ _ (control_attributed k r m rebuild (b _ _ t) (a _ _ h) i)
 
-pub s_requires : (k m : ℕ) → Is Directed k → As NamesListed m → Makes k (names_row f.Requires m) (l.Directive dir.Requires) (1 ∷ 2 ∷ 1 ∷ [])
-s_requires k m out a rebuild _ _ (good_next _ i (good_next _ h (good_next _ j good_end))) = out _ _ (required k m rebuild i (a _ _ h) j)
+pub s_enable_bare : (k m : ℕ) → Is Directed k → As NamesListed m → Makes k (names_row f.Enable m) (l.Directive dir.Enable) (0 ∷ 1 ∷ 2 ∷ 1 ∷ [])
+s_enable_bare k m out a rebuild _ _ (good_next _ i (good_next _ h (good_next _ j good_end))) = out _ _ (enabled_bare k m rebuild i (a _ _ h) j)
+
+pub s_enable_attributed : (k r m : ℕ) → Is Directed k → As AttributesRowed r → As NamesListed m → Makes k (attributes_names_row f.Enable r m) (l.Directive dir.Enable) (2 ∷ 1 ∷ 2 ∷ 1 ∷ [])
+s_enable_attributed k r m out b a rebuild _ _ (good_next _ t (good_next _ i (good_next _ h (good_next _ j good_end)))) = out _ _ (enabled_attributed k r m rebuild (b _ _ t) i (a _ _ h) j)
+
+pub s_requires_bare : (k m : ℕ) → Is Directed k → As NamesListed m → Makes k (names_row f.Requires m) (l.Directive dir.Requires) (0 ∷ 1 ∷ 2 ∷ 1 ∷ [])
+s_requires_bare k m out a rebuild _ _ (good_next _ i (good_next _ h (good_next _ j good_end))) = out _ _ (required_bare k m rebuild i (a _ _ h) j)
+
+pub s_requires_attributed : (k r m : ℕ) → Is Directed k → As AttributesRowed r → As NamesListed m → Makes k (attributes_names_row f.Requires r m) (l.Directive dir.Requires) (2 ∷ 1 ∷ 2 ∷ 1 ∷ [])
+s_requires_attributed k r m out b a rebuild _ _ (good_next _ t (good_next _ i (good_next _ h (good_next _ j good_end)))) = out _ _ (required_attributed k r m rebuild (b _ _ t) i (a _ _ h) j)
 
 pub s_first_name : (k m : ℕ) → Is Enumerated k → As Extended m → Makes k (phrase m ∷ []) l.First (2 ∷ [])
 s_first_name k m out a rebuild _ _ (good_next _ h good_end) = out _ _ (first_enumerated k m rebuild (a _ _ h))
@@ -373,11 +382,14 @@ s_bare_attribute k m out a rebuild _ _ (good_next _ i (good_next _ g good_end)) 
 pub s_attribute : (k m r : ℕ) → Is Attributed k → As Worded m → As Argued r → MakesWhen k (attribute_row m r) (l.Attribute attr.Attribute) (1 ∷ 2 ∷ 2 ∷ [])
 s_attribute k m r out a b rebuild _ _ (good_next _ i (good_next _ g (good_next _ h good_end))) pass = out _ _ (full_attribute k m r rebuild i (a _ _ g) (b _ _ h) pass)
 
+pub s_pass_attribute : (k m : ℕ) → Is Attributed k → As Attributed m → Makes k (phrase m ∷ []) l.Pass (2 ∷ [])
+s_pass_attribute k m out a rebuild _ _ (good_next _ h good_end) = out _ _ (pass_attribute k m rebuild (a _ _ h))
+
 pub s_first_attribute : (k m : ℕ) → Is AttributesRowed k → As Attributed m → Makes k (phrase m ∷ []) l.First (2 ∷ [])
 s_first_attribute k m out a rebuild _ _ (good_next _ h good_end) = out _ _ (first_attribute k m rebuild (a _ _ h))
 
-pub s_more_attributes : (k m : ℕ) → Is AttributesRowed k → As AttributesRowed k → As Attributed m → Makes k (phrase k ∷ phrase m ∷ []) l.More (2 ∷ 2 ∷ [])
-s_more_attributes k m out a b rebuild _ _ (good_next _ g (good_next _ h good_end)) = out _ _ (more_attributes k m rebuild (a _ _ g) (b _ _ h))
+pub s_more_attributes : (k r m : ℕ) → Is AttributesRowed k → As AttributesRowed r → As Attributed m → Makes k (phrase r ∷ phrase m ∷ []) l.More (2 ∷ 2 ∷ [])
+s_more_attributes k r m out a b rebuild _ _ (good_next _ g (good_next _ h good_end)) = out _ _ (more_attributes k r m rebuild (a _ _ g) (b _ _ h))
 
 -- imports
 

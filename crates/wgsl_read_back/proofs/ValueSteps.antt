@@ -25,7 +25,8 @@ use Rattle.wgsl_read_back.proofs.Plain.{Placed, Phony, PlainStated, Headed, unar
 use Rattle.wgsl_read_back.proofs.Blocks.{Blocked, StatementRead, StatementsRead, Otherwise, ElseIfRead, ElseIfsRead, Selected, SelectorsSeparated, SelectorsListed, Claused, ClausesRead, BrokenIf}
 use Rattle.wgsl_read_back.proofs.Lines.{first_statement, more_statements}
 use Rattle.wgsl_read_back.proofs.Clauses.{else_block, else_if_read, first_else_if, more_else_ifs, default_selected, expression_selected, first_selector, more_selectors, selectors_without, selectors_with, break_if_read, default_row, bare_default_row, default_with, default_without, case_row, bare_case_row, case_with, case_without, first_clause, more_clauses}
-use Rattle.wgsl_read_back.proofs.Statements.{void_statement, plain_statement, compound}
+use Rattle.wgsl_read_back.proofs.AttributeRows.{AttributesRowed}
+use Rattle.wgsl_read_back.proofs.Statements.{void_statement, plain_row, attributes_plain_row, plain_bare, plain_attributed, compound}
 use Rattle.wgsl_read_back.proofs.Steps.{Is, As, Makes, good_end, good_next}
 
 -- values
@@ -135,8 +136,11 @@ s_headed k m out q0 rebuild _ _ (good_next _ z0 good_end) = out _ _ (headed k m 
 pub s_void_statement : (k : ℕ) → Is StatementRead k → Makes k (token (fixed_class f.Semicolon) ∷ []) (l.Statement label.VoidStatement) (1 ∷ [])
 s_void_statement k out rebuild _ _ (good_next _ z0 good_end) = out _ _ (void_statement k rebuild z0)
 
-pub s_plain_statement : (k m : ℕ) → Is StatementRead k → As PlainStated m → Makes k (phrase m ∷ token (fixed_class f.Semicolon) ∷ []) (l.Statement label.PlainStatement) (2 ∷ 1 ∷ [])
-s_plain_statement k m out q0 rebuild _ _ (good_next _ z0 (good_next _ z1 good_end)) = out _ _ (plain_statement k m rebuild (q0 _ _ z0) z1)
+pub s_plain_bare : (k m : ℕ) → Is StatementRead k → As PlainStated m → Makes k (plain_row m) (l.Statement label.PlainStatement) (0 ∷ 2 ∷ 1 ∷ [])
+s_plain_bare k m out q0 rebuild _ _ (good_next _ z0 (good_next _ z1 good_end)) = out _ _ (plain_bare k m rebuild (q0 _ _ z0) z1)
+
+pub s_plain_attributed : (k r m : ℕ) → Is StatementRead k → As AttributesRowed r → As PlainStated m → Makes k (attributes_plain_row r m) (l.Statement label.PlainStatement) (2 ∷ 2 ∷ 1 ∷ [])
+s_plain_attributed k r m out q0 q1 rebuild _ _ (good_next _ z0 (good_next _ z1 (good_next _ z2 good_end))) = out _ _ (plain_attributed k r m rebuild (q0 _ _ z0) (q1 _ _ z1) z2)
 
 pub s_compound : (k m : ℕ) → Is StatementRead k → As Blocked m → Makes k (phrase m ∷ []) (l.Statement label.Compound) (2 ∷ [])
 s_compound k m out q0 rebuild _ _ (good_next _ z0 good_end) = out _ _ (compound k m rebuild (q0 _ _ z0))

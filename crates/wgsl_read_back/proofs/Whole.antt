@@ -24,7 +24,7 @@ use Rattle.wgsl_tree_tokens.proofs.Attributes.{attributes_are_laid_out}
 use Rattle.wgsl_read_back.proofs.AttributeRows.{Attributed}
 use Rattle.wgsl_read_back.proofs.Derived.{derived}
 use Rattle.wgsl_tree_tokens.proofs.Expressions.{expressions_are_laid_out}
-use Rattle.wgsl_tree_tokens.proofs.Directives.{directives_are_laid_out}
+use Rattle.wgsl_tree_tokens.proofs.DirectiveLines.{directives_are_laid_out}
 use Rattle.wgsl_tree_tokens.proofs.Imports.{imports_are_laid_out}
 use Rattle.wgsl_tree_tokens.proofs.DeclarationKinds.{kinds_are_laid_out}
 use Rattle.wgsl_parts.specs.declared.part.Part.{Part}

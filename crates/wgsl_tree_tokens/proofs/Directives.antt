@@ -1,5 +1,5 @@
--- What is printed of a directive is laid out as its tokens.
-use Rattle.std.proofs.Common.{◌≡◌, refl, sym, ap, ◌∙◌, subst, ℕ, true, false, List, [], ◌∷◌, ◌++◌, append_assoc, append-nil, codes}
+-- What is printed of a directive behind its attributes is laid out as its tokens.
+use Rattle.std.proofs.Common.{◌≡◌, refl, sym, ap, ◌∙◌, subst, ℕ, true, false, List, [], ◌∷◌, ◌++◌, append_assoc, codes}
 use Rattle.unicode_ident.proofs.Computing.{unicode_ident}
 use Rattle.wgsl_enumerations.specs.declared.words.DiagnosticSeverity.{DiagnosticSeverity}
 use Rattle.wgsl_enumerations.specs.Texts.{diagnostic_severity_text}
@@ -9,13 +9,10 @@ use Rattle.wgsl_token.specs.declared.token.Fixed.TheVariants as f
 use Rattle.wgsl_spelled.proofs.Spells.{spells_ascii}
 use Rattle.wgsl_spelled.proofs.Ends.{ends_word}
 use Rattle.wgsl_template_spec.specs.declared.token.TemplateToken.{TemplateToken}
-use Rattle.wgsl_token_layout.specs.Layout.{IsLaidOut, at_the_end}
-use Rattle.wgsl_imports.specs.Print.{setting_text, names_text, directive_text}
-use Rattle.wgsl_imports.specs.Tree.{Directive}
+use Rattle.wgsl_imports.specs.Print.{setting_text, names_text}
 use Rattle.wgsl_tree_tokens.specs.Tokens.{mark, word}
 use Rattle.wgsl_tree_tokens.specs.Printable.{AreSpelled}
-use Rattle.wgsl_tree_tokens.specs.Directives.{IsRule, one_name, two_names, more_names_tokens, names_tokens, setting_tokens, HasTokens, of_diagnostic, of_enable, of_requires}
-use Rattle.wgsl_tree_tokens.specs.Laws.{DirectivesAreLaidOut}
+use Rattle.wgsl_tree_tokens.specs.Directives.{IsRule, one_name, two_names, more_names_tokens, names_tokens, setting_tokens}
 use Rattle.wgsl_tree_tokens.proofs.Lays.{Lays, lays_nothing}
 use Rattle.wgsl_tree_tokens.proofs.Signs.{begins_with_none, lays_sign, lays_paren_left, lays_paren_right, lays_comma, lays_space, lays_blank}
 use Rattle.wgsl_tree_tokens.proofs.Leaves.{Leaf, word_leaf, keyword_leaf}
@@ -25,11 +22,11 @@ diagnostic_leaf : Leaf ends_word (t.Fixed f.Diagnostic) (codes "diagnostic")
 unfolding unicode_ident
 diagnostic_leaf = keyword_leaf f.Diagnostic 100 (codes "iagnostic") refl refl refl refl
 
-enable_leaf : Leaf ends_word (t.Fixed f.Enable) (codes "enable")
+pub enable_leaf : Leaf ends_word (t.Fixed f.Enable) (codes "enable")
 unfolding unicode_ident
 enable_leaf = keyword_leaf f.Enable 101 (codes "nable") refl refl refl refl
 
-requires_leaf : Leaf ends_word (t.Fixed f.Requires) (codes "requires")
+pub requires_leaf : Leaf ends_word (t.Fixed f.Requires) (codes "requires")
 unfolding unicode_ident
 requires_leaf = keyword_leaf f.Requires 114 (codes "equires") refl refl refl refl
 
@@ -77,7 +74,7 @@ five : (a b c d e f : List ℕ) → ((((a ++ b) ++ c) ++ d) ++ e) ++ f ≡ a ++ 
 five a b c d e f =
     append_assoc (((a ++ b) ++ c) ++ d) e f ∙ append_assoc ((a ++ b) ++ c) d (e ++ f) ∙ append_assoc (a ++ b) c (d ++ (e ++ f)) ∙ append_assoc a b (c ++ (d ++ (e ++ f)))
 
-setting_run : (severity : DiagnosticSeverity) (rule : List ℕ) (ts : List TemplateToken) → IsRule rule ts → AreSpelled (setting_tokens severity ts ++ (mark f.Semicolon ∷ []))
+pub setting_run : (severity : DiagnosticSeverity) (rule : List ℕ) (ts : List TemplateToken) → IsRule rule ts → AreSpelled (setting_tokens severity ts ++ (mark f.Semicolon ∷ []))
     → Run (begins_with_none []) (setting_tokens severity ts ++ (mark f.Semicolon ∷ [])) (setting_text severity rule ++ codes ";\n")
 unfolding setting_text
 setting_run severity rule ts is s =
@@ -95,23 +92,9 @@ setting_run severity rule ts is s =
     (sym (five (codes "diagnostic(") (diagnostic_severity_text severity) (codes ", ") rule (codes ")") (codes ";\n")))
     (run_then (leaf_run diagnostic_leaf) opened (λ rest ok. at_paren_left false (named.characters ++ rest)))
 
-names_line : {ts : List TemplateToken} {word : List ℕ} (xs : List (List ℕ)) → Run ends_word ts word → AreSpelled (names_tokens xs ++ (mark f.Semicolon ∷ []))
+pub names_line : {ts : List TemplateToken} {word : List ℕ} (xs : List (List ℕ)) → Run ends_word ts word → AreSpelled (names_tokens xs ++ (mark f.Semicolon ∷ []))
     → Run (begins_with_none []) (ts ++ (names_tokens xs ++ (mark f.Semicolon ∷ []))) (word ++ (codes " " ++ (names_text xs ++ codes ";\n")))
 names_line xs p s =
     let all = run_then (names_run xs (are_front (names_tokens xs) (mark f.Semicolon ∷ []) s)) line_end (λ rest ok. at_semicolon (10 ∷ rest)) in
     let spaced = run_then (sign_run lays_space refl) all (λ rest ok. free (all.characters ++ rest)) in
     run_then p spaced (λ rest ok. at_space false (all.characters ++ rest))
-
-pub directive_run : (d : Directive) (ts : List TemplateToken) → HasTokens d ts → AreSpelled ts → Run (begins_with_none []) ts (directive_text d)
-directive_run _ _ (of_diagnostic severity {rule = rule} {ts = ts} is) s = setting_run severity rule ts is s
-directive_run _ _ (of_enable names) s = run_as refl (sym (append_assoc (codes "enable ") (names_text names) (codes ";\n"))) (names_line names (leaf_run enable_leaf) s.1)
-directive_run _ _ (of_requires names) s = run_as refl (sym (append_assoc (codes "requires ") (names_text names) (codes ";\n"))) (names_line names (leaf_run requires_leaf) s.1)
-
-pub directives_are_laid_out : DirectivesAreLaidOut
-directives_are_laid_out d ts h s =
-    let p = directive_run d ts h s in record {
-      characters = p.characters;
-      are_scalars = p.spells.scalars;
-      spell = p.spells.encodes;
-      laid_out = (let P : List ℕ × List TemplateToken → Type 0 = λ x. IsLaidOut x.0 x.1 in subst P (λ i. (append-nil p.characters i, append-nil ts i)) (p.lays.lays [] [] refl at_the_end));
-    }

@@ -7,4 +7,5 @@ pub mod Attributes
 pub mod Directives
 pub mod DeclarationKinds
 pub mod Imports
+pub mod DirectiveLines
 pub mod Spelled

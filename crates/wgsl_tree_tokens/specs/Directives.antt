@@ -4,8 +4,10 @@ use Rattle.wgsl_token.specs.declared.token.Fixed.TheVariants as f
 use Rattle.wgsl_template_spec.specs.declared.token.TemplateToken.{TemplateToken}
 use Rattle.wgsl_enumerations.specs.declared.words.DiagnosticSeverity.{DiagnosticSeverity}
 use Rattle.wgsl_enumerations.specs.Texts.{diagnostic_severity_text}
+use Rattle.wgsl_attributes.specs.Tree.{Attr}
 use Rattle.wgsl_imports.specs.Tree.{Directive, diagnostic, enabling, requiring}
 use Rattle.wgsl_tree_tokens.specs.Tokens.{mark, word}
+use Rattle.wgsl_tree_tokens.specs.Imports.{AttributesTokens}
 
 -- a rule of a diagnostic: a name, or two names with a period between
 pub data IsRule : List ℕ → List TemplateToken → Type 0 where
@@ -25,8 +27,9 @@ names_tokens (x ∷ xs) = word x ∷ more_names_tokens xs
 abbrev pub setting_tokens : DiagnosticSeverity → List TemplateToken → List TemplateToken
 setting_tokens severity rule = mark f.Diagnostic ∷ mark f.ParenLeft ∷ word (diagnostic_severity_text severity) ∷ mark f.Comma ∷ (rule ++ (mark f.ParenRight ∷ []))
 
--- of directives without attributes, since no text has others
+-- of directives, behind their attributes
 pub data HasTokens : Directive → List TemplateToken → Type 0 where
-  of_diagnostic : (severity : DiagnosticSeverity) {rule : List ℕ} {ts : List TemplateToken} → IsRule rule ts → HasTokens (diagnostic [] severity rule) (setting_tokens severity ts ++ (mark f.Semicolon ∷ []))
-  of_enable : (names : List (List ℕ)) → HasTokens (enabling [] names) (mark f.Enable ∷ (names_tokens names ++ (mark f.Semicolon ∷ [])))
-  of_requires : (names : List (List ℕ)) → HasTokens (requiring [] names) (mark f.Requires ∷ (names_tokens names ++ (mark f.Semicolon ∷ [])))
+  of_diagnostic : {attributes : List Attr} {us : List TemplateToken} → AttributesTokens attributes us → (severity : DiagnosticSeverity) {rule : List ℕ} {ts : List TemplateToken} → IsRule rule ts
+      → HasTokens (diagnostic attributes severity rule) (us ++ (setting_tokens severity ts ++ (mark f.Semicolon ∷ [])))
+  of_enable : {attributes : List Attr} {us : List TemplateToken} → AttributesTokens attributes us → (names : List (List ℕ)) → HasTokens (enabling attributes names) (us ++ (mark f.Enable ∷ (names_tokens names ++ (mark f.Semicolon ∷ []))))
+  of_requires : {attributes : List Attr} {us : List TemplateToken} → AttributesTokens attributes us → (names : List (List ℕ)) → HasTokens (requiring attributes names) (us ++ (mark f.Requires ∷ (names_tokens names ++ (mark f.Semicolon ∷ []))))

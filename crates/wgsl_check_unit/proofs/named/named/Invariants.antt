@@ -6,4 +6,4 @@ use Rattle.wgsl_check_unit.proofs.named.named.Given as goal
 
 abbrev pub invariant-loop-node : goal.invariant-loop-node
 invariant-loop-node l =
-    (name : Option (List ℕ)) → IsNamed (option_copied l.whole) (nodes (drop l.node-index l.nodes)) name → IsNamed (option_copied l.whole) (nodes l.nodes) name
+    (name : Option (List ℕ)) → IsNamed (option_copied l.owner) (option_copied l.rest) (nodes (drop l.node-index l.nodes)) name → IsNamed (option_copied l.owner) (option_copied l.rest) (nodes l.nodes) name

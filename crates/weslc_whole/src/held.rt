@@ -1,0 +1,51 @@
+//! Linked modules are dropped by a call of this module, so that whoever holds them need not prove the drop of all that they own again.
+
+use std::alloc::Global;
+use wesl_resolvers::Resolver;
+use weslc_calls::{BasicSourceMap, Beyond, CompileError, Options};
+use weslc_modules::{LinkedModules, link_modules};
+use wgsl_path::ModulePath;
+
+/// Linked modules.
+pub(crate) struct HeldModules {
+    linked: LinkedModules,
+}
+
+impl HeldModules {
+    /// Links modules, of which one that is parsed already may be handed in. The root is not relative.
+    pub(crate) fn link<R: Resolver>(
+        alloc: Global,
+        resolver: &mut R,
+        beyond: Option<Beyond>,
+        root: &ModulePath,
+        options: &Options,
+    ) -> Result<HeldModules, CompileError> {
+        match link_modules(alloc, resolver, beyond, root, options) {
+            Ok(linked) => Ok(HeldModules { linked }),
+            Err(error) => Err(error),
+        }
+    }
+
+    pub(crate) fn get_mut(&mut self) -> &mut LinkedModules {
+        &mut self.linked
+    }
+
+    /// The map from the linked unit back to the modules.
+    pub(crate) fn into_map(self) -> BasicSourceMap {
+        let HeldModules { linked } = self;
+        let LinkedModules {
+            unit: _,
+            modules: _,
+            origins: _,
+            map,
+        } = linked;
+        map
+    }
+}
+
+impl Drop for HeldModules {
+    fn drop(self) {
+        let HeldModules { linked } = self;
+        drop(linked);
+    }
+}

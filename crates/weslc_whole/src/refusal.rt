@@ -1,0 +1,97 @@
+//! What a compilation is refused for.
+
+use std::alloc::{AllocError, Global};
+use wesl_tables::Spot;
+use weslc_calls::{CompileError, ErrorContext};
+use weslc_modules::LinkedModules;
+use wgsl_fault::{EvalError, Fault};
+use wgsl_items::{CloneIn, OrOutOfMemory, Text};
+use wgsl_lowered::{Place, Refused};
+
+/// Why modules have no compiled text.
+#[derive(Debug, Drop)]
+pub enum WholeRefusal {
+    /// They are not linked, the linked unit is at fault, or no text stands for what it is lowered to.
+    Compile(CompileError),
+    /// A fault of evaluation, in the declaration that is named.
+    Eval(ErrorContext, Fault),
+}
+
+impl From<AllocError> for WholeRefusal {
+    fn from(_: AllocError) -> WholeRefusal {
+        WholeRefusal::Compile(CompileError::OutOfMemory)
+    }
+}
+
+impl From<CompileError> for WholeRefusal {
+    ghost use Rattle.std.specs.Prelude.{◌≡◌};
+    ghost use Rattle.weslc_whole.specs.declared.refusal.WholeRefusal.TheVariants.{Compile};
+
+    ghost from_gives = { λ error refusal. refusal ≡ Compile error };
+
+    fn from(error: CompileError) -> WholeRefusal {
+        WholeRefusal::Compile(error)
+    }
+}
+
+/// Where a part of the linked unit comes from, and whether it is a declaration.
+fn origin_of(linked: &LinkedModules, place: Place) -> Option<(Spot, bool)> {
+    let (number, is_declaration) = match place {
+        Place::Unit => return None,
+        Place::Directive(number) => (number, false),
+        Place::Declaration(number) => {
+            let directives = linked.unit.get().global_directives.len();
+            (directives.checked_add(number)?, true)
+        }
+    };
+    match linked.origins.get(number) {
+        Some(spot) => Some((*spot, is_declaration)),
+        None => None,
+    }
+}
+
+fn name_of(alloc: Global, fault: &Fault) -> Result<Option<Text>, AllocError> {
+    match fault.name() {
+        Some(name) => Ok(Some(Text::from_str(alloc, name)?)),
+        None => Ok(None),
+    }
+}
+
+fn context_of(
+    alloc: Global,
+    linked: &LinkedModules,
+    place: Place,
+    fault: &Fault,
+) -> Result<ErrorContext, AllocError> {
+    let mut context = ErrorContext::of_maybe(name_of(alloc, fault)?);
+    let Some((spot, is_declaration)) = origin_of(linked, place) else {
+        return Ok(context);
+    };
+    let Some(module) = linked.modules.get(spot.module) else {
+        return Ok(context);
+    };
+    context.module = Some(module.target.path.clone_in(alloc)?);
+    if is_declaration && let Some(name) = module.name_at(spot.place) {
+        context.decl = Some(Text::from_str(alloc, name)?);
+    }
+    Ok(context)
+}
+
+fn of_fault(alloc: Global, linked: &LinkedModules, place: Place, error: EvalError) -> WholeRefusal {
+    let OrOutOfMemory::Error(fault) = error else {
+        return WholeRefusal::Compile(CompileError::OutOfMemory);
+    };
+    match context_of(alloc, linked, place, &fault) {
+        Ok(context) => WholeRefusal::Eval(context, fault),
+        Err(error) => {
+            drop(fault);
+            WholeRefusal::from(error)
+        }
+    }
+}
+
+/// The refusal of lowering, with the declaration as its module names it.
+pub(crate) fn told(alloc: Global, linked: &LinkedModules, refused: Refused) -> WholeRefusal {
+    let Refused { place, error } = refused;
+    of_fault(alloc, linked, place, error)
+}

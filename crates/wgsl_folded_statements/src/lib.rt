@@ -1,0 +1,8 @@
+//! Statements in place: expressions are folded in document order, consts and assertions go, and so do calls that do nothing.
+#![tactic(auto)]
+
+mod blocks;
+mod calls;
+mod simple;
+
+pub use blocks::{fold_block, fold_statements};
