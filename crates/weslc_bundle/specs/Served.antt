@@ -9,10 +9,10 @@ use Rattle.weslc_precompile.specs.Precompiling.{IsPrecompiledText, RefusesPrecom
 use Rattle.weslc_calls.specs.Stored.{text_at}
 use Rattle.weslc_calls.specs.Options.{Options}
 use Rattle.weslc_calls.specs.OfPart.{Finding, sources, IsBeyondLink}
-use Rattle.weslc_whole.specs.Whole.{IsBeyond, IsTextOfPart}
+use Rattle.weslc_whole.specs.Whole.{IsBeyond}
 use Rattle.weslc_whole.specs.declared.refusal.WholeRefusal.{WholeRefusal}
 use Rattle.weslc_whole.specs.declared.refusal.WholeRefusal.TheVariants as whole
-use Rattle.weslc_calls.specs.Answers.{IsLinkedText, RefusesToLink, RefusesToCompile}
+use Rattle.weslc_calls.specs.Answers.{IsLinkedText, IsCompiledText, RefusesToLink, RefusesToCompile}
 use Rattle.weslc_calls.specs.CompileError.{CompileError}
 use Rattle.weslc_calls.specs.CompileError.TheVariants as calls
 use Rattle.weslc_bundle.specs.declared.input.TheConstants.{MAX_BUNDLE_LEN}
@@ -66,7 +66,8 @@ IsTextOf Link texts root options text =
     IsBeyondLink (found_by texts) root options
     ⊎ IsLinkedText (sources options.features (found_by texts)) (path_text root) options.keep options.max_modules text
 IsTextOf Compile texts root options text =
-    IsBeyond (found_by texts) root options ⊎ IsTextOfPart (found_by texts) root options text
+    IsBeyond (found_by texts) root options
+    ⊎ IsCompiledText (sources options.features (found_by texts)) (path_text root) options.keep options.max_modules options.max_steps text
 IsTextOf Precompile texts root options text =
     (source : List ℕ) × (texts (path_text root) ≡ Some source) × IsPrecompiledText options.features source text
 IsTextOf Run texts root options text = ⊤

@@ -73,7 +73,7 @@ fn read_default_feature(value: &Value) -> Result<Feature, BundleError>
 }
 
 /// What a flag is set to, by its word.
-fn read_feature(value: &Value) -> Option<Feature>
+pub fn read_feature(value: &Value) -> Option<Feature>
     ensures { result ≡ feature_of (view value.now) }
 {
     match value.as_str() {

@@ -9,9 +9,13 @@ mod field;
 mod handed;
 mod input;
 mod kinds;
+mod options;
 mod output;
 mod request;
 mod running;
 mod serve;
 
-pub use serve::serve_bundle;
+pub use features::read_feature;
+pub use options::read_options;
+pub use request::{BundleError, Key};
+pub use serve::{serve_bundle, write_compile_error, write_fault};

@@ -314,7 +314,7 @@ fn has_two_members(value: &Value) -> bool
     }
 }
 
-fn read_keep(alloc: Global, value: &Value) -> Result<Items<Text>, BundleError>
+pub(crate) fn read_keep(alloc: Global, value: &Value) -> Result<Items<Text>, BundleError>
     ensures { Answers (List (List ℕ)) result (keep_at (view value.now)) }
 {
     let Some(kept) = value.get("keep") else {
@@ -339,7 +339,7 @@ fn read_names(alloc: Global, values: &[Value]) -> Result<Items<Text>, BundleErro
     Ok(names)
 }
 
-fn read_mode(value: &Value) -> Result<Mode, BundleError>
+pub(crate) fn read_mode(value: &Value) -> Result<Mode, BundleError>
     ensures { result ≡ mode_at (view value.now) }
 {
     let Some(mode) = value.get("mode") else {
@@ -353,7 +353,7 @@ fn read_mode(value: &Value) -> Result<Mode, BundleError>
     }
 }
 
-fn read_max_modules(value: &Value) -> Result<u32, BundleError>
+pub(crate) fn read_max_modules(value: &Value) -> Result<u32, BundleError>
     ensures { result ≡ max_modules_at (view value.now) }
 {
     let Some(limit) = value.get("max_modules") else {
@@ -365,7 +365,7 @@ fn read_max_modules(value: &Value) -> Result<u32, BundleError>
     }
 }
 
-fn read_max_steps(value: &Value) -> Result<u64, BundleError>
+pub(crate) fn read_max_steps(value: &Value) -> Result<u64, BundleError>
     ensures { result ≡ max_steps_at (view value.now) }
 {
     let Some(limit) = value.get("max_steps") else {

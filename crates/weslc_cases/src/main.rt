@@ -26,7 +26,7 @@ const CALLS: [&str; 8] = [
 ];
 
 /// The files of inputs of the program, each a list.
-const FILES: [&str; 13] = [
+const FILES: [&str; 14] = [
     "bundles.json",
     "fields.json",
     "texts.json",
@@ -40,6 +40,7 @@ const FILES: [&str; 13] = [
     "precompiled.json",
     "nesting.json",
     "runs.json",
+    "hostile.json",
 ];
 
 fn main(rt: HostRuntime) -> io::Result<()> {

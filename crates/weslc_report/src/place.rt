@@ -24,9 +24,11 @@ pub enum Seek {
     Declared,
 }
 
-/// Whether a name that is declared stands behind a token.
-fn declares(token: &Token) -> bool {
+/// Whether a name that is declared stands behind a token. A `>` is one where it ends the template list of a `var`, whose name is still to
+/// come.
+fn declares(token: &Token, is_in_var: bool) -> bool {
     match token {
+        Token::Fixed(Fixed::GreaterThan) => is_in_var,
         Token::Fixed(fixed) => matches!(
             *fixed,
             Fixed::Fn
@@ -36,9 +38,17 @@ fn declares(token: &Token) -> bool {
                 | Fixed::Override
                 | Fixed::Let
                 | Fixed::Var
-                | Fixed::GreaterThan
         ),
         _ => false,
+    }
+}
+
+/// Whether behind a token the name of a `var` may still be to come.
+fn is_in_var_behind(is_in_var: bool, token: &Token) -> bool {
+    match token {
+        Token::Fixed(Fixed::Var) => true,
+        Token::Fixed(Fixed::GreaterThan | Fixed::Colon | Fixed::Equal | Fixed::Semicolon) => false,
+        _ => is_in_var,
     }
 }
 
@@ -68,6 +78,7 @@ pub fn find_name(
     let tokens = lex(alloc, text)?;
     let mut first: Option<Span> = None;
     let mut is_declared = false;
+    let mut is_in_var = false;
     for spanned in tokens.as_slice() {
         if is_name(&spanned.token, name) {
             if is_sought(seek, is_declared, first.is_some()) {
@@ -77,7 +88,8 @@ pub fn find_name(
                 first = Some(spanned.span);
             }
         }
-        is_declared = declares(&spanned.token);
+        is_declared = declares(&spanned.token, is_in_var);
+        is_in_var = is_in_var_behind(is_in_var, &spanned.token);
     }
     Ok(first)
 }
@@ -97,6 +109,7 @@ pub fn declared_names(alloc: Global, text: &str) -> Result<Vec<Text>, AllocError
     let mut names = Vec::new(alloc);
     let mut depth = 0;
     let mut is_declared = false;
+    let mut is_in_var = false;
     for spanned in tokens.as_slice() {
         if depth == 0 && is_declared {
             if let Token::Identifier(name) = &spanned.token {
@@ -104,7 +117,8 @@ pub fn declared_names(alloc: Global, text: &str) -> Result<Vec<Text>, AllocError
             }
         }
         depth = depth_behind(depth, &spanned.token);
-        is_declared = declares(&spanned.token);
+        is_declared = declares(&spanned.token, is_in_var);
+        is_in_var = is_in_var_behind(is_in_var, &spanned.token);
     }
     Ok(names)
 }

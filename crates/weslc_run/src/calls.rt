@@ -192,7 +192,7 @@ pub fn eval<R: Resolver>(
     let mut decided = Decided { inner };
     let linked = match Question::parse(alloc, expression) {
         Ok(question) => linked_const(alloc, &mut decided, root, options, question),
-        Err(error) => return Err(RunRefusal::Expression(error)),
+        Err(error) => return Err(RunRefusal::of_expression(error)),
     };
     let mut held = linked?;
     let text = eval_linked(alloc, held.get(), options.max_steps)?;

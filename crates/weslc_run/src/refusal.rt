@@ -25,6 +25,16 @@ pub enum RunRefusal {
     OutOfMemory,
 }
 
+impl RunRefusal {
+    /// The refusal of a text that was read as no expression.
+    pub(crate) fn of_expression(error: Error) -> RunRefusal {
+        match error.refusal() {
+            Some(Refusal::OutOfMemory) => RunRefusal::OutOfMemory,
+            _ => RunRefusal::Expression(error),
+        }
+    }
+}
+
 impl From<AllocError> for RunRefusal {
     fn from(_: AllocError) -> RunRefusal {
         RunRefusal::OutOfMemory

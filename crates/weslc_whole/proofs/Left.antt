@@ -1,9 +1,5 @@
 -- What is left to the whole language is beyond the part.
-use Rattle.std.proofs.Common.{◌≡◌, ◌++◌, ◌-◌, ℕ, List, length, take, refl, ap, subst, inr, Bool, true, false, None}
-use Rattle.std.specs.Prelude.{codes}
-use Rattle.std.specs.Bool.{MatchBool}
-use Rattle.std.specs.Str.Iter.{HasSubslice}
-use Rattle.std.specs.Str.Pattern.{HasSuffixMatch, FindsTextSuffix}
+use Rattle.std.proofs.Common.{◌≡◌, ℕ, List, refl, ap, subst, inr}
 use Rattle.wgsl_path.specs.declared.path.ModulePath.{ModulePath}
 use Rattle.wgsl_path.specs.Paths.{path_text}
 use Rattle.wgsl_meaning.specs.declared.fault.Fault.TheVariants.{Name}
@@ -15,17 +11,7 @@ use Rattle.weslc_calls.specs.CompileError.{CompileError}
 use Rattle.weslc_calls.specs.CompileError.TheVariants as calls
 use Rattle.weslc_calls.specs.OfPart.{Finding, sources}
 use Rattle.weslc_calls.specs.Answers.{RefusesToCompile}
-use Rattle.weslc_whole.specs.Whole.{IsBareHead, IsTodoName, IsTodo, IsBeyond}
-
-pub not_both : (b : Bool) → b ≡ false → b ≡ true → ⊥
-not_both true one other = absurd cc
-not_both false one other = absurd cc
-
-pub bare_head : (line attributes rest : List ℕ) (b : Bool) → line ≡ attributes ++ (codes "fn " ++ rest) → ¬ HasSubslice attributes (codes "@fragment")
-    → MatchBool b (HasSuffixMatch (FindsTextSuffix (codes ") {")) line) (FindsTextSuffix (codes ") {") line None) → b ≡ true → IsBareHead line
-bare_head line attributes rest true begins none s is =
-    record { attributes = attributes; rest = rest; begins = begins; no_stage = none; front = take (length line - s.0) line; ends = s.1.1 }
-bare_head line attributes rest false begins none s is = absurd cc
+use Rattle.weslc_whole.specs.Whole.{IsTodoName, IsTodo, IsBeyond}
 
 todo_name : (kind : NameFault) → IsTodoName kind → kind ≡ Todo
 todo_name Todo todo = refl

@@ -1,6 +1,7 @@
 //! What the declarations of a module use, which of its functions are const by the rule, and in which order its values are started.
 #![tactic(auto)]
 
+mod backward;
 mod order;
 mod rule;
 mod statements;

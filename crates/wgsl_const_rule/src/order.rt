@@ -1,5 +1,6 @@
 //! The order in which the values of a module are started: text order, each after those that it reaches, these by the same rule.
 
+use crate::backward::order_backward;
 use crate::uses::Used;
 use std::alloc::{AllocError, Global};
 use wgsl_directory::{Declared, Directory};
@@ -164,6 +165,9 @@ pub fn start_order(
     let mut is_ordered = Items::new(alloc);
     for number in 0..uses.len() {
         is_ordered.push(starts(directory, number, are_all))?;
+    }
+    if let Some(order) = order_backward(alloc, &is_ordered, uses)? {
+        return Ok(order);
     }
     let mut ordering = Ordering {
         is_ordered,

@@ -1,6 +1,6 @@
 -- How a lowered declaration differs from the declaration.
 use Rattle.std.proofs.Common.{◌≡◌, ℕ, List, [], ◌∷◌, map, Option, Some, None, Bool, true, false, Ok, Err, refl, sym, ap, ◌∙◌, subst}
-use Rattle.std.specs.Prelude.{if◌then◌else◌}
+use Rattle.std.specs.Prelude.{if◌then◌else◌, not, ◌&&◌}
 use Rattle.wgsl_syntax.specs.Tree.{Exp, Exps, exps, literal, parenthesized, unary, binary, call, named, nil, cons, Typ, simple, templated, Attr, fragment, location, Stm, returning, Param, Decl, variable, function, Block}
 use Rattle.wgsl_shader_type.specs.declared.literal.LiteralInstance.{LiteralInstance}
 use Rattle.wgsl_scalar.specs.declared.scalar.ScalarType.{ScalarType}
@@ -15,6 +15,8 @@ use Rattle.wgsl_meaning.specs.ConstStage.{Consts, Scope, stage, hidden, const_kn
 use Rattle.wgsl_meaning.specs.Written.{written}
 use Rattle.wgsl_meaning.specs.Programs.{type_at, here_if}
 use Rattle.wgsl_programs.specs.Follows.{Differences, Follows, FollowAll, keeps_parentheses, keeps_unary, keeps_binary, keeps_call, keeps_name, replaces, no_more, one_more, FollowsAt, as_it_is, at_the_type, FollowStatements, no_statements, returns_nothing, returns, FollowAttributes, no_attributes, keeps_fragment, keeps_location, FollowType, no_type, keeps_type, FollowParameters, no_parameters, one_parameter, FollowsDeclaration, keeps_function}
+use Rattle.wgsl_programs.specs.Runs.{has_stage}
+use Rattle.wgsl_lower_expressions.specs.Cleared.{any_stage, does_nothing, cleared}
 use Rattle.wgsl_lower_expressions.specs.Computed.{lacks_value, unless_const, callee_here, lowered, all_lowered, type_here, constructor_call, converted_exp, lowered_return, lowered_attribute, lowered_attributes, lowered_parameter, lowered_parameters, parameter_types, checked_type, lowered_statement, lowered_statements}
 use Rattle.wgsl_lower.proofs.Steps.{then_ok}
 use Rattle.wgsl_lower.proofs.Units.{IsLowered}
@@ -47,6 +49,30 @@ case_of (Failed (Named f x)) other d e = at (lacks_value f) refl e
     at true is h = has_none is h
     at false is h = absurd (cc)
 case_of Deep other d e = absurd (cc)
+
+-- ---- entry points
+
+-- stages stay
+pub same_stage : (s : Scope) (as' low : List Attr) → lowered_attributes s as' ≡ Ok low → has_stage as' ≡ has_stage low
+same_stage s [] low h = let same : [] ≡ low = cc in ap has_stage same
+same_stage s (fragment ∷ rest) low h =
+    let b = then_ok (lowered_attribute s fragment) (λ b. and_then (lowered_attributes s rest) (λ more. Ok (b ∷ more))) low h in
+    let more = then_ok (lowered_attributes s rest) (λ more. Ok (b.0 ∷ more)) low b.2 in
+    let is : fragment ≡ b.0 = cc in
+    let same : b.0 ∷ more.0 ≡ low = cc in
+    ap has_stage (ap (λ y. y ∷ more.0) is ∙ same)
+same_stage s (location e ∷ rest) low h =
+    let b = then_ok (lowered_attribute s (location e)) (λ b. and_then (lowered_attributes s rest) (λ more. Ok (b ∷ more))) low h in
+    let more = then_ok (lowered_attributes s rest) (λ more. Ok (b.0 ∷ more)) low b.2 in
+    let d = then_ok (lowered s e) (λ d. Ok (location d)) b.0 b.1 in
+    let is : location d.0 ≡ b.0 = cc in
+    let same : b.0 ∷ more.0 ≡ low = cc in
+    same_stage s rest more.0 more.1 ∙ ap has_stage (ap (λ y. y ∷ more.0) is ∙ same)
+
+-- and the body of an entry point stays
+pub entry_stays : (as' : List Attr) (ps : List Param) (t : Option Typ) → has_stage as' ≡ true → does_nothing as' ps t ≡ false
+entry_stays as' ps None h = ap (λ b. not b && not (any_stage ps)) h
+entry_stays as' ps (Some t) h = refl
 
 -- ---- the differences
 
@@ -280,8 +306,8 @@ module _ (ds : List Decl) (cs : Consts) where
       ap (map (λ b. b.0)) (sym same) ∙ ap (λ l. p.name ∷ l) (types_named ps more.0 more.1)
 
   pub declaration_goes : (a : List Attr) (f : Name) (ps : List Param) (rs : List Attr) (t : Option Typ) (b : Block) (d : Decl) (l : IsLowered (scope []) a f ps rs t b d) → AreClearTypes l.types
-      → FollowsDeclaration lowering (function a f ps rs t b) d
-  declaration_goes a f ps rs t b d l clear =
-      subst (FollowsDeclaration lowering (function a f ps rs t b)) l.is
+      → does_nothing l.attributes l.parameters t ≡ false → FollowsDeclaration lowering (function a f ps rs t b) d
+  declaration_goes a f ps rs t b d l clear stays =
+      subst (FollowsDeclaration lowering (function a f ps rs t b)) (sym (ap (λ c. function l.attributes f l.parameters l.result t (cleared c l.block)) stays) ∙ l.is)
       (keeps_function (attributes_go a l.attributes l.attributes_are) (parameters_go ps l.parameters l.parameters_are) (result_goes t l.type_is)
       (statements_go (map (λ p. p.name) ps) (record { types = l.types; named = types_named ps l.types l.types_are; clear = clear }) t b.statements l.block.statements l.statements_are))

@@ -12,7 +12,7 @@ use Rattle.wgsl_scalar.specs.declared.scalar.ScalarType.{ScalarType}
 use Rattle.wgsl_scalar.specs.declared.scalar.ScalarType.TheVariants.{Integer}
 use Rattle.wgsl_scalar.specs.declared.scalar.IntegerType.TheVariants.{I32, U32}
 use Rattle.wgsl_instance.specs.declared.tree.Instance.{Instance}
-use Rattle.wgsl_computations.specs.Machine.{State, next_of}
+use Rattle.wgsl_computations.specs.Machine.{State, fail, next_of}
 use Rattle.wgsl_computations.specs.Machine as machine
 use Rattle.wgsl_computations.specs.Lift.{Same}
 use Rattle.wgsl_computations.specs.Compare.{LikewiseAt, Better}
@@ -22,9 +22,10 @@ use Rattle.wgsl_meaning.specs.Outcome.{Outcome, Done, Failed, Deep}
 use Rattle.wgsl_meaning.specs.Names.{Name, find_decl, built_in_type}
 use Rattle.wgsl_meaning.specs.Meaning.{Types, const_in}
 use Rattle.wgsl_meaning.specs.ConstStage.{Consts, stage, module_scope, Settled, nothing, another}
-use Rattle.wgsl_programs.specs.Faults.{Fault}
+use Rattle.wgsl_programs.specs.Faults.{Fault, OfName, NotEntrypoint}
+use Rattle.wgsl_programs.specs.Computing.{M}
 use Rattle.wgsl_programs.specs.Programs.{Known, find_known, Reaches, is_value, values_among, world, root, here}
-use Rattle.wgsl_programs.specs.Runs.{Handed, entered, started, run, allowed, EndsWell, plain}
+use Rattle.wgsl_programs.specs.Runs.{Handed, has_stage, entered, started, run, allowed, EndsWell, plain}
 use Rattle.wgsl_programs.specs.Runs as runs
 use Rattle.wgsl_programs.proofs.Bodies.{entered_meets}
 use Rattle.wgsl_programs.proofs.Agreeing.{KnownAgree}
@@ -35,7 +36,7 @@ use Rattle.wgsl_lower_expressions.specs.Computed.{parameter_types, lowered_decla
 use Rattle.wgsl_lower.specs.Keeps.{is_clear, ClearParameters, AreClear, Keeps}
 use Rattle.wgsl_lower.proofs.Units.{then_more_ok, gone_too, found_too, only_functions, clear_declaration, clear_found, clear_types}
 use Rattle.wgsl_lower.proofs.Worlds.{same_decl, known_of}
-use Rattle.wgsl_lower.proofs.Differs.{AreClearTypes, lowering, declaration_goes}
+use Rattle.wgsl_lower.proofs.Differs.{same_stage, entry_stays, AreClearTypes, lowering, declaration_goes}
 use Rattle.wgsl_lower.proofs.Meets.{BetterLift, kept, worlds_meet}
 use Rattle.wgsl_lower.proofs.Starts.{declared_of, Agreed, starts_agree}
 
@@ -48,6 +49,11 @@ either_name x t h = at (bytes_eq x (codes "i32")) (bytes_eq x (codes "u32")) ref
     at true c i j e = inl (same_text x (codes "i32") (sym i))
     at false true i j e = inr (same_text x (codes "u32") (sym j))
     at false false i j e = absurd (cc)
+
+-- what has no stage is not entered, whatever stands in its place
+not_entered : (b : Bool) (f : Name) (m n : M (Option Instance)) → b ≡ false → Better Fault (Option Instance) (Option Instance) Same (if b then m else fail (OfName NotEntrypoint f)) n
+not_entered true f m n h = absurd (cc)
+not_entered false f m n h = record { from = λ s t begin. tt }
 
 -- no clear name is that of a built-in type
 never_clear : (x : Name) (t : ScalarType) → built_in_type x ≡ Ok t → (y : Name) → is_clear y → y ≡ x → ⊥
@@ -77,12 +83,18 @@ module _ (ds low : List Decl) (cs : Consts) (settled : Settled ds cs) (is_low : 
     enters : (f : Name) (handed : Handed) (d : Option Decl) → find_decl f ds ≡ d → EntersBetter f d (find_decl f low) handed
     enters f handed None e = record { from = λ s t begin. tt }
     enters f handed (Some (variable attributes kind x type i)) e = record { from = λ s t begin. tt }
-    enters f handed (Some (function a g ps rs type b)) e =
-        let l = found_too (module_scope ds cs) ds low is_low f a g ps rs type b e in
-        subst (λ z. EntersBetter f (Some (function a g ps rs type b)) z handed) (sym l.1)
-        (entered_meets BetterLift kept (lowering ds cs) (world (plain ds) known k root) (world (plain low) [] k root)
-        (worlds_meet ds low cs (declared_of ds cs settled) gone undeclared known agreed k Const) (worlds_meet ds low cs (declared_of ds cs settled) gone undeclared known agreed k Exec)
-        f (function a g ps rs type b) l.0 (declaration_goes ds cs a g ps rs type b l.0 l.2 (clear_locals ps (clear_found ds f a g ps rs type b clear e) l.2.types l.2.types_are)) handed)
+    enters f handed (Some (function a g ps rs type b)) e = at (has_stage a) refl
+      where
+        at : (c : Bool) → has_stage a ≡ c → EntersBetter f (Some (function a g ps rs type b)) (find_decl f low) handed
+        at false h = not_entered (has_stage a) f _ _ h
+        at true h =
+            let l = found_too (module_scope ds cs) ds low is_low f a g ps rs type b e in
+            let stays : has_stage l.2.attributes ≡ true = sym (same_stage (module_scope ds cs) a l.2.attributes l.2.attributes_are) ∙ h in
+            subst (λ z. EntersBetter f (Some (function a g ps rs type b)) z handed) (sym l.1)
+            (entered_meets BetterLift kept (lowering ds cs) (world (plain ds) known k root) (world (plain low) [] k root)
+            (worlds_meet ds low cs (declared_of ds cs settled) gone undeclared known agreed k Const) (worlds_meet ds low cs (declared_of ds cs settled) gone undeclared known agreed k Exec)
+            f (function a g ps rs type b) l.0
+            (declaration_goes ds cs a g ps rs type b l.0 l.2 (clear_locals ps (clear_found ds f a g ps rs type b clear e) l.2.types l.2.types_are) (entry_stays l.2.attributes l.2.parameters type stays)) handed)
 
     entered_better : (f : Name) (handed : Handed) → EntersBetter f (runs.find_decl f ds) (runs.find_decl f low) handed
     entered_better f handed = subst (λ d. EntersBetter f d (runs.find_decl f low) handed) (same_decl f ds) (subst (λ d. EntersBetter f (find_decl f ds) d handed) (same_decl f low) (enters f handed (find_decl f ds) refl))

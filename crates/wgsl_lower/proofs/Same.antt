@@ -36,6 +36,7 @@ use Rattle.wgsl_programs.specs.Runs.{find_decl, here_if}
 use Rattle.wgsl_programs.proofs.Scalars.{converted_scalar, IsInRange}
 use Rattle.wgsl_eval.specs.declared.error.DeclarationFault.{DeclarationFault}
 use Rattle.wgsl_eval.specs.Start.{then_more, added, valued, valued_at, all_valued, consts_of}
+use Rattle.wgsl_lower_expressions.specs.Cleared.{does_nothing, cleared}
 use Rattle.wgsl_lower_expressions.specs.Lowered.{given, written_layer, unless_const, constructed_by, constructed_type, constructor_call, in_declaration, unit_world, started_const, started_at, started_consts}
 use Rattle.wgsl_lower_expressions.specs.Lowered as means
 use Rattle.wgsl_lower_expressions.specs.Computed as code
@@ -243,14 +244,14 @@ module _ (ds : List Decl) (cs : Consts) (declared : AreDeclared ds cs) (steps : 
       λ k. and_then (attributes_same ts b.attributes k) (λ attributes. and_then (statements_same ts t b.statements k) (λ statements. Ok (record { attributes = attributes; statements = statements })))
 
   rest_same : (as' : List Attr) (f : Name) (ps : List Param) (ts : Types) (rs : List Attr) (t : Option Typ) (b : Block)
-      → and_then (means.lowered_attributes steps w [] rs) (λ qs. and_then (means.checked_type steps w t) (λ u. and_then (means.lowered_body steps w (hidden_locals ts) t b) (λ c. Ok (function as' f ps qs t c))))
+      → and_then (means.lowered_attributes steps w [] rs) (λ qs. and_then (means.checked_type steps w t) (λ u. and_then (means.lowered_body steps w (hidden_locals ts) t b) (λ c. Ok (function as' f ps qs t (cleared (does_nothing as' ps t) c)))))
       ≡ code.lowered_rest (s []) as' f ps ts rs t b
   rest_same as' f ps ts rs t b =
-      λ k. and_then (attributes_same [] rs k) (λ qs. and_then (checked_same t k) (λ u. and_then (body_same ts t b k) (λ c. Ok (function as' f ps qs t c))))
+      λ k. and_then (attributes_same [] rs k) (λ qs. and_then (checked_same t k) (λ u. and_then (body_same ts t b k) (λ c. Ok (function as' f ps qs t (cleared (does_nothing as' ps t) c)))))
 
   abbrev under : Name → List Attr → Option Typ → Block → List Attr → List Param → Env → Checked Decl
   under f rs t b bs qs env =
-      and_then (means.lowered_attributes steps w [] rs) (λ ys. and_then (means.checked_type steps w t) (λ u. and_then (means.lowered_body steps w env t b) (λ c. Ok (function bs f qs ys t c))))
+      and_then (means.lowered_attributes steps w [] rs) (λ ys. and_then (means.checked_type steps w t) (λ u. and_then (means.lowered_body steps w env t b) (λ c. Ok (function bs f qs ys t (cleared (does_nothing bs qs t) c)))))
 
   inside_same : (f : Name) (ps : List Param) (rs : List Attr) (t : Option Typ) (b : Block) (bs : List Attr) (qs : List Param)
       → and_then (means.parameter_locals steps w ps) (under f rs t b bs qs) ≡ and_then (code.parameter_types (s []) ps) (λ ts. code.lowered_rest (s []) bs f qs ts rs t b)

@@ -15,6 +15,7 @@ use Rattle.wgsl_programs.specs.Programs.{is_value}
 use Rattle.wgsl_meaning.specs.ConstStage.{Scope}
 use Rattle.wgsl_eval.specs.declared.error.DeclarationFault.{DeclarationFault}
 use Rattle.wgsl_eval.specs.Start.{then_more}
+use Rattle.wgsl_lower_expressions.specs.Cleared.{does_nothing, cleared}
 use Rattle.wgsl_lower_expressions.specs.Computed.{type_here, lowered_attributes, lowered_parameters, parameter_types, checked_type, lowered_statements, with_parameters, lowered_body, lowered_rest, lowered_function, refusing, lowered_declarations}
 use Rattle.wgsl_lower.specs.Keeps.{is_clear, ClearParameters, AreClear}
 use Rattle.wgsl_lower.proofs.Steps.{then_ok}
@@ -41,19 +42,19 @@ pub record IsLowered (s : Scope) (as' : List Attr) (f : Name) (ps : List Param) 
   pub type_is : checked_type s t ≡ Ok tt
   pub block : Block
   pub statements_are : lowered_statements (with_parameters s types) t b.statements ≡ Ok block.statements
-  pub is : function attributes f parameters result t block ≡ d
+  pub is : function attributes f parameters result t (cleared (does_nothing attributes parameters t) block) ≡ d
 
 is_lowered : (s : Scope) (as' : List Attr) (f : Name) (ps : List Param) (rs : List Attr) (t : Option Typ) (b : Block) (d : Decl) → lowered_function s as' f ps rs t b ≡ Ok d → IsLowered s as' f ps rs t b d
 is_lowered s as' f ps rs t b d h =
     let a = then_ok (lowered_attributes s as') _ d h in
     let p = then_ok (lowered_parameters s ps) (λ qs. and_then (parameter_types s ps) (λ ts. lowered_rest s a.0 f qs ts rs t b)) d a.2 in
     let ts = then_ok (parameter_types s ps) (λ ts. lowered_rest s a.0 f p.0 ts rs t b) d p.2 in
-    let r = then_ok (lowered_attributes s rs) (λ r. and_then (checked_type s t) (λ u. and_then (lowered_body (with_parameters s ts.0) t b) (λ c. Ok (function a.0 f p.0 r t c)))) d ts.2 in
-    let u = then_ok (checked_type s t) (λ u. and_then (lowered_body (with_parameters s ts.0) t b) (λ c. Ok (function a.0 f p.0 r.0 t c))) d r.2 in
-    let c = then_ok (lowered_body (with_parameters s ts.0) t b) (λ c. Ok (function a.0 f p.0 r.0 t c)) d u.2 in
+    let r = then_ok (lowered_attributes s rs) (λ r. and_then (checked_type s t) (λ u. and_then (lowered_body (with_parameters s ts.0) t b) (λ c. Ok (function a.0 f p.0 r t (cleared (does_nothing a.0 p.0 t) c))))) d ts.2 in
+    let u = then_ok (checked_type s t) (λ u. and_then (lowered_body (with_parameters s ts.0) t b) (λ c. Ok (function a.0 f p.0 r.0 t (cleared (does_nothing a.0 p.0 t) c)))) d r.2 in
+    let c = then_ok (lowered_body (with_parameters s ts.0) t b) (λ c. Ok (function a.0 f p.0 r.0 t (cleared (does_nothing a.0 p.0 t) c))) d u.2 in
     let ba = then_ok (lowered_attributes (with_parameters s ts.0) b.attributes) (λ x. and_then (lowered_statements (with_parameters s ts.0) t b.statements) (λ y. Ok (record { attributes = x; statements = y }))) c.0 c.1 in
     let bs = then_ok (lowered_statements (with_parameters s ts.0) t b.statements) (λ y. Ok (record { attributes = ba.0; statements = y })) c.0 ba.2 in
-    let to : function a.0 f p.0 r.0 t c.0 ≡ d = cc in
+    let to : function a.0 f p.0 r.0 t (cleared (does_nothing a.0 p.0 t) c.0) ≡ d = cc in
     let inner : record { attributes = ba.0; statements = bs.0 } ≡ c.0 = cc in
     record {
       attributes = a.0;
@@ -134,11 +135,11 @@ module _ (s : Scope) where
       let d = then_more_ok (refusing f (lowered_function s as' f ps rs t b)) (λ d. then_more (lowered_declarations s ds) (λ more. Ok (d ∷ more))) low h in
       let l = is_lowered s as' f ps rs t b d.0 (refusing_ok f _ d.0 d.1) in
       let more = then_more_ok (lowered_declarations s ds) (λ more. Ok (d.0 ∷ more)) low d.2 in
-      let same : function l.attributes f l.parameters l.result t l.block ∷ more.0 ≡ low = cc in
+      let same : function l.attributes f l.parameters l.result t (cleared (does_nothing l.attributes l.parameters t) l.block) ∷ more.0 ≡ low = cc in
       ap (λ z. is_value (find_decl x z)) (sym same) ∙ at (bytes_eq x f) l more.0 (only_functions ds more.0 more.1 x)
     where
       at : {d : Decl} (c : Bool) (l : IsLowered s as' f ps rs t b d) (more : List Decl) → is_value (find_decl x more) ≡ false →
-          is_value (if c then Some (function l.attributes f l.parameters l.result t l.block) else find_decl x more) ≡ false
+          is_value (if c then Some (function l.attributes f l.parameters l.result t (cleared (does_nothing l.attributes l.parameters t) l.block)) else find_decl x more) ≡ false
       at true l more e = refl
       at false l more e = e
 

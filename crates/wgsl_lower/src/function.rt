@@ -8,6 +8,8 @@ ghost use Rattle.wgsl_syntax.specs.declared.declaration.GlobalDeclaration.TheVar
 ghost use Rattle.wgsl_meaning.specs.Values.{and_then};
 ghost use Rattle.wgsl_eval.specs.Ends.{Ends, Gives};
 ghost use Rattle.wgsl_eval.specs.Scopes.{scope_of};
+ghost use Rattle.wgsl_programs.specs.Runs.{has_stage};
+ghost use Rattle.wgsl_lower_expressions.specs.Cleared as clearing;
 ghost use Rattle.wgsl_lower_expressions.specs.Computed as spec;
 ghost use Rattle.wgsl_lower.specs.Nodes.{lowered_with};
 
@@ -212,6 +214,57 @@ fn lowered_body(
     })
 }
 
+fn has_stage(nodes: &[AttributeNode]) -> bool
+    ensures { result ≡ has_stage (attributes_tree nodes.now) }
+{
+    for node in nodes {
+        match node.node() {
+            Attribute::Fragment => return true,
+            Attribute::Location(_) => {}
+        }
+    }
+    false
+}
+
+fn any_stage(parameters: &[FormalParameter]) -> bool
+    ensures { result ≡ clearing.any_stage (map parameter_tree parameters.now) }
+{
+    for parameter in parameters {
+        if has_stage(parameter.attributes.as_slice()) {
+            return true;
+        }
+    }
+    false
+}
+
+// Whether a call of the function does nothing: it has no result and, being lowered, is const by the rule.
+fn does_nothing(
+    attributes: &[AttributeNode],
+    parameters: &[FormalParameter],
+    ty: &Option<TypeExpression>,
+) -> bool
+    ensures { result ≡ clearing.does_nothing (attributes_tree attributes.now) (map parameter_tree parameters.now) (option_map type_tree ty.now) }
+{
+    match ty {
+        Some(_) => false,
+        None => !has_stage(attributes) && !any_stage(parameters),
+    }
+}
+
+// The body of a function, without its statements where it is cleared.
+fn cleared(alloc: Global, is_cleared: bool, body: CompoundStatement) -> CompoundStatement
+    ensures { block_tree result ≡ clearing.cleared is_cleared (block_tree body) }
+{
+    if is_cleared {
+        CompoundStatement {
+            attributes: body.attributes,
+            statements: Items::new(alloc),
+        }
+    } else {
+        body
+    }
+}
+
 // The attributes and the type of the result, and the body, after attributes and parameters.
 fn lowered_rest(
     alloc: Global,
@@ -235,6 +288,12 @@ fn lowered_rest(
         parameters: types,
     };
     let body = lowered_body(alloc, &inner, &function.return_type, &function.body)?;
+    let is_cleared = does_nothing(
+        attributes.as_slice(),
+        parameters.as_slice(),
+        &function.return_type,
+    );
+    let body = cleared(alloc, is_cleared, body);
     let ident = function.ident.clone_in(alloc)?;
     let return_type = function.return_type.clone_in(alloc)?;
     Ok(Function {
@@ -247,7 +306,8 @@ fn lowered_rest(
     })
 }
 
-/// A function with its constant expressions written as their values. Nothing but the module is in scope.
+/// A function with its constant expressions written as their values, without its statements where it has no result and no stage. Nothing but
+/// the module is in scope.
 pub fn lowered_function(
     alloc: Global,
     scope: &Scope<'_>,

@@ -1,4 +1,4 @@
-//! Lowering of functions and units: constant expressions are written as their values, and consts go.
+//! Lowering of functions and units: constant expressions are written as their values, consts go, and bodies that do nothing are cleared.
 #![tactic(auto)]
 
 mod function;

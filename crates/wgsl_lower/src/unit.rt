@@ -112,10 +112,10 @@ fn lowered_unit(
     lowered_after(alloc, unit, order.as_slice())
 }
 
-/// The plain unit without consts: outermost constant expressions are written as their values, and what a function returns is
-/// converted to its type. It is refused at the first fault of a const, then of a function: of the consts in the order of the start
-/// (text order, but each after those that it reaches, these by the same rule), of the functions in text order. Each evaluation of an
-/// expression or a declaration may take `max_steps` steps.
+/// The plain unit without consts: outermost constant expressions are written as their values, what a function returns is converted
+/// to its type, and the body of a function that has neither a result nor a stage is cleared. It is refused at the first fault of a const,
+/// then of a function: of the consts in the order of the start (text order, but each after those that it reaches, these by the same
+/// rule), of the functions in text order. Each evaluation of an expression or a declaration may take `max_steps` steps.
 pub fn lower(
     alloc: Global,
     unit: &TranslationUnit,

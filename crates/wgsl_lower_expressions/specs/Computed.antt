@@ -14,6 +14,7 @@ use Rattle.wgsl_meaning.specs.Names.{Name, plain_name}
 use Rattle.wgsl_meaning.specs.Meaning.{Types, value, typed}
 use Rattle.wgsl_meaning.specs.ConstStage.{Scope, stage, module_scope, callee_of}
 use Rattle.wgsl_meaning.specs.Written.{written}
+use Rattle.wgsl_lower_expressions.specs.Cleared.{does_nothing, cleared}
 use Rattle.wgsl_eval.specs.declared.error.DeclarationFault.{DeclarationFault}
 use Rattle.wgsl_items.specs.declared.error.OrOutOfMemory.{OrOutOfMemory}
 use Rattle.wgsl_items.specs.declared.error.OrOutOfMemory.TheVariants.{Error, OutOfMemory}
@@ -114,11 +115,11 @@ lowered_body s t b =
     and_then (lowered_attributes s b.attributes) (λ attributes. and_then (lowered_statements s t b.statements) (λ statements.
     Ok (record { attributes = attributes; statements = statements })))
 
--- the attributes and the type of the result, and the body, after attributes and parameters
+-- the attributes and the type of the result, and the body, after attributes and parameters; a body that is cleared is lowered first
 abbrev pub lowered_rest : Scope → List Attr → Name → List Param → Types → List Attr → Option Typ → Block → Checked Decl
 lowered_rest s attributes f parameters ts return_attributes type body =
     and_then (lowered_attributes s return_attributes) (λ rs. and_then (checked_type s type) (λ u. and_then (lowered_body (with_parameters s ts) type body) (λ b.
-    Ok (function attributes f parameters rs type b))))
+    Ok (function attributes f parameters rs type (cleared (does_nothing attributes parameters type) b)))))
 
 -- in text order
 abbrev pub lowered_function : Scope → List Attr → Name → List Param → List Attr → Option Typ → Block → Checked Decl

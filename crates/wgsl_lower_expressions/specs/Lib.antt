@@ -1,3 +1,4 @@
+pub mod Cleared
 pub mod Lowered
 pub mod Computed
 pub mod Reduced

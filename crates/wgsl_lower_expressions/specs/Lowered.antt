@@ -1,5 +1,5 @@
--- The lowered unit (this project's own): constant expressions are written as their values, consts go, and what a function returns
--- is converted where WGSL would convert it. What an expression means is said by programs alone.
+-- The lowered unit (this project's own): constant expressions are written as their values, consts go, what a function returns is
+-- converted where WGSL would convert it, and bodies that do nothing are cleared. What an expression means is said by programs alone.
 use Rattle.std.specs.Prelude.{◌≡◌, ℕ, suc, List, [], ◌∷◌, ◌++◌, Option, Some, None, Bool, true, false, Result, Ok, Err, slice_get, if◌then◌else◌}
 use Rattle.wgsl_syntax.specs.Tree.{Exp, Exps, literal, parenthesized, unary, binary, call, named, nil, cons, exps, Typ, Attr, fragment, location, Stm, returning, Block, Param, Decl, variable, function, UnitTree as Module}
 use Rattle.wgsl_enumerations.specs.declared.words.ShaderStage.TheVariants.{Const}
@@ -18,6 +18,7 @@ use Rattle.wgsl_programs.specs.Calls.{const_in}
 use Rattle.wgsl_programs.specs.Programs.{Known, world, root, here}
 use Rattle.wgsl_programs.specs.Runs.{allowed, find_decl, plain}
 pub use Rattle.wgsl_written.specs.Lacking.{lacks_value, unless_fault}
+use Rattle.wgsl_lower_expressions.specs.Cleared.{does_nothing, cleared}
 use Rattle.wgsl_eval.specs.declared.error.DeclarationFault.{DeclarationFault}
 use Rattle.wgsl_eval.specs.Start.{then_more}
 use Rattle.wgsl_items.specs.declared.error.OrOutOfMemory.{OrOutOfMemory}
@@ -144,12 +145,12 @@ module _ (steps : ℕ) (w : World) where
       and_then (lowered_attributes env b.attributes) (λ attributes. and_then (lowered_statements env t b.statements) (λ statements.
       Ok (record { attributes = attributes; statements = statements })))
 
-  -- in text order
+  -- in text order; a body that is cleared is lowered first
   abbrev pub lowered_function : List Attr → Name → List Param → List Attr → Option Typ → Block → Checked Decl
   lowered_function attributes f parameters return_attributes type body =
       and_then (lowered_attributes [] attributes) (λ as'. and_then (lowered_parameters parameters) (λ ps. and_then (parameter_locals parameters) (λ env.
       and_then (lowered_attributes [] return_attributes) (λ rs. and_then (checked_type type) (λ u. and_then (lowered_body env type body) (λ b.
-      Ok (function as' f ps rs type b)))))))
+      Ok (function as' f ps rs type (cleared (does_nothing as' ps type) b))))))))
 
   -- ---- units
 

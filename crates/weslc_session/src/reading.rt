@@ -1,0 +1,171 @@
+//! From a line to a command.
+
+use crate::command::{Command, CommandError};
+use serde_json::{Map, Value};
+use std::alloc::Global;
+use weslc_bundle::{BundleError, read_feature, read_options};
+use weslc_workspace::Options;
+use wgsl_items::Text;
+use wgsl_path::{ModulePath, ModulePathParseError, PathOrigin};
+
+/// The keys of options.
+const OPTIONS: [&str; 6] = [
+    "default_feature",
+    "features",
+    "keep",
+    "max_modules",
+    "max_steps",
+    "mode",
+];
+
+/// Reads a command: a JSON object with one key, its name, under which an object has what it needs.
+pub fn read_command(alloc: Global, bytes: &[u8]) -> Result<Command, CommandError> {
+    let Ok(text) = str::from_utf8(bytes) else {
+        return Err(CommandError::NotACommand);
+    };
+    match Value::from_str(alloc, text) {
+        Ok(value) => read_value(alloc, &value),
+        Err(error) if error.is_memory() => Err(CommandError::OutOfMemory),
+        Err(_) => Err(CommandError::NotACommand),
+    }
+}
+
+fn read_value(alloc: Global, value: &Value) -> Result<Command, CommandError> {
+    let Some(members) = value.as_object() else {
+        return Err(CommandError::NotACommand);
+    };
+    if members.len() != 1 {
+        return Err(CommandError::NotACommand);
+    }
+    match members.iter().next() {
+        Some((name, needs)) => read_named(alloc, name.as_str(), needs),
+        None => Err(CommandError::NotACommand),
+    }
+}
+
+fn read_named(alloc: Global, name: &str, needs: &Value) -> Result<Command, CommandError> {
+    match name {
+        "open" => read_open(alloc, needs),
+        "set_module" => read_set_module(alloc, needs),
+        "remove_module" => {
+            check_keys(alloc, needs, &["path"])?;
+            Ok(Command::RemoveModule(path_at(alloc, needs, "path")?))
+        }
+        "set_feature" => read_set_feature(alloc, needs),
+        "set_options" => {
+            check_keys(alloc, needs, &OPTIONS)?;
+            Ok(Command::SetOptions(options_of(alloc, needs)?))
+        }
+        "compile" => bare(alloc, needs, Command::Compile),
+        "link" => bare(alloc, needs, Command::Link),
+        "parses" => bare(alloc, needs, Command::Parses),
+        "runs" => bare(alloc, needs, Command::Runs),
+        _ => Err(CommandError::UnknownKey(Text::from_str(alloc, name)?)),
+    }
+}
+
+/// A command that needs nothing.
+fn bare(alloc: Global, needs: &Value, command: Command) -> Result<Command, CommandError> {
+    check_keys(alloc, needs, &[])?;
+    Ok(command)
+}
+
+fn read_open(alloc: Global, needs: &Value) -> Result<Command, CommandError> {
+    check_open_keys(alloc, needs)?;
+    let root = path_at(alloc, needs, "root")?;
+    Ok(Command::Open(root, options_of(alloc, needs)?))
+}
+
+fn read_set_module(alloc: Global, needs: &Value) -> Result<Command, CommandError> {
+    check_keys(alloc, needs, &["path", "text"])?;
+    let path = path_at(alloc, needs, "path")?;
+    let text = text_at(needs, "text")?;
+    Ok(Command::SetModule(path, Text::from_str(alloc, text)?))
+}
+
+fn read_set_feature(alloc: Global, needs: &Value) -> Result<Command, CommandError> {
+    check_keys(alloc, needs, &["feature", "name"])?;
+    let name = text_at(needs, "name")?;
+    let Some(value) = needs.get("feature") else {
+        return Err(CommandError::Value("feature"));
+    };
+    match read_feature(value) {
+        Some(feature) => Ok(Command::SetFeature(Text::from_str(alloc, name)?, feature)),
+        None => Err(CommandError::Value("feature")),
+    }
+}
+
+/// Whether a value is an object of these keys alone.
+fn check_keys(alloc: Global, needs: &Value, keys: &[&str]) -> Result<(), CommandError> {
+    match unknown_key(members_of(needs)?, keys) {
+        Some(key) => Err(CommandError::UnknownKey(Text::from_str(alloc, key)?)),
+        None => Ok(()),
+    }
+}
+
+fn check_open_keys(alloc: Global, needs: &Value) -> Result<(), CommandError> {
+    for key in members_of(needs)?.keys() {
+        if key.as_str() != "root" && !is_among(key.as_str(), &OPTIONS) {
+            return Err(CommandError::UnknownKey(Text::from_str(alloc, key.as_str())?));
+        }
+    }
+    Ok(())
+}
+
+fn members_of(needs: &Value) -> Result<&Map<String, Value>, CommandError> {
+    match needs.as_object() {
+        Some(members) => Ok(members),
+        None => Err(CommandError::NotACommand),
+    }
+}
+
+/// The first key in byte order that is none of these.
+fn unknown_key<'a>(members: &'a Map<String, Value>, keys: &[&str]) -> Option<&'a str> {
+    for key in members.keys() {
+        if !is_among(key.as_str(), keys) {
+            return Some(key.as_str());
+        }
+    }
+    None
+}
+
+fn is_among(key: &str, keys: &[&str]) -> bool {
+    for known in keys {
+        if *known == key {
+            return true;
+        }
+    }
+    false
+}
+
+/// The text at a key.
+fn text_at<'a>(needs: &'a Value, key: &'static str) -> Result<&'a str, CommandError> {
+    match needs.get(key).and_then(Value::as_str) {
+        Some(text) => Ok(text),
+        None => Err(CommandError::Value(key)),
+    }
+}
+
+/// The path at a key, which is not relative.
+fn path_at(alloc: Global, needs: &Value, key: &'static str) -> Result<ModulePath, CommandError> {
+    let text = text_at(needs, key)?;
+    match ModulePath::from_str(alloc, text) {
+        Ok(path) => {
+            if matches!(path.origin, PathOrigin::Relative(_)) {
+                Err(CommandError::Value(key))
+            } else {
+                Ok(path)
+            }
+        }
+        Err(ModulePathParseError::OutOfMemory) => Err(CommandError::OutOfMemory),
+        Err(_) => Err(CommandError::Value(key)),
+    }
+}
+
+fn options_of(alloc: Global, needs: &Value) -> Result<Options, CommandError> {
+    match read_options(alloc, needs) {
+        Ok(options) => Ok(options),
+        Err(BundleError::OutOfMemory) => Err(CommandError::OutOfMemory),
+        Err(error) => Err(CommandError::Bundle(error)),
+    }
+}

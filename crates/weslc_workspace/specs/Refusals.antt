@@ -1,0 +1,17 @@
+-- Answers that say that memory was refused.
+use Rattle.std.specs.Prelude.{Bool, true, false, Result, Ok, Err}
+use Rattle.weslc_calls.specs.CompileError.{CompileError}
+use Rattle.weslc_calls.specs.CompileError.TheVariants.{OutOfMemory}
+use Rattle.weslc_whole.specs.declared.refusal.WholeRefusal.{WholeRefusal}
+use Rattle.weslc_whole.specs.declared.refusal.WholeRefusal.TheVariants.{Compile, Eval}
+
+-- the refusal says so
+abbrev pub is_memory : CompileError → Bool
+is_memory OutOfMemory = true
+is_memory _ = false
+
+-- the answer says so
+abbrev pub is_out_of_memory : {A : Type 0} → Result A WholeRefusal → Bool
+is_out_of_memory (Ok answer) = false
+is_out_of_memory (Err (Eval c fault)) = false
+is_out_of_memory (Err (Compile e)) = is_memory e

@@ -1,0 +1,16 @@
+//! A workspace: modules that are edited, and what is linked and compiled of them.
+#![tactic(auto)]
+
+mod answer;
+mod asking;
+mod modules;
+mod parse;
+mod printed;
+mod workspace;
+
+pub use answer::{Compiled, Linked};
+pub use weslc_calls::{
+    BasicSourceMap, CompileError, ErrorContext, Feature, Mode, Options, SourceMap,
+};
+pub use weslc_whole::WholeRefusal;
+pub use workspace::Workspace;
