@@ -3,6 +3,7 @@
 ghost use Rattle.std.specs.Prelude.{◌≡◌};
 ghost use Rattle.wesl_resolve.specs.Found.{SameAnswers, SameTexts};
 ghost use Rattle.wesl_reach.specs.LoadingClauses.{AsksBehind, AsksThoseLoaded};
+ghost use Rattle.wesl_reach.specs.Alone.{only, Alone, AsksMore};
 ghost use Rattle.wesl_link.specs.Answers.{ResolvesFrom};
 
 use std::alloc::Global;
@@ -34,6 +35,8 @@ pub fn resolve_lazy<R: Resolver>(
     ensures resolves { ResolvesFrom (R.answers resolver.old) path.now keep.now unit max_modules result }
     ensures asked { AsksBehind (R.answers resolver.old) path.now keep.now unit max_modules (R.asked resolver.old) (R.asked resolver.new) }
     ensures all_asked { AsksThoseLoaded (R.answers resolver.old) path.now keep.now unit max_modules (R.asked resolver.old) (R.asked resolver.new) result }
+    ensures alone { Alone (R.asked resolver.old) (R.asked resolver.new) (λ inside. ResolvesFrom (only inside (R.answers resolver.old)) path.now keep.now unit max_modules result) }
+    ensures more { AsksMore (R.asked resolver.old) (R.asked resolver.new) }
     ensures same_answers { SameAnswers (R.answers resolver.old) (R.answers resolver.new) }
     ensures same_texts { SameTexts (R.texts resolver.old) (R.texts resolver.new) }
     ensures same_names { R.display_names resolver.new ≡ R.display_names resolver.old }

@@ -14,3 +14,4 @@ pub mod SeekLemmas
 pub mod CloseLemmas
 pub mod RootLemmas
 pub mod AskedLemmas
+pub mod AloneLemmas

@@ -11,3 +11,4 @@ pub mod Asking
 pub mod Underway
 pub mod ClosingClauses
 pub mod LoadingClauses
+pub mod Alone

@@ -9,6 +9,7 @@ ghost use Rattle.wesl_resolve.specs.Found.{SameAnswers, SameTexts, HasAsked};
 ghost use Rattle.wesl_link_spec.specs.Kept.{kept_names};
 ghost use Rattle.wesl_reach.specs.Loading.{LoadsOne, IsInsertedAt};
 ghost use Rattle.wesl_reach.specs.Asking.{AsksForOne};
+ghost use Rattle.wesl_reach.specs.Alone.{only, Alone, AsksMore};
 ghost use Rattle.wesl_reach.specs.LoadingClauses.{LoadsFrom, AsksBehind, AsksThoseLoaded, RootLoads, RootAsks, RootAsksThose, RoundsLoad, RoundsAsk, RoundsAskThose, LoadsAsked, AsksAsked};
 
 use crate::closing::{close_asked, close_root};
@@ -45,6 +46,8 @@ pub fn load_reached<R: Resolver>(
     ensures loading { LoadsFrom (R.answers resolver.old) path.now keep.now unit max_modules result }
     ensures asked { AsksBehind (R.answers resolver.old) path.now keep.now unit max_modules (R.asked resolver.old) (R.asked resolver.new) }
     ensures all_asked { AsksThoseLoaded (R.answers resolver.old) path.now keep.now unit max_modules (R.asked resolver.old) (R.asked resolver.new) result }
+    ensures alone { Alone (R.asked resolver.old) (R.asked resolver.new) (λ inside. LoadsFrom (only inside (R.answers resolver.old)) path.now keep.now unit max_modules result) }
+    ensures more { AsksMore (R.asked resolver.old) (R.asked resolver.new) }
     ensures same_answers { SameAnswers (R.answers resolver.old) (R.answers resolver.new) }
     ensures same_texts { SameTexts (R.texts resolver.old) (R.texts resolver.new) }
     ensures same_names { R.display_names resolver.new ≡ R.display_names resolver.old }
@@ -81,6 +84,8 @@ fn load_from_root<R: Resolver>(
     ensures loading { RootLoads (R.answers resolver.old) path.now root «module» keep.now max_modules result }
     ensures asked { RootAsks (R.answers resolver.old) path.now root «module» keep.now max_modules (R.asked resolver.old) (R.asked resolver.new) }
     ensures all_asked { RootAsksThose (R.answers resolver.old) path.now root «module» keep.now max_modules (R.asked resolver.old) (R.asked resolver.new) result }
+    ensures alone { Alone (R.asked resolver.old) (R.asked resolver.new) (λ inside. RootLoads (only inside (R.answers resolver.old)) path.now root «module» keep.now max_modules result) }
+    ensures more { AsksMore (R.asked resolver.old) (R.asked resolver.new) }
     ensures same_answers { SameAnswers (R.answers resolver.old) (R.answers resolver.new) }
     ensures same_texts { SameTexts (R.texts resolver.old) (R.texts resolver.new) }
     ensures same_names { R.display_names resolver.new ≡ R.display_names resolver.old }
@@ -115,6 +120,8 @@ fn load_rounds<R: Resolver>(
     ensures loading { RoundsLoad (R.answers resolver.old) reached keep.now asked max_modules result }
     ensures asked { RoundsAsk (R.answers resolver.old) reached keep.now asked max_modules (R.asked resolver.old) (R.asked resolver.new) }
     ensures all_asked { RoundsAskThose (R.answers resolver.old) reached keep.now asked max_modules (R.asked resolver.old) (R.asked resolver.new) result }
+    ensures alone { Alone (R.asked resolver.old) (R.asked resolver.new) (λ inside. RoundsLoad (only inside (R.answers resolver.old)) reached keep.now asked max_modules result) }
+    ensures more { AsksMore (R.asked resolver.old) (R.asked resolver.new) }
     ensures same_answers { SameAnswers (R.answers resolver.old) (R.answers resolver.new) }
     ensures same_texts { SameTexts (R.texts resolver.old) (R.texts resolver.new) }
     ensures same_names { R.display_names resolver.new ≡ R.display_names resolver.old }
@@ -166,6 +173,8 @@ fn load_all<R: Resolver>(
     ensures ordered { IsOrdered string_cmp asked.now }
     ensures loads { LoadsAsked (R.answers resolver.old) max_modules modules.old asked.now modules.new result }
     ensures asks { AsksAsked (R.answers resolver.old) max_modules (R.asked resolver.old) (R.asked resolver.new) modules.old asked.now modules.new result }
+    ensures alone { Alone (R.asked resolver.old) (R.asked resolver.new) (λ inside. LoadsAsked (only inside (R.answers resolver.old)) max_modules modules.old asked.now modules.new result) }
+    ensures more { AsksMore (R.asked resolver.old) (R.asked resolver.new) }
     ensures same_answers { SameAnswers (R.answers resolver.old) (R.answers resolver.new) }
     ensures same_texts { SameTexts (R.texts resolver.old) (R.texts resolver.new) }
     ensures same_names { R.display_names resolver.new ≡ R.display_names resolver.old }
@@ -196,6 +205,7 @@ fn load_one<R: Resolver>(
     ensures loads { path_text path.now ≡ text.now → LoadsOne (R.answers resolver.old) max_modules modules.old path.now text.now modules.new result }
     ensures asks { AsksForOne (R.asked resolver.old) (length modules.old.entries) max_modules (path_text path.now) (R.asked resolver.new) }
     ensures asked { OnOk result (HasAsked (R.asked resolver.old) (path_text path.now ∷ []) (R.asked resolver.new)) }
+    ensures alone { Alone (R.asked resolver.old) (R.asked resolver.new) (λ inside. path_text path.now ≡ text.now → LoadsOne (only inside (R.answers resolver.old)) max_modules modules.old path.now text.now modules.new result) }
     ensures same_answers { SameAnswers (R.answers resolver.old) (R.answers resolver.new) }
     ensures same_texts { SameTexts (R.texts resolver.old) (R.texts resolver.new) }
     ensures same_names { R.display_names resolver.new ≡ R.display_names resolver.old }

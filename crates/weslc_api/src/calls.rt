@@ -5,6 +5,7 @@ ghost use Rattle.wgsl_path.specs.Paths.{path_text};
 ghost use Rattle.wesl_resolve.specs.Found.{SameAnswers, SameTexts};
 ghost use Rattle.weslc_linking.specs.Mapped.{HasNames};
 ghost use Rattle.weslc_linking.specs.Asked.{AreAsked, AreAskedAsLoaded};
+ghost use Rattle.wesl_reach.specs.Alone.{only, Alone};
 ghost use Rattle.weslc_linking.specs.Answers.{RefusesToLink, RefusesToCompile, IsMapped, IsLinkedText, IsCompiledText};
 
 use std::alloc::Global;
@@ -55,6 +56,9 @@ pub fn compile<R: Resolver>(
     ensures map { IfOk result (λ answer. IsMapped (R.answers resolver.old) (path_text root.now) options.now.keep options.now.max_modules (R.texts resolver.old) answer.1) }
     ensures names { IfOk result (λ answer. HasNames (R.display_names resolver.old) answer.1) }
     ensures refusal { IfErr result (RefusesToCompile (R.answers resolver.old) (path_text root.now) options.now.keep options.now.max_modules options.now.max_steps) }
+    ensures alone_text { Alone (R.asked resolver.old) (R.asked resolver.new) (λ inside. IfOk result (λ answer. IsCompiledText (only inside (R.answers resolver.old)) (path_text root.now) options.now.keep options.now.max_modules options.now.max_steps (string_bytes answer.0))) }
+    ensures alone_map { Alone (R.asked resolver.old) (R.asked resolver.new) (λ inside. IfOk result (λ answer. IsMapped (only inside (R.answers resolver.old)) (path_text root.now) options.now.keep options.now.max_modules (R.texts resolver.old) answer.1)) }
+    ensures alone_refusal { Alone (R.asked resolver.old) (R.asked resolver.new) (λ inside. IfErr result (RefusesToCompile (only inside (R.answers resolver.old)) (path_text root.now) options.now.keep options.now.max_modules options.now.max_steps)) }
     ensures asked { AreAsked (R.answers resolver.old) (path_text root.now) options.now.keep options.now.max_modules (R.asked resolver.old) (R.asked resolver.new) }
     ensures all_asked { OnOk result (AreAskedAsLoaded (R.answers resolver.old) (path_text root.now) options.now.keep options.now.max_modules (R.asked resolver.old) (R.asked resolver.new)) }
     ensures same_answers { SameAnswers (R.answers resolver.old) (R.answers resolver.new) }

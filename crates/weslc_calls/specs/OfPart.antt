@@ -1,5 +1,6 @@
 -- Which calls the part of the language answers whose linking and compiling is proved.
-use Rattle.std.specs.Prelude.{◌≡◌, ◌⊎◌, ⊤, ℕ, List, Bool, true, false, Result, String}
+use Rattle.std.specs.Prelude.{◌≡◌, ◌⊎◌, ⊤, ℕ, List, map, Option, Bool, true, false, Result, String}
+use Rattle.std.specs.Option.{option_map}
 use Rattle.std.specs.declared.alloc.Global.{Global}
 use Rattle.wgsl_path.specs.declared.path.ModulePath.{ModulePath}
 use Rattle.wgsl_path.specs.declared.path.PathOrigin.{PathOrigin}
@@ -60,6 +61,10 @@ abbrev pub IsBeyondCompile : Finding → ModulePath → Options → Type 0
 IsBeyondCompile found root options =
     IsOther root options
     ⊎ ((c : ErrorContext) × RefusesToCompile (sources options.features found) (path_text root) options.keep options.max_modules options.max_steps (Unsupported c))
+
+-- the printed paths of what was asked for
+abbrev pub texts_asked : Option (List ModulePath) → Option (List (List ℕ))
+texts_asked = option_map (map path_text)
 
 -- ---- calls that the part is tried on
 

@@ -1,11 +1,14 @@
 //! The calls of the part of the language whose linking and compiling is proved.
 
-ghost use Rattle.std.specs.Prelude.{◌≡◌, IfOk, IfErr, string_bytes};
+ghost use Rattle.std.specs.Prelude.{◌≡◌, Err, IfOk, IfErr, string_bytes};
+ghost use Rattle.weslc_linking.specs.declared.error.ErrorContext.{ErrorContext};
+ghost use Rattle.weslc_linking.specs.declared.error.CompileError.TheVariants.{Unsupported};
 ghost use Rattle.wgsl_path.specs.Paths.{path_text};
 ghost use Rattle.weslc_part.specs.Found.{at_text, part_names};
 ghost use Rattle.weslc_linking.specs.Mapped.{HasNames};
 ghost use Rattle.weslc_linking.specs.Answers.{RefusesToLink, RefusesToCompile, IsMapped, IsLinkedText, IsCompiledText};
-ghost use Rattle.weslc_calls.specs.OfPart.{is_lazy, is_own, sources, IsBeyondLink, IsBeyondCompile, IfAnswered, IfBeyond};
+ghost use Rattle.wesl_reach.specs.Alone.{only, Alone};
+ghost use Rattle.weslc_calls.specs.OfPart.{is_lazy, is_own, sources, texts_asked, IsBeyondLink, IsBeyondCompile, IfAnswered, IfBeyond};
 ghost use Rattle.weslc_calls.specs.Plain.{IsPlain};
 
 use crate::deciding::Decided;
@@ -75,6 +78,17 @@ pub(crate) fn try_link<R: Resolver>(
     }
 }
 
+/// What comes of a call that is answered so, where the module that was last refused as beyond the part is this one.
+fn outcome_of(answer: Answer, beyond: Option<Beyond>) -> Tried
+    ensures answered { IfAnswered result (λ r. r ≡ answer) }
+    ensures beyond { IfBeyond result ((c : ErrorContext) × (answer ≡ Err (Unsupported c))) }
+{
+    match answer {
+        Err(CompileError::Unsupported(_)) => Tried::Beyond(beyond),
+        answer => Tried::Answered(answer),
+    }
+}
+
 /// One text without imports and consts in which what the options ask for of the modules is validated and lowered, and the map from it back
 /// to the modules; or the first fault: where the call is one of the part's. Each evaluation of an expression or a declaration may take so
 /// many steps as the options say. The root is not relative.
@@ -88,6 +102,9 @@ pub fn try_compile<R: Resolver>(
     ensures map { IfAnswered result (λ r. IfOk r (λ answer. IsMapped (sources options.now.features (R.answers resolver.old)) (path_text root.now) options.now.keep options.now.max_modules (at_text (R.texts resolver.old)) answer.1)) }
     ensures names { IfAnswered result (λ r. IfOk r (λ answer. HasNames (part_names (R.display_names resolver.old)) answer.1)) }
     ensures refusal { IfAnswered result (λ r. IfErr r (RefusesToCompile (sources options.now.features (R.answers resolver.old)) (path_text root.now) options.now.keep options.now.max_modules options.now.max_steps)) }
+    ensures alone_text { Alone (texts_asked (R.asked resolver.old)) (texts_asked (R.asked resolver.new)) (λ inside. IfAnswered result (λ r. IfOk r (λ answer. IsCompiledText (only inside (sources options.now.features (R.answers resolver.old))) (path_text root.now) options.now.keep options.now.max_modules options.now.max_steps (string_bytes answer.0)))) }
+    ensures alone_map { Alone (texts_asked (R.asked resolver.old)) (texts_asked (R.asked resolver.new)) (λ inside. IfAnswered result (λ r. IfOk r (λ answer. IsMapped (only inside (sources options.now.features (R.answers resolver.old))) (path_text root.now) options.now.keep options.now.max_modules (at_text (R.texts resolver.old)) answer.1))) }
+    ensures alone_refusal { Alone (texts_asked (R.asked resolver.old)) (texts_asked (R.asked resolver.new)) (λ inside. IfAnswered result (λ r. IfErr r (RefusesToCompile (only inside (sources options.now.features (R.answers resolver.old))) (path_text root.now) options.now.keep options.now.max_modules options.now.max_steps))) }
     ensures beyond { IfBeyond result (IsBeyondCompile (R.answers resolver.old) root.now options.now) }
 {
     if !is_lazy(options.mode) {
@@ -99,8 +116,15 @@ pub fn try_compile<R: Resolver>(
     let features = &options.features;
     let decided = Preprocessor::new(resolver, Conditions { features });
     let mut part = PartResolver::new(Decided { inner: decided });
-    match weslc_api::compile(alloc, &mut part, root, options) {
-        Err(CompileError::Unsupported(_)) => Tried::Beyond(part.into_beyond()),
-        answer => Tried::Answered(answer),
-    }
+    let answer = weslc_api::compile(alloc, &mut part, root, options);
+    let PartResolver {
+        resolver: Decided {
+            inner: Preprocessor {
+                resolver: _lent,
+                preprocess: _,
+            },
+        },
+        beyond,
+    } = part;
+    outcome_of(answer, beyond)
 }

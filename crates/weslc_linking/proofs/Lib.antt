@@ -6,3 +6,4 @@ pub mod Mapping
 pub mod Texts
 pub mod Recorded
 pub mod Located
+pub mod Alone

@@ -10,6 +10,7 @@ ghost use Rattle.weslc_laws.specs.Headline.{IsLinkedFrom};
 ghost use Rattle.weslc_linking.specs.Mapped.{IsFound, AreAllFound, AreFound, HasText, HaveTexts, HasOnly, AddsOnly, HasNames, HasDefault};
 ghost use Rattle.weslc_linking.specs.Asked.{AreAsked, AreAskedAsLoaded};
 ghost use Rattle.wesl_reach.specs.Asking.{AsksForOne};
+ghost use Rattle.wesl_reach.specs.Alone.{only, Alone};
 ghost use Rattle.weslc_linking.specs.Answers.{RefusesLinking, AreTablesOf, IsMapped, TellsTables, IsToldFrom};
 
 use crate::error::CompileError;
@@ -41,6 +42,9 @@ pub fn linked_unit<R: Resolver>(
     ensures refusal { IfErr result (RefusesLinking (R.answers resolver.old) (path_text root.now) options.now.keep options.now.max_modules) }
     ensures asked { AreAsked (R.answers resolver.old) (path_text root.now) options.now.keep options.now.max_modules (R.asked resolver.old) (R.asked resolver.new) }
     ensures all_asked { OnOk result (AreAskedAsLoaded (R.answers resolver.old) (path_text root.now) options.now.keep options.now.max_modules (R.asked resolver.old) (R.asked resolver.new)) }
+    ensures alone_map { Alone (R.asked resolver.old) (R.asked resolver.new) (λ inside. IfOk result (λ linked. IsMapped (only inside (R.answers resolver.old)) (path_text root.now) options.now.keep options.now.max_modules (R.texts resolver.old) linked.map)) }
+    ensures alone_told { Alone (R.asked resolver.old) (R.asked resolver.new) (λ inside. IfOk result (λ linked. IsToldFrom (only inside (R.answers resolver.old)) (path_text root.now) options.now.keep options.now.max_modules (unit_tree linked.unit) linked.map)) }
+    ensures alone_refusal { Alone (R.asked resolver.old) (R.asked resolver.new) (λ inside. IfErr result (RefusesLinking (only inside (R.answers resolver.old)) (path_text root.now) options.now.keep options.now.max_modules)) }
     ensures same_answers { SameAnswers (R.answers resolver.old) (R.answers resolver.new) }
     ensures same_texts { SameTexts (R.texts resolver.old) (R.texts resolver.new) }
     ensures same_names { R.display_names resolver.new ≡ R.display_names resolver.old }
@@ -65,6 +69,9 @@ fn load_and_map<R: Resolver>(
     ensures refusal { IfErr result (RefusesLinking (R.answers resolver.old) (path_text root.now) options.now.keep options.now.max_modules) }
     ensures asked { AreAsked (R.answers resolver.old) (path_text root.now) options.now.keep options.now.max_modules (R.asked resolver.old) (R.asked resolver.new) }
     ensures all_asked { OnOk result (AreAskedAsLoaded (R.answers resolver.old) (path_text root.now) options.now.keep options.now.max_modules (R.asked resolver.old) (R.asked resolver.new)) }
+    ensures alone_tables { Alone (R.asked resolver.old) (R.asked resolver.new) (λ inside. IfOk result (λ answer. AreTablesOf (only inside (R.answers resolver.old)) (path_text root.now) options.now.keep options.now.max_modules answer.0)) }
+    ensures alone_map { Alone (R.asked resolver.old) (R.asked resolver.new) (λ inside. IfOk result (λ answer. IsMapped (only inside (R.answers resolver.old)) (path_text root.now) options.now.keep options.now.max_modules (R.texts resolver.old) answer.1)) }
+    ensures alone_refusal { Alone (R.asked resolver.old) (R.asked resolver.new) (λ inside. IfErr result (RefusesLinking (only inside (R.answers resolver.old)) (path_text root.now) options.now.keep options.now.max_modules)) }
     ensures same_answers { SameAnswers (R.answers resolver.old) (R.answers resolver.new) }
     ensures same_texts { SameTexts (R.texts resolver.old) (R.texts resolver.new) }
     ensures same_names { R.display_names resolver.new ≡ R.display_names resolver.old }
@@ -86,6 +93,8 @@ fn loaded<R: Resolver>(
     ensures refusal { IfErr result (RefusesLinking (R.answers resolver.old) (path_text root.now) options.now.keep options.now.max_modules) }
     ensures asked { AreAsked (R.answers resolver.old) (path_text root.now) options.now.keep options.now.max_modules (R.asked resolver.old) (R.asked resolver.new) }
     ensures all_asked { OnOk result (AreAskedAsLoaded (R.answers resolver.old) (path_text root.now) options.now.keep options.now.max_modules (R.asked resolver.old) (R.asked resolver.new)) }
+    ensures alone_tables { Alone (R.asked resolver.old) (R.asked resolver.new) (λ inside. IfOk result (AreTablesOf (only inside (R.answers resolver.old)) (path_text root.now) options.now.keep options.now.max_modules)) }
+    ensures alone_refusal { Alone (R.asked resolver.old) (R.asked resolver.new) (λ inside. IfErr result (RefusesLinking (only inside (R.answers resolver.old)) (path_text root.now) options.now.keep options.now.max_modules)) }
     ensures same_answers { SameAnswers (R.answers resolver.old) (R.answers resolver.new) }
     ensures same_texts { SameTexts (R.texts resolver.old) (R.texts resolver.new) }
     ensures same_names { R.display_names resolver.new ≡ R.display_names resolver.old }
@@ -111,6 +120,7 @@ fn root_unit<R: Resolver>(
     ensures refusal { IfErr result (λ e. (asked : List Name) → RefusesLinking (R.answers resolver.old) (path_text root.now) asked max_modules e) }
     ensures asks { AsksForOne (R.asked resolver.old) 0 max_modules (path_text root.now) (R.asked resolver.new) }
     ensures asked { OnOk result ((0 < max_modules) × HasAsked (R.asked resolver.old) (path_text root.now ∷ []) (R.asked resolver.new)) }
+    ensures alone { Alone (R.asked resolver.old) (R.asked resolver.new) (λ inside. IfErr result (λ e. (asked : List Name) → RefusesLinking (only inside (R.answers resolver.old)) (path_text root.now) asked max_modules e)) }
     ensures same_answers { SameAnswers (R.answers resolver.old) (R.answers resolver.new) }
     ensures same_texts { SameTexts (R.texts resolver.old) (R.texts resolver.new) }
     ensures same_names { R.display_names resolver.new ≡ R.display_names resolver.old }

@@ -5,6 +5,7 @@ use Rattle.wgsl_path.specs.Paths.{path_text}
 use Rattle.wgsl_meaning.specs.declared.fault.Fault.TheVariants.{Name}
 use Rattle.wgsl_meaning.specs.declared.fault.NameFault.{NameFault}
 use Rattle.wgsl_meaning.specs.declared.fault.NameFault.TheVariants.{Todo}
+use Rattle.wesl_link_spec.specs.Rounds.{Sources}
 use Rattle.weslc_linking.specs.declared.error.ErrorContext.{ErrorContext}
 use Rattle.weslc_calls.specs.Options.{Options}
 use Rattle.weslc_calls.specs.CompileError.{CompileError}
@@ -29,7 +30,11 @@ IsBeyond found root options =
     IsBeyondCompile found root options
     ⊎ ((c : ErrorContext) × (name : List ℕ) × RefusesToCompile (sources options.features found) (path_text root) options.keep options.max_modules options.max_steps (calls.Eval c (Name Todo name)))
 
--- A refusal of the proved part. One of the whole language is none.
+-- A refusal of the proved part, for what is found so at printed paths. One of the whole language is none.
+abbrev pub RefusesOf : Sources → ModulePath → Options → WholeRefusal → Type 0
+RefusesOf found root options (whole.Compile e) = RefusesToCompile found (path_text root) options.keep options.max_modules options.max_steps e
+RefusesOf found root options (whole.Eval c fault) = ⊥
+
+-- the same, for what a resolver finds
 abbrev pub RefusesPart : Finding → ModulePath → Options → WholeRefusal → Type 0
-RefusesPart found root options (whole.Compile e) = RefusesToCompile (sources options.features found) (path_text root) options.keep options.max_modules options.max_steps e
-RefusesPart found root options (whole.Eval c fault) = ⊥
+RefusesPart found root options = RefusesOf (sources options.features found) root options

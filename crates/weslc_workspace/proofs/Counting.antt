@@ -1,7 +1,7 @@
 -- Counts of parses, one after another.
 use Rattle.std.proofs.Common.{◌≡◌, refl, ◌∙◌, ℕ, ◌+◌, inl, inr, arith}
 use Rattle.std.specs.Prelude.{min}
-use Rattle.weslc_workspace.specs.Content.{Rises, Counts, parsed_count}
+use Rattle.weslc_workspace.specs.Held.{Rises, Counts, parsed_count}
 use Rattle.weslc_workspace.specs.declared.modules.Modules.{Modules}
 
 rises_more : (n k m l o : ℕ) → Rises n k m → Rises m l o → Rises n (k + l) o

@@ -5,3 +5,5 @@ pub mod Maps
 pub mod Noted
 pub mod Places
 pub mod Refused
+mod Reprinted
+mod KeptLemmas

@@ -3,10 +3,11 @@ use mathlib.Core.Option.{none}
 use Rattle.std.specs.Prelude.{◌≡◌, ⊤, false, Result, if◌then◌else◌}
 use Rattle.std.specs.Borrow.{follows_so, Fml, MutBor}
 use Rattle.weslc_whole.specs.declared.refusal.WholeRefusal.{WholeRefusal}
-use Rattle.weslc_workspace.specs.Content.{IsSameContent, Counts, rises}
+use Rattle.weslc_workspace.specs.Held.{Counts}
+use Rattle.weslc_workspace.specs.Content.{IsSameContent, rises}
 use Rattle.weslc_workspace.specs.Refusals.{is_out_of_memory}
-use Rattle.weslc_workspace.specs.declared.workspace.Workspace.{Workspace}
-use Rattle.weslc_workspace.specs.contracts.workspace.Workspace.{the_row}
+use Rattle.weslc_workspace.specs.declared.content.Workspace.{Workspace}
+use Rattle.weslc_workspace.specs.contracts.content.Workspace.{the_row}
 
 -- this holds of the workspace once what was lent of it is given back
 abbrev pub Rests : MutBor Workspace → (Workspace → Type 0) → Fml

@@ -1,8 +1,11 @@
+pub mod Held
 pub mod Behind
 pub mod Content
 pub mod Found
+pub mod Fresh
 pub mod Lent
 pub mod Noted
 pub mod Outcome
 pub mod Refusals
 pub mod Told
+pub mod Kept

@@ -10,7 +10,12 @@ abbrev pub is_memory : CompileError → Bool
 is_memory OutOfMemory = true
 is_memory _ = false
 
--- the answer says so
+-- the answer of `link` says so
+abbrev pub is_link_refused : {A : Type 0} → Result A CompileError → Bool
+is_link_refused (Ok answer) = false
+is_link_refused (Err e) = is_memory e
+
+-- that of `compile`
 abbrev pub is_out_of_memory : {A : Type 0} → Result A WholeRefusal → Bool
 is_out_of_memory (Ok answer) = false
 is_out_of_memory (Err (Eval c fault)) = false

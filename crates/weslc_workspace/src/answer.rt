@@ -1,7 +1,7 @@
 //! What the calls of a workspace answer, which is lent.
 
-ghost use Rattle.std.specs.Prelude.{◌≡◌, true};
-ghost use Rattle.weslc_workspace.specs.Refusals.{is_memory, is_out_of_memory};
+ghost use Rattle.std.specs.Prelude.{◌≡◌, true, false};
+ghost use Rattle.weslc_workspace.specs.Refusals.{is_memory, is_link_refused, is_out_of_memory};
 
 use weslc_calls::{BasicSourceMap, CompileError};
 use weslc_whole::WholeRefusal;
@@ -19,14 +19,18 @@ pub(crate) struct HeldLinked {
 
 impl HeldLinked {
     /// Memory was refused.
-    pub(crate) fn out_of_memory() -> HeldLinked {
+    pub(crate) fn out_of_memory() -> HeldLinked
+        ensures { is_link_refused result.answer ≡ true }
+    {
         HeldLinked {
             answer: Err(CompileError::OutOfMemory),
         }
     }
 
     /// An answer; or that memory was refused, where it was refused behind it.
-    pub(crate) fn new(answer: Linked, is_refused: bool) -> HeldLinked {
+    pub(crate) fn new(answer: Linked, is_refused: bool) -> HeldLinked
+        ensures { is_link_refused result.answer ≡ false → result.answer ≡ answer }
+    {
         let held = HeldLinked { answer };
         if is_refused {
             return HeldLinked::out_of_memory();
@@ -58,7 +62,9 @@ impl HeldCompiled {
     }
 
     /// An answer; or that memory was refused, where it was refused behind it.
-    pub(crate) fn new(answer: Compiled, is_refused: bool) -> HeldCompiled {
+    pub(crate) fn new(answer: Compiled, is_refused: bool) -> HeldCompiled
+        ensures { is_out_of_memory result.answer ≡ false → result.answer ≡ answer }
+    {
         let held = HeldCompiled { answer };
         if is_refused {
             return HeldCompiled::out_of_memory();

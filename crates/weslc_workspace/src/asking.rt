@@ -1,6 +1,7 @@
 //! The modules of a workspace as one call asks for them.
 
 ghost use Rattle.weslc_workspace.specs.Told.{AreOfTexts};
+ghost use Rattle.weslc_workspace.specs.Noted.{AreNoted};
 
 use crate::modules::Modules;
 use crate::parse::{Parse, ParsedText};
@@ -8,42 +9,49 @@ use indexmap::{IndexMap, IndexSet};
 use std::alloc::{AllocError, Global};
 use wesl_resolvers::{ResolveError, Resolver};
 use wgsl_declarations::TranslationUnit;
-use wgsl_items::{CloneIn, Text};
+use wgsl_items::{CloneIn, Items, Text};
 use wgsl_path::ModulePath;
 
-/// The modules of a workspace, the printed paths of those that were asked for, and what was parsed for that.
+/// The modules of a workspace, the paths of those that were asked for, in order, and as they are printed, and what was parsed for that.
 #[derive(Drop)]
 pub(crate) struct Asking<'a> {
     modules: &'a Modules,
+    requests: Items<ModulePath>,
     asked: IndexSet<String>,
     fresh: IndexMap<String, ParsedText>,
     ghost of_texts: { AreOfTexts modules.now.texts fresh },
+    ghost noted: { AreNoted requests asked },
 }
 
 impl<'a> Asking<'a> {
-    ghost use Rattle.std.specs.Prelude.{◌≡◌, Some, OnOk, OnErr, string_bytes};
-    ghost use Rattle.std.specs.HashSet.{keys};
+    ghost use Rattle.std.specs.Prelude.{◌≡◌, ◌++◌, ◌∷◌, [], Some, OnOk, OnErr, string_bytes};
+    ghost use Rattle.wgsl_path.specs.Paths.{path_text};
     ghost use Rattle.wesl_resolvers.specs.Found.{TellsUnit};
     ghost use Rattle.weslc_workspace.specs.Found.{found_in};
     ghost use Rattle.weslc_workspace.specs.Noted.{IsNoted};
     ghost use Rattle.weslc_workspace.specs.Outcome.{IsToldOf};
-    ghost use Rattle.weslc_workspace.specs.Content.{text_at};
+    ghost use Rattle.weslc_workspace.specs.Held.{text_at};
 
     /// Nothing was asked for.
     pub(crate) fn new(alloc: Global, modules: &'a Modules) -> Asking<'a>
-        ensures { result.modules ≡ modules.entry }
+        ensures modules { result.modules ≡ modules.entry }
+        ensures requests { result.requests ≡ [] }
     {
         Asking {
             modules,
+            requests: Items::new(alloc),
             asked: IndexSet::new(alloc),
             fresh: IndexMap::new(alloc),
         }
     }
 
-    /// What was asked for, found or not, and what was parsed.
-    pub(crate) fn into_parts(self) -> (IndexSet<String>, IndexMap<String, ParsedText>) {
+    /// The printed paths of what was asked for, found or not, and what was parsed.
+    pub(crate) fn into_parts(self) -> (IndexSet<String>, IndexMap<String, ParsedText>)
+        ensures { AreNoted self.entry.requests result.0 }
+    {
         let Asking {
             modules: _,
+            requests: _,
             asked,
             fresh,
         } = self;
@@ -61,6 +69,7 @@ impl<'a> Asking<'a> {
         requires { text_at self.old.modules.now (string_bytes key) ≡ Some text.now }
         ensures unit { TellsUnit (found_in (Some text.now)) path.now result }
         ensures modules { self.new.modules ≡ self.old.modules }
+        ensures requests { self.new.requests ≡ self.old.requests }
     {
         if let Some(parsed) = self.fresh.get(key.as_str()) {
             return parsed.parse.copy(alloc, path);
@@ -74,20 +83,24 @@ impl<'a> Asking<'a> {
     }
 
     /// Notes that a module was asked for.
-    #[tactic(auto, using(crate::proofs::Noted::noted))]
-    fn note(&mut self, path: String) -> Result<(), AllocError>
-        ensures noted { OnOk result (IsNoted self.old.asked (string_bytes path) self.new.asked) }
-        ensures refused { OnErr result (keys self.new.asked ≡ keys self.old.asked) }
+    fn note(&mut self, alloc: Global, path: &ModulePath) -> Result<(), AllocError>
+        ensures noted { OnOk result (IsNoted self.old.asked (path_text path.now) self.new.asked) }
+        ensures requests { OnOk result (self.new.requests ≡ self.old.requests ++ path.now ∷ []) }
+        ensures refused { OnErr result (self.new.requests ≡ self.old.requests) }
         ensures modules { self.new.modules ≡ self.old.modules }
     {
-        self.asked.insert(path)?;
+        let printed = path.to_string(alloc)?;
+        let path = path.clone_in(alloc)?;
+        self.asked.insert(printed)?;
+        self.requests.push(path)?;
         Ok(())
     }
 
     /// Keeps what was parsed, for which there is room.
     fn keep(&mut self, path: String, parsed: ParsedText)
         requires { IsToldOf (text_at self.old.modules.now (string_bytes path)) parsed.parse.outcome }
-        ensures { self.new.modules ≡ self.old.modules }
+        ensures modules { self.new.modules ≡ self.old.modules }
+        ensures requests { self.new.requests ≡ self.old.requests }
     {
         drop(self.fresh.insert(path, parsed));
     }
@@ -99,11 +112,13 @@ impl<'a> Resolver for Asking<'a> {
     ghost use Rattle.std.proofs.Common.{ap, sym, ◌∙◌};
     ghost use Rattle.wgsl_path.specs.Paths.{path_text};
     ghost use Rattle.weslc_workspace.specs.Found.{found_in, one_found, text_of_found};
-    ghost use Rattle.weslc_workspace.specs.Content.{text_at};
+    ghost use Rattle.weslc_workspace.specs.Held.{text_at};
 
     ghost answers = { λ r p a. found_in (text_at r.modules.now (path_text p)) a };
 
     ghost texts = { λ r p text. text_at r.modules.now (path_text p) ≡ Some text };
+
+    ghost asked = { λ r. Some r.requests };
 
     fn resolve_source(&mut self, alloc: Global, path: &ModulePath) -> Result<Text, ResolveError> {
         let key = path.to_string(alloc)?;
@@ -118,7 +133,7 @@ impl<'a> Resolver for Asking<'a> {
         alloc: Global,
         path: &ModulePath,
     ) -> Result<TranslationUnit, ResolveError> {
-        self.note(path.to_string(alloc)?)?;
+        self.note(alloc, path)?;
         let key = path.to_string(alloc)?;
         let Some(text) = self.modules.text(key.as_str()) else {
             return Err(ResolveError::ModuleNotFound(path.clone_in(alloc)?));

@@ -28,7 +28,7 @@ impl Modules {
     ghost use Rattle.std.specs.Option.{option_copied, is_some};
     ghost use Rattle.wgsl_path.specs.Paths.{path_text};
     ghost use Rattle.weslc_workspace.specs.Outcome.{IsToldOf};
-    ghost use Rattle.weslc_workspace.specs.Content.{text_at, is_parsed, parsed_count, IsSet, IsUnparsed, Counts};
+    ghost use Rattle.weslc_workspace.specs.Held.{text_at, is_parsed, parsed_count, IsSet, IsUnparsed, Counts};
 
     /// No modules.
     pub(crate) fn new(alloc: Global) -> Modules

@@ -1,7 +1,8 @@
-//! The workspace.
+//! The calls of a workspace.
 
 use crate::answer::{Compiled, HeldCompiled, HeldLinked, Linked};
 use crate::asking::Asking;
+use crate::content::Workspace;
 use crate::modules::Modules;
 use indexmap::IndexSet;
 use std::alloc::{AllocError, Global};
@@ -11,28 +12,15 @@ use weslc_whole::compile;
 use wgsl_items::Text;
 use wgsl_path::ModulePath;
 
-/// Modules that are edited, with a root and options, and what was compiled of them. No text that is set is parsed twice, and what was
-/// compiled stands until a flag, the options or a module that it asked for, found or not, is edited. Paths that print alike are one path.
-#[derive(Drop)]
-pub struct Workspace {
-    alloc: Global,
-    root: ModulePath,
-    options: Options,
-    modules: Modules,
-    /// The printed paths that the last finished compilation asked for.
-    asked: IndexSet<String>,
-    is_stale: bool,
-    runs: u64,
-    compiled: HeldCompiled,
-    linked: HeldLinked,
-}
-
 impl Workspace {
     ghost use Rattle.std.specs.Prelude.{◌≡◌, ℕ, List, Some, None, OnOk, OnErr, true, false, if◌then◌else◌};
     ghost use Rattle.std.specs.Option.{is_some};
     ghost use Rattle.wgsl_path.specs.Paths.{path_text};
-    ghost use Rattle.weslc_workspace.specs.Content.{text_at, IsSet, IsSameContent, Counts, one_more, rises, asks};
-    ghost use Rattle.weslc_workspace.specs.Refusals.{is_out_of_memory};
+    ghost use Rattle.weslc_workspace.specs.Held.{text_at, IsSet, Counts};
+    ghost use Rattle.weslc_workspace.specs.Content.{IsSameContent, one_more, rises, asks};
+    ghost use Rattle.weslc_workspace.specs.Fresh.{IsCompiledOf, IsLinkedOf};
+    ghost use Rattle.weslc_workspace.specs.Kept.{IsAnswer};
+    ghost use Rattle.weslc_workspace.specs.Refusals.{is_link_refused, is_out_of_memory};
     ghost use Rattle.weslc_workspace.specs.Lent.{Rests, IsCompiled, IsLinked};
     ghost use Rattle.std.specs.Borrow.{sem};
     ghost use Rattle.std.specs.Str.{bytes_eq};
@@ -75,7 +63,9 @@ impl Workspace {
     {
         let printed = path.to_string(self.alloc)?;
         self.modules.set(printed.as_str(), text)?;
-        self.edit(printed.as_str());
+        if self.asked.contains(printed.as_str()) {
+            self.is_stale = true;
+        }
         Ok(())
     }
 
@@ -93,7 +83,9 @@ impl Workspace {
     {
         match self.modules.remove(path) {
             Some(removed) => {
-                self.edit(removed.as_str());
+                if self.asked.contains(removed.as_str()) {
+                    self.is_stale = true;
+                }
                 true
             }
             None => false,
@@ -135,7 +127,9 @@ impl Workspace {
 
     /// What `compile` answers of the modules. It is compiled where something was edited that the last answer rests on.
     pub fn compile(&mut self) -> &Compiled
+        ensures fresh { self.old.is_stale ≡ true → is_out_of_memory result.now ≡ false → IsCompiledOf self.old.modules self.old.root self.old.options result.now }
         ensures kept { self.old.is_stale ≡ false → result.now ≡ self.old.compiled.answer }
+        ensures answers { is_out_of_memory result.now ≡ false → ∥ IsAnswer self.old.modules self.old.root self.old.options result.now ∥₁ }
         ensures* lent { sem 𝓛 (Rests self.entry (λ new. IsCompiled self.old result.now new × (new.compiled.answer ≡ result.now))) }
     {
         self.refresh();
@@ -144,6 +138,7 @@ impl Workspace {
 
     /// What `link` answers of the modules.
     pub fn link(&mut self) -> &Linked
+        ensures fresh { is_link_refused result.now ≡ false → IsLinkedOf self.old.modules self.old.root self.old.options result.now }
         ensures* lent { sem 𝓛 (Rests self.entry (IsLinked self.old)) }
     {
         self.relink();
@@ -164,17 +159,9 @@ impl Workspace {
         self.runs
     }
 
-    /// Marks what was compiled as stale, where it asked for this module.
-    fn edit(&mut self, path: &str)
-        ensures { self.new ≡ record self.old { is_stale = if asks self.old path.now then true else self.old.is_stale } }
-    {
-        if self.asked.contains(path) {
-            self.is_stale = true;
-        }
-    }
-
     /// Links. This is the one place where a workspace does.
     fn relink(&mut self)
+        ensures fresh { is_link_refused self.new.linked.answer ≡ false → IsLinkedOf self.old.modules self.old.root self.old.options self.new.linked.answer }
         ensures content { IsSameContent self.old self.new }
         ensures runs { self.new.runs ≡ self.old.runs }
         ensures stale { self.new.is_stale ≡ self.old.is_stale }
@@ -190,12 +177,13 @@ impl Workspace {
     }
 
     /// Compiles where something was edited that the last answer rests on.
-    #[tactic(auto, using(crate::proofs::Refused::stale_after))]
     fn refresh(&mut self)
+        ensures fresh { self.old.is_stale ≡ true → is_out_of_memory self.new.compiled.answer ≡ false → IsCompiledOf self.old.modules self.old.root self.old.options self.new.compiled.answer }
         ensures content { IsSameContent self.old self.new }
         ensures runs { self.new.runs ≡ rises self.old self.new.compiled.answer }
         ensures stale { self.new.is_stale ≡ (if self.old.is_stale then is_out_of_memory self.new.compiled.answer else false) }
         ensures kept { self.old.is_stale ≡ false → self.new.compiled.answer ≡ self.old.compiled.answer }
+        ensures answers { is_out_of_memory self.new.compiled.answer ≡ false → ∥ IsAnswer self.old.modules self.old.root self.old.options self.new.compiled.answer ∥₁ }
         ensures asked { self.old.is_stale ≡ false → self.new.asked ≡ self.old.asked }
         ensures parses { Counts self.old.modules self.new.modules }
     {
@@ -205,11 +193,14 @@ impl Workspace {
         self.run();
     }
 
-    /// Compiles. This is the one place where a workspace does.
+    /// Compiles. This is the one place where a workspace does. What was compiled is stale.
     fn run(&mut self)
+        requires { self.old.is_stale ≡ true }
+        ensures fresh { is_out_of_memory self.new.compiled.answer ≡ false → IsCompiledOf self.old.modules self.old.root self.old.options self.new.compiled.answer }
         ensures content { IsSameContent self.old self.new }
         ensures runs { self.new.runs ≡ (if is_out_of_memory self.new.compiled.answer then self.old.runs else one_more self.old.runs) }
-        ensures stale { self.new.is_stale ≡ (if is_out_of_memory self.new.compiled.answer then self.old.is_stale else false) }
+        ensures stale { self.new.is_stale ≡ is_out_of_memory self.new.compiled.answer }
+        ensures answers { is_out_of_memory self.new.compiled.answer ≡ false → ∥ IsAnswer self.old.modules self.old.root self.old.options self.new.compiled.answer ∥₁ }
         ensures parses { Counts self.old.modules self.new.modules }
     {
         let mut asking = Asking::new(self.alloc, &self.modules);
@@ -217,19 +208,6 @@ impl Workspace {
         let (asked, fresh) = asking.into_parts();
         let is_refused = self.modules.settle(&asked, fresh).is_err();
         self.compiled = HeldCompiled::new(answer, is_refused);
-        self.finish(asked);
-    }
-
-    /// Counts a compilation that came to its end, and keeps what it asked for.
-    fn finish(&mut self, asked: IndexSet<String>)
-        ensures modules { self.new.modules ≡ self.old.modules }
-        ensures root { self.new.root ≡ self.old.root }
-        ensures options { self.new.options ≡ self.old.options }
-        ensures compiled { self.new.compiled ≡ self.old.compiled }
-        ensures asked { self.new.asked ≡ (if is_out_of_memory self.old.compiled.answer then self.old.asked else asked) }
-        ensures runs { self.new.runs ≡ (if is_out_of_memory self.old.compiled.answer then self.old.runs else one_more self.old.runs) }
-        ensures stale { self.new.is_stale ≡ (if is_out_of_memory self.old.compiled.answer then self.old.is_stale else false) }
-    {
         if self.compiled.is_out_of_memory() {
             return;
         }

@@ -237,7 +237,7 @@ fn any_stage(parameters: &[FormalParameter]) -> bool
     false
 }
 
-// Whether a call of the function does nothing: it has no result and, being lowered, is const by the rule.
+// Whether a lowered function does nothing: it has no result and no stage, so it is const by the rule.
 fn does_nothing(
     attributes: &[AttributeNode],
     parameters: &[FormalParameter],
@@ -306,8 +306,8 @@ fn lowered_rest(
     })
 }
 
-/// A function with its constant expressions written as their values, without its statements where it has no result and no stage. Nothing but
-/// the module is in scope.
+/// A function with its constant expressions written as their values; one that does nothing loses its statements. Nothing but the module is
+/// in scope.
 pub fn lowered_function(
     alloc: Global,
     scope: &Scope<'_>,

@@ -8,8 +8,8 @@ abbrev pub any_stage : List Param → Bool
 any_stage [] = false
 any_stage (p ∷ ps) = has_stage p.attributes || any_stage ps
 
--- A function that is lowered names nothing but consts, its parameters and constructors. So it is const by the rule unless a stage stands before
--- it or before a parameter, and a call of one without a result does nothing.
+-- In the part, a function that is lowered names nothing but consts, its parameters and constructors, and attributes stand before it, its
+-- parameters and its result alone. So it is const by the rule unless one of these attributes is a stage, and without a result it does nothing.
 abbrev pub does_nothing : List Attr → List Param → Option Typ → Bool
 does_nothing attributes parameters (Some t) = false
 does_nothing attributes parameters None = not (has_stage attributes) && not (any_stage parameters)

@@ -8,6 +8,8 @@ use Rattle.wesl_reach.specs.Missing.{refusal_of}
 use Rattle.wesl_reach.specs.Loading.{LoadsAll, IsLoadedOne, RefusesLoading}
 use Rattle.wesl_reach.proofs.LoadLemmas.{AskedEntry, IsLoadedTo, none_loaded, first_printed, first_refused, one_loaded, all_are_loaded, same_refuses, same_loaded_one, two_same}
 use Rattle.wesl_reach.specs.Asking.{AsksForAll}
+use Rattle.wesl_reach.specs.Alone.{only}
+use Rattle.wesl_reach.proofs.AloneLemmas.{more_then, no_more, one_or_none, inside_first, inside_then, same_only}
 use Rattle.wesl_reach.proofs.AskingLemmas.{IsAskedTo, none_asked, one_asked, one_refused, all_are_asked}
 use Rattle.wesl_reach.proofs.rounds.load_all.Goals as goal
 
@@ -26,6 +28,12 @@ loop-text-init g c = record {
       subst (IsAskedTo (g.R.Resolver.answers c.args.resolver.now) c.args.max_modules c.args.modules.now listed c.args.asked.now before before c.args.modules.now)
       (sym c.into_iter-text-iterator.ensures.into_iter_gives.0)
       (none_asked (g.R.Resolver.answers c.args.resolver.now) c.args.max_modules c.args.modules.now listed c.args.asked.now before before refl tabled sought c.into_iter-text-iterator.ensures.into_iter_gives.5);
+  more = no_more (g.R.Resolver.asked c.args.resolver.now);
+  alone = λ inside within listed tabled sought.
+      let sources = only inside (g.R.Resolver.answers c.args.resolver.now) in
+      subst (IsLoadedTo sources c.args.max_modules c.args.modules.now listed c.args.asked.now c.args.modules.now)
+      (sym c.into_iter-text-iterator.ensures.into_iter_gives.0)
+      (none_loaded sources c.args.max_modules c.args.modules.now listed c.args.asked.now tabled sought c.into_iter-text-iterator.ensures.into_iter_gives.5);
 }
 
 pub loop-text-preserved : goal.loop-text-preserved
@@ -57,6 +65,26 @@ loop-text-preserved g c = record {
       (subst (λ q. IsLoadedOne (g.R.Resolver.answers c.loop-text.resolver) c.args.max_modules c.loop-text.modules e.1.path q c.load_one.new.modules) c.as_str.ensures.value
       (c.in_ok-load_one.ensures.loads (printed ∙ sym c.as_str.ensures.value))))
       (path_text e.1.path) printed c.in_ok-load_one.ensures.asked;
+  more =
+      let between = g.R.Resolver.asked c.loop-text.resolver in
+      let after = g.R.Resolver.asked c.load_one.new.resolver in
+      more_then (g.R.Resolver.asked c.args.resolver.now) between after c.loop-text.invariant.more (one_or_none between _ _ _ after c.load_one.ensures.asks);
+  alone = λ inside within listed tabled sought.
+      let before = g.R.Resolver.asked c.args.resolver.now in
+      let between = g.R.Resolver.asked c.loop-text.resolver in
+      let after = g.R.Resolver.asked c.load_one.new.resolver in
+      let sources = only inside (g.R.Resolver.answers c.args.resolver.now) in
+      let t = c.loop-text.invariant.alone inside (inside_first inside before between after within (one_or_none between _ _ _ after c.load_one.ensures.asks)) listed tabled sought in
+      let here = inside_then inside before between after within c.loop-text.invariant.more in
+      let e : AskedEntry = (c.in-Some.text.now, c.in-Some.«module».now) in
+      let is = rest_more deref_pair c.loop-text.text-iterator c.next.new.self c.next.result (c.in-Some.text, c.in-Some.«module») c.in-Some.is c.next.ensures.steps in
+      let printed = first_printed sources c.args.max_modules c.args.modules.now listed c.args.asked.now c.loop-text.modules c.loop-text.text-iterator c.next.new.self e is t in
+      one_loaded sources c.args.max_modules c.args.modules.now listed c.args.asked.now c.loop-text.modules c.loop-text.text-iterator c.next.new.self e is t
+      c.load_one.new.modules
+      (same_loaded_one sources (only inside (g.R.Resolver.answers c.loop-text.resolver)) c.args.max_modules c.loop-text.modules (string_bytes e.0) c.load_one.new.modules
+      (same_only inside (g.R.Resolver.answers c.args.resolver.now) (g.R.Resolver.answers c.loop-text.resolver) c.loop-text.invariant.answers)
+      (subst (λ q. IsLoadedOne (only inside (g.R.Resolver.answers c.loop-text.resolver)) c.args.max_modules c.loop-text.modules e.1.path q c.load_one.new.modules) c.as_str.ensures.value
+      (c.in_ok-load_one.ensures.alone inside here (printed ∙ sym c.as_str.ensures.value))));
 }
 
 pub returns-in_err-load_one-clause-loads : goal.returns-in_err-load_one-clause-loads
@@ -101,3 +129,35 @@ returns-clause-asks g c = λ listed tabled sought.
     c.loop-text.modules c.loop-text.text-iterator
     (rest_all deref_pair c.loop-text.text-iterator c.next.new.self c.next.result c.in-None.is c.next.ensures.steps)
     (c.loop-text.invariant.asks listed tabled sought)
+
+pub returns-in_err-load_one-clause-alone : goal.returns-in_err-load_one-clause-alone
+returns-in_err-load_one-clause-alone g c = λ inside within listed tabled sought.
+    let p = err_from_is_err_and c.from_residual.result c.from_residual.ensures.1 in
+    let before = g.R.Resolver.asked c.args.resolver.now in
+    let between = g.R.Resolver.asked c.loop-text.resolver in
+    let after = g.R.Resolver.asked c.load_one.new.resolver in
+    let sources = only inside (g.R.Resolver.answers c.args.resolver.now) in
+    let t = c.loop-text.invariant.alone inside (inside_first inside before between after within (one_or_none between _ _ _ after c.load_one.ensures.asks)) listed tabled sought in
+    let here = inside_then inside before between after within c.loop-text.invariant.more in
+    let e : AskedEntry = (c.in-Some.text.now, c.in-Some.«module».now) in
+    let is = rest_more deref_pair c.loop-text.text-iterator c.next.new.self c.next.result (c.in-Some.text, c.in-Some.«module») c.in-Some.is c.next.ensures.steps in
+    let printed = first_printed sources c.args.max_modules c.args.modules.now listed c.args.asked.now c.loop-text.modules c.loop-text.text-iterator c.next.new.self e is t in
+    subst (LoadsAll sources c.args.max_modules c.args.modules.now listed c.args.asked.now c.load_one.new.modules) (sym (p.1 ∙ ap Err p.2))
+    (first_refused sources c.args.max_modules c.args.modules.now listed c.args.asked.now c.loop-text.modules c.loop-text.text-iterator c.next.new.self e is t c.in_err-load_one.field-0.0
+    (λ ps.
+    same_refuses sources (only inside (g.R.Resolver.answers c.loop-text.resolver)) c.args.max_modules (length c.loop-text.modules.entries) (string_bytes e.0 ∷ ps) (refusal_of c.in_err-load_one.field-0.0)
+    (same_only inside (g.R.Resolver.answers c.args.resolver.now) (g.R.Resolver.answers c.loop-text.resolver) c.loop-text.invariant.answers)
+    (subst (λ q. RefusesLoading (only inside (g.R.Resolver.answers c.loop-text.resolver)) c.args.max_modules (length c.loop-text.modules.entries) (q ∷ ps) (refusal_of c.in_err-load_one.field-0.0))
+    c.as_str.ensures.value (c.in_err-load_one.ensures.alone inside here (printed ∙ sym c.as_str.ensures.value) ps))))
+
+pub returns-clause-alone : goal.returns-clause-alone
+returns-clause-alone g c = λ inside within listed tabled sought.
+    all_are_loaded (only inside (g.R.Resolver.answers c.args.resolver.now)) c.args.max_modules c.args.modules.now listed c.args.asked.now c.loop-text.modules c.loop-text.text-iterator
+    (rest_all deref_pair c.loop-text.text-iterator c.next.new.self c.next.result c.in-None.is c.next.ensures.steps)
+    (c.loop-text.invariant.alone inside within listed tabled sought)
+
+pub returns-in_err-load_one-clause-more : goal.returns-in_err-load_one-clause-more
+returns-in_err-load_one-clause-more g c =
+    let between = g.R.Resolver.asked c.loop-text.resolver in
+    let after = g.R.Resolver.asked c.load_one.new.resolver in
+    more_then (g.R.Resolver.asked c.args.resolver.now) between after c.loop-text.invariant.more (one_or_none between _ _ _ after c.load_one.ensures.asks)

@@ -3,6 +3,7 @@ use Rattle.wesl_resolve.specs.Found.{SameAnswers, SameTexts}
 use Rattle.wesl_link_spec.specs.Modules.{Modules as ListedModules}
 use Rattle.wesl_reach.specs.Loading.{AreTabled, AreSought}
 use Rattle.wesl_reach.proofs.LoadLemmas.{IsLoadedTo}
+use Rattle.wesl_reach.specs.Alone.{only, Alone, AsksMore}
 use Rattle.wesl_reach.proofs.AskingLemmas.{IsAskedTo}
 use Rattle.wesl_reach.proofs.rounds.load_all.Given as goal
 
@@ -16,4 +17,8 @@ invariant-loop-text g l = record {
   reference : g.R.Resolver.holds l.resolver ≡ g.R.Resolver.holds l.initial.resolver;
   asks : (listed : ListedModules) → AreTabled l.initial.modules listed → AreSought l.initial.modules l.asked
       → IsAskedTo (g.R.Resolver.answers l.initial.resolver) l.max_modules l.initial.modules listed l.asked (g.R.Resolver.asked l.initial.resolver) (g.R.Resolver.asked l.resolver) l.modules l.text-iterator;
+  more : AsksMore (g.R.Resolver.asked l.initial.resolver) (g.R.Resolver.asked l.resolver);
+  alone : Alone (g.R.Resolver.asked l.initial.resolver) (g.R.Resolver.asked l.resolver)
+      (λ inside. (listed : ListedModules) → AreTabled l.initial.modules listed → AreSought l.initial.modules l.asked
+      → IsLoadedTo (only inside (g.R.Resolver.answers l.initial.resolver)) l.max_modules l.initial.modules listed l.asked l.modules l.text-iterator);
 }

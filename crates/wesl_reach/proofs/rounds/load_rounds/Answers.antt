@@ -13,6 +13,8 @@ use Rattle.wesl_reach.proofs.GoesLemmas.{no_entries, all_ended, sought, loading_
 use Rattle.wesl_link_spec.specs.Asks.{printed_paths}
 use Rattle.wesl_reach.specs.Loading.{paths_of}
 use Rattle.wesl_reach.proofs.AskingLemmas.{among_moves, all_asked_moves, end_asked, end_loaded, round_refused, round_asked}
+use Rattle.wesl_reach.specs.Alone.{only}
+use Rattle.wesl_reach.proofs.AloneLemmas.{more_then, no_more, inside_first, inside_then, same_only}
 use Rattle.wesl_reach.proofs.rounds.load_rounds.Goals as goal
 
 pub returns-then-is_empty-clause-loading : goal.returns-then-is_empty-clause-loading
@@ -54,6 +56,19 @@ returns-in_err-asked-clause-loading g c = λ start.
     → RefusesClosing c.load_all.new.modules q c.args.keep.now c.close_asked.new.held c.in_err-asked.field-0.0) here
     (λ closed. c.in_err-asked.ensures.refused c.loop-round.reached.modules all.tabled.keyed closed all.on) e.closed))
 
+pub loop-round-init : goal.loop-round-init
+loop-round-init g c = record {
+  answers = λ p a. (λ x. x, λ x. x);
+  texts = λ p a. (λ x. x, λ x. x);
+  root = refl;
+  loading = λ start. start;
+  names = refl;
+  reference = refl;
+  asks = λ start. start;
+  more = no_more (g.R.Resolver.asked c.args.resolver.now);
+  alone = λ inside within start. start;
+}
+
 pub loop-round-preserved : goal.loop-round-preserved
 loop-round-preserved g c = record {
   answers = two_same _ _ _ c.loop-round.invariant.answers c.load_all.ensures.same_answers;
@@ -93,6 +108,26 @@ loop-round-preserved g c = record {
       (subst (λ q. IsClosed c.loop-round.reached.modules q c.args.keep.now c.loop-round.reached.held c.loop-round.asked
       → IsClosed c.load_all.new.modules q c.args.keep.now c.close_asked.new.held c.in_ok-asked.asked) here
       (λ closed. c.in_ok-asked.ensures.closed c.loop-round.reached.modules all.loaded.tabled.keyed closed all.loaded.on) e.end.closed);
+  more = more_then (g.R.Resolver.asked c.args.resolver.now) (g.R.Resolver.asked c.loop-round.resolver) (g.R.Resolver.asked c.load_all.new.resolver) c.loop-round.invariant.more c.load_all.ensures.more;
+  alone = λ inside within start.
+      let before = g.R.Resolver.asked c.args.resolver.now in
+      let between = g.R.Resolver.asked c.loop-round.resolver in
+      let next = g.R.Resolver.asked c.load_all.new.resolver in
+      let sources = only inside (g.R.Resolver.answers c.args.resolver.now) in
+      let root : Path = string_bytes c.args.reached.root in
+      let e = c.loop-round.invariant.alone inside (inside_first inside before between next within c.load_all.ensures.more) start in
+      let some : c.loop-round.asked.entries ≢ [] = λ is. (let both : true ≡ false = sym (c.is_empty.ensures.1 (ap length is)) ∙ c.if-is_empty.false in absurd (cc)) in
+      let seek = sought sources c.args.max_modules root c.args.keep.now c.loop-round.reached c.loop-round.asked c.loop-round._round e in
+      let all = same_all_loaded sources (only inside (g.R.Resolver.answers c.loop-round.resolver)) c.args.max_modules c.loop-round.reached.modules e.modules c.loop-round.asked c.load_all.new.modules
+      (same_only inside (g.R.Resolver.answers c.args.resolver.now) (g.R.Resolver.answers c.loop-round.resolver) c.loop-round.invariant.answers)
+      (c.in_ok-load_all.ensures.alone inside (inside_then inside before between next within c.loop-round.invariant.more) e.modules e.tabled seek) in
+      let here : c.as_str.result.now ≡ root = c.as_str.ensures.value ∙ c.loop-round.invariant.root in
+      let after : Reached = record { modules = c.load_all.new.modules; root = c.loop-round.reached.root; held = c.close_asked.new.held } in
+      one_round sources c.args.max_modules root c.args.keep.now c.loop-round.reached c.loop-round.asked c.loop-round._round e c.in_ok-load_all.ensures.ordered
+      some c.load_all.new.modules all after c.in_ok-asked.asked refl
+      (subst (λ q. IsClosed c.loop-round.reached.modules q c.args.keep.now c.loop-round.reached.held c.loop-round.asked
+      → IsClosed c.load_all.new.modules q c.args.keep.now c.close_asked.new.held c.in_ok-asked.asked) here
+      (λ closed. c.in_ok-asked.ensures.closed c.loop-round.reached.modules all.tabled.keyed closed all.on) e.closed);
 }
 
 pub returns-in_ok-clone_in-in-Some-clause-loading : goal.returns-in_ok-clone_in-in-Some-clause-loading
@@ -162,3 +197,71 @@ returns-in_err-asked-clause-asked g c = λ start.
     c.loop-round.invariant.answers (c.in_ok-load_all.ensures.asks e.end.modules e.end.tabled seek) in
     round_refused sources c.args.max_modules root c.args.keep.now (g.R.Resolver.asked c.args.resolver.now) between c.loop-round.reached c.loop-round.asked c.loop-round._round e c.in_ok-load_all.ensures.ordered
     next (printed_paths all.loaded.more) all.among
+
+pub returns-then-is_empty-clause-alone : goal.returns-then-is_empty-clause-alone
+returns-then-is_empty-clause-alone g c = λ inside within start.
+    let empty : c.loop-round.asked.entries ≡ [] = no_entries c.loop-round.asked.entries (c.is_empty.ensures.0 c.if-is_empty.true) in (
+      c.loop-round.invariant.root,
+      all_ended (only inside (g.R.Resolver.answers c.args.resolver.now)) c.args.max_modules (string_bytes c.args.reached.root) c.args.keep.now c.loop-round.reached c.loop-round.asked c.loop-round._round
+          (c.loop-round.invariant.alone inside within start) empty,
+    )
+
+pub returns-in-None-clause-alone : goal.returns-in-None-clause-alone
+returns-in-None-clause-alone g c = λ inside within start.
+    let empty : c.loop-round.asked.entries ≡ [] = sym c.iter.ensures.rest ∙ rest_all deref_pair c.iter.result c.next.new.self c.next.result c.in-None.is c.next.ensures.steps in (
+      c.loop-round.invariant.root,
+      all_ended (only inside (g.R.Resolver.answers c.args.resolver.now)) c.args.max_modules (string_bytes c.args.reached.root) c.args.keep.now c.loop-round.reached c.loop-round.asked c.loop-round._round
+          (c.loop-round.invariant.alone inside within start) empty,
+    )
+
+pub returns-in_ok-clone_in-in-Some-clause-alone : goal.returns-in_ok-clone_in-in-Some-clause-alone
+returns-in_ok-clone_in-in-Some-clause-alone g c = λ inside within start.
+    too_many (only inside (g.R.Resolver.answers c.args.resolver.now)) c.args.max_modules (string_bytes c.args.reached.root) c.args.keep.now c.loop-round.reached c.loop-round.asked c.loop-round._round
+    (c.loop-round.invariant.alone inside within start) c.iter.ensures.ordered c.in-Some.field-0-0.now c.in-Some.«module».now c.next.new.self c.in_ok-clone_in-in-Some.field-0 c.loop-round-test.false
+    (sym c.iter.ensures.rest ∙ rest_more deref_pair c.iter.result c.next.new.self c.next.result (c.in-Some.field-0-0, c.in-Some.«module») c.in-Some.is c.next.ensures.steps)
+    c.in_ok-clone_in-in-Some.ensures
+
+pub returns-in_err-load_all-clause-alone : goal.returns-in_err-load_all-clause-alone
+returns-in_err-load_all-clause-alone g c = λ inside within start.
+    let before = g.R.Resolver.asked c.args.resolver.now in
+    let between = g.R.Resolver.asked c.loop-round.resolver in
+    let next = g.R.Resolver.asked c.load_all.new.resolver in
+    let sources = only inside (g.R.Resolver.answers c.args.resolver.now) in
+    let root : Path = string_bytes c.args.reached.root in
+    let e = c.loop-round.invariant.alone inside (inside_first inside before between next within c.load_all.ensures.more) start in
+    let p = err_from_is_err_and c.from_residual.result c.from_residual.ensures.1 in
+    let seek = sought sources c.args.max_modules root c.args.keep.now c.loop-round.reached c.loop-round.asked c.loop-round._round e in
+    subst (Loading sources root c.args.keep.now c.args.max_modules) (sym (p.1 ∙ ap Err p.2))
+    (loading_refused sources c.args.max_modules root c.args.keep.now c.loop-round.reached c.loop-round.asked c.loop-round._round e c.in_err-load_all.ensures.ordered
+    (refusal_of c.in_err-load_all.field-0.0)
+    (same_refuses sources (only inside (g.R.Resolver.answers c.loop-round.resolver)) c.args.max_modules (length e.modules) _ (refusal_of c.in_err-load_all.field-0.0)
+    (same_only inside (g.R.Resolver.answers c.args.resolver.now) (g.R.Resolver.answers c.loop-round.resolver) c.loop-round.invariant.answers)
+    (c.in_err-load_all.ensures.alone inside (inside_then inside before between next within c.loop-round.invariant.more) e.modules e.tabled seek)))
+
+pub returns-in_err-asked-clause-alone : goal.returns-in_err-asked-clause-alone
+returns-in_err-asked-clause-alone g c = λ inside within start.
+    let before = g.R.Resolver.asked c.args.resolver.now in
+    let between = g.R.Resolver.asked c.loop-round.resolver in
+    let next = g.R.Resolver.asked c.load_all.new.resolver in
+    let sources = only inside (g.R.Resolver.answers c.args.resolver.now) in
+    let root : Path = string_bytes c.args.reached.root in
+    let e = c.loop-round.invariant.alone inside (inside_first inside before between next within c.load_all.ensures.more) start in
+    let p = err_from_is_err_and c.from_residual-in_err-asked.result c.from_residual-in_err-asked.ensures.1 in
+    let some : c.loop-round.asked.entries ≢ [] = λ is. (let both : true ≡ false = sym (c.is_empty.ensures.1 (ap length is)) ∙ c.if-is_empty.false in absurd (cc)) in
+    let seek = sought sources c.args.max_modules root c.args.keep.now c.loop-round.reached c.loop-round.asked c.loop-round._round e in
+    let all = same_all_loaded sources (only inside (g.R.Resolver.answers c.loop-round.resolver)) c.args.max_modules c.loop-round.reached.modules e.modules c.loop-round.asked c.load_all.new.modules
+    (same_only inside (g.R.Resolver.answers c.args.resolver.now) (g.R.Resolver.answers c.loop-round.resolver) c.loop-round.invariant.answers)
+    (c.in_ok-load_all.ensures.alone inside (inside_then inside before between next within c.loop-round.invariant.more) e.modules e.tabled seek) in
+    let here : c.as_str.result.now ≡ root = c.as_str.ensures.value ∙ c.loop-round.invariant.root in
+    subst (Loading sources root c.args.keep.now c.args.max_modules) (sym (p.1 ∙ ap Err p.2))
+    (closing_refused sources c.args.max_modules root c.args.keep.now c.loop-round.reached c.loop-round.asked c.loop-round._round e c.in_ok-load_all.ensures.ordered
+    some c.load_all.new.modules all c.close_asked.new.held c.in_err-asked.field-0.0
+    (subst (λ q. IsClosed c.loop-round.reached.modules q c.args.keep.now c.loop-round.reached.held c.loop-round.asked
+    → RefusesClosing c.load_all.new.modules q c.args.keep.now c.close_asked.new.held c.in_err-asked.field-0.0) here
+    (λ closed. c.in_err-asked.ensures.refused c.loop-round.reached.modules all.tabled.keyed closed all.on) e.closed))
+
+pub returns-in_err-load_all-clause-more : goal.returns-in_err-load_all-clause-more
+returns-in_err-load_all-clause-more g c = more_then (g.R.Resolver.asked c.args.resolver.now) (g.R.Resolver.asked c.loop-round.resolver) (g.R.Resolver.asked c.load_all.new.resolver) c.loop-round.invariant.more c.load_all.ensures.more
+
+pub returns-in_err-asked-clause-more : goal.returns-in_err-asked-clause-more
+returns-in_err-asked-clause-more g c = more_then (g.R.Resolver.asked c.args.resolver.now) (g.R.Resolver.asked c.loop-round.resolver) (g.R.Resolver.asked c.load_all.new.resolver) c.loop-round.invariant.more c.load_all.ensures.more

@@ -11,6 +11,10 @@ use Rattle.wesl_link.specs.Answers.{Resolves}
 use Rattle.weslc_linking.proofs.Loading.{loading_told, tables, none_clashes, first_clashes}
 use Rattle.wesl_reach.specs.Asking.{AreAskedBehind, AreThoseLoaded}
 use Rattle.weslc_linking.proofs.Asking.{root_asked, behind_asked, loaded_asked}
+use Rattle.std.proofs.Common.{◌≡◌, ◌∷◌, [], true}
+use Rattle.wesl_reach.specs.Alone.{only}
+use Rattle.wesl_reach.proofs.LoadLemmas.{one_in}
+use Rattle.wesl_reach.proofs.AloneLemmas.{inside_first, inside_then, same_only}
 use Rattle.weslc_linking.proofs.linking.loaded.Goals as goal
 
 pub returns-in_err-unit-clause-refusal : goal.returns-in_err-unit-clause-refusal
@@ -127,3 +131,72 @@ returns-in-None-clause-all_asked g c =
     let is = (c.in_ok-unit.ensures.same_answers root (unit_of unit)).0 c.in_ok-unit.ensures.unit in
     let asked = subst (λ k. AreThoseLoaded other root (kept_names k unit) max between after) c.as_slice-keep.ensures (c.in_ok-resolutions.ensures.all_asked is) in
     loaded_asked found root c.args.options.now.keep max other c.in_ok-unit.ensures.same_answers unit c.in_ok-unit.ensures.unit (g.R.Resolver.asked c.args.resolver.now) between after c.in_ok-unit.ensures.asked asked
+
+pub returns-in_err-unit-clause-alone_refusal : goal.returns-in_err-unit-clause-alone_refusal
+returns-in_err-unit-clause-alone_refusal g c = λ inside within.
+    let p = err_from_is_err_and c.from_residual.result c.from_residual.ensures.1 in
+    rw (p.1, p.2) (c.in_err-unit.ensures.alone inside within c.args.options.now.keep)
+
+pub returns-in_err-resolutions-clause-alone_refusal : goal.returns-in_err-resolutions-clause-alone_refusal
+returns-in_err-resolutions-clause-alone_refusal g c = λ inside within.
+    let p = err_from_is_err_and c.from_residual-in_err-resolutions.result c.from_residual-in_err-resolutions.ensures.1 in
+    let before = g.R.Resolver.asked c.args.resolver.now in
+    let between = g.R.Resolver.asked c.root_unit.new.resolver in
+    let end = g.R.Resolver.asked c.resolve_lazy.new.resolver in
+    let root = path_text c.args.root.now in
+    let here = inside_first inside before between end within c.resolve_lazy.ensures.more in
+    let then = inside_then inside before between end within (root ∷ [], c.in_ok-unit.ensures.asked.1) in
+    let asked : inside root ≡ true = here (root ∷ []) c.in_ok-unit.ensures.asked.1 root (one_in root) in
+    let found = only inside (g.R.Resolver.answers c.args.resolver.now) in
+    let after = only inside (g.R.Resolver.answers c.root_unit.new.resolver) in
+    let same = same_only inside (g.R.Resolver.answers c.args.resolver.now) (g.R.Resolver.answers c.root_unit.new.resolver) c.in_ok-unit.ensures.same_answers in
+    let unit = unit_tree c.in_ok-unit.unit in
+    let max = c.args.options.now.max_modules in
+    let there : found root (unit_of unit) = (asked, c.in_ok-unit.ensures.unit) in
+    let is = (same root (unit_of unit)).0 there in
+    let e = c.in_err-resolutions.field-0.0 in
+    let refused = subst (λ k. Refuses after root (kept_names k unit) max (refusal_of e)) c.as_slice-keep.ensures (c.in_err-resolutions.ensures.alone inside then is) in
+    rw (p.1, p.2) (loading_told found root c.args.options.now.keep max after same unit there e refused)
+
+pub returns-in-Some-clause-alone_refusal : goal.returns-in-Some-clause-alone_refusal
+returns-in-Some-clause-alone_refusal g c = λ inside within.
+    let before = g.R.Resolver.asked c.args.resolver.now in
+    let between = g.R.Resolver.asked c.root_unit.new.resolver in
+    let end = g.R.Resolver.asked c.resolve_lazy.new.resolver in
+    let root = path_text c.args.root.now in
+    let here = inside_first inside before between end within c.resolve_lazy.ensures.more in
+    let then = inside_then inside before between end within (root ∷ [], c.in_ok-unit.ensures.asked.1) in
+    let asked : inside root ≡ true = here (root ∷ []) c.in_ok-unit.ensures.asked.1 root (one_in root) in
+    let found = only inside (g.R.Resolver.answers c.args.resolver.now) in
+    let after = only inside (g.R.Resolver.answers c.root_unit.new.resolver) in
+    let same = same_only inside (g.R.Resolver.answers c.args.resolver.now) (g.R.Resolver.answers c.root_unit.new.resolver) c.in_ok-unit.ensures.same_answers in
+    let unit = unit_tree c.in_ok-unit.unit in
+    let max = c.args.options.now.max_modules in
+    let there : found root (unit_of unit) = (asked, c.in_ok-unit.ensures.unit) in
+    let is = (same root (unit_of unit)).0 there in
+    let r = c.in_ok-resolutions.resolutions in
+    let resolved = subst (λ k. Resolves after root (kept_names k unit) max (Ok r)) c.as_slice-keep.ensures (c.in_ok-resolutions.ensures.alone inside then is) in
+    let t = tables found root c.args.options.now.keep max after same unit there r resolved in
+    let first = first_clashes found root c.args.options.now.keep max (kept_names c.args.options.now.keep unit) r t c.in_ok-name.field-0 c.in-Some.name c.in-Some.is c.in_ok-name.ensures.first in
+    rw c.name_clash.ensures (c.in-Some.name, refl, first)
+
+pub returns-in-None-clause-alone_tables : goal.returns-in-None-clause-alone_tables
+returns-in-None-clause-alone_tables g c = λ inside within.
+    let before = g.R.Resolver.asked c.args.resolver.now in
+    let between = g.R.Resolver.asked c.root_unit.new.resolver in
+    let end = g.R.Resolver.asked c.resolve_lazy.new.resolver in
+    let root = path_text c.args.root.now in
+    let here = inside_first inside before between end within c.resolve_lazy.ensures.more in
+    let then = inside_then inside before between end within (root ∷ [], c.in_ok-unit.ensures.asked.1) in
+    let asked : inside root ≡ true = here (root ∷ []) c.in_ok-unit.ensures.asked.1 root (one_in root) in
+    let found = only inside (g.R.Resolver.answers c.args.resolver.now) in
+    let after = only inside (g.R.Resolver.answers c.root_unit.new.resolver) in
+    let same = same_only inside (g.R.Resolver.answers c.args.resolver.now) (g.R.Resolver.answers c.root_unit.new.resolver) c.in_ok-unit.ensures.same_answers in
+    let unit = unit_tree c.in_ok-unit.unit in
+    let max = c.args.options.now.max_modules in
+    let there : found root (unit_of unit) = (asked, c.in_ok-unit.ensures.unit) in
+    let is = (same root (unit_of unit)).0 there in
+    let r = c.in_ok-resolutions.resolutions in
+    let resolved = subst (λ k. Resolves after root (kept_names k unit) max (Ok r)) c.as_slice-keep.ensures (c.in_ok-resolutions.ensures.alone inside then is) in
+    let t = tables found root c.args.options.now.keep max after same unit there r resolved in
+    none_clashes found root c.args.options.now.keep max (kept_names c.args.options.now.keep unit) r t c.in_ok-name.field-0 c.in-None.is c.in_ok-name.ensures.free

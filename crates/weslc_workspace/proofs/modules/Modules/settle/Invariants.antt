@@ -1,5 +1,5 @@
 use Rattle.std.proofs.Common.{◌≡◌}
-use Rattle.weslc_workspace.specs.Content.{Counts}
+use Rattle.weslc_workspace.specs.Held.{Counts}
 use Rattle.weslc_workspace.proofs.modules.Modules.settle.Given as goal
 
 abbrev pub invariant-loop-path : goal.invariant-loop-path
