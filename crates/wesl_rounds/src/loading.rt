@@ -2,6 +2,7 @@
 
 ghost use Rattle.std.specs.Prelude.{◌≡◌};
 ghost use Rattle.wesl_resolvers.specs.Found.{SameAnswers, SameTexts};
+ghost use Rattle.wesl_rounds.specs.Asked.{StayAsked};
 
 use crate::held_unit::HeldUnit;
 use std::alloc::Global;
@@ -71,6 +72,7 @@ impl Loaded {
         ensures same_texts { SameTexts (R.texts resolver.old) (R.texts resolver.new) }
         ensures same_names { R.display_names resolver.new ≡ R.display_names resolver.old }
         ensures same_reference { R.holds resolver.new ≡ R.holds resolver.old }
+        ensures asked { StayAsked (R.asked resolver.old) (R.asked resolver.new) }
     {
         for found in asked.values() {
             self.load(resolver, &found.target, max_modules)?;
@@ -88,6 +90,7 @@ impl Loaded {
         ensures same_texts { SameTexts (R.texts resolver.old) (R.texts resolver.new) }
         ensures same_names { R.display_names resolver.new ≡ R.display_names resolver.old }
         ensures same_reference { R.holds resolver.new ≡ R.holds resolver.old }
+        ensures asked { StayAsked (R.asked resolver.old) (R.asked resolver.new) }
     {
         if self.modules.len() >= max_modules as usize {
             return Err(ImportError::TooManyModules(target.path.clone_in(self.alloc)?));
@@ -139,6 +142,7 @@ fn resolved<R: Resolver>(
     ensures same_texts { SameTexts (R.texts resolver.old) (R.texts resolver.new) }
     ensures same_names { R.display_names resolver.new ≡ R.display_names resolver.old }
     ensures same_reference { R.holds resolver.new ≡ R.holds resolver.old }
+    ensures asked { StayAsked (R.asked resolver.old) (R.asked resolver.new) }
 {
     match resolver.resolve_module(alloc, path) {
         Ok(unit) => Ok(HeldUnit::new(unit)),

@@ -2,6 +2,7 @@
 
 ghost use Rattle.std.specs.Prelude.{◌≡◌};
 ghost use Rattle.wesl_resolvers.specs.Found.{SameAnswers, SameTexts};
+ghost use Rattle.wesl_rounds.specs.Asked.{StayAsked};
 
 use crate::held_unit::HeldUnit;
 use crate::loading::{Given, Loaded, given_of, tabulated};
@@ -32,6 +33,7 @@ pub fn resolve_lazy<R: Resolver>(
     ensures same_texts { SameTexts (R.texts resolver.old) (R.texts resolver.new) }
     ensures same_names { R.display_names resolver.new ≡ R.display_names resolver.old }
     ensures same_reference { R.holds resolver.new ≡ R.holds resolver.old }
+    ensures asked { StayAsked (R.asked resolver.old) (R.asked resolver.new) }
 {
     resolve_lazy_with(alloc, keep, unit, path, None, resolver, max_modules)
 }
@@ -51,6 +53,7 @@ pub fn resolve_lazy_with<R: Resolver>(
     ensures same_texts { SameTexts (R.texts resolver.old) (R.texts resolver.new) }
     ensures same_names { R.display_names resolver.new ≡ R.display_names resolver.old }
     ensures same_reference { R.holds resolver.new ≡ R.holds resolver.old }
+    ensures asked { StayAsked (R.asked resolver.old) (R.asked resolver.new) }
 {
     let unit = HeldUnit::new(unit);
     let given = given_of(other);
@@ -71,6 +74,7 @@ pub fn resolve_eager<R: Resolver>(
     ensures same_texts { SameTexts (R.texts resolver.old) (R.texts resolver.new) }
     ensures same_names { R.display_names resolver.new ≡ R.display_names resolver.old }
     ensures same_reference { R.holds resolver.new ≡ R.holds resolver.old }
+    ensures asked { StayAsked (R.asked resolver.old) (R.asked resolver.new) }
 {
     resolve_eager_with(alloc, unit, path, None, resolver, max_modules)
 }
@@ -89,6 +93,7 @@ pub fn resolve_eager_with<R: Resolver>(
     ensures same_texts { SameTexts (R.texts resolver.old) (R.texts resolver.new) }
     ensures same_names { R.display_names resolver.new ≡ R.display_names resolver.old }
     ensures same_reference { R.holds resolver.new ≡ R.holds resolver.old }
+    ensures asked { StayAsked (R.asked resolver.old) (R.asked resolver.new) }
 {
     let unit = HeldUnit::new(unit);
     let given = given_of(other);
@@ -179,6 +184,7 @@ impl Loading {
         ensures same_texts { SameTexts (R.texts resolver.old) (R.texts resolver.new) }
         ensures same_names { R.display_names resolver.new ≡ R.display_names resolver.old }
         ensures same_reference { R.holds resolver.new ≡ R.holds resolver.old }
+        ensures asked { StayAsked (R.asked resolver.old) (R.asked resolver.new) }
     {
         let mut asked = self.close()?;
         for _round in 1..max_modules {
@@ -201,6 +207,7 @@ impl Loading {
         ensures same_texts { SameTexts (R.texts resolver.old) (R.texts resolver.new) }
         ensures same_names { R.display_names resolver.new ≡ R.display_names resolver.old }
         ensures same_reference { R.holds resolver.new ≡ R.holds resolver.old }
+        ensures asked { StayAsked (R.asked resolver.old) (R.asked resolver.new) }
     {
         let first = self.loaded.modules.len();
         self.loaded.load_all(resolver, asked, max_modules)?;

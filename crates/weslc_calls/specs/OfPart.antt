@@ -56,11 +56,14 @@ IsBeyondLink found root options =
     IsOther root options
     ⊎ ((c : ErrorContext) × RefusesToLink (sources options.features found) (path_text root) options.keep options.max_modules (Unsupported c))
 
--- likewise of compiling
-abbrev pub IsBeyondCompile : Finding → ModulePath → Options → Type 0
-IsBeyondCompile found root options =
+-- likewise of compiling, for what the part finds so
+abbrev pub IsBeyondOf : Sources → ModulePath → Options → Type 0
+IsBeyondOf found root options =
     IsOther root options
-    ⊎ ((c : ErrorContext) × RefusesToCompile (sources options.features found) (path_text root) options.keep options.max_modules options.max_steps (Unsupported c))
+    ⊎ ((c : ErrorContext) × RefusesToCompile found (path_text root) options.keep options.max_modules options.max_steps (Unsupported c))
+
+abbrev pub IsBeyondCompile : Finding → ModulePath → Options → Type 0
+IsBeyondCompile found root options = IsBeyondOf (sources options.features found) root options
 
 -- the printed paths of what was asked for
 abbrev pub texts_asked : Option (List ModulePath) → Option (List (List ℕ))

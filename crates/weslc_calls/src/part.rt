@@ -8,7 +8,7 @@ ghost use Rattle.weslc_part.specs.Found.{at_text, part_names};
 ghost use Rattle.weslc_linking.specs.Mapped.{HasNames};
 ghost use Rattle.weslc_linking.specs.Answers.{RefusesToLink, RefusesToCompile, IsMapped, IsLinkedText, IsCompiledText};
 ghost use Rattle.wesl_reach.specs.Alone.{only, Alone};
-ghost use Rattle.weslc_calls.specs.OfPart.{is_lazy, is_own, sources, texts_asked, IsBeyondLink, IsBeyondCompile, IfAnswered, IfBeyond};
+ghost use Rattle.weslc_calls.specs.OfPart.{is_lazy, is_own, sources, texts_asked, IsBeyondLink, IsBeyondCompile, IsBeyondOf, IfAnswered, IfBeyond};
 ghost use Rattle.weslc_calls.specs.Plain.{IsPlain};
 
 use crate::deciding::Decided;
@@ -106,6 +106,7 @@ pub fn try_compile<R: Resolver>(
     ensures alone_map { Alone (texts_asked (R.asked resolver.old)) (texts_asked (R.asked resolver.new)) (λ inside. IfAnswered result (λ r. IfOk r (λ answer. IsMapped (only inside (sources options.now.features (R.answers resolver.old))) (path_text root.now) options.now.keep options.now.max_modules (at_text (R.texts resolver.old)) answer.1))) }
     ensures alone_refusal { Alone (texts_asked (R.asked resolver.old)) (texts_asked (R.asked resolver.new)) (λ inside. IfAnswered result (λ r. IfErr r (RefusesToCompile (only inside (sources options.now.features (R.answers resolver.old))) (path_text root.now) options.now.keep options.now.max_modules options.now.max_steps))) }
     ensures beyond { IfBeyond result (IsBeyondCompile (R.answers resolver.old) root.now options.now) }
+    ensures alone_beyond { Alone (texts_asked (R.asked resolver.old)) (texts_asked (R.asked resolver.new)) (λ inside. IfBeyond result (IsBeyondOf (only inside (sources options.now.features (R.answers resolver.old))) root.now options.now)) }
 {
     if !is_lazy(options.mode) {
         return Tried::Beyond(None);

@@ -1,6 +1,7 @@
 //! Modules of the whole language, loaded, and linked into one unit.
 
 ghost use Rattle.std.specs.Prelude.{◌≡◌, [], IfOk};
+ghost use Rattle.wesl_rounds.specs.Asked.{StayAsked};
 
 use crate::map::source_map;
 use crate::refusal::{of_import, of_resolve};
@@ -37,7 +38,8 @@ pub fn link_modules<R: Resolver>(
     root: &ModulePath,
     options: &Options,
 ) -> Result<LinkedModules, CompileError>
-    ensures { IfOk result (λ linked. linked.unit.imports ≡ []) }
+    ensures imports { IfOk result (λ linked. linked.unit.imports ≡ []) }
+    ensures asked { StayAsked (R.asked resolver.old) (R.asked resolver.new) }
 {
     if options.max_modules == 0 {
         return Err(CompileError::too_many_modules(alloc, root)?);
@@ -47,12 +49,15 @@ pub fn link_modules<R: Resolver>(
 }
 
 /// The root's unit, which may be parsed already.
+#[tactic(auto, using(wesl_rounds::proofs::Asking::one_asked))]
 fn root_unit<R: Resolver>(
     alloc: Global,
     resolver: &mut R,
     beyond: Option<Beyond>,
     root: &ModulePath,
-) -> Result<HeldUnit, CompileError> {
+) -> Result<HeldUnit, CompileError>
+    ensures asked { StayAsked (R.asked resolver.old) (R.asked resolver.new) }
+{
     if let Some(Beyond { path, unit }) = beyond
         && path == *root
     {
@@ -71,7 +76,8 @@ fn link_root<R: Resolver>(
     root: &ModulePath,
     options: &Options,
 ) -> Result<LinkedModules, CompileError>
-    ensures { IfOk result (λ linked. linked.unit.imports ≡ []) }
+    ensures imports { IfOk result (λ linked. linked.unit.imports ≡ []) }
+    ensures asked { StayAsked (R.asked resolver.old) (R.asked resolver.new) }
 {
     let mut resolutions = resolved(alloc, unit, resolver, root, options)?;
     let numbering = number_held(alloc, &resolutions)?;
@@ -132,7 +138,9 @@ fn resolved<R: Resolver>(
     resolver: &mut R,
     root: &ModulePath,
     options: &Options,
-) -> Result<Resolutions, CompileError> {
+) -> Result<Resolutions, CompileError>
+    ensures asked { StayAsked (R.asked resolver.old) (R.asked resolver.new) }
+{
     match options.mode {
         Mode::Lazy => lazily(alloc, unit, resolver, root, options),
         Mode::Eager => {
@@ -150,7 +158,9 @@ fn lazily<R: Resolver>(
     resolver: &mut R,
     root: &ModulePath,
     options: &Options,
-) -> Result<Resolutions, CompileError> {
+) -> Result<Resolutions, CompileError>
+    ensures asked { StayAsked (R.asked resolver.old) (R.asked resolver.new) }
+{
     let keep = options.keep.as_slice();
     match resolve_lazy(
         alloc,
@@ -171,7 +181,9 @@ fn eagerly<R: Resolver>(
     resolver: &mut R,
     root: &ModulePath,
     options: &Options,
-) -> Result<Resolutions, CompileError> {
+) -> Result<Resolutions, CompileError>
+    ensures asked { StayAsked (R.asked resolver.old) (R.asked resolver.new) }
+{
     if let Err(error) = test_root(alloc, options.keep.as_slice(), unit.get(), root) {
         return Err(of_import(error));
     }

@@ -1,5 +1,7 @@
 //! From the linked unit back to the modules.
 
+ghost use Rattle.wesl_rounds.specs.Asked.{StayAsked};
+
 use crate::refusal::of_resolve;
 use std::alloc::{AllocError, Global};
 use wesl_assemble::Numbering;
@@ -18,7 +20,9 @@ pub(crate) fn source_map<R: Resolver>(
     modules: &Modules,
     numbering: &Numbering,
     names: &[Text],
-) -> Result<BasicSourceMap, CompileError> {
+) -> Result<BasicSourceMap, CompileError>
+    ensures asked { StayAsked (R.asked resolver.old) (R.asked resolver.new) }
+{
     let mut map = BasicSourceMap::new(alloc);
     for (spot, name) in numbering.spots().iter().zip(names) {
         add_decl(&mut map, modules, *spot, name)?;
@@ -46,23 +50,29 @@ fn add_decl(
     Ok(())
 }
 
+#[tactic(auto, using(wesl_rounds::proofs::Asking::none_asked))]
 fn add_source<R: Resolver>(
     alloc: Global,
     resolver: &mut R,
     path: &ModulePath,
     map: &mut BasicSourceMap,
-) -> Result<(), CompileError> {
+) -> Result<(), CompileError>
+    ensures asked { StayAsked (R.asked resolver.old) (R.asked resolver.new) }
+{
     let name = resolver.display_name(alloc, path)?;
     let text = source_of(alloc, resolver, path)?;
     map.add_source(path, name, text)?;
     Ok(())
 }
 
+#[tactic(auto, using(wesl_rounds::proofs::Asking::none_asked))]
 fn source_of<R: Resolver>(
     alloc: Global,
     resolver: &mut R,
     path: &ModulePath,
-) -> Result<Text, CompileError> {
+) -> Result<Text, CompileError>
+    ensures asked { StayAsked (R.asked resolver.old) (R.asked resolver.new) }
+{
     match resolver.resolve_source(alloc, path) {
         Ok(text) => Ok(text),
         Err(error) => Err(of_resolve(error)),

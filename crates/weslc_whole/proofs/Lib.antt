@@ -1,2 +1,4 @@
+mod Inside
 mod Left
 mod Plain
+pub mod Too

@@ -1,17 +1,22 @@
 -- Which calls are left to the whole language.
-use Rattle.std.specs.Prelude.{◌⊎◌, ⊤, ℕ, List}
+use Rattle.std.specs.Prelude.{◌≡◌, ◌⊎◌, ⊤, ℕ, List, Bool, true, Result, String, IfOk, IfErr, string_bytes}
+use Rattle.std.specs.declared.alloc.Global.{Global}
 use Rattle.wgsl_path.specs.declared.path.ModulePath.{ModulePath}
 use Rattle.wgsl_path.specs.Paths.{path_text}
 use Rattle.wgsl_meaning.specs.declared.fault.Fault.TheVariants.{Name}
 use Rattle.wgsl_meaning.specs.declared.fault.NameFault.{NameFault}
 use Rattle.wgsl_meaning.specs.declared.fault.NameFault.TheVariants.{Todo}
+use Rattle.wesl_resolve.specs.declared.source_map.BasicSourceMap.{BasicSourceMap}
+use Rattle.wesl_link_spec.specs.Modules.{Path}
 use Rattle.wesl_link_spec.specs.Rounds.{Sources}
+use Rattle.wesl_resolvers.specs.Found.{Asked}
+use Rattle.wesl_rounds.specs.Asked.{IsAsked}
 use Rattle.weslc_linking.specs.declared.error.ErrorContext.{ErrorContext}
 use Rattle.weslc_calls.specs.Options.{Options}
 use Rattle.weslc_calls.specs.CompileError.{CompileError}
 use Rattle.weslc_calls.specs.CompileError.TheVariants as calls
-use Rattle.weslc_calls.specs.OfPart.{Finding, sources, IsBeyondCompile}
-use Rattle.weslc_calls.specs.Answers.{RefusesToCompile}
+use Rattle.weslc_calls.specs.OfPart.{Finding, sources, IsBeyondOf}
+use Rattle.weslc_calls.specs.Answers.{RefusesToCompile, IsMapped, IsCompiledText}
 use Rattle.weslc_whole.specs.declared.refusal.WholeRefusal.{WholeRefusal}
 use Rattle.weslc_whole.specs.declared.refusal.WholeRefusal.TheVariants as whole
 
@@ -24,13 +29,18 @@ abbrev pub IsTodo : CompileError → Type 0
 IsTodo (calls.Eval c (Name kind name)) = IsTodoName kind
 IsTodo _ = ⊥
 
--- The call is none of the proved part's: modules, or what is linked, are beyond it, or it evaluates something that the part doesn't.
-abbrev pub IsBeyond : Finding → ModulePath → Options → Type 0
-IsBeyond found root options =
-    IsBeyondCompile found root options
-    ⊎ ((c : ErrorContext) × (name : List ℕ) × RefusesToCompile (sources options.features found) (path_text root) options.keep options.max_modules options.max_steps (calls.Eval c (Name Todo name)))
+-- The call is none of the proved part's, for what the part finds so: modules, or what is linked, are beyond it, or it evaluates something
+-- that the part doesn't.
+abbrev pub IsBeyondFor : Sources → ModulePath → Options → Type 0
+IsBeyondFor found root options =
+    IsBeyondOf found root options
+    ⊎ ((c : ErrorContext) × (name : List ℕ) × RefusesToCompile found (path_text root) options.keep options.max_modules options.max_steps (calls.Eval c (Name Todo name)))
 
--- A refusal of the proved part, for what is found so at printed paths. One of the whole language is none.
+-- the same, for what a resolver finds
+abbrev pub IsBeyond : Finding → ModulePath → Options → Type 0
+IsBeyond found root options = IsBeyondFor (sources options.features found) root options
+
+-- A refusal of the proved part, for what it finds so. One of the whole language is none.
 abbrev pub RefusesOf : Sources → ModulePath → Options → WholeRefusal → Type 0
 RefusesOf found root options (whole.Compile e) = RefusesToCompile found (path_text root) options.keep options.max_modules options.max_steps e
 RefusesOf found root options (whole.Eval c fault) = ⊥
@@ -38,3 +48,27 @@ RefusesOf found root options (whole.Eval c fault) = ⊥
 -- the same, for what a resolver finds
 abbrev pub RefusesPart : Finding → ModulePath → Options → WholeRefusal → Type 0
 RefusesPart found root options = RefusesOf (sources options.features found) root options
+
+-- what `compile` answers
+abbrev pub Answer : Type 0
+Answer = Result (String Global × BasicSourceMap) WholeRefusal
+
+-- An answer of the proved part, for what it finds so, with these texts: the compiled text and its map, or the first fault.
+pub record IsAnswerOfPart (found : Sources) (texts : Path → List ℕ → Type 0) (root : ModulePath) (options : Options) (answer : Answer) : Type 0 where
+  pub text : IfOk answer (λ a. IsCompiledText found (path_text root) options.keep options.max_modules options.max_steps (string_bytes a.0))
+  pub map : IfOk answer (λ a. IsMapped found (path_text root) options.keep options.max_modules texts a.1)
+  pub refusal : IfErr answer (RefusesOf found root options)
+
+-- An answer for what is found so, with these texts: the part's, unless the call is beyond it.
+abbrev pub IsAnswerFor : Sources → (Path → List ℕ → Type 0) → ModulePath → Options → Answer → Type 0
+IsAnswerFor found texts root options answer = IsBeyondFor found root options ⊎ IsAnswerOfPart found texts root options answer
+
+-- ---- of what was asked for
+
+-- all that was asked for is at these paths, as far as is known
+abbrev pub AllInside : (Path → Bool) → Asked → Type 0
+AllInside inside asked = (p : Path) → IsAsked asked p → inside p ≡ true
+
+-- this is said of any paths at which all is that was asked for
+abbrev pub OfAsked : Asked → ((Path → Bool) → Type 0) → Type 0
+OfAsked asked Says = (inside : Path → Bool) → AllInside inside asked → Says inside

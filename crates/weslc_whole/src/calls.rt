@@ -4,11 +4,11 @@ ghost use Rattle.std.specs.Prelude.{◌≡◌, ◌⊎◌, true, IfOk, IfErr, str
 ghost use Rattle.wgsl_path.specs.Paths.{path_text};
 ghost use Rattle.weslc_part.specs.Found.{at_text, part_names};
 ghost use Rattle.weslc_linking.specs.Mapped.{HasNames};
-ghost use Rattle.wesl_reach.specs.Alone.{only, Alone};
-ghost use Rattle.weslc_calls.specs.OfPart.{sources, texts_asked};
+ghost use Rattle.wesl_reach.specs.Alone.{only};
+ghost use Rattle.weslc_calls.specs.OfPart.{sources};
 ghost use Rattle.weslc_calls.specs.Answers.{IsMapped, IsCompiledText};
 ghost use Rattle.weslc_whole.specs.Plain.{IsPlain};
-ghost use Rattle.weslc_whole.specs.Whole.{IsTodo, IsBeyond, RefusesOf, RefusesPart};
+ghost use Rattle.weslc_whole.specs.Whole.{IsTodo, IsBeyond, RefusesPart, IsAnswerFor, OfAsked};
 
 use crate::compiling::compile_modules;
 use crate::refusal::WholeRefusal;
@@ -41,9 +41,7 @@ pub fn compile<R: Resolver>(
     ensures map { IsBeyond (R.answers resolver.old) root.now options.now ⊎ IfOk result (λ answer. IsMapped (sources options.now.features (R.answers resolver.old)) (path_text root.now) options.now.keep options.now.max_modules (at_text (R.texts resolver.old)) answer.1) }
     ensures names { IsBeyond (R.answers resolver.old) root.now options.now ⊎ IfOk result (λ answer. HasNames (part_names (R.display_names resolver.old)) answer.1) }
     ensures refusal { IsBeyond (R.answers resolver.old) root.now options.now ⊎ IfErr result (RefusesPart (R.answers resolver.old) root.now options.now) }
-    ensures alone_text { IsBeyond (R.answers resolver.old) root.now options.now ⊎ Alone (texts_asked (R.asked resolver.old)) (texts_asked (R.asked resolver.new)) (λ inside. IfOk result (λ answer. IsCompiledText (only inside (sources options.now.features (R.answers resolver.old))) (path_text root.now) options.now.keep options.now.max_modules options.now.max_steps (string_bytes answer.0))) }
-    ensures alone_map { IsBeyond (R.answers resolver.old) root.now options.now ⊎ Alone (texts_asked (R.asked resolver.old)) (texts_asked (R.asked resolver.new)) (λ inside. IfOk result (λ answer. IsMapped (only inside (sources options.now.features (R.answers resolver.old))) (path_text root.now) options.now.keep options.now.max_modules (at_text (R.texts resolver.old)) answer.1)) }
-    ensures alone_refusal { IsBeyond (R.answers resolver.old) root.now options.now ⊎ Alone (texts_asked (R.asked resolver.old)) (texts_asked (R.asked resolver.new)) (λ inside. IfErr result (RefusesOf (only inside (sources options.now.features (R.answers resolver.old))) root.now options.now)) }
+    ensures alone { OfAsked (R.asked resolver.new) (λ inside. IsAnswerFor (only inside (sources options.now.features (R.answers resolver.old))) (at_text (R.texts resolver.old)) root.now options.now result) }
 {
     match try_compile(alloc, resolver, root, options) {
         Tried::Beyond(beyond) => compile_modules(alloc, resolver, beyond, root, options),

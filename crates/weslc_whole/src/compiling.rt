@@ -1,6 +1,7 @@
 //! From modules to a compiled text.
 
 ghost use Rattle.std.specs.Prelude.{◌≡◌, [], IfOk, string_bytes};
+ghost use Rattle.wesl_rounds.specs.Asked.{StayAsked};
 ghost use Rattle.wgsl_lowered.specs.Lowered.{AllStay};
 ghost use Rattle.weslc_whole.specs.Plain.{IsPlain};
 
@@ -83,12 +84,20 @@ pub(crate) fn compile_modules<R: Resolver>(
     root: &ModulePath,
     options: &Options,
 ) -> Result<(String, BasicSourceMap), WholeRefusal>
-    ensures { IfOk result (λ answer. IsPlain (string_bytes answer.0)) }
+    ensures plain { IfOk result (λ answer. IsPlain (string_bytes answer.0)) }
+    ensures asked { StayAsked (R.asked resolver.old) (R.asked resolver.new) }
 {
     let features = &options.features;
     let inner = Preprocessor::new(resolver, Conditions { features });
     let mut decided = Decided { inner };
-    let mut held = HeldModules::link(alloc, &mut decided, beyond, root, options)?;
+    let linked = HeldModules::link(alloc, &mut decided, beyond, root, options);
+    let Decided {
+        inner: Preprocessor {
+            resolver: _lent,
+            preprocess: _,
+        },
+    } = decided;
+    let mut held = linked?;
     let text = compile_linked(alloc, held.get_mut(), options.max_steps)?;
     Ok((text, held.into_map()))
 }

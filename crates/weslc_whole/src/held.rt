@@ -1,5 +1,7 @@
 //! Linked modules are dropped by a call of this module, so that whoever holds them need not prove the drop of all that they own again.
 
+ghost use Rattle.wesl_rounds.specs.Asked.{StayAsked};
+
 use std::alloc::Global;
 use wesl_resolvers::Resolver;
 use weslc_calls::{BasicSourceMap, Beyond, CompileError, Options};
@@ -19,7 +21,9 @@ impl HeldModules {
         beyond: Option<Beyond>,
         root: &ModulePath,
         options: &Options,
-    ) -> Result<HeldModules, CompileError> {
+    ) -> Result<HeldModules, CompileError>
+        ensures asked { StayAsked (R.asked resolver.old) (R.asked resolver.new) }
+    {
         match link_modules(alloc, resolver, beyond, root, options) {
             Ok(linked) => Ok(HeldModules { linked }),
             Err(error) => Err(error),

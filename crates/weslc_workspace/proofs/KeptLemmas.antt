@@ -14,21 +14,19 @@ use Rattle.wesl_resolve.specs.Found.{unit_of}
 use Rattle.wgsl_syntax.specs.Tree.{UnitTree}
 use Rattle.wesl_link_spec.specs.Modules.{Path}
 use Rattle.wesl_link_spec.specs.Rounds.{Sources}
-use Rattle.wesl_reach.specs.Alone.{only, Alone, AsksInside}
+use Rattle.wesl_reach.specs.Alone.{only}
 use Rattle.weslc_part.specs.Found as part
 use Rattle.weslc_part.specs.Found.{at_text}
-use Rattle.weslc_calls.specs.Answers.{IsMapped, IsCompiledText}
 use Rattle.weslc_calls.specs.Options.{Options}
-use Rattle.weslc_calls.specs.OfPart.{decided_by, texts_asked}
-use Rattle.weslc_linking.proofs.Alone.{AreFoundToo, compiled_too, refuses_too, mapped_too}
-use Rattle.weslc_whole.specs.Whole.{IsBeyond, RefusesOf}
-use Rattle.weslc_whole.specs.declared.refusal.WholeRefusal.{WholeRefusal}
-use Rattle.weslc_whole.specs.declared.refusal.WholeRefusal.TheVariants as refusals
+use Rattle.weslc_calls.specs.OfPart.{decided_by}
+use Rattle.weslc_linking.proofs.Alone.{AreFoundToo}
+use Rattle.weslc_whole.specs.Whole.{Answer, IsAnswerFor, AllInside, OfAsked}
+use Rattle.weslc_whole.proofs.Too.{answers_too}
 use Rattle.weslc_workspace.specs.Held.{text_at, IsSet}
 use Rattle.weslc_workspace.specs.Found.{found_in}
 use Rattle.weslc_workspace.specs.Fresh.{finds, texts_of}
 use Rattle.weslc_workspace.specs.Noted.{AreNoted}
-use Rattle.weslc_workspace.specs.Kept.{Answer, IsPartAnswer, part_of, AreAlike, IsKept, IsAnswer}
+use Rattle.weslc_workspace.specs.Kept.{part_of, AreAlike, IsKept, IsAnswer}
 use Rattle.weslc_workspace.specs.declared.modules.Modules.{Modules}
 use Rattle.weslc_workspace.proofs.Reprinted.{printed_as_read}
 
@@ -37,7 +35,7 @@ use Rattle.weslc_workspace.proofs.Reprinted.{printed_as_read}
 module _ {Y S : Type 0} (modules new : Modules) (root : ModulePath) (options : Options) (asked : HashSet (String Y) S) (answer : Answer) (k : IsKept modules root options asked answer) where
   -- texts stay
   pub kept_so : ((p : List ℕ) → text_at new p ≡ text_at modules p) → IsKept new root options asked answer
-  kept_so same = record { before = k.before; chosen = k.chosen; texts = λ p in_asked. same p ∙ k.texts p in_asked; alike = k.alike; answer_alone = k.answer_alone }
+  kept_so same = record { before = k.before; chosen = k.chosen; texts = λ p in_asked. same p ∙ k.texts p in_asked; alike = k.alike; answers = k.answers }
 
   -- a text is set, or taken away, that was not asked for
   pub kept_when_set : (p : List ℕ) (text : Option (List ℕ)) → IsSet modules p text new → contains_text asked p ≡ false → IsKept new root options asked answer
@@ -46,7 +44,7 @@ module _ {Y S : Type 0} (modules new : Modules) (root : ModulePath) (options : O
     chosen = k.chosen;
     texts = λ q in_asked. elsewhere q in_asked (bytes_eq p q) refl ∙ k.texts q in_asked;
     alike = k.alike;
-    answer_alone = k.answer_alone;
+    answers = k.answers;
   }
     where
       elsewhere : (q : List ℕ) → contains_text asked q ≡ true → (b : Bool) → bytes_eq p q ≡ b → text_at new q ≡ text_at modules q
@@ -74,7 +72,7 @@ module _ {Y S : Type 0} (modules new : Modules) (root : ModulePath) (options : O
     chosen = k.chosen;
     texts = k.texts;
     alike = record { flags = λ n. a.flags n ∙ k.alike.flags n; others = k.alike.others ∙ ap (λ (o : Options). record o { features = k.chosen.features }) a.others };
-    answer_alone = k.answer_alone;
+    answers = k.answers;
   }
 
 -- ---- what was asked for is among what is kept
@@ -84,44 +82,25 @@ printed_at [] i p is = let wrong : None ≡ Some p = is in absurd (cc)
 printed_at (q ∷ paths) zero p is = (q, refl, (let same : path_text q ≡ p = cc in same))
 printed_at (q ∷ paths) (suc i) p is = printed_at paths i p is
 
-pub noted_inside : {Y S : Type 0} (none requests : List ModulePath) (asked : HashSet (String Y) S) → none ≡ [] → AreNoted requests asked
-    → AsksInside (contains_text asked) (texts_asked (Some none)) (texts_asked (Some requests))
-noted_inside none requests asked empty noted ps has p there =
-    let e : Some (map path_text requests) ≡ Some ps = has ∙ ap (λ (ms : List ModulePath). Some (map path_text ms ++ ps)) empty in
-    let all : map path_text requests ≡ ps = cc in
-    let at = from_contains (map path_text requests) p (subst (λ (l : List (List ℕ)). Contains l p) (sym all) there) in
+pub noted_inside : {Y S : Type 0} (requests : List ModulePath) (asked : HashSet (String Y) S) → AreNoted requests asked → AllInside (contains_text asked) (Some requests)
+noted_inside requests asked noted p there =
+    let at = from_contains (map path_text requests) p there in
     let one = printed_at requests at.0 p at.1 in
     subst (λ (q : List ℕ). contains_text asked q ≡ true) one.2 (noted one.0 (to_contains requests at.0 one.0 one.1))
 
 -- ---- what was just compiled
 
-module _ {Y S : Type 0} (modules : Modules) (root : ModulePath) (options : Options) (none requests : List ModulePath) (empty : none ≡ []) (asked : HashSet (String Y) S) (answer : Answer) where
-  -- this is said of what was asked for, unless the call is beyond the part
-  abbrev pub Said : ((List ℕ → Bool) → Type 0) → Type 0
-  Said Says = IsBeyond (finds modules) root options ⊎ Alone (texts_asked (Some none)) (texts_asked (Some requests)) Says
-
-  said : (Says : (List ℕ → Bool) → Type 0) → AreNoted requests asked → Said Says → IsBeyond (finds modules) root options ⊎ Says (contains_text asked)
-  said Says noted (inl beyond) = inl beyond
-  said Says noted (inr alone) = inr (alone (contains_text asked) (noted_inside none requests asked empty noted))
-
-  all_said : {A B C D : Type 0} → A ⊎ B → A ⊎ C → A ⊎ D → (B → C → D → IsPartAnswer (only (contains_text asked) (part_of modules options)) modules root options answer)
-      → A ⊎ IsPartAnswer (only (contains_text asked) (part_of modules options)) modules root options answer
-  all_said (inl a) y z make = inl a
-  all_said (inr b) (inl a) z make = inl a
-  all_said (inr b) (inr c) (inl a) make = inl a
-  all_said (inr b) (inr c) (inr d) make = inr (make b c d)
-
-  pub just_compiled : (new : Modules) (kept : Answer) → AreNoted requests asked → ((p : List ℕ) → text_at new p ≡ text_at modules p) → kept ≡ answer
-      → Said (λ inside. IfOk answer (λ a. IsCompiledText (only inside (part_of modules options)) (path_text root) options.keep options.max_modules options.max_steps (string_bytes a.0)))
-      → Said (λ inside. IfOk answer (λ a. IsMapped (only inside (part_of modules options)) (path_text root) options.keep options.max_modules (at_text (texts_of modules)) a.1))
-      → Said (λ inside. IfErr answer (RefusesOf (only inside (part_of modules options)) root options)) → IsKept new root options asked kept
-  just_compiled new kept noted same is text map refusal = subst (IsKept new root options asked) (sym is) (record {
-    before = modules;
-    chosen = options;
-    texts = λ p in_asked. same p;
-    alike = record { flags = λ n. refl; others = refl };
-    answer_alone = all_said (said _ noted text) (said _ noted map) (said _ noted refusal) (λ t m r. record { text = t; map = m; refusal = r });
-  })
+pub just_compiled : {Y S : Type 0} (modules new : Modules) (root : ModulePath) (options : Options) (requests : List ModulePath) (asked : HashSet (String Y) S) (answer kept : Answer)
+    → AreNoted requests asked → ((p : List ℕ) → text_at new p ≡ text_at modules p) → kept ≡ answer
+    → OfAsked (Some requests) (λ inside. IsAnswerFor (only inside (part_of modules options)) (at_text (texts_of modules)) root options answer)
+    → IsKept new root options asked kept
+just_compiled modules new root options requests asked answer kept noted same is alone = subst (IsKept new root options asked) (sym is) (record {
+  before = modules;
+  chosen = options;
+  texts = λ p in_asked. same p;
+  alike = record { flags = λ n. refl; others = refl };
+  answers = alone (contains_text asked) (noted_inside requests asked noted);
+})
 
 -- ---- it is an answer of the modules as they are
 
@@ -136,27 +115,10 @@ module _ (before modules : Modules) (inside : List ℕ → Bool) (same : (p : Li
   pub texts_now : (options : Options) (p : Path) (u : UnitTree) (text : List ℕ) → only inside (part_of before options) p (unit_of u) → at_text (texts_of before) p text → at_text (texts_of modules) p text
   texts_now options p u text found (q, is, stands) = (q, is, subst (λ (o : Option (List ℕ)). o ≡ Some text) (there p q found.0 is) stands)
 
-module _ (before modules : Modules) (inside : List ℕ → Bool) (same : (p : List ℕ) → inside p ≡ true → text_at modules p ≡ text_at before p) (root : ModulePath) (options : Options) where
-  abbrev there_then : Sources
-  there_then = only inside (part_of before options)
-
-  refuses_now : (e : WholeRefusal) → RefusesOf there_then root options e → RefusesOf (part_of modules options) root options e
-  refuses_now (refusals.Compile e) r = refuses_too there_then (part_of modules options) (found_now before modules inside same options) (path_text root) options.keep options.max_modules options.max_steps e r
-  refuses_now (refusals.Eval c f) r = absurd r
-
-  answers_now : (answer : Answer) → IsPartAnswer there_then before root options answer → IsPartAnswer (part_of modules options) modules root options answer
-  answers_now (Ok a) t = record {
-    text = compiled_too there_then (part_of modules options) (found_now before modules inside same options) (path_text root) options.keep options.max_modules options.max_steps (string_bytes a.0) t.text;
-    map = mapped_too there_then (part_of modules options) (found_now before modules inside same options) (path_text root) options.keep options.max_modules (at_text (texts_of before)) (at_text (texts_of modules)) a.1
-        (texts_now before modules inside same options) t.map;
-    refusal = tt;
-  }
-  answers_now (Err e) t = record { text = tt; map = tt; refusal = refuses_now e t.refusal }
-
 pub kept_answers : {Y S : Type 0} (modules : Modules) (root : ModulePath) (options : Options) (asked : HashSet (String Y) S) (answer : Answer) → IsKept modules root options asked answer → IsAnswer modules root options answer
 kept_answers modules root options asked answer k = record {
-  before = k.before;
   chosen = k.chosen;
   alike = k.alike;
-  answers = ⊎_elim (λ beyond. inl beyond) (λ alone. inr (answers_now k.before modules (contains_text asked) k.texts root k.chosen answer alone)) k.answer_alone;
+  answers = answers_too (only (contains_text asked) (part_of k.before k.chosen)) (part_of modules k.chosen) (found_now k.before modules (contains_text asked) k.texts k.chosen)
+      (at_text (texts_of k.before)) (at_text (texts_of modules)) (texts_now k.before modules (contains_text asked) k.texts k.chosen) root k.chosen answer k.answers;
 }

@@ -52,3 +52,11 @@ returns-clause-alone_refusal g c = λ inside within.
     rw (c.new-part.ensures, c.new-decided.ensures) at c.compile-answer.ensures.alone_refusal in
     answered c.compile-answer.result (λ r. IfErr r (RefusesToCompile (only inside (sources c.args.options.now.features (g.R.Resolver.answers c.args.resolver.now))) (path_text c.args.root.now) c.args.options.now.keep c.args.options.now.max_modules c.args.options.now.max_steps)) c.outcome_of.result c.outcome_of.ensures.answered
     (alone inside (asked_there g.R.Resolver.asked inside (texts_asked (g.R.Resolver.asked c.args.resolver.now)) last.now _ (search rules) within))
+
+pub returns-clause-alone_beyond : goal.returns-clause-alone_beyond
+returns-clause-alone_beyond g c = λ inside within.
+    let last = c.compile-answer.new.resolver.resolver.inner.resolver in
+    let alone : Alone (texts_asked (g.R.Resolver.asked c.args.resolver.now)) (texts_asked (g.R.Resolver.asked last.now)) (λ inside. IfErr c.compile-answer.result (RefusesToCompile (only inside (sources c.args.options.now.features (g.R.Resolver.answers c.args.resolver.now))) (path_text c.args.root.now) c.args.options.now.keep c.args.options.now.max_modules c.args.options.now.max_steps)) =
+    rw (c.new-part.ensures, c.new-decided.ensures) at c.compile-answer.ensures.alone_refusal in
+    beyond c.compile-answer.result (RefusesToCompile (only inside (sources c.args.options.now.features (g.R.Resolver.answers c.args.resolver.now))) (path_text c.args.root.now) c.args.options.now.keep c.args.options.now.max_modules c.args.options.now.max_steps) (IsOther c.args.root.now c.args.options.now) c.outcome_of.result c.outcome_of.ensures.beyond
+    (alone inside (asked_there g.R.Resolver.asked inside (texts_asked (g.R.Resolver.asked c.args.resolver.now)) last.now _ (search rules) within))

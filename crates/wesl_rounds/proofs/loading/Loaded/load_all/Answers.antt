@@ -8,6 +8,7 @@ loop-found-init g c = record {
   texts = λ p a. (λ x. x, λ x. x);
   names = refl;
   holds = refl;
+  asked = λ p is. is;
 }
 
 pub loop-found-preserved : goal.loop-found-preserved
@@ -16,4 +17,5 @@ loop-found-preserved g c = record {
   texts = two_same _ _ _ c.loop-found.invariant.texts c.load.ensures.same_texts;
   names = c.load.ensures.same_names ∙ c.loop-found.invariant.names;
   holds = c.load.ensures.same_reference ∙ c.loop-found.invariant.holds;
+  asked = λ p is. c.load.ensures.asked p (c.loop-found.invariant.asked p is);
 }

@@ -1,5 +1,6 @@
 use Rattle.std.proofs.Common.{◌≡◌}
 use Rattle.wesl_resolvers.specs.Found.{SameAnswers, SameTexts}
+use Rattle.wesl_rounds.specs.Asked.{StayAsked}
 use Rattle.wesl_rounds.proofs.loading.Loaded.load_all.Given as goal
 
 abbrev pub invariant-loop-found : goal.invariant-loop-found
@@ -8,4 +9,5 @@ invariant-loop-found g l = record {
   texts : SameTexts (g.R.Resolver.texts l.initial.resolver) (g.R.Resolver.texts l.resolver);
   names : g.R.Resolver.display_names l.resolver ≡ g.R.Resolver.display_names l.initial.resolver;
   holds : g.R.Resolver.holds l.resolver ≡ g.R.Resolver.holds l.initial.resolver;
+  asked : StayAsked (g.R.Resolver.asked l.initial.resolver) (g.R.Resolver.asked l.resolver);
 }

@@ -8,6 +8,7 @@ loop-round-init g c = record {
   texts = λ p a. (λ x. x, λ x. x);
   names = refl;
   holds = refl;
+  asked = λ p is. is;
 }
 
 pub loop-round-preserved : goal.loop-round-preserved
@@ -16,4 +17,5 @@ loop-round-preserved g c = record {
   texts = two_same _ _ _ c.loop-round.invariant.texts c.next_round.ensures.same_texts;
   names = c.next_round.ensures.same_names ∙ c.loop-round.invariant.names;
   holds = c.next_round.ensures.same_reference ∙ c.loop-round.invariant.holds;
+  asked = λ p is. c.next_round.ensures.asked p (c.loop-round.invariant.asked p is);
 }

@@ -29,11 +29,8 @@ returns-clause-answers c = λ some.
     let there = c.new-asking.result.modules.now in
     let same : there ≡ c.args.self.now.modules = ap (λ (b : Bor Modules). b.now) c.new-asking.ensures.modules in
     merely (kept_answers c.args.self.now.modules c.args.self.now.root c.args.self.now.options c.into_parts-asked.result.0 c.new.result.answer
-    (just_compiled there c.args.self.now.root c.args.self.now.options c.new-asking.result.requests c.compile-answer.new.resolver.requests c.new-asking.ensures.requests c.into_parts-asked.result.0 c.compile-answer.result
-    c.args.self.now.modules c.new.result.answer c.into_parts-asked.ensures (λ p. ap (λ (m : Modules). text_at m p) (sym same)) (c.new.ensures some)
-    c.compile-answer.ensures.alone_text
-    c.compile-answer.ensures.alone_map
-    c.compile-answer.ensures.alone_refusal))
+    (just_compiled there c.args.self.now.modules c.args.self.now.root c.args.self.now.options c.compile-answer.new.resolver.requests c.into_parts-asked.result.0 c.compile-answer.result c.new.result.answer
+    c.into_parts-asked.ensures (λ p. ap (λ (m : Modules). text_at m p) (sym same)) (c.new.ensures some) c.compile-answer.ensures.alone))
 
 pub invariant_of-self-3 : goal.invariant_of-self-3
 invariant_of-self-3 c = record {
@@ -41,8 +38,7 @@ invariant_of-self-3 c = record {
       let there = c.new-asking.result.modules.now in
       let same : there ≡ c.args.self.now.modules = ap (λ (b : Bor Modules). b.now) c.new-asking.ensures.modules in
       let some : is_out_of_memory c.new.result.answer ≡ false = sym c.is_out_of_memory.ensures ∙ c.if-is_out_of_memory.false in
-      merely (just_compiled there c.args.self.now.root c.args.self.now.options c.new-asking.result.requests c.compile-answer.new.resolver.requests c.new-asking.ensures.requests c.into_parts-asked.result.0 c.compile-answer.result
-      c.settle.new.self c.new.result.answer c.into_parts-asked.ensures
-      (λ p. ap (λ texts. get_by_text texts p) c.settle.ensures.texts ∙ ap (λ (m : Modules). text_at m p) (sym same)) (c.new.ensures some)
-      c.compile-answer.ensures.alone_text c.compile-answer.ensures.alone_map c.compile-answer.ensures.alone_refusal);
+      merely (just_compiled there c.settle.new.self c.args.self.now.root c.args.self.now.options c.compile-answer.new.resolver.requests c.into_parts-asked.result.0 c.compile-answer.result c.new.result.answer
+      c.into_parts-asked.ensures (λ p. ap (λ texts. get_by_text texts p) c.settle.ensures.texts ∙ ap (λ (m : Modules). text_at m p) (sym same)) (c.new.ensures some)
+      c.compile-answer.ensures.alone);
 }
