@@ -40,6 +40,7 @@ pub fn link_modules<R: Resolver>(
 ) -> Result<LinkedModules, CompileError>
     ensures imports { IfOk result (λ linked. linked.unit.imports ≡ []) }
     ensures asked { StayAsked (R.asked resolver.old) (R.asked resolver.new) }
+    ensures same_reference { R.holds resolver.new ≡ R.holds resolver.old }
 {
     if options.max_modules == 0 {
         return Err(CompileError::too_many_modules(alloc, root)?);
@@ -49,7 +50,6 @@ pub fn link_modules<R: Resolver>(
 }
 
 /// The root's unit, which may be parsed already.
-#[tactic(auto, using(wesl_rounds::proofs::Asking::one_asked))]
 fn root_unit<R: Resolver>(
     alloc: Global,
     resolver: &mut R,
@@ -57,6 +57,7 @@ fn root_unit<R: Resolver>(
     root: &ModulePath,
 ) -> Result<HeldUnit, CompileError>
     ensures asked { StayAsked (R.asked resolver.old) (R.asked resolver.new) }
+    ensures same_reference { R.holds resolver.new ≡ R.holds resolver.old }
 {
     if let Some(Beyond { path, unit }) = beyond
         && path == *root
@@ -78,6 +79,7 @@ fn link_root<R: Resolver>(
 ) -> Result<LinkedModules, CompileError>
     ensures imports { IfOk result (λ linked. linked.unit.imports ≡ []) }
     ensures asked { StayAsked (R.asked resolver.old) (R.asked resolver.new) }
+    ensures same_reference { R.holds resolver.new ≡ R.holds resolver.old }
 {
     let mut resolutions = resolved(alloc, unit, resolver, root, options)?;
     let numbering = number_held(alloc, &resolutions)?;
@@ -140,6 +142,7 @@ fn resolved<R: Resolver>(
     options: &Options,
 ) -> Result<Resolutions, CompileError>
     ensures asked { StayAsked (R.asked resolver.old) (R.asked resolver.new) }
+    ensures same_reference { R.holds resolver.new ≡ R.holds resolver.old }
 {
     match options.mode {
         Mode::Lazy => lazily(alloc, unit, resolver, root, options),
@@ -160,6 +163,7 @@ fn lazily<R: Resolver>(
     options: &Options,
 ) -> Result<Resolutions, CompileError>
     ensures asked { StayAsked (R.asked resolver.old) (R.asked resolver.new) }
+    ensures same_reference { R.holds resolver.new ≡ R.holds resolver.old }
 {
     let keep = options.keep.as_slice();
     match resolve_lazy(
@@ -183,6 +187,7 @@ fn eagerly<R: Resolver>(
     options: &Options,
 ) -> Result<Resolutions, CompileError>
     ensures asked { StayAsked (R.asked resolver.old) (R.asked resolver.new) }
+    ensures same_reference { R.holds resolver.new ≡ R.holds resolver.old }
 {
     if let Err(error) = test_root(alloc, options.keep.as_slice(), unit.get(), root) {
         return Err(of_import(error));

@@ -1,5 +1,6 @@
 //! From the linked unit back to the modules.
 
+ghost use Rattle.std.specs.Prelude.{◌≡◌};
 ghost use Rattle.wesl_rounds.specs.Asked.{StayAsked};
 
 use crate::refusal::of_resolve;
@@ -22,6 +23,7 @@ pub(crate) fn source_map<R: Resolver>(
     names: &[Text],
 ) -> Result<BasicSourceMap, CompileError>
     ensures asked { StayAsked (R.asked resolver.old) (R.asked resolver.new) }
+    ensures same_reference { R.holds resolver.new ≡ R.holds resolver.old }
 {
     let mut map = BasicSourceMap::new(alloc);
     for (spot, name) in numbering.spots().iter().zip(names) {
@@ -50,7 +52,6 @@ fn add_decl(
     Ok(())
 }
 
-#[tactic(auto, using(wesl_rounds::proofs::Asking::none_asked))]
 fn add_source<R: Resolver>(
     alloc: Global,
     resolver: &mut R,
@@ -58,6 +59,7 @@ fn add_source<R: Resolver>(
     map: &mut BasicSourceMap,
 ) -> Result<(), CompileError>
     ensures asked { StayAsked (R.asked resolver.old) (R.asked resolver.new) }
+    ensures same_reference { R.holds resolver.new ≡ R.holds resolver.old }
 {
     let name = resolver.display_name(alloc, path)?;
     let text = source_of(alloc, resolver, path)?;
@@ -65,13 +67,13 @@ fn add_source<R: Resolver>(
     Ok(())
 }
 
-#[tactic(auto, using(wesl_rounds::proofs::Asking::none_asked))]
 fn source_of<R: Resolver>(
     alloc: Global,
     resolver: &mut R,
     path: &ModulePath,
 ) -> Result<Text, CompileError>
     ensures asked { StayAsked (R.asked resolver.old) (R.asked resolver.new) }
+    ensures same_reference { R.holds resolver.new ≡ R.holds resolver.old }
 {
     match resolver.resolve_source(alloc, path) {
         Ok(text) => Ok(text),

@@ -1,5 +1,5 @@
 -- What a call asks for between is among what it asks for.
-use Rattle.std.proofs.Common.{◌≡◌, sym, subst, List, ◌++◌, map, Bool, Some, None}
+use Rattle.std.proofs.Common.{◌≡◌, sym, subst, ◌++◌, map, Bool, Some, None}
 use Rattle.std.specs.List.{Contains}
 use Rattle.std.proofs.lemmas.List.Elements.{Contains-append_right}
 use Rattle.wgsl_path.specs.Paths.{path_text}
@@ -20,3 +20,7 @@ asks_inside inside (Some first) (Some paths) all ps has p there =
     let both : Some (map path_text paths) ≡ Some (map path_text first ++ ps) = has in
     let same : map path_text paths ≡ map path_text first ++ ps = cc in
     all p (subst (λ l. Contains l p) (sym same) (Contains-append_right (map path_text first) ps p there))
+
+-- what a resolver that was lent was asked for
+pub asked_there : {X : Type 0} (asked : X → Asked) (before : Asked) (now last : X) → now ≡ last → StayAsked before (asked now) → StayAsked before (asked last)
+asked_there asked before now last same stay = subst (λ x. StayAsked before (asked x)) same stay

@@ -1,5 +1,6 @@
 //! Linked modules are dropped by a call of this module, so that whoever holds them need not prove the drop of all that they own again.
 
+ghost use Rattle.std.specs.Prelude.{◌≡◌};
 ghost use Rattle.wesl_rounds.specs.Asked.{StayAsked};
 
 use std::alloc::Global;
@@ -23,6 +24,7 @@ impl HeldModules {
         options: &Options,
     ) -> Result<HeldModules, CompileError>
         ensures asked { StayAsked (R.asked resolver.old) (R.asked resolver.new) }
+        ensures same_reference { R.holds resolver.new ≡ R.holds resolver.old }
     {
         match link_modules(alloc, resolver, beyond, root, options) {
             Ok(linked) => Ok(HeldModules { linked }),

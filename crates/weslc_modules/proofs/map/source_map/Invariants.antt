@@ -1,5 +1,9 @@
+use Rattle.std.proofs.Common.{◌≡◌}
 use Rattle.wesl_rounds.specs.Asked.{StayAsked}
 use Rattle.weslc_modules.proofs.map.source_map.Given as goal
 
 abbrev pub invariant-loop-number : goal.invariant-loop-number
-invariant-loop-number g l = StayAsked (g.R.Resolver.asked l.initial.resolver) (g.R.Resolver.asked l.resolver)
+invariant-loop-number g l = record {
+  asked : StayAsked (g.R.Resolver.asked l.initial.resolver) (g.R.Resolver.asked l.resolver);
+  holds : g.R.Resolver.holds l.resolver ≡ g.R.Resolver.holds l.initial.resolver;
+}

@@ -48,7 +48,7 @@ pub returns-then-is_todo-clause-alone : goal.returns-then-is_todo-clause-alone
 returns-then-is_todo-clause-alone g c = λ inside within.
     let told = c.in-Answered-Err.ensures.alone_refusal inside
     (asks_inside inside (g.R.Resolver.asked c.args.resolver.now) (g.R.Resolver.asked c.try_compile.new.resolver)
-    (inside_between inside (g.R.Resolver.asked c.try_compile.new.resolver) (g.R.Resolver.asked c.compile_modules.new.resolver) c.compile_modules.ensures.asked within)) in
+    (inside_between inside (g.R.Resolver.asked c.try_compile.new.resolver) (g.R.Resolver.asked c.compile_modules-then-is_todo.new.resolver) c.compile_modules-then-is_todo.ensures.asked within)) in
     inl (todo_is_beyond (only inside (sources c.args.options.now.features (g.R.Resolver.answers c.args.resolver.now))) c.args.root.now c.args.options.now c.in-Answered-Err.error
     (rw c.in-Answered-Err.field-0-is at told) (c.is_todo.ensures c.if-is_todo.true))
 
