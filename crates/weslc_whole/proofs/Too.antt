@@ -19,7 +19,7 @@ module _ (one other : Sources) (found : AreFoundToo one other) where
   beyond_too : (root : ModulePath) (options : Options) → IsBeyondFor one root options → IsBeyondFor other root options
   beyond_too root options (inl (inl of_another_kind)) = inl (inl of_another_kind)
   beyond_too root options (inl (inr (c, refuses))) = inl (inr (c, refuses_too one other found (path_text root) options.keep options.max_modules options.max_steps (calls.Unsupported c) refuses))
-  beyond_too root options (inr (c, (name, refuses))) = inr (c, (name, refuses_too one other found (path_text root) options.keep options.max_modules options.max_steps (calls.Eval c (Name Todo name)) refuses))
+  beyond_too root options (inr (c, name, refuses)) = inr (c, name, refuses_too one other found (path_text root) options.keep options.max_modules options.max_steps (calls.Eval c (Name Todo name)) refuses)
 
   refusal_too : (root : ModulePath) (options : Options) (e : WholeRefusal) → RefusesOf one root options e → RefusesOf other root options e
   refusal_too root options (whole.Compile e) refuses = refuses_too one other found (path_text root) options.keep options.max_modules options.max_steps e refuses
