@@ -1,9 +1,0 @@
-use Rattle.std.proofs.Common.{refl}
-use Rattle.weslc_workspace.proofs.workspace.Workspace.compile.Goals as goal
-
-pub returns : goal.returns
-returns c =
-    let after = c.refresh.ensures in (
-      (refl, λ _. tt, (record { content = after.content; runs = after.runs; stale = after.stale; asked = after.asked; parses = after.parses }, refl)),
-      record { kept = after.kept; lent = tt },
-    )
