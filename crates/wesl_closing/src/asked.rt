@@ -2,8 +2,7 @@
 
 use std::alloc::{AllocError, Global};
 use std::collections::BTreeMap;
-use wesl_denote::Link;
-use wesl_tables::Target;
+use wesl_denote::{Link, Target};
 
 /// The modules that are asked for and not loaded, by their printed paths.
 pub type Asked = BTreeMap<String, AskedModule>;

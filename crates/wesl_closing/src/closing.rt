@@ -3,9 +3,8 @@
 use crate::asked::{Asked, ask};
 use std::alloc::{AllocError, Global};
 use std::mem;
-use wesl_denote::{Denoted, Link, Start, Step, Turns, found_at, start_of};
+use wesl_denote::{Denoted, Link, Module, Modules, Spot, Start, Step, Turns, found_at, start_of};
 use wesl_mark::Kind;
-use wesl_tables::{Module, Modules, Spot};
 
 /// For each module, by number, which of its places are reached.
 pub type Reached = Vec<Vec<bool>>;

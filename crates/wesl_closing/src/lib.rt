@@ -10,3 +10,6 @@ pub use asked::{Asked, AskedModule};
 pub use closing::{Closing, Reached};
 pub use missing::first_missing;
 pub use starts::{all_places, kept_places};
+pub use wesl_denote::{
+    Denoted, ImportError, Module, Modules, Spot, Target, denotation, kept_missing,
+};

@@ -2,8 +2,7 @@
 
 use crate::closing::Reached;
 use std::alloc::{AllocError, Global};
-use wesl_denote::{Denoted, denotation};
-use wesl_tables::{ImportError, Module, Modules};
+use wesl_denote::{Denoted, ImportError, Module, Modules, denotation};
 use wgsl_items::{CloneIn, Text};
 use wgsl_path::ModulePath;
 

@@ -1,8 +1,8 @@
 //! Where reaching begins.
 
 use std::alloc::{AllocError, Global};
+use wesl_denote::{Module, Modules, Spot};
 use wesl_mark::Kind;
-use wesl_tables::{Module, Modules, Spot};
 use wgsl_items::Text;
 
 /// The declarations of the root with these names, those that are there; where no name is given, its entry points: the functions with a

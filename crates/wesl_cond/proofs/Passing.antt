@@ -16,8 +16,8 @@ use Rattle.wesl_cond_spec.specs.Walks.{start, checked}
 use Rattle.wesl_cond_spec.specs.Faults.{seen_statements}
 use Rattle.wesl_cond_spec.proofs.Checking.{checked_is_fault}
 use Rattle.wesl_conditions.specs.Told.{TellsFault}
-use Rattle.wesl_cond_attributes.specs.declared.check.Check.{Check}
-use Rattle.wesl_cond_attributes.specs.Entering.{seen, Enters}
+use Rattle.wesl_cond_items.specs.Check.{Check}
+use Rattle.wesl_cond_items.specs.Entering.{seen, Enters}
 use Rattle.wesl_cond.specs.Passing.{Passes, see, see_node}
 use Rattle.wesl_cond.proofs.Lists.{seen_nodes, seen_items}
 

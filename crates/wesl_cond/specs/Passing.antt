@@ -14,7 +14,7 @@ use Rattle.wesl_cond_spec.specs.Seen.{Seen}
 use Rattle.wesl_cond_spec.specs.Walks.{checked}
 use Rattle.wesl_cond_spec.specs.Trees.{of_statements}
 use Rattle.wesl_cond_spec.specs.Faults.{statement_fault}
-use Rattle.wesl_cond_attributes.specs.declared.check.Check.{Check}
+use Rattle.wesl_cond_items.specs.Check.{Check}
 
 -- An item is passed, or a `;`, which is none; or this is the first error of the list, or memory was refused.
 abbrev pub Passes : Features → Check → Option Seen → Result Unit CondCompError → Check → Type 0

@@ -9,8 +9,7 @@ ghost use Rattle.wesl_cond.specs.Passing.{Passes, see};
 
 use crate::check::check_declaration;
 use std::alloc::Global;
-use wesl_cond_attributes::Check;
-use wesl_cond_items::Item;
+use wesl_cond_items::{Check, Item};
 use wesl_features::{CondCompError, Features};
 use wgsl_attributes::Attributes;
 use wgsl_declarations::{FormalParameter, GlobalDeclarationNode, StructMemberNode};

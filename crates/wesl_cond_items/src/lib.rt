@@ -9,3 +9,4 @@ mod statement;
 
 pub use item::{Item, settle_list};
 pub use statement::attributes_of;
+pub use wesl_cond_attributes::Check;

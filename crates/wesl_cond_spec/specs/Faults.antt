@@ -3,7 +3,7 @@ use Rattle.std.specs.Prelude.{List, [], ◌∷◌, map, Option, None}
 use Rattle.std.specs.Option.{option_or}
 use Rattle.wesl_features.specs.declared.feature.Features.{Features}
 use Rattle.wesl_features.specs.declared.error.CondCompError.{CondCompError}
-use Rattle.wgsl_statements.specs.Tree.{Stm, simple, compound_statement, if_statement, switch_statement, loop_statement, for_statement, while_statement, Stms, nil, cons, Block, block, Elses, no_else, else_clause, else_if_clause, Clauses, no_clauses, switch_clause, Continuing, no_continuing, continuing_statement, Part, absent, present}
+use Rattle.wgsl_declarations.specs.StatementsTree.{Stm, simple, compound_statement, if_statement, switch_statement, loop_statement, for_statement, while_statement, Stms, nil, cons, Block, block, Elses, no_else, else_clause, else_if_clause, Clauses, no_clauses, switch_clause, Continuing, no_continuing, continuing_statement, Part, absent, present}
 use Rattle.wgsl_declarations.specs.Tree.{Decl, variable, alias, structure, function, assertion, UnitTree}
 use Rattle.wesl_cond_spec.specs.Chains.{marks_of, HasAttributes}
 use Rattle.wesl_cond_spec.specs.Seen.{Seen, list_fault}

@@ -2,9 +2,9 @@
 -- attributes of a function's body, of the other bodies and of a result are no such item's.
 use Rattle.std.specs.Prelude.{List, [], ◌∷◌, map}
 use Rattle.wgsl_attributes.specs.Tree.{Attr}
-use Rattle.wgsl_simple_statements.specs.Tree.{Simple, assignment, increment, decrement, breaking, continuing, returning, discarding, calling, asserting, declaring}
-use Rattle.wgsl_statements.specs.Tree.{Stm, simple, compound_statement, if_statement, switch_statement, loop_statement, for_statement, while_statement, Stms, nil, cons, Block, block, Elses, no_else, else_clause, else_if_clause, Clauses, no_clauses, switch_clause, Continuing, no_continuing, continuing_statement, Part, absent, present}
-use Rattle.wgsl_imports.specs.Tree.{Importing, Directive, diagnostic, enabling, requiring}
+use Rattle.wgsl_declarations.specs.SimpleStatementsTree.{Simple, assignment, increment, decrement, breaking, continuing, returning, discarding, calling, asserting, declaring}
+use Rattle.wgsl_declarations.specs.StatementsTree.{Stm, simple, compound_statement, if_statement, switch_statement, loop_statement, for_statement, while_statement, Stms, nil, cons, Block, block, Elses, no_else, else_clause, else_if_clause, Clauses, no_clauses, switch_clause, Continuing, no_continuing, continuing_statement, Part, absent, present}
+use Rattle.wgsl_declarations.specs.ImportsTree.{Importing, Directive, diagnostic, enabling, requiring}
 use Rattle.wgsl_declarations.specs.Tree.{Member, Param, Decl, variable, alias, structure, function, assertion, UnitTree}
 use Rattle.wesl_features.specs.declared.feature.Features.{Features}
 use Rattle.wesl_cond_spec.specs.Conditions.{Choice}

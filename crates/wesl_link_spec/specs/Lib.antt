@@ -9,3 +9,4 @@ pub mod Loaded
 pub mod Clashing
 pub mod Kept
 pub mod Same
+pub use Rattle.wesl_resolve.specs.declared.error.ResolveError

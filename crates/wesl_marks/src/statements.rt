@@ -6,14 +6,14 @@ use crate::expressions::{
 use std::alloc::AllocError;
 use wesl_mark::MarkList;
 use wgsl_attributes::AttributeNode;
+use wgsl_declarations::{
+    CompoundStatement, ContinuingStatement, ForStatement, IfStatement, LoopStatement, Statement,
+    StatementNode, SwitchStatement, WhileStatement,
+};
 use wgsl_expressions::ExpressionNode;
 use wgsl_simple_statements::{
     AssignmentStatement, BreakIfStatement, CaseSelector, ConstAssert, Declaration,
     FunctionCallStatement, ReturnStatement,
-};
-use wgsl_statements::{
-    CompoundStatement, ContinuingStatement, ForStatement, IfStatement, LoopStatement, Statement,
-    StatementNode, SwitchStatement, WhileStatement,
 };
 
 /// Marks attributes, and the expression behind them.

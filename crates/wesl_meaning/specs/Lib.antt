@@ -9,3 +9,5 @@ pub mod Example
 pub mod Same
 pub mod Agreement
 pub use Rattle.wgsl_programs.specs.Programs
+pub use Rattle.wgsl_programs.specs.Names
+pub use Rattle.wgsl_programs.specs.Runs as ProgramsRuns

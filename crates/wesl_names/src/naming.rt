@@ -6,8 +6,7 @@ ghost use Rattle.wesl_reach.specs.Closing.{held_at};
 ghost use Rattle.wesl_names.specs.Naming.{printed_in};
 
 use std::alloc::{AllocError, Global};
-use wesl_reach::HeldNames;
-use wesl_rename::Naming;
+use wesl_reach::{HeldNames, Naming};
 use wesl_scopes::{Denoted, Module, Modules, Symbol, denotation};
 use wgsl_items::Text;
 

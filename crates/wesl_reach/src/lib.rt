@@ -9,3 +9,4 @@ mod rounds;
 pub use closing::is_held;
 pub use linking::HeldNames;
 pub use rounds::{Reached, load_reached};
+pub use wesl_rename::Naming;

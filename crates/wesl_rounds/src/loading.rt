@@ -6,11 +6,10 @@ ghost use Rattle.wesl_rounds.specs.Asked.{StayAsked};
 
 use crate::held_unit::HeldUnit;
 use std::alloc::Global;
-use wesl_closing::Asked;
+use wesl_closing::{Asked, ImportError, Module, Modules, Target};
 use wesl_mark::MarkList;
 use wesl_marks::mark_unit;
 use wesl_resolvers::Resolver;
-use wesl_tables::{ImportError, Module, Modules, Target};
 use wgsl_declarations::TranslationUnit;
 use wgsl_items::{CloneIn, Text};
 use wgsl_path::ModulePath;

@@ -2,9 +2,7 @@
 
 use crate::held_unit::HeldUnit;
 use std::alloc::{AllocError, Global};
-use wesl_closing::{Closing, Reached, all_places, kept_places};
-use wesl_denote::{Denoted, denotation};
-use wesl_tables::{Modules, Spot};
+use wesl_closing::{Closing, Denoted, Modules, Reached, Spot, all_places, denotation, kept_places};
 use wgsl_items::Text;
 
 /// The modules that linking loaded, and what is held of them. The root has number 0. `units` has the trees by the modules' numbers, and

@@ -8,9 +8,10 @@ use crate::held_unit::HeldUnit;
 use crate::loading::{Given, Loaded, given_of, tabulated};
 use crate::resolutions::Resolutions;
 use std::alloc::{AllocError, Global};
-use wesl_closing::{Asked, Closing, all_places, first_missing, kept_places};
+use wesl_closing::{
+    Asked, Closing, ImportError, Module, all_places, first_missing, kept_missing, kept_places,
+};
 use wesl_resolvers::Resolver;
-use wesl_tables::{ImportError, Module, kept_missing};
 use wgsl_declarations::TranslationUnit;
 use wgsl_items::{CloneIn, Text};
 use wgsl_path::ModulePath;

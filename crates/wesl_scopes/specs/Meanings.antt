@@ -13,8 +13,8 @@ use Rattle.wgsl_path.specs.Paths.{path_text}
 use Rattle.wgsl_syntax.specs.Tree.{Decl, Imp, UnitTree}
 use Rattle.wesl_link_spec.specs.Occurrences.{Name, is_among, declared_name}
 use Rattle.wesl_link_spec.specs.Modules.{Symbol, local_name}
-use Rattle.wesl_resolve.specs.declared.error.ResolveError.{ResolveError}
-use Rattle.wesl_resolve.specs.declared.error.ResolveError.TheVariants as resolve
+use Rattle.wesl_link_spec.specs.ResolveError.{ResolveError}
+use Rattle.wesl_link_spec.specs.ResolveError.TheVariants as resolve
 use Rattle.wesl_scopes.specs.declared.error.ImportError.{ImportError}
 use Rattle.wesl_scopes.specs.declared.error.ImportError.TheVariants.{OutOfMemory, DuplicateSymbol, Resolve}
 use Rattle.wesl_scopes.specs.declared.target.Meaning.{Meaning}

@@ -2,7 +2,7 @@
 
 use std::alloc::{AllocError, AllocFailed};
 use thiserror::Error as Message;
-use wesl_resolve::ResolveError;
+use wesl_link_spec::ResolveError;
 use wgsl_items::Text;
 use wgsl_path::ModulePath;
 

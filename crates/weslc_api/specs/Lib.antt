@@ -3,3 +3,8 @@ pub use Rattle.weslc_linking.specs.Answers
 pub use Rattle.weslc_linking.specs.declared.resolver.VirtualResolver
 pub use Rattle.weslc_linking.specs.declared.options.Options
 pub use Rattle.weslc_linking.specs.declared.error.CompileError
+pub use Rattle.weslc_linking.specs.Mapped
+pub use Rattle.weslc_linking.specs.declared.error.ErrorContext
+pub use Rattle.weslc_compiled.specs.Derivable
+pub use Rattle.weslc_linking.specs.declared.options.Mode
+pub use Rattle.weslc_linking.specs.Declared

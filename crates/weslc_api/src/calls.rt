@@ -5,7 +5,7 @@ ghost use Rattle.wgsl_path.specs.Paths.{path_text};
 ghost use Rattle.wesl_resolve.specs.Found.{SameAnswers, SameTexts};
 ghost use Rattle.weslc_linking.specs.Mapped.{HasNames};
 ghost use Rattle.weslc_linking.specs.Asked.{AreAsked, AreAskedAsLoaded};
-ghost use Rattle.wesl_reach.specs.Alone.{only, Alone};
+ghost use Rattle.weslc_linking.specs.Alone.{only, Alone};
 ghost use Rattle.weslc_linking.specs.Answers.{RefusesToLink, RefusesToCompile, IsMapped, IsLinkedText, IsCompiledText};
 
 use std::alloc::Global;

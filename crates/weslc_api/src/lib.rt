@@ -4,6 +4,7 @@
 mod calls;
 
 pub use calls::{compile, link};
+pub use weslc_compiled::{Unprintable, check_unit, print_checked};
 pub use weslc_linking::{
     BasicSourceMap, CompileError, Error, ErrorContext, ErrorKind, EscapeMangler, Fault, Feature,
     Features, ImportError, ImportKind, Mode, NameFault, Options, RecordingResolver, Refusal,

@@ -2,8 +2,8 @@
 use Rattle.std.proofs.Common.{◌≡◌, refl, sym, subst, ℕ, List, ◌⊎◌, inl, inr, Option, Some, None, Result, Ok, Err, String, Global}
 use Rattle.std.specs.Prelude.{IfOk, IfErr, string_bytes}
 use Rattle.wgsl_path.specs.Paths.{path_text}
-use Rattle.weslc_calls.specs.Stored.{text_at}
-use Rattle.weslc_calls.specs.CompileError.{CompileError}
+use Rattle.weslc_whole.specs.Stored.{text_at}
+use Rattle.weslc_whole.specs.CompileError.{CompileError}
 use Rattle.weslc_whole.specs.Whole.{IsBeyond, RefusesPart}
 use Rattle.weslc_whole.specs.declared.refusal.WholeRefusal.{WholeRefusal}
 use Rattle.weslc_whole.specs.declared.refusal.WholeRefusal.TheVariants as whole

@@ -7,7 +7,7 @@ use Rattle.wgsl_path.specs.declared.path.ModulePath.{ModulePath}
 use Rattle.wesl_features.specs.declared.feature.Feature.{Feature}
 use Rattle.weslc_bundle.specs.declared.features.Flag.{Flag}
 use Rattle.weslc_bundle.specs.declared.features.FeatureSettings.{FeatureSettings}
-use Rattle.weslc_linking.specs.declared.options.Mode.{Mode}
+use Rattle.weslc_run.specs.Mode.{Mode}
 use Rattle.weslc_bundle.specs.declared.request.Command.{Command}
 use Rattle.weslc_bundle.specs.declared.request.Module.{Module}
 use Rattle.weslc_bundle.specs.declared.request.Request.{Request}

@@ -24,9 +24,9 @@ use Rattle.weslc_bundle.specs.declared.request.Request.{Request}
 use Rattle.weslc_bundle.specs.declared.bundle.Bundle.{Bundle}
 use Rattle.weslc_bundle.specs.declared.request.BundleError.{BundleError}
 use Rattle.weslc_bundle.specs.declared.request.BundleError.TheVariants.{NotAnObject, UnknownKey, Value, DuplicateModule, OutOfMemory}
-use Rattle.weslc_calls.specs.Options.{Options}
-use Rattle.weslc_linking.specs.declared.options.Mode.{Mode}
-use Rattle.weslc_linking.specs.declared.options.Mode.TheVariants.{Lazy, Eager, Whole}
+use Rattle.weslc_whole.specs.Options.{Options}
+use Rattle.weslc_run.specs.Mode.{Mode}
+use Rattle.weslc_run.specs.Mode.TheVariants.{Lazy, Eager, Whole}
 use Rattle.weslc_bundle.specs.Held.{Holds}
 
 -- ---- answers

@@ -6,15 +6,15 @@ use Rattle.wgsl_path.specs.declared.path.ModulePath.{ModulePath}
 use Rattle.weslc_precompile.specs.declared.error.PrecompileError.{PrecompileError}
 use Rattle.weslc_precompile.specs.declared.error.PrecompileError.TheVariants as precompiling
 use Rattle.weslc_precompile.specs.Precompiling.{IsPrecompiledText, RefusesPrecompiling}
-use Rattle.weslc_calls.specs.Stored.{text_at}
-use Rattle.weslc_calls.specs.Options.{Options}
-use Rattle.weslc_calls.specs.OfPart.{Finding, sources, IsBeyondLink}
+use Rattle.weslc_whole.specs.Stored.{text_at}
+use Rattle.weslc_whole.specs.Options.{Options}
+use Rattle.weslc_whole.specs.OfPart.{Finding, sources, IsBeyondLink}
 use Rattle.weslc_whole.specs.Whole.{IsBeyond}
 use Rattle.weslc_whole.specs.declared.refusal.WholeRefusal.{WholeRefusal}
 use Rattle.weslc_whole.specs.declared.refusal.WholeRefusal.TheVariants as whole
-use Rattle.weslc_calls.specs.Answers.{IsLinkedText, IsCompiledText, RefusesToLink, RefusesToCompile}
-use Rattle.weslc_calls.specs.CompileError.{CompileError}
-use Rattle.weslc_calls.specs.CompileError.TheVariants as calls
+use Rattle.weslc_whole.specs.Answers.{IsLinkedText, IsCompiledText, RefusesToLink, RefusesToCompile}
+use Rattle.weslc_whole.specs.CompileError.{CompileError}
+use Rattle.weslc_whole.specs.CompileError.TheVariants as calls
 use Rattle.weslc_bundle.specs.declared.input.TheConstants.{MAX_BUNDLE_LEN}
 use Rattle.weslc_bundle.specs.declared.input.InputError.{InputError}
 use Rattle.weslc_bundle.specs.declared.input.InputError.TheVariants as input

@@ -9,8 +9,8 @@ use crate::handed::{Asked, read_asked};
 use crate::request::{BundleError, Command, Module, Request};
 use std::alloc::{AllocError, Global};
 use std::collections::BTreeSet;
-use weslc_calls::{Options, VirtualResolver};
 use weslc_values::RunSettings;
+use weslc_whole::{Options, VirtualResolver};
 use wgsl_items::{CloneIn, Items};
 use wgsl_path::ModulePath;
 

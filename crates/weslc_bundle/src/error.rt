@@ -5,10 +5,9 @@ ghost use Rattle.std.specs.Prelude.{◌≡◌};
 use crate::input::InputError;
 use crate::request::BundleError;
 use std::alloc::AllocError;
-use weslc_calls::{CompileError, ErrorContext};
 use weslc_precompile::PrecompileError;
 use weslc_run::RunRefusal;
-use weslc_whole::WholeRefusal;
+use weslc_whole::{CompileError, ErrorContext, WholeRefusal};
 use wgsl_fault::Fault;
 
 /// Why the program writes no text.

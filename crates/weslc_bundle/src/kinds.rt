@@ -1,7 +1,7 @@
 //! The words by which a line tells the kind of an inner fault.
 
 use wesl_features::CondCompError;
-use weslc_calls::{Fault, NameFault, ValidateError};
+use weslc_whole::{Fault, NameFault, ValidateError};
 use wgsl_error::ErrorKind;
 use wgsl_shader_type::Error;
 

@@ -10,7 +10,7 @@ use serde_json::{Map, Value};
 use std::alloc::{AllocError, AllocFailed, Global};
 use std::fmt;
 use std::fmt::Display;
-use weslc_calls::Mode;
+use weslc_whole::Mode;
 use wgsl_items::{Items, Text};
 use wgsl_path::{ModulePath, ModulePathParseError, PathOrigin};
 

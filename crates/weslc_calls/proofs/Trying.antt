@@ -5,9 +5,9 @@ use Rattle.wgsl_path.specs.declared.path.ModulePath.{ModulePath}
 use Rattle.wesl_resolve.specs.Found.{Asked}
 use Rattle.wesl_resolve.specs.declared.source_map.BasicSourceMap.{BasicSourceMap}
 use Rattle.wesl_reach.specs.Alone.{AsksInside}
-use Rattle.weslc_linking.specs.declared.error.ErrorContext.{ErrorContext}
-use Rattle.weslc_linking.specs.declared.error.CompileError.{CompileError}
-use Rattle.weslc_linking.specs.declared.error.CompileError.TheVariants.{Unsupported}
+use Rattle.weslc_api.specs.ErrorContext.{ErrorContext}
+use Rattle.weslc_api.specs.CompileError.{CompileError}
+use Rattle.weslc_api.specs.CompileError.TheVariants.{Unsupported}
 use Rattle.weslc_calls.specs.OfPart.{texts_asked, IfAnswered, IfBeyond}
 use Rattle.weslc_calls.specs.declared.part.Tried.{Tried}
 use Rattle.weslc_calls.specs.declared.part.Tried.TheVariants.{Answered, Beyond}

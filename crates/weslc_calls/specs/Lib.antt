@@ -1,7 +1,13 @@
 pub mod OfPart
 pub mod Plain
-pub use Rattle.weslc_linking.specs.Answers
-pub use Rattle.weslc_linking.specs.declared.options.Options
-pub use Rattle.weslc_linking.specs.declared.error.CompileError
+pub use Rattle.weslc_api.specs.Answers
+pub use Rattle.weslc_api.specs.Options
+pub use Rattle.weslc_api.specs.CompileError
 pub use Rattle.weslc_texts.specs.Stored
 pub use Rattle.weslc_texts.specs.declared.resolver.VirtualResolver
+pub use Rattle.weslc_modules.specs.Found
+pub use Rattle.weslc_api.specs.Mapped
+pub use Rattle.weslc_api.specs.Derivable
+pub use Rattle.weslc_api.specs.ErrorContext
+pub use Rattle.weslc_api.specs.Declared
+pub use Rattle.weslc_texts.specs.Refused

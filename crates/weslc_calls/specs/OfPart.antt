@@ -11,17 +11,17 @@ use Rattle.wesl_resolvers.specs.Found as whole
 use Rattle.wesl_resolve_fn.specs.Applying.{IsMadeOf}
 use Rattle.wesl_preprocess.specs.Conditions.{decided}
 use Rattle.wesl_link_spec.specs.Rounds.{Sources}
-use Rattle.weslc_part.specs.Found.{part_found}
-use Rattle.weslc_linking.specs.declared.options.Options.{Options}
-use Rattle.weslc_linking.specs.declared.options.Mode.{Mode}
-use Rattle.weslc_linking.specs.declared.options.Mode.TheVariants.{Lazy, Eager, Whole}
+use Rattle.weslc_modules.specs.Found.{part_found}
+use Rattle.weslc_api.specs.Options.{Options}
+use Rattle.weslc_api.specs.Mode.{Mode}
+use Rattle.weslc_api.specs.Mode.TheVariants.{Lazy, Eager, Whole}
 use Rattle.wesl_resolve.specs.declared.source_map.BasicSourceMap.{BasicSourceMap}
 use Rattle.weslc_calls.specs.declared.part.Tried.{Tried}
 use Rattle.weslc_calls.specs.declared.part.Tried.TheVariants.{Answered, Beyond}
-use Rattle.weslc_linking.specs.declared.error.ErrorContext.{ErrorContext}
-use Rattle.weslc_linking.specs.declared.error.CompileError.{CompileError}
-use Rattle.weslc_linking.specs.declared.error.CompileError.TheVariants.{Unsupported}
-use Rattle.weslc_linking.specs.Answers.{RefusesToLink, RefusesToCompile}
+use Rattle.weslc_api.specs.ErrorContext.{ErrorContext}
+use Rattle.weslc_api.specs.CompileError.{CompileError}
+use Rattle.weslc_api.specs.CompileError.TheVariants.{Unsupported}
+use Rattle.weslc_api.specs.Answers.{RefusesToLink, RefusesToCompile}
 
 -- what a resolver finds at each path
 abbrev pub Finding : Type 1

@@ -2,9 +2,9 @@
 
 ghost use Rattle.std.specs.Prelude.{◌≡◌, ◌⊎◌, IfOk, IfErr, string_bytes};
 ghost use Rattle.wgsl_path.specs.Paths.{path_text};
-ghost use Rattle.weslc_part.specs.Found.{at_text, part_names};
-ghost use Rattle.weslc_linking.specs.Mapped.{HasNames};
-ghost use Rattle.weslc_linking.specs.Answers.{RefusesToLink, IsMapped, IsLinkedText};
+ghost use Rattle.weslc_modules.specs.Found.{at_text, part_names};
+ghost use Rattle.weslc_api.specs.Mapped.{HasNames};
+ghost use Rattle.weslc_api.specs.Answers.{RefusesToLink, IsMapped, IsLinkedText};
 ghost use Rattle.weslc_calls.specs.OfPart.{sources, IsBeyondLink};
 ghost use Rattle.weslc_calls.specs.Plain.{IsPlain};
 

@@ -1,12 +1,12 @@
 //! The calls of the part of the language whose linking and compiling is proved.
 
 ghost use Rattle.std.specs.Prelude.{◌≡◌, Err, IfOk, IfErr, string_bytes};
-ghost use Rattle.weslc_linking.specs.declared.error.ErrorContext.{ErrorContext};
-ghost use Rattle.weslc_linking.specs.declared.error.CompileError.TheVariants.{Unsupported};
+ghost use Rattle.weslc_api.specs.ErrorContext.{ErrorContext};
+ghost use Rattle.weslc_api.specs.CompileError.TheVariants.{Unsupported};
 ghost use Rattle.wgsl_path.specs.Paths.{path_text};
-ghost use Rattle.weslc_part.specs.Found.{at_text, part_names};
-ghost use Rattle.weslc_linking.specs.Mapped.{HasNames};
-ghost use Rattle.weslc_linking.specs.Answers.{RefusesToLink, RefusesToCompile, IsMapped, IsLinkedText, IsCompiledText};
+ghost use Rattle.weslc_modules.specs.Found.{at_text, part_names};
+ghost use Rattle.weslc_api.specs.Mapped.{HasNames};
+ghost use Rattle.weslc_api.specs.Answers.{RefusesToLink, RefusesToCompile, IsMapped, IsLinkedText, IsCompiledText};
 ghost use Rattle.wesl_reach.specs.Alone.{only, Alone};
 ghost use Rattle.weslc_calls.specs.OfPart.{is_lazy, is_own, sources, texts_asked, IsBeyondLink, IsBeyondCompile, IsBeyondOf, IfAnswered, IfBeyond};
 ghost use Rattle.weslc_calls.specs.Plain.{IsPlain};
@@ -16,7 +16,7 @@ use std::alloc::Global;
 use wesl_preprocess::{Conditions, Preprocessor};
 use wesl_resolvers::Resolver;
 use weslc_api::{BasicSourceMap, CompileError, Mode, Options};
-use weslc_part::{Beyond, PartResolver};
+use weslc_modules::{Beyond, PartResolver};
 use wgsl_path::{ModulePath, PathOrigin};
 
 /// What a call answers.

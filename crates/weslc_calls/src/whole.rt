@@ -2,18 +2,15 @@
 
 ghost use Rattle.std.specs.Prelude.{◌≡◌, IfOk, string_bytes};
 ghost use Rattle.wgsl_declarations.specs.View.{unit_tree};
-ghost use Rattle.wgsl_check_unit.specs.Derivable.{SaysTree};
+ghost use Rattle.weslc_api.specs.Derivable.{SaysTree};
 ghost use Rattle.weslc_calls.specs.Plain.{IsPlain};
 
 use crate::deciding::Decided;
 use std::alloc::Global;
 use wesl_preprocess::{Conditions, Preprocessor};
 use wesl_resolvers::Resolver;
-use wesl_rounds::HeldUnit;
-use weslc_api::{BasicSourceMap, CompileError, Options};
-use weslc_modules::{LinkedModules, link_modules};
-use weslc_part::Beyond;
-use wgsl_check_unit::{Unprintable, print_checked};
+use weslc_api::{BasicSourceMap, CompileError, Options, Unprintable, print_checked};
+use weslc_modules::{Beyond, HeldUnit, LinkedModules, link_modules};
 use wgsl_declarations::let_go;
 use wgsl_error::Refusal;
 use wgsl_path::ModulePath;

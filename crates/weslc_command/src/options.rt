@@ -3,6 +3,7 @@
 use crate::request::Verb;
 use clap::{Arg, ArgAction, Command, value_parser};
 use std::alloc::{AllocError, Global};
+use weslc_version::VERSION;
 
 static SETTINGS: [&str; 4] = ["enable", "disable", "keep", "error"];
 
@@ -307,7 +308,7 @@ fn with_commands<'a>(
 pub(crate) fn wesl_command<'a>(alloc: Global) -> Result<Command<'a>, AllocError> {
     let command = Command::new(alloc, "wesl")
         .about("Links and runs WESL shader modules that lie in folders")
-        .version("0.1.0")
+        .version(VERSION)
         .subcommand_required(true)
         .arg_required_else_help(true);
     with_commands(alloc, command, OPTIONS.as_slice())

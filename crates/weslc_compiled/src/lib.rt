@@ -4,4 +4,6 @@
 mod compile;
 
 pub use compile::compile_unit;
-pub use weslc_unit::{PrintError, UnitRefusal, parse_part, print_part};
+pub use weslc_unit::{
+    PrintError, UnitRefusal, Unprintable, check_unit, parse_part, print_checked, print_part,
+};

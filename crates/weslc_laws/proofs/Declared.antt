@@ -5,10 +5,10 @@ use Rattle.wgsl_syntax.specs.Names.{declared_name}
 use Rattle.wgsl_meaning.specs.Values.{Checked, and_then}
 use Rattle.wgsl_meaning.specs.Names.{Name}
 use Rattle.wgsl_meaning.specs.ConstStage.{Scope, module_scope}
-use Rattle.wgsl_eval.specs.declared.error.DeclarationFault.{DeclarationFault}
-use Rattle.wgsl_eval.specs.Start.{then_more, consts_of}
-use Rattle.wgsl_lower_expressions.specs.Lowered.{Lowers}
-use Rattle.wgsl_lower_expressions.specs.Computed.{refusing, lowered_attributes, lowered_parameters, parameter_types, checked_type, lowered_body, with_parameters, lowered_rest, lowered_function, lowered_declarations}
+use Rattle.wgsl_lower.specs.DeclarationFault.{DeclarationFault}
+use Rattle.wgsl_lower.specs.Start.{then_more, consts_of}
+use Rattle.wgsl_lower.specs.Lowered.{Lowers}
+use Rattle.wgsl_lower.specs.Computed.{refusing, lowered_attributes, lowered_parameters, parameter_types, checked_type, lowered_body, with_parameters, lowered_rest, lowered_function, lowered_declarations}
 use Rattle.wgsl_lower.proofs.Same.{computed_same}
 use Rattle.wesl_link_spec.specs.Modules.{Path, Symbol, Modules, Declares, local_name, IsDeclaration}
 use Rattle.wesl_link_spec.specs.Names.{IsPrinted}

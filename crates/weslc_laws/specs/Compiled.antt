@@ -7,12 +7,12 @@ use Rattle.wgsl_part_texts.specs.Texts.{IsTextOf}
 use Rattle.wesl_link_spec.specs.Occurrences.{Name}
 use Rattle.wesl_link_spec.specs.Modules.{Path, Modules}
 use Rattle.wgsl_instance.specs.declared.tree.Instance.{Instance}
-use Rattle.wgsl_programs.specs.Names.{Symbol}
-use Rattle.wgsl_programs.specs.Programs.{Program, here}
-use Rattle.wgsl_programs.specs.Runs.{Handed, EndsWell, program_of}
+use Rattle.wesl_meaning.specs.Names.{Symbol}
+use Rattle.wesl_meaning.specs.Programs.{Program, here}
+use Rattle.wesl_meaning.specs.ProgramsRuns.{Handed, EndsWell, program_of}
 use Rattle.wesl_meaning.specs.Runs.{AreLinkedWell}
 use Rattle.wesl_meaning.specs.Executions.{IsProgramIn}
-use Rattle.wgsl_lower_expressions.specs.Lowered.{Lowers}
+use Rattle.wgsl_lower.specs.Lowered.{Lowers}
 use Rattle.wgsl_lower.specs.Keeps.{AreClear}
 
 -- the symbol of a name of the root

@@ -10,7 +10,7 @@ use Rattle.wesl_link_spec.specs.Rounds.{Sources, IsLoadingResult}
 use Rattle.wesl_link_spec.specs.Kept.{kept_names}
 use Rattle.wesl_meaning.specs.Runs.{AreLinkedWell}
 use Rattle.wesl_meaning.specs.Declared.{DeclaresWhatIsHeld}
-use Rattle.wgsl_lower_expressions.specs.Lowered.{Lowers}
+use Rattle.wgsl_lower.specs.Lowered.{Lowers}
 use Rattle.wgsl_lower.specs.Keeps.{AreClear}
 use Rattle.weslc_laws.specs.Compiled.{RunsAsItsSources, RunsExactlyAsItsSources}
 use Rattle.weslc_laws.specs.Declared.{DeclaresHeldFunctions}

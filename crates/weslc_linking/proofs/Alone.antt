@@ -9,7 +9,7 @@ use Rattle.wesl_resolve.specs.declared.source_map.BasicSourceMap.{BasicSourceMap
 use Rattle.wesl_link_spec.specs.Occurrences.{Name}
 use Rattle.wesl_link_spec.specs.Modules.{Path, Modules}
 use Rattle.wesl_link_spec.specs.Rounds.{Sources, LoadError, Loads, all_loaded, one_too_many, is_not_found, is_faulty, is_unsupported, has_a_name_twice, loaded_then_refused, loaded, LoadsRounds, an_occurrence_refused, nothing_asked, a_module_refused, a_round, IsLoadingResult, root_refused, kept_name_missing, goes_on}
-use Rattle.wesl_meaning.proofs.Loading.{found_modules}
+use Rattle.weslc_laws.proofs.Loading.{found_modules}
 use Rattle.weslc_laws.specs.Headline.{AreKept, IsLinkedFrom}
 use Rattle.weslc_linking.specs.Mapped.{Texts}
 use Rattle.weslc_linking.specs.Answers.{AreLoadedFrom, IsRefusedLoading, of_the_root, behind_the_root, RefusesLinking, IsToldFrom, IsRefusedUnit, RefusesToCompile, IsCompiledText, IsMapped}

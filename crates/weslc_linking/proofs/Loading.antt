@@ -26,9 +26,9 @@ use Rattle.wesl_scopes.specs.declared.module.Module.{Module as Loaded}
 use Rattle.wesl_scopes.proofs.ScopeLemmas.{map_get}
 use Rattle.wesl_scopes.specs.declared.error.ImportError.{ImportError}
 use Rattle.wesl_scopes.specs.declared.error.ImportError.TheVariants as import
-use Rattle.wesl_meaning.proofs.Loading.{loaded_modules, found_modules}
+use Rattle.weslc_laws.proofs.Loading.{loaded_modules, found_modules}
 use Rattle.weslc_laws.specs.Headline.{IsLinkedFrom}
-use Rattle.wesl_meaning.proofs.Same.{same_turned, clash_free_in_any_order, linked_in_any_order, first_clash_in_any_order}
+use Rattle.weslc_laws.proofs.Same.{same_turned, clash_free_in_any_order, linked_in_any_order, first_clash_in_any_order}
 use Rattle.wesl_reach.specs.Missing.{refusal_of}
 use Rattle.wesl_reach.specs.Answers.{Refuses}
 use Rattle.wesl_reach.specs.Resolved.{modules_of, IsResolved}

@@ -7,8 +7,8 @@ use Rattle.wesl_link_spec.specs.Occurrences.{Name, declared_name}
 use Rattle.wesl_link_spec.specs.Modules.{Path, Modules, Declares}
 use Rattle.wesl_link_spec.specs.Rounds.{Sources}
 use Rattle.wesl_link.specs.Recording.{Telling, IsHeldAs}
-use Rattle.wesl_meaning.specs.Runs.{AreLinkedWell}
-use Rattle.wesl_meaning.proofs.Declared.{linked_units_declare_what_is_held}
+use Rattle.weslc_laws.specs.Runs.{AreLinkedWell}
+use Rattle.weslc_laws.proofs.MeaningDeclared.{linked_units_declare_what_is_held}
 use Rattle.wesl_validate.specs.Scopes.{name_of, names}
 use Rattle.weslc_unit.specs.declared.error.UnitRefusal.{UnitRefusal}
 use Rattle.weslc_unit.specs.Compiled.{Refuses}

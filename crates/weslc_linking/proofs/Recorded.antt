@@ -11,8 +11,8 @@ use Rattle.wesl_link_spec.specs.Names.{IsPrinted, stays, is_mangled}
 use Rattle.wesl_link_spec.specs.Loaded.{IsClashFree}
 use Rattle.wesl_link_spec.specs.Same.{SameModules}
 use Rattle.wesl_scopes.proofs.ScopeLemmas.{same_name, self_name}
-use Rattle.wesl_meaning.proofs.Same.{same_turned, same_units}
-use Rattle.wesl_meaning.proofs.Moves.{reached_moves}
+use Rattle.weslc_laws.proofs.Same.{same_turned, same_units}
+use Rattle.weslc_laws.proofs.Moves.{reached_moves}
 use Rattle.wesl_link.specs.Recording.{Source, Telling, source_symbol, IsHeldAs, IsSourceOf, AreTold}
 use Rattle.weslc_linking.specs.Mapped.{nothing_told, TellsHeld}
 

@@ -2,8 +2,8 @@
 use Rattle.std.proofs.Common.{◌≡◌, refl, ap, List, ℕ, Option, Some}
 use Rattle.wgsl_error.specs.declared.error.Error.{Error}
 use Rattle.wgsl_syntax.specs.Tree.{UnitTree}
-use Rattle.wgsl_parser.specs.Texts.{IsModuleFault}
-use Rattle.wgsl_parser.proofs.Once.{module_fault_once}
+use Rattle.weslc_laws.specs.ParserTexts.{IsModuleFault}
+use Rattle.weslc_laws.proofs.Once.{module_fault_once}
 use Rattle.weslc_unit.specs.Texts.{IsUnitOfPart, IsBeyondPart}
 use Rattle.weslc_unit.proofs.Whole.{texts_have_one_unit, texts_are_one_thing}
 use Rattle.wesl_resolve.specs.Found.{Answer, unit_of, not_found, faulty, unsupported}

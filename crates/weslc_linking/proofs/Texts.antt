@@ -5,7 +5,7 @@ use Rattle.wgsl_syntax.specs.Print.{unit_text}
 use Rattle.wesl_link_spec.specs.Occurrences.{Name}
 use Rattle.wesl_link_spec.specs.Modules.{Path}
 use Rattle.wesl_link_spec.specs.Rounds.{Sources}
-use Rattle.wesl_meaning.proofs.Existing.{linked_modules_have_one}
+use Rattle.weslc_laws.proofs.Existing.{linked_modules_have_one}
 use Rattle.weslc_unit.specs.Texts.{IsTextOf}
 use Rattle.weslc_unit.specs.Compiled.{IsCompiled}
 use Rattle.weslc_unit.proofs.ClearLemmas.{clear-names}

@@ -13,8 +13,8 @@ use Rattle.wesl_link_spec.specs.Kept.{kept_names}
 use Rattle.wesl_link_spec.specs.Loaded.{IsClashFree}
 use Rattle.wesl_link_spec.specs.Clashing.{IsFirstClash}
 use Rattle.wesl_link_spec.specs.Same.{SameModules}
-use Rattle.wesl_meaning.specs.Programs.{Program}
-use Rattle.wesl_meaning.specs.Executions.{IsProgramIn}
+use Rattle.weslc_laws.specs.Programs.{Program}
+use Rattle.weslc_laws.specs.Executions.{IsProgramIn}
 use Rattle.wesl_reach.specs.Resolved.{modules_of, IsResolved}
 use Rattle.wesl_link.specs.declared.rounds.Resolutions.{Resolutions}
 use Rattle.weslc_unit.specs.Texts as part

@@ -5,3 +5,5 @@ pub mod Answers
 pub mod Mapped
 pub mod Asked
 pub use Rattle.weslc_laws.specs.Headline
+pub use Rattle.wesl_reach.specs.Alone
+pub use Rattle.weslc_laws.specs.Declared

@@ -9,7 +9,7 @@ use Rattle.wesl_scopes.specs.declared.error.ImportError.TheVariants as import
 use Rattle.wgsl_meaning.specs.declared.fault.Fault.{Fault}
 use Rattle.wgsl_meaning.specs.declared.fault.Fault.TheVariants.{StepLimit, Operation, Deferred, NegativeAttr, Name as Named}
 use Rattle.wesl_validate.specs.declared.error.ValidateFault.{ValidateFault}
-use Rattle.wgsl_eval.specs.declared.error.DeclarationFault.{DeclarationFault}
+use Rattle.weslc_laws.specs.DeclarationFault.{DeclarationFault}
 use Rattle.weslc_unit.specs.declared.error.UnitRefusal.{UnitRefusal}
 use Rattle.weslc_unit.specs.declared.error.UnitRefusal.TheVariants as of
 use Rattle.wesl_link.specs.Recording.{Source, Telling}

@@ -1,7 +1,7 @@
 //! Modules of the whole language, loaded, and linked into one unit.
 
 ghost use Rattle.std.specs.Prelude.{◌≡◌, [], IfOk};
-ghost use Rattle.wesl_rounds.specs.Asked.{StayAsked};
+ghost use Rattle.weslc_part.specs.Asked.{StayAsked};
 
 use crate::map::source_map;
 use crate::refusal::{of_import, of_resolve};
@@ -9,10 +9,9 @@ use std::alloc::{AllocError, Global};
 use wesl_assemble::{Numbering, assemble, number_held};
 use wesl_check::names_clash;
 use wesl_resolvers::Resolver;
-use wesl_rounds::{HeldUnit, Resolutions, resolve_eager, resolve_lazy, test_root};
 use wesl_tables::{Module, Modules, Spot};
 use weslc_linking::{BasicSourceMap, CompileError, EscapeMangler, Mode, Options};
-use weslc_part::Beyond;
+use weslc_part::{Beyond, HeldUnit, Resolutions, resolve_eager, resolve_lazy, test_root};
 use wgsl_items::Text;
 use wgsl_path::ModulePath;
 

@@ -1,7 +1,7 @@
 //! From the linked unit back to the modules.
 
 ghost use Rattle.std.specs.Prelude.{◌≡◌};
-ghost use Rattle.wesl_rounds.specs.Asked.{StayAsked};
+ghost use Rattle.weslc_part.specs.Asked.{StayAsked};
 
 use crate::refusal::of_resolve;
 use std::alloc::{AllocError, Global};

@@ -1,2 +1,3 @@
 mod Reading
 mod Telling
+pub use Rattle.wesl_rounds.proofs.Asking

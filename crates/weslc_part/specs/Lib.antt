@@ -1,2 +1,3 @@
 pub mod Found
 pub mod Laws
+pub use Rattle.wesl_rounds.specs.Asked

@@ -5,3 +5,4 @@ mod narrowing;
 mod resolver;
 
 pub use resolver::{Beyond, PartResolver};
+pub use wesl_rounds::{HeldUnit, Resolutions, resolve_eager, resolve_lazy, test_root};

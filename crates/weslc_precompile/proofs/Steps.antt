@@ -6,7 +6,7 @@ use Rattle.wgsl_declarations.specs.Tree.{UnitTree}
 use Rattle.wgsl_declarations.specs.View.{unit_tree}
 use Rattle.wgsl_error.specs.declared.error.Error.{Error}
 use Rattle.wgsl_error.specs.Errors.{refusal_of, IsRefusal}
-use Rattle.wgsl_parser.specs.Texts.{IsModuleFault}
+use Rattle.wgsl_check_unit.specs.Texts.{IsModuleFault}
 use Rattle.wesl_features.specs.declared.feature.Features.{Features}
 use Rattle.wesl_features.specs.declared.error.CondCompError.{CondCompError}
 use Rattle.wesl_features.specs.declared.error.CondCompError.TheVariants as cond_error

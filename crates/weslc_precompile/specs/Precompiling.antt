@@ -8,7 +8,7 @@ use Rattle.wgsl_declarations.specs.Print.{unit_text}
 use Rattle.wgsl_error.specs.declared.error.Error.{Error}
 use Rattle.wgsl_error.specs.declared.error.Refusal.TheVariants as why
 use Rattle.wgsl_error.specs.Errors.{refusal_of}
-use Rattle.wgsl_parser.specs.Texts.{IsModuleFault}
+use Rattle.wgsl_check_unit.specs.Texts.{IsModuleFault}
 use Rattle.wgsl_check_unit.specs.Derivable.{Says, SaysTree, IsDerivable}
 use Rattle.wgsl_check_unit.specs.Telling.{IsToldOf}
 use Rattle.wesl_features.specs.declared.feature.Features.{Features}

@@ -7,3 +7,4 @@ mod text;
 
 pub use error::PrecompileError;
 pub use text::precompile;
+pub use wgsl_check_unit::{Unprintable, check_unit, parse_str};

@@ -9,9 +9,9 @@ use crate::error::PrecompileError;
 use crate::print::print_back;
 use std::alloc::Global;
 use wesl_cond::{CondCompError, Features, run};
+use wgsl_check_unit::{Error, parse_str};
 use wgsl_declarations::{TranslationUnit, let_go};
 use wgsl_error::Refusal;
-use wgsl_parser::{Error, parse_str};
 
 /// Fixes the flags of a module.
 #[tactic(auto, using(crate::proofs::Steps::condition_told))]

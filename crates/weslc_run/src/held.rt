@@ -4,8 +4,7 @@
 use std::alloc::{AllocError, Global};
 use wesl_resolvers::Resolver;
 use weslc_api::{CompileError, Options};
-use weslc_modules::{LinkedModules, link_modules};
-use weslc_part::Beyond;
+use weslc_modules::{Beyond, LinkedModules, link_modules};
 use wgsl_context::Context;
 use wgsl_declarations::TranslationUnit;
 use wgsl_path::ModulePath;

@@ -3,10 +3,9 @@
 use crate::fault::{FaultPlace, RunError, RunFault};
 use std::alloc::{AllocError, AllocFailed, Global};
 use wesl_tables::{Modules, Spot};
-use weslc_api::{CompileError, Error, ErrorContext};
+use weslc_api::{CompileError, Error, ErrorContext, Unprintable, check_unit};
 use weslc_modules::LinkedModules;
 use weslc_question::OWN_NAME;
-use wgsl_check_unit::{Unprintable, check_unit};
 use wgsl_declarations::TranslationUnit;
 use wgsl_error::Refusal;
 use wgsl_fault::Fault;

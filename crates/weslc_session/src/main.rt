@@ -10,16 +10,22 @@ mod session;
 use std::io;
 use std::io::BufReader;
 use std::process::ExitCode;
+use weslc_version::answer_command_line;
 
-fn run(rt: &HostRuntime) -> io::Result<()> {
-    let mut reader = BufReader::new(rt.alloc(), rt.stdin())?;
+fn run(rt: &HostRuntime) -> io::Result<u8> {
     let mut writer = rt.stdout();
-    session::serve(rt.alloc(), &mut reader, &mut writer)
+    let mut errors = rt.stderr();
+    if let Some(status) = answer_command_line(rt, "weslc_session", &mut writer, &mut errors)? {
+        return Ok(status);
+    }
+    let mut reader = BufReader::new(rt.alloc(), rt.stdin())?;
+    session::serve(rt.alloc(), &mut reader, &mut writer)?;
+    Ok(0)
 }
 
 fn main(rt: HostRuntime) -> ExitCode {
     match run(&rt) {
-        Ok(()) => ExitCode::from(0),
+        Ok(status) => ExitCode::from(status),
         Err(_) => ExitCode::from(1),
     }
 }

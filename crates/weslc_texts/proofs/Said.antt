@@ -5,8 +5,8 @@ use Rattle.wgsl_error.specs.declared.error.Error.{Error}
 use Rattle.wgsl_error.specs.Errors.{IsRefusal}
 use Rattle.wgsl_declarations.specs.Tree.{UnitTree}
 use Rattle.wgsl_declarations.specs.View.{unit_tree}
-use Rattle.wgsl_parser.specs.Texts.{IsModuleFault}
-use Rattle.wgsl_parser.proofs.Once.{module_fault_once, module_apart}
+use Rattle.wgsl_read_back.specs.Texts.{IsModuleFault}
+use Rattle.wgsl_read_back.proofs.Once.{module_fault_once, module_apart}
 use Rattle.wgsl_read_back.proofs.One.{texts_have_one_module}
 use Rattle.wesl_resolvers.specs.Found.{Answer, unit_of, not_found, faulty, conditioned, left_open, TellsUnit}
 use Rattle.wesl_resolvers.specs.declared.error.ResolveError.{ResolveError}

@@ -6,7 +6,7 @@ use Rattle.std.specs.Str.{bytes_eq}
 use Rattle.std.specs.HashMap.{values}
 use Rattle.wgsl_path.specs.Paths.{path_text}
 use Rattle.wgsl_path.specs.declared.path.ModulePath.{ModulePath}
-use Rattle.wgsl_parser.specs.Texts.{IsModuleFault, ParsesModule}
+use Rattle.wgsl_read_back.specs.Texts.{IsModuleFault, ParsesModule}
 use Rattle.wgsl_declarations.specs.Tree.{UnitTree}
 use Rattle.wgsl_declarations.specs.View.{unit_tree}
 use Rattle.wgsl_declarations.specs.declared.unit.TranslationUnit.{TranslationUnit}

@@ -8,8 +8,8 @@ use std::alloc::{AllocError, Global};
 use wesl_resolvers::{ResolveError, Resolver};
 use wgsl_declarations::TranslationUnit;
 use wgsl_items::{CloneIn, Text};
-use wgsl_parser::parse_str;
 use wgsl_path::ModulePath;
+use wgsl_read_back::parse_str;
 
 #[derive(Debug, Drop)]
 struct VirtualModule {

@@ -11,7 +11,7 @@ use Rattle.wesl_validate.specs.declared.error.ValidateFault.{ValidateFault}
 use Rattle.wesl_validate.specs.declared.place.Row.{Row}
 use Rattle.wesl_validate.specs.First.{first}
 use Rattle.wesl_validate.specs.Rings.{IsFirstOnRing}
-use Rattle.wgsl_eval.specs.declared.error.DeclarationFault.{DeclarationFault}
+use Rattle.wgsl_lower.specs.DeclarationFault.{DeclarationFault}
 use Rattle.wgsl_lower.specs.Lowered.{Lowers}
 use Rattle.wgsl_lower.proofs.Once.{lowered_once}
 use Rattle.wesl_validate.specs.Faults.{fault, IsFaultless, IsFirstFault, duplicate, undefined, miscall, ring}

@@ -4,8 +4,8 @@ use std::alloc::AllocError;
 use thiserror::Error as Message;
 use wesl_validate::ValidateFault;
 use wgsl_error::Refusal;
-use wgsl_eval::DeclarationFault;
 use wgsl_items::Text;
+use wgsl_lower::DeclarationFault;
 
 /// Why a linked unit is not compiled. The first fault is named, in the order of these variants; names are those of the
 /// linked unit.

@@ -8,5 +8,7 @@ pub mod laws;
 pub use compiled::print_lowered;
 pub use error::UnitRefusal;
 pub use wesl_validate::{ValidateError, ValidateFault};
-pub use wgsl_eval::{DeclarationFault, Fault, NameFault};
-pub use wgsl_part_texts::{PartError, PrintError, parse_part, print_part};
+pub use wgsl_lower::{DeclarationFault, Fault, NameFault};
+pub use wgsl_part_texts::{
+    PartError, PrintError, Unprintable, check_unit, parse_part, print_checked, print_part,
+};

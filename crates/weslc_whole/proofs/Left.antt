@@ -6,7 +6,7 @@ use Rattle.wgsl_meaning.specs.declared.fault.Fault.TheVariants.{Name}
 use Rattle.wgsl_meaning.specs.declared.fault.NameFault.{NameFault}
 use Rattle.wgsl_meaning.specs.declared.fault.NameFault.TheVariants.{Todo}
 use Rattle.wesl_link_spec.specs.Rounds.{Sources}
-use Rattle.weslc_linking.specs.declared.error.ErrorContext.{ErrorContext}
+use Rattle.weslc_calls.specs.ErrorContext.{ErrorContext}
 use Rattle.weslc_calls.specs.Options.{Options}
 use Rattle.weslc_calls.specs.CompileError.{CompileError}
 use Rattle.weslc_calls.specs.CompileError.TheVariants as calls

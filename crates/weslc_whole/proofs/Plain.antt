@@ -8,13 +8,13 @@ use Rattle.wgsl_declarations.specs.declared.declaration.GlobalDeclaration.TheVar
 use Rattle.wgsl_declarations.specs.declared.unit.TranslationUnit.{TranslationUnit}
 use Rattle.wgsl_declarations.specs.Tree as tree
 use Rattle.wgsl_declarations.specs.View.{declaration_tree, declarations_tree, unit_tree}
-use Rattle.wgsl_check_unit.specs.Derivable.{SaysTree}
+use Rattle.weslc_calls.specs.Derivable.{SaysTree}
 use Rattle.wgsl_lowered.specs.Lowered as code_spec
 use Rattle.wgsl_lowered.specs.Lowered.{AllStay}
-use Rattle.wesl_visit_expressions_in_modules.specs.Modules.{around_expressions_in_declaration, around_expressions_in_unit}
+use Rattle.wgsl_guard.specs.Modules.{around_expressions_in_declaration, around_expressions_in_unit}
 use Rattle.wgsl_syntax.specs.Tree.{Decl, variable, function}
 use Rattle.wgsl_part.specs.Widening.{widen_decl, widen_unit}
-use Rattle.weslc_laws.specs.Declared.{functions_of}
+use Rattle.weslc_calls.specs.Declared.{functions_of}
 use Rattle.weslc_calls.specs.OfPart.{Finding, sources}
 use Rattle.weslc_calls.specs.Options.{Options}
 use Rattle.weslc_calls.specs.Answers.{IsCompiledText}

@@ -8,7 +8,7 @@ use Rattle.wgsl_meaning.specs.declared.fault.NameFault.TheVariants.{Todo}
 use Rattle.wesl_resolve.specs.Found.{unit_of}
 use Rattle.wesl_link_spec.specs.Modules.{Path}
 use Rattle.wesl_link_spec.specs.Rounds.{Sources}
-use Rattle.weslc_linking.proofs.Alone.{AreFoundToo, compiled_too, refuses_too, mapped_too}
+use Rattle.weslc_calls.proofs.Alone.{AreFoundToo, compiled_too, refuses_too, mapped_too}
 use Rattle.weslc_calls.specs.CompileError.TheVariants as calls
 use Rattle.weslc_calls.specs.Options.{Options}
 use Rattle.weslc_whole.specs.declared.refusal.WholeRefusal.{WholeRefusal}

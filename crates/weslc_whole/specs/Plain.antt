@@ -3,7 +3,7 @@ use Rattle.std.specs.Prelude.{◌≡◌, ℕ, List, [], Bool, true, false, not}
 use Rattle.std.specs.List.{All}
 use Rattle.wgsl_declarations.specs.Tree.{Decl, variable, alias, structure, function, assertion, UnitTree}
 use Rattle.wgsl_lowered.specs.Lowered.{is_const}
-use Rattle.wgsl_check_unit.specs.Derivable.{SaysTree}
+use Rattle.weslc_calls.specs.Derivable.{SaysTree}
 
 -- a variable, an override, a structure or a function: no const, alias or assertion
 abbrev pub stays : Decl → Bool

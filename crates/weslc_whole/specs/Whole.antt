@@ -11,7 +11,7 @@ use Rattle.wesl_link_spec.specs.Modules.{Path}
 use Rattle.wesl_link_spec.specs.Rounds.{Sources}
 use Rattle.wesl_resolvers.specs.Found.{Asked}
 use Rattle.wesl_rounds.specs.Asked.{IsAsked}
-use Rattle.weslc_linking.specs.declared.error.ErrorContext.{ErrorContext}
+use Rattle.weslc_calls.specs.ErrorContext.{ErrorContext}
 use Rattle.weslc_calls.specs.Options.{Options}
 use Rattle.weslc_calls.specs.CompileError.{CompileError}
 use Rattle.weslc_calls.specs.CompileError.TheVariants as calls

@@ -2,8 +2,8 @@
 
 ghost use Rattle.std.specs.Prelude.{◌≡◌, ◌⊎◌, true, IfOk, IfErr, string_bytes};
 ghost use Rattle.wgsl_path.specs.Paths.{path_text};
-ghost use Rattle.weslc_part.specs.Found.{at_text, part_names};
-ghost use Rattle.weslc_linking.specs.Mapped.{HasNames};
+ghost use Rattle.weslc_calls.specs.Found.{at_text, part_names};
+ghost use Rattle.weslc_calls.specs.Mapped.{HasNames};
 ghost use Rattle.wesl_reach.specs.Alone.{only};
 ghost use Rattle.weslc_calls.specs.OfPart.{sources};
 ghost use Rattle.weslc_calls.specs.Answers.{IsMapped, IsCompiledText};

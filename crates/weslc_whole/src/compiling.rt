@@ -8,13 +8,12 @@ ghost use Rattle.weslc_whole.specs.Plain.{IsPlain};
 use crate::held::HeldModules;
 use crate::refusal::{WholeRefusal, told};
 use std::alloc::Global;
-use wesl_check::unclear_name;
-use wesl_preprocess::{Conditions, Preprocessor};
 use wesl_resolvers::Resolver;
-use weslc_calls::{BasicSourceMap, Beyond, CompileError, Decided, ErrorContext, Options};
-use weslc_modules::{LinkedModules, validate};
+use weslc_calls::{
+    BasicSourceMap, Beyond, CompileError, Conditions, Decided, ErrorContext, LinkedModules,
+    Options, Preprocessor, Unprintable, print_checked, unclear_name, validate,
+};
 use wgsl_builtin::builtin_names;
-use wgsl_check_unit::{Unprintable, print_checked};
 use wgsl_declarations::TranslationUnit;
 use wgsl_error::Refusal;
 use wgsl_guard::guard_templates;

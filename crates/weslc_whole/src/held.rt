@@ -5,8 +5,7 @@ ghost use Rattle.wesl_rounds.specs.Asked.{StayAsked};
 
 use std::alloc::Global;
 use wesl_resolvers::Resolver;
-use weslc_calls::{BasicSourceMap, Beyond, CompileError, Options};
-use weslc_modules::{LinkedModules, link_modules};
+use weslc_calls::{BasicSourceMap, Beyond, CompileError, LinkedModules, Options, link_modules};
 use wgsl_path::ModulePath;
 
 /// Linked modules.

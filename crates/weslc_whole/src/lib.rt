@@ -8,3 +8,9 @@ mod refusal;
 
 pub use calls::compile;
 pub use refusal::WholeRefusal;
+pub use weslc_calls::{
+    BasicSourceMap, CompileError, ErrorContext, EscapeMangler, Fault, Feature, ImportKind, Mode,
+    NameFault, Options, ResolveError, ResolveKind, SourceMap, Tried, ValidateError,
+    VirtualResolver, link, try_compile,
+};
+pub use wgsl_lowered::{Refused, lower};

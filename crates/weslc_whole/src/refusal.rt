@@ -2,8 +2,7 @@
 
 use std::alloc::{AllocError, Global};
 use wesl_tables::Spot;
-use weslc_calls::{CompileError, ErrorContext};
-use weslc_modules::LinkedModules;
+use weslc_calls::{CompileError, ErrorContext, LinkedModules};
 use wgsl_fault::{EvalError, Fault};
 use wgsl_items::{CloneIn, OrOutOfMemory, Text};
 use wgsl_lowered::{Place, Refused};

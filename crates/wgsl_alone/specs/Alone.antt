@@ -1,7 +1,7 @@
 -- Modules of one declaration.
 use Rattle.std.specs.Prelude.{[], ◌∷◌, Option}
 use Rattle.std.specs.List.{cons_option}
-use Rattle.wgsl_declarations.specs.Tree.{Decl, UnitTree}
+use Rattle.wgsl_nodes_in_order.specs.DeclarationsTree.{Decl, UnitTree}
 
 -- the module of a declaration alone
 abbrev pub alone : Decl → UnitTree

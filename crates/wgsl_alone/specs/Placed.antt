@@ -1,10 +1,10 @@
 -- A node in a declaration that holds it alone.
 use Rattle.std.specs.Prelude.{ℕ, List, [], ◌∷◌, Option, Some, None, codes}
 use Rattle.wgsl_path.specs.Paths.{ident_of}
-use Rattle.wgsl_declarations.specs.declared.declaration.Function.{Function}
-use Rattle.wgsl_statements.specs.Tree as statement
-use Rattle.wgsl_statements.specs.Tree.{block}
-use Rattle.wgsl_declarations.specs.Tree.{Decl, alias, structure, function, assertion}
+use Rattle.wgsl_nodes_in_order.specs.Function.{Function}
+use Rattle.wgsl_nodes_in_order.specs.StatementsTree as statement
+use Rattle.wgsl_nodes_in_order.specs.StatementsTree.{block}
+use Rattle.wgsl_nodes_in_order.specs.DeclarationsTree.{Decl, alias, structure, function, assertion}
 use Rattle.wgsl_nodes_in_order.specs.Nodes.{Node, attribute_node, expression_node, type_node, statement_node, member_node, parameter_node}
 
 -- a function `f` with nothing in it

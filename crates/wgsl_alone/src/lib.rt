@@ -5,4 +5,4 @@ mod module;
 mod placed;
 
 pub use module::{with_declaration, with_node};
-pub use wgsl_nodes_in_order::NodeRef;
+pub use wgsl_nodes_in_order::{NodeRef, find_directive_nodes, find_nodes};

@@ -1,16 +1,15 @@
 //! Modules of one declaration.
 
 ghost use Rattle.std.specs.Prelude.{◌≡◌, IfOk};
-ghost use Rattle.wgsl_declarations.specs.View.{declaration_tree, unit_tree};
+ghost use Rattle.wgsl_nodes_in_order.specs.DeclarationsView.{declaration_tree, unit_tree};
 ghost use Rattle.wgsl_nodes_in_order.specs.Found.{node_of};
 ghost use Rattle.wgsl_alone.specs.Placed.{holding};
 ghost use Rattle.wgsl_alone.specs.Alone.{alone, at_most_one};
 
 use crate::placed::placed;
 use std::alloc::{AllocError, Global};
-use wgsl_declarations::{GlobalDeclaration, TranslationUnit};
 use wgsl_items::{CloneIn, FromIn};
-use wgsl_nodes_in_order::NodeRef;
+use wgsl_nodes_in_order::{GlobalDeclaration, NodeRef, TranslationUnit};
 use wgsl_path::Spanned;
 
 fn module_of(alloc: Global, declaration: GlobalDeclaration) -> Result<TranslationUnit, AllocError>

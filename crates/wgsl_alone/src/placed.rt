@@ -3,23 +3,22 @@
 ghost use Rattle.std.specs.Prelude.{◌≡◌, ◌∷◌, [], Some, None, codes, IfOk};
 ghost use Rattle.wgsl_attributes.specs.View.{attribute_tree};
 ghost use Rattle.wgsl_expressions.specs.View.{tree, type_tree};
-ghost use Rattle.wgsl_statements.specs.View.{statement_tree, stms};
-ghost use Rattle.wgsl_declarations.specs.View.{declaration_tree, member_tree, parameter_tree};
+ghost use Rattle.wgsl_nodes_in_order.specs.StatementsView.{statement_tree, stms};
+ghost use Rattle.wgsl_nodes_in_order.specs.DeclarationsView.{declaration_tree, member_tree, parameter_tree};
 ghost use Rattle.wgsl_nodes_in_order.specs.Nodes.{attribute_node, expression_node, type_node, statement_node, member_node, parameter_node};
 ghost use Rattle.wgsl_nodes_in_order.specs.Found.{node_of};
 ghost use Rattle.wgsl_alone.specs.Placed.{empty_function, holding};
 
 use std::alloc::{AllocError, Global};
 use wgsl_attributes::Attribute;
-use wgsl_declarations::{
-    FormalParameter, Function, GlobalDeclaration, Struct, StructMember, TypeAlias,
-};
 use wgsl_expressions::{Expression, TypeExpression};
 use wgsl_items::{CloneIn, FromIn, Items, Text};
-use wgsl_nodes_in_order::NodeRef;
+use wgsl_nodes_in_order::{
+    FormalParameter, Function, GlobalDeclaration, NodeRef, Statement, Struct, StructMember,
+    TypeAlias,
+};
 use wgsl_path::{Ident, Spanned};
 use wgsl_simple_statements::ConstAssert;
-use wgsl_statements::Statement;
 
 fn function(alloc: Global) -> Result<Function, AllocError>
     ensures { IfOk result (λ made. made ≡ empty_function) }

@@ -1,1 +1,2 @@
 pub mod Texts
+pub use Rattle.wgsl_expressions.proofs.Commas

@@ -10,3 +10,8 @@ pub use attribute::{
     InterpolateAttribute, WorkgroupSizeAttribute,
 };
 pub use print::write_attributes;
+pub use wgsl_enumerations::{AccessMode, AddressSpace, AssignmentOperator, DiagnosticSeverity};
+pub use wgsl_expressions::{
+    Boxed, CloneIn, Expression, ExpressionNode, FromIn, FunctionCall, Ident, Items, ModulePath,
+    Span, Spanned, Text, TypeExpression, both, three, write_indent, write_qualifier,
+};

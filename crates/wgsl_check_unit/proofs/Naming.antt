@@ -2,8 +2,8 @@
 use Rattle.std.proofs.Common.{◌≡◌, sym, subst, ℕ, ◌+◌, ◌<◌, ◌≤◌, length, drop, get_or, List, ◌∷◌, Bool, true, false, Option, Decides}
 use Rattle.std.specs.Option.{option_or}
 use Rattle.std.proofs.lemmas.List.{drop_all}
-use Rattle.wgsl_nodes_in_order.specs.declared.node.NodeRef.{NodeRef}
-use Rattle.wgsl_nodes_in_order.specs.Found.{node_of, nodes}
+use Rattle.wgsl_derivable.specs.NodeRef.{NodeRef}
+use Rattle.wgsl_derivable.specs.Found.{node_of, nodes}
 use Rattle.wgsl_derivable.specs.Placed.{holding}
 use Rattle.wgsl_derivable.specs.Alone.{alone}
 use Rattle.wgsl_derivable.specs.Derivable.{IsDerivable}

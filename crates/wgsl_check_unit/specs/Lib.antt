@@ -2,4 +2,5 @@ pub mod Names
 pub mod Telling
 pub use Rattle.wgsl_derivable.specs.Derivable
 pub use Rattle.wgsl_derivable.specs.Texts
-pub use Rattle.wgsl_nodes_in_order.specs.Nodes
+pub use Rattle.wgsl_derivable.specs.Nodes
+pub use Rattle.wgsl_derivable.specs.TokenLayoutLaws

@@ -3,15 +3,14 @@
 ghost use Rattle.std.specs.Prelude.{◌≡◌, ◌∷◌, [], IfOk};
 ghost use Rattle.std.specs.Option.{option_copied, option_or};
 ghost use Rattle.wgsl_statements.specs.View.{statement_tree, stms};
-ghost use Rattle.wgsl_nodes_in_order.specs.Found as found;
+ghost use Rattle.wgsl_derivable.specs.Found as found;
 ghost use Rattle.wgsl_check_unit.specs.Names as names;
 ghost use Rattle.wgsl_check_unit.specs.Telling.{IsNamed};
 
 use std::alloc::Global;
-use wgsl_derivable::is_node_derivable;
+use wgsl_derivable::{NodeRef, is_node_derivable};
 use wgsl_error::Refusal;
 use wgsl_items::Text;
-use wgsl_nodes_in_order::NodeRef;
 use wgsl_statements::Statement;
 
 /// The name that a local declaration declares.

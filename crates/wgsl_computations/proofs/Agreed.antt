@@ -1,7 +1,7 @@
 -- Going on keeps it that two computations agree where both end well.
 use Rattle.std.proofs.Common.{◌≡◌, ℕ, zero, suc, ◌+◌, ◌≤◌, List, ◌∷◌, [], ◌++◌, length, take, Result, Ok, Err, refl, sym, ap, ◌∙◌, subst, arith}
 use Rattle.wgsl_shader_type.specs.declared.error.Error.{Error}
-use Rattle.wgsl_instance.specs.declared.tree.Instance.{Instance}
+use Rattle.wgsl_memory.specs.Instance.{Instance}
 use Rattle.wgsl_memory.specs.Places as memory
 use Rattle.wgsl_computations.specs.Machine.{State, Outcome, Done, Failed, Deep, Computation, of_result, next_of, one_step, stored, back_to, pure}
 use Rattle.wgsl_computations.specs.Lift.{Same, KeptThroughout}

@@ -1,6 +1,6 @@
 -- Loops: relations that going on keeps are kept by turns, and a bound above the limit is never passed.
 use Rattle.std.proofs.Common.{◌≡◌, ℕ, zero, suc, ◌<◌, ◌≤◌, Option, refl, arith}
-use Rattle.wgsl_instance.specs.declared.tree.Instance.{Instance}
+use Rattle.wgsl_memory.specs.Instance.{Instance}
 use Rattle.wgsl_computations.specs.Machine.{State, Outcome, Done, Failed, Deep, Computation, next_of, bind, one_step, with_left, tick}
 use Rattle.wgsl_computations.specs.Lift.{Lift, Same, KeptThroughout}
 use Rattle.wgsl_computations.specs.Loops.{Flow, Next, Broke, Goes, Returned, turned, repeat, AlikeFlow, both_next, both_broke, both_goes, both_returned, IsOverAt, IsOver}

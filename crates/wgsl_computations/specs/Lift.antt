@@ -1,8 +1,8 @@
 -- Relations of two computations, from a relation of their answers, that going on keeps.
 use Rattle.std.specs.Prelude.{◌≡◌, ℕ}
 use Rattle.wgsl_shader_type.specs.declared.error.Error.{Error}
-use Rattle.wgsl_instance.specs.declared.tree.Instance.{Instance}
-use Rattle.wgsl_instance.specs.declared.tree.RefInstance.{RefInstance}
+use Rattle.wgsl_memory.specs.Instance.{Instance}
+use Rattle.wgsl_memory.specs.RefInstance.{RefInstance}
 use Rattle.wgsl_computations.specs.Machine.{Computation, pure, fail, deep, bind, tick, read, loaded, write, fresh, scoped}
 
 -- F: the faults of both

@@ -1,6 +1,6 @@
 -- Statements that go on, stop or return, and loops of them (WGSL, "Control Flow").
 use Rattle.std.specs.Prelude.{ℕ, zero, suc, ◌≤◌, Option}
-use Rattle.wgsl_instance.specs.declared.tree.Instance.{Instance}
+use Rattle.wgsl_memory.specs.Instance.{Instance}
 use Rattle.wgsl_computations.specs.Machine.{State, Outcome, Done, Failed, Deep, Computation, pure, deep, bind, tick}
 
 -- how a statement ends: the next one follows, the loop is left, its next turn follows, the function returns

@@ -2,8 +2,8 @@
 -- is this project's own).
 use Rattle.std.specs.Prelude.{ℕ, zero, suc, List, [], ◌∷◌, ◌++◌, length, take, Result, Ok, Err}
 use Rattle.wgsl_shader_type.specs.declared.error.Error.{Error}
-use Rattle.wgsl_instance.specs.declared.tree.Instance.{Instance}
-use Rattle.wgsl_instance.specs.declared.tree.RefInstance.{RefInstance}
+use Rattle.wgsl_memory.specs.Instance.{Instance}
+use Rattle.wgsl_memory.specs.RefInstance.{RefInstance}
 use Rattle.wgsl_memory.specs.Places as memory
 
 -- the cells of memory, and how many steps are still allowed

@@ -2,13 +2,12 @@
 
 use crate::entering::call_function;
 use wgsl_directory::{Declared, Directory, Meaning, Target};
-use wgsl_expression_steps::{argument_count, follow};
+use wgsl_expression_steps::{argument_count, construct, constructed_type, follow};
 use wgsl_expressions::{FunctionCall, TypeExpression};
 use wgsl_fault::{NameFault, Stop};
 use wgsl_instance::Instance;
 use wgsl_items::Items;
 use wgsl_machine::{CallFrame, Frame, Frames, Machine, Operand, WrittenFrame};
-use wgsl_operand_steps::{construct, constructed_type};
 use wgsl_shader_type::{TpltParam, Type};
 
 /// The template arguments of a callee, which are done.

@@ -4,6 +4,7 @@ use wgsl_attributes::{Attribute, AttributeNode};
 use wgsl_declarations::FormalParameter;
 use wgsl_directory::{Declared, Directory, Header};
 use wgsl_enumerations::ShaderStage;
+use wgsl_expression_steps::{convert, is_constructible};
 use wgsl_expressions::TypeExpression;
 use wgsl_fault::{Fault, NameFault, PlainFault, ReturnFault, Stop};
 use wgsl_instance::Instance;
@@ -12,7 +13,6 @@ use wgsl_machine::{
     CallFrame, ConversionPlace, DeclarationFrame, Flow, Frame, Frames, Local, Machine, Operand,
     WrittenFrame,
 };
-use wgsl_operand_steps::{convert, is_constructible};
 use wgsl_shader_type::{Error, Type};
 
 fn is_marked(attributes: &[AttributeNode]) -> bool {

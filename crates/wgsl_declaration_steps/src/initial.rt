@@ -3,13 +3,12 @@
 use wgsl_attributes::{Attribute, AttributeNode};
 use wgsl_directory::{Declared, Directory};
 use wgsl_enumerations::{AccessMode, AddressSpace, ShaderStage};
-use wgsl_expression_steps::{loaded_first, push_number};
+use wgsl_expression_steps::{loaded_first, push_number, truth, zero};
 use wgsl_expressions::ExpressionNode;
 use wgsl_fault::{Fault, NameFault, PairFault, PlainFault, ResourceFault, Stop};
 use wgsl_instance::{Instance, RefInstance};
 use wgsl_items::Items;
 use wgsl_machine::{Bound, ConversionPlace, DeclarationFrame, Frame, Frames, Machine, Slot};
-use wgsl_operand_steps::{truth, zero};
 use wgsl_shader_type::Type;
 use wgsl_simple_statements::{Declaration, DeclarationKind};
 

@@ -10,3 +10,4 @@ mod stepping;
 
 pub use entering::push_entry;
 pub use stepping::step;
+pub use wgsl_expression_steps::{follow, loaded_first};

@@ -6,10 +6,11 @@ use crate::initial::{assert_true, initial, resource, store, variable};
 use crate::inputs::{input, located};
 use crate::starting::{close, declared_type, order, start};
 use wgsl_directory::Directory;
-use wgsl_expression_steps::{push_call, push_typed_call, step_type, step_value, step_written};
+use wgsl_expression_steps::{
+    convert, push_call, push_typed_call, step_type, step_value, step_written, structure,
+};
 use wgsl_fault::Stop;
 use wgsl_machine::{CallFrame, DeclarationFrame, Frame, Frames, Machine, Root};
-use wgsl_operand_steps::{convert, structure};
 
 /// The structure of the uppermost type, built of so many operands.
 fn build(machine: &mut Machine, count: usize) -> Result<(), Stop> {

@@ -1,8 +1,8 @@
 -- Declarations and modules without places: what a text says, whatever its layout. A `;` alone is no declaration.
 use Rattle.std.specs.Prelude.{ℕ, List, Option}
-use Rattle.wgsl_expressions.specs.Tree.{Exp, Typ}
-use Rattle.wgsl_attributes.specs.Tree.{Attr}
-use Rattle.wgsl_simple_statements.specs.declared.declaration.DeclarationKind.{DeclarationKind}
+use Rattle.wgsl_imports.specs.ExpressionsTree.{Exp, Typ}
+use Rattle.wgsl_imports.specs.AttributesTree.{Attr}
+use Rattle.wgsl_statements.specs.DeclarationKind.{DeclarationKind}
 use Rattle.wgsl_statements.specs.Tree.{Block}
 use Rattle.wgsl_imports.specs.Tree.{Importing, Directive}
 

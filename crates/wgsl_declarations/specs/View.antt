@@ -1,11 +1,11 @@
 -- The declaration and the module without places that a code tree stands for. `Void` stands for none.
 use Rattle.std.specs.Prelude.{List, map, filter_map, Option, Some, None}
 use Rattle.std.specs.Option.{option_map}
-use Rattle.wgsl_expressions.specs.Spanned.{Spanned}
-use Rattle.wgsl_expressions.specs.View.{node_tree, type_tree}
-use Rattle.wgsl_attributes.specs.View.{attributes_tree}
-use Rattle.wgsl_simple_statements.specs.declared.declaration.Declaration.{Declaration}
-use Rattle.wgsl_simple_statements.specs.declared.declaration.ConstAssert.{ConstAssert}
+use Rattle.wgsl_imports.specs.Spanned.{Spanned}
+use Rattle.wgsl_imports.specs.ExpressionsView.{node_tree, type_tree}
+use Rattle.wgsl_imports.specs.AttributesView.{attributes_tree}
+use Rattle.wgsl_statements.specs.Declaration.{Declaration}
+use Rattle.wgsl_statements.specs.ConstAssert.{ConstAssert}
 use Rattle.wgsl_statements.specs.View.{block_tree}
 use Rattle.wgsl_imports.specs.View.{importing_tree, directive_tree}
 use Rattle.wgsl_declarations.specs.declared.declaration.TypeAlias.{TypeAlias}

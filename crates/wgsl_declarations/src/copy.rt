@@ -5,7 +5,7 @@ use crate::declaration::{
 };
 use crate::unit::TranslationUnit;
 use std::alloc::{AllocError, Global};
-use wgsl_expressions::CloneIn;
+use wgsl_imports::CloneIn;
 
 impl CloneIn for TypeAlias {
     fn clone_in(&self, alloc: Global) -> Result<TypeAlias, AllocError> {

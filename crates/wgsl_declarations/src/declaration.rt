@@ -1,9 +1,7 @@
 //! Declarations of a module (WGSL, "Declaration and Scope", "Type Aliases", "Structure Types", "Functions").
 
-use wgsl_attributes::Attributes;
-use wgsl_expressions::{Ident, Items, Spanned, TypeExpression};
-use wgsl_simple_statements::{ConstAssert, Declaration};
-use wgsl_statements::CompoundStatement;
+use wgsl_imports::{Attributes, Ident, Items, Spanned, TypeExpression};
+use wgsl_statements::{CompoundStatement, ConstAssert, Declaration};
 
 /// A declaration of a module and its place.
 pub type GlobalDeclarationNode = Spanned<GlobalDeclaration>;

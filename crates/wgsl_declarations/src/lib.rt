@@ -15,3 +15,13 @@ pub use declaration::{
 };
 pub use list::{let_go, retain_declarations};
 pub use unit::TranslationUnit;
+pub use wgsl_imports::{
+    AttributeNode, Attributes, GlobalDirective, Import, ImportContent, ImportStatement,
+};
+pub use wgsl_statements::{
+    AssignmentStatement, BreakIfStatement, BreakStatement, CaseSelector, CompoundStatement,
+    ConstAssert, ContinueStatement, ContinuingStatement, Declaration, DeclarationKind,
+    DecrementStatement, DiscardStatement, ElseIfClause, ForStatement, FunctionCallStatement,
+    IfStatement, IncrementStatement, LoopStatement, ReturnStatement, Statement, StatementNode,
+    SwitchClause, SwitchStatement, WhileStatement,
+};

@@ -6,7 +6,7 @@ ghost use Rattle.std.specs.List.Retain.{IsFiltered};
 
 use crate::declaration::GlobalDeclarationNode;
 use crate::unit::TranslationUnit;
-use wgsl_expressions::Items;
+use wgsl_imports::Items;
 
 /// Keeps, in order, the declarations at which the closure returns `true`, and drops the others.
 pub fn retain_declarations<F: FnMut(&GlobalDeclarationNode) -> bool>(

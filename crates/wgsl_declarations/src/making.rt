@@ -7,9 +7,8 @@ use crate::declaration::{
 };
 use crate::unit::TranslationUnit;
 use std::alloc::Global;
-use wgsl_expressions::{Ident, Items, TypeExpression};
-use wgsl_simple_statements::{ConstAssert, Declaration};
-use wgsl_statements::CompoundStatement;
+use wgsl_imports::{Ident, Items, TypeExpression};
+use wgsl_statements::{CompoundStatement, ConstAssert, Declaration};
 
 impl TranslationUnit {
     /// A module with nothing in it.

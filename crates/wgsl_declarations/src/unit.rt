@@ -1,8 +1,7 @@
 //! Whole modules.
 
 use crate::declaration::GlobalDeclarationNode;
-use wgsl_expressions::Items;
-use wgsl_imports::{GlobalDirective, ImportStatement};
+use wgsl_imports::{GlobalDirective, ImportStatement, Items};
 
 /// The syntax tree of a module.
 #[derive(Debug, Drop, PartialEq)]

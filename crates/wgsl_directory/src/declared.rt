@@ -1,9 +1,9 @@
 //! What a declaration is.
 
-use wgsl_attributes::AttributeNode;
-use wgsl_declarations::{FormalParameter, GlobalDeclaration, Struct, TypeAlias};
+use wgsl_declarations::{
+    AttributeNode, ConstAssert, Declaration, FormalParameter, GlobalDeclaration, Struct, TypeAlias,
+};
 use wgsl_expressions::TypeExpression;
-use wgsl_simple_statements::{ConstAssert, Declaration};
 
 /// A function without its body.
 #[derive(Clone, Copy, Drop)]

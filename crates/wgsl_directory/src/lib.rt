@@ -8,3 +8,4 @@ mod follow;
 pub use declared::{Declared, Header};
 pub use directory::Directory;
 pub use follow::{Meaning, Target};
+pub use wgsl_declarations::Struct;

@@ -9,7 +9,7 @@ use Rattle.wgsl_meaning.specs.Outcome.{Outcome, Done, Failed, Deep, after, bind}
 use Rattle.wgsl_shader_type.specs.declared.literal.LiteralInstance.{LiteralInstance}
 use Rattle.wgsl_meaning.specs.Names.{Name, find, plain_name}
 use Rattle.wgsl_meaning.specs.Meaning.{World, Types, value, values, result_here, called_or, typed, all_typed, result_type_here}
-use Rattle.wgsl_scalar.specs.declared.scalar.ScalarType.{ScalarType}
+use Rattle.wgsl_meaning.specs.ScalarType.{ScalarType}
 use Rattle.wgsl_items.specs.declared.error.OrOutOfMemory.{OrOutOfMemory}
 use Rattle.wgsl_items.specs.declared.error.OrOutOfMemory.TheVariants.{Error, OutOfMemory}
 use Rattle.wgsl_meaning.specs.declared.fault.Fault.{Fault}

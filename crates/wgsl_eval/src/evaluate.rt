@@ -18,8 +18,7 @@ use crate::scope::Scope;
 use std::alloc::Global;
 use wgsl_enumerations::ShaderStage;
 use wgsl_items::{Items, Text};
-use wgsl_meaning::NameFault;
-use wgsl_scalar::{ScalarType, binary_scalar_op, construct_scalar, unary_scalar_op};
+use wgsl_meaning::{NameFault, ScalarType, binary_scalar_op, construct_scalar, unary_scalar_op};
 use wgsl_shader_type::LiteralInstance;
 use wgsl_syntax::{
     BinaryOperator, Expression, ExpressionNode, FunctionCall, GlobalDeclaration, TypeExpression,

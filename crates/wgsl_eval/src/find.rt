@@ -12,8 +12,7 @@ use crate::scope::Declarations;
 use std::alloc::{AllocError, Global};
 use std::collections::HashMap;
 use wgsl_items::Text;
-use wgsl_meaning::NameFault;
-use wgsl_scalar::{IntegerType, ScalarType};
+use wgsl_meaning::{IntegerType, NameFault, ScalarType};
 use wgsl_syntax::{GlobalDeclaration, GlobalDeclarationNode, TypeExpression};
 
 /// What stands first under a name.

@@ -2,7 +2,7 @@
 
 use std::collections::HashMap;
 use wgsl_items::Text;
-use wgsl_scalar::ScalarType;
+use wgsl_meaning::ScalarType;
 use wgsl_shader_type::LiteralInstance;
 use wgsl_syntax::GlobalDeclaration;
 

@@ -19,8 +19,9 @@ use crate::literal::literal_value;
 use crate::scope::{Declarations, Scope, Values};
 use std::alloc::Global;
 use wgsl_items::{Items, Text};
-use wgsl_meaning::NameFault;
-use wgsl_scalar::{ScalarType, convert_scalar, scalar_binary_type, scalar_unary_type, type_of};
+use wgsl_meaning::{
+    NameFault, ScalarType, convert_scalar, scalar_binary_type, scalar_unary_type, type_of,
+};
 use wgsl_shader_type::LiteralInstance;
 use wgsl_syntax::{
     Declaration, Expression, ExpressionNode, Function, FunctionCall, GlobalDeclaration,

@@ -4,7 +4,7 @@ use crate::valuing::loaded_first;
 use wgsl_directory::{Directory, Meaning, Target};
 use wgsl_expressions::{FunctionCall, TemplateArg, TypeExpression};
 use wgsl_fault::{NameFault, Stop};
-use wgsl_machine::{CallFrame, Frame, Frames, Machine, TypeFrame, WrittenFrame};
+use wgsl_operand_steps::{CallFrame, Frame, Frames, Machine, TypeFrame, WrittenFrame};
 
 /// What a type expression means, with the names that are in scope.
 pub fn follow<'s>(

@@ -5,7 +5,7 @@ use wgsl_directory::{Declared, Directory, Meaning};
 use wgsl_enumerations::ShaderStage;
 use wgsl_expressions::TypeExpression;
 use wgsl_fault::{NameFault, Stop};
-use wgsl_machine::{DeclarationFrame, Frame, Frames, Local, Machine, Root, Slot, Start};
+use wgsl_operand_steps::{DeclarationFrame, Frame, Frames, Local, Machine, Root, Slot, Start};
 use wgsl_simple_statements::{Declaration, DeclarationKind};
 
 /// Stops, since a name has no value.

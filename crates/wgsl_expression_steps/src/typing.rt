@@ -11,10 +11,9 @@ use wgsl_expressions::{
 use wgsl_fault::{NameFault, Stop, TypeFault};
 use wgsl_instance::selector::no_component;
 use wgsl_items::Boxed;
-use wgsl_machine::{
-    CallFrame, DeclarationFrame, Frame, Frames, Local, Machine, Root, Slot, TypeFrame,
+use wgsl_operand_steps::{
+    CallFrame, DeclarationFrame, Frame, Frames, Local, Machine, Root, Slot, TypeFrame, is_swizzle,
 };
-use wgsl_operand_steps::is_swizzle;
 use wgsl_operators::BinaryOperator;
 use wgsl_shader_type::{Error, Type};
 use wgsl_simple_statements::{Declaration, DeclarationKind};

@@ -7,9 +7,9 @@ use wgsl_expressions::{
     LiteralExpression, NamedComponentExpression, UnaryExpression, UnaryOperator,
 };
 use wgsl_fault::Stop;
-use wgsl_machine::{CallFrame, Frame, Frames, Machine, ValueFrame};
 use wgsl_operand_steps::{
-    address_of, binary, decided, index, indirection, member, truth_of, unary,
+    CallFrame, Frame, Frames, Machine, ValueFrame, address_of, binary, decided, index, indirection,
+    member, truth_of, unary,
 };
 use wgsl_shader_type::LiteralInstance;
 

@@ -4,14 +4,12 @@ use crate::calling::{arguments_first, follow};
 use crate::valuing::loaded_first;
 use std::str::FromStr;
 use wgsl_attributes::{Attribute, AttributeNode};
-use wgsl_declarations::Struct;
-use wgsl_directory::{Declared, Directory, Meaning, Target};
+use wgsl_directory::{Declared, Directory, Meaning, Struct, Target};
 use wgsl_enumerations::{Enumerant, ShaderStage};
 use wgsl_expressions::{Expression, ExpressionNode, TemplateArg, TypeExpression};
 use wgsl_fault::{NameFault, Stop};
 use wgsl_items::{Boxed, Items, Text};
-use wgsl_machine::{Frame, Frames, Machine, Slot, WrittenFrame};
-use wgsl_operand_steps::{argument_of, number};
+use wgsl_operand_steps::{Frame, Frames, Machine, Slot, WrittenFrame, argument_of, number};
 use wgsl_shader_type::{Error, StructMemberType, StructType, TpltParam, Type};
 use wgsl_types::builtin_type;
 

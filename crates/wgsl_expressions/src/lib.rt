@@ -18,5 +18,5 @@ pub use layout::{write_indent, write_list};
 pub use print::write_qualifier;
 pub use wgsl_operators::{BinaryOperator, UnaryOperator};
 pub use wgsl_path::{
-    Boxed, CloneIn, FromIn, Ident, Items, ModulePath, PathOrigin, Span, Spanned, Text,
+    Boxed, CloneIn, FromIn, Ident, Items, ModulePath, PathOrigin, Span, Spanned, Text, both, three,
 };

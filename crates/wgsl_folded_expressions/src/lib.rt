@@ -15,3 +15,4 @@ pub use declarations::{declare, fold_declaration};
 pub use expressions::{fold, fold_as, fold_call, fold_maybe};
 pub use places::fold_place;
 pub use types::{fold_maybe_type, fold_type, type_of_written, written_type};
+pub use wgsl_evaluator::{EvalError, Evaluator, Fault, Stop};

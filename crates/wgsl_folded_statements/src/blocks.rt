@@ -4,8 +4,7 @@ use crate::calls::fold_call_statement;
 use crate::simple::{
     fold_assignment, fold_break_if, fold_local, fold_return, fold_selectors, fold_stepped,
 };
-use wgsl_evaluator::{Evaluator, Stop};
-use wgsl_folded_expressions::{fold, fold_attributes, fold_maybe};
+use wgsl_folded_expressions::{Evaluator, Stop, fold, fold_attributes, fold_maybe};
 use wgsl_items::Items;
 use wgsl_replacing::clear;
 use wgsl_shader_type::Type;

@@ -2,9 +2,8 @@
 
 use wgsl_attributes::{Attribute, AttributeNode};
 use wgsl_directory::{Declared, Meaning};
-use wgsl_evaluator::{Evaluator, Stop};
 use wgsl_expressions::{Expression, ExpressionNode, FunctionCall, TemplateArgs, TypeExpression};
-use wgsl_folded_expressions::{fold_attributes, fold_call};
+use wgsl_folded_expressions::{Evaluator, Stop, fold_attributes, fold_call};
 use wgsl_simple_statements::FunctionCallStatement;
 
 /// Whether what a type expression names is no function, or one that is const by the rule.

@@ -6,3 +6,7 @@ mod calls;
 mod simple;
 
 pub use blocks::{fold_block, fold_statements};
+pub use wgsl_folded_expressions::{
+    EvalError, Evaluator, Fault, Stop, fold_attributes, fold_declaration, fold_maybe_type,
+    fold_type, type_of_written,
+};

@@ -1,10 +1,10 @@
 //! Statements without others in them.
 
 use wgsl_attributes::Attributes;
-use wgsl_evaluator::{Evaluator, Stop};
 use wgsl_expressions::{Expression, ExpressionNode};
 use wgsl_folded_expressions::{
-    declare, fold, fold_as, fold_attributes, fold_declaration, fold_place, returned_conversion,
+    Evaluator, Stop, declare, fold, fold_as, fold_attributes, fold_declaration, fold_place,
+    returned_conversion,
 };
 use wgsl_items::Items;
 use wgsl_shader_type::Type;

@@ -8,8 +8,8 @@ use Rattle.wgsl_shift_reduce.specs.Grammars.{Symbol, token, phrase}
 use Rattle.wgsl_tables.specs.Listed.{beside, rule_at, steps_at, step_at, finals_at, first_before, reduction_by, reduction_at}
 use Rattle.wgsl_tables.specs.Tests.{all_below}
 use Rattle.wgsl_tables.proofs.Facts.{some_is, each, each_below, given, giving, guarded, is_beside, not_both}
-use Rattle.wgsl_parts.specs.declared.label.Label.{Label}
-use Rattle.wgsl_parts.specs.declared.label.Label.TheVariants as l
+use Rattle.wgsl_parser_table.specs.Label.{Label}
+use Rattle.wgsl_parser_table.specs.Label.TheVariants as l
 use Rattle.wgsl_parser_table.specs.declared.table.TheConstants.{RULE_COUNT, STATE_COUNT}
 use Rattle.wgsl_parser_steps.specs.declared.steps.TheConstants.{TOKEN_STEPS, TOKEN_STEPS_PLACES, PHRASE_STEPS, PHRASE_STEPS_PLACES, ONLY_FINALS, PASSED_TO}
 use Rattle.wgsl_grammar_tables.specs.Decoded.{listed}

@@ -6,7 +6,7 @@ use Rattle.wgsl_shift_reduce.specs.Fit.{IsFit}
 use Rattle.wgsl_tables.specs.Listed.{rule_at, tables, account}
 use Rattle.wgsl_tables.specs.Tests.{all_below}
 use Rattle.wgsl_tables.proofs.Facts.{each_below}
-use Rattle.wgsl_parts.specs.declared.label.Label.TheVariants.{Pass}
+use Rattle.wgsl_parser_table.specs.Label.TheVariants.{Pass}
 use Rattle.wgsl_parser_table.specs.declared.table.TheConstants.{RULE_COUNT, LABELS, GOAL, SENTENCE}
 use Rattle.wgsl_grammar_tables.specs.Decoded.{listed, nth}
 use Rattle.wgsl_grammar_tables.specs.Starts.{start}

@@ -5,8 +5,8 @@ use Rattle.wgsl_token.specs.declared.token.Fixed.TheVariants as f
 use Rattle.wgsl_token.specs.declared.token.Token.TheVariants as t
 use Rattle.wgsl_template_spec.specs.declared.token.TemplateToken.TheVariants.{Plain, TemplateArgsStart, TemplateArgsEnd}
 use Rattle.wgsl_shift_reduce.specs.Grammars.{Symbol, token, phrase, Rule}
-use Rattle.wgsl_parts.specs.declared.label.Label.{Label}
-use Rattle.wgsl_parts.specs.declared.label.Label.TheVariants as l
+use Rattle.wgsl_parser_table.specs.Label.{Label}
+use Rattle.wgsl_parser_table.specs.Label.TheVariants as l
 use Rattle.wgsl_grammar_tables.specs.Classes.{class_of, fixed_class}
 use Rattle.wgsl_grammar_tables.specs.Nonterminals.{Nonterminal, number}
 use Rattle.wgsl_grammar_tables.specs.Grammar.{Piece, mark, truth, kind, may_mark, word, literal, reserved, opens, closes, one, may, some, any, listed, any_listed, lacking, Line, repeated, separated, begun, lines}

@@ -5,18 +5,18 @@ use Rattle.wgsl_operators.specs.declared.BinaryOperator.TheVariants as o
 use Rattle.wgsl_enumerations.specs.declared.words.AssignmentOperator.TheVariants as a
 use Rattle.wgsl_token.specs.declared.token.Fixed.{Fixed}
 use Rattle.wgsl_token.specs.declared.token.Fixed.TheVariants as f
-use Rattle.wgsl_parts.specs.declared.label.Label.{Label}
-use Rattle.wgsl_parts.specs.declared.label.Label.TheVariants as l
-use Rattle.wgsl_parts.specs.declared.label.NameLabel.TheVariants as name
-use Rattle.wgsl_parts.specs.declared.label.ExpressionLabel.TheVariants as exp
-use Rattle.wgsl_parts.specs.declared.label.AttributeLabel.TheVariants as attr
-use Rattle.wgsl_parts.specs.declared.label.ValueLabel.TheVariants as val
-use Rattle.wgsl_parts.specs.declared.label.PlainLabel.TheVariants as plain
-use Rattle.wgsl_parts.specs.declared.label.StatementLabel.TheVariants as stm
-use Rattle.wgsl_parts.specs.declared.label.ClauseLabel.TheVariants as part
-use Rattle.wgsl_parts.specs.declared.label.ImportLabel.TheVariants as imp
-use Rattle.wgsl_parts.specs.declared.label.DirectiveLabel.TheVariants as dir
-use Rattle.wgsl_parts.specs.declared.label.DeclarationLabel.TheVariants as decl
+use Rattle.wgsl_parser_table.specs.Label.{Label}
+use Rattle.wgsl_parser_table.specs.Label.TheVariants as l
+use Rattle.wgsl_parser_table.specs.NameLabel.TheVariants as name
+use Rattle.wgsl_parser_table.specs.ExpressionLabel.TheVariants as exp
+use Rattle.wgsl_parser_table.specs.AttributeLabel.TheVariants as attr
+use Rattle.wgsl_parser_table.specs.ValueLabel.TheVariants as val
+use Rattle.wgsl_parser_table.specs.PlainLabel.TheVariants as plain
+use Rattle.wgsl_parser_table.specs.StatementLabel.TheVariants as stm
+use Rattle.wgsl_parser_table.specs.ClauseLabel.TheVariants as part
+use Rattle.wgsl_parser_table.specs.ImportLabel.TheVariants as imp
+use Rattle.wgsl_parser_table.specs.DirectiveLabel.TheVariants as dir
+use Rattle.wgsl_parser_table.specs.DeclarationLabel.TheVariants as decl
 use Rattle.wgsl_grammar_tables.specs.Nonterminals as n
 use Rattle.wgsl_grammar_tables.specs.Nonterminals.{Nonterminal}
 

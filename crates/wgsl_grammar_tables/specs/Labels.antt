@@ -1,7 +1,7 @@
 -- What each rule makes, and of which of its symbols.
 use Rattle.std.specs.Prelude.{ℕ, List, get_or}
-use Rattle.wgsl_parts.specs.declared.label.Label.{Label}
-use Rattle.wgsl_parts.specs.declared.label.Label.TheVariants.{Pass}
+use Rattle.wgsl_parser_table.specs.Label.{Label}
+use Rattle.wgsl_parser_table.specs.Label.TheVariants.{Pass}
 use Rattle.wgsl_parser_table.specs.declared.table.TheConstants.{LABELS, PATTERNS, PATTERNS_STARTS}
 use Rattle.wgsl_grammar_tables.specs.Rows.{row_between}
 

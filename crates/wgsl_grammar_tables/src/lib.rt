@@ -3,7 +3,7 @@
 
 ghost use Rattle.std.specs.Prelude.{◌≡◌, ◌<◌, get_or, length, MatchOption};
 ghost use Rattle.wgsl_grammar_tables.specs.Decoded.{listed};
-ghost use Rattle.wgsl_parts.specs.declared.label.Label.TheVariants.{Pass};
+ghost use Rattle.wgsl_parser_table.specs.Label.TheVariants.{Pass};
 ghost use Rattle.wgsl_grammar_tables.specs.Starts.{start};
 ghost use Rattle.wgsl_grammar_tables.specs.Labels.{label_at, pattern_at};
 ghost use Rattle.wgsl_shift_reduce.specs.Grammars.{phrase, token};
@@ -18,11 +18,11 @@ use crate::rows::{contains, less_one, row, within};
 use wgsl_parser_steps::steps::{
     ONLY_FINALS, PASSED_TO, PHRASE_STEPS, PHRASE_STEPS_PLACES, TOKEN_STEPS, TOKEN_STEPS_PLACES,
 };
+use wgsl_parser_table::Label;
 use wgsl_parser_table::table::{
     FINALS, FINALS_STARTS, FOLLOW, FOLLOW_STARTS, LABELS, LAST, LEFT, PATTERNS, PATTERNS_STARTS,
     RIGHT, RIGHT_STARTS, RULE_COUNT,
 };
-use wgsl_parts::Label;
 
 /// The state that a token of this class leads to from a state.
 #[tactic(auto, using(crate::proofs::Steps::token_steps))]

@@ -1,2 +1,3 @@
 pub mod Trees
 pub mod Texts
+pub use Rattle.wgsl_attributes.proofs.Commas

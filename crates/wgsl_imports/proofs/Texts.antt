@@ -5,7 +5,7 @@ use Rattle.wgsl_imports.specs.declared.import.ImportItem.{ImportItem}
 use Rattle.wgsl_imports.specs.declared.import.ImportOf.{ImportOf}
 use Rattle.wgsl_imports.specs.declared.import.ImportContent.{ImportContent}
 use Rattle.wgsl_imports.specs.declared.import.ImportContent.TheVariants.{Item, Collection}
-use Rattle.wgsl_expressions.specs.Print.{commas}
+use Rattle.wgsl_attributes.specs.ExpressionsPrint.{commas}
 use Rattle.wgsl_imports.specs.Tree.{collection, Imp, imps}
 use Rattle.wgsl_imports.specs.View.{item_tree, content_tree, import_tree}
 use Rattle.wgsl_imports.specs.Print.{content_text, imps_text, more_text, imp_text}

@@ -1,9 +1,9 @@
 -- How imports and directives are printed (this project's own layout).
 use Rattle.std.specs.Prelude.{ℕ, List, [], ◌++◌, Option, Some, None, codes}
 use Rattle.std.specs.List.{flat_map}
-use Rattle.wgsl_enumerations.specs.declared.words.DiagnosticSeverity.{DiagnosticSeverity}
-use Rattle.wgsl_enumerations.specs.Texts.{diagnostic_severity_text}
-use Rattle.wgsl_expressions.specs.Print.{commas, qualifier_text}
+use Rattle.wgsl_attributes.specs.DiagnosticSeverity.{DiagnosticSeverity}
+use Rattle.wgsl_attributes.specs.EnumerationsTexts.{diagnostic_severity_text}
+use Rattle.wgsl_attributes.specs.ExpressionsPrint.{commas, qualifier_text}
 use Rattle.wgsl_attributes.specs.Print.{attrs_text}
 use Rattle.wgsl_imports.specs.Tree.{Content, item, collection, Imps, nil, cons, Imp, Importing, Directive, diagnostic, enabling, requiring}
 

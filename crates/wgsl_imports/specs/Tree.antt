@@ -1,7 +1,7 @@
 -- Imports and directives without places.
 use Rattle.std.specs.Prelude.{ℕ, List, [], ◌∷◌, Option}
-use Rattle.wgsl_enumerations.specs.declared.words.DiagnosticSeverity.{DiagnosticSeverity}
-use Rattle.wgsl_path.specs.declared.path.ModulePath.{ModulePath}
+use Rattle.wgsl_attributes.specs.DiagnosticSeverity.{DiagnosticSeverity}
+use Rattle.wgsl_attributes.specs.ModulePath.{ModulePath}
 use Rattle.wgsl_attributes.specs.Tree.{Attr}
 
 mutual

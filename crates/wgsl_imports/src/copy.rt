@@ -5,7 +5,7 @@ ghost use Rattle.std.specs.Prelude.{◌≡◌, IfOk};
 use crate::directive::{DiagnosticDirective, EnableDirective, GlobalDirective, RequiresDirective};
 use crate::import::{Import, ImportContent, ImportItem, ImportStatement};
 use std::alloc::{AllocError, Global};
-use wgsl_expressions::{CloneIn, Items};
+use wgsl_attributes::{CloneIn, Items};
 
 impl CloneIn for ImportItem {
     fn clone_in(&self, alloc: Global) -> Result<ImportItem, AllocError> {

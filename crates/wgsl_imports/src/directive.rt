@@ -1,8 +1,6 @@
 //! Directives (WGSL, "Directives").
 
-use wgsl_attributes::Attributes;
-use wgsl_enumerations::DiagnosticSeverity;
-use wgsl_expressions::{Items, Text};
+use wgsl_attributes::{Attributes, DiagnosticSeverity, Items, Text};
 
 /// A directive of a module.
 #[derive(Debug, Drop, PartialEq)]

@@ -1,9 +1,7 @@
 //! Imports (WESL, "Imports"). The struct that `ImportContent` holds is generic in it, so that the cycle of types has one
 //! member; the plain name is an alias.
 
-use wgsl_attributes::Attributes;
-use wgsl_expressions::{Boxed, Items, Text};
-use wgsl_path::{Ident, ModulePath};
+use wgsl_attributes::{Attributes, Boxed, Ident, Items, ModulePath, Text};
 
 /// `import`, maybe the path of a module, and what is taken from there.
 #[derive(Debug, Drop, PartialEq)]

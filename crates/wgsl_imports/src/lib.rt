@@ -10,3 +10,7 @@ mod print_directives;
 
 pub use directive::{DiagnosticDirective, EnableDirective, GlobalDirective, RequiresDirective};
 pub use import::{Import, ImportContent, ImportItem, ImportOf, ImportStatement};
+pub use wgsl_attributes::{
+    AttributeNode, Attributes, CloneIn, Ident, Items, Spanned, TypeExpression, write_attributes,
+    write_indent,
+};

@@ -6,14 +6,12 @@ ghost use Rattle.std.specs.Fmt.{WritesOnOk};
 ghost use Rattle.wgsl_imports.specs.Tree.{collection, imps};
 ghost use Rattle.wgsl_imports.specs.View.{item_tree, content_tree, import_tree, importing_tree};
 ghost use Rattle.wgsl_imports.specs.Print.{rename_text, steps_text, content_text, imps_text, imp_text, importing_text};
-ghost use Rattle.wgsl_expressions.specs.Print.{commas};
+ghost use Rattle.wgsl_attributes.specs.ExpressionsPrint.{commas};
 
 use crate::import::{Import, ImportContent, ImportItem, ImportStatement};
 use std::fmt;
 use std::fmt::Display;
-use wgsl_attributes::write_attributes;
-use wgsl_expressions::{Text, write_qualifier};
-use wgsl_path::Ident;
+use wgsl_attributes::{Ident, Text, write_attributes, write_qualifier};
 
 fn write_rename<W: fmt::Write>(rename: &Option<Ident>, f: &mut fmt::Formatter<W>) -> fmt::Result
     ensures { WritesOnOk W.write_str_gives f.old result (rename_text (option_map (λ r. r.name) rename.now)) f.new }

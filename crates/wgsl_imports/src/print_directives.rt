@@ -8,9 +8,7 @@ ghost use Rattle.wgsl_imports.specs.Print.{names_text, setting_text, directive_t
 use crate::directive::{DiagnosticDirective, EnableDirective, GlobalDirective, RequiresDirective};
 use std::fmt;
 use std::fmt::Display;
-use wgsl_attributes::write_attributes;
-use wgsl_enumerations::DiagnosticSeverity;
-use wgsl_expressions::Text;
+use wgsl_attributes::{DiagnosticSeverity, Text, write_attributes};
 
 impl fmt::Display for DiagnosticDirective {
     ghost output = { λ x. Some (directive_text (diagnostic_tree x)) };

@@ -15,9 +15,8 @@ use crate::tree::{
 use std::alloc::Global;
 use wgsl_enumerations::AddressSpace;
 use wgsl_items::{Boxed, Items};
-use wgsl_operators::UnaryOperator;
 use wgsl_scalar::ScalarType;
-use wgsl_shader_type::{Error, LiteralInstance, Type};
+use wgsl_shader_type::{Error, LiteralInstance, Type, UnaryOperator};
 
 fn are_xyzw(name: &[u8]) -> bool
     ensures { result ≡ list_all spec.is_xyzw name.now }

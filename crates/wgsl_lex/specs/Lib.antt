@@ -5,3 +5,6 @@ pub mod Pieces
 pub mod Rows
 pub mod Runs
 pub mod Tokens
+pub use Rattle.wgsl_token.specs.declared.token.Token
+pub use Rattle.wgsl_token.specs.declared.token.Fixed
+pub use Rattle.wgsl_token.specs.Spelling

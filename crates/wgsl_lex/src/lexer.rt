@@ -11,8 +11,7 @@ use crate::symbol::symbol;
 use crate::trivia::{comment_length, is_blankspace};
 use crate::word::begins_word;
 use std::alloc::{AllocError, Global};
-use wgsl_items::Items;
-use wgsl_token::{Span, SpannedToken};
+use wgsl_token::{Items, Span, SpannedToken};
 
 /// The tokens of a text (WGSL, "Textual Structure"), each with its place in bytes: at every place the longest one, with
 /// blankspace and comments left out. What is no token is an invalid token. Only memory can fail.

@@ -22,3 +22,4 @@ pub use piece::Piece;
 pub use short::{ShortWord, short_word};
 pub use symbol::symbol_alone;
 pub use trivia::{is_blankspace, is_line_break};
+pub use wgsl_token::{Fixed, Span, Token};

@@ -12,8 +12,7 @@ use crate::run::word_run;
 use crate::word::{listed, word_token};
 use std::alloc::{AllocError, Global};
 use std::str;
-use wgsl_items::Text;
-use wgsl_token::Token;
+use wgsl_token::{Text, Token};
 
 /// A word or a number in ASCII.
 #[derive(Debug, Drop)]

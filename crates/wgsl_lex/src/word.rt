@@ -10,8 +10,7 @@ use crate::rows::row;
 use std::alloc::{AllocError, Global};
 use std::str;
 use unicode_ident::{is_xid_continue, is_xid_start};
-use wgsl_items::Text;
-use wgsl_token::{Fixed, Token};
+use wgsl_token::{Fixed, Text, Token};
 
 /// The words that are no identifiers, in order, with their tokens: none for those that are reserved.
 static WORDS: [(&str, Option<Fixed>); 172] = [

@@ -18,20 +18,20 @@ use Rattle.wgsl_scalar.specs.OperatorTypes as scalar_types
 use Rattle.wgsl_instance.specs.declared.tree.Instance.{Instance}
 use Rattle.wgsl_instance.specs.declared.tree.Instance.TheVariants as v
 use Rattle.wgsl_instance.specs.Typed.{type_of}
-use Rattle.wgsl_instance_operators.specs.Operators.{as_literal}
+use Rattle.wgsl_lower_expressions.specs.Operators.{as_literal}
 use Rattle.wgsl_computations.specs.Machine.{pure, fail, deep, bind}
 use Rattle.wgsl_meaning.specs.Outcome.{Done, Failed, Deep}
 use Rattle.wgsl_meaning.specs.Outcome as plain
 use Rattle.wgsl_meaning.specs.Names as plain_names
 use Rattle.wgsl_meaning.specs.Values as plain_values
 use Rattle.wgsl_meaning.specs.Meaning as plain_meaning
-use Rattle.wgsl_programs.specs.Computing.{M, computed, at_once, used}
-use Rattle.wgsl_programs.specs.Names.{Env, find}
-use Rattle.wgsl_programs.specs.Operations.{literal_value, operand, operand_type, unary_value, unary_type, binary_value, binary_type}
-use Rattle.wgsl_programs.specs.Meaning.{World, plain_name, name_type, call_type, between, value, values, typed, all_typed}
-use Rattle.wgsl_programs.proofs.Bodies.{name_here, callee_here}
+use Rattle.wgsl_lower_expressions.specs.Computing.{M, computed, at_once, used}
+use Rattle.wgsl_lower_expressions.specs.Names.{Env, find}
+use Rattle.wgsl_lower_expressions.specs.Operations.{literal_value, operand, operand_type, unary_value, unary_type, binary_value, binary_type}
+use Rattle.wgsl_lower_expressions.specs.Meaning.{World, plain_name, name_type, call_type, between, value, values, typed, all_typed}
+use Rattle.wgsl_lower_expressions.proofs.Bodies.{name_here, callee_here}
 use Rattle.wgsl_scalar.proofs.Types.{others_refused}
-use Rattle.wgsl_programs.proofs.Scalars.{as_type, used_literal, operand_literal, unary_of_scalars, binary_of_scalars, decides_literal, type_of_literal, loaded_scalar, unary_type_of_scalars, binary_type_of_scalars}
+use Rattle.wgsl_lower_expressions.proofs.Scalars.{as_type, used_literal, operand_literal, unary_of_scalars, binary_of_scalars, decides_literal, type_of_literal, loaded_scalar, unary_type_of_scalars, binary_type_of_scalars}
 
 abbrev pub as_value : LiteralInstance → Instance
 as_value x = v.Literal x

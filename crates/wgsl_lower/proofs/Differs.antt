@@ -14,8 +14,8 @@ use Rattle.wgsl_meaning.specs.Meaning.{Types, value, typed}
 use Rattle.wgsl_meaning.specs.ConstStage.{Consts, Scope, stage, hidden, const_known, callee_at, callee_of}
 use Rattle.wgsl_meaning.specs.Written.{written}
 use Rattle.wgsl_meaning.specs.Programs.{type_at, here_if}
-use Rattle.wgsl_programs.specs.Follows.{Differences, Follows, FollowAll, keeps_parentheses, keeps_unary, keeps_binary, keeps_call, keeps_name, replaces, no_more, one_more, FollowsAt, as_it_is, at_the_type, FollowStatements, no_statements, returns_nothing, returns, FollowAttributes, no_attributes, keeps_fragment, keeps_location, FollowType, no_type, keeps_type, FollowParameters, no_parameters, one_parameter, FollowsDeclaration, keeps_function}
-use Rattle.wgsl_programs.specs.Runs.{has_stage}
+use Rattle.wgsl_lower_expressions.specs.Follows.{Differences, Follows, FollowAll, keeps_parentheses, keeps_unary, keeps_binary, keeps_call, keeps_name, replaces, no_more, one_more, FollowsAt, as_it_is, at_the_type, FollowStatements, no_statements, returns_nothing, returns, FollowAttributes, no_attributes, keeps_fragment, keeps_location, FollowType, no_type, keeps_type, FollowParameters, no_parameters, one_parameter, FollowsDeclaration, keeps_function}
+use Rattle.wgsl_lower_expressions.specs.Runs.{has_stage}
 use Rattle.wgsl_lower_expressions.specs.Cleared.{any_stage, does_nothing, cleared}
 use Rattle.wgsl_lower_expressions.specs.Computed.{lacks_value, unless_const, callee_here, lowered, all_lowered, type_here, constructor_call, converted_exp, lowered_return, lowered_attribute, lowered_attributes, lowered_parameter, lowered_parameters, parameter_types, checked_type, lowered_statement, lowered_statements}
 use Rattle.wgsl_lower.proofs.Steps.{then_ok}

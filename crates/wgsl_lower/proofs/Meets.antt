@@ -16,8 +16,8 @@ use Rattle.wgsl_scalar.specs.Conversions.{constructed}
 use Rattle.wgsl_instance.specs.declared.tree.Instance.{Instance}
 use Rattle.wgsl_instance.specs.declared.tree.Instance.TheVariants as v
 use Rattle.wgsl_instance.specs.Typed.{type_of}
-use Rattle.wgsl_instance_operators.specs.Operators.{as_literal}
-use Rattle.wgsl_constructors.specs.Built.{built_scalar}
+use Rattle.wgsl_lower_expressions.specs.Operators.{as_literal}
+use Rattle.wgsl_lower_expressions.specs.Built.{built_scalar}
 use Rattle.wgsl_computations.specs.Machine.{State, Outcome, pure, fail, bind, next_of}
 use Rattle.wgsl_computations.specs.Machine as machine
 use Rattle.wgsl_computations.specs.Lift.{Lift, Same, Kept}
@@ -35,22 +35,22 @@ use Rattle.wgsl_meaning.specs.Programs as plain_programs
 use Rattle.wgsl_meaning.specs.Meaning.{Types}
 use Rattle.wgsl_meaning.specs.ConstStage.{Consts, Scope, stage}
 use Rattle.wgsl_meaning.specs.Written.{written}
-use Rattle.wgsl_programs.specs.Faults.{Fault, Operation, Deferred}
-use Rattle.wgsl_programs.specs.Computing.{M, computed, at_once, is_deferred, known, used}
-use Rattle.wgsl_programs.specs.Names.{Name, Symbol, Local, Env, find}
-use Rattle.wgsl_programs.specs.Operations.{construct}
-use Rattle.wgsl_programs.specs.Meaning.{World, name_value, call_value, type_written, value}
-use Rattle.wgsl_programs.specs.Calls.{handed_back, returned}
-use Rattle.wgsl_programs.specs.Programs.{Known, find_known, world, root}
-use Rattle.wgsl_programs.specs.Runs.{find_decl, here_if}
-use Rattle.wgsl_programs.specs.Runs as runs
-use Rattle.wgsl_programs.specs.Follows.{Differences, Follows}
-use Rattle.wgsl_programs.proofs.Simulates as expressions
-use Rattle.wgsl_programs.proofs.Bodies.{One, IsResult, names_of, name_here, callee_here, Meet}
-use Rattle.wgsl_programs.proofs.Itself.{local_same, constructed_same}
-use Rattle.wgsl_programs.proofs.Agreeing.{KnownAgree, LocalsAgree, better_by_const}
-use Rattle.wgsl_programs.proofs.Converting.{IsConcrete, better_returned}
-use Rattle.wgsl_programs.proofs.Scalars.{used_literal, built_of_scalar}
+use Rattle.wgsl_lower_expressions.specs.Faults.{Fault, Operation, Deferred}
+use Rattle.wgsl_lower_expressions.specs.Computing.{M, computed, at_once, is_deferred, known, used}
+use Rattle.wgsl_lower_expressions.specs.Names.{Name, Symbol, Local, Env, find}
+use Rattle.wgsl_lower_expressions.specs.Operations.{construct}
+use Rattle.wgsl_lower_expressions.specs.Meaning.{World, name_value, call_value, type_written, value}
+use Rattle.wgsl_lower_expressions.specs.Calls.{handed_back, returned}
+use Rattle.wgsl_lower_expressions.specs.Programs.{Known, find_known, world, root}
+use Rattle.wgsl_lower_expressions.specs.Runs.{find_decl, here_if}
+use Rattle.wgsl_lower_expressions.specs.Runs as runs
+use Rattle.wgsl_lower_expressions.specs.Follows.{Differences, Follows}
+use Rattle.wgsl_lower_expressions.proofs.Simulates as expressions
+use Rattle.wgsl_lower_expressions.proofs.Bodies.{One, IsResult, names_of, name_here, callee_here, Meet}
+use Rattle.wgsl_lower_expressions.proofs.Itself.{local_same, constructed_same}
+use Rattle.wgsl_lower_expressions.proofs.Agreeing.{KnownAgree, LocalsAgree, better_by_const}
+use Rattle.wgsl_lower_expressions.proofs.Converting.{IsConcrete, better_returned}
+use Rattle.wgsl_lower_expressions.proofs.Scalars.{used_literal, built_of_scalar}
 use Rattle.wgsl_lower_expressions.specs.Computed.{lowered, callee_here as scope_callee, all_lowered}
 use Rattle.wgsl_lower.proofs.Steps.{then_ok}
 use Rattle.wgsl_lower.proofs.Units.{parts_of, after_done}

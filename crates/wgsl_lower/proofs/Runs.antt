@@ -22,14 +22,14 @@ use Rattle.wgsl_meaning.specs.Outcome.{Outcome, Done, Failed, Deep}
 use Rattle.wgsl_meaning.specs.Names.{Name, find_decl, built_in_type}
 use Rattle.wgsl_meaning.specs.Meaning.{Types, const_in}
 use Rattle.wgsl_meaning.specs.ConstStage.{Consts, stage, module_scope, Settled, nothing, another}
-use Rattle.wgsl_programs.specs.Faults.{Fault, OfName, NotEntrypoint}
-use Rattle.wgsl_programs.specs.Computing.{M}
-use Rattle.wgsl_programs.specs.Programs.{Known, find_known, Reaches, is_value, values_among, world, root, here}
-use Rattle.wgsl_programs.specs.Runs.{Handed, has_stage, entered, started, run, allowed, EndsWell, plain}
-use Rattle.wgsl_programs.specs.Runs as runs
-use Rattle.wgsl_programs.proofs.Bodies.{entered_meets}
-use Rattle.wgsl_programs.proofs.Agreeing.{KnownAgree}
-use Rattle.wgsl_programs.proofs.Cells.{IsLeft, Leaves, start_leaves}
+use Rattle.wgsl_lower_expressions.specs.Faults.{Fault, OfName, NotEntrypoint}
+use Rattle.wgsl_lower_expressions.specs.Computing.{M}
+use Rattle.wgsl_lower_expressions.specs.Programs.{Known, find_known, Reaches, is_value, values_among, world, root, here}
+use Rattle.wgsl_lower_expressions.specs.Runs.{Handed, has_stage, entered, started, run, allowed, EndsWell, plain}
+use Rattle.wgsl_lower_expressions.specs.Runs as runs
+use Rattle.wgsl_lower_expressions.proofs.Bodies.{entered_meets}
+use Rattle.wgsl_lower_expressions.proofs.Agreeing.{KnownAgree}
+use Rattle.wgsl_lower_expressions.proofs.Cells.{IsLeft, Leaves, start_leaves}
 use Rattle.wesl_order.specs.Order.{IsStartOrder, none_left}
 use Rattle.wgsl_eval.specs.Start.{then_more, added, valued, valued_at, all_valued, consts_of}
 use Rattle.wgsl_lower_expressions.specs.Computed.{parameter_types, lowered_declarations, lowered_after}

@@ -26,14 +26,14 @@ use Rattle.wgsl_meaning.specs.Names as plain_names
 use Rattle.wgsl_meaning.specs.Meaning as plain_meaning
 use Rattle.wgsl_meaning.specs.Meaning.{Types}
 use Rattle.wgsl_meaning.specs.ConstStage.{Consts, Scope, stage, module_scope, callee_at, Settled, nothing}
-use Rattle.wgsl_programs.specs.Faults.{StepLimit, OfName, UnexpectedTemplate, UninitConst}
-use Rattle.wgsl_programs.specs.Computing.{M, computed, used}
-use Rattle.wgsl_programs.specs.Names.{Name, Hidden, Env}
-use Rattle.wgsl_programs.specs.Meaning.{World, type_written, value, typed}
-use Rattle.wgsl_programs.specs.Calls.{initialized}
-use Rattle.wgsl_programs.specs.Programs.{Known, here}
-use Rattle.wgsl_programs.specs.Runs.{find_decl, here_if}
-use Rattle.wgsl_programs.proofs.Scalars.{converted_scalar, IsInRange}
+use Rattle.wgsl_lower_expressions.specs.Faults.{StepLimit, OfName, UnexpectedTemplate, UninitConst}
+use Rattle.wgsl_lower_expressions.specs.Computing.{M, computed, used}
+use Rattle.wgsl_lower_expressions.specs.Names.{Name, Hidden, Env}
+use Rattle.wgsl_lower_expressions.specs.Meaning.{World, type_written, value, typed}
+use Rattle.wgsl_lower_expressions.specs.Calls.{initialized}
+use Rattle.wgsl_lower_expressions.specs.Programs.{Known, here}
+use Rattle.wgsl_lower_expressions.specs.Runs.{find_decl, here_if}
+use Rattle.wgsl_lower_expressions.proofs.Scalars.{converted_scalar, IsInRange}
 use Rattle.wgsl_eval.specs.declared.error.DeclarationFault.{DeclarationFault}
 use Rattle.wgsl_eval.specs.Start.{then_more, added, valued, valued_at, all_valued, consts_of}
 use Rattle.wgsl_lower_expressions.specs.Cleared.{does_nothing, cleared}

@@ -16,7 +16,7 @@ use Rattle.wgsl_scalar.specs.Conversions as conversions
 use Rattle.wgsl_instance.specs.declared.tree.Instance.{Instance}
 use Rattle.wgsl_instance.specs.declared.tree.Instance.TheVariants as v
 use Rattle.wgsl_instance.specs.Converted.{converted}
-use Rattle.wgsl_instance_operators.specs.Operators.{as_literal}
+use Rattle.wgsl_lower_expressions.specs.Operators.{as_literal}
 use Rattle.wgsl_computations.specs.Machine.{State, Outcome, pure, bind, next_of}
 use Rattle.wgsl_computations.specs.Machine as machine
 use Rattle.wgsl_meaning.specs.Outcome.{Done, Failed, Deep}
@@ -25,18 +25,18 @@ use Rattle.wgsl_meaning.specs.Values as plain_values
 use Rattle.wgsl_meaning.specs.Names as plain_names
 use Rattle.wgsl_meaning.specs.Meaning as plain_meaning
 use Rattle.wgsl_meaning.specs.ConstStage.{Consts, stage, module_scope, Settled, nothing, another}
-use Rattle.wgsl_programs.specs.Faults.{Fault}
-use Rattle.wgsl_programs.specs.Computing.{M, computed, used}
-use Rattle.wgsl_programs.specs.Names.{Name, Symbol, is_same}
-use Rattle.wgsl_programs.specs.Meaning.{World, type_written, value, typed}
-use Rattle.wgsl_programs.specs.Calls.{const_in}
-use Rattle.wgsl_programs.specs.Programs.{Known, find_known, world, root}
-use Rattle.wgsl_programs.specs.Runs.{find_decl, here_if, started}
-use Rattle.wgsl_programs.specs.Runs as runs
-use Rattle.wgsl_programs.proofs.Agreeing.{KnownAgree, const_answer}
-use Rattle.wgsl_programs.proofs.Known.{or_if, find_behind}
-use Rattle.wgsl_programs.proofs.Scalars.{used_literal, IsInRange, converted_scalar}
-use Rattle.wgsl_programs.proofs.Converting.{IsConcrete}
+use Rattle.wgsl_lower_expressions.specs.Faults.{Fault}
+use Rattle.wgsl_lower_expressions.specs.Computing.{M, computed, used}
+use Rattle.wgsl_lower_expressions.specs.Names.{Name, Symbol, is_same}
+use Rattle.wgsl_lower_expressions.specs.Meaning.{World, type_written, value, typed}
+use Rattle.wgsl_lower_expressions.specs.Calls.{const_in}
+use Rattle.wgsl_lower_expressions.specs.Programs.{Known, find_known, world, root}
+use Rattle.wgsl_lower_expressions.specs.Runs.{find_decl, here_if, started}
+use Rattle.wgsl_lower_expressions.specs.Runs as runs
+use Rattle.wgsl_lower_expressions.proofs.Agreeing.{KnownAgree, const_answer}
+use Rattle.wgsl_lower_expressions.proofs.Known.{or_if, find_behind}
+use Rattle.wgsl_lower_expressions.proofs.Scalars.{used_literal, IsInRange, converted_scalar}
+use Rattle.wgsl_lower_expressions.proofs.Converting.{IsConcrete}
 use Rattle.wgsl_lower_expressions.specs.Computed.{type_here}
 use Rattle.wgsl_lower.proofs.Units.{parts_of}
 use Rattle.wgsl_lower.proofs.Computes.{computed_done}

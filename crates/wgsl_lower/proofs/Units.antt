@@ -11,7 +11,7 @@ use Rattle.wgsl_meaning.specs.Values.{Checked, and_then}
 use Rattle.wgsl_meaning.specs.Outcome.{Outcome, Done, Failed, Deep, after, bind}
 use Rattle.wgsl_meaning.specs.Names.{Name, find, find_decl}
 use Rattle.wgsl_meaning.specs.Meaning.{Types}
-use Rattle.wgsl_programs.specs.Programs.{is_value}
+use Rattle.wgsl_lower_expressions.specs.Programs.{is_value}
 use Rattle.wgsl_meaning.specs.ConstStage.{Scope}
 use Rattle.wgsl_eval.specs.declared.error.DeclarationFault.{DeclarationFault}
 use Rattle.wgsl_eval.specs.Start.{then_more}

@@ -32,17 +32,17 @@ use Rattle.wgsl_meaning.specs.ConstStage.{Consts, Scope, stage, hidden, const_kn
 use Rattle.wgsl_meaning.specs.Programs as plain_programs
 use Rattle.wgsl_meaning.specs.Written.{HasConstructor, written, negative, least_abstract, least_signed}
 use Rattle.wgsl_meaning.proofs.WrittenValue.{value-written}
-use Rattle.wgsl_programs.specs.Faults.{OfName, Todo, NotType, UnexpectedTemplate}
-use Rattle.wgsl_programs.specs.Computing.{computed, at_once}
-use Rattle.wgsl_programs.specs.Names.{Name, Symbol, Local, Hidden, Env, find, built_in_type}
-use Rattle.wgsl_programs.specs.Operations.{construct, construct_type}
-use Rattle.wgsl_programs.specs.Meaning.{World, shown, name_value, name_type, needed, call_value, call_type, denoted_type, type_written, value, values, typed}
-use Rattle.wgsl_programs.specs.Calls.{written_result, result_in}
-use Rattle.wgsl_programs.specs.Programs.{Known, find_known, known_value, known_type, function_world, world, root, here}
-use Rattle.wgsl_programs.specs.Runs.{find_decl, here_if}
-use Rattle.wgsl_programs.specs.Runs as runs
-use Rattle.wgsl_programs.proofs.Bodies.{name_here, callee_here}
-use Rattle.wgsl_programs.proofs.Scalars.{zero_of_scalar, built_of_scalar, type_of_literal}
+use Rattle.wgsl_lower_expressions.specs.Faults.{OfName, Todo, NotType, UnexpectedTemplate}
+use Rattle.wgsl_lower_expressions.specs.Computing.{computed, at_once}
+use Rattle.wgsl_lower_expressions.specs.Names.{Name, Symbol, Local, Hidden, Env, find, built_in_type}
+use Rattle.wgsl_lower_expressions.specs.Operations.{construct, construct_type}
+use Rattle.wgsl_lower_expressions.specs.Meaning.{World, shown, name_value, name_type, needed, call_value, call_type, denoted_type, type_written, value, values, typed}
+use Rattle.wgsl_lower_expressions.specs.Calls.{written_result, result_in}
+use Rattle.wgsl_lower_expressions.specs.Programs.{Known, find_known, known_value, known_type, function_world, world, root, here}
+use Rattle.wgsl_lower_expressions.specs.Runs.{find_decl, here_if}
+use Rattle.wgsl_lower_expressions.specs.Runs as runs
+use Rattle.wgsl_lower_expressions.proofs.Bodies.{name_here, callee_here}
+use Rattle.wgsl_lower_expressions.proofs.Scalars.{zero_of_scalar, built_of_scalar, type_of_literal}
 use Rattle.wgsl_lower.proofs.Computes.{as_value, lift, lift_bind, lift_computed, computes, name_type_here, call_type_here, types_compute}
 
 -- ---- what stands under a name

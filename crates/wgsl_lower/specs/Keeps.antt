@@ -2,9 +2,9 @@
 use Rattle.std.specs.Prelude.{◌≡◌, ℕ, List, [], ◌∷◌, Option, codes}
 use Rattle.wgsl_syntax.specs.Tree.{Param, Decl, variable, function}
 use Rattle.wgsl_instance.specs.declared.tree.Instance.{Instance}
-use Rattle.wgsl_programs.specs.Names.{Name}
-use Rattle.wgsl_programs.specs.Programs.{here}
-use Rattle.wgsl_programs.specs.Runs.{Handed, EndsWell, plain}
+use Rattle.wgsl_lower_expressions.specs.Names.{Name}
+use Rattle.wgsl_lower_expressions.specs.Programs.{here}
+use Rattle.wgsl_lower_expressions.specs.Runs.{Handed, EndsWell, plain}
 
 abbrev pub is_clear : Name → Type 0
 is_clear x = (x ≡ codes "i32" → ⊥) × (x ≡ codes "u32" → ⊥)

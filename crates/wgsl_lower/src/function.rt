@@ -8,7 +8,7 @@ ghost use Rattle.wgsl_syntax.specs.declared.declaration.GlobalDeclaration.TheVar
 ghost use Rattle.wgsl_meaning.specs.Values.{and_then};
 ghost use Rattle.wgsl_eval.specs.Ends.{Ends, Gives};
 ghost use Rattle.wgsl_eval.specs.Scopes.{scope_of};
-ghost use Rattle.wgsl_programs.specs.Runs.{has_stage};
+ghost use Rattle.wgsl_lower_expressions.specs.Runs.{has_stage};
 ghost use Rattle.wgsl_lower_expressions.specs.Cleared as clearing;
 ghost use Rattle.wgsl_lower_expressions.specs.Computed as spec;
 ghost use Rattle.wgsl_lower.specs.Nodes.{lowered_with};

@@ -7,5 +7,5 @@ mod unit;
 
 pub use function::lowered_function;
 pub use unit::lower;
-pub use wgsl_eval::{DeclarationFault, UnitError};
+pub use wgsl_eval::{DeclarationFault, Fault, NameFault, UnitError};
 pub use wgsl_lower_expressions::{lowered, to_expr};

@@ -1,2 +1,10 @@
 pub mod Parts
 pub mod Reduces
+pub use Rattle.wgsl_programs.proofs.Bodies
+pub use Rattle.wgsl_programs.proofs.Scalars
+pub use Rattle.wgsl_programs.proofs.Simulates
+pub use Rattle.wgsl_programs.proofs.Itself
+pub use Rattle.wgsl_programs.proofs.Agreeing
+pub use Rattle.wgsl_programs.proofs.Converting
+pub use Rattle.wgsl_programs.proofs.Cells
+pub use Rattle.wgsl_programs.proofs.Known

@@ -36,7 +36,7 @@ use Rattle.wgsl_meaning.specs.Programs.{called_at, here_if}
 use Rattle.wgsl_meaning.specs.Meaning.{value, values, between, construct, called_or, result_here}
 use Rattle.wgsl_meaning.specs.ConstStage.{Scope, stage, callee_of, callee_at}
 use Rattle.wgsl_meaning.specs.Written.{written}
-use Rattle.wgsl_eval.specs.Ends.{Gives}
+use Rattle.wgsl_written.specs.Ends.{Gives}
 use Rattle.wgsl_written.specs.declared.name.Reduced.{Reduced as CodeReduced}
 use Rattle.wgsl_written.specs.declared.name.Reduced.TheVariants.{Parts}
 use Rattle.wgsl_lower_expressions.specs.Computed.{lacks_value, unless_fault, lowered, all_lowered, parts, const_value, written_or, callee_here}

@@ -15,10 +15,10 @@ use Rattle.wgsl_meaning.specs.Meaning.{Types, value, typed}
 use Rattle.wgsl_meaning.specs.ConstStage.{Scope, stage, module_scope, callee_of}
 use Rattle.wgsl_meaning.specs.Written.{written}
 use Rattle.wgsl_lower_expressions.specs.Cleared.{does_nothing, cleared}
-use Rattle.wgsl_eval.specs.declared.error.DeclarationFault.{DeclarationFault}
+use Rattle.wgsl_written.specs.DeclarationFault.{DeclarationFault}
 use Rattle.wgsl_items.specs.declared.error.OrOutOfMemory.{OrOutOfMemory}
 use Rattle.wgsl_items.specs.declared.error.OrOutOfMemory.TheVariants.{Error, OutOfMemory}
-use Rattle.wgsl_eval.specs.Start.{refused, then_more, consts_of}
+use Rattle.wgsl_written.specs.Start.{refused, then_more, consts_of}
 
 -- ---- expressions
 

@@ -2,3 +2,14 @@ pub mod Cleared
 pub mod Lowered
 pub mod Computed
 pub mod Reduced
+pub use Rattle.wgsl_programs.specs.Runs
+pub use Rattle.wgsl_programs.specs.Names
+pub use Rattle.wgsl_programs.specs.Programs
+pub use Rattle.wgsl_programs.specs.Operators
+pub use Rattle.wgsl_programs.specs.Computing
+pub use Rattle.wgsl_programs.specs.Operations
+pub use Rattle.wgsl_programs.specs.Meaning
+pub use Rattle.wgsl_programs.specs.Follows
+pub use Rattle.wgsl_programs.specs.Built
+pub use Rattle.wgsl_programs.specs.Faults
+pub use Rattle.wgsl_programs.specs.Calls

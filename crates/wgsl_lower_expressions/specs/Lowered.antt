@@ -5,9 +5,9 @@ use Rattle.wgsl_syntax.specs.Tree.{Exp, Exps, literal, parenthesized, unary, bin
 use Rattle.wgsl_enumerations.specs.declared.words.ShaderStage.TheVariants.{Const}
 use Rattle.wgsl_shader_type.specs.declared.tree.ShaderType.{ShaderType}
 use Rattle.wgsl_shader_type.specs.Class.{is_abstract}
-use Rattle.wgsl_instance.specs.declared.tree.Instance.{Instance, out-Instance}
-use Rattle.wgsl_instance.specs.declared.tree.Instance.TheOpen.{Instance-F}
-use Rattle.wgsl_computations.specs.Machine.{Outcome, Done, Failed, Deep}
+use Rattle.wgsl_programs.specs.Instance.{Instance, out-Instance}
+use Rattle.wgsl_programs.specs.Instance.TheOpen.{Instance-F}
+use Rattle.wgsl_programs.specs.Machine.{Outcome, Done, Failed, Deep}
 use Rattle.wgsl_meaning.specs.Values.{Checked, and_then}
 use Rattle.wgsl_meaning.specs.Written as literals
 use Rattle.wgsl_programs.specs.Faults.{Fault, StepLimit, Operation, Deferred, NegativeAttr, OfName, NameFault, NotAccessible, NotConst, NotCallable, Todo}
@@ -19,11 +19,11 @@ use Rattle.wgsl_programs.specs.Programs.{Known, world, root, here}
 use Rattle.wgsl_programs.specs.Runs.{allowed, find_decl, plain}
 pub use Rattle.wgsl_written.specs.Lacking.{lacks_value, unless_fault}
 use Rattle.wgsl_lower_expressions.specs.Cleared.{does_nothing, cleared}
-use Rattle.wgsl_eval.specs.declared.error.DeclarationFault.{DeclarationFault}
-use Rattle.wgsl_eval.specs.Start.{then_more}
+use Rattle.wgsl_written.specs.DeclarationFault.{DeclarationFault}
+use Rattle.wgsl_written.specs.Start.{then_more}
 use Rattle.wgsl_items.specs.declared.error.OrOutOfMemory.{OrOutOfMemory}
 use Rattle.wgsl_items.specs.Memory.{UnlessOutOfMemory}
-use Rattle.wesl_order.specs.Units.{IsStartOrderOf}
+use Rattle.wgsl_programs.specs.Units.{IsStartOrderOf}
 
 -- ---- values
 

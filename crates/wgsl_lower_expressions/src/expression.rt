@@ -6,16 +6,13 @@ ghost use Rattle.wgsl_syntax.specs.Tree.{binary, exps};
 ghost use Rattle.wgsl_syntax.specs.View.{tree, node_tree, type_tree, call_layer};
 ghost use Rattle.wgsl_meaning.specs.Meaning as meaning;
 ghost use Rattle.wgsl_meaning.specs.ConstStage.{stage};
-ghost use Rattle.wgsl_eval.specs.Ends.{Gives};
-ghost use Rattle.wgsl_eval.specs.Scopes.{scope_of};
+ghost use Rattle.wgsl_written.specs.Ends.{Gives};
+ghost use Rattle.wgsl_written.specs.Scopes.{scope_of};
 ghost use Rattle.wgsl_lower_expressions.specs.Computed as spec;
 ghost use Rattle.wgsl_lower_expressions.specs.Reduced as reduced;
 
 use std::alloc::{AllocError, Global};
 use wgsl_enumerations::ShaderStage;
-use wgsl_eval::{
-    EvalError, Scope, call, callee, computed, decides, literal_value, plain_name, values,
-};
 use wgsl_items::{Boxed, CloneIn, Items, Text};
 use wgsl_scalar::{binary_scalar_op, unary_scalar_op};
 use wgsl_shader_type::LiteralInstance;
@@ -23,7 +20,10 @@ use wgsl_syntax::{
     BinaryExpression, BinaryOperator, Expression, ExpressionNode, FunctionCall,
     ParenthesizedExpression, Span, Spanned, TypeExpression, UnaryExpression, UnaryOperator,
 };
-use wgsl_written::{Reduced, lacks_value, named, to_expr};
+use wgsl_written::{
+    EvalError, Reduced, Scope, call, callee, computed, decides, lacks_value, literal_value, named,
+    plain_name, to_expr, values,
+};
 
 /// What lowering makes of the arguments of a call.
 #[derive(Drop)]

@@ -4,11 +4,10 @@ ghost use Rattle.std.specs.Prelude.{◌≡◌};
 ghost use Rattle.wgsl_lowered.specs.Lowered.{stays};
 
 use wgsl_declarations::{FormalParameter, Function, GlobalDeclaration, Struct};
-use wgsl_evaluator::{Evaluator, Stop};
-use wgsl_folded_expressions::{
-    fold_attributes, fold_declaration, fold_maybe_type, fold_type, type_of_written,
+use wgsl_folded_statements::{
+    Evaluator, Stop, fold_attributes, fold_declaration, fold_maybe_type, fold_statements,
+    fold_type, type_of_written,
 };
-use wgsl_folded_statements::fold_statements;
 use wgsl_replacing::clear_block;
 use wgsl_shader_type::Type;
 use wgsl_simple_statements::DeclarationKind;

@@ -8,4 +8,4 @@ mod unit;
 
 pub use lowering::{Refused, lower};
 pub use unit::Place;
-pub use wgsl_evaluator::{EvalError, Fault};
+pub use wgsl_folded_statements::{EvalError, Fault};

@@ -8,8 +8,8 @@ use crate::unit::{Place, effects_of, fold_unit};
 use std::alloc::{AllocError, Global};
 use std::mem;
 use wgsl_declarations::{GlobalDeclarationNode, TranslationUnit, let_go, retain_declarations};
-use wgsl_evaluator::{EvalError, Evaluator};
 use wgsl_expressions::{CloneIn, Items};
+use wgsl_folded_statements::{EvalError, Evaluator};
 use wgsl_items::OrOutOfMemory;
 use wgsl_prune::{Effects, prune};
 

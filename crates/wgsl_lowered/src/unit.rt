@@ -4,9 +4,8 @@ use crate::declarations::fold_global;
 use std::alloc::{AllocError, Global};
 use wgsl_declarations::{GlobalDeclarationNode, TranslationUnit};
 use wgsl_directory::Declared;
-use wgsl_evaluator::{Evaluator, Stop};
 use wgsl_expressions::Items;
-use wgsl_folded_expressions::fold_attributes;
+use wgsl_folded_statements::{Evaluator, Stop, fold_attributes};
 use wgsl_imports::GlobalDirective;
 use wgsl_prune::Effects;
 

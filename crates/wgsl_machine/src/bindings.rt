@@ -3,7 +3,7 @@
 use crate::machine::Machine;
 use std::alloc::AllocError;
 use wgsl_enumerations::{AccessMode, AddressSpace, BuiltinValue};
-use wgsl_instance::Instance;
+use wgsl_memory::Instance;
 
 /// A binding, and its cell once a variable took it.
 #[derive(Debug, Drop)]

@@ -1,7 +1,7 @@
 //! Operands.
 
-use wgsl_instance::{Instance, Step};
 use wgsl_items::Items;
+use wgsl_memory::{Instance, Step};
 
 /// Where a known value stands.
 #[derive(Clone, Copy, Debug, PartialEq, Eq)]

@@ -1,6 +1,6 @@
 //! Parts of values, and the bounds of types.
 
-use wgsl_instance::{Instance, Step};
+use wgsl_memory::{Instance, Step};
 use wgsl_shader_type::{StructMemberType, Type};
 
 /// How deep types may nest.

@@ -1,6 +1,6 @@
 //! What is known of a declaration.
 
-use wgsl_instance::Instance;
+use wgsl_memory::Instance;
 use wgsl_shader_type::Type;
 
 /// What is known of a declaration.

@@ -5,8 +5,8 @@ use Rattle.wgsl_path.specs.declared.span.Spanned.{Spanned}
 use Rattle.wgsl_attributes.specs.declared.attribute.Attribute.{Attribute}
 use Rattle.wgsl_simple_statements.specs.declared.declaration.Declaration.{Declaration}
 use Rattle.wgsl_simple_statements.specs.declared.declaration.ConstAssert.{ConstAssert}
-use Rattle.wgsl_declarations.specs.declared.declaration.GlobalDeclaration.{GlobalDeclaration}
-use Rattle.wgsl_declarations.specs.declared.declaration.GlobalDeclaration.TheVariants as declaration
+use Rattle.wgsl_nodes.specs.GlobalDeclaration.{GlobalDeclaration}
+use Rattle.wgsl_nodes.specs.GlobalDeclaration.TheVariants as declaration
 use Rattle.wgsl_parts.specs.declared.part.Part.{Part}
 use Rattle.wgsl_parts.specs.declared.part.Part.TheVariants as part
 use Rattle.wgsl_parts.specs.declared.label.DeclarationLabel.{DeclarationLabel}

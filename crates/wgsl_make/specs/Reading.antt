@@ -14,8 +14,8 @@ use Rattle.wgsl_expressions.specs.declared.expression.TypeExpressionOf.{TypeExpr
 use Rattle.wgsl_attributes.specs.declared.attribute.Attribute.{Attribute}
 use Rattle.wgsl_imports.specs.declared.import.ImportStatement.{ImportStatement}
 use Rattle.wgsl_imports.specs.declared.directive.GlobalDirective.{GlobalDirective}
-use Rattle.wgsl_declarations.specs.declared.declaration.FormalParameter.{FormalParameter}
-use Rattle.wgsl_declarations.specs.declared.declaration.GlobalDeclaration.{GlobalDeclaration}
+use Rattle.wgsl_nodes.specs.FormalParameter.{FormalParameter}
+use Rattle.wgsl_nodes.specs.GlobalDeclaration.{GlobalDeclaration}
 
 -- the arguments of an attribute, which has parentheses or has none
 abbrev pub arguments_in : Part → Option (List (Spanned Expression))

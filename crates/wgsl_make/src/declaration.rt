@@ -6,11 +6,11 @@ ghost use Rattle.wgsl_make.specs.Declarations as making;
 use crate::take::{directives, globals, imports, members, parameters, returned};
 use std::alloc::Global;
 use wgsl_attributes::Attributes;
-use wgsl_declarations::{
-    FormalParameter, Function, GlobalDeclaration, Struct, StructMember, TranslationUnit, TypeAlias,
-};
 use wgsl_error::Refusal;
 use wgsl_items::Boxed;
+use wgsl_nodes::{
+    FormalParameter, Function, GlobalDeclaration, Struct, StructMember, TranslationUnit, TypeAlias,
+};
 use wgsl_parts::take::{
     assertion, attributes, block, both, declaration, end, ended, ident, three, ty,
 };

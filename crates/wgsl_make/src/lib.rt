@@ -13,3 +13,5 @@ mod statement;
 mod take;
 
 pub use production::make;
+pub use wgsl_attribute_words::{AttributeWord, is_setting, severity_in, word_named};
+pub use wgsl_statements::StatementNode;

@@ -6,11 +6,11 @@ ghost use Rattle.wgsl_make.specs.Reading.{arguments_in, statement_in, else_in, c
 
 use std::alloc::Global;
 use wgsl_attributes::Attributes;
-use wgsl_declarations::{FormalParameter, GlobalDeclarationNode, StructMemberNode};
 use wgsl_error::Refusal;
 use wgsl_expressions::{ExpressionNode, TypeExpression};
 use wgsl_imports::{GlobalDirective, Import, ImportContent, ImportStatement};
 use wgsl_items::{Boxed, Items, Text};
+use wgsl_nodes::{FormalParameter, GlobalDeclarationNode, StructMemberNode};
 use wgsl_parts::take::unfit;
 use wgsl_parts::{FunctionResult, Held, Part, Stack, next};
 use wgsl_path::ModulePath;

@@ -1,7 +1,7 @@
 -- Names: of types, of built-in constructors, of parameters (WGSL, "Declaration and Scope").
 use Rattle.std.specs.Prelude.{ℕ, List, [], ◌∷◌, Option, Some, None, Ok, Err, codes, if◌then◌else◌}
 use Rattle.std.specs.Str.{bytes_eq}
-use Rattle.wgsl_path.specs.declared.path.ModulePath.{ModulePath}
+use Rattle.wgsl_syntax.specs.ModulePath.{ModulePath}
 use Rattle.wgsl_syntax.specs.Tree.{Typ, simple, templated, Decl}
 use Rattle.wgsl_syntax.specs.Names.{declared_name}
 use Rattle.wgsl_scalar.specs.declared.scalar.ScalarType.{ScalarType}

@@ -1,7 +1,7 @@
 -- What names of a plain unit mean where they are called, or name a type.
 use Rattle.std.specs.Prelude.{List, Option, Some, None, Err, []}
-use Rattle.wgsl_path.specs.declared.path.ModulePath.{ModulePath}
-use Rattle.wgsl_path.specs.declared.path.PathOrigin.TheVariants.{Absolute}
+use Rattle.wgsl_syntax.specs.ModulePath.{ModulePath}
+use Rattle.wgsl_syntax.specs.PathOrigin.TheVariants.{Absolute}
 use Rattle.wgsl_syntax.specs.Tree.{Decl}
 use Rattle.wgsl_enumerations.specs.declared.words.ShaderStage.{ShaderStage}
 use Rattle.wgsl_enumerations.specs.declared.words.ShaderStage.TheVariants.{Const, Override, Exec}

@@ -7,3 +7,4 @@ mod place;
 mod view;
 
 pub use memory::Memory;
+pub use wgsl_instance::{Instance, RefInstance, Step};

@@ -4,7 +4,7 @@ use Rattle.std.specs.List.{flat_map}
 use Rattle.unicode_ident.proofs.Computing.{unicode_ident}
 use Rattle.wgsl_token.specs.declared.token.Fixed.TheVariants as f
 use Rattle.wgsl_template_spec.specs.declared.token.TemplateToken.{TemplateToken}
-use Rattle.wgsl_token_layout.specs.Layout.{IsLaidOut, at_the_end}
+use Rattle.wgsl_tree_tokens.specs.Layout.{IsLaidOut, at_the_end}
 use Rattle.wgsl_expressions.specs.Print.{commas, typ_text, indent}
 use Rattle.wgsl_expressions.specs.Tree.{Typ}
 use Rattle.wgsl_attributes.specs.Print.{attrs_text}

@@ -2,7 +2,7 @@
 use Rattle.std.proofs.Common.{refl, sym, ℕ, List, [], ◌++◌, append_assoc, append-nil, subst}
 use Rattle.std.specs.List.{flat_map}
 use Rattle.wgsl_template_spec.specs.declared.token.TemplateToken.{TemplateToken}
-use Rattle.wgsl_token_layout.specs.Layout.{IsLaidOut, at_the_end}
+use Rattle.wgsl_tree_tokens.specs.Layout.{IsLaidOut, at_the_end}
 use Rattle.wgsl_imports.specs.Print.{importing_text, directive_text}
 use Rattle.wgsl_declarations.specs.Print.{decl_text, unit_text}
 use Rattle.wgsl_declarations.specs.Tree.{UnitTree}

@@ -10,7 +10,7 @@ use Rattle.wgsl_token.specs.Spelling.{spelling}
 use Rattle.wgsl_spelled.proofs.Ends.{ends_word}
 use Rattle.wgsl_spelled.proofs.Spells.{spells_ascii}
 use Rattle.wgsl_template_spec.specs.declared.token.TemplateToken.{TemplateToken}
-use Rattle.wgsl_token_layout.specs.OptionalMarks.{is_any_word}
+use Rattle.wgsl_tree_tokens.specs.OptionalMarks.{is_any_word}
 use Rattle.wgsl_expressions.specs.Print.{exp_text, typ_text, indent}
 use Rattle.wgsl_expressions.specs.Tree.{Exp, Typ}
 use Rattle.wgsl_tree_tokens.specs.Tokens.{mark, word, exp_tokens, typ_tokens}

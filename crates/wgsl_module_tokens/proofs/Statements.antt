@@ -2,7 +2,7 @@
 use Rattle.std.proofs.Common.{◌≡◌, refl, sym, ap, ◌∙◌, ℕ, ◌+◌, true, List, [], ◌∷◌, ◌++◌, append_assoc, append-nil, subst, codes, Option, Some, None}
 use Rattle.wgsl_token.specs.declared.token.Fixed.TheVariants as f
 use Rattle.wgsl_template_spec.specs.declared.token.TemplateToken.{TemplateToken}
-use Rattle.wgsl_token_layout.specs.Layout.{IsLaidOut, at_the_end}
+use Rattle.wgsl_tree_tokens.specs.Layout.{IsLaidOut, at_the_end}
 use Rattle.wgsl_expressions.specs.Print.{exp_text, indent}
 use Rattle.wgsl_expressions.specs.Tree.{Exp}
 use Rattle.wgsl_attributes.specs.Print.{attrs_text}

@@ -1,7 +1,7 @@
 -- What is printed of statements, declarations and modules.
 use Rattle.std.specs.Prelude.{ℕ, List}
 use Rattle.wgsl_template_spec.specs.declared.token.TemplateToken.{TemplateToken}
-use Rattle.wgsl_token_layout.specs.Layout.{IsTextOf}
+use Rattle.wgsl_tree_tokens.specs.Layout.{IsTextOf}
 use Rattle.wgsl_statements.specs.Tree.{Stm}
 use Rattle.wgsl_statements.specs.Print.{stm_text}
 use Rattle.wgsl_declarations.specs.Tree.{Decl, UnitTree}

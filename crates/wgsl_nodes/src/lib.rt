@@ -13,3 +13,7 @@ mod statement;
 mod value;
 
 pub use node::{Header, SyntaxNode};
+pub use wgsl_declarations::{
+    FormalParameter, Function, GlobalDeclaration, GlobalDeclarationNode, Struct, StructMember,
+    StructMemberNode, TranslationUnit, TypeAlias,
+};

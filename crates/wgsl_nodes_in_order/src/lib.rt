@@ -10,3 +10,7 @@ mod node;
 pub use find_declarations::find_nodes;
 pub use find_directives::find_directive_nodes;
 pub use node::NodeRef;
+pub use wgsl_declarations::{
+    FormalParameter, Function, GlobalDeclaration, Struct, StructMember, TranslationUnit, TypeAlias,
+};
+pub use wgsl_statements::Statement;

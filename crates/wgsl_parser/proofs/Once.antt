@@ -1,8 +1,8 @@
 -- A text that is no module has one fault, and a module has none.
 use Rattle.std.proofs.Common.{◌≡◌, ◌∙◌, refl, sym, ap, subst, ℕ, false, Some, None, List, length, inl, inr, Ok, Err}
 use Rattle.wgsl_template_spec.proofs.Once.{lexed_once}
-use Rattle.wgsl_declarations.specs.declared.unit.TranslationUnit.{TranslationUnit}
-use Rattle.wgsl_parts.specs.declared.part.Part.TheVariants as part
+use Rattle.wgsl_reading.specs.TranslationUnit.{TranslationUnit}
+use Rattle.wgsl_reading.specs.Part.TheVariants as part
 use Rattle.wgsl_reading.specs.declared.driver.Start.TheVariants.{Module}
 use Rattle.wgsl_reading.specs.declared.answer.Unread.{Unread}
 use Rattle.wgsl_reading.specs.declared.answer.Unread.TheVariants.{Refused, Failed, FailedAtEnd, Unexpected}

@@ -9,7 +9,7 @@ use Rattle.wgsl_template_spec.specs.declared.token.TemplateToken.TheVariants.{Pl
 use Rattle.wgsl_template_spec.specs.declared.token.SpannedTemplateToken.{SpannedTemplateToken}
 use Rattle.wgsl_template_spec.specs.Tokens.{IsLexed}
 use Rattle.wgsl_template_spec.proofs.Once.{lexed_once}
-use Rattle.wgsl_declarations.specs.declared.unit.TranslationUnit.{TranslationUnit}
+use Rattle.wgsl_reading.specs.TranslationUnit.{TranslationUnit}
 use Rattle.wgsl_reading.specs.declared.phrase.Failure.{Failure}
 use Rattle.wgsl_reading.specs.declared.phrase.Check.{Check}
 use Rattle.wgsl_reading.specs.declared.phrase.Check.TheVariants as check

@@ -1,6 +1,6 @@
 -- That the parser's answer of a module's text is the only one.
 use Rattle.std.specs.Prelude.{◌≡◌, ℕ, List, Ok}
-use Rattle.wgsl_declarations.specs.declared.unit.TranslationUnit.{TranslationUnit}
+use Rattle.wgsl_reading.specs.TranslationUnit.{TranslationUnit}
 use Rattle.wgsl_error.specs.declared.error.Error.{Error}
 use Rattle.wgsl_parser.specs.Texts.{IsModuleFault, ParsesModule}
 

@@ -2,9 +2,9 @@
 use Rattle.std.specs.Prelude.{◌≡◌, ◌⊎◌, ℕ, None, List, [], length, Result, Ok, Err}
 use Rattle.wgsl_template_spec.specs.declared.token.SpannedTemplateToken.{SpannedTemplateToken}
 use Rattle.wgsl_template_spec.specs.Tokens.{IsLexed}
-use Rattle.wgsl_declarations.specs.declared.unit.TranslationUnit.{TranslationUnit}
-use Rattle.wgsl_parts.specs.declared.part.Part.{Part}
-use Rattle.wgsl_parts.specs.declared.part.Part.TheVariants as part
+use Rattle.wgsl_reading.specs.TranslationUnit.{TranslationUnit}
+use Rattle.wgsl_reading.specs.Part.{Part}
+use Rattle.wgsl_reading.specs.Part.TheVariants as part
 use Rattle.wgsl_reading.specs.declared.driver.Start.{Start}
 use Rattle.wgsl_reading.specs.declared.driver.Start.TheVariants.{Module}
 use Rattle.wgsl_reading.specs.declared.answer.Unread.{Unread}

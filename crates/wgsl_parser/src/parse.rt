@@ -1,23 +1,22 @@
 //! Texts.
 
 ghost use Rattle.std.specs.Prelude.{◌≡◌, Ok, Err, OnOk, IfErr};
-ghost use Rattle.wgsl_parts.specs.declared.part.Part.TheVariants as as_part;
+ghost use Rattle.wgsl_reading.specs.Part.TheVariants as as_part;
 ghost use Rattle.wgsl_reading.specs.declared.driver.Start.TheVariants as from;
 ghost use Rattle.wgsl_parser.specs.Texts.{Parses, ParsesModule, ParsesTokens, TellsModule};
 
 use crate::error::error_of;
 use crate::take::{declaration, directive, expression, import, kind, module, statement};
 use std::alloc::{AllocError, Global};
-use wgsl_declarations::{GlobalDeclarationNode, TranslationUnit, let_go};
 use wgsl_error::Error;
 use wgsl_expressions::ExpressionNode;
 use wgsl_imports::{GlobalDirective, ImportStatement};
 use wgsl_items::Items;
-use wgsl_parts::Part;
-use wgsl_reading::{Start, read};
+use wgsl_reading::{
+    GlobalDeclarationNode, Part, Start, StatementNode, TranslationUnit, let_go, read,
+};
 use wgsl_simple_statements::DeclarationKind;
 use wgsl_stack::Queue;
-use wgsl_statements::StatementNode;
 use wgsl_template_lexer::lexer::lex_queue;
 use wgsl_template_spec::SpannedTemplateToken;
 

@@ -2,14 +2,12 @@
 
 ghost use Rattle.std.specs.Prelude.{◌≡◌, IfOk};
 
-use wgsl_declarations::{GlobalDeclarationNode, TranslationUnit};
 use wgsl_error::Refusal;
 use wgsl_expressions::ExpressionNode;
 use wgsl_imports::{GlobalDirective, ImportStatement};
-use wgsl_parts::Part;
-use wgsl_parts::take::misfit;
+use wgsl_reading::take::misfit;
+use wgsl_reading::{GlobalDeclarationNode, Part, StatementNode, TranslationUnit};
 use wgsl_simple_statements::DeclarationKind;
-use wgsl_statements::StatementNode;
 
 pub(crate) fn expression(part: Part) -> Result<ExpressionNode, Refusal>
     ensures { IfOk result (λ x. part ≡ Part.Expression x) }

@@ -7,12 +7,11 @@ use crate::parse::{
     parse_statement, parse_str,
 };
 use std::alloc::Global;
-use wgsl_declarations::{GlobalDeclarationNode, TranslationUnit};
 use wgsl_error::Error;
 use wgsl_expressions::ExpressionNode;
 use wgsl_imports::{GlobalDirective, ImportStatement};
+use wgsl_reading::{GlobalDeclarationNode, StatementNode, TranslationUnit};
 use wgsl_simple_statements::DeclarationKind;
-use wgsl_statements::StatementNode;
 
 /// A tree that texts are read as.
 pub trait FromText: Drop {
@@ -37,7 +36,7 @@ impl FromText for TranslationUnit {
 }
 
 impl FromText for ExpressionNode {
-    ghost use Rattle.wgsl_parts.specs.declared.part.Part.TheVariants as as_part;
+    ghost use Rattle.wgsl_reading.specs.Part.TheVariants as as_part;
     ghost use Rattle.wgsl_reading.specs.declared.driver.Start.TheVariants as from;
     ghost use Rattle.wgsl_parser.specs.Texts.{Parses};
 
@@ -49,7 +48,7 @@ impl FromText for ExpressionNode {
 }
 
 impl FromText for StatementNode {
-    ghost use Rattle.wgsl_parts.specs.declared.part.Part.TheVariants as as_part;
+    ghost use Rattle.wgsl_reading.specs.Part.TheVariants as as_part;
     ghost use Rattle.wgsl_reading.specs.declared.driver.Start.TheVariants as from;
     ghost use Rattle.wgsl_parser.specs.Texts.{Parses};
 
@@ -61,7 +60,7 @@ impl FromText for StatementNode {
 }
 
 impl FromText for GlobalDeclarationNode {
-    ghost use Rattle.wgsl_parts.specs.declared.part.Part.TheVariants as as_part;
+    ghost use Rattle.wgsl_reading.specs.Part.TheVariants as as_part;
     ghost use Rattle.wgsl_reading.specs.declared.driver.Start.TheVariants as from;
     ghost use Rattle.wgsl_parser.specs.Texts.{Parses};
 
@@ -73,7 +72,7 @@ impl FromText for GlobalDeclarationNode {
 }
 
 impl FromText for GlobalDirective {
-    ghost use Rattle.wgsl_parts.specs.declared.part.Part.TheVariants as as_part;
+    ghost use Rattle.wgsl_reading.specs.Part.TheVariants as as_part;
     ghost use Rattle.wgsl_reading.specs.declared.driver.Start.TheVariants as from;
     ghost use Rattle.wgsl_parser.specs.Texts.{Parses};
 
@@ -85,7 +84,7 @@ impl FromText for GlobalDirective {
 }
 
 impl FromText for ImportStatement {
-    ghost use Rattle.wgsl_parts.specs.declared.part.Part.TheVariants as as_part;
+    ghost use Rattle.wgsl_reading.specs.Part.TheVariants as as_part;
     ghost use Rattle.wgsl_reading.specs.declared.driver.Start.TheVariants as from;
     ghost use Rattle.wgsl_parser.specs.Texts.{Parses};
 
@@ -97,7 +96,7 @@ impl FromText for ImportStatement {
 }
 
 impl FromText for DeclarationKind {
-    ghost use Rattle.wgsl_parts.specs.declared.part.Part.TheVariants as as_part;
+    ghost use Rattle.wgsl_reading.specs.Part.TheVariants as as_part;
     ghost use Rattle.wgsl_reading.specs.declared.driver.Start.TheVariants as from;
     ghost use Rattle.wgsl_parser.specs.Texts.{Parses};
 

@@ -4,8 +4,8 @@ use Rattle.std.specs.Prelude.{string_bytes}
 use Rattle.std.specs.declared.alloc.Global.{Global}
 use Rattle.wgsl_declarations.specs.Tree as whole
 use Rattle.wgsl_syntax.specs.Tree.{UnitTree}
-use Rattle.wgsl_part.specs.Widening.{widen_decl, widen_unit}
-use Rattle.wgsl_part.proofs.Alike.{unit_alike}
+use Rattle.wgsl_widening.specs.Widening.{widen_decl, widen_unit}
+use Rattle.wgsl_widening.proofs.Alike.{unit_alike}
 use Rattle.wgsl_check_unit.specs.declared.error.Unprintable.TheVariants as told
 use Rattle.wgsl_check_unit.specs.Telling as check
 use Rattle.wgsl_part_texts.specs.declared.error.PrintError.TheVariants as refusal

@@ -8,13 +8,13 @@ use Rattle.wgsl_declarations.specs.View as whole
 use Rattle.wgsl_check_unit.specs.Texts.{ParsesModule, IsModuleFault}
 use Rattle.wgsl_syntax.specs.declared.unit.TranslationUnit.{TranslationUnit}
 use Rattle.wgsl_syntax.specs.View.{unit_tree}
-use Rattle.wgsl_part.specs.InPart.{is_unit}
-use Rattle.wgsl_part.specs.Narrowing.{Narrows}
-use Rattle.wgsl_part.specs.Places.{places}
-use Rattle.wgsl_part.specs.ModulePlaces as whole_places
-use Rattle.wgsl_part.specs.declared.error.NarrowError.{NarrowError}
-use Rattle.wgsl_part.specs.declared.error.NarrowError.TheVariants as narrowing
-use Rattle.wgsl_part.proofs.Lying.{one_unit}
+use Rattle.wgsl_widening.specs.InPart.{is_unit}
+use Rattle.wgsl_widening.specs.Narrowing.{Narrows}
+use Rattle.wgsl_widening.specs.Places.{places}
+use Rattle.wgsl_widening.specs.ModulePlaces as whole_places
+use Rattle.wgsl_widening.specs.NarrowError.{NarrowError}
+use Rattle.wgsl_widening.specs.NarrowError.TheVariants as narrowing
+use Rattle.wgsl_widening.proofs.Lying.{one_unit}
 use Rattle.wgsl_part_texts.specs.declared.error.PartError.{PartError}
 use Rattle.wgsl_part_texts.specs.declared.error.PartError.TheVariants as refusal
 use Rattle.wgsl_part_texts.specs.Texts.{Parses, Finds, StandsIn, of_narrowing}

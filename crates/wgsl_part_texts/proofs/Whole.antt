@@ -9,9 +9,9 @@ use Rattle.wgsl_imports.specs.Tree.{Importing}
 use Rattle.wgsl_syntax.specs.Tree.{UnitTree, Imp}
 use Rattle.wgsl_syntax.specs.Print.{unit_text}
 use Rattle.wgsl_check_unit.proofs.Once.{module_apart}
-use Rattle.wgsl_part.specs.Widening.{widen_imp, widen_unit}
-use Rattle.wgsl_part.proofs.Alike.{unit_alike}
-use Rattle.wgsl_part.proofs.Lying.{one_unit}
+use Rattle.wgsl_widening.specs.Widening.{widen_imp, widen_unit}
+use Rattle.wgsl_widening.proofs.Alike.{unit_alike}
+use Rattle.wgsl_widening.proofs.Lying.{one_unit}
 use Rattle.wgsl_check_unit.specs.Derivable.{SaysTree}
 use Rattle.wgsl_check_unit.proofs.ModuleLaws as read_back
 use Rattle.wgsl_check_unit.proofs.One.{texts_have_one_module}

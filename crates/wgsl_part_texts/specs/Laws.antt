@@ -6,7 +6,7 @@ use Rattle.wgsl_path.specs.Paths.{path_text}
 use Rattle.wgsl_error.specs.declared.error.Error.{Error}
 use Rattle.wgsl_template_spec.specs.declared.token.SpannedTemplateToken.{SpannedTemplateToken}
 use Rattle.wgsl_template_spec.specs.Tokens.{IsLexed}
-use Rattle.wgsl_token_layout.specs.Laws.{without_places}
+use Rattle.wgsl_check_unit.specs.TokenLayoutLaws.{without_places}
 use Rattle.wgsl_check_unit.specs.Texts.{IsModuleFault}
 use Rattle.wgsl_syntax.specs.Tree.{UnitTree, Imp}
 use Rattle.wgsl_syntax.specs.Print.{unit_text}

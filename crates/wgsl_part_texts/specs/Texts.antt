@@ -10,12 +10,12 @@ use Rattle.wgsl_syntax.specs.declared.unit.TranslationUnit.{TranslationUnit}
 use Rattle.wgsl_syntax.specs.Tree.{UnitTree}
 use Rattle.wgsl_syntax.specs.View.{unit_tree}
 use Rattle.wgsl_syntax.specs.Print.{unit_text}
-use Rattle.wgsl_part.specs.declared.error.NarrowError.{NarrowError}
-use Rattle.wgsl_part.specs.declared.error.NarrowError.TheVariants as narrowing
-use Rattle.wgsl_part.specs.Widening.{widen_decl, widen_unit}
-use Rattle.wgsl_part.specs.InPart.{IsInPart}
-use Rattle.wgsl_part.specs.Places.{places}
-use Rattle.wgsl_part.specs.ModulePlaces as whole_places
+use Rattle.wgsl_widening.specs.NarrowError.{NarrowError}
+use Rattle.wgsl_widening.specs.NarrowError.TheVariants as narrowing
+use Rattle.wgsl_widening.specs.Widening.{widen_decl, widen_unit}
+use Rattle.wgsl_widening.specs.InPart.{IsInPart}
+use Rattle.wgsl_widening.specs.Places.{places}
+use Rattle.wgsl_widening.specs.ModulePlaces as whole_places
 use Rattle.wgsl_check_unit.specs.Derivable.{Says, SaysTree, IsDerivable}
 use Rattle.wgsl_check_unit.specs.Telling.{IsTold}
 use Rattle.wgsl_part_texts.specs.declared.error.PartError.{PartError}

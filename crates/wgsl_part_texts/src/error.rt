@@ -4,7 +4,7 @@ use std::alloc::AllocError;
 use thiserror::Error as Message;
 use wgsl_error::{Error, Refusal};
 use wgsl_items::Text;
-use wgsl_part::NarrowError;
+use wgsl_widening::NarrowError;
 
 /// Why a text is no unit of the part.
 #[derive(Clone, Copy, Debug, PartialEq, Message)]

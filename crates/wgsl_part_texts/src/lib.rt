@@ -10,3 +10,4 @@ mod print;
 pub use error::{PartError, PrintError};
 pub use parse::parse_part;
 pub use print::print_part;
+pub use wgsl_check_unit::{Unprintable, check_unit, print_checked};

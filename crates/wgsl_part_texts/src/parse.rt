@@ -1,8 +1,8 @@
 //! Texts parsed as units of the part.
 
 ghost use Rattle.std.specs.Prelude.{◌≡◌, IfOk};
-ghost use Rattle.wgsl_part.specs.Places as part;
-ghost use Rattle.wgsl_part.specs.ModulePlaces as places;
+ghost use Rattle.wgsl_widening.specs.Places as part;
+ghost use Rattle.wgsl_widening.specs.ModulePlaces as places;
 ghost use Rattle.wgsl_part_texts.specs.Texts.{Parses, Finds, StandsIn};
 
 use crate::error::PartError;
@@ -11,8 +11,8 @@ use wgsl_check_unit::parse_str;
 use wgsl_declarations as whole;
 use wgsl_declarations::let_go;
 use wgsl_error::Refusal;
-use wgsl_part::{is_in_part, narrow};
 use wgsl_syntax::TranslationUnit;
+use wgsl_widening::{is_in_part, narrow};
 
 /// The unit of the part that a module is.
 #[tactic(auto, using(crate::proofs::Reading::found, crate::proofs::Reading::more_than_part, crate::proofs::Reading::none_found))]

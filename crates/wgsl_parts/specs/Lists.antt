@@ -2,15 +2,15 @@
 use Rattle.std.specs.Prelude.{ℕ, List, [], ◌∷◌, ◌++◌}
 use Rattle.wgsl_path.specs.declared.span.Spanned.{Spanned}
 use Rattle.wgsl_expressions.specs.declared.expression.Expression.{Expression}
-use Rattle.wgsl_attributes.specs.declared.attribute.Attribute.{Attribute}
-use Rattle.wgsl_simple_statements.specs.declared.statement.CaseSelector.{CaseSelector}
-use Rattle.wgsl_statements.specs.declared.statement.Statement.{Statement}
-use Rattle.wgsl_statements.specs.declared.statement.ElseIfClauseOf.{ElseIfClauseOf}
-use Rattle.wgsl_statements.specs.declared.statement.SwitchClauseOf.{SwitchClauseOf}
-use Rattle.wgsl_imports.specs.declared.import.ImportContent.{ImportContent}
-use Rattle.wgsl_imports.specs.declared.import.ImportOf.{ImportOf}
-use Rattle.wgsl_imports.specs.declared.import.ImportStatement.{ImportStatement}
-use Rattle.wgsl_imports.specs.declared.directive.GlobalDirective.{GlobalDirective}
+use Rattle.wgsl_declarations.specs.Attribute.{Attribute}
+use Rattle.wgsl_declarations.specs.CaseSelector.{CaseSelector}
+use Rattle.wgsl_declarations.specs.Statement.{Statement}
+use Rattle.wgsl_declarations.specs.ElseIfClauseOf.{ElseIfClauseOf}
+use Rattle.wgsl_declarations.specs.SwitchClauseOf.{SwitchClauseOf}
+use Rattle.wgsl_declarations.specs.ImportContent.{ImportContent}
+use Rattle.wgsl_declarations.specs.ImportOf.{ImportOf}
+use Rattle.wgsl_declarations.specs.ImportStatement.{ImportStatement}
+use Rattle.wgsl_declarations.specs.GlobalDirective.{GlobalDirective}
 use Rattle.wgsl_declarations.specs.declared.declaration.GlobalDeclaration.{GlobalDeclaration}
 use Rattle.wgsl_declarations.specs.declared.declaration.StructMember.{StructMember}
 use Rattle.wgsl_declarations.specs.declared.declaration.FormalParameter.{FormalParameter}

@@ -4,9 +4,9 @@ use Rattle.std.specs.Prelude.{List, [], ◌∷◌, Option, Some, None}
 use Rattle.wgsl_path.specs.declared.span.Spanned.{Spanned}
 use Rattle.wgsl_enumerations.specs.declared.words.AssignmentOperator.{AssignmentOperator}
 use Rattle.wgsl_expressions.specs.declared.expression.Expression.{Expression}
-use Rattle.wgsl_simple_statements.specs.declared.declaration.DeclarationKind.{DeclarationKind}
-use Rattle.wgsl_simple_statements.specs.declared.declaration.DeclarationKind.TheVariants as kind
-use Rattle.wgsl_statements.specs.declared.statement.Statement.TheVariants as statement
+use Rattle.wgsl_declarations.specs.DeclarationKind.{DeclarationKind}
+use Rattle.wgsl_declarations.specs.DeclarationKind.TheVariants as kind
+use Rattle.wgsl_declarations.specs.Statement.TheVariants as statement
 use Rattle.wgsl_parts.specs.declared.part.TypedName.{TypedName}
 use Rattle.wgsl_parts.specs.declared.part.Part.{Part}
 use Rattle.wgsl_parts.specs.declared.part.Part.TheVariants as part

@@ -25,4 +25,5 @@ pub use name::make_name;
 pub use part::{FunctionResult, Part, QualifiedName, TypedName};
 pub use plain::make_plain;
 pub use value::make_value;
+pub use wgsl_declarations::{GlobalDeclarationNode, TranslationUnit, let_go};
 pub use wgsl_stack::Stack;

@@ -1,19 +1,14 @@
 //! What a symbol of the grammar stands for.
 
-use wgsl_attributes::{AttributeNode, Attributes};
 use wgsl_declarations::{
-    FormalParameter, GlobalDeclarationNode, StructMemberNode, TranslationUnit,
+    AttributeNode, Attributes, BreakIfStatement, CaseSelector, CompoundStatement, ConstAssert,
+    ContinuingStatement, Declaration, DeclarationKind, ElseIfClause, FormalParameter,
+    GlobalDeclarationNode, GlobalDirective, Import, ImportContent, ImportStatement, Statement,
+    StatementNode, StructMemberNode, SwitchClause, TranslationUnit,
 };
 use wgsl_expressions::{ExpressionNode, FunctionCall, LiteralExpression, TypeExpression};
-use wgsl_imports::{GlobalDirective, Import, ImportContent, ImportStatement};
 use wgsl_items::{Boxed, Items, Text};
 use wgsl_path::{Ident, ModulePath};
-use wgsl_simple_statements::{
-    BreakIfStatement, CaseSelector, ConstAssert, Declaration, DeclarationKind,
-};
-use wgsl_statements::{
-    CompoundStatement, ContinuingStatement, ElseIfClause, Statement, StatementNode, SwitchClause,
-};
 
 /// A name, maybe behind the path of a module.
 #[derive(Drop)]

@@ -10,14 +10,13 @@ use crate::take::{
     assertion, both, call, declaration, end, ended, expression, optional_expression,
 };
 use std::alloc::Global;
+use wgsl_declarations::{
+    AssignmentStatement, BreakStatement, ContinueStatement, DecrementStatement, DiscardStatement,
+    FunctionCallStatement, IncrementStatement, ReturnStatement, Statement,
+};
 use wgsl_error::Refusal;
 use wgsl_items::{Boxed, Items};
-use wgsl_simple_statements::{
-    AssignmentStatement, BreakStatement, ContinueStatement, DecrementStatement, DiscardStatement,
-    FunctionCallStatement, IncrementStatement, ReturnStatement,
-};
 use wgsl_stack::Stack;
-use wgsl_statements::Statement;
 
 /// Statements of a keyword, and declarations. The other labels are answered as a misfit.
 fn make_keyword(alloc: Global, label: PlainLabel, parts: &mut Stack<Held>) -> Result<Part, Refusal>

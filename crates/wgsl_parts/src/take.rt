@@ -7,14 +7,12 @@ ghost use Rattle.wgsl_parts.specs.Reading.{TakesAs, expression_in, expressions_o
 use crate::held::{Held, next};
 use crate::part::{Part, QualifiedName, TypedName};
 use std::alloc::Global;
-use wgsl_attributes::Attributes;
+use wgsl_declarations::{Attributes, CompoundStatement, ConstAssert, Declaration, DeclarationKind};
 use wgsl_error::Refusal;
 use wgsl_expressions::{ExpressionNode, FunctionCall, LiteralExpression, TypeExpression};
 use wgsl_items::{Boxed, Items};
 use wgsl_path::Ident;
-use wgsl_simple_statements::{ConstAssert, Declaration, DeclarationKind};
 use wgsl_stack::Stack;
-use wgsl_statements::CompoundStatement;
 
 /// The first part.
 pub fn first(parts: &mut Stack<Held>) -> Result<Part, Refusal>

@@ -8,10 +8,10 @@ use crate::label::ValueLabel;
 use crate::part::{Part, TypedName};
 use crate::take::{both, ended, expression, ident, kind, three, ty, typed_name};
 use std::alloc::{AllocError, Global};
+use wgsl_declarations::{ConstAssert, Declaration, DeclarationKind};
 use wgsl_error::Refusal;
 use wgsl_expressions::ExpressionNode;
 use wgsl_items::{Boxed, Items};
-use wgsl_simple_statements::{ConstAssert, Declaration, DeclarationKind};
 use wgsl_stack::Stack;
 
 fn declared(

@@ -3,7 +3,7 @@ use Rattle.std.proofs.Common.{◌≡◌, ℕ, zero, suc, ◌≤◌, List, [], �
 use Rattle.wgsl_enumerations.specs.declared.words.ShaderStage.{ShaderStage}
 use Rattle.wgsl_shader_type.specs.declared.error.Error.{Error}
 use Rattle.wgsl_instance.specs.declared.tree.Instance.{Instance}
-use Rattle.wgsl_memory.specs.Places as memory
+use Rattle.wgsl_computations.specs.Places as memory
 use Rattle.wgsl_computations.specs.Machine.{State, Outcome, Done, Failed, Deep, next_of, one_step, back_to, of_result}
 use Rattle.wgsl_computations.specs.Lift.{Same, Kept}
 use Rattle.wgsl_computations.specs.Compare.{ExtendsAt, Extends}

@@ -4,7 +4,7 @@ use Rattle.std.specs.Prelude.{if◌then◌else◌, ◌==◌, Result, Ok, Err}
 use Rattle.wgsl_syntax.specs.Tree.{Decl, variable, function}
 use Rattle.wgsl_shader_type.specs.declared.error.Error.{Error}
 use Rattle.wgsl_instance.specs.declared.tree.Instance.{Instance}
-use Rattle.wgsl_memory.specs.Places as memory
+use Rattle.wgsl_computations.specs.Places as memory
 use Rattle.wgsl_computations.specs.Machine.{State, Outcome, Done, Failed, Deep, fail, bind, next_of, one_step, with_left, back_to, of_result}
 use Rattle.wgsl_computations.specs.Lift.{Lift, Same, Kept}
 use Rattle.wgsl_computations.specs.Compare.{ExtendsAt, Extends}

@@ -44,7 +44,7 @@ use Rattle.wgsl_instance.specs.Converted.{scalar_of, to_scalar, parts_layer, by_
 use Rattle.wgsl_instance.proofs.Typings.{not_ok, literal_typed}
 use Rattle.wgsl_instance.proofs.Conversions.{converted_is}
 use Rattle.wgsl_instance.proofs.Zeros.{zero_of_bool, zero_of_abstract_int, zero_of_i32, zero_of_u32}
-use Rattle.wgsl_memory.specs.Places.{loaded_layer}
+use Rattle.wgsl_computations.specs.Places.{loaded_layer}
 use Rattle.wgsl_instance_operators.specs.Operators.{as_literal, by_left, by_right, no_operands, combined, component_layer, no_operand, each_component}
 use Rattle.wgsl_constructors.specs.Built.{literal_layer, cast, cast_at, built_scalar}
 use Rattle.wgsl_computations.specs.Machine.{pure, fail, bind, loaded, of_result}

@@ -53,7 +53,7 @@ use Rattle.wgsl_instance.specs.Parts.{address_layer, indirection_layer}
 use Rattle.wgsl_instance.specs.Converted.{scalar_of, converted}
 use Rattle.wgsl_instance.proofs.Typings.{same_ok, not_ok, nothing, inside, then_of, literal_typed, zero_has_type}
 use Rattle.wgsl_instance.proofs.ConvertedTypes.{converted_has_type}
-use Rattle.wgsl_memory.specs.Places.{loaded_layer}
+use Rattle.wgsl_computations.specs.Places.{loaded_layer}
 use Rattle.wgsl_instance_operators.specs.Operators.{as_literal, as_vector, first_type, of_pairs, with_left, with_right, by_left, by_right, by_vector, no_operands, combined, component_layer, no_operand, each_component}
 use Rattle.wgsl_instance_operators.proofs.Types.{values_have_their_types as operators_have_their_types, unary_values_have_their_types}
 use Rattle.wgsl_constructors.specs.Built.{literal_of, cast, cast_at, built_scalar}

@@ -9,3 +9,8 @@ pub mod Runs
 pub mod Follows
 pub mod Typing
 pub mod Laws
+pub use Rattle.wgsl_instance.specs.declared.tree.Instance
+pub use Rattle.wgsl_computations.specs.Machine
+pub use Rattle.wesl_order.specs.Units
+pub use Rattle.wgsl_instance_operators.specs.Operators
+pub use Rattle.wgsl_constructors.specs.Built

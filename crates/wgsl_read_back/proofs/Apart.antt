@@ -38,7 +38,7 @@ use Rattle.wgsl_module_tokens.specs.Declarations.{RowTokens, row_end, row_and, U
 use Rattle.wgsl_parts.specs.declared.part.Part.TheVariants as part
 use Rattle.wgsl_grammar_tables.specs.Nonterminals as n
 use Rattle.wgsl_grammar_tables.specs.Expansion.{plain}
-use Rattle.wgsl_reading.specs.declared.driver.Start.TheVariants.{Module}
+use Rattle.wgsl_parser.specs.Start.TheVariants.{Module}
 use Rattle.wgsl_parser.specs.Texts.{IsParsed, ParsesModule}
 use Rattle.wgsl_read_back.specs.Laws.{ImportsOfTextsAreApart}
 use Rattle.wgsl_read_back.proofs.Modules.{ModuleRead, of_nothing, of_some, unit}

@@ -31,12 +31,12 @@ use Rattle.wgsl_parts.specs.declared.part.Part.TheVariants as part
 use Rattle.wgsl_parts.specs.declared.label.Label.{Label}
 use Rattle.wgsl_parts.specs.declared.label.Label.TheVariants as l
 use Rattle.wgsl_parts.specs.declared.label.AttributeLabel.TheVariants as label
-use Rattle.wgsl_reading.specs.declared.phrase.Phrase.{Phrase}
-use Rattle.wgsl_make.specs.Attributes as make
-use Rattle.wgsl_make.specs.Attributes.{checked}
+use Rattle.wgsl_parser.specs.Phrase.{Phrase}
+use Rattle.wgsl_parser.specs.Attributes as make
+use Rattle.wgsl_parser.specs.Attributes.{checked}
 use Rattle.wgsl_parts.specs.Lists as lists
-use Rattle.wgsl_reading.specs.Failures.{attribute_failed, made_failed}
-use Rattle.wgsl_reading.specs.Phrases.{grammar}
+use Rattle.wgsl_parser.specs.Failures.{attribute_failed, made_failed}
+use Rattle.wgsl_parser.specs.Phrases.{grammar}
 use Rattle.wgsl_grammar_tables.specs.Classes.{fixed_class}
 use Rattle.wgsl_read_back.proofs.Views.{View, NoneFails, view_tokens, Stands, a_token, a_word, some_expressions, some_arguments, ends_as}
 use Rattle.wgsl_read_back.proofs.Views as v

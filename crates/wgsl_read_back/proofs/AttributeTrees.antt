@@ -26,8 +26,8 @@ use Rattle.wgsl_attribute_words.specs.Names.{name_of, layer_rule, rule_of}
 use Rattle.wgsl_attributes.specs.declared.attribute.Attribute.{Attribute}
 use Rattle.wgsl_attribute_words.specs.Attributes as code_attributes
 use Rattle.wgsl_attribute_words.specs.Attributes.{custom as custom_code}
-use Rattle.wgsl_make.specs.Attributes.{or_else, checked}
-use Rattle.wgsl_reading.specs.Failures.{of_word, attribute_failed}
+use Rattle.wgsl_parser.specs.Attributes.{or_else, checked}
+use Rattle.wgsl_parser.specs.Failures.{of_word, attribute_failed}
 use Rattle.wgsl_attribute_words.specs.Attributes.{attribute_of, attribute_named, known_attribute, with_arguments, with_one, with_two, with_three, without_arguments}
 use Rattle.wgsl_tree_tokens.specs.Attributes as tokens
 use Rattle.wgsl_tree_tokens.specs.Attributes.{name_exp, IsRuleExp, IsWritten}

@@ -35,12 +35,12 @@ use Rattle.wgsl_parts.specs.declared.part.Part.{Part}
 use Rattle.wgsl_parts.specs.declared.part.Part.TheVariants as part
 use Rattle.wgsl_parts.specs.declared.label.Label.TheVariants as l
 use Rattle.wgsl_parts.specs.declared.label.ClauseLabel.TheVariants as label
-use Rattle.wgsl_reading.specs.declared.phrase.Phrase.{Phrase}
+use Rattle.wgsl_parser.specs.Phrase.{Phrase}
 use Rattle.wgsl_parts.specs.Lists as lists
-use Rattle.wgsl_make.specs.Reading.{statements_of, break_if_in}
-use Rattle.wgsl_make.specs.Statements as make
+use Rattle.wgsl_parser.specs.Reading.{statements_of, break_if_in}
+use Rattle.wgsl_parser.specs.Statements as make
 use Rattle.wgsl_grammar_tables.specs.Classes.{fixed_class}
-use Rattle.wgsl_reading.specs.Phrases.{leaf}
+use Rattle.wgsl_parser.specs.Phrases.{leaf}
 use Rattle.wgsl_read_back.proofs.Views.{View, view_tokens, Stands, an_expression, a_block, an_else, an_else_if, some_else_ifs, a_selector, some_selectors, a_clause, some_clauses, an_ending, a_break_if}
 use Rattle.wgsl_read_back.proofs.Views as v
 use Rattle.wgsl_read_back.proofs.Items.{BeginsOutside, begins_then, Back, CutList, OneToken, Again}

@@ -15,15 +15,15 @@ use Rattle.wgsl_simple_statements.specs.declared.declaration.DeclarationKind.The
 use Rattle.wgsl_tree_tokens.specs.Tokens.{mark}
 use Rattle.wgsl_tree_tokens.specs.DeclarationKinds.{kind_tokens}
 use Rattle.wgsl_attribute_words.specs.Attributes.{template_of}
-use Rattle.wgsl_reading.specs.Leaves.{leaf}
+use Rattle.wgsl_parser.specs.Leaves.{leaf}
 use Rattle.wgsl_shift_reduce.specs.Grammars.{Symbol, token, phrase}
 use Rattle.wgsl_parts.specs.declared.part.Part.{Part}
 use Rattle.wgsl_parts.specs.declared.part.Part.TheVariants as part
 use Rattle.wgsl_parts.specs.declared.label.Label.TheVariants as l
 use Rattle.wgsl_parts.specs.declared.label.AttributeLabel.TheVariants as label
-use Rattle.wgsl_reading.specs.declared.phrase.Phrase.{Phrase}
-use Rattle.wgsl_make.specs.Attributes as make
-use Rattle.wgsl_reading.specs.Failures.{made_failed}
+use Rattle.wgsl_parser.specs.Phrase.{Phrase}
+use Rattle.wgsl_parser.specs.Attributes as make
+use Rattle.wgsl_parser.specs.Failures.{made_failed}
 use Rattle.wgsl_grammar_tables.specs.Classes.{fixed_class}
 use Rattle.wgsl_read_back.proofs.Views.{View, view_tokens, Stands, a_token, some_expressions, a_kind}
 use Rattle.wgsl_read_back.proofs.Views as v

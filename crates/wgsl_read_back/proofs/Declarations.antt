@@ -26,11 +26,11 @@ use Rattle.wgsl_parts.specs.declared.part.Part.{Part}
 use Rattle.wgsl_parts.specs.declared.part.Part.TheVariants as part
 use Rattle.wgsl_parts.specs.declared.label.Label.TheVariants as l
 use Rattle.wgsl_parts.specs.declared.label.DeclarationLabel.TheVariants as label
-use Rattle.wgsl_reading.specs.declared.phrase.Phrase.{Phrase}
-use Rattle.wgsl_reading.specs.Phrases.{grammar}
-use Rattle.wgsl_reading.specs.Gathering.{either}
-use Rattle.wgsl_make.specs.Declarations as make
-use Rattle.wgsl_make.specs.Reading.{parameters_of, return_attributes_of, return_type_in}
+use Rattle.wgsl_parser.specs.Phrase.{Phrase}
+use Rattle.wgsl_parser.specs.Phrases.{grammar}
+use Rattle.wgsl_parser.specs.Gathering.{either}
+use Rattle.wgsl_parser.specs.Declarations as make
+use Rattle.wgsl_parser.specs.Reading.{parameters_of, return_attributes_of, return_type_in}
 use Rattle.wgsl_grammar_tables.specs.Classes.{fixed_class}
 use Rattle.wgsl_read_back.proofs.Views.{View, Stands, a_type, a_declared, an_asserted, some_members, a_block, a_declaration}
 use Rattle.wgsl_read_back.proofs.Views as v

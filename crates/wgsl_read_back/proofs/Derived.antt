@@ -11,12 +11,12 @@ use Rattle.wgsl_shift_reduce.specs.Grammars.{Symbol, token, phrase, Rule, Derive
 use Rattle.wgsl_parts.specs.declared.part.Part.{Part}
 use Rattle.wgsl_parts.specs.declared.part.Part.TheVariants.{Absent}
 use Rattle.wgsl_parts.specs.declared.label.Label.TheVariants as l
-use Rattle.wgsl_reading.specs.declared.phrase.Phrase.{Phrase}
-use Rattle.wgsl_reading.specs.Gathering.{extent_from, chosen}
+use Rattle.wgsl_parser.specs.Phrase.{Phrase}
+use Rattle.wgsl_parser.specs.Gathering.{extent_from, chosen}
 use Rattle.wgsl_grammar_tables.specs.Nonterminals as n
 use Rattle.wgsl_grammar_tables.specs.Expansion.{Made, made_rules, made_in, rule_in, parts_in, plain, in_a_row, in_a_list, with_commas}
 use Rattle.wgsl_grammar_tables.proofs.Written.{rules_are, label_is, parts_are}
-use Rattle.wgsl_reading.specs.Phrases.{grammar, made, make}
+use Rattle.wgsl_parser.specs.Phrases.{grammar, made, make}
 use Rattle.wgsl_read_back.proofs.Items.{OneToken}
 use Rattle.wgsl_read_back.proofs.Rows.{make_of, Rebuild, AllPass, made_parts_pass}
 use Rattle.wgsl_parts.specs.declared.label.DirectiveLabel.TheVariants as dir

@@ -21,7 +21,7 @@ use Rattle.wgsl_imports.specs.declared.directive.GlobalDirective.{GlobalDirectiv
 use Rattle.wgsl_imports.specs.declared.directive.GlobalDirective.TheVariants as directive
 use Rattle.wgsl_imports.specs.Tree.{Directive, diagnostic, enabling, requiring}
 use Rattle.wgsl_imports.specs.View.{directive_tree}
-use Rattle.wgsl_nodes.specs.Directives.{directive_with}
+use Rattle.wgsl_parser.specs.Directives.{directive_with}
 use Rattle.wgsl_tree_tokens.specs.Tokens.{mark, word}
 use Rattle.wgsl_tree_tokens.specs.Directives.{IsRule, one_name, two_names, more_names_tokens, names_tokens, setting_tokens, HasTokens, of_diagnostic, of_enable, of_requires}
 use Rattle.wgsl_tree_tokens.specs.Imports.{no_attributes}
@@ -33,10 +33,10 @@ use Rattle.wgsl_parts.specs.declared.part.Part.{Part}
 use Rattle.wgsl_parts.specs.declared.part.Part.TheVariants as part
 use Rattle.wgsl_parts.specs.declared.label.Label.TheVariants as l
 use Rattle.wgsl_parts.specs.declared.label.DirectiveLabel.TheVariants as label
-use Rattle.wgsl_reading.specs.declared.phrase.Phrase.{Phrase}
-use Rattle.wgsl_make.specs.Imports as make
+use Rattle.wgsl_parser.specs.Phrase.{Phrase}
+use Rattle.wgsl_parser.specs.Imports as make
 use Rattle.wgsl_parts.specs.Lists as lists
-use Rattle.wgsl_reading.specs.Failures.{part_severity, unknown_severity}
+use Rattle.wgsl_parser.specs.Failures.{part_severity, unknown_severity}
 use Rattle.wgsl_grammar_tables.specs.Classes.{fixed_class}
 use Rattle.wgsl_read_back.proofs.Views.{View, view_tokens, Stands, a_token, a_text, some_texts, a_directive}
 use Rattle.wgsl_read_back.proofs.Views as v

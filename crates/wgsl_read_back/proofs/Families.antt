@@ -26,11 +26,11 @@ use Rattle.wgsl_parts.specs.declared.part.Part.{Part}
 use Rattle.wgsl_parts.specs.declared.part.Part.TheVariants as part
 use Rattle.wgsl_parts.specs.declared.label.Label.TheVariants as l
 use Rattle.wgsl_parts.specs.declared.label.ExpressionLabel.TheVariants as label
-use Rattle.wgsl_reading.specs.Leaves as leaves
-use Rattle.wgsl_reading.specs.declared.phrase.Phrase.{Phrase}
+use Rattle.wgsl_parser.specs.Leaves as leaves
+use Rattle.wgsl_parser.specs.Phrase.{Phrase}
 use Rattle.wgsl_parts.specs.Making as make
 use Rattle.wgsl_grammar_tables.specs.Classes.{fixed_class, class_of}
-use Rattle.wgsl_reading.specs.Failures.{made_failed}
+use Rattle.wgsl_parser.specs.Failures.{made_failed}
 use Rattle.wgsl_read_back.proofs.Views.{View, view_tokens, Stands, a_token, an_ups, a_path, a_type, a_call, an_expression, some_expressions, a_text, some_texts, a_directive, a_kind, a_word, some_arguments, an_attribute, some_attributes, no_attributes, a_source, no_source, some_steps, no_steps, a_content, a_tree, some_trees, an_importing, ends_as}
 use Rattle.wgsl_read_back.proofs.Views as v
 use Rattle.wgsl_read_back.proofs.Items.{cont_as, Item, Back, OneToken, token_again, token_steps}

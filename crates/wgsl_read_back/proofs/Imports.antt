@@ -22,9 +22,9 @@ use Rattle.wgsl_parts.specs.declared.part.Part.{Part}
 use Rattle.wgsl_parts.specs.declared.part.Part.TheVariants as part
 use Rattle.wgsl_parts.specs.declared.label.Label.TheVariants as l
 use Rattle.wgsl_parts.specs.declared.label.ImportLabel.TheVariants as label
-use Rattle.wgsl_reading.specs.declared.phrase.Phrase.{Phrase}
-use Rattle.wgsl_make.specs.Imports as make
-use Rattle.wgsl_make.specs.Reading.{path_in, names_of}
+use Rattle.wgsl_parser.specs.Phrase.{Phrase}
+use Rattle.wgsl_parser.specs.Imports as make
+use Rattle.wgsl_parser.specs.Reading.{path_in, names_of}
 use Rattle.wgsl_parts.specs.Lists as lists
 use Rattle.wgsl_grammar_tables.specs.Classes.{fixed_class}
 use Rattle.wgsl_read_back.proofs.Views.{View, view_tokens, Stands, some_attributes, a_source, no_source, some_steps, no_steps, a_content, a_tree, some_trees, an_importing}

@@ -8,10 +8,10 @@ use Rattle.wgsl_token_layout.specs.OptionalMarks.{Before, before, ends_operand, 
 use Rattle.wgsl_tree_tokens.specs.Printable.{AreSpelled}
 use Rattle.wgsl_shift_reduce.specs.Grammars.{Symbol, token, phrase, Derives, a_token}
 use Rattle.wgsl_parts.specs.declared.part.Part.{Part}
-use Rattle.wgsl_reading.specs.Leaves as leaves
-use Rattle.wgsl_reading.specs.declared.phrase.Phrase.{Phrase}
+use Rattle.wgsl_parser.specs.Leaves as leaves
+use Rattle.wgsl_parser.specs.Phrase.{Phrase}
 use Rattle.wgsl_grammar_tables.specs.Classes.{class_of}
-use Rattle.wgsl_reading.specs.Phrases.{leaf, grammar}
+use Rattle.wgsl_parser.specs.Phrases.{leaf, grammar}
 use Rattle.wgsl_read_back.proofs.Views.{View, view_tokens, Stands, ends_as}
 use Rattle.wgsl_read_back.proofs.Views as v
 

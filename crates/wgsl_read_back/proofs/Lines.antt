@@ -17,7 +17,7 @@ use Rattle.wgsl_shift_reduce.specs.Grammars.{phrase}
 use Rattle.wgsl_parts.specs.declared.part.Part.{Part}
 use Rattle.wgsl_parts.specs.declared.part.Part.TheVariants as part
 use Rattle.wgsl_parts.specs.declared.label.Label.TheVariants as l
-use Rattle.wgsl_reading.specs.declared.phrase.Phrase.{Phrase}
+use Rattle.wgsl_parser.specs.Phrase.{Phrase}
 use Rattle.wgsl_parts.specs.Lists as lists
 use Rattle.wgsl_read_back.proofs.Views.{View, Stands, a_statement, some_statements}
 use Rattle.wgsl_read_back.proofs.Views as v

@@ -11,7 +11,7 @@ use Rattle.wgsl_tree_tokens.proofs.Expressions.{are_front}
 use Rattle.wgsl_shift_reduce.specs.Grammars.{token, phrase}
 use Rattle.wgsl_parts.specs.declared.part.Part.{Part}
 use Rattle.wgsl_parts.specs.declared.label.Label.TheVariants as l
-use Rattle.wgsl_reading.specs.declared.phrase.Phrase.{Phrase}
+use Rattle.wgsl_parser.specs.Phrase.{Phrase}
 use Rattle.wgsl_grammar_tables.specs.Classes.{fixed_class}
 use Rattle.wgsl_read_back.proofs.Views.{View, view_tokens, Stands, ends_as}
 use Rattle.wgsl_read_back.proofs.Items.{Again, Back, ListBack, CutList, OneToken, places_append, moved, MayEnd, comma_gone}

@@ -25,8 +25,8 @@ use Rattle.wgsl_parts.specs.declared.part.Part.TheVariants as part
 use Rattle.wgsl_grammar_tables.specs.Nonterminals as n
 use Rattle.wgsl_grammar_tables.specs.Expansion.{plain}
 use Rattle.wgsl_grammar_tables.proofs.Written.{goal_is}
-use Rattle.wgsl_reading.specs.declared.driver.Start.TheVariants.{Statement, Declaration, Module}
-use Rattle.wgsl_reading.specs.Readings.{goal_of}
+use Rattle.wgsl_parser.specs.Start.TheVariants.{Statement, Declaration, Module}
+use Rattle.wgsl_parser.specs.Readings.{goal_of}
 use Rattle.wgsl_parser.specs.Texts.{IsParsed, ParsesModule, IsBlank, empty_unit}
 use Rattle.wgsl_read_back.specs.Laws.{StatementsAreReadBack, DeclarationsAreReadBack, ModulesAreReadBack, SameTokensAreTheSameModule}
 use Rattle.wgsl_read_back.proofs.Views.{Stands, a_statement, a_declaration, a_module}

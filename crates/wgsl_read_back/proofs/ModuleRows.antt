@@ -23,7 +23,7 @@ use Rattle.wgsl_shift_reduce.specs.Grammars.{phrase}
 use Rattle.wgsl_parts.specs.declared.part.Part.{Part}
 use Rattle.wgsl_parts.specs.declared.part.Part.TheVariants as part
 use Rattle.wgsl_parts.specs.declared.label.Label.TheVariants as l
-use Rattle.wgsl_reading.specs.declared.phrase.Phrase.{Phrase}
+use Rattle.wgsl_parser.specs.Phrase.{Phrase}
 use Rattle.wgsl_parts.specs.Lists as lists
 use Rattle.wgsl_read_back.proofs.Views.{Stands, an_importing, some_imports, a_directive, some_directives, a_declaration, some_declarations}
 use Rattle.wgsl_read_back.proofs.Views as v

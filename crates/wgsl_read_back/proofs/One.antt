@@ -5,11 +5,11 @@ use Rattle.wgsl_template_spec.proofs.Once.{lexed_once}
 use Rattle.wgsl_shift_reduce.specs.Grammars.{Symbol, phrase, Rule, Derives, a_token, a_phrase, Row, done, next}
 use Rattle.wgsl_parts.specs.declared.part.Part.{Part}
 use Rattle.wgsl_parts.specs.declared.part.Part.TheVariants as part
-use Rattle.wgsl_reading.specs.declared.phrase.Phrase.{Phrase}
+use Rattle.wgsl_parser.specs.Phrase.{Phrase}
 use Rattle.wgsl_grammar_tables.proofs.Fits.{tables_fit}
-use Rattle.wgsl_reading.specs.Phrases.{grammar}
-use Rattle.wgsl_reading.specs.declared.driver.Start.TheVariants.{Module}
-use Rattle.wgsl_reading.specs.Readings.{goal_of}
+use Rattle.wgsl_parser.specs.Phrases.{grammar}
+use Rattle.wgsl_parser.specs.Start.TheVariants.{Module}
+use Rattle.wgsl_parser.specs.Readings.{goal_of}
 use Rattle.wgsl_parser.specs.Texts.{IsParsed, IsBlank}
 use Rattle.wgsl_read_back.specs.Laws.{TextsHaveOneModule}
 use Rattle.wgsl_read_back.proofs.Returned.{token_of}

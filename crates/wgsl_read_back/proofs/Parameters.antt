@@ -24,9 +24,9 @@ use Rattle.wgsl_parts.specs.declared.part.Part.TheVariants as part
 use Rattle.wgsl_parts.specs.declared.label.Label.{Label}
 use Rattle.wgsl_parts.specs.declared.label.Label.TheVariants as l
 use Rattle.wgsl_parts.specs.declared.label.DeclarationLabel.TheVariants as label
-use Rattle.wgsl_reading.specs.declared.phrase.Phrase.{Phrase}
-use Rattle.wgsl_make.specs.Declarations as make
-use Rattle.wgsl_make.specs.Reading.{parameters_of, return_attributes_of, return_type_in}
+use Rattle.wgsl_parser.specs.Phrase.{Phrase}
+use Rattle.wgsl_parser.specs.Declarations as make
+use Rattle.wgsl_parser.specs.Reading.{parameters_of, return_attributes_of, return_type_in}
 use Rattle.wgsl_parts.specs.Lists as lists
 use Rattle.wgsl_grammar_tables.specs.Classes.{fixed_class}
 use Rattle.wgsl_read_back.proofs.Views.{View, view_tokens, Stands, ends_as, a_type, a_parameter, some_parameters, a_result as a_result_part, no_result as no_result_part}

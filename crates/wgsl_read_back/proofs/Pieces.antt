@@ -14,11 +14,11 @@ use Rattle.wgsl_parts.specs.declared.part.Part.{Part}
 use Rattle.wgsl_parts.specs.declared.part.Part.TheVariants.{Absent}
 use Rattle.wgsl_parts.specs.declared.label.Label.{Label}
 use Rattle.wgsl_parts.specs.declared.label.Label.TheVariants as l
-use Rattle.wgsl_reading.specs.declared.phrase.Phrase.{Phrase}
-use Rattle.wgsl_reading.specs.Gathering.{chosen}
-use Rattle.wgsl_make.specs.Making as making
-use Rattle.wgsl_reading.specs.Phrases.{grammar}
-use Rattle.wgsl_reading.specs.Failures.{severity_failed, made_failed}
+use Rattle.wgsl_parser.specs.Phrase.{Phrase}
+use Rattle.wgsl_parser.specs.Gathering.{chosen}
+use Rattle.wgsl_parser.specs.Making as making
+use Rattle.wgsl_parser.specs.Phrases.{grammar}
+use Rattle.wgsl_parser.specs.Failures.{severity_failed, made_failed}
 use Rattle.wgsl_grammar_tables.specs.Classes.{class_of}
 use Rattle.wgsl_read_back.proofs.Views.{View, view_tokens, Stands, ends_as}
 use Rattle.wgsl_read_back.proofs.Views as view

@@ -39,10 +39,10 @@ use Rattle.wgsl_parts.specs.declared.label.ExpressionLabel.TheVariants as elabel
 use Rattle.wgsl_parts.specs.declared.label.PlainLabel.{PlainLabel}
 use Rattle.wgsl_parts.specs.declared.label.PlainLabel.TheVariants as label
 use Rattle.wgsl_parts.specs.declared.label.StatementLabel.TheVariants as slabel
-use Rattle.wgsl_reading.specs.declared.phrase.Phrase.{Phrase}
+use Rattle.wgsl_parser.specs.Phrase.{Phrase}
 use Rattle.wgsl_parts.specs.Making as emake
 use Rattle.wgsl_parts.specs.Values as make
-use Rattle.wgsl_make.specs.Statements as smake
+use Rattle.wgsl_parser.specs.Statements as smake
 use Rattle.wgsl_grammar_tables.specs.Classes.{fixed_class}
 use Rattle.wgsl_read_back.proofs.Views.{View, view_tokens, Stands, a_token, a_path, a_call, an_expression, a_value, no_value, a_declared, an_asserted, a_phony, a_plain, a_header}
 use Rattle.wgsl_read_back.proofs.Views as v

@@ -22,8 +22,8 @@ use Rattle.wgsl_parts.specs.declared.part.Part.{Part}
 use Rattle.wgsl_parts.specs.declared.part.Part.TheVariants as part
 use Rattle.wgsl_parts.specs.declared.label.Label.TheVariants as l
 use Rattle.wgsl_parts.specs.declared.label.ExpressionLabel.TheVariants as label
-use Rattle.wgsl_reading.specs.Leaves as leaves
-use Rattle.wgsl_reading.specs.declared.phrase.Phrase.{Phrase}
+use Rattle.wgsl_parser.specs.Leaves as leaves
+use Rattle.wgsl_parser.specs.Phrase.{Phrase}
 use Rattle.wgsl_parts.specs.Making as make
 use Rattle.wgsl_parts.specs.Lists as lists
 use Rattle.wgsl_grammar_tables.specs.Classes.{fixed_class, class_of}

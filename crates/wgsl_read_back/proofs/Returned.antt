@@ -15,14 +15,14 @@ use Rattle.wgsl_shift_reduce.specs.Laws.{IsRead}
 use Rattle.wgsl_shift_reduce.proofs.Whole.{trees_are_unique}
 use Rattle.wgsl_tables.specs.Listed.{account}
 use Rattle.wgsl_parts.specs.declared.part.Part.{Part}
-use Rattle.wgsl_reading.specs.declared.phrase.Phrase.{Phrase}
+use Rattle.wgsl_parser.specs.Phrase.{Phrase}
 use Rattle.wgsl_grammar_tables.specs.Decoded.{listed}
 use Rattle.wgsl_grammar_tables.specs.Starts.{start}
 use Rattle.wgsl_grammar_tables.proofs.Fits.{tables_fit}
 use Rattle.wgsl_grammar_tables.proofs.Examples as examples
-use Rattle.wgsl_reading.specs.declared.driver.Start.{Start}
-use Rattle.wgsl_reading.specs.Phrases.{grammar, number, tables_of}
-use Rattle.wgsl_reading.specs.Readings.{goal_of}
+use Rattle.wgsl_parser.specs.Start.{Start}
+use Rattle.wgsl_parser.specs.Phrases.{grammar, number, tables_of}
+use Rattle.wgsl_parser.specs.Readings.{goal_of}
 use Rattle.wgsl_parser.specs.Texts.{IsParsed}
 use Rattle.wgsl_read_back.proofs.Views.{View, view_tokens, Stands}
 use Rattle.wgsl_read_back.proofs.Items.{Again, Back}

@@ -12,14 +12,14 @@ use Rattle.wgsl_shift_reduce.specs.Grammars.{Symbol, phrase, Derives, Row, done,
 use Rattle.wgsl_parts.specs.declared.part.Part.{Part}
 use Rattle.wgsl_parts.specs.declared.part.Part.TheVariants.{Absent}
 use Rattle.wgsl_parts.specs.declared.label.Label.{Label}
-use Rattle.wgsl_reading.specs.declared.phrase.Phrase.{Phrase}
-use Rattle.wgsl_reading.specs.declared.phrase.Check.{Check}
-use Rattle.wgsl_reading.specs.declared.phrase.Failure.{Failure}
-use Rattle.wgsl_reading.specs.declared.gather.Extent.{Extent}
-use Rattle.wgsl_reading.specs.Gathering.{either, joined, extent_of, extent_from, chosen}
-use Rattle.wgsl_make.specs.Making as making
-use Rattle.wgsl_reading.specs.Phrases.{grammar, made}
-use Rattle.wgsl_reading.specs.Failures.{failure_at, first_check, severity_failed, made_failed, failure_in}
+use Rattle.wgsl_parser.specs.Phrase.{Phrase}
+use Rattle.wgsl_parser.specs.Check.{Check}
+use Rattle.wgsl_parser.specs.Failure.{Failure}
+use Rattle.wgsl_parser.specs.Extent.{Extent}
+use Rattle.wgsl_parser.specs.Gathering.{either, joined, extent_of, extent_from, chosen}
+use Rattle.wgsl_parser.specs.Making as making
+use Rattle.wgsl_parser.specs.Phrases.{grammar, made}
+use Rattle.wgsl_parser.specs.Failures.{failure_at, first_check, severity_failed, made_failed, failure_in}
 use Rattle.wgsl_read_back.proofs.Views.{View, token, view_tokens, Stands, ends_as}
 use Rattle.wgsl_read_back.proofs.Items.{places_append, split, Cont, Steps, moved, cont_then, cont_as, Again, Item, Shuts, MayEnd, Ending, ListBack, Back}
 

@@ -17,10 +17,10 @@ use Rattle.wgsl_parts.specs.declared.part.Part.{Part}
 use Rattle.wgsl_parts.specs.declared.part.Part.TheVariants as part
 use Rattle.wgsl_grammar_tables.specs.Nonterminals as n
 use Rattle.wgsl_grammar_tables.specs.Expansion.{plain}
-use Rattle.wgsl_reading.specs.declared.driver.Start.{Start}
-use Rattle.wgsl_reading.specs.declared.driver.Start.TheVariants.{Expression, Statement, Declaration, Directive, Import, Kind}
-use Rattle.wgsl_reading.specs.Phrases.{number}
-use Rattle.wgsl_reading.specs.Readings.{goal_of}
+use Rattle.wgsl_parser.specs.Start.{Start}
+use Rattle.wgsl_parser.specs.Start.TheVariants.{Expression, Statement, Declaration, Directive, Import, Kind}
+use Rattle.wgsl_parser.specs.Phrases.{number}
+use Rattle.wgsl_parser.specs.Readings.{goal_of}
 use Rattle.wgsl_parser.specs.Texts.{IsParsed}
 use Rattle.wgsl_read_back.specs.Laws.{SameTokensAreTheSame, SameTokensAreTheSameParts}
 use Rattle.wgsl_read_back.proofs.Views.{View, Stands}

@@ -15,7 +15,7 @@ use Rattle.wgsl_parts.specs.declared.part.Part.{Part}
 use Rattle.wgsl_parts.specs.declared.label.Label.TheVariants as l
 use Rattle.wgsl_parts.specs.declared.label.StatementLabel.TheVariants as label
 use Rattle.wgsl_parts.specs.declared.label.ClauseLabel.TheVariants as clause
-use Rattle.wgsl_reading.specs.declared.phrase.Phrase.{Phrase}
+use Rattle.wgsl_parser.specs.Phrase.{Phrase}
 use Rattle.wgsl_grammar_tables.specs.Classes.{fixed_class}
 use Rattle.wgsl_read_back.proofs.Views as v
 use Rattle.wgsl_read_back.proofs.Items.{OneToken, begins_then}

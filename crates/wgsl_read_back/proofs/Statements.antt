@@ -22,7 +22,7 @@ use Rattle.wgsl_statements.specs.declared.statement.ElseClauseOf.{ElseClauseOf}
 use Rattle.wgsl_statements.specs.declared.statement.ElseIfClauseOf.{ElseIfClauseOf}
 use Rattle.wgsl_statements.specs.Tree.{simple, compound_statement, if_statement, switch_statement, loop_statement, for_statement, while_statement, Stms, Block, block, Elses, no_else, else_clause, else_if_clause, Clauses, Continuing, Part as HeaderPart, absent, present}
 use Rattle.wgsl_statements.specs.View.{layer, statement_tree, block_tree, elses_layer, continuing_layer, part_layer, part as header_part}
-use Rattle.wgsl_nodes.specs.Statements.{with_in, statement_with}
+use Rattle.wgsl_parser.specs.NodesStatements.{with_in, statement_with}
 use Rattle.wgsl_statements.proofs.Trees.{tree_out, tree_of_assignment, tree_of_increment, tree_of_decrement, tree_of_break, tree_of_continue, tree_of_return, tree_of_discard, tree_of_call, tree_of_assertion, tree_of_value, tree_of_void, tree_of_compound, tree_of_if, tree_of_switch, tree_of_loop, tree_of_for, tree_of_while}
 use Rattle.wgsl_tree_tokens.specs.Tokens.{mark, exp_tokens}
 use Rattle.wgsl_tree_tokens.specs.Printable.{is_apart}
@@ -35,11 +35,11 @@ use Rattle.wgsl_parts.specs.Reading.{attributes_of, expression_in}
 use Rattle.wgsl_parts.specs.declared.part.Part.{Part}
 use Rattle.wgsl_parts.specs.declared.label.Label.TheVariants as l
 use Rattle.wgsl_parts.specs.declared.label.StatementLabel.TheVariants as label
-use Rattle.wgsl_reading.specs.declared.phrase.Phrase.{Phrase}
-use Rattle.wgsl_reading.specs.Phrases.{grammar}
-use Rattle.wgsl_reading.specs.Gathering.{either}
-use Rattle.wgsl_make.specs.Reading.{statement_in, else_in, continuing_in, statements_of, else_ifs_of}
-use Rattle.wgsl_make.specs.Statements as make
+use Rattle.wgsl_parser.specs.Phrase.{Phrase}
+use Rattle.wgsl_parser.specs.Phrases.{grammar}
+use Rattle.wgsl_parser.specs.Gathering.{either}
+use Rattle.wgsl_parser.specs.Reading.{statement_in, else_in, continuing_in, statements_of, else_ifs_of}
+use Rattle.wgsl_parser.specs.Statements as make
 use Rattle.wgsl_grammar_tables.specs.Classes.{fixed_class}
 use Rattle.wgsl_read_back.proofs.Views.{View, view_tokens, Stands, an_expression, a_value, no_value, a_plain, a_header, no_header, a_statement, a_block, an_else, some_else_ifs, some_clauses, an_ending}
 use Rattle.wgsl_read_back.proofs.Views as v

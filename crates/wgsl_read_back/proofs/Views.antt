@@ -22,7 +22,7 @@ use Rattle.wgsl_tree_tokens.specs.Directives.{names_tokens}
 use Rattle.wgsl_attributes.specs.declared.attribute.Attribute.{Attribute}
 use Rattle.wgsl_attributes.specs.Tree.{Attr}
 use Rattle.wgsl_attributes.specs.View.{attribute_tree, attributes_tree}
-use Rattle.wgsl_reading.specs.Failures.{attribute_failed}
+use Rattle.wgsl_parser.specs.Failures.{attribute_failed}
 use Rattle.wgsl_tree_tokens.specs.Attributes.{name_exp, arguments_tokens}
 use Rattle.wgsl_tree_tokens.specs.Imports.{steps_tokens, content_tokens, imps_tokens}
 use Rattle.wgsl_tree_tokens.specs.DeclarationKinds.{kind_tokens}
@@ -54,7 +54,7 @@ use Rattle.wgsl_parts.specs.declared.part.FunctionResult.{FunctionResult}
 use Rattle.wgsl_parts.specs.declared.part.QualifiedName.{QualifiedName}
 use Rattle.wgsl_parts.specs.declared.part.Part.{Part}
 use Rattle.wgsl_parts.specs.declared.part.Part.TheVariants as part
-use Rattle.wgsl_reading.specs.Leaves.{leaf}
+use Rattle.wgsl_parser.specs.Leaves.{leaf}
 
 pub data View : Type 0 where
   token : TemplateToken → View

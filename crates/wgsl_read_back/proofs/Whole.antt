@@ -32,8 +32,8 @@ use Rattle.wgsl_parts.specs.declared.part.Part.TheVariants as part
 use Rattle.wgsl_grammar_tables.specs.Nonterminals as n
 use Rattle.wgsl_grammar_tables.specs.Expansion.{plain}
 use Rattle.wgsl_grammar_tables.proofs.Written.{goal_is}
-use Rattle.wgsl_reading.specs.declared.driver.Start.TheVariants.{Expression, Directive, Import, Kind}
-use Rattle.wgsl_reading.specs.Readings.{goal_of}
+use Rattle.wgsl_parser.specs.Start.TheVariants.{Expression, Directive, Import, Kind}
+use Rattle.wgsl_parser.specs.Readings.{goal_of}
 use Rattle.wgsl_parser.specs.Texts.{IsParsed}
 use Rattle.wgsl_read_back.specs.Laws.{ExpressionsAreReadBack, DirectivesAreReadBack, ImportsAreReadBack, KindsAreReadBack, AreAttribute, AttributesAreReadBack}
 use Rattle.wgsl_read_back.proofs.Views.{Stands, an_expression, a_directive, an_importing, a_kind, an_attribute}

@@ -14,8 +14,8 @@ use Rattle.wgsl_shift_reduce.specs.Grammars.{phrase, Derives}
 use Rattle.wgsl_grammar_tables.specs.Nonterminals as n
 use Rattle.wgsl_grammar_tables.specs.Expansion.{plain}
 use Rattle.wgsl_parts.specs.declared.part.Part.{Part}
-use Rattle.wgsl_reading.specs.declared.phrase.Phrase.{Phrase}
-use Rattle.wgsl_reading.specs.Phrases.{grammar}
+use Rattle.wgsl_parser.specs.Phrase.{Phrase}
+use Rattle.wgsl_parser.specs.Phrases.{grammar}
 use Rattle.wgsl_attributes.specs.declared.attribute.Attribute.{Attribute}
 use Rattle.wgsl_attributes.specs.View.{attribute_tree}
 use Rattle.wgsl_attributes.specs.Print.{arguments_text, attr_text}
@@ -38,8 +38,8 @@ use Rattle.wgsl_statements.specs.Tree.{Stm}
 use Rattle.wgsl_statements.specs.View.{statement_tree}
 use Rattle.wgsl_statements.specs.Print.{stm_text}
 use Rattle.wgsl_parts.specs.declared.part.Part.TheVariants as part
-use Rattle.wgsl_reading.specs.declared.driver.Start.{Start}
-use Rattle.wgsl_reading.specs.declared.driver.Start.TheVariants.{Expression, Statement, Declaration, Directive, Import, Kind}
+use Rattle.wgsl_parser.specs.Start.{Start}
+use Rattle.wgsl_parser.specs.Start.TheVariants.{Expression, Statement, Declaration, Directive, Import, Kind}
 use Rattle.wgsl_parser.specs.Texts.{IsParsed, ParsesModule}
 
 -- Where a text is an expression, what is printed of its tree is one, too, with the same tree but for places.

@@ -3,4 +3,4 @@
 
 pub mod laws;
 
-pub use wgsl_parser::{ErrorKind, parse_str};
+pub use wgsl_parser::{Error, ErrorKind, parse_str};

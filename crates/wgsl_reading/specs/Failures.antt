@@ -10,10 +10,10 @@ use Rattle.wgsl_attributes.specs.declared.attribute.Attribute.TheVariants.{Custo
 use Rattle.wgsl_simple_statements.specs.declared.declaration.DeclarationKind.TheVariants.{Var}
 use Rattle.wgsl_enumerations.specs.declared.words.DiagnosticSeverity.{DiagnosticSeverity}
 use Rattle.wgsl_choices.specs.Choices.{severity_of}
-use Rattle.wgsl_attribute_words.specs.declared.word.AttributeWord.{AttributeWord}
-use Rattle.wgsl_attribute_words.specs.declared.word.AttributeWord.TheVariants.{Diagnostic}
-use Rattle.wgsl_attribute_words.specs.Words.{word_named}
-use Rattle.wgsl_attribute_words.specs.Names.{severity_in, is_setting}
+use Rattle.wgsl_make.specs.AttributeWord.{AttributeWord}
+use Rattle.wgsl_make.specs.AttributeWord.TheVariants.{Diagnostic}
+use Rattle.wgsl_make.specs.Words.{word_named}
+use Rattle.wgsl_make.specs.Names.{severity_in, is_setting}
 use Rattle.wgsl_parts.specs.declared.part.Part.{Part}
 use Rattle.wgsl_parts.specs.declared.part.Part.TheVariants as part
 use Rattle.wgsl_parts.specs.declared.label.Label.{Label}

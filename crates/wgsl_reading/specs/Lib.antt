@@ -4,3 +4,13 @@ pub mod Gathering
 pub mod Leaves
 pub mod Phrases
 pub mod Readings
+pub use Rattle.wgsl_parts.specs.declared.part.Part
+pub use Rattle.wgsl_parts.specs.TranslationUnit
+pub use Rattle.wgsl_make.specs.Attributes
+pub use Rattle.wgsl_make.specs.Reading
+pub use Rattle.wgsl_make.specs.Statements
+pub use Rattle.wgsl_make.specs.Declarations
+pub use Rattle.wgsl_make.specs.Directives
+pub use Rattle.wgsl_make.specs.Imports
+pub use Rattle.wgsl_make.specs.Making
+pub use Rattle.wgsl_make.specs.NodesStatements

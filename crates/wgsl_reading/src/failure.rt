@@ -2,14 +2,14 @@
 
 ghost use Rattle.std.specs.Prelude.{◌≡◌, ◌∷◌, []};
 ghost use Rattle.std.specs.Option.{option_copied};
-ghost use Rattle.wgsl_attribute_words.specs.Names.{is_setting, severity_in};
+ghost use Rattle.wgsl_make.specs.Names.{is_setting, severity_in};
 ghost use Rattle.wgsl_reading.specs.Failures as failures;
 
 use crate::phrase::{Check, Failure};
-use wgsl_attribute_words::{AttributeWord, is_setting, severity_in, word_named};
 use wgsl_attributes::{Attribute, CustomAttribute};
 use wgsl_choices::severity;
 use wgsl_expressions::ExpressionNode;
+use wgsl_make::{AttributeWord, is_setting, severity_in, word_named};
 use wgsl_parts::{AttributeLabel, DirectiveLabel, Held, Label, Part, Stack};
 use wgsl_path::Span;
 use wgsl_simple_statements::DeclarationKind;

@@ -13,3 +13,5 @@ mod phrase;
 pub use answer::{Unread, read};
 pub use driver::{MAX_DEPTH, Reader, Start};
 pub use phrase::{Check, Failure};
+pub use wgsl_make::StatementNode;
+pub use wgsl_parts::{GlobalDeclarationNode, Part, TranslationUnit, let_go, take};

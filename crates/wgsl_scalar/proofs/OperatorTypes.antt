@@ -7,17 +7,17 @@ use Rattle.wgsl_operators.specs.declared.UnaryOperator.TheVariants.{LogicalNegat
 use Rattle.wgsl_operators.specs.declared.BinaryOperator.{BinaryOperator}
 use Rattle.wgsl_enumerations.specs.declared.words.ShaderStage.{ShaderStage}
 use Rattle.wgsl_enumerations.specs.declared.words.ShaderStage.TheVariants.{Const, Exec}
-use Rattle.wgsl_shader_type.specs.declared.tree.ShaderType.{ShaderType}
-use Rattle.wgsl_shader_type.specs.declared.tree.ShaderType as tree
-use Rattle.wgsl_shader_type.specs.declared.error.Error.{Error}
-use Rattle.wgsl_shader_type.specs.declared.error.Error.TheVariants.{SubOverflow, Unary, Binary}
-use Rattle.wgsl_shader_type.specs.declared.literal.LiteralInstance.{LiteralInstance}
-use Rattle.wgsl_shader_type.specs.declared.literal.LiteralInstance.TheVariants as literal
-use Rattle.wgsl_shader_type.specs.Conversion.{Converts}
+use Rattle.wgsl_type_operators.specs.ShaderType.{ShaderType}
+use Rattle.wgsl_type_operators.specs.ShaderType as tree
+use Rattle.wgsl_type_operators.specs.Error.{Error}
+use Rattle.wgsl_type_operators.specs.Error.TheVariants.{SubOverflow, Unary, Binary}
+use Rattle.wgsl_type_operators.specs.LiteralInstance.{LiteralInstance}
+use Rattle.wgsl_type_operators.specs.LiteralInstance.TheVariants as literal
+use Rattle.wgsl_type_operators.specs.Conversion.{Converts}
 use Rattle.wgsl_type_operators.specs.Operator.{IsBinaryResult, HasNoBinaryCandidate, IsUnaryResult, HasNoUnaryCandidate}
 use Rattle.wgsl_type_operators.specs.ResultOf.{binary_result, unary_result}
-use Rattle.wgsl_shader_type.specs.Rank.{rank_of, converts as converts_type}
-use Rattle.wgsl_shader_type.proofs.Ranks.{rank_out, rank_is_least}
+use Rattle.wgsl_type_operators.specs.Rank.{rank_of, converts as converts_type}
+use Rattle.wgsl_type_operators.proofs.Ranks.{rank_out, rank_is_least}
 use Rattle.wgsl_type_operators.proofs.Candidates.{result_found, none_found}
 use Rattle.wgsl_type_operators.proofs.UnaryCandidates as unary
 use Rattle.wgsl_scalar.specs.declared.scalar.ScalarType.{ScalarType}

@@ -5,9 +5,9 @@ use Rattle.wgsl_operators.specs.declared.BinaryOperator.{BinaryOperator}
 use Rattle.wgsl_operators.specs.declared.BinaryOperator.TheVariants.{Addition, Subtraction, Multiplication, Division, Remainder, ShiftLeft}
 use Rattle.wgsl_enumerations.specs.declared.words.ShaderStage.{ShaderStage}
 use Rattle.wgsl_enumerations.specs.declared.words.ShaderStage.TheVariants.{Const}
-use Rattle.wgsl_shader_type.specs.declared.error.Error.{Error}
-use Rattle.wgsl_shader_type.specs.declared.literal.LiteralInstance.{LiteralInstance}
-use Rattle.wgsl_shader_type.specs.declared.literal.LiteralInstance.TheVariants as literal
+use Rattle.wgsl_type_operators.specs.Error.{Error}
+use Rattle.wgsl_type_operators.specs.LiteralInstance.{LiteralInstance}
+use Rattle.wgsl_type_operators.specs.LiteralInstance.TheVariants as literal
 use Rattle.wgsl_type_operators.specs.Operator.{is_shift}
 use Rattle.wgsl_scalar.specs.declared.scalar.ScalarType.{ScalarType}
 use Rattle.wgsl_scalar.specs.declared.scalar.ScalarType.TheVariants.{Bool as Truth, Integer}

@@ -5,18 +5,18 @@ use Rattle.std.specs.Option.{option_map}
 use Rattle.wgsl_operators.specs.declared.BinaryOperator.{BinaryOperator}
 use Rattle.wgsl_operators.specs.declared.BinaryOperator.TheVariants.{ShortCircuitOr, ShortCircuitAnd, Addition, Subtraction, Multiplication, Division, Remainder, Equality, Inequality, LessThan, LessThanEqual, GreaterThan, GreaterThanEqual, BitwiseOr, BitwiseAnd, BitwiseXor, ShiftLeft}
 use Rattle.wgsl_enumerations.specs.declared.words.ShaderStage.{ShaderStage}
-use Rattle.wgsl_shader_type.specs.declared.tree.ShaderType.{ShaderType}
-use Rattle.wgsl_shader_type.specs.declared.tree.ShaderType as tree
-use Rattle.wgsl_shader_type.specs.declared.tree.ShaderType.TheVariants as type
-use Rattle.wgsl_shader_type.specs.declared.error.Error.{Error}
-use Rattle.wgsl_shader_type.specs.declared.literal.LiteralInstance.{LiteralInstance}
-use Rattle.wgsl_shader_type.specs.declared.literal.LiteralInstance.TheVariants as literal
+use Rattle.wgsl_type_operators.specs.ShaderType.{ShaderType}
+use Rattle.wgsl_type_operators.specs.ShaderType as tree
+use Rattle.wgsl_type_operators.specs.ShaderType.TheVariants as type
+use Rattle.wgsl_type_operators.specs.Error.{Error}
+use Rattle.wgsl_type_operators.specs.LiteralInstance.{LiteralInstance}
+use Rattle.wgsl_type_operators.specs.LiteralInstance.TheVariants as literal
 use Rattle.wgsl_type_operators.specs.Operator.{takes as takes_type, gives, given_type, is_shift, is_comparison, IsBinaryResult, HasNoBinaryCandidate}
 use Rattle.wgsl_type_operators.specs.ResultOf.{if_taken, component, binary_result}
-use Rattle.wgsl_shader_type.specs.Class.{is_integer}
-use Rattle.wgsl_shader_type.specs.Alike.{same}
-use Rattle.wgsl_shader_type.specs.Rank.{rank_of, rank_layer, converts, common_of}
-use Rattle.wgsl_shader_type.proofs.Ranks.{rank_out}
+use Rattle.wgsl_type_operators.specs.Class.{is_integer}
+use Rattle.wgsl_type_operators.specs.Alike.{same}
+use Rattle.wgsl_type_operators.specs.Rank.{rank_of, rank_layer, converts, common_of}
+use Rattle.wgsl_type_operators.proofs.Ranks.{rank_out}
 use Rattle.wgsl_type_operators.proofs.Candidates.{result_found}
 use Rattle.wgsl_scalar.specs.declared.scalar.ScalarType.{ScalarType}
 use Rattle.wgsl_scalar.specs.declared.scalar.ScalarType.TheVariants.{Bool as Truth, Integer}

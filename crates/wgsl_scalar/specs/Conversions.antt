@@ -1,10 +1,10 @@
 -- Conversions of scalars (WGSL, "Conversion Rank", "Value Constructor Built-in Functions").
 use Rattle.std.specs.Prelude.{zero, suc, ℤ, pos, negsuc, Bool, true, false, Result, Ok, Err, if◌then◌else◌}
 use Rattle.std.specs.Int.{cast_signed, cast_unsigned, w32}
-use Rattle.wgsl_shader_type.specs.declared.error.Error.{Error}
-use Rattle.wgsl_shader_type.specs.declared.error.Error.TheVariants.{ConvOverflow, Conversion}
-use Rattle.wgsl_shader_type.specs.declared.literal.LiteralInstance.{LiteralInstance}
-use Rattle.wgsl_shader_type.specs.declared.literal.LiteralInstance.TheVariants as literal
+use Rattle.wgsl_type_operators.specs.Error.{Error}
+use Rattle.wgsl_type_operators.specs.Error.TheVariants.{ConvOverflow, Conversion}
+use Rattle.wgsl_type_operators.specs.LiteralInstance.{LiteralInstance}
+use Rattle.wgsl_type_operators.specs.LiteralInstance.TheVariants as literal
 use Rattle.wgsl_scalar.specs.declared.scalar.ScalarType.{ScalarType}
 use Rattle.wgsl_scalar.specs.declared.scalar.ScalarType.TheVariants.{Bool as Truth, Integer}
 use Rattle.wgsl_scalar.specs.declared.scalar.IntegerType.{IntegerType}

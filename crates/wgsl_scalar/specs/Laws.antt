@@ -3,9 +3,9 @@ use Rattle.std.specs.Prelude.{◌≡◌, Ok, Err}
 use Rattle.wgsl_operators.specs.declared.BinaryOperator.{BinaryOperator}
 use Rattle.wgsl_enumerations.specs.declared.words.ShaderStage.{ShaderStage}
 use Rattle.wgsl_enumerations.specs.declared.words.ShaderStage.TheVariants.{Const}
-use Rattle.wgsl_shader_type.specs.declared.tree.ShaderType.{ShaderType}
-use Rattle.wgsl_shader_type.specs.declared.error.Error.TheVariants.{Binary}
-use Rattle.wgsl_shader_type.specs.declared.literal.LiteralInstance.{LiteralInstance}
+use Rattle.wgsl_type_operators.specs.ShaderType.{ShaderType}
+use Rattle.wgsl_type_operators.specs.Error.TheVariants.{Binary}
+use Rattle.wgsl_type_operators.specs.LiteralInstance.{LiteralInstance}
 use Rattle.wgsl_type_operators.specs.Operator.{IsBinaryResult, HasNoBinaryCandidate}
 use Rattle.wgsl_scalar.specs.Scalars.{scalar_type, type_of}
 use Rattle.wgsl_scalar.specs.Operators.{binary_value}

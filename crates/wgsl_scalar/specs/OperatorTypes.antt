@@ -6,10 +6,10 @@ use Rattle.wgsl_operators.specs.declared.UnaryOperator.TheVariants.{LogicalNegat
 use Rattle.wgsl_operators.specs.declared.BinaryOperator.{BinaryOperator}
 use Rattle.wgsl_enumerations.specs.declared.words.ShaderStage.{ShaderStage}
 use Rattle.wgsl_enumerations.specs.declared.words.ShaderStage.TheVariants.{Const}
-use Rattle.wgsl_shader_type.specs.declared.error.Error.{Error}
-use Rattle.wgsl_shader_type.specs.declared.error.Error.TheVariants.{Unary, Binary}
-use Rattle.wgsl_shader_type.specs.declared.literal.LiteralInstance.{LiteralInstance}
-use Rattle.wgsl_shader_type.specs.Conversion.{Converts}
+use Rattle.wgsl_type_operators.specs.Error.{Error}
+use Rattle.wgsl_type_operators.specs.Error.TheVariants.{Unary, Binary}
+use Rattle.wgsl_type_operators.specs.LiteralInstance.{LiteralInstance}
+use Rattle.wgsl_type_operators.specs.Conversion.{Converts}
 use Rattle.wgsl_type_operators.specs.Operator.{is_shift, is_comparison, IsBinaryResult, HasNoBinaryCandidate, IsUnaryResult, HasNoUnaryCandidate}
 use Rattle.wgsl_scalar.specs.declared.scalar.ScalarType.{ScalarType}
 use Rattle.wgsl_scalar.specs.declared.scalar.ScalarType.TheVariants.{Bool as Truth, Integer}

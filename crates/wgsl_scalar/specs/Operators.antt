@@ -9,10 +9,10 @@ use Rattle.wgsl_operators.specs.declared.BinaryOperator.{BinaryOperator}
 use Rattle.wgsl_operators.specs.declared.BinaryOperator.TheVariants.{ShortCircuitOr, ShortCircuitAnd, Addition, Subtraction, Multiplication, Division, Remainder, Equality, Inequality, LessThan, LessThanEqual, GreaterThan, GreaterThanEqual, BitwiseOr, BitwiseAnd, BitwiseXor, ShiftLeft, ShiftRight}
 use Rattle.wgsl_enumerations.specs.declared.words.ShaderStage.{ShaderStage}
 use Rattle.wgsl_enumerations.specs.declared.words.ShaderStage.TheVariants.{Const, Override, Exec}
-use Rattle.wgsl_shader_type.specs.declared.error.Error.{Error}
-use Rattle.wgsl_shader_type.specs.declared.error.Error.TheVariants.{AddOverflow, SubOverflow, MulOverflow, DivByZero, RemZeroDiv, ShlOverflow, ShrOverflow, Unary, Binary}
-use Rattle.wgsl_shader_type.specs.declared.literal.LiteralInstance.{LiteralInstance}
-use Rattle.wgsl_shader_type.specs.declared.literal.LiteralInstance.TheVariants as literal
+use Rattle.wgsl_type_operators.specs.Error.{Error}
+use Rattle.wgsl_type_operators.specs.Error.TheVariants.{AddOverflow, SubOverflow, MulOverflow, DivByZero, RemZeroDiv, ShlOverflow, ShrOverflow, Unary, Binary}
+use Rattle.wgsl_type_operators.specs.LiteralInstance.{LiteralInstance}
+use Rattle.wgsl_type_operators.specs.LiteralInstance.TheVariants as literal
 use Rattle.wgsl_scalar.specs.declared.scalar.ScalarType.{ScalarType}
 use Rattle.wgsl_scalar.specs.declared.scalar.IntegerType.{IntegerType}
 use Rattle.wgsl_scalar.specs.declared.scalar.IntegerType.TheVariants.{AbstractInt, I32, U32}

@@ -1,10 +1,10 @@
 -- Scalars: their types, ranges and numbers (WGSL, "Boolean Type", "Integer Types", "AbstractInt").
 use Rattle.std.specs.Prelude.{ℕ, ◌^◌, ℤ, pos, negsuc, unsigned_abs, Bool, true, false, nat_lt}
 use Rattle.std.specs.Int.{int_wrap, int_rem_euclid, w32}
-use Rattle.wgsl_shader_type.specs.declared.tree.ShaderType.{ShaderType}
-use Rattle.wgsl_shader_type.specs.declared.tree.ShaderType.TheVariants as type
-use Rattle.wgsl_shader_type.specs.declared.literal.LiteralInstance.{LiteralInstance}
-use Rattle.wgsl_shader_type.specs.declared.literal.LiteralInstance.TheVariants as literal
+use Rattle.wgsl_type_operators.specs.ShaderType.{ShaderType}
+use Rattle.wgsl_type_operators.specs.ShaderType.TheVariants as type
+use Rattle.wgsl_type_operators.specs.LiteralInstance.{LiteralInstance}
+use Rattle.wgsl_type_operators.specs.LiteralInstance.TheVariants as literal
 use Rattle.wgsl_scalar.specs.declared.scalar.ScalarType.{ScalarType}
 use Rattle.wgsl_scalar.specs.declared.scalar.ScalarType.TheVariants.{Bool as Truth, Integer}
 use Rattle.wgsl_scalar.specs.declared.scalar.IntegerType.{IntegerType}

@@ -11,7 +11,7 @@ use crate::scalar::{IntegerType, ScalarType, type_of, value_at};
 use crate::shift::shifted;
 use wgsl_enumerations::ShaderStage;
 use wgsl_operators::BinaryOperator;
-use wgsl_shader_type::{Error, LiteralInstance};
+use wgsl_type_operators::{Error, LiteralInstance};
 
 // Whether the divisor isn't 0 and the quotient, toward zero, is in the range.
 fn divides(ty: IntegerType, a: i128, b: i128) -> bool

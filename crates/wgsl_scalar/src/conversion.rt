@@ -4,7 +4,7 @@ ghost use Rattle.std.specs.Prelude.{◌≡◌};
 ghost use Rattle.wgsl_scalar.specs.Conversions as spec;
 
 use crate::scalar::{IntegerType, ScalarType, type_of, value_at};
-use wgsl_shader_type::{Error, LiteralInstance};
+use wgsl_type_operators::{Error, LiteralInstance};
 
 fn from_abstract(ty: IntegerType, z: i64) -> Result<LiteralInstance, Error>
     ensures { result ≡ spec.from_abstract ty z }

@@ -5,7 +5,7 @@ ghost use Rattle.wgsl_scalar.specs.Operators as spec;
 
 use crate::scalar::{IntegerType, value_at, wrapped_signed, wrapped_unsigned};
 use wgsl_enumerations::ShaderStage;
-use wgsl_shader_type::{Error, LiteralInstance};
+use wgsl_type_operators::{Error, LiteralInstance};
 
 /// Whether a result may be another than the exact one: when the shader runs, and only of 32 bits.
 pub(crate) fn is_lenient(stage: ShaderStage, ty: IntegerType) -> bool

@@ -4,7 +4,7 @@ ghost use Rattle.std.specs.Prelude.{◌≡◌, ◌^◌, Some, None, if◌then◌
 ghost use Rattle.std.specs.Int.{int_wrap, int_rem_euclid, w32, w64};
 ghost use Rattle.wgsl_scalar.specs.Scalars as spec;
 
-use wgsl_shader_type::{LiteralInstance, Type};
+use wgsl_type_operators::{LiteralInstance, Type};
 
 /// 2^32, the modulus of integers of 32 bits.
 const MODULUS: i128 = 4294967296;

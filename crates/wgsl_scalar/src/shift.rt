@@ -8,7 +8,7 @@ use crate::exact::{exact, is_lenient, or_error};
 use crate::scalar::{IntegerType, number};
 use wgsl_enumerations::ShaderStage;
 use wgsl_operators::BinaryOperator;
-use wgsl_shader_type::{Error, LiteralInstance};
+use wgsl_type_operators::{Error, LiteralInstance};
 
 /// By how many bits a value of a type is shifted, if the stage takes the amount.
 fn shift_amount(stage: ShaderStage, ty: IntegerType, amount: u32) -> Option<u32>

@@ -7,7 +7,7 @@ use crate::exact::{exact, or_error};
 use crate::scalar::{IntegerType, type_of};
 use wgsl_enumerations::ShaderStage;
 use wgsl_operators::UnaryOperator;
-use wgsl_shader_type::{Error, LiteralInstance};
+use wgsl_type_operators::{Error, LiteralInstance};
 
 fn negated(stage: ShaderStage, value: LiteralInstance) -> Result<LiteralInstance, Error>
     ensures { result ≡ spec.negated stage value }

@@ -8,3 +8,6 @@ pub mod Literal
 pub mod Rank
 pub mod Text
 pub mod Trees
+pub use Rattle.wgsl_enumerations.specs.declared.address.AddressSpace
+pub use Rattle.wgsl_enumerations.specs.declared.address.AccessMode
+pub use Rattle.wgsl_operators.specs.declared.UnaryOperator

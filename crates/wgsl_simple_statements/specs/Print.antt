@@ -1,10 +1,10 @@
 -- How statements that hold no other statement are printed (this project's own layout).
 use Rattle.std.specs.Prelude.{ℕ, List, [], ◌∷◌, ◌++◌, Option, Some, None, codes}
-use Rattle.wgsl_enumerations.specs.declared.address.AddressSpace.{AddressSpace}
-use Rattle.wgsl_enumerations.specs.declared.address.AccessMode.{AccessMode}
-use Rattle.wgsl_enumerations.specs.Texts.{address_space_text, access_mode_text, assignment_operator_text}
-use Rattle.wgsl_expressions.specs.Tree.{Exp, call, Typ}
-use Rattle.wgsl_expressions.specs.Print.{commas, exp_text, typ_text}
+use Rattle.wgsl_attributes.specs.AddressSpace.{AddressSpace}
+use Rattle.wgsl_attributes.specs.AccessMode.{AccessMode}
+use Rattle.wgsl_attributes.specs.EnumerationsTexts.{address_space_text, access_mode_text, assignment_operator_text}
+use Rattle.wgsl_attributes.specs.ExpressionsTree.{Exp, call, Typ}
+use Rattle.wgsl_attributes.specs.ExpressionsPrint.{commas, exp_text, typ_text}
 use Rattle.wgsl_attributes.specs.Tree.{Attr}
 use Rattle.wgsl_attributes.specs.Print.{attrs_text}
 use Rattle.wgsl_simple_statements.specs.declared.declaration.DeclarationKind.{DeclarationKind}

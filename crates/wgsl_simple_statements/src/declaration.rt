@@ -1,9 +1,9 @@
 //! Declarations of values and constant assertions: of modules and of functions (WGSL, "Variable and Value Declarations",
 //! "Const Assertion Statement").
 
-use wgsl_attributes::Attributes;
-use wgsl_enumerations::{AccessMode, AddressSpace};
-use wgsl_expressions::{ExpressionNode, Ident, TypeExpression};
+use wgsl_attributes::{
+    AccessMode, AddressSpace, Attributes, ExpressionNode, Ident, TypeExpression,
+};
 
 /// What a value declaration declares. A variable may name its address space, and behind that its access mode.
 #[derive(Clone, Copy, Debug, PartialEq)]

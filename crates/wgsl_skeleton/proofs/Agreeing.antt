@@ -3,13 +3,13 @@ use Rattle.std.proofs.Common.{◌≡◌, refl, ap, sym, List, [], ◌∷◌, ◌
 use Rattle.std.specs.Prelude.{if◌then◌else◌}
 use Rattle.std.proofs.lemmas.List.Elements.{Contains-append_left, Contains-append_right}
 use Rattle.wgsl_path.specs.declared.path.ModulePath.{ModulePath}
-use Rattle.wgsl_items.proofs.Members.{first_in, later_in}
+use Rattle.wgsl_items.proofs.Members.{first_in}
 use Rattle.wgsl_skeleton.specs.Skeleton.{Name, Node, occurrence, local, scope, node, Nodes, nil, cons}
 use Rattle.wgsl_skeleton.specs.Occurrences.{Occurrence, occurrences, all_occurrences, behind, denotes_local, hidden_by, outside}
 use Rattle.wgsl_skeleton.specs.Renaming.{Naming, new_name, renamed, all_renamed}
 use Rattle.wgsl_skeleton.specs.Laws.{RenamingLooksAtOccurrences}
 
-outside-append : (xs ys : List Occurrence) → outside (xs ++ ys) ≡ outside xs ++ outside ys
+pub outside-append : (xs ys : List Occurrence) → outside (xs ++ ys) ≡ outside xs ++ outside ys
 outside-append [] ys = refl
 outside-append (x ∷ xs) ys = at (denotes_local x) (outside-append xs ys)
   where

@@ -1,1 +1,3 @@
 pub mod Agreeing
+pub mod Replays
+pub mod Tidy

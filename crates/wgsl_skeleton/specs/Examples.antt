@@ -1,21 +1,20 @@
 -- What occurs in some declarations.
-use Rattle.std.specs.Prelude.{◌≡◌, ℕ, List, [], ◌∷◌, map, Option, Some, None, codes}
+use Rattle.std.specs.Prelude.{◌≡◌, ◌≢◌, List, [], ◌∷◌, map, Some, None, codes}
 use Rattle.wgsl_operators.specs.declared.BinaryOperator.TheVariants.{LessThan, Equality}
 use Rattle.wgsl_enumerations.specs.declared.words.AssignmentOperator.TheVariants.{Equal}
-use Rattle.wgsl_path.specs.declared.path.ModulePath.{ModulePath}
 use Rattle.wgsl_path.specs.declared.path.PathOrigin.TheVariants.{Absolute}
-use Rattle.wgsl_simple_statements.specs.declared.declaration.DeclarationKind.TheVariants.{Let, Var, Const}
+use Rattle.wgsl_declarations.specs.DeclarationKind.TheVariants.{Let, Var, Const}
 use Rattle.wgsl_expressions.specs.Tree as e
 use Rattle.wgsl_expressions.specs.Tree.{Exp, Typ, exps}
 use Rattle.wgsl_attributes.specs.Tree as a
-use Rattle.wgsl_simple_statements.specs.Tree as s
-use Rattle.wgsl_statements.specs.Tree as t
-use Rattle.wgsl_statements.specs.Tree.{Stm, Stms, Block}
+use Rattle.wgsl_declarations.specs.SimpleStatementsTree as s
+use Rattle.wgsl_declarations.specs.StatementsTree as t
+use Rattle.wgsl_declarations.specs.StatementsTree.{Stm, Stms, Block}
 use Rattle.wgsl_declarations.specs.Tree as d
 use Rattle.wgsl_declarations.specs.Tree.{Decl}
 use Rattle.wgsl_skeleton.specs.Skeleton.{Name}
 use Rattle.wgsl_skeleton.specs.Occurrences.{occurrences, outside}
-use Rattle.wgsl_skeleton.specs.Trees.{declaration_node}
+use Rattle.wgsl_skeleton.specs.Trees.{type_node, declaration_node}
 
 -- the names that occur in a declaration and are no local's, in text order
 abbrev pub names_in : Decl → List Name
@@ -75,6 +74,18 @@ with_attributes = d.variable (a.if_true (name (codes "flag")) ∷ a.byte_size (n
     (Some (e.templated None (codes "array") (exps (name (codes "v") ∷ name (codes "m") ∷ []))))
     (Some (e.component (from_package (codes "x")) (codes "member")))
 
+-- fn f(p: T) @my(p) { q = p; }
+abbrev pub with_body_attributes : Decl
+with_body_attributes = d.function [] (codes "f") (record { attributes = []; name = codes "p"; type = plain (codes "T") } ∷ []) [] None
+    (t.block (a.custom (codes "my") (Some (name (codes "p") ∷ [])) ∷ []) (statements (assigned (name (codes "q")) (name (codes "p")) ∷ [])))
+
+-- x, and x with an empty template list, which no text has
+abbrev pub with_no_list : Typ
+with_no_list = e.simple None (codes "x")
+
+abbrev pub with_empty_list : Typ
+with_empty_list = e.templated None (codes "x") e.nil
+
 -- the header of `for` shares its body's scope, which ends with the statement
 abbrev pub ForExample : Type 0
 ForExample = names_in with_for ≡ codes "T" ∷ codes "a" ∷ codes "q" ∷ codes "i" ∷ []
@@ -90,3 +101,11 @@ BlockExample = names_in with_blocks ≡ codes "T" ∷ codes "x" ∷ codes "y" �
 -- a flag of a condition and the name of a member denote nothing; what stands in template lists does
 abbrev pub AttributeExample : Type 0
 AttributeExample = names_in with_attributes ≡ codes "n" ∷ codes "array" ∷ codes "v" ∷ codes "m" ∷ codes "x" ∷ []
+
+-- the attributes of a function's body are outside of the parameters' scope
+abbrev pub BodyExample : Type 0
+BodyExample = names_in with_body_attributes ≡ codes "T" ∷ codes "p" ∷ codes "q" ∷ []
+
+-- an empty template list is told from none
+abbrev pub EmptyListExample : Type 0
+EmptyListExample = type_node with_no_list ≢ type_node with_empty_list

@@ -11,7 +11,7 @@ use Rattle.wgsl_enumerations.specs.declared.words.InterpolationSampling.{Interpo
 use Rattle.wgsl_path.specs.declared.path.ModulePath.{ModulePath}
 use Rattle.wgsl_expressions.specs.declared.expression.LiteralExpression.{LiteralExpression}
 use Rattle.wgsl_expressions.specs.Tree.{Exp}
-use Rattle.wgsl_simple_statements.specs.declared.declaration.DeclarationKind.{DeclarationKind}
+use Rattle.wgsl_declarations.specs.DeclarationKind.{DeclarationKind}
 
 abbrev pub Name : Type 0
 Name = List ℕ

@@ -1,17 +1,16 @@
 -- The skeletons of expressions, attributes, statements and declarations (WGSL, "Declaration and Scope"; where a local is in scope is
 -- said by the order of nodes in a list).
-use Rattle.std.specs.Prelude.{ℕ, List, [], ◌∷◌, ◌++◌, map, Option, Some, None, if◌then◌else◌, codes}
+use Rattle.std.specs.Prelude.{List, [], ◌∷◌, map, Option, Some, None, if◌then◌else◌, codes}
 use Rattle.std.specs.Str.{bytes_eq}
 use Rattle.wgsl_path.specs.declared.path.ModulePath.{ModulePath}
-use Rattle.wgsl_simple_statements.specs.declared.declaration.DeclarationKind.{DeclarationKind}
 use Rattle.wgsl_expressions.specs.Tree as e
 use Rattle.wgsl_expressions.specs.Tree.{Exp, Exps, Typ}
 use Rattle.wgsl_attributes.specs.Tree as a
 use Rattle.wgsl_attributes.specs.Tree.{Attr}
-use Rattle.wgsl_simple_statements.specs.Tree as s
-use Rattle.wgsl_simple_statements.specs.Tree.{Simple, BreakIf, Selector}
-use Rattle.wgsl_statements.specs.Tree as t
-use Rattle.wgsl_statements.specs.Tree.{Stm, Stms, Block, Elses, Clauses, Continuing, Part}
+use Rattle.wgsl_declarations.specs.SimpleStatementsTree as s
+use Rattle.wgsl_declarations.specs.SimpleStatementsTree.{Simple, BreakIf, Selector}
+use Rattle.wgsl_declarations.specs.StatementsTree as t
+use Rattle.wgsl_declarations.specs.StatementsTree.{Stm, Stms, Block, Elses, Clauses, Continuing, Part}
 use Rattle.wgsl_declarations.specs.Tree as d
 use Rattle.wgsl_declarations.specs.Tree.{Member, Param, Decl}
 use Rattle.wgsl_skeleton.specs.Skeleton as l
@@ -56,9 +55,10 @@ abbrev mutual
   exp_nodes e.nil = nil
   exp_nodes (e.cons x xs) = cons (exp_node x) (exp_nodes xs)
 
+  -- (a template list is one part, so that an empty one is told from none)
   pub type_node : Typ → Node
   type_node (e.simple path x) = named_node path x nil
-  type_node (e.templated path x arguments) = occurrence path x (exp_nodes arguments)
+  type_node (e.templated path x arguments) = occurrence path x (cons (node l.parts (exp_nodes arguments)) nil)
 
 abbrev pub if_exp : Option Exp → Node
 if_exp (Some x) = list (exp_node x ∷ [])
@@ -177,13 +177,13 @@ member_node m = node (l.member m.name) (nodes (attributes_node m.attributes ∷ 
 abbrev pub parameter_node : Param → Node
 parameter_node p = node l.parameter (nodes (attributes_node p.attributes ∷ type_node p.type ∷ []))
 
--- The attributes and the types of parameters and result are read in the scope of the module; the parameters are in scope in the body,
--- whose scope they share.
+-- The attributes and the types of parameters and result are read in the scope of the module, and so are the attributes of the body, which
+-- stand before its brace; the parameters are in scope in the body, whose scope they share.
 abbrev pub declaration_node : Decl → Node
 declaration_node (d.variable attributes kind x type value) = node (l.variable kind x) (nodes (attributes_node attributes ∷ if_type type ∷ if_exp value ∷ []))
 declaration_node (d.alias attributes x type) = node (l.alias x) (nodes (attributes_node attributes ∷ type_node type ∷ []))
 declaration_node (d.structure attributes x members) = node (l.structure x) (nodes (attributes_node attributes ∷ map member_node members))
-declaration_node (d.function attributes x parameters result_attributes result b) =
+declaration_node (d.function attributes x parameters result_attributes result (t.block body_attributes statements)) =
     node (l.function x) (nodes (attributes_node attributes ∷ list (map parameter_node parameters) ∷ attributes_node result_attributes ∷ if_type result
-    ∷ scope (then_nodes (nodes (map (λ p. local p.name) parameters)) (inside_nodes b)) ∷ []))
+    ∷ attributes_node body_attributes ∷ scope (then_nodes (nodes (map (λ p. local p.name) parameters)) (statements_nodes statements)) ∷ []))
 declaration_node (d.assertion attributes x) = node l.assertion (nodes (attributes_node attributes ∷ exp_node x ∷ []))

@@ -5,7 +5,7 @@ use Rattle.std.specs.Char.{is_ascii_digit}
 use Rattle.std.proofs.lemmas.Bool.{and_parts, or_cases}
 use Rattle.unicode_ident.specs.Ident.{is_xid_continue}
 use Rattle.wgsl_items.proofs.Bools.{or_left}
-use Rattle.wgsl_token.specs.declared.token.Token.{Token}
+use Rattle.wgsl_lex.specs.Token.{Token}
 use Rattle.wgsl_lex.specs.Floats.{is_point}
 use Rattle.wgsl_lex.specs.Pieces.{begins, opens_number}
 use Rattle.wgsl_lex.specs.Tokens.{token, number_token, NoLonger}

@@ -7,12 +7,12 @@ use Rattle.std.specs.Char.{is_ascii_digit, is_ascii_hexdigit}
 use Rattle.std.specs.Str.{encode_utf8_all}
 use Rattle.std.proofs.lemmas.Bool.{leb-true, eqb-true, and_parts, and_from, or_cases}
 use Rattle.std.proofs.lemmas.List.Folds.{list_all-append}
-use Rattle.wgsl_token.specs.declared.token.Token.{Token}
-use Rattle.wgsl_token.specs.declared.token.Token.TheVariants as t
-use Rattle.wgsl_token.specs.declared.token.Fixed.{Fixed}
+use Rattle.wgsl_lex.specs.Token.{Token}
+use Rattle.wgsl_lex.specs.Token.TheVariants as t
+use Rattle.wgsl_lex.specs.Fixed.{Fixed}
 use Rattle.wgsl_lex.specs.Floats.{empty, one, many, some, optional, is_point, is_sign, is_zero, is_mark, is_e, is_p, exponent, decimal_exponent, binary_exponent, float_of, hexadecimal, is_decimal_float, is_hexadecimal_float, is_float, is_decimal, takes_float_suffix}
 use Rattle.wgsl_lex.specs.Tokens.{plain_number, number_with, is_trivia, is_word, fixed_of, form, trivia, token, is_reserved, word_token, begins_with_two_underscores, magnitude, zero_led_value, abstract_token, signed_token, unsigned_token, number_token, digits_value}
-use Rattle.wgsl_token.specs.Spelling.{spelling}
+use Rattle.wgsl_lex.specs.Spelling.{spelling}
 use Rattle.wgsl_lex.proofs.Tables.{spelled_as}
 use Rattle.wgsl_lex.proofs.Forms.{trivia_form, fixed_form, word_form, number_form, nothing, last, ends, number_token-append}
 use Rattle.wgsl_items.proofs.Bools.{or_right, or_left}

@@ -4,7 +4,7 @@ use Rattle.std.specs.List.{list_all}
 use Rattle.std.proofs.lemmas.Bool.{eqb-true, eq-eqb, or_cases}
 use Rattle.unicode_ident.specs.Ident.{is_xid_continue}
 use Rattle.unicode_ident.proofs.Computing.{unicode_ident}
-use Rattle.wgsl_token.specs.Spelling.{spelling}
+use Rattle.wgsl_lex.specs.Spelling.{spelling}
 use Rattle.wgsl_lex.specs.Tokens.{all_fixed, form, NoLonger}
 use Rattle.wgsl_lex.proofs.Tables.{no_fixed, begins_word, stays_word, spellings_stay_words}
 use Rattle.wgsl_lex.proofs.Classes.{word_no_slash, word_no_number}

@@ -11,8 +11,8 @@ use Rattle.std.proofs.lemmas.List.Folds.{list_all-append}
 use Rattle.std.proofs.lemmas.List.Sums.{fold-append}
 use Rattle.std.proofs.lemmas.Nat.{div-add-mod'}
 use Rattle.std.proofs.lemmas.Fmt.{decimal_by_steps, decimal_digit}
-use Rattle.wgsl_token.specs.declared.token.Token.{Token}
-use Rattle.wgsl_token.specs.declared.token.Token.TheVariants as t
+use Rattle.wgsl_lex.specs.Token.{Token}
+use Rattle.wgsl_lex.specs.Token.TheVariants as t
 use Rattle.wgsl_lex.specs.Floats.{is_float}
 use Rattle.wgsl_lex.specs.Tokens.{form, token, digit_value, digits_value, magnitude, abstract_token, signed_token, unsigned_token, plain_number, suffixed_number, number_token, NoLonger}
 use Rattle.wgsl_lex.proofs.Forms.{digit_form, number_token-append}

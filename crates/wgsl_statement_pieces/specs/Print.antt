@@ -1,7 +1,7 @@
 -- Pieces of printed statements (this project's own layout): what stands before, between and behind the statements that they hold.
 use Rattle.std.specs.Prelude.{ℕ, Bool, if◌then◌else◌, List, [], ◌++◌, Option, Some, None, codes}
-use Rattle.wgsl_expressions.specs.Tree.{Exp}
-use Rattle.wgsl_expressions.specs.Print.{exp_text, indent}
+use Rattle.wgsl_attributes.specs.ExpressionsTree.{Exp}
+use Rattle.wgsl_attributes.specs.ExpressionsPrint.{exp_text, indent}
 
 -- the first brace, with lines behind it or without
 abbrev pub opening : Bool → List ℕ

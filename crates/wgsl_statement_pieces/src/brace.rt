@@ -5,7 +5,7 @@ ghost use Rattle.std.specs.Fmt.{WritesOnOk};
 ghost use Rattle.wgsl_statement_pieces.specs.Print.{opening, closing};
 
 use std::fmt;
-use wgsl_expressions::write_indent;
+use wgsl_attributes::write_indent;
 
 /// Writes the first brace, with lines behind it or without.
 pub fn write_opening<W: fmt::Write>(filled: bool, f: &mut fmt::Formatter<W>) -> fmt::Result

@@ -3,7 +3,7 @@
 ghost use Rattle.std.specs.Prelude.{◌≡◌, ◌++◌, codes};
 ghost use Rattle.std.specs.Option.{option_map};
 ghost use Rattle.std.specs.Fmt.{WritesOnOk};
-ghost use Rattle.wgsl_expressions.specs.View.{node_tree};
+ghost use Rattle.wgsl_attributes.specs.ExpressionsView.{node_tree};
 ghost use Rattle.wgsl_attributes.specs.View.{attributes_tree};
 ghost use Rattle.wgsl_attributes.specs.Print.{attrs_text};
 ghost use Rattle.wgsl_statement_pieces.specs.Print.{opening, head_text, condition_text};
@@ -11,8 +11,7 @@ ghost use Rattle.wgsl_statement_pieces.specs.Print.{opening, head_text, conditio
 use crate::brace::write_opening;
 use std::fmt;
 use std::fmt::Display;
-use wgsl_attributes::{AttributeNode, write_attributes};
-use wgsl_expressions::ExpressionNode;
+use wgsl_attributes::{AttributeNode, ExpressionNode, write_attributes};
 
 /// Writes a word and an expression, up to what is in braces.
 #[tactic(auto, unfolding(crate::specs::Print::head_text))]

@@ -12,3 +12,7 @@ pub use front::{
     write_switch_front, write_word_front,
 };
 pub use made::{converted, converted_in, present, push_made, spanned};
+pub use wgsl_attributes::{
+    Attributes, Boxed, CloneIn, ExpressionNode, FromIn, Items, Spanned, both, three,
+    write_attributes, write_indent,
+};

@@ -3,7 +3,7 @@
 ghost use Rattle.std.specs.Prelude.{◌≡◌, ◌++◌, [], ◌∷◌, IfOk, IsOkAnd, Some};
 
 use std::alloc::{AllocError, Global};
-use wgsl_expressions::{FromIn, Items, Span, Spanned};
+use wgsl_attributes::{FromIn, Items, Span, Spanned};
 
 /// What is made of the value.
 pub fn converted<T: Drop, S: From<T>>(made: Result<T, AllocError>) -> Result<S, AllocError>

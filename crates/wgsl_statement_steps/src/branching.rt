@@ -2,12 +2,13 @@
 
 use crate::frames::{BranchFrame, StatementFrame, Works};
 use crate::scopes::block_first;
-use wgsl_expression_steps::{at_const, loaded_first};
+use wgsl_expression_steps::{
+    ConversionPlace, Flow, Frames, Machine, Operand, at_const, loaded_first, refuse_conversion,
+    truth,
+};
 use wgsl_expressions::ExpressionNode;
 use wgsl_fault::Stop;
 use wgsl_instance::Instance;
-use wgsl_machine::{ConversionPlace, Flow, Frames, Machine, Operand};
-use wgsl_operand_steps::{refuse_conversion, truth};
 use wgsl_shader_type::Error;
 use wgsl_simple_statements::CaseSelector;
 use wgsl_statements::{CompoundStatement, IfStatement, SwitchClause, SwitchStatement};

@@ -2,10 +2,8 @@
 
 use crate::frames::{LoopFrame, StatementFrame, Works};
 use crate::scopes::{block_first, unset_rest};
-use wgsl_expression_steps::loaded_first;
+use wgsl_expression_steps::{Flow, Frames, Machine, loaded_first, truth};
 use wgsl_fault::{PlainFault, Stop};
-use wgsl_machine::{Flow, Frames, Machine};
-use wgsl_operand_steps::truth;
 use wgsl_statements::{ForStatement, LoopStatement, WhileStatement};
 
 fn then<'s>(works: &mut Works<'s>, frame: LoopFrame<'s>) -> Result<(), Stop> {

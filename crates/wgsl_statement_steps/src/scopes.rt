@@ -1,8 +1,8 @@
 //! Lists of statements, and their levels of names.
 
 use crate::frames::{StatementFrame, Works};
+use wgsl_expression_steps::{Flow, Local, Machine};
 use wgsl_fault::Stop;
-use wgsl_machine::{Flow, Local, Machine};
 use wgsl_statements::{CompoundStatement, Statement};
 
 /// The statements of a body come next, in a level of their own.

@@ -6,15 +6,15 @@ use wgsl_attributes::{Attribute, AttributeNode};
 use wgsl_builtin::{is_known, other_types};
 use wgsl_directory::{Declared, Directory, Meaning};
 use wgsl_enumerations::{AccessMode, AddressSpace, AssignmentOperator};
-use wgsl_expression_steps::{at_const, follow, loaded_first};
+use wgsl_expression_steps::{
+    CallFrame, ConversionPlace, DeclarationFrame, Flow, Frame, Frames, Local, Machine, ValueFrame,
+    assign, at_const, bump, compound, follow, is_constructible, is_place, loaded_first, truth,
+    zero,
+};
 use wgsl_expressions::{Expression, ExpressionNode, FunctionCall};
 use wgsl_fault::{Fault, NameFault, PlainFault, Stop};
 use wgsl_instance::{Instance, RefInstance};
 use wgsl_items::Items;
-use wgsl_machine::{
-    CallFrame, ConversionPlace, DeclarationFrame, Flow, Frame, Frames, Local, Machine, ValueFrame,
-};
-use wgsl_operand_steps::{assign, bump, compound, is_constructible, is_place, truth, zero};
 use wgsl_operators::BinaryOperator;
 use wgsl_shader_type::{Error, Type};
 use wgsl_simple_statements::{

@@ -6,9 +6,8 @@ use crate::loops::{for_first, step_loop};
 use crate::scopes::{block_first, statements};
 use crate::simple::{assertion, assignment, call, declaration, increment, leave, step_simple};
 use wgsl_directory::Directory;
-use wgsl_expression_steps::loaded_first;
+use wgsl_expression_steps::{Flow, Frame, Frames, Machine, loaded_first};
 use wgsl_fault::{PlainFault, Stop};
-use wgsl_machine::{Flow, Frame, Frames, Machine};
 use wgsl_statements::{CompoundStatement, Statement, StatementNode};
 
 fn loop_first<'s>(works: &mut Works<'s>, frame: LoopFrame<'s>) -> Result<(), Stop> {

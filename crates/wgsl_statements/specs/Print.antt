@@ -1,8 +1,8 @@
 -- How statements are printed (this project's own layout): each a line or lines, four spaces deeper for each level of nesting.
 use Rattle.std.specs.Prelude.{ℕ, ◌+◌, List, [], ◌∷◌, ◌++◌, Option, Some, None, codes}
-use Rattle.wgsl_expressions.specs.Tree.{Exp}
-use Rattle.wgsl_expressions.specs.Print.{indent}
-use Rattle.wgsl_attributes.specs.Print.{attrs_text}
+use Rattle.wgsl_statement_pieces.specs.ExpressionsTree.{Exp}
+use Rattle.wgsl_statement_pieces.specs.ExpressionsPrint.{indent}
+use Rattle.wgsl_statement_pieces.specs.AttributesPrint.{attrs_text}
 pub use Rattle.wgsl_statement_pieces.specs.Print.{opening, closing, condition_text}
 unfoldable pub use Rattle.wgsl_statement_pieces.specs.Print.{head_text}
 use Rattle.wgsl_simple_statements.specs.Tree.{BreakIf}

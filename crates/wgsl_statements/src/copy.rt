@@ -8,8 +8,9 @@ use crate::statement::{
     WhileStatement,
 };
 use std::alloc::{AllocError, Global};
-use wgsl_items::{CloneIn, Items, both, three};
-use wgsl_statement_pieces::{converted, converted_in, present, push_made, spanned};
+use wgsl_statement_pieces::{
+    CloneIn, Items, both, converted, converted_in, present, push_made, spanned, three,
+};
 
 impl CloneIn for Statement {
     #[cycle(copy)]

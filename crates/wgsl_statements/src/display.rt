@@ -2,7 +2,7 @@
 //! clauses without.
 
 ghost use Rattle.std.specs.Prelude.{◌≡◌, ◌++◌, Some, map, codes};
-ghost use Rattle.wgsl_expressions.specs.View.{node_tree};
+ghost use Rattle.wgsl_statement_pieces.specs.ExpressionsView.{node_tree};
 ghost use Rattle.wgsl_simple_statements.specs.View.{selector_tree};
 ghost use Rattle.wgsl_simple_statements.specs.Print.{case_head};
 ghost use Rattle.wgsl_statements.specs.View.{statement_tree, block_tree, if_layer, switch_layer, continuing_layer, loop_layer, for_layer, while_layer};

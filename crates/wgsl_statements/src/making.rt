@@ -5,12 +5,12 @@ use crate::statement::{
     WhileStatement,
 };
 use std::alloc::{AllocError, Global};
-use wgsl_items::{Boxed, FromIn};
 use wgsl_simple_statements::{
     AssignmentStatement, BreakStatement, ConstAssert, ContinueStatement, Declaration,
     DecrementStatement, DiscardStatement, FunctionCallStatement, IncrementStatement,
     ReturnStatement,
 };
+use wgsl_statement_pieces::{Boxed, FromIn};
 
 impl From<CompoundStatement> for Statement {
     ghost use Rattle.std.specs.Prelude.{◌≡◌};

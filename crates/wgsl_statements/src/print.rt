@@ -4,10 +4,10 @@ ghost use Rattle.std.specs.Prelude.{◌≡◌, ◌++◌, ◌+◌, ◌||◌, ◌=
 ghost use Rattle.std.specs.Option.{option_map};
 ghost use Rattle.std.specs.List.{flat_map, list_any};
 ghost use Rattle.std.specs.Fmt.{WritesOnOk};
-ghost use Rattle.wgsl_expressions.specs.View.{node_tree};
-ghost use Rattle.wgsl_expressions.specs.Print.{indent};
-ghost use Rattle.wgsl_attributes.specs.View.{attributes_tree};
-ghost use Rattle.wgsl_attributes.specs.Print.{attrs_text};
+ghost use Rattle.wgsl_statement_pieces.specs.ExpressionsView.{node_tree};
+ghost use Rattle.wgsl_statement_pieces.specs.ExpressionsPrint.{indent};
+ghost use Rattle.wgsl_statement_pieces.specs.AttributesView.{attributes_tree};
+ghost use Rattle.wgsl_statement_pieces.specs.AttributesPrint.{attrs_text};
 ghost use Rattle.wgsl_simple_statements.specs.View.{break_if_tree, selector_tree};
 ghost use Rattle.wgsl_simple_statements.specs.Print.{case_head};
 ghost use Rattle.wgsl_statements.specs.View.{statement_tree, block_tree, part, part_layer, else_layer, if_layer, switch_layer, continuing_layer, loop_layer, for_layer, while_layer};
@@ -18,13 +18,11 @@ use crate::statement::{
     LoopStatement, Statement, StatementNode, SwitchClause, SwitchStatement, WhileStatement,
 };
 use std::fmt;
-use wgsl_attributes::write_attributes;
-use wgsl_expressions::write_indent;
-use wgsl_items::Items;
 use wgsl_simple_statements::{BreakIfStatement, write_case_head};
 use wgsl_statement_pieces::{
-    write_attributed_head, write_closing, write_condition, write_for_front, write_head,
-    write_last_line, write_opening, write_switch_front, write_word_front,
+    Items, write_attributed_head, write_attributes, write_closing, write_condition,
+    write_for_front, write_head, write_indent, write_last_line, write_opening, write_switch_front,
+    write_word_front,
 };
 
 /// Is it more than a `;`?

@@ -1,14 +1,12 @@
 //! Statements (WGSL, "Statements"). A struct that holds statements is generic in the enum `Statement`, so that the cycle of
 //! types has one member; the plain names are aliases.
 
-use wgsl_attributes::Attributes;
-use wgsl_expressions::{ExpressionNode, Spanned};
-use wgsl_items::{Boxed, Items};
 use wgsl_simple_statements::{
     AssignmentStatement, BreakIfStatement, BreakStatement, CaseSelector, ConstAssert,
     ContinueStatement, Declaration, DecrementStatement, DiscardStatement, FunctionCallStatement,
     IncrementStatement, ReturnStatement,
 };
+use wgsl_statement_pieces::{Attributes, Boxed, ExpressionNode, Items, Spanned};
 
 /// A statement and its place.
 pub type StatementNode = Spanned<Statement>;

@@ -11,8 +11,7 @@ use crate::import::{ImportContent, ImportItem, ImportStatement};
 use crate::statement::{CompoundStatement, ReturnStatement, Statement};
 use crate::unit::TranslationUnit;
 use std::alloc::{AllocError, Global};
-use wgsl_items::{Boxed, CloneIn, Items, both, three};
-use wgsl_path::Spanned;
+use wgsl_path::{Boxed, CloneIn, Items, Spanned, both, three};
 
 #[cycle(copy)]
 fn copied(expression: &Expression, alloc: Global) -> Result<Expression, AllocError>

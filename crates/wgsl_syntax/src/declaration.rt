@@ -2,8 +2,7 @@
 
 use crate::expression::{ExpressionNode, TypeExpression};
 use crate::statement::CompoundStatement;
-use wgsl_items::Items;
-use wgsl_path::{Ident, Spanned};
+use wgsl_path::{Ident, Items, Spanned};
 
 /// An attribute and its place.
 pub type AttributeNode = Spanned<Attribute>;

@@ -1,9 +1,8 @@
 //! Expressions (WGSL, "Expressions"). A struct that a variant of `Expression` holds is generic in it, so that the cycle of
 //! types has one member; the plain names are aliases.
 
-use wgsl_items::{Boxed, Items};
 use wgsl_operators::{BinaryOperator, UnaryOperator};
-use wgsl_path::{Ident, ModulePath, Spanned};
+use wgsl_path::{Boxed, Ident, Items, ModulePath, Spanned};
 
 /// A literal (WGSL, "Literals"). It holds the number without its suffix.
 #[derive(Clone, Copy, Debug, PartialEq)]

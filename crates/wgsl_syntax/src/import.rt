@@ -1,8 +1,7 @@
 //! Imports (WESL, "Imports").
 
 use crate::declaration::Attributes;
-use wgsl_items::Boxed;
-use wgsl_path::{Ident, ModulePath};
+use wgsl_path::{Boxed, Ident, ModulePath};
 
 /// `import`, the path of a module, and what is taken from there.
 #[derive(Debug, Drop, PartialEq)]

@@ -14,9 +14,8 @@ use crate::expression::{
 };
 use std::fmt;
 use std::fmt::Display;
-use wgsl_items::{Boxed, Items};
 use wgsl_operators::UnaryOperator;
-use wgsl_path::{ModulePath, PathOrigin};
+use wgsl_path::{Boxed, Items, ModulePath, PathOrigin};
 
 impl fmt::Display for LiteralExpression {
     ghost output = { λ x. Some (literal_text x) };

@@ -2,8 +2,7 @@
 
 use crate::declaration::Attributes;
 use crate::expression::ExpressionNode;
-use wgsl_items::Items;
-use wgsl_path::Spanned;
+use wgsl_path::{Items, Spanned};
 
 /// A statement and its place.
 pub type StatementNode = Spanned<Statement>;

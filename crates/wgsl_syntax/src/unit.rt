@@ -2,7 +2,7 @@
 
 use crate::declaration::GlobalDeclarationNode;
 use crate::import::ImportStatement;
-use wgsl_items::Items;
+use wgsl_path::Items;
 
 /// The syntax tree of a module.
 #[derive(Debug, Drop, PartialEq)]

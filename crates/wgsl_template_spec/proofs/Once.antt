@@ -2,13 +2,13 @@
 use Rattle.std.specs.Prelude.{◌≢◌, Option, Some, None}
 use Rattle.std.proofs.Common.{◌≡◌, ℕ, zero, suc, ◌<◌, Bool, true, false, ◌&&◌, List, [], ◌∷◌, ◌++◌, take, drop, refl, sym, ◌∙◌, ap, subst, arith, append-nil, take-append-drop}
 use Rattle.std.proofs.lemmas.Str.{encodes_same}
-use Rattle.wgsl_token.specs.declared.token.Token.{Token}
-use Rattle.wgsl_token.specs.declared.token.Token.TheVariants.{Invalid}
+use Rattle.wgsl_lex.specs.Token.{Token}
+use Rattle.wgsl_lex.specs.Token.TheVariants.{Invalid}
 use Rattle.wgsl_lex.specs.Tokens.{Form, trivia, token, form, NoLonger}
 use Rattle.wgsl_lex.specs.Pieces.{StandsFirst, trivia_first, token_first, nothing_first}
 use Rattle.wgsl_lex.proofs.Bools.{is_number}
 use Rattle.wgsl_lex.proofs.Once.{stands_some}
-use Rattle.wgsl_items.proofs.Bools.{and_both}
+use Rattle.wgsl_lex.proofs.ItemsBools.{and_both}
 use Rattle.wgsl_template_spec.specs.declared.token.TemplateToken.{TemplateToken}
 use Rattle.wgsl_template_spec.specs.declared.token.TemplateToken.TheVariants.{Plain}
 use Rattle.wgsl_template_spec.specs.declared.token.SpannedTemplateToken.{SpannedTemplateToken}

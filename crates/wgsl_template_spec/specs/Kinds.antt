@@ -1,9 +1,9 @@
 -- What the grammar of expressions sees of a token.
 use Rattle.std.specs.Prelude.{List, map}
-use Rattle.wgsl_token.specs.declared.token.Token.{Token}
-use Rattle.wgsl_token.specs.declared.token.Token.TheVariants.{Fixed, Identifier, Reserved, Invalid}
-use Rattle.wgsl_token.specs.declared.token.Fixed.{Fixed as FixedToken}
-use Rattle.wgsl_token.specs.declared.token.Fixed.TheVariants as f
+use Rattle.wgsl_lex.specs.Token.{Token}
+use Rattle.wgsl_lex.specs.Token.TheVariants.{Fixed, Identifier, Reserved, Invalid}
+use Rattle.wgsl_lex.specs.Fixed.{Fixed as FixedToken}
+use Rattle.wgsl_lex.specs.Fixed.TheVariants as f
 use Rattle.wgsl_template_spec.specs.declared.kind.Kind.{Kind}
 use Rattle.wgsl_template_spec.specs.declared.kind.Kind.TheVariants as k
 use Rattle.wgsl_template_spec.specs.declared.token.TemplateToken.{TemplateToken}

@@ -2,9 +2,9 @@
 -- Discovery" decides by the grammar, and not by counting brackets). The longest piece at a place is that of `wgsl_lex`.
 use Rattle.std.specs.Prelude.{◌≡◌, ◌≢◌, ℕ, ◌+◌, Bool, true, false, ◌&&◌, ◌==◌, List, [], ◌∷◌, ◌++◌, take, drop, Option, Some, None}
 use Rattle.std.specs.Str.{encode_utf8_all, all_scalars}
-use Rattle.wgsl_token.specs.declared.token.Token.{Token}
-use Rattle.wgsl_token.specs.declared.token.Token.TheVariants.{Fixed, Identifier}
-use Rattle.wgsl_token.specs.declared.token.Fixed.TheVariants as f
+use Rattle.wgsl_lex.specs.Token.{Token}
+use Rattle.wgsl_lex.specs.Token.TheVariants.{Fixed, Identifier}
+use Rattle.wgsl_lex.specs.Fixed.TheVariants as f
 use Rattle.wgsl_lex.specs.Tokens.{size}
 use Rattle.wgsl_lex.specs.Pieces.{StandsFirst}
 use Rattle.wgsl_template_spec.specs.declared.kind.Kind.{Kind}

@@ -4,7 +4,7 @@ ghost use Rattle.std.specs.Prelude.{◌≡◌};
 ghost use Rattle.wgsl_template_spec.specs.Kinds as kinds;
 
 use crate::token::TemplateToken;
-use wgsl_token::{Fixed, Token};
+use wgsl_lex::{Fixed, Token};
 
 /// What the grammar of expressions sees of a token: no spelling, and tokens that may stand in the same places as one.
 #[derive(Clone, Copy, Debug, PartialEq, Eq)]

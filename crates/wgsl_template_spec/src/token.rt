@@ -1,6 +1,6 @@
 //! Tokens of texts in which template lists are told.
 
-use wgsl_token::{Span, Token};
+use wgsl_lex::{Span, Token};
 
 /// A token of a text in which template lists are told (WGSL, "Template Lists").
 #[derive(Debug, Drop, PartialEq)]

@@ -6,4 +6,4 @@ mod token;
 
 pub use error::{Error, ErrorKind};
 pub use token::{Fixed, SpannedToken, Token};
-pub use wgsl_path::Span;
+pub use wgsl_path::{Items, Span, Text};

@@ -5,3 +5,5 @@ pub mod Directives
 pub mod DeclarationKinds
 pub mod Imports
 pub mod Laws
+pub use Rattle.wgsl_token_layout.specs.Layout
+pub use Rattle.wgsl_token_layout.specs.OptionalMarks

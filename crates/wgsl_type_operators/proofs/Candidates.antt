@@ -14,7 +14,7 @@ use Rattle.wgsl_shader_type.proofs.Commons.{equal_if_zero}
 use Rattle.wgsl_type_operators.specs.Operator.{is_arithmetic, is_shift, is_logical, takes, gives, ScalarSignature, Signature, IsCandidate, IsResult, HasNoCandidate, IsBinaryResult, HasNoBinaryCandidate}
 use Rattle.wgsl_type_operators.specs.ResultOf.{if_taken, component, in_vector, binary_result}
 use Rattle.wgsl_type_operators.proofs.Shapes.{IsNoVector, Vectored, vector_or, from_vector, to_vector, GoesDown, goes_down, bool_goes, integer_goes, numeric_goes, scalar_goes, comparable, binary_of_vectors, binary_of_vector_left, binary_of_vector_right, binary_of_no_vectors}
-use Rattle.wgsl_items.proofs.Bools.{or_cases, or_right, or_left}
+use Rattle.wgsl_shader_type.proofs.Bools.{or_cases, or_right, or_left}
 
 or_step : (a b c d : Bool) → (a ≡ true → c ≡ true) → (b ≡ true → d ≡ true) → (a || b) ≡ true → (c || d) ≡ true
 or_step a b c d f g h = ⊎_elim (λ (p : a ≡ true). or_left c d (f p)) (λ (p : b ≡ true). or_right c d (g p)) (or_cases a b h)

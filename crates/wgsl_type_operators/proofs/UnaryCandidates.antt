@@ -1,8 +1,8 @@
 -- What is computed of one operand is the result of the one candidate of the least rank, and where nothing is computed there is no candidate.
 use Rattle.std.proofs.Common.{◌≡◌, refl, sym, ap, ◌∙◌, subst, ℕ, ◌&&◌, ◌||◌, not, Bool, true, false, cond, Option, Some, None, true≢false, MatchOption, arith}
-use Rattle.wgsl_enumerations.specs.declared.address.AddressSpace.{AddressSpace}
-use Rattle.wgsl_enumerations.specs.declared.address.AddressSpace.TheVariants.{Function, Private, Workgroup, Uniform, Storage, Handle}
-use Rattle.wgsl_enumerations.specs.declared.address.AccessMode.{AccessMode}
+use Rattle.wgsl_shader_type.specs.AddressSpace.{AddressSpace}
+use Rattle.wgsl_shader_type.specs.AddressSpace.TheVariants.{Function, Private, Workgroup, Uniform, Storage, Handle}
+use Rattle.wgsl_shader_type.specs.AccessMode.{AccessMode}
 use Rattle.wgsl_operators.specs.declared.UnaryOperator.{UnaryOperator}
 use Rattle.wgsl_operators.specs.declared.UnaryOperator.TheVariants.{LogicalNegation, Negation, BitwiseComplement, AddressOf, Indirection}
 use Rattle.wgsl_shader_type.specs.declared.tree.ShaderType.{ShaderType, roll-ShaderType, out-ShaderType, roll-out-ShaderType, out-roll-ShaderType}

@@ -1,3 +1,10 @@
 pub mod Answer
 pub mod Operator
 pub mod ResultOf
+pub use Rattle.wgsl_shader_type.specs.declared.error.Error
+pub use Rattle.wgsl_shader_type.specs.declared.literal.LiteralInstance
+pub use Rattle.wgsl_shader_type.specs.declared.tree.ShaderType
+pub use Rattle.wgsl_shader_type.specs.Conversion
+pub use Rattle.wgsl_shader_type.specs.Rank
+pub use Rattle.wgsl_shader_type.specs.Class
+pub use Rattle.wgsl_shader_type.specs.Alike

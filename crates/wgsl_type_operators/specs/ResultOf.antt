@@ -1,8 +1,8 @@
 -- The result of an operator, computed by the operands' shapes. That it is what `Operator` says, `Candidates` of the proofs shows.
 use Rattle.std.specs.Prelude.{ℕ, ◌==◌, ◌&&◌, not, Option, Some, None, option_and_then, if◌then◌else◌}
-use Rattle.wgsl_enumerations.specs.declared.address.AddressSpace.{AddressSpace}
-use Rattle.wgsl_enumerations.specs.declared.address.AddressSpace.TheVariants.{Handle}
-use Rattle.wgsl_enumerations.specs.declared.address.AccessMode.{AccessMode}
+use Rattle.wgsl_shader_type.specs.AddressSpace.{AddressSpace}
+use Rattle.wgsl_shader_type.specs.AddressSpace.TheVariants.{Handle}
+use Rattle.wgsl_shader_type.specs.AccessMode.{AccessMode}
 use Rattle.wgsl_operators.specs.declared.BinaryOperator.{BinaryOperator}
 use Rattle.wgsl_operators.specs.declared.UnaryOperator.{UnaryOperator}
 use Rattle.wgsl_operators.specs.declared.UnaryOperator.TheVariants.{AddressOf, Indirection}

@@ -6,10 +6,8 @@ ghost use Rattle.wgsl_type_operators.specs.Operator as spec;
 ghost use Rattle.wgsl_type_operators.specs.ResultOf as plain;
 
 use std::alloc::{AllocError, Global};
-use wgsl_enumerations::{AccessMode, AddressSpace};
-use wgsl_items::Boxed;
 use wgsl_operators::{BinaryOperator, UnaryOperator};
-use wgsl_shader_type::{Error, Type, convert_ty};
+use wgsl_shader_type::{AccessMode, AddressSpace, Boxed, Error, Type, convert_ty};
 
 fn is_arithmetic(operator: BinaryOperator) -> bool
     ensures { result ≡ spec.is_arithmetic operator }

@@ -5,7 +5,7 @@ ghost use Rattle.std.specs.Option.{option_map};
 ghost use Rattle.wgsl_voids_spec.specs.Statements.{is_void, with_node, with_nodes, with_block, with_if, with_if_clause, with_else_if, with_else, with_switch, with_clause, with_loop, with_continuing, with_for, with_part, with_while, kept, kept_part, without_voids};
 
 use wgsl_items::Items;
-use wgsl_statements::{
+use wgsl_voids_spec::{
     CompoundStatement, ContinuingStatement, ElseClause, ElseIfClause, ForStatement, IfClause,
     IfStatement, LoopStatement, Statement, StatementNode, SwitchClause, SwitchStatement,
     WhileStatement, clear_statement, retain_statements,

@@ -1,16 +1,16 @@
 //! Modules without their empty items, in place.
 
 ghost use Rattle.std.specs.Prelude.{◌≡◌, map};
-ghost use Rattle.wgsl_declarations.specs.View.{unit_tree};
-ghost use Rattle.wgsl_declarations.specs.Print.{unit_text};
+ghost use Rattle.wgsl_voids_spec.specs.DeclarationsView.{unit_tree};
+ghost use Rattle.wgsl_voids_spec.specs.DeclarationsPrint.{unit_text};
 ghost use Rattle.wgsl_voids_spec.specs.Counts.{voids_in_unit};
 ghost use Rattle.wgsl_voids_spec.specs.Units.{is_empty_declaration, declaration_without_voids, node_without_voids, kept_declarations, unit_without_voids};
 
 use crate::statements::remove_voids_in_block;
-use wgsl_declarations::{
+use wgsl_items::Items;
+use wgsl_voids_spec::{
     GlobalDeclaration, GlobalDeclarationNode, TranslationUnit, retain_declarations,
 };
-use wgsl_items::Items;
 
 /// Whether it is a `;` alone.
 fn is_empty(declaration: &GlobalDeclaration) -> bool

@@ -5,7 +5,7 @@ use Rattle.std.specs.Prelude.{map}
 use Rattle.wgsl_path.specs.declared.span.Spanned.{Spanned}
 use Rattle.wgsl_expressions.specs.View.{type_tree}
 use Rattle.wgsl_attributes.specs.View.{attributes_tree}
-use Rattle.wgsl_imports.specs.View.{importing_tree, directive_tree}
+use Rattle.wgsl_declarations.specs.ImportsView.{importing_tree, directive_tree}
 use Rattle.wgsl_declarations.specs.declared.declaration.GlobalDeclaration.{GlobalDeclaration}
 use Rattle.wgsl_declarations.specs.declared.declaration.GlobalDeclaration.TheVariants as code
 use Rattle.wgsl_declarations.specs.Tree.{function}

@@ -3,3 +3,12 @@
 #![tactic(auto)]
 
 pub mod laws;
+
+pub use wgsl_declarations::{
+    GlobalDeclaration, GlobalDeclarationNode, TranslationUnit, retain_declarations,
+};
+pub use wgsl_statements::{
+    CompoundStatement, ContinuingStatement, ElseClause, ElseIfClause, ForStatement, IfClause,
+    IfStatement, LoopStatement, Statement, StatementNode, SwitchClause, SwitchStatement,
+    WhileStatement, clear_statement, retain_statements,
+};

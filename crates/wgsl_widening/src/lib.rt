@@ -5,3 +5,4 @@ mod declarations;
 mod expressions;
 
 pub use declarations::widen;
+pub use wgsl_part::{NarrowError, is_in_part, narrow};

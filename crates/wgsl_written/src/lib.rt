@@ -5,4 +5,7 @@ mod name;
 mod write;
 
 pub use name::{Reduced, lacks_value, named};
+pub use wgsl_eval::{
+    EvalError, Scope, call, callee, computed, decides, literal_value, plain_name, values,
+};
 pub use write::to_expr;

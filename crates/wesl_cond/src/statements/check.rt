@@ -10,8 +10,7 @@ ghost use Rattle.wesl_conditions.specs.Told.{TellsFault};
 ghost use Rattle.wesl_cond.specs.Passing.{Passes, see_statement, see_node, inside_statement, first_of};
 
 use std::alloc::Global;
-use wesl_cond_attributes::Check;
-use wesl_cond_items::attributes_of;
+use wesl_cond_items::{Check, attributes_of};
 use wesl_features::{CondCompError, Features};
 use wgsl_attributes::Attributes;
 use wgsl_items::Items;

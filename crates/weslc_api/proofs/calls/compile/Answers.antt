@@ -6,7 +6,7 @@ use Rattle.wgsl_path.specs.Paths.{path_text}
 use Rattle.wgsl_syntax.specs.View.{unit_tree}
 use Rattle.weslc_linking.proofs.Located.{refused_unit}
 use Rattle.weslc_linking.proofs.Texts.{compiled_text}
-use Rattle.wesl_reach.specs.Alone.{only}
+use Rattle.weslc_linking.specs.Alone.{only}
 use Rattle.weslc_linking.specs.Answers.{RefusesToCompile}
 use Rattle.weslc_api.proofs.calls.compile.Goals as goal
 

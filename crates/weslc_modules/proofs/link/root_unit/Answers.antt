@@ -1,4 +1,4 @@
-use Rattle.wesl_rounds.proofs.Asking.{one_asked}
+use Rattle.weslc_part.proofs.Asking.{one_asked}
 use Rattle.weslc_modules.proofs.link.root_unit.Goals as goal
 
 pub returns-in-Ok-clause-asked : goal.returns-in-Ok-clause-asked

@@ -1,5 +1,5 @@
 use Rattle.std.proofs.Common.{◌≡◌}
-use Rattle.wesl_rounds.specs.Asked.{StayAsked}
+use Rattle.weslc_part.specs.Asked.{StayAsked}
 use Rattle.weslc_modules.proofs.map.source_map.Given as goal
 
 abbrev pub invariant-loop-number : goal.invariant-loop-number

@@ -1,8 +1,8 @@
 use Rattle.std.proofs.Common.{ap, sym, ◌∙◌, ◌+◌, map, drop, subst}
 use Rattle.wgsl_syntax.specs.Tree.{exps}
 use Rattle.wgsl_syntax.specs.View.{node_tree, type_tree}
-use Rattle.wgsl_eval.specs.Ends.{Gives}
-use Rattle.wgsl_eval.specs.Scopes.{scope_of}
+use Rattle.wgsl_written.specs.Ends.{Gives}
+use Rattle.wgsl_written.specs.Scopes.{scope_of}
 use Rattle.wgsl_lower_expressions.specs.Reduced.{reduction, reductions, under_operator, between_operands, of_arguments, all_reduced, before_more}
 use Rattle.wgsl_lower_expressions.proofs.Reduces.{passes_on, goes_on, faults_go, at_parenthesized, at_unary, at_call, parenthesized_out, binary_left_fault, binary_undecided, call_of, next_argument, before_next, before_fault}
 use Rattle.wgsl_lower_expressions.proofs.expression.+reducing.Goals as goal

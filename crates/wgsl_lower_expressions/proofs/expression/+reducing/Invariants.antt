@@ -1,7 +1,7 @@
 use Rattle.std.proofs.Common.{◌≡◌, ◌+◌, ◌*◌, map, drop}
 use Rattle.wgsl_syntax.specs.Tree.{exps}
 use Rattle.wgsl_syntax.specs.View.{node_tree}
-use Rattle.wgsl_eval.specs.Scopes.{scope_of}
+use Rattle.wgsl_written.specs.Scopes.{scope_of}
 use Rattle.wgsl_lower_expressions.specs.Reduced as spec
 use Rattle.wgsl_lower_expressions.proofs.expression.+reducing.Given as goal
 

@@ -1,4 +1,4 @@
-use Rattle.wgsl_eval.specs.Scopes.{scope_of}
+use Rattle.wgsl_written.specs.Scopes.{scope_of}
 use Rattle.wgsl_lower_expressions.specs.Reduced.{reduction}
 use Rattle.wgsl_lower_expressions.proofs.Reduces.{passes_on, argument_fault, refused_by_callee}
 use Rattle.wgsl_lower_expressions.proofs.expression.refused_call.Goals as goal

@@ -1,5 +1,5 @@
 use Rattle.std.proofs.Common.{◌∙◌, ap, sym}
-use Rattle.wgsl_shader_type.specs.declared.error.Error.TheVariants.{SubOverflow, MulOverflow}
+use Rattle.wgsl_type_operators.specs.Error.TheVariants.{SubOverflow, MulOverflow}
 use Rattle.wgsl_scalar.specs.Operators.{of_numbers, exact, or_error}
 use Rattle.wgsl_scalar.proofs.Widened.{held_difference, held_product}
 use Rattle.wgsl_scalar.proofs.binary.of_numbers.Goals as goal

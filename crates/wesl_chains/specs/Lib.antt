@@ -1,0 +1,11 @@
+pub mod Outlines
+pub mod Senses
+pub mod Chains
+pub mod Reaching
+pub mod Closings
+pub mod Laws
+pub mod Examples
+pub use Rattle.wgsl_path.specs.declared.path.ModulePath
+pub use Rattle.wgsl_path.specs.declared.path.PathOrigin
+pub use Rattle.wgsl_path.specs.Reading
+pub use Rattle.wgsl_path.specs.Joining

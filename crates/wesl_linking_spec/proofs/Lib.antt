@@ -1,0 +1,5 @@
+pub mod NoPaths
+pub mod Places
+mod Shown
+mod Loaded
+mod Assembled

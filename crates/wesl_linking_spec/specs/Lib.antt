@@ -1,0 +1,12 @@
+pub mod Outlining
+pub mod Sources
+pub mod Loading
+pub mod Asks
+pub mod Written
+pub mod Linked
+pub mod Clashing
+pub mod Linking
+pub mod Valid
+pub mod Laws
+pub mod Examples
+pub mod Packages

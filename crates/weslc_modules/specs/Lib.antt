@@ -1,0 +1,1 @@
+pub use Rattle.weslc_part.specs.Found

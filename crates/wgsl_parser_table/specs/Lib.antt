@@ -1,0 +1,11 @@
+pub use Rattle.wgsl_parts.specs.declared.label.Label
+pub use Rattle.wgsl_parts.specs.declared.label.NameLabel
+pub use Rattle.wgsl_parts.specs.declared.label.ExpressionLabel
+pub use Rattle.wgsl_parts.specs.declared.label.AttributeLabel
+pub use Rattle.wgsl_parts.specs.declared.label.ValueLabel
+pub use Rattle.wgsl_parts.specs.declared.label.PlainLabel
+pub use Rattle.wgsl_parts.specs.declared.label.StatementLabel
+pub use Rattle.wgsl_parts.specs.declared.label.ClauseLabel
+pub use Rattle.wgsl_parts.specs.declared.label.ImportLabel
+pub use Rattle.wgsl_parts.specs.declared.label.DirectiveLabel
+pub use Rattle.wgsl_parts.specs.declared.label.DeclarationLabel

@@ -1,0 +1,1 @@
+pub use Rattle.wgsl_path.proofs.Bools
