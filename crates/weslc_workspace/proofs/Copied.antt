@@ -10,7 +10,7 @@ use Rattle.wgsl_parser.specs.Texts.{ParsesModule, IsModuleFault}
 use Rattle.wesl_resolvers.specs.Found.{not_found, TellsUnit}
 use Rattle.wesl_resolvers.specs.declared.error.ResolveError.{ResolveError}
 use Rattle.wesl_resolvers.specs.declared.error.ResolveError.TheVariants.{ModuleNotFound, Syntax, GaveUp, Condition, ConditionLeft, OutOfMemory}
-use Rattle.weslc_whole.specs.Refused.{RefusedAs}
+use Rattle.weslc_texts.specs.Refused.{RefusedAs}
 use Rattle.weslc_workspace.specs.Found.{found_in}
 use Rattle.weslc_workspace.specs.Outcome.{IsToldOf}
 

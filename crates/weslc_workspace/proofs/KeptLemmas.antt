@@ -17,9 +17,9 @@ use Rattle.wesl_link_spec.specs.Rounds.{Sources}
 use Rattle.wesl_reach.specs.Alone.{only}
 use Rattle.weslc_part.specs.Found as part
 use Rattle.weslc_part.specs.Found.{at_text}
-use Rattle.weslc_whole.specs.Options.{Options}
-use Rattle.weslc_whole.specs.OfPart.{decided_by}
-use Rattle.weslc_whole.proofs.Alone.{AreFoundToo}
+use Rattle.weslc_calls.specs.Options.{Options}
+use Rattle.weslc_calls.specs.OfPart.{decided_by}
+use Rattle.weslc_linking.proofs.Alone.{AreFoundToo}
 use Rattle.weslc_whole.specs.Whole.{Answer, IsAnswerFor, AllInside, OfAsked}
 use Rattle.weslc_whole.proofs.Too.{answers_too}
 use Rattle.weslc_workspace.specs.Held.{text_at, IsSet}

@@ -1,8 +1,8 @@
 -- Answers that do not say that memory was refused.
 use Rattle.std.proofs.Common.{◌≡◌, refl, Bool, true, false}
 use Rattle.std.specs.Prelude.{if◌then◌else◌}
-use Rattle.weslc_whole.specs.CompileError.{CompileError}
-use Rattle.weslc_whole.specs.CompileError.TheVariants.{OutOfMemory}
+use Rattle.weslc_calls.specs.CompileError.{CompileError}
+use Rattle.weslc_calls.specs.CompileError.TheVariants.{OutOfMemory}
 use Rattle.weslc_workspace.specs.Refusals.{is_memory}
 
 -- any other refusal

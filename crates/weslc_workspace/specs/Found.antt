@@ -11,7 +11,7 @@ use Rattle.wgsl_error.specs.declared.error.Error.{Error}
 use Rattle.wgsl_error.specs.contracts.error.Error as errors
 use Rattle.wgsl_parser.specs.Texts.{ParsesModule, IsModuleFault}
 use Rattle.wgsl_parser.proofs.Once.{module_fault_once, module_apart}
-use Rattle.weslc_whole.proofs.One.{texts_have_one_module}
+use Rattle.wgsl_read_back.proofs.One.{texts_have_one_module}
 use Rattle.wesl_resolvers.specs.Found.{Answer, unit_of, not_found, faulty, conditioned, left_open}
 
 -- what is found where this text, or none, is set: its module, or its fault

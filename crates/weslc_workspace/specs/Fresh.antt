@@ -5,12 +5,12 @@ use Rattle.wgsl_path.specs.declared.path.ModulePath.{ModulePath}
 use Rattle.wgsl_path.specs.Paths.{path_text}
 use Rattle.wesl_resolve.specs.declared.source_map.BasicSourceMap.{BasicSourceMap}
 use Rattle.weslc_part.specs.Found.{at_text, part_names}
-use Rattle.weslc_whole.specs.Mapped.{HasNames}
-use Rattle.weslc_whole.specs.Options.{Options}
-use Rattle.weslc_whole.specs.CompileError.{CompileError}
-use Rattle.weslc_whole.specs.OfPart.{Finding, sources, IsBeyondLink}
-use Rattle.weslc_whole.specs.Answers.{IsMapped, IsLinkedText, IsCompiledText, RefusesToLink}
-use Rattle.weslc_whole.specs.CallsPlain as linked
+use Rattle.weslc_linking.specs.Mapped.{HasNames}
+use Rattle.weslc_calls.specs.Options.{Options}
+use Rattle.weslc_calls.specs.CompileError.{CompileError}
+use Rattle.weslc_calls.specs.OfPart.{Finding, sources, IsBeyondLink}
+use Rattle.weslc_calls.specs.Answers.{IsMapped, IsLinkedText, IsCompiledText, RefusesToLink}
+use Rattle.weslc_calls.specs.Plain as linked
 use Rattle.weslc_whole.specs.Plain as compiled
 use Rattle.weslc_whole.specs.Whole.{IsBeyond, RefusesPart}
 use Rattle.weslc_whole.specs.declared.refusal.WholeRefusal.{WholeRefusal}

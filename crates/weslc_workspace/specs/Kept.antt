@@ -6,8 +6,8 @@ use Rattle.wesl_features.specs.Settings.{setting}
 use Rattle.wesl_link_spec.specs.Rounds.{Sources}
 use Rattle.wesl_reach.specs.Alone.{only}
 use Rattle.weslc_part.specs.Found.{at_text}
-use Rattle.weslc_whole.specs.Options.{Options}
-use Rattle.weslc_whole.specs.OfPart.{sources}
+use Rattle.weslc_calls.specs.Options.{Options}
+use Rattle.weslc_calls.specs.OfPart.{sources}
 use Rattle.weslc_whole.specs.Whole.{Answer, IsAnswerFor}
 use Rattle.weslc_workspace.specs.Held.{text_at}
 use Rattle.weslc_workspace.specs.Fresh.{finds, texts_of}

@@ -1,7 +1,7 @@
 -- Answers that say that memory was refused.
 use Rattle.std.specs.Prelude.{Bool, true, false, Result, Ok, Err}
-use Rattle.weslc_whole.specs.CompileError.{CompileError}
-use Rattle.weslc_whole.specs.CompileError.TheVariants.{OutOfMemory}
+use Rattle.weslc_calls.specs.CompileError.{CompileError}
+use Rattle.weslc_calls.specs.CompileError.TheVariants.{OutOfMemory}
 use Rattle.weslc_whole.specs.declared.refusal.WholeRefusal.{WholeRefusal}
 use Rattle.weslc_whole.specs.declared.refusal.WholeRefusal.TheVariants.{Compile, Eval}
 

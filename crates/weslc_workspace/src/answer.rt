@@ -3,7 +3,8 @@
 ghost use Rattle.std.specs.Prelude.{◌≡◌, true, false};
 ghost use Rattle.weslc_workspace.specs.Refusals.{is_memory, is_link_refused, is_out_of_memory};
 
-use weslc_whole::{BasicSourceMap, CompileError, WholeRefusal};
+use weslc_calls::{BasicSourceMap, CompileError};
+use weslc_whole::WholeRefusal;
 
 /// What `link` answers: a text and the map from it back to the modules, or the first fault.
 pub type Linked = Result<(String, BasicSourceMap), CompileError>;

@@ -7,7 +7,7 @@ use crate::answer::{HeldCompiled, HeldLinked};
 use crate::modules::Modules;
 use indexmap::IndexSet;
 use std::alloc::Global;
-use weslc_whole::Options;
+use weslc_calls::Options;
 use wgsl_path::ModulePath;
 
 /// Modules that are edited, with a root and options, and what was compiled of them. No text that is set is parsed twice, and what was

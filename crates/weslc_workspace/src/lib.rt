@@ -11,8 +11,7 @@ mod workspace;
 
 pub use answer::{Compiled, Linked};
 pub use content::Workspace;
-pub use weslc_whole::{
-    BasicSourceMap, CompileError, ErrorContext, EscapeMangler, Feature, ImportKind, Mode, Options,
-    Refused, ResolveKind, SourceMap, Tried, VirtualResolver, WholeRefusal, compile, link, lower,
-    try_compile,
+pub use weslc_calls::{
+    BasicSourceMap, CompileError, ErrorContext, Feature, Mode, Options, SourceMap,
 };
+pub use weslc_whole::WholeRefusal;

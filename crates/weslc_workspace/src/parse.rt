@@ -3,7 +3,7 @@
 ghost use Rattle.std.specs.Prelude.{◌≡◌, List, ℕ, Option, IfOk};
 ghost use Rattle.wgsl_parser.specs.Texts.{ParsesModule};
 ghost use Rattle.wesl_resolvers.specs.Found.{TellsUnit};
-ghost use Rattle.weslc_whole.specs.Refused.{RefusedAs};
+ghost use Rattle.weslc_texts.specs.Refused.{RefusedAs};
 ghost use Rattle.weslc_workspace.specs.Found.{found_in};
 ghost use Rattle.weslc_workspace.specs.Outcome.{IsToldOf};
 

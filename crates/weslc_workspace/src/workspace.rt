@@ -7,7 +7,8 @@ use crate::modules::Modules;
 use indexmap::IndexSet;
 use std::alloc::{AllocError, Global};
 use std::mem;
-use weslc_whole::{Feature, Options, compile, link};
+use weslc_calls::{Feature, Options, link};
+use weslc_whole::compile;
 use wgsl_items::Text;
 use wgsl_path::ModulePath;
 

@@ -3,7 +3,7 @@
 use std::alloc::AllocError;
 use wesl_cond::CondCompError;
 use weslc_bundle::{PrecompileError, RunRefusal, Unprintable};
-use weslc_workspace::{CompileError, ErrorContext, ImportKind, Refused, ResolveKind, WholeRefusal};
+use weslc_whole::{CompileError, ErrorContext, ImportKind, Refused, ResolveKind, WholeRefusal};
 use wgsl_error::{Error, Refusal};
 use wgsl_items::OrOutOfMemory;
 use wgsl_path::{ModulePath, PathOrigin};

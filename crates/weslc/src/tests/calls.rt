@@ -8,7 +8,7 @@ use std::alloc::Global;
 use std::test::Fail;
 use wesl_cond::Features;
 use weslc_bundle::{Binding, RunResult, eval, precompile, read_bindings, result_text, run};
-use weslc_workspace::{Options, VirtualResolver, compile, link};
+use weslc_whole::{Options, VirtualResolver, compile, link};
 use wgsl_inputs::Inputs;
 use wgsl_items::Items;
 use wgsl_path::ModulePath;

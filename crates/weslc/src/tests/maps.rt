@@ -2,7 +2,7 @@
 
 use std::alloc::Global;
 use std::test::Fail;
-use weslc_workspace::{
+use weslc_whole::{
     BasicSourceMap, EscapeMangler, Options, SourceMap, Tried, VirtualResolver, link, try_compile,
 };
 use wgsl_items::Text;

@@ -8,7 +8,7 @@ use std::test::Fail;
 use wesl_cond::{Features, run};
 use wesl_rounds::HeldUnit;
 use weslc_bundle::{check_unit, parse_str};
-use weslc_workspace::lower;
+use weslc_whole::lower;
 use wgsl_guard::guard_templates;
 
 const COMPARED: &str =
