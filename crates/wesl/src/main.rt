@@ -2,13 +2,21 @@
 #![tactic(auto)]
 
 use std::io;
+use std::io::{ErrorKind, Write};
 use std::process::ExitCode;
 use weslc_tool::run_words;
 
 fn run(rt: &HostRuntime) -> io::Result<u8> {
-    let words: Vec<String> = std::env::args(rt)?.collect(rt.alloc())?;
-    let mut out = rt.stdout();
     let mut errors = rt.stderr();
+    let words: Vec<String> = match std::env::args(rt) {
+        Ok(words) => words.collect(rt.alloc())?,
+        Err(error) if error.kind() == ErrorKind::InvalidData => {
+            errors.write_all(b"error: a word of the command line is not UTF-8\n")?;
+            return Ok(2);
+        }
+        Err(error) => return Err(error),
+    };
+    let mut out = rt.stdout();
     run_words(rt, words.as_slice(), &mut out, &mut errors)
 }
 

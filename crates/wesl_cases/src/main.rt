@@ -4,6 +4,7 @@
 #![tactic(auto)]
 
 use std::io::Write;
+use std::os::unix::fs::symlink;
 use std::{fs, io};
 use weslc_tool::{run_words, serve_bundle};
 
@@ -15,6 +16,22 @@ fn write_long_file(rt: &HostRuntime) -> io::Result<()> {
     let mut text = Vec::new(rt.alloc());
     text.resize(TOO_LONG, b' ')?;
     fs::write(rt, "broken/long.wesl", text.as_slice())
+}
+
+/// Links to a file of the same folder, to one of another and to a device, which are made here since a copy of this folder may lose them.
+fn make_links(rt: &HostRuntime) -> io::Result<()> {
+    let links = [
+        ("broken/inside.wesl", "values.wesl"),
+        ("broken/outside.wesl", "../broken_values.wesl"),
+        ("broken/null.wesl", "/dev/null"),
+    ];
+    for (link, original) in &links[..] {
+        match symlink(rt, *original, *link) {
+            Err(error) if error.kind() != io::ErrorKind::AlreadyExists => return Err(error),
+            _ => {}
+        }
+    }
+    Ok(())
 }
 
 fn words_of(rt: &HostRuntime, line: &str) -> io::Result<Vec<String>> {
@@ -86,6 +103,7 @@ fn show_file<W: Write>(rt: &HostRuntime, file: &str, out: &mut W) -> io::Result<
 
 fn main(rt: HostRuntime) -> io::Result<()> {
     write_long_file(&rt)?;
+    make_links(&rt)?;
     let commands = fs::read_to_string(&rt, "commands")?;
     let mut out = rt.stdout();
     for line in commands.as_str().lines() {

@@ -12,7 +12,7 @@ use std::fmt::Write;
 
 /// A field of an error line, or `-` where there is none. It is written without memory.
 #[derive(Drop)]
-pub(crate) struct Field<'a, T>(pub(crate) Option<&'a T>);
+pub struct Field<'a, T>(pub Option<&'a T>);
 
 impl<T: fmt::Display> fmt::Display for Field<'_, T> {
     fn fmt<W: fmt::Write>(&self, f: &mut fmt::Formatter<W>) -> fmt::Result {

@@ -5,7 +5,7 @@ use weslc_whole::{Fault, NameFault, ValidateError};
 use wgsl_error::ErrorKind;
 use wgsl_shader_type::Error;
 
-pub(crate) fn syntax_kind(kind: ErrorKind) -> &'static str {
+pub fn syntax_kind(kind: ErrorKind) -> &'static str {
     match kind {
         ErrorKind::InvalidToken => "InvalidToken",
         ErrorKind::ReservedWord => "ReservedWord",
@@ -21,7 +21,7 @@ pub(crate) fn syntax_kind(kind: ErrorKind) -> &'static str {
     }
 }
 
-pub(crate) fn condition_kind(error: &CondCompError) -> &'static str {
+pub fn condition_kind(error: &CondCompError) -> &'static str {
     match error {
         CondCompError::InvalidFeatureFlag(_) => "InvalidFeatureFlag",
         CondCompError::UnexpectedFeatureFlag(_) => "UnexpectedFeatureFlag",
@@ -32,7 +32,7 @@ pub(crate) fn condition_kind(error: &CondCompError) -> &'static str {
     }
 }
 
-pub(crate) fn validate_kind(kind: ValidateError) -> &'static str {
+pub fn validate_kind(kind: ValidateError) -> &'static str {
     match kind {
         ValidateError::UndefinedSymbol => "UndefinedSymbol",
         ValidateError::ParamCount => "ParamCount",
@@ -42,7 +42,7 @@ pub(crate) fn validate_kind(kind: ValidateError) -> &'static str {
     }
 }
 
-pub(crate) fn eval_kind(fault: &Fault) -> &'static str {
+pub fn eval_kind(fault: &Fault) -> &'static str {
     match fault {
         Fault::StepLimit => "StepLimit",
         Fault::Operation(error) => operation_kind(error.get()),

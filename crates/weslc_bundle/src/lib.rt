@@ -15,10 +15,22 @@ mod request;
 mod running;
 mod serve;
 
+pub use error::ServeError;
 pub use features::read_feature;
+pub use field::Field;
+pub use kinds::{condition_kind, eval_kind, syntax_kind, validate_kind};
 pub use options::read_options;
 pub use request::{BundleError, Key};
-pub use serve::{serve_bundle, write_compile_error, write_fault};
+pub use serve::serve_bundle;
+pub use wesl_features::{CondCompError, Features};
 pub use weslc_precompile::{PrecompileError, Unprintable, check_unit, parse_str, precompile};
 pub use weslc_run::{RunRefusal, eval, run};
-pub use weslc_values::{Binding, RunResult, read_bindings, result_text};
+pub use weslc_values::{
+    Binding, OverrideValue, RunResult, ValueError, inputs_of, read_bindings, read_inputs,
+    read_overrides, result_text, zero_inputs,
+};
+pub use weslc_whole::{
+    BasicSourceMap, CompileError, ErrorContext, Feature, ImportKind, Mode, Options, ResolveError,
+    ResolveKind, SourceMap, VirtualResolver, WholeRefusal, compile, link,
+};
+pub use wgsl_fault::Fault;

@@ -112,7 +112,7 @@ fn write_bundle_error<E: Write>(errors: &mut E, error: &BundleError) -> io::Resu
 }
 
 /// The line about a call that is refused. It needs no memory.
-pub fn write_compile_error<E: Write>(errors: &mut E, error: &CompileError) -> io::Result<()> {
+fn write_compile_error<E: Write>(errors: &mut E, error: &CompileError) -> io::Result<()> {
     match error {
         CompileError::TooManyModules(context) => {
             errors.write_all(b"error: TooManyModules")?;
@@ -182,11 +182,7 @@ fn write_run_refusal<E: Write>(errors: &mut E, refusal: &RunRefusal) -> io::Resu
 }
 
 /// The line about a fault of evaluation. It needs no memory.
-pub fn write_fault<E: Write>(
-    errors: &mut E,
-    context: &ErrorContext,
-    fault: &Fault,
-) -> io::Result<()> {
+fn write_fault<E: Write>(errors: &mut E, context: &ErrorContext, fault: &Fault) -> io::Result<()> {
     let kind = fault.kind();
     write!(errors, "error: Eval.{kind}")?;
     write_context(errors, context, None)

@@ -1,9 +1,10 @@
 //! The command line of `wesl`: its options, and what they ask for.
 #![tactic(auto)]
 
+mod checks;
 mod options;
 mod request;
 mod words;
 
-pub use request::{Flag, Format, Request, Verb};
-pub use words::{Unread, read_words};
+pub use request::{Flag, Format, Package, Request, Verb};
+pub use words::{Unread, format_in, read_words};

@@ -26,6 +26,8 @@ enum Takes {
     Format,
     Modules,
     Steps,
+    /// Nothing: the option is there, or not.
+    Nothing,
 }
 
 /// Which commands take an option.
@@ -59,7 +61,7 @@ struct Row {
     scope: Scope,
 }
 
-const OPTION_COUNT: usize = 19;
+const OPTION_COUNT: usize = 20;
 
 /// The words and options, in the order in which help shows them.
 static OPTIONS: [Row; OPTION_COUNT] = [
@@ -94,6 +96,14 @@ static OPTIONS: [Row; OPTION_COUNT] = [
         help: "where another package is",
         takes: Takes::Texts,
         scope: Scope::All,
+    },
+    Row {
+        name: "follow-links",
+        short: None,
+        value: "",
+        help: "read files that links lead to outside of their package",
+        takes: Takes::Nothing,
+        scope: Scope::Reading,
     },
     Row {
         name: "entry",
@@ -234,6 +244,7 @@ fn is_taken(scope: Scope, verb: Verb) -> bool {
 fn action_of(takes: Takes) -> ArgAction {
     match takes {
         Takes::Texts => ArgAction::Append,
+        Takes::Nothing => ArgAction::SetTrue,
         _ => ArgAction::Set,
     }
 }
@@ -241,7 +252,6 @@ fn action_of(takes: Takes) -> ArgAction {
 /// An option as the parser of command lines takes it. Its values stand in its help, where they are words.
 fn argument<'a>(alloc: Global, row: &'a Row) -> Arg<'a> {
     let argument = Arg::new(alloc, row.name)
-        .value_name(row.value)
         .help(row.help)
         .hide_possible_values(true)
         .action(action_of(row.takes));
@@ -249,10 +259,14 @@ fn argument<'a>(alloc: Global, row: &'a Row) -> Arg<'a> {
         Some(short) => argument.short(short),
         None => argument,
     };
+    if row.takes == Takes::Nothing {
+        return argument.long(row.name);
+    }
+    let argument = argument.value_name(row.value);
     match row.takes {
         Takes::Word => argument.required(true),
         Takes::Needed => argument.long(row.name).required(true),
-        Takes::Text | Takes::Texts => argument.long(row.name),
+        Takes::Text | Takes::Texts | Takes::Nothing => argument.long(row.name),
         Takes::Setting => argument.long(row.name).value_parser(SETTINGS.as_slice()),
         Takes::Mode => argument.long(row.name).value_parser(MODES.as_slice()),
         Takes::Format => argument.long(row.name).value_parser(FORMATS.as_slice()),

@@ -66,6 +66,13 @@ pub struct Flag<'a> {
     pub setting: &'a str,
 }
 
+/// A package's name, and its folder.
+#[derive(Clone, Copy, Debug)]
+pub struct Package<'a> {
+    pub name: &'a str,
+    pub folder: &'a str,
+}
+
 /// What a command line asks for, in its words.
 #[derive(Drop)]
 pub struct Request<'a> {
@@ -74,8 +81,10 @@ pub struct Request<'a> {
     pub file: &'a str,
     /// The folder of its package, where one is named.
     pub root: Option<&'a str>,
-    /// The other packages, each `NAME=FOLDER`.
-    pub packages: Vec<&'a str>,
+    /// The other packages.
+    pub packages: Vec<Package<'a>>,
+    /// Whether files are read that links lead to outside of their package's folder.
+    pub follows_links: bool,
     pub keep: Vec<&'a str>,
     pub flags: Vec<Flag<'a>>,
     pub default_feature: Option<&'a str>,

@@ -3,6 +3,7 @@
 
 mod folders;
 mod names;
+mod path;
 mod reading;
 
 pub use folders::{Folders, ReadProblem, Root, Source};

@@ -94,6 +94,30 @@ pub fn find_name(
     Ok(first)
 }
 
+/// The place of a name in a part of a text, in comments not: the first one there, or the last. Only memory can fail.
+pub fn find_name_in(
+    alloc: Global,
+    text: &str,
+    span: Span,
+    name: &str,
+    is_last: bool,
+) -> Result<Option<Span>, AllocError> {
+    let Some(part) = text.get(span.start..span.end) else {
+        return Ok(None);
+    };
+    let tokens = lex(alloc, part)?;
+    let mut found: Option<Span> = None;
+    for spanned in tokens.as_slice() {
+        if is_name(&spanned.token, name) && (is_last || found.is_none()) {
+            found = Some(Span {
+                start: span.start.saturating_add(spanned.span.start),
+                end: span.start.saturating_add(spanned.span.end),
+            });
+        }
+    }
+    Ok(found)
+}
+
 /// How deep in braces a token leaves those that stand behind it.
 fn depth_behind(depth: usize, token: &Token) -> usize {
     match token {
@@ -121,17 +145,6 @@ pub fn declared_names(alloc: Global, text: &str) -> Result<Vec<Text>, AllocError
         is_in_var = is_in_var_behind(is_in_var, &spanned.token);
     }
     Ok(names)
-}
-
-/// Whether a module declares a name. Only memory can fail.
-pub fn declares_name(alloc: Global, text: &str, name: &str) -> Result<bool, AllocError> {
-    let names = declared_names(alloc, text)?;
-    for declared in names.as_slice() {
-        if declared.as_str() == name {
-            return Ok(true);
-        }
-    }
-    Ok(false)
 }
 
 /// The module at a path.

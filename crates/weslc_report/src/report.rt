@@ -3,15 +3,20 @@
 use crate::error_line::ErrorLine;
 use crate::json::push_json;
 use crate::place::{SourceFile, find_place};
-use crate::sentence::{advice_of, push_sentence, sentence_of};
+use crate::sentence::{Beside, advice_of, push_sentence, sentence_of};
+use crate::shown::shown_lines;
 use std::alloc::{AllocError, Global};
 use wgsl_path::Span;
 use wgsl_snippet::Snippet;
 
-/// An error line with the modules that were read, the root first, and why a file was not read, where that is known.
+/// An error of a command with the modules that were read, the root first, and why a file was not read, where that is known.
 #[derive(Clone, Copy)]
 pub struct Report<'a> {
     pub line: ErrorLine<'a>,
+    /// The word of the command line.
+    pub command: &'a str,
+    /// What is wrong, where that is more than the kind says.
+    pub message: Option<&'a str>,
     pub sources: &'a [SourceFile<'a>],
     pub reason: Option<&'a str>,
 }
@@ -52,6 +57,23 @@ fn file_of<'a>(report: &Report<'a>) -> Option<&'a str> {
     None
 }
 
+/// What a sentence names beside the error.
+fn named<'a>(report: &Report<'a>, file: &'a str) -> Beside<'a> {
+    Beside {
+        file,
+        command: report.command,
+    }
+}
+
+/// Adds what is wrong.
+fn push_message(out: &mut String, report: &Report<'_>) -> Result<(), AllocError> {
+    if let Some(message) = report.message {
+        return out.push_str(message);
+    }
+    let sentence = sentence_of(&report.line);
+    push_sentence(out, sentence, &report.line, named(report, ""))
+}
+
 fn push_help(out: &mut String, report: &Report<'_>) -> Result<(), AllocError> {
     if let Some(reason) = report.reason {
         out.push_str("help: ")?;
@@ -66,7 +88,7 @@ fn push_help(out: &mut String, report: &Report<'_>) -> Result<(), AllocError> {
         Some(file) => file,
         None => "the module",
     };
-    push_sentence(out, advice, &report.line, file)?;
+    push_sentence(out, advice, &report.line, named(report, file))?;
     out.push('\n')
 }
 
@@ -81,14 +103,16 @@ fn push_place(out: &mut String, file: &str, written: &str) -> Result<(), AllocEr
     out.push(':')?;
     out.push_str(shown.column)?;
     out.push('\n')?;
-    out.push_str(shown.lines)?;
+    let (line, marks) = shown.lines.split_once('\n').unwrap_or((shown.lines, ""));
+    let lines = shown_lines(*out.allocator(), line, marks)?;
+    out.push_str(lines.as_str())?;
     out.push('\n')
 }
 
 /// An error for people: a sentence with its kind, the place with its line and marks below it, and what to change.
 pub fn report_text(alloc: Global, report: &Report<'_>) -> Result<String, AllocError> {
     let mut out = String::from_str(alloc, "error: ")?;
-    push_sentence(&mut out, sentence_of(report.line.kind), &report.line, "")?;
+    push_message(&mut out, report)?;
     out.push_str(" (")?;
     out.push_str(report.line.kind)?;
     out.push_str(")\n")?;
@@ -142,12 +166,7 @@ pub fn report_json(alloc: Global, report: &Report<'_>) -> Result<String, AllocEr
     push_member(&mut out, "declaration", report.line.declaration)?;
     push_member(&mut out, "subject", report.line.subject)?;
     let mut message = String::new(alloc);
-    push_sentence(
-        &mut message,
-        sentence_of(report.line.kind),
-        &report.line,
-        "",
-    )?;
+    push_message(&mut message, report)?;
     push_member(&mut out, "message", Some(message.as_str()))?;
     match find_place(alloc, &report.line, report.sources)? {
         Some((source, span)) => {

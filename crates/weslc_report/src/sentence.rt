@@ -2,10 +2,54 @@
 
 use crate::error_line::ErrorLine;
 use std::alloc::AllocError;
+use wgsl_builtin_names::{WORD_COUNT, WordKind, word_at};
 
-/// The sentence of a kind of error. `%m` stands for the module, `%s` for the name, and `%d` for the declaration, in
-/// quotes.
-pub(crate) fn sentence_of(kind: &str) -> &'static str {
+/// What a sentence names beside what the error does.
+#[derive(Clone, Copy)]
+pub(crate) struct Beside<'a> {
+    /// The file of the error's module.
+    pub file: &'a str,
+    /// The command that is at work.
+    pub command: &'a str,
+}
+
+/// The sentence of an error. `%m` stands for the module, `%s` for the name, `%d` for the declaration, in quotes, and `%c` for the command.
+pub(crate) fn sentence_of(line: &ErrorLine<'_>) -> &'static str {
+    match (line.kind, line.subject) {
+        ("Eval.Todo", Some(name)) => unevaluated(name).unwrap_or("`%s` is not evaluated yet"),
+        ("Validate.UndefinedSymbol", Some(name)) => {
+            unevaluated(name).unwrap_or("nothing declares `%s`")
+        }
+        (kind, _) => sentence_of_kind(kind),
+    }
+}
+
+/// What a name of WGSL's own is, if it is one.
+fn word_kind(name: &str) -> Option<WordKind> {
+    for number in 0..WORD_COUNT {
+        if let Some(word) = word_at(number) {
+            if word.name == name {
+                return Some(word.kind);
+            }
+        }
+    }
+    None
+}
+
+/// What is said of a name of WGSL's own that is not evaluated, if it is one.
+fn unevaluated(name: &str) -> Option<&'static str> {
+    match word_kind(name) {
+        Some(WordKind::Function(_, _)) => Some(
+            "`%s` is one of WGSL's functions, which `%c` does not evaluate; `link` takes it",
+        ),
+        Some(WordKind::Enumerant(_)) | None => None,
+        Some(_) => Some(
+            "`%s` is one of WGSL's types, which `%c` does not evaluate; `link` takes it",
+        ),
+    }
+}
+
+fn sentence_of_kind(kind: &str) -> &'static str {
     match kind {
         "Resolve.ModuleNotFound" => "there is no module `%m`",
         "TooManyModules" => "`%m` is one module too many",
@@ -70,7 +114,7 @@ fn validation_sentence(kind: &str) -> &'static str {
 
 fn evaluation_sentence(kind: &str) -> &'static str {
     match kind {
-        "Todo" => "`%s` is not evaluated yet",
+        "Todo" => "this is not evaluated yet",
         "DivByZero" | "RemZeroDiv" => "division by zero in %d",
         "AddOverflow" | "SubOverflow" | "MulOverflow" | "NegOverflow" | "ConvOverflow" => {
             "a value in %d leaves the range of its type"
@@ -83,6 +127,8 @@ fn evaluation_sentence(kind: &str) -> &'static str {
         "AddressSpace" | "AccessMode" => "%d is not bound as it is declared",
         "MissingBuiltinInput" | "MissingUserInput" => "%d is not handed `%s`",
         "UninitOverride" => "`%s` has no value",
+        "TooManyParts" => "a type or a value in %d has too many parts",
+        "TypeTooDeep" => "a type in %d is nested too deep",
         _ => "%d can't be evaluated",
     }
 }
@@ -109,7 +155,7 @@ pub(crate) fn push_sentence<'a>(
     out: &mut String,
     sentence: &str,
     line: &ErrorLine<'a>,
-    file: &'a str,
+    names: Beside<'a>,
 ) -> Result<(), AllocError> {
     let mut is_marked = false;
     for character in sentence.chars() {
@@ -121,7 +167,7 @@ pub(crate) fn push_sentence<'a>(
                 is_marked = false;
             }
             (true, _) => {
-                out.push_str(named(character, line, file))?;
+                out.push_str(named(character, line, names))?;
                 is_marked = false;
             }
         }
@@ -143,11 +189,12 @@ fn push_declaration(out: &mut String, line: &ErrorLine<'_>) -> Result<(), AllocE
 }
 
 /// What another letter behind `%` stands for.
-fn named<'a>(letter: char, line: &ErrorLine<'a>, file: &'a str) -> &'a str {
+fn named<'a>(letter: char, line: &ErrorLine<'a>, names: Beside<'a>) -> &'a str {
     match letter {
         'm' => line.module.unwrap_or("the root"),
         's' => line.subject.unwrap_or("it"),
-        'f' => file,
+        'c' => names.command,
+        'f' => names.file,
         _ => "",
     }
 }

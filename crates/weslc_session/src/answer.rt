@@ -2,9 +2,9 @@
 
 use crate::command::CommandError;
 use std::alloc::{AllocError, Global};
-use std::io;
-use weslc_bundle::{BundleError, write_compile_error, write_fault};
-use weslc_report::{ErrorLine, declared_names, push_json, read_error_line};
+use weslc_told::{
+    BundleError, ErrorLine, declared_names, push_json, told_compile_error, told_whole_refusal,
+};
 use weslc_workspace::{BasicSourceMap, CompileError, SourceMap, WholeRefusal};
 use wgsl_items::Text;
 
@@ -81,31 +81,13 @@ fn push_member(json: &mut String, key: &str, value: Option<&str>) -> Result<(), 
 }
 
 /// The refusal of a compilation.
-pub fn refusal_answer(alloc: Global, refusal: &WholeRefusal) -> Result<String, io::Error> {
-    let mut line = Vec::new(alloc);
-    match refusal {
-        WholeRefusal::Compile(error) => write_compile_error(&mut line, error)?,
-        WholeRefusal::Eval(context, fault) => write_fault(&mut line, context, fault)?,
-    }
-    line_answer(alloc, line.as_slice())
+pub fn refusal_answer(alloc: Global, refusal: &WholeRefusal) -> Result<String, AllocError> {
+    error_answer(alloc, &told_whole_refusal(alloc, refusal)?.line())
 }
 
 /// The refusal of linking.
-pub fn link_answer(alloc: Global, error: &CompileError) -> Result<String, io::Error> {
-    let mut line = Vec::new(alloc);
-    write_compile_error(&mut line, error)?;
-    line_answer(alloc, line.as_slice())
-}
-
-/// An error line as JSON.
-fn line_answer(alloc: Global, line: &[u8]) -> Result<String, io::Error> {
-    let Ok(line) = str::from_utf8(line) else {
-        return Ok(String::from_str(alloc, OUT_OF_MEMORY)?);
-    };
-    match read_error_line(line) {
-        Some(line) => Ok(error_answer(alloc, &line)?),
-        None => Ok(String::from_str(alloc, OUT_OF_MEMORY)?),
-    }
+pub fn link_answer(alloc: Global, error: &CompileError) -> Result<String, AllocError> {
+    error_answer(alloc, &told_compile_error(alloc, error)?.line())
 }
 
 /// The fields of an error. One that is missing is left out.

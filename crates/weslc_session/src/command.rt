@@ -1,7 +1,7 @@
 //! The commands of a session.
 
 use std::alloc::AllocError;
-use weslc_bundle::BundleError;
+use weslc_told::BundleError;
 use weslc_workspace::{Feature, Options};
 use wgsl_items::Text;
 use wgsl_path::ModulePath;

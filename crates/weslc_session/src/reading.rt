@@ -3,7 +3,7 @@
 use crate::command::{Command, CommandError};
 use serde_json::{Map, Value};
 use std::alloc::Global;
-use weslc_bundle::{BundleError, read_feature, read_options};
+use weslc_told::{BundleError, read_feature, read_options};
 use weslc_workspace::Options;
 use wgsl_items::Text;
 use wgsl_path::{ModulePath, ModulePathParseError, PathOrigin};

@@ -1,81 +1,116 @@
 //! What a run is handed: JSON in files.
 
-use crate::bundle::push_key;
+use crate::failure::{Failure, failed};
 use serde_json::Value;
-use std::alloc::Global;
 use std::rt::Files;
 use weslc_command::Request;
-use weslc_folder::{FileProblem, read_text};
-use weslc_report::{SourceFile, read_error_line};
+use weslc_gather::{FileProblem, read_text};
+use weslc_told::{
+    Binding, Key, OverrideValue, ValueError, inputs_of, read_bindings, read_inputs, read_overrides,
+    zero_inputs,
+};
+use wgsl_inputs::Inputs;
+use wgsl_items::Items;
 
-const HANDED_COUNT: usize = 3;
-
-/// A key of a bundle, and the file that has its value, where one is named.
-#[derive(Clone, Copy)]
-pub struct Handed<'a> {
-    pub key: &'static str,
-    pub file: Option<&'a str>,
+/// What a run is handed. It is dropped by a call of this module.
+pub struct Handed {
+    pub inputs: Inputs,
+    pub bindings: Items<Binding>,
+    pub overrides: Items<OverrideValue>,
 }
 
-/// What a request hands to a run.
-pub fn handed_of<'a>(request: &Request<'a>) -> [Handed<'a>; HANDED_COUNT] {
-    [
-        Handed {
-            key: "inputs",
-            file: request.inputs,
-        },
-        Handed {
-            key: "bindings",
-            file: request.bindings,
-        },
-        Handed {
-            key: "overrides",
-            file: request.overrides,
-        },
-    ]
+impl Drop for Handed {
+    fn drop(self) {
+        let Handed {
+            inputs,
+            bindings,
+            overrides,
+        } = self;
+        drop(inputs);
+        drop(bindings);
+        drop(overrides);
+    }
 }
 
-/// Adds a member with the JSON of a file.
-pub fn push_handed<R: Files + AllocGlobal>(
-    rt: &R,
-    members: &mut String,
-    key: &str,
-    file: &str,
-) -> Result<(), FileProblem> {
+/// The JSON of a file.
+fn read_json<R: Files + AllocGlobal>(rt: &R, file: &str) -> Result<Value, FileProblem> {
     let text = read_text(rt, file)?;
-    check_json(rt.alloc(), text.as_str())?;
-    push_key(members, key)?;
-    members.push_str(text.as_str())?;
-    Ok(())
-}
-
-fn check_json(alloc: Global, text: &str) -> Result<(), FileProblem> {
-    match Value::from_str(alloc, text) {
-        Ok(_) => Ok(()),
+    match Value::from_str(rt.alloc(), text.as_str()) {
+        Ok(value) => Ok(value),
         Err(error) if error.is_memory() => Err(FileProblem::OutOfMemory),
         Err(_) => Err(FileProblem::NotJson),
     }
 }
 
-/// What is at fault beside the modules: the text that is evaluated, or what has the value that a bundle does not take.
-pub fn source_beside<'a>(request: &Request<'a>, line: &str) -> Option<SourceFile<'a>> {
-    let read = read_error_line(line)?;
-    let (file, text) = match (read.kind, request.expression) {
-        ("Bundle", _) => (file_with(request, read.subject), ""),
-        (_, Some(expression)) => ("EXPRESSION", expression),
-        (_, None) => return None,
+/// The JSON of a file that may be named.
+fn json_at<'a, R: Files + AllocGlobal>(
+    rt: &R,
+    file: Option<&'a str>,
+) -> Result<Option<(&'a str, Value)>, Failure<'a>> {
+    let Some(file) = file else {
+        return Ok(None);
     };
-    let path = "";
-    Some(SourceFile { path, file, text })
+    match read_json(rt, file) {
+        Ok(value) => Ok(Some((file, value))),
+        Err(problem) => Err(failed(rt.alloc(), file, problem)),
+    }
 }
 
-/// The file that has the value of a bundle's key. Other keys have it from the command line.
-fn file_with<'a>(request: &Request<'a>, key: Option<&str>) -> &'a str {
-    for handed in &handed_of(request)[..] {
-        match handed.file {
-            Some(file) if key == Some(handed.key) => return file,
-            _ => {}
-        }
+/// What was read of a file, or that it has nothing of the kind.
+fn taken<'a, T: Drop>(
+    file: &'a str,
+    key: Key,
+    read: Result<T, ValueError>,
+) -> Result<T, Failure<'a>> {
+    match read {
+        Ok(value) => Ok(value),
+        Err(ValueError::Unexpected) => Err(Failure::Value(file, key)),
+        Err(ValueError::OutOfMemory) => Err(Failure::OutOfMemory),
     }
-    "the command line"
+}
+
+fn inputs_at<'a, R: Files + AllocGlobal>(
+    rt: &R,
+    file: Option<&'a str>,
+) -> Result<Inputs, Failure<'a>> {
+    let settings = match json_at(rt, file)? {
+        Some((file, value)) => taken(file, Key::Inputs, read_inputs(rt.alloc(), &value))?,
+        None => zero_inputs(rt.alloc()),
+    };
+    Ok(inputs_of(rt.alloc(), settings)?)
+}
+
+fn bindings_at<'a, R: Files + AllocGlobal>(
+    rt: &R,
+    file: Option<&'a str>,
+) -> Result<Items<Binding>, Failure<'a>> {
+    match json_at(rt, file)? {
+        Some((file, value)) => taken(file, Key::Bindings, read_bindings(rt.alloc(), &value)),
+        None => Ok(Items::new(rt.alloc())),
+    }
+}
+
+fn overrides_at<'a, R: Files + AllocGlobal>(
+    rt: &R,
+    file: Option<&'a str>,
+) -> Result<Items<OverrideValue>, Failure<'a>> {
+    match json_at(rt, file)? {
+        Some((file, value)) => taken(file, Key::Overrides, read_overrides(rt.alloc(), &value)),
+        None => Ok(Items::new(rt.alloc())),
+    }
+}
+
+/// What a request hands to a run.
+pub fn handed_of<'a, R: Files + AllocGlobal>(
+    rt: &R,
+    request: &Request<'a>,
+) -> Result<Handed, Failure<'a>> {
+    let inputs = inputs_at(rt, request.inputs)?;
+    let bindings = bindings_at(rt, request.bindings)?;
+    let overrides = overrides_at(rt, request.overrides)?;
+    Ok(Handed {
+        inputs,
+        bindings,
+        overrides,
+    })
 }

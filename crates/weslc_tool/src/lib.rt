@@ -1,14 +1,20 @@
 //! The program `wesl`, for any runtime: from the words of a command line to a text or an error.
 #![tactic(auto)]
 
-mod bundle;
-mod functions;
+mod answer;
+mod asked;
+mod failure;
 mod handed;
 mod map;
-mod modules;
+mod notes;
+mod options;
+mod outputs;
+mod reading;
+mod refusal;
 mod run;
+mod same;
 mod serve;
-mod told;
+mod written;
 
 pub use run::run_words;
-pub use weslc_bundle::serve_bundle;
+pub use weslc_told::serve_bundle;

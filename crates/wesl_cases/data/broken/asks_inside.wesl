@@ -1,0 +1,2 @@
+import package::inside::two;
+fn main() -> u32 { return two; }

@@ -1,0 +1,2 @@
+import package::outside::two;
+fn main() -> u32 { return two; }

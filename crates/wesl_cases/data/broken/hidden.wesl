@@ -1,0 +1,3 @@
+fn main() -> u32 {
+    /* ‮ nothing [31m */ return (1 + ;
+}

@@ -1,0 +1,5 @@
+import package::light::shade;
+
+fn main() -> f32 {
+    return shad();
+}
