@@ -30,7 +30,8 @@ pub use weslc_values::{
     read_overrides, result_text, zero_inputs,
 };
 pub use weslc_whole::{
-    BasicSourceMap, CompileError, ErrorContext, Feature, ImportKind, Mode, Options, ResolveError,
-    ResolveKind, SourceMap, VirtualResolver, WholeRefusal, compile, link,
+    BasicSourceMap, CompileError, ErrorContext, EscapeMangler, Feature, ImportKind, Mode, Options,
+    Refused, ResolveError, ResolveKind, SourceMap, Tried, VirtualResolver, WholeRefusal, compile,
+    link, lower, try_compile,
 };
 pub use wgsl_fault::Fault;

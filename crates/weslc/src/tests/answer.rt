@@ -2,8 +2,10 @@
 
 use std::alloc::AllocError;
 use wesl_cond::CondCompError;
-use weslc_bundle::{PrecompileError, RunRefusal, Unprintable};
-use weslc_whole::{CompileError, ErrorContext, ImportKind, Refused, ResolveKind, WholeRefusal};
+use weslc_bundle::{
+    CompileError, ErrorContext, ImportKind, PrecompileError, Refused, ResolveKind, RunRefusal,
+    Unprintable, WholeRefusal,
+};
 use wgsl_error::{Error, Refusal};
 use wgsl_items::OrOutOfMemory;
 use wgsl_path::{ModulePath, PathOrigin};

@@ -7,8 +7,10 @@ use serde_json::Value;
 use std::alloc::Global;
 use std::test::Fail;
 use wesl_cond::Features;
-use weslc_bundle::{Binding, RunResult, eval, precompile, read_bindings, result_text, run};
-use weslc_whole::{Options, VirtualResolver, compile, link};
+use weslc_bundle::{
+    Binding, Options, RunResult, VirtualResolver, compile, eval, link, precompile, read_bindings,
+    result_text, run,
+};
 use wgsl_inputs::Inputs;
 use wgsl_items::Items;
 use wgsl_path::ModulePath;

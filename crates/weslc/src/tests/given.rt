@@ -2,7 +2,7 @@
 
 use std::alloc::Global;
 use wesl_cond::{Feature, Features};
-use weslc_whole::{Options, VirtualResolver};
+use weslc_bundle::{Options, VirtualResolver};
 use wgsl_items::Text;
 use wgsl_path::ModulePath;
 

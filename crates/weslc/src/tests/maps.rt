@@ -2,7 +2,7 @@
 
 use std::alloc::Global;
 use std::test::Fail;
-use weslc_whole::{
+use weslc_bundle::{
     BasicSourceMap, EscapeMangler, Options, SourceMap, Tried, VirtualResolver, link, try_compile,
 };
 use wgsl_items::Text;

@@ -6,7 +6,7 @@ use crate::tests::play::{Played, Row, Trial, is_right, play_made};
 use std::alloc::Global;
 use std::test::Fail;
 use wesl_router::Router;
-use weslc_whole::{Options, VirtualResolver, link};
+use weslc_bundle::{Options, VirtualResolver, link};
 use wgsl_path::{Ident, ModulePath};
 
 const ROOT: &str = "import package::m::y; fn g() -> u32 { return y; }";

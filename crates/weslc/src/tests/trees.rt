@@ -7,8 +7,7 @@ use std::alloc::{AllocError, Global};
 use std::test::Fail;
 use wesl_cond::{Features, run};
 use wesl_rounds::HeldUnit;
-use weslc_bundle::{check_unit, parse_str};
-use weslc_whole::lower;
+use weslc_bundle::{check_unit, lower, parse_str};
 use wgsl_guard::guard_templates;
 
 const COMPARED: &str =
