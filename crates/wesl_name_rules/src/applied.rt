@@ -1,13 +1,11 @@
 //! The types of expressions.
 
-use crate::fault::NameProblem;
-use crate::list::StepList;
-use crate::operation::{binary_type, is_defined};
 use crate::reader::{Meaning, MemberKey, Reader};
-use crate::step::ValueStep;
-use crate::types::{Type, component_or_part, components};
 use std::alloc::AllocError;
 use wesl_mark::Kind;
+use wesl_name_steps::{
+    NameProblem, StepList, Type, ValueStep, binary_type, component_or_part, components, is_defined,
+};
 use wgsl_builtin_names::{Gives, WordKind, is_part};
 use wgsl_operators::{BinaryOperator, UnaryOperator};
 

@@ -1,10 +1,9 @@
 //! The types of arguments.
 
-use crate::list::StepList;
 use crate::reader::{Meaning, Reader};
-use crate::types::{Type, are_alike};
 use std::alloc::AllocError;
 use wesl_mark::Kind;
+use wesl_name_steps::{StepList, Type, are_alike};
 use wgsl_builtin_names::{Gives, WordKind};
 
 impl Reader {

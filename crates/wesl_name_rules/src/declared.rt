@@ -1,11 +1,8 @@
 //! What declarations say of types.
 
-use crate::fault::NameProblem;
-use crate::list::numbered;
 use crate::reader::{MemberKey, Reader};
-use crate::step::DeclareStep;
-use crate::types::Type;
 use std::alloc::AllocError;
+use wesl_name_steps::{DeclareStep, NameProblem, Type, numbered};
 
 impl Reader {
     /// The type of a declaration, of which its type and its value may be on the stack.

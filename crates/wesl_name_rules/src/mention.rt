@@ -1,12 +1,9 @@
 //! Whether a name may stand where it does.
 
-use crate::fault::NameProblem;
-use crate::list::StepList;
 use crate::reader::{Meaning, Reader};
-use crate::step::Role;
-use crate::types::constructor_counts;
 use std::alloc::AllocError;
 use wesl_mark::Kind;
+use wesl_name_steps::{NameProblem, Role, StepList, constructor_counts};
 use wgsl_builtin_names::{Choice, Counts, WordKind};
 
 /// The fault of a call with so many arguments of what takes others, or can't be called.

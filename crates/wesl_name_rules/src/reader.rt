@@ -1,12 +1,9 @@
 //! What goes over the steps of a module.
 
-use crate::fault::{Found, NameProblem};
-use crate::list::{StepList, word_kind};
-use crate::step::Step;
-use crate::types::{Type, are_alike};
 use indexmap::IndexMap;
 use std::alloc::{AllocError, Global};
 use wesl_mark::Scopes;
+use wesl_name_steps::{Found, NameProblem, Step, StepList, Type, are_alike, word_kind};
 use wgsl_builtin_names::{WordKind, is_attribute, is_extension, is_feature};
 use wgsl_path::{Items, Span};
 

@@ -1,10 +1,8 @@
 //! The faults of a module.
 
-use crate::fault::{Found, NameFault, NameProblem};
-use crate::list::{StepList, StepPlace};
 use crate::reader::Reader;
-use crate::types::{Type, type_name};
 use std::alloc::{AllocError, Global};
+use wesl_name_steps::{Found, NameFault, NameProblem, StepList, StepPlace, Type, type_name};
 use wesl_rings::first_on_ring;
 
 /// How often the types of a module's declarations are looked up. A type that comes by a longer chain of names, each declared behind the one

@@ -1,672 +1,222 @@
 //! The functions of WGSL, and those of extensions.
 
 use crate::counts::Counts;
-use crate::word::{FUNCTION_COUNT, Gives, Word, WordKind};
+use crate::word::{FUNCTION_COUNT, Gives};
 
 /// The functions, with how many arguments they take and what they return.
-pub(crate) static FUNCTIONS: [Word; FUNCTION_COUNT] = [
-    Word {
-        name: "abs",
-        kind: WordKind::Function(Counts::Between(1, 1), Gives::Same),
-    },
-    Word {
-        name: "acos",
-        kind: WordKind::Function(Counts::Between(1, 1), Gives::Same),
-    },
-    Word {
-        name: "acosh",
-        kind: WordKind::Function(Counts::Between(1, 1), Gives::Same),
-    },
-    Word {
-        name: "asin",
-        kind: WordKind::Function(Counts::Between(1, 1), Gives::Same),
-    },
-    Word {
-        name: "asinh",
-        kind: WordKind::Function(Counts::Between(1, 1), Gives::Same),
-    },
-    Word {
-        name: "atan",
-        kind: WordKind::Function(Counts::Between(1, 1), Gives::Same),
-    },
-    Word {
-        name: "atanh",
-        kind: WordKind::Function(Counts::Between(1, 1), Gives::Same),
-    },
-    Word {
-        name: "ceil",
-        kind: WordKind::Function(Counts::Between(1, 1), Gives::Same),
-    },
-    Word {
-        name: "cos",
-        kind: WordKind::Function(Counts::Between(1, 1), Gives::Same),
-    },
-    Word {
-        name: "cosh",
-        kind: WordKind::Function(Counts::Between(1, 1), Gives::Same),
-    },
-    Word {
-        name: "countLeadingZeros",
-        kind: WordKind::Function(Counts::Between(1, 1), Gives::Same),
-    },
-    Word {
-        name: "countOneBits",
-        kind: WordKind::Function(Counts::Between(1, 1), Gives::Same),
-    },
-    Word {
-        name: "countTrailingZeros",
-        kind: WordKind::Function(Counts::Between(1, 1), Gives::Same),
-    },
-    Word {
-        name: "degrees",
-        kind: WordKind::Function(Counts::Between(1, 1), Gives::Same),
-    },
-    Word {
-        name: "exp",
-        kind: WordKind::Function(Counts::Between(1, 1), Gives::Same),
-    },
-    Word {
-        name: "exp2",
-        kind: WordKind::Function(Counts::Between(1, 1), Gives::Same),
-    },
-    Word {
-        name: "firstLeadingBit",
-        kind: WordKind::Function(Counts::Between(1, 1), Gives::Same),
-    },
-    Word {
-        name: "firstTrailingBit",
-        kind: WordKind::Function(Counts::Between(1, 1), Gives::Same),
-    },
-    Word {
-        name: "floor",
-        kind: WordKind::Function(Counts::Between(1, 1), Gives::Same),
-    },
-    Word {
-        name: "fract",
-        kind: WordKind::Function(Counts::Between(1, 1), Gives::Same),
-    },
-    Word {
-        name: "inverseSqrt",
-        kind: WordKind::Function(Counts::Between(1, 1), Gives::Same),
-    },
-    Word {
-        name: "log",
-        kind: WordKind::Function(Counts::Between(1, 1), Gives::Same),
-    },
-    Word {
-        name: "log2",
-        kind: WordKind::Function(Counts::Between(1, 1), Gives::Same),
-    },
-    Word {
-        name: "normalize",
-        kind: WordKind::Function(Counts::Between(1, 1), Gives::Same),
-    },
-    Word {
-        name: "quantizeToF16",
-        kind: WordKind::Function(Counts::Between(1, 1), Gives::Same),
-    },
-    Word {
-        name: "radians",
-        kind: WordKind::Function(Counts::Between(1, 1), Gives::Same),
-    },
-    Word {
-        name: "reverseBits",
-        kind: WordKind::Function(Counts::Between(1, 1), Gives::Same),
-    },
-    Word {
-        name: "round",
-        kind: WordKind::Function(Counts::Between(1, 1), Gives::Same),
-    },
-    Word {
-        name: "saturate",
-        kind: WordKind::Function(Counts::Between(1, 1), Gives::Same),
-    },
-    Word {
-        name: "sign",
-        kind: WordKind::Function(Counts::Between(1, 1), Gives::Same),
-    },
-    Word {
-        name: "sin",
-        kind: WordKind::Function(Counts::Between(1, 1), Gives::Same),
-    },
-    Word {
-        name: "sinh",
-        kind: WordKind::Function(Counts::Between(1, 1), Gives::Same),
-    },
-    Word {
-        name: "sqrt",
-        kind: WordKind::Function(Counts::Between(1, 1), Gives::Same),
-    },
-    Word {
-        name: "tan",
-        kind: WordKind::Function(Counts::Between(1, 1), Gives::Same),
-    },
-    Word {
-        name: "tanh",
-        kind: WordKind::Function(Counts::Between(1, 1), Gives::Same),
-    },
-    Word {
-        name: "trunc",
-        kind: WordKind::Function(Counts::Between(1, 1), Gives::Same),
-    },
-    Word {
-        name: "dpdx",
-        kind: WordKind::Function(Counts::Between(1, 1), Gives::Same),
-    },
-    Word {
-        name: "dpdxCoarse",
-        kind: WordKind::Function(Counts::Between(1, 1), Gives::Same),
-    },
-    Word {
-        name: "dpdxFine",
-        kind: WordKind::Function(Counts::Between(1, 1), Gives::Same),
-    },
-    Word {
-        name: "dpdy",
-        kind: WordKind::Function(Counts::Between(1, 1), Gives::Same),
-    },
-    Word {
-        name: "dpdyCoarse",
-        kind: WordKind::Function(Counts::Between(1, 1), Gives::Same),
-    },
-    Word {
-        name: "dpdyFine",
-        kind: WordKind::Function(Counts::Between(1, 1), Gives::Same),
-    },
-    Word {
-        name: "fwidth",
-        kind: WordKind::Function(Counts::Between(1, 1), Gives::Same),
-    },
-    Word {
-        name: "fwidthCoarse",
-        kind: WordKind::Function(Counts::Between(1, 1), Gives::Same),
-    },
-    Word {
-        name: "fwidthFine",
-        kind: WordKind::Function(Counts::Between(1, 1), Gives::Same),
-    },
-    Word {
-        name: "atan2",
-        kind: WordKind::Function(Counts::Between(2, 2), Gives::Alike),
-    },
-    Word {
-        name: "ldexp",
-        kind: WordKind::Function(Counts::Between(2, 2), Gives::Alike),
-    },
-    Word {
-        name: "max",
-        kind: WordKind::Function(Counts::Between(2, 2), Gives::Alike),
-    },
-    Word {
-        name: "min",
-        kind: WordKind::Function(Counts::Between(2, 2), Gives::Alike),
-    },
-    Word {
-        name: "pow",
-        kind: WordKind::Function(Counts::Between(2, 2), Gives::Alike),
-    },
-    Word {
-        name: "reflect",
-        kind: WordKind::Function(Counts::Between(2, 2), Gives::Alike),
-    },
-    Word {
-        name: "step",
-        kind: WordKind::Function(Counts::Between(2, 2), Gives::Alike),
-    },
-    Word {
-        name: "clamp",
-        kind: WordKind::Function(Counts::Between(3, 3), Gives::Alike),
-    },
-    Word {
-        name: "faceForward",
-        kind: WordKind::Function(Counts::Between(3, 3), Gives::Alike),
-    },
-    Word {
-        name: "fma",
-        kind: WordKind::Function(Counts::Between(3, 3), Gives::Alike),
-    },
-    Word {
-        name: "mix",
-        kind: WordKind::Function(Counts::Between(3, 3), Gives::Alike),
-    },
-    Word {
-        name: "refract",
-        kind: WordKind::Function(Counts::Between(3, 3), Gives::Alike),
-    },
-    Word {
-        name: "select",
-        kind: WordKind::Function(Counts::Between(3, 3), Gives::Alike),
-    },
-    Word {
-        name: "smoothstep",
-        kind: WordKind::Function(Counts::Between(3, 3), Gives::Alike),
-    },
-    Word {
-        name: "extractBits",
-        kind: WordKind::Function(Counts::Between(3, 3), Gives::Same),
-    },
-    Word {
-        name: "insertBits",
-        kind: WordKind::Function(Counts::Between(4, 4), Gives::Same),
-    },
-    Word {
-        name: "cross",
-        kind: WordKind::Function(Counts::Between(2, 2), Gives::Alike),
-    },
-    Word {
-        name: "all",
-        kind: WordKind::Function(Counts::Between(1, 1), Gives::Scalar),
-    },
-    Word {
-        name: "any",
-        kind: WordKind::Function(Counts::Between(1, 1), Gives::Scalar),
-    },
-    Word {
-        name: "determinant",
-        kind: WordKind::Function(Counts::Between(1, 1), Gives::Scalar),
-    },
-    Word {
-        name: "length",
-        kind: WordKind::Function(Counts::Between(1, 1), Gives::Scalar),
-    },
-    Word {
-        name: "arrayLength",
-        kind: WordKind::Function(Counts::Between(1, 1), Gives::Scalar),
-    },
-    Word {
-        name: "distance",
-        kind: WordKind::Function(Counts::Between(2, 2), Gives::Product),
-    },
-    Word {
-        name: "dot",
-        kind: WordKind::Function(Counts::Between(2, 2), Gives::Product),
-    },
-    Word {
-        name: "dot4U8Packed",
-        kind: WordKind::Function(Counts::Between(2, 2), Gives::Scalar),
-    },
-    Word {
-        name: "dot4I8Packed",
-        kind: WordKind::Function(Counts::Between(2, 2), Gives::Scalar),
-    },
-    Word {
-        name: "transpose",
-        kind: WordKind::Function(Counts::Between(1, 1), Gives::Transposed),
-    },
-    Word {
-        name: "frexp",
-        kind: WordKind::Function(Counts::Between(1, 1), Gives::Parts),
-    },
-    Word {
-        name: "modf",
-        kind: WordKind::Function(Counts::Between(1, 1), Gives::Parts),
-    },
-    Word {
-        name: "bitcast",
-        kind: WordKind::Function(Counts::Between(1, 1), Gives::Template),
-    },
-    Word {
-        name: "textureDimensions",
-        kind: WordKind::Function(Counts::Between(1, 2), Gives::Dimensions),
-    },
-    Word {
-        name: "textureGather",
-        kind: WordKind::Function(Counts::Between(3, 6), Gives::Vector(4)),
-    },
-    Word {
-        name: "textureGatherCompare",
-        kind: WordKind::Function(Counts::Between(4, 6), Gives::Vector(4)),
-    },
-    Word {
-        name: "textureLoad",
-        kind: WordKind::Function(Counts::Between(2, 4), Gives::Texel),
-    },
-    Word {
-        name: "textureNumLayers",
-        kind: WordKind::Function(Counts::Between(1, 1), Gives::Scalar),
-    },
-    Word {
-        name: "textureNumLevels",
-        kind: WordKind::Function(Counts::Between(1, 1), Gives::Scalar),
-    },
-    Word {
-        name: "textureNumSamples",
-        kind: WordKind::Function(Counts::Between(1, 1), Gives::Scalar),
-    },
-    Word {
-        name: "textureSample",
-        kind: WordKind::Function(Counts::Between(3, 5), Gives::Texel),
-    },
-    Word {
-        name: "textureSampleBias",
-        kind: WordKind::Function(Counts::Between(4, 6), Gives::Texel),
-    },
-    Word {
-        name: "textureSampleLevel",
-        kind: WordKind::Function(Counts::Between(4, 6), Gives::Texel),
-    },
-    Word {
-        name: "textureSampleCompare",
-        kind: WordKind::Function(Counts::Between(4, 6), Gives::Scalar),
-    },
-    Word {
-        name: "textureSampleCompareLevel",
-        kind: WordKind::Function(Counts::Between(4, 6), Gives::Scalar),
-    },
-    Word {
-        name: "textureSampleGrad",
-        kind: WordKind::Function(Counts::Between(5, 7), Gives::Vector(4)),
-    },
-    Word {
-        name: "textureSampleBaseClampToEdge",
-        kind: WordKind::Function(Counts::Between(3, 3), Gives::Vector(4)),
-    },
-    Word {
-        name: "textureStore",
-        kind: WordKind::Function(Counts::Between(3, 4), Gives::Nothing),
-    },
-    Word {
-        name: "atomicLoad",
-        kind: WordKind::Function(Counts::Between(1, 1), Gives::Scalar),
-    },
-    Word {
-        name: "atomicStore",
-        kind: WordKind::Function(Counts::Between(2, 2), Gives::Nothing),
-    },
-    Word {
-        name: "atomicAdd",
-        kind: WordKind::Function(Counts::Between(2, 2), Gives::Scalar),
-    },
-    Word {
-        name: "atomicSub",
-        kind: WordKind::Function(Counts::Between(2, 2), Gives::Scalar),
-    },
-    Word {
-        name: "atomicMax",
-        kind: WordKind::Function(Counts::Between(2, 2), Gives::Scalar),
-    },
-    Word {
-        name: "atomicMin",
-        kind: WordKind::Function(Counts::Between(2, 2), Gives::Scalar),
-    },
-    Word {
-        name: "atomicAnd",
-        kind: WordKind::Function(Counts::Between(2, 2), Gives::Scalar),
-    },
-    Word {
-        name: "atomicOr",
-        kind: WordKind::Function(Counts::Between(2, 2), Gives::Scalar),
-    },
-    Word {
-        name: "atomicXor",
-        kind: WordKind::Function(Counts::Between(2, 2), Gives::Scalar),
-    },
-    Word {
-        name: "atomicExchange",
-        kind: WordKind::Function(Counts::Between(2, 2), Gives::Scalar),
-    },
-    Word {
-        name: "atomicCompareExchangeWeak",
-        kind: WordKind::Function(Counts::Between(3, 3), Gives::Parts),
-    },
-    Word {
-        name: "pack4x8snorm",
-        kind: WordKind::Function(Counts::Between(1, 1), Gives::Scalar),
-    },
-    Word {
-        name: "pack4x8unorm",
-        kind: WordKind::Function(Counts::Between(1, 1), Gives::Scalar),
-    },
-    Word {
-        name: "pack4xI8",
-        kind: WordKind::Function(Counts::Between(1, 1), Gives::Scalar),
-    },
-    Word {
-        name: "pack4xU8",
-        kind: WordKind::Function(Counts::Between(1, 1), Gives::Scalar),
-    },
-    Word {
-        name: "pack4xI8Clamp",
-        kind: WordKind::Function(Counts::Between(1, 1), Gives::Scalar),
-    },
-    Word {
-        name: "pack4xU8Clamp",
-        kind: WordKind::Function(Counts::Between(1, 1), Gives::Scalar),
-    },
-    Word {
-        name: "pack2x16snorm",
-        kind: WordKind::Function(Counts::Between(1, 1), Gives::Scalar),
-    },
-    Word {
-        name: "pack2x16unorm",
-        kind: WordKind::Function(Counts::Between(1, 1), Gives::Scalar),
-    },
-    Word {
-        name: "pack2x16float",
-        kind: WordKind::Function(Counts::Between(1, 1), Gives::Scalar),
-    },
-    Word {
-        name: "unpack4x8snorm",
-        kind: WordKind::Function(Counts::Between(1, 1), Gives::Vector(4)),
-    },
-    Word {
-        name: "unpack4x8unorm",
-        kind: WordKind::Function(Counts::Between(1, 1), Gives::Vector(4)),
-    },
-    Word {
-        name: "unpack4xI8",
-        kind: WordKind::Function(Counts::Between(1, 1), Gives::Vector(4)),
-    },
-    Word {
-        name: "unpack4xU8",
-        kind: WordKind::Function(Counts::Between(1, 1), Gives::Vector(4)),
-    },
-    Word {
-        name: "unpack2x16snorm",
-        kind: WordKind::Function(Counts::Between(1, 1), Gives::Vector(2)),
-    },
-    Word {
-        name: "unpack2x16unorm",
-        kind: WordKind::Function(Counts::Between(1, 1), Gives::Vector(2)),
-    },
-    Word {
-        name: "unpack2x16float",
-        kind: WordKind::Function(Counts::Between(1, 1), Gives::Vector(2)),
-    },
-    Word {
-        name: "storageBarrier",
-        kind: WordKind::Function(Counts::Between(0, 0), Gives::Nothing),
-    },
-    Word {
-        name: "textureBarrier",
-        kind: WordKind::Function(Counts::Between(0, 0), Gives::Nothing),
-    },
-    Word {
-        name: "workgroupBarrier",
-        kind: WordKind::Function(Counts::Between(0, 0), Gives::Nothing),
-    },
-    Word {
-        name: "subgroupBarrier",
-        kind: WordKind::Function(Counts::Between(0, 0), Gives::Nothing),
-    },
-    Word {
-        name: "workgroupUniformLoad",
-        kind: WordKind::Function(Counts::Between(1, 1), Gives::Pointee),
-    },
-    Word {
-        name: "subgroupAdd",
-        kind: WordKind::Function(Counts::Between(1, 1), Gives::Same),
-    },
-    Word {
-        name: "subgroupAnd",
-        kind: WordKind::Function(Counts::Between(1, 1), Gives::Same),
-    },
-    Word {
-        name: "subgroupExclusiveAdd",
-        kind: WordKind::Function(Counts::Between(1, 1), Gives::Same),
-    },
-    Word {
-        name: "subgroupExclusiveMul",
-        kind: WordKind::Function(Counts::Between(1, 1), Gives::Same),
-    },
-    Word {
-        name: "subgroupInclusiveAdd",
-        kind: WordKind::Function(Counts::Between(1, 1), Gives::Same),
-    },
-    Word {
-        name: "subgroupInclusiveMul",
-        kind: WordKind::Function(Counts::Between(1, 1), Gives::Same),
-    },
-    Word {
-        name: "subgroupMax",
-        kind: WordKind::Function(Counts::Between(1, 1), Gives::Same),
-    },
-    Word {
-        name: "subgroupMin",
-        kind: WordKind::Function(Counts::Between(1, 1), Gives::Same),
-    },
-    Word {
-        name: "subgroupMul",
-        kind: WordKind::Function(Counts::Between(1, 1), Gives::Same),
-    },
-    Word {
-        name: "subgroupOr",
-        kind: WordKind::Function(Counts::Between(1, 1), Gives::Same),
-    },
-    Word {
-        name: "subgroupXor",
-        kind: WordKind::Function(Counts::Between(1, 1), Gives::Same),
-    },
-    Word {
-        name: "subgroupBroadcastFirst",
-        kind: WordKind::Function(Counts::Between(1, 1), Gives::Same),
-    },
-    Word {
-        name: "quadSwapDiagonal",
-        kind: WordKind::Function(Counts::Between(1, 1), Gives::Same),
-    },
-    Word {
-        name: "quadSwapX",
-        kind: WordKind::Function(Counts::Between(1, 1), Gives::Same),
-    },
-    Word {
-        name: "quadSwapY",
-        kind: WordKind::Function(Counts::Between(1, 1), Gives::Same),
-    },
-    Word {
-        name: "subgroupAll",
-        kind: WordKind::Function(Counts::Between(1, 1), Gives::Scalar),
-    },
-    Word {
-        name: "subgroupAny",
-        kind: WordKind::Function(Counts::Between(1, 1), Gives::Scalar),
-    },
-    Word {
-        name: "subgroupElect",
-        kind: WordKind::Function(Counts::Between(0, 0), Gives::Scalar),
-    },
-    Word {
-        name: "subgroupBallot",
-        kind: WordKind::Function(Counts::Between(0, 1), Gives::Vector(4)),
-    },
-    Word {
-        name: "subgroupBroadcast",
-        kind: WordKind::Function(Counts::Between(2, 2), Gives::Same),
-    },
-    Word {
-        name: "subgroupShuffle",
-        kind: WordKind::Function(Counts::Between(2, 2), Gives::Same),
-    },
-    Word {
-        name: "subgroupShuffleDown",
-        kind: WordKind::Function(Counts::Between(2, 2), Gives::Same),
-    },
-    Word {
-        name: "subgroupShuffleUp",
-        kind: WordKind::Function(Counts::Between(2, 2), Gives::Same),
-    },
-    Word {
-        name: "subgroupShuffleXor",
-        kind: WordKind::Function(Counts::Between(2, 2), Gives::Same),
-    },
-    Word {
-        name: "quadBroadcast",
-        kind: WordKind::Function(Counts::Between(2, 2), Gives::Same),
-    },
-    Word {
-        name: "bufferView",
-        kind: WordKind::Function(Counts::Any, Gives::Nothing),
-    },
-    Word {
-        name: "bufferArrayView",
-        kind: WordKind::Function(Counts::Any, Gives::Nothing),
-    },
-    Word {
-        name: "bufferLength",
-        kind: WordKind::Function(Counts::Any, Gives::Nothing),
-    },
-    Word {
-        name: "rayQueryInitialize",
-        kind: WordKind::Function(Counts::Between(3, 3), Gives::Nothing),
-    },
-    Word {
-        name: "rayQueryProceed",
-        kind: WordKind::Function(Counts::Between(1, 1), Gives::Scalar),
-    },
-    Word {
-        name: "rayQueryGenerateIntersection",
-        kind: WordKind::Function(Counts::Between(2, 2), Gives::Nothing),
-    },
-    Word {
-        name: "rayQueryConfirmIntersection",
-        kind: WordKind::Function(Counts::Between(1, 1), Gives::Nothing),
-    },
-    Word {
-        name: "rayQueryTerminate",
-        kind: WordKind::Function(Counts::Between(1, 1), Gives::Nothing),
-    },
-    Word {
-        name: "rayQueryGetCommittedIntersection",
-        kind: WordKind::Function(Counts::Between(1, 1), Gives::Nothing),
-    },
-    Word {
-        name: "rayQueryGetCandidateIntersection",
-        kind: WordKind::Function(Counts::Between(1, 1), Gives::Nothing),
-    },
-    Word {
-        name: "subgroupMatrixLoad",
-        kind: WordKind::Function(Counts::Any, Gives::Nothing),
-    },
-    Word {
-        name: "subgroupMatrixStore",
-        kind: WordKind::Function(Counts::Any, Gives::Nothing),
-    },
-    Word {
-        name: "subgroupMatrixMultiply",
-        kind: WordKind::Function(Counts::Any, Gives::Nothing),
-    },
-    Word {
-        name: "subgroupMatrixMultiplyAccumulate",
-        kind: WordKind::Function(Counts::Any, Gives::Nothing),
-    },
-    Word {
-        name: "subgroupMatrixScalarAdd",
-        kind: WordKind::Function(Counts::Any, Gives::Nothing),
-    },
-    Word {
-        name: "subgroupMatrixScalarSubtract",
-        kind: WordKind::Function(Counts::Any, Gives::Nothing),
-    },
-    Word {
-        name: "subgroupMatrixScalarMultiply",
-        kind: WordKind::Function(Counts::Any, Gives::Nothing),
-    },
-    Word {
-        name: "inputAttachmentLoad",
-        kind: WordKind::Function(Counts::Between(1, 1), Gives::Vector(4)),
-    },
-    Word {
-        name: "print",
-        kind: WordKind::Function(Counts::Any, Gives::Nothing),
-    },
+pub(crate) static FUNCTIONS: [(&str, Counts, Gives); FUNCTION_COUNT] = [
+    ("abs", Counts::Between(1, 1), Gives::Same),
+    ("acos", Counts::Between(1, 1), Gives::Same),
+    ("acosh", Counts::Between(1, 1), Gives::Same),
+    ("asin", Counts::Between(1, 1), Gives::Same),
+    ("asinh", Counts::Between(1, 1), Gives::Same),
+    ("atan", Counts::Between(1, 1), Gives::Same),
+    ("atanh", Counts::Between(1, 1), Gives::Same),
+    ("ceil", Counts::Between(1, 1), Gives::Same),
+    ("cos", Counts::Between(1, 1), Gives::Same),
+    ("cosh", Counts::Between(1, 1), Gives::Same),
+    ("countLeadingZeros", Counts::Between(1, 1), Gives::Same),
+    ("countOneBits", Counts::Between(1, 1), Gives::Same),
+    ("countTrailingZeros", Counts::Between(1, 1), Gives::Same),
+    ("degrees", Counts::Between(1, 1), Gives::Same),
+    ("exp", Counts::Between(1, 1), Gives::Same),
+    ("exp2", Counts::Between(1, 1), Gives::Same),
+    ("firstLeadingBit", Counts::Between(1, 1), Gives::Same),
+    ("firstTrailingBit", Counts::Between(1, 1), Gives::Same),
+    ("floor", Counts::Between(1, 1), Gives::Same),
+    ("fract", Counts::Between(1, 1), Gives::Same),
+    ("inverseSqrt", Counts::Between(1, 1), Gives::Same),
+    ("log", Counts::Between(1, 1), Gives::Same),
+    ("log2", Counts::Between(1, 1), Gives::Same),
+    ("normalize", Counts::Between(1, 1), Gives::Same),
+    ("quantizeToF16", Counts::Between(1, 1), Gives::Same),
+    ("radians", Counts::Between(1, 1), Gives::Same),
+    ("reverseBits", Counts::Between(1, 1), Gives::Same),
+    ("round", Counts::Between(1, 1), Gives::Same),
+    ("saturate", Counts::Between(1, 1), Gives::Same),
+    ("sign", Counts::Between(1, 1), Gives::Same),
+    ("sin", Counts::Between(1, 1), Gives::Same),
+    ("sinh", Counts::Between(1, 1), Gives::Same),
+    ("sqrt", Counts::Between(1, 1), Gives::Same),
+    ("tan", Counts::Between(1, 1), Gives::Same),
+    ("tanh", Counts::Between(1, 1), Gives::Same),
+    ("trunc", Counts::Between(1, 1), Gives::Same),
+    ("dpdx", Counts::Between(1, 1), Gives::Same),
+    ("dpdxCoarse", Counts::Between(1, 1), Gives::Same),
+    ("dpdxFine", Counts::Between(1, 1), Gives::Same),
+    ("dpdy", Counts::Between(1, 1), Gives::Same),
+    ("dpdyCoarse", Counts::Between(1, 1), Gives::Same),
+    ("dpdyFine", Counts::Between(1, 1), Gives::Same),
+    ("fwidth", Counts::Between(1, 1), Gives::Same),
+    ("fwidthCoarse", Counts::Between(1, 1), Gives::Same),
+    ("fwidthFine", Counts::Between(1, 1), Gives::Same),
+    ("atan2", Counts::Between(2, 2), Gives::Alike),
+    ("ldexp", Counts::Between(2, 2), Gives::Alike),
+    ("max", Counts::Between(2, 2), Gives::Alike),
+    ("min", Counts::Between(2, 2), Gives::Alike),
+    ("pow", Counts::Between(2, 2), Gives::Alike),
+    ("reflect", Counts::Between(2, 2), Gives::Alike),
+    ("step", Counts::Between(2, 2), Gives::Alike),
+    ("clamp", Counts::Between(3, 3), Gives::Alike),
+    ("faceForward", Counts::Between(3, 3), Gives::Alike),
+    ("fma", Counts::Between(3, 3), Gives::Alike),
+    ("mix", Counts::Between(3, 3), Gives::Alike),
+    ("refract", Counts::Between(3, 3), Gives::Alike),
+    ("select", Counts::Between(3, 3), Gives::Alike),
+    ("smoothstep", Counts::Between(3, 3), Gives::Alike),
+    ("extractBits", Counts::Between(3, 3), Gives::Same),
+    ("insertBits", Counts::Between(4, 4), Gives::Same),
+    ("cross", Counts::Between(2, 2), Gives::Alike),
+    ("all", Counts::Between(1, 1), Gives::Scalar),
+    ("any", Counts::Between(1, 1), Gives::Scalar),
+    ("determinant", Counts::Between(1, 1), Gives::Scalar),
+    ("length", Counts::Between(1, 1), Gives::Scalar),
+    ("arrayLength", Counts::Between(1, 1), Gives::Scalar),
+    ("distance", Counts::Between(2, 2), Gives::Product),
+    ("dot", Counts::Between(2, 2), Gives::Product),
+    ("dot4U8Packed", Counts::Between(2, 2), Gives::Scalar),
+    ("dot4I8Packed", Counts::Between(2, 2), Gives::Scalar),
+    ("transpose", Counts::Between(1, 1), Gives::Transposed),
+    ("frexp", Counts::Between(1, 1), Gives::Parts),
+    ("modf", Counts::Between(1, 1), Gives::Parts),
+    ("bitcast", Counts::Between(1, 1), Gives::Template),
+    (
+        "textureDimensions",
+        Counts::Between(1, 2),
+        Gives::Dimensions,
+    ),
+    ("textureGather", Counts::Between(3, 6), Gives::Vector(4)),
+    (
+        "textureGatherCompare",
+        Counts::Between(4, 6),
+        Gives::Vector(4),
+    ),
+    ("textureLoad", Counts::Between(2, 4), Gives::Texel),
+    ("textureNumLayers", Counts::Between(1, 1), Gives::Scalar),
+    ("textureNumLevels", Counts::Between(1, 1), Gives::Scalar),
+    ("textureNumSamples", Counts::Between(1, 1), Gives::Scalar),
+    ("textureSample", Counts::Between(3, 5), Gives::Texel),
+    ("textureSampleBias", Counts::Between(4, 6), Gives::Texel),
+    ("textureSampleLevel", Counts::Between(4, 6), Gives::Texel),
+    ("textureSampleCompare", Counts::Between(4, 6), Gives::Scalar),
+    (
+        "textureSampleCompareLevel",
+        Counts::Between(4, 6),
+        Gives::Scalar,
+    ),
+    ("textureSampleGrad", Counts::Between(5, 7), Gives::Vector(4)),
+    (
+        "textureSampleBaseClampToEdge",
+        Counts::Between(3, 3),
+        Gives::Vector(4),
+    ),
+    ("textureStore", Counts::Between(3, 4), Gives::Nothing),
+    ("atomicLoad", Counts::Between(1, 1), Gives::Scalar),
+    ("atomicStore", Counts::Between(2, 2), Gives::Nothing),
+    ("atomicAdd", Counts::Between(2, 2), Gives::Scalar),
+    ("atomicSub", Counts::Between(2, 2), Gives::Scalar),
+    ("atomicMax", Counts::Between(2, 2), Gives::Scalar),
+    ("atomicMin", Counts::Between(2, 2), Gives::Scalar),
+    ("atomicAnd", Counts::Between(2, 2), Gives::Scalar),
+    ("atomicOr", Counts::Between(2, 2), Gives::Scalar),
+    ("atomicXor", Counts::Between(2, 2), Gives::Scalar),
+    ("atomicExchange", Counts::Between(2, 2), Gives::Scalar),
+    (
+        "atomicCompareExchangeWeak",
+        Counts::Between(3, 3),
+        Gives::Parts,
+    ),
+    ("pack4x8snorm", Counts::Between(1, 1), Gives::Scalar),
+    ("pack4x8unorm", Counts::Between(1, 1), Gives::Scalar),
+    ("pack4xI8", Counts::Between(1, 1), Gives::Scalar),
+    ("pack4xU8", Counts::Between(1, 1), Gives::Scalar),
+    ("pack4xI8Clamp", Counts::Between(1, 1), Gives::Scalar),
+    ("pack4xU8Clamp", Counts::Between(1, 1), Gives::Scalar),
+    ("pack2x16snorm", Counts::Between(1, 1), Gives::Scalar),
+    ("pack2x16unorm", Counts::Between(1, 1), Gives::Scalar),
+    ("pack2x16float", Counts::Between(1, 1), Gives::Scalar),
+    ("unpack4x8snorm", Counts::Between(1, 1), Gives::Vector(4)),
+    ("unpack4x8unorm", Counts::Between(1, 1), Gives::Vector(4)),
+    ("unpack4xI8", Counts::Between(1, 1), Gives::Vector(4)),
+    ("unpack4xU8", Counts::Between(1, 1), Gives::Vector(4)),
+    ("unpack2x16snorm", Counts::Between(1, 1), Gives::Vector(2)),
+    ("unpack2x16unorm", Counts::Between(1, 1), Gives::Vector(2)),
+    ("unpack2x16float", Counts::Between(1, 1), Gives::Vector(2)),
+    ("storageBarrier", Counts::Between(0, 0), Gives::Nothing),
+    ("textureBarrier", Counts::Between(0, 0), Gives::Nothing),
+    ("workgroupBarrier", Counts::Between(0, 0), Gives::Nothing),
+    ("subgroupBarrier", Counts::Between(0, 0), Gives::Nothing),
+    (
+        "workgroupUniformLoad",
+        Counts::Between(1, 1),
+        Gives::Pointee,
+    ),
+    ("subgroupAdd", Counts::Between(1, 1), Gives::Same),
+    ("subgroupAnd", Counts::Between(1, 1), Gives::Same),
+    ("subgroupExclusiveAdd", Counts::Between(1, 1), Gives::Same),
+    ("subgroupExclusiveMul", Counts::Between(1, 1), Gives::Same),
+    ("subgroupInclusiveAdd", Counts::Between(1, 1), Gives::Same),
+    ("subgroupInclusiveMul", Counts::Between(1, 1), Gives::Same),
+    ("subgroupMax", Counts::Between(1, 1), Gives::Same),
+    ("subgroupMin", Counts::Between(1, 1), Gives::Same),
+    ("subgroupMul", Counts::Between(1, 1), Gives::Same),
+    ("subgroupOr", Counts::Between(1, 1), Gives::Same),
+    ("subgroupXor", Counts::Between(1, 1), Gives::Same),
+    ("subgroupBroadcastFirst", Counts::Between(1, 1), Gives::Same),
+    ("quadSwapDiagonal", Counts::Between(1, 1), Gives::Same),
+    ("quadSwapX", Counts::Between(1, 1), Gives::Same),
+    ("quadSwapY", Counts::Between(1, 1), Gives::Same),
+    ("subgroupAll", Counts::Between(1, 1), Gives::Scalar),
+    ("subgroupAny", Counts::Between(1, 1), Gives::Scalar),
+    ("subgroupElect", Counts::Between(0, 0), Gives::Scalar),
+    ("subgroupBallot", Counts::Between(0, 1), Gives::Vector(4)),
+    ("subgroupBroadcast", Counts::Between(2, 2), Gives::Same),
+    ("subgroupShuffle", Counts::Between(2, 2), Gives::Same),
+    ("subgroupShuffleDown", Counts::Between(2, 2), Gives::Same),
+    ("subgroupShuffleUp", Counts::Between(2, 2), Gives::Same),
+    ("subgroupShuffleXor", Counts::Between(2, 2), Gives::Same),
+    ("quadBroadcast", Counts::Between(2, 2), Gives::Same),
+    ("bufferView", Counts::Any, Gives::Nothing),
+    ("bufferArrayView", Counts::Any, Gives::Nothing),
+    ("bufferLength", Counts::Any, Gives::Nothing),
+    ("rayQueryInitialize", Counts::Between(3, 3), Gives::Nothing),
+    ("rayQueryProceed", Counts::Between(1, 1), Gives::Scalar),
+    (
+        "rayQueryGenerateIntersection",
+        Counts::Between(2, 2),
+        Gives::Nothing,
+    ),
+    (
+        "rayQueryConfirmIntersection",
+        Counts::Between(1, 1),
+        Gives::Nothing,
+    ),
+    ("rayQueryTerminate", Counts::Between(1, 1), Gives::Nothing),
+    (
+        "rayQueryGetCommittedIntersection",
+        Counts::Between(1, 1),
+        Gives::Nothing,
+    ),
+    (
+        "rayQueryGetCandidateIntersection",
+        Counts::Between(1, 1),
+        Gives::Nothing,
+    ),
+    ("subgroupMatrixLoad", Counts::Any, Gives::Nothing),
+    ("subgroupMatrixStore", Counts::Any, Gives::Nothing),
+    ("subgroupMatrixMultiply", Counts::Any, Gives::Nothing),
+    (
+        "subgroupMatrixMultiplyAccumulate",
+        Counts::Any,
+        Gives::Nothing,
+    ),
+    ("subgroupMatrixScalarAdd", Counts::Any, Gives::Nothing),
+    ("subgroupMatrixScalarSubtract", Counts::Any, Gives::Nothing),
+    ("subgroupMatrixScalarMultiply", Counts::Any, Gives::Nothing),
+    (
+        "inputAttachmentLoad",
+        Counts::Between(1, 1),
+        Gives::Vector(4),
+    ),
+    ("print", Counts::Any, Gives::Nothing),
 ];

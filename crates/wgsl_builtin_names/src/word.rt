@@ -88,18 +88,21 @@ pub(crate) const FUNCTION_COUNT: usize = 166;
 pub fn word_at(number: usize) -> Option<Word> {
     match number.checked_sub(TYPE_COUNT) {
         None => TYPES.get(number).copied(),
-        Some(at) => FUNCTIONS.get(at).copied(),
+        Some(at) => {
+            let (name, counts, gives) = FUNCTIONS.get(at).copied()?;
+            Some(Word {
+                name,
+                kind: WordKind::Function(counts, gives),
+            })
+        }
     }
 }
 
 /// How many arguments a function of WGSL's own takes, where there is one of this name.
 pub fn function_counts(name: &str) -> Option<Counts> {
-    for function in &FUNCTIONS[..] {
-        if function.name == name {
-            return match function.kind {
-                WordKind::Function(counts, _) => Some(counts),
-                _ => None,
-            };
+    for (function, counts, _) in &FUNCTIONS[..] {
+        if *function == name {
+            return Some(*counts);
         }
     }
     None

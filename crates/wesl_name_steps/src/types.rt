@@ -4,7 +4,7 @@ use wgsl_builtin_names::{Counts, is_part};
 
 /// The type of a value. The numbers of arrays and pointers are those of a table of what they hold.
 #[derive(Clone, Copy, PartialEq, Eq)]
-pub(crate) enum Type {
+pub enum Type {
     Unknown,
     Scalar,
     Vector(u32),
@@ -43,7 +43,7 @@ fn are_components(letters: &[u8], is_color: bool, size: u32) -> bool {
 }
 
 /// The type of components of a vector of this size, where the letters name some.
-pub(crate) fn components(name: &str, size: u32) -> Option<Type> {
+pub fn components(name: &str, size: u32) -> Option<Type> {
     let letters = name.as_bytes();
     if !are_components(letters, false, size) && !are_components(letters, true, size) {
         return None;
@@ -58,7 +58,7 @@ pub(crate) fn components(name: &str, size: u32) -> Option<Type> {
 }
 
 /// The type of what a value of a type that is not told has under a name that no structure has as a member.
-pub(crate) fn component_or_part(name: &str) -> Option<Type> {
+pub fn component_or_part(name: &str) -> Option<Type> {
     match components(name, 4) {
         Some(found) => Some(found),
         None if is_part(name) => Some(Type::Unknown),
@@ -67,7 +67,7 @@ pub(crate) fn component_or_part(name: &str) -> Option<Type> {
 }
 
 /// How many arguments the constructor of a type takes; nothing, where it has none. `members` is the number of members of a structure.
-pub(crate) fn constructor_counts(ty: Type, members: u32) -> Option<Counts> {
+pub fn constructor_counts(ty: Type, members: u32) -> Option<Counts> {
     match ty {
         Type::Unknown | Type::Array(_) => Some(Counts::Any),
         Type::Scalar => Some(Counts::Between(0, 1)),
@@ -79,7 +79,7 @@ pub(crate) fn constructor_counts(ty: Type, members: u32) -> Option<Counts> {
 }
 
 /// Whether a value of one type may stand for one of another type, as far as the types are told.
-pub(crate) fn are_alike(one: Type, other: Type) -> bool {
+pub fn are_alike(one: Type, other: Type) -> bool {
     match (one, other) {
         (Type::Unknown | Type::Parts, _) | (_, Type::Unknown | Type::Parts) => true,
         (Type::Array(_), Type::Array(_)) | (Type::Pointer(_), Type::Pointer(_)) => true,
@@ -89,7 +89,7 @@ pub(crate) fn are_alike(one: Type, other: Type) -> bool {
 }
 
 /// How a type is called in messages. A structure has a name of its own.
-pub(crate) fn type_name(ty: Type) -> &'static str {
+pub fn type_name(ty: Type) -> &'static str {
     match ty {
         Type::Vector(2) => "a vec2",
         Type::Vector(3) => "a vec3",

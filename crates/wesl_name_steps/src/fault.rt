@@ -72,7 +72,7 @@ pub struct NameFault {
 
 /// A fault as it is found: names are numbers of the list of steps.
 #[derive(Clone, Copy)]
-pub(crate) struct Found {
+pub struct Found {
     pub problem: NameProblem,
     pub place: usize,
     pub span: Span,
@@ -85,7 +85,8 @@ pub(crate) struct Found {
 }
 
 impl NameFault {
-    pub(crate) fn new(
+    /// A fault with copies of the name and of the type that it is of.
+    pub fn new(
         alloc: Global,
         found: Found,
         name: &str,

@@ -39,7 +39,7 @@ fn wider(left: Type, right: Type) -> Type {
 }
 
 /// The type of an operation with two operands.
-pub(crate) fn binary_type(operator: BinaryOperator, left: Type, right: Type) -> Type {
+pub fn binary_type(operator: BinaryOperator, left: Type, right: Type) -> Type {
     match operator {
         BinaryOperator::ShortCircuitOr | BinaryOperator::ShortCircuitAnd => Type::Scalar,
         BinaryOperator::ShiftLeft | BinaryOperator::ShiftRight => left,
@@ -76,7 +76,7 @@ fn is_by_components(left: Type, right: Type) -> bool {
 }
 
 /// Whether an operation is defined on operands of these types, as far as they are told.
-pub(crate) fn is_defined(operator: BinaryOperator, left: Type, right: Type) -> bool {
+pub fn is_defined(operator: BinaryOperator, left: Type, right: Type) -> bool {
     if is_untold(left) || is_untold(right) {
         return true;
     }

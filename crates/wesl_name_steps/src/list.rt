@@ -32,7 +32,7 @@ pub struct StepList {
 }
 
 /// A number as a `u32`. One that does not fit is out of memory.
-pub(crate) fn numbered(at: usize) -> Result<u32, AllocError> {
+pub fn numbered(at: usize) -> Result<u32, AllocError> {
     match u32::try_from(at) {
         Ok(number) => Ok(number),
         Err(_) => Err(AllocError),
@@ -133,6 +133,6 @@ impl StepList {
 }
 
 /// What a name of WGSL's own is.
-pub(crate) fn word_kind(name: u32) -> Option<WordKind> {
+pub fn word_kind(name: u32) -> Option<WordKind> {
     Some(word_at(name as usize)?.kind)
 }
