@@ -303,14 +303,20 @@ BEHIND_FIRST = [
     ("", False),
 ]
 
-# a text's parts: so often the first, then the second, and so often the last; how many lists and tokens there are
+# a text's parts: so often the first, then the second, and so often the last; how many lists and tokens there are, and how many
+# entries the table of the lists has, one for each character
 LONG = [
-    (4000, "a<", "", "", "0 lists, 8000 tokens"),
-    (4000, "a<a>", "", "", "4000 lists, 16000 tokens"),
-    (500, "a<", "a", ">", "500 lists, 1501 tokens"),
-    (500, "a<(", "a", ")>", "500 lists, 2501 tokens"),
-    (500, "a<(", "", "", "0 lists, 1500 tokens"),
-    (4000, "a(", "a", ")", "0 lists, 12001 tokens"),
+    (4000, "a<", "", "", "0 lists, 8000 tokens, 8000 entries"),
+    (4000, "a<a>", "", "", "4000 lists, 16000 tokens, 16000 entries"),
+    (500, "a<", "a", ">", "500 lists, 1501 tokens, 1501 entries"),
+    (500, "a<(", "a", ")>", "500 lists, 2501 tokens, 2501 entries"),
+    (500, "a<(", "", "", "0 lists, 1500 tokens, 1500 entries"),
+    (4000, "a(", "a", ")", "0 lists, 12001 tokens, 12001 entries"),
+    (20000, "a<b,", "", "", "0 lists, 80000 tokens, 80000 entries"),
+    (20000, "a<b,", "c>", "", "1 lists, 80002 tokens, 80002 entries"),
+    (20000, "a<b&&", "", "", "0 lists, 80000 tokens, 100000 entries"),
+    (20000, "a<b[", "", "", "0 lists, 80000 tokens, 80000 entries"),
+    (20000, "a<(", "a", ")>", "20000 lists, 100001 tokens, 100001 entries"),
 ]
 
 # ---- At random.

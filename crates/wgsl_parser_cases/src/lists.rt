@@ -63,7 +63,7 @@ fn behind_first(alloc: Global, text: &str) -> Result<String, AllocError> {
     told(alloc, parser::recognize_template_list(alloc, tokens)?)
 }
 
-/// How many lists and tokens a text has that is made of parts: so often the first, then the second, and so often the last.
+/// How many lists and tokens a text has, and how many entries its table, that is made of parts: so often the first, then the second, and so often the last.
 fn repeated(alloc: Global, with: &str) -> Result<String, AllocError> {
     let (count, parts) = cut(with);
     let (first, parts) = cut(parts);
@@ -76,7 +76,8 @@ fn repeated(alloc: Global, with: &str) -> Result<String, AllocError> {
     let tokens = lexer::lex(alloc, text.as_str())?;
     let lists = lists(tokens.as_slice());
     let count = tokens.as_slice().len();
-    format!(in alloc; "{lists} lists, {count} tokens")
+    let entries = Lexer::new(alloc, text.as_str())?.table_entries();
+    format!(in alloc; "{lists} lists, {count} tokens, {entries} entries")
 }
 
 fn push_times(text: &mut String, part: &str, count: u64) -> Result<(), AllocError> {

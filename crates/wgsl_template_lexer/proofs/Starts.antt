@@ -12,9 +12,9 @@ use Rattle.wgsl_template_spec.specs.declared.kind.Kind.TheVariants.{TemplateArgs
 use Rattle.wgsl_template_spec.specs.Laws.{BeginsWithList}
 use Rattle.wgsl_template_spec.specs.Tokens.{is_less, Opens}
 use Rattle.wgsl_template_spec.proofs.Once.{first_once, first_takes}
-use Rattle.wgsl_templates.specs.declared.recognize.Answer.{Answer}
-use Rattle.wgsl_templates.specs.declared.recognize.Answer.TheVariants.{List as Listed, Never, Unfinished}
-use Rattle.wgsl_templates.specs.Steps.{IsAnswer, is_list, is_never, is_unfinished}
+use Rattle.wgsl_template_recognizer.specs.declared.recognize.Answer.{Answer}
+use Rattle.wgsl_template_recognizer.specs.declared.recognize.Answer.TheVariants.{List as Listed, Never, Unfinished}
+use Rattle.wgsl_template_recognizer.specs.Answers.{IsAnswer, is_list, is_never, is_unfinished}
 use Rattle.wgsl_templates.proofs.Here.{is_first, less_is}
 use Rattle.wgsl_template_lexer.specs.Starts.{StartsList, less_first, other_first, TextStartsList, IsLessFirst, BeginsWithTemplateList}
 

@@ -28,3 +28,7 @@ pub record Lexed (text : List ℕ) (given : List SpannedTemplateToken) : Type 0 
 -- what is left to give
 abbrev pub left : Lexer → List SpannedTemplateToken
 left lexer = lexer.tokens.items
+
+-- how many entries its table has
+abbrev pub entries : Lexer → ℕ
+entries lexer = lexer.table_entries

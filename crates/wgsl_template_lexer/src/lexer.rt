@@ -1,6 +1,6 @@
 //! Texts.
 
-ghost use Rattle.std.specs.Prelude.{◌≡◌, ◌∷◌, ◌==◌, ◌&&◌, IfOk};
+ghost use Rattle.std.specs.Prelude.{◌≡◌, ◌≤◌, ◌∷◌, ◌==◌, ◌&&◌, IfOk, length};
 ghost use Rattle.wgsl_template_spec.specs.Tokens.{IsLexed};
 ghost use Rattle.wgsl_template_lexer.specs.Starts.{StartsList, TextStartsList, IsLessFirst};
 
@@ -9,7 +9,6 @@ use std::alloc::{AllocError, Global};
 use wgsl_items::Items;
 use wgsl_lex::first_piece;
 use wgsl_stack::{Queue, QueueWriter};
-use wgsl_template_recognizer::ListRecognizer;
 use wgsl_template_spec::SpannedTemplateToken;
 use wgsl_templates::opens_list;
 
@@ -19,8 +18,19 @@ pub fn lex(alloc: Global, text: &str) -> Result<Items<SpannedTemplateToken>, All
     ensures { IfOk result (IsLexed text.now) }
 {
     let pieces = TextPieces { alloc };
-    let recognizer = ListRecognizer { alloc };
-    wgsl_templates::lex(alloc, &pieces, &recognizer, text, Items::new(alloc))
+    wgsl_templates::lex(alloc, &pieces, text, Items::new(alloc))
+}
+
+/// The same tokens, and how many entries the table has by which the template lists were told: at most one for each byte of the text.
+pub(crate) fn lex_counted(
+    alloc: Global,
+    text: &str,
+) -> Result<(Items<SpannedTemplateToken>, usize), AllocError>
+    ensures tokens { IfOk result (λ lexed. IsLexed text.now lexed.0) }
+    ensures entries { IfOk result (λ lexed. lexed.1 ≤ length text.now) }
+{
+    let pieces = TextPieces { alloc };
+    wgsl_templates::lex_counted(alloc, &pieces, text, Items::new(alloc))
 }
 
 /// The same tokens as a queue, which gives memory back as they are taken from it.
@@ -28,9 +38,8 @@ pub fn lex_queue(alloc: Global, text: &str) -> Result<Queue<SpannedTemplateToken
     ensures { IfOk result (IsLexed text.now) }
 {
     let pieces = TextPieces { alloc };
-    let recognizer = ListRecognizer { alloc };
     let empty = QueueWriter::new(alloc);
-    let tokens = wgsl_templates::lex(alloc, &pieces, &recognizer, text, empty)?;
+    let tokens = wgsl_templates::lex(alloc, &pieces, text, empty)?;
     tokens.into_queue()
 }
 
@@ -53,8 +62,7 @@ fn starts_list(alloc: Global, characters: &[char]) -> Result<bool, AllocError>
         return Ok(false);
     }
     let pieces = TextPieces { alloc };
-    let recognizer = ListRecognizer { alloc };
-    opens_list(alloc, &pieces, &recognizer, behind)
+    opens_list(alloc, &pieces, behind)
 }
 
 /// Whether `<` alone stands at the front of some characters: of the first one, and what is behind it.

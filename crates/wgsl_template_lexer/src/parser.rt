@@ -6,9 +6,8 @@ ghost use Rattle.wgsl_template_spec.specs.Laws.{BeginsWithList};
 ghost use Rattle.wgsl_template_lexer.specs.Starts.{BeginsWithTemplateList};
 
 use std::alloc::{AllocError, Global};
-use wgsl_template_recognizer::ListRecognizer;
+use wgsl_template_recognizer::{Answer, ListRecognizer, Recognizer};
 use wgsl_template_spec::{Kind, SpannedTemplateToken};
-use wgsl_templates::{Answer, Recognizer};
 
 /// Whether tokens begin with a template list. Only memory can fail.
 pub fn recognize_template_list(

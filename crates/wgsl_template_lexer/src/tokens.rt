@@ -1,10 +1,10 @@
 //! The tokens of a text as an iterator.
 
-ghost use Rattle.std.specs.Prelude.{◌≡◌, ◌<◌, ◌+◌, IfOk, MatchOption, length, take};
+ghost use Rattle.std.specs.Prelude.{◌≡◌, ◌<◌, ◌≤◌, ◌+◌, IfOk, MatchOption, length, take};
 ghost use Rattle.wgsl_template_lexer.specs.Lexing.{Lexed, ends_at_fault, left};
 ghost use Rattle.wgsl_template_lexer.specs.Lexing as spec;
 
-use crate::lexer::lex;
+use crate::lexer::lex_counted;
 use std::alloc::{AllocError, Global};
 use std::collections::VecDeque;
 use wgsl_template_spec::{SpannedTemplateToken, TemplateToken};
@@ -15,20 +15,32 @@ use wgsl_token::Token;
 #[derive(Debug, Drop)]
 pub struct Lexer {
     tokens: VecDeque<SpannedTemplateToken>,
+    /// How many entries the table of the text's template lists has.
+    table_entries: usize,
 }
 
 impl Lexer {
     /// The tokens of a text. Only memory can fail.
     pub fn new(alloc: Global, text: &str) -> Result<Lexer, AllocError>
-        ensures { IfOk result (λ lexer. Lexed text.now (left lexer)) }
+        ensures tokens { IfOk result (λ lexer. Lexed text.now (left lexer)) }
+        ensures entries { IfOk result (λ lexer. spec.entries lexer ≤ length text.now) }
     {
-        let mut tokens = lex(alloc, text)?.into_vec();
+        let (lexed, table_entries) = lex_counted(alloc, text)?;
+        let mut tokens = lexed.into_vec();
         if let Some(at) = first_fault(tokens.as_slice()) {
             tokens.truncate(at + 1);
         }
         Ok(Lexer {
             tokens: VecDeque::from(tokens),
+            table_entries,
         })
+    }
+
+    /// How many entries the table has by which the template lists of the text were told: at most one for each byte of the text.
+    pub fn table_entries(&self) -> usize
+        ensures { result ≡ spec.entries self.now }
+    {
+        self.table_entries
     }
 }
 

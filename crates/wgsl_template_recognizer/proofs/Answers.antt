@@ -1,15 +1,16 @@
 -- The reader's answer.
 use Rattle.std.proofs.Common.{◌≡◌, ◌∙◌, sym, ap, refl, List, [], ◌∷◌, ◌++◌, length}
 use Rattle.wgsl_template_spec.specs.declared.kind.Kind.{Kind}
-use Rattle.wgsl_templates.specs.declared.recognize.Answer.{Answer}
-use Rattle.wgsl_templates.specs.declared.recognize.Answer.TheVariants.{List as Listed, Never, Unfinished}
-use Rattle.wgsl_templates.specs.Steps.{IsAnswer, is_list, is_never, is_unfinished}
+use Rattle.wgsl_template_recognizer.specs.declared.recognize.Answer.{Answer}
+use Rattle.wgsl_template_recognizer.specs.declared.recognize.Answer.TheVariants.{List as Listed, Never, Unfinished}
+use Rattle.wgsl_template_recognizer.specs.Answers.{IsAnswer, is_list, is_never, is_unfinished}
 use Rattle.wgsl_template_recognizer.specs.declared.place.Frame.{Frame}
 use Rattle.wgsl_template_recognizer.specs.declared.place.State.{State}
 use Rattle.wgsl_template_recognizer.specs.declared.place.Outcome.{Outcome}
 use Rattle.wgsl_template_recognizer.specs.declared.place.Outcome.TheVariants.{Ends}
 use Rattle.wgsl_template_recognizer.specs.Actions.{reading, status, next}
-use Rattle.wgsl_template_recognizer.proofs.Run.{verdict, verdict_ended, beginning, stays_never}
+use Rattle.wgsl_template_recognizer.specs.Runs.{verdict}
+use Rattle.wgsl_template_recognizer.proofs.Run.{verdict_ended, beginning, stays_never}
 use Rattle.wgsl_template_recognizer.proofs.Complete.{complete}
 use Rattle.wgsl_template_recognizer.proofs.Sound.{sound}
 

@@ -7,7 +7,7 @@ use Rattle.wgsl_template_spec.specs.Grammar.{is_prefix, is_multiplicative, is_ad
 use Rattle.wgsl_template_spec.specs.Grammar.{IsType, named, templated, IsPrimary, literal, type, call, parenthesized, IsArguments, no_argument, last_argument, more_arguments, IsSingular, primary, member, index}
 use Rattle.wgsl_template_spec.specs.Grammar.{IsUnary, singular, prefixed, IsProduct, unary, times, IsSum, product, plus, IsShift, sum, shifted, IsRelational, shift, compared, IsBitwise, two_unaries, more_unaries}
 use Rattle.wgsl_template_spec.specs.Grammar.{IsLogical, two_relations, more_relations, IsItem, relational, bitwise, IsExpression, item, logical, IsListBody, last_item, last_and_comma, more_items}
-use Rattle.wgsl_templates.specs.declared.recognize.Answer.TheVariants.{List as Listed}
+use Rattle.wgsl_template_recognizer.specs.declared.recognize.Answer.TheVariants.{List as Listed}
 use Rattle.wgsl_template_recognizer.specs.declared.place.Place.{Place}
 use Rattle.wgsl_template_recognizer.specs.declared.place.Place.TheVariants as at
 use Rattle.wgsl_template_recognizer.specs.declared.place.Relation.{Relation}
@@ -20,7 +20,8 @@ use Rattle.wgsl_template_recognizer.specs.declared.place.Action.{Action}
 use Rattle.wgsl_template_recognizer.specs.declared.place.Action.TheVariants as a
 use Rattle.wgsl_template_recognizer.specs.Actions.{Status, ended, fresh, next, does, popped, enclosing, action_at, after_operand, after_template, after_expression, end, operator}
 use Rattle.wgsl_template_recognizer.specs.Actions as actions
-use Rattle.wgsl_template_recognizer.proofs.Run.{verdict, verdict_ended, stand, beginning, Reaches, here, behind_token, then_reaches, from_same}
+use Rattle.wgsl_template_recognizer.specs.Runs.{verdict}
+use Rattle.wgsl_template_recognizer.proofs.Run.{verdict_ended, stand, beginning, Reaches, here, behind_token, then_reaches, from_same}
 
 -- An operand is wanted.
 data IsStart : Place → Type 0 where

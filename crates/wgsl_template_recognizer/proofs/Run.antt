@@ -1,21 +1,15 @@
 -- The reader's way over tokens.
 use Rattle.std.proofs.Common.{◌≡◌, ◌∙◌, sym, subst, refl, List, [], ◌∷◌, ◌++◌, append_assoc}
 use Rattle.wgsl_template_spec.specs.declared.kind.Kind.{Kind}
-use Rattle.wgsl_templates.specs.declared.recognize.Answer.{Answer}
-use Rattle.wgsl_templates.specs.declared.recognize.Answer.TheVariants.{Never, Unfinished}
+use Rattle.wgsl_template_recognizer.specs.declared.recognize.Answer.{Answer}
+use Rattle.wgsl_template_recognizer.specs.declared.recognize.Answer.TheVariants.{Never, Unfinished}
 use Rattle.wgsl_template_recognizer.specs.declared.place.Place.{Place}
 use Rattle.wgsl_template_recognizer.specs.declared.place.Place.TheVariants as at
 use Rattle.wgsl_template_recognizer.specs.declared.place.Progress.{Progress}
 use Rattle.wgsl_template_recognizer.specs.declared.place.Frame.{Frame}
 use Rattle.wgsl_template_recognizer.specs.declared.place.State.{State}
 use Rattle.wgsl_template_recognizer.specs.Actions.{Status, reading, ended, fresh, next}
-
--- the answer where the reader stands somewhere before these tokens
-abbrev pub verdict : List Kind → Status → Answer
-verdict [] (reading state frames) = Unfinished
-verdict [] (ended answer) = answer
-verdict (kind ∷ kinds) (reading state frames) = verdict kinds (next state frames kind)
-verdict (kind ∷ kinds) (ended answer) = answer
+use Rattle.wgsl_template_recognizer.specs.Runs.{verdict}
 
 abbrev pub stand : Place → Progress → List Frame → Status
 stand place progress frames = reading (record { place = place; progress = progress }) frames

@@ -8,7 +8,7 @@ use Rattle.wgsl_template_spec.specs.Grammar as g
 use Rattle.wgsl_template_spec.specs.Grammar.{IsType, named, templated, IsPrimary, literal, type, call, parenthesized, IsArguments, no_argument, last_argument, more_arguments, IsSingular, primary, member, index}
 use Rattle.wgsl_template_spec.specs.Grammar.{IsUnary, singular, prefixed, IsProduct, times, IsSum, product, plus, IsShift, IsRelational, shift, compared, IsBitwise, two_unaries, more_unaries}
 use Rattle.wgsl_template_spec.specs.Grammar.{IsLogical, two_relations, more_relations, IsItem, relational, bitwise, IsExpression, item, logical, IsListBody, last_item, last_and_comma, more_items}
-use Rattle.wgsl_templates.specs.declared.recognize.Answer.TheVariants.{List as Listed, Never}
+use Rattle.wgsl_template_recognizer.specs.declared.recognize.Answer.TheVariants.{List as Listed, Never}
 use Rattle.wgsl_template_recognizer.specs.declared.place.Place.{Place}
 use Rattle.wgsl_template_recognizer.specs.declared.place.Place.TheVariants as at
 use Rattle.wgsl_template_recognizer.specs.declared.place.Relation.{Relation}
@@ -22,7 +22,8 @@ use Rattle.wgsl_template_recognizer.specs.declared.place.Action.{Action}
 use Rattle.wgsl_template_recognizer.specs.declared.place.Action.TheVariants as a
 use Rattle.wgsl_template_recognizer.specs.Actions.{Status, reading, ended, fresh, next, does, popped, enclosing, first_place, last_place, operates_if}
 use Rattle.wgsl_template_recognizer.specs.Actions as actions
-use Rattle.wgsl_template_recognizer.proofs.Run.{verdict, stand, beginning}
+use Rattle.wgsl_template_recognizer.specs.Runs.{verdict}
+use Rattle.wgsl_template_recognizer.proofs.Run.{stand, beginning}
 
 -- lists of tokens, grouped otherwise
 

@@ -2,8 +2,8 @@
 use Rattle.std.specs.Prelude.{Bool, true, false, List, [], ◌∷◌, Option, Some, None}
 use Rattle.wgsl_template_spec.specs.declared.kind.Kind.{Kind}
 use Rattle.wgsl_template_spec.specs.declared.kind.Kind.TheVariants as k
-use Rattle.wgsl_templates.specs.declared.recognize.Answer.{Answer}
-use Rattle.wgsl_templates.specs.declared.recognize.Answer.TheVariants.{List as Listed, Never}
+use Rattle.wgsl_template_recognizer.specs.declared.recognize.Answer.{Answer}
+use Rattle.wgsl_template_recognizer.specs.declared.recognize.Answer.TheVariants.{List as Listed, Never}
 use Rattle.wgsl_template_recognizer.specs.declared.place.Place.{Place}
 use Rattle.wgsl_template_recognizer.specs.declared.place.Place.TheVariants as at
 use Rattle.wgsl_template_recognizer.specs.declared.place.Relation.{Relation}

@@ -1,11 +1,11 @@
 //! Where a reader of expressions stands.
 
+use crate::recognize::Answer;
 use wgsl_template_spec::Kind;
-use wgsl_templates::Answer;
 
 /// What may stand next.
 #[derive(Clone, Copy)]
-pub(crate) enum Place {
+pub enum Place {
     /// An operand.
     Operand,
     /// An operand, or what closes the bracket: behind the `(` of a call, and behind a comma.
@@ -30,16 +30,16 @@ pub(crate) enum Place {
 
 /// What stands before a shift expression: a logical operator, or a comparison too.
 #[derive(Clone, Copy)]
-pub(crate) struct Relation {
+pub struct Relation {
     /// `&&` or `||` before it.
-    pub(crate) logical: Option<Kind>,
+    pub logical: Option<Kind>,
     /// A comparison behind that.
-    pub(crate) compared: bool,
+    pub compared: bool,
 }
 
 /// What was read of an expression, with the operand that is being read.
 #[derive(Clone, Copy)]
-pub(crate) enum Progress {
+pub enum Progress {
     /// One unary expression.
     Unary(Relation),
     /// A sum or a product.
@@ -52,7 +52,7 @@ pub(crate) enum Progress {
 
 /// What closes the brackets that are open.
 #[derive(Clone, Copy)]
-pub(crate) enum Enclosing {
+pub enum Enclosing {
     /// A template list.
     List,
     /// The arguments of a call.
@@ -65,21 +65,21 @@ pub(crate) enum Enclosing {
 
 /// An open bracket and the expression that it stands in.
 #[derive(Clone, Copy)]
-pub(crate) struct Frame {
-    pub(crate) enclosing: Enclosing,
-    pub(crate) outer: Progress,
+pub struct Frame {
+    pub enclosing: Enclosing,
+    pub outer: Progress,
 }
 
 /// Where the reader stands within the last open bracket.
 #[derive(Clone, Copy)]
-pub(crate) struct State {
-    pub(crate) place: Place,
-    pub(crate) progress: Progress,
+pub struct State {
+    pub place: Place,
+    pub progress: Progress,
 }
 
 /// What a token does.
 #[derive(Clone, Copy)]
-pub(crate) enum Action {
+pub enum Action {
     /// It goes on with the operand.
     Goes(Place),
     /// It is an operator between two operands.

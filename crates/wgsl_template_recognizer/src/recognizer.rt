@@ -1,14 +1,14 @@
 //! The reader's loop.
 
 ghost use Rattle.std.specs.Prelude.{◌≡◌, reverse, IfOk};
-ghost use Rattle.wgsl_templates.specs.Steps.{IsAnswer};
+ghost use Rattle.wgsl_template_recognizer.specs.Answers.{IsAnswer};
 ghost use Rattle.wgsl_template_recognizer.specs.Actions as actions;
 
-use crate::action::{action, fresh};
+use crate::actions::{action, fresh};
 use crate::place::{Action, Enclosing, Frame, Outcome, Place, State};
+use crate::recognize::{Answer, Recognizer};
 use std::alloc::{AllocError, Global};
 use wgsl_template_spec::Kind;
-use wgsl_templates::{Answer, Recognizer};
 
 /// A recognizer of template lists. Its stack grows with the brackets that are open at once.
 #[derive(Clone, Copy)]
@@ -102,7 +102,7 @@ fn first_place(enclosing: Enclosing) -> Place
 }
 
 /// Behind a closing bracket.
-fn last_place(enclosing: Enclosing) -> Place
+pub fn last_place(enclosing: Enclosing) -> Place
     ensures { result ≡ actions.last_place enclosing }
 {
     match enclosing {

@@ -15,6 +15,7 @@ use Rattle.wgsl_template_spec.specs.declared.token.TemplateToken.TheVariants.{Pl
 use Rattle.wgsl_template_spec.specs.declared.token.TemplateToken.{TemplateToken}
 use Rattle.wgsl_template_spec.specs.declared.token.SpannedTemplateToken.{SpannedTemplateToken}
 use Rattle.wgsl_template_spec.specs.Tokens.{is_word, behind}
+use Rattle.wgsl_templates.specs.declared.entry.Entry.{Entry}
 use Rattle.wgsl_templates.specs.Steps.{StandsHere, state}
 use Rattle.wgsl_templates.proofs.Here.{here_trivia, here_word, is_first}
 use Rattle.wgsl_templates.proofs.Reading.{IsLexedTo, lex_trivia, lex_token}
@@ -25,20 +26,20 @@ size_first cs c following is = ap size is ∙ length-append (encode_utf8 c) (enc
 size_one : (c : ℕ) → size (c ∷ []) ≡ len_utf8 c
 size_one c = ap length (append-nil (encode_utf8 c)) ∙ length-encode c
 
-pub lex_blank : (characters : List ℕ) (table : List Bool) (rest : List ℕ) (at : ℕ) (after_word : Bool) (opened : List Bracket) (done : List SpannedTemplateToken) → IsLexedTo characters table rest at after_word opened done
+pub lex_blank : (characters : List ℕ) (table : List Entry) (rest : List ℕ) (at : ℕ) (after_word : Bool) (opened : List Bracket) (done : List SpannedTemplateToken) → IsLexedTo characters table rest at after_word opened done
     → (c : ℕ) (following : List ℕ) → rest ≡ c ∷ following → is_blank c ≡ true → (bytes : ℕ) → bytes ≡ len_utf8 c → IsLexedTo characters table following (at + bytes) after_word opened done
 lex_blank characters table rest at after_word opened done still c following is blank bytes sized =
     lex_trivia characters table rest at after_word opened done still c following is 1 (c ∷ []) following (sym (ap (take 1) is)) (sym (ap (drop 1) is)) bytes (sized ∙ sym (size_one c)) opened refl None
     (λ k. here_trivia (state k after_word opened) c following 1 None (blank_first c following blank) refl) refl
 
-pub lex_alone : (characters : List ℕ) (table : List Bool) (rest : List ℕ) (at : ℕ) (after_word : Bool) (opened : List Bracket) (done : List SpannedTemplateToken) → IsLexedTo characters table rest at after_word opened done
+pub lex_alone : (characters : List ℕ) (table : List Entry) (rest : List ℕ) (at : ℕ) (after_word : Bool) (opened : List Bracket) (done : List SpannedTemplateToken) → IsLexedTo characters table rest at after_word opened done
     → (c : ℕ) (following : List ℕ) → rest ≡ c ∷ following → c < 128 → (t : TemplateToken) (brackets : List Bracket) → brackets ≡ opened → ((n : ℕ) → StandsHere (state n after_word brackets) (c ∷ following) 1 (Some t))
     → (word : Bool) (brackets' : List Bracket) (more : List SpannedTemplateToken) → more ≡ done ++ record { token = t; span = record { start = at; end = at + 1 } } ∷ [] → word ≡ is_word t → reverse brackets' ≡ behind (reverse opened) t
     → IsLexedTo characters table following (at + 1) word brackets' more
 lex_alone characters table rest at after_word opened done still c following is low t brackets same stands word brackets' more pushed w k =
     lex_token characters table rest at after_word opened done still c following is 1 (c ∷ []) following (sym (ap (take 1) is)) (sym (ap (drop 1) is)) 1 (sym (size_one c ∙ len_utf8_ascii c low)) brackets same (Some t) stands t word brackets' more refl pushed w k
 
-pub lex_word : (characters : List ℕ) (table : List Bool) (rest : List ℕ) (at : ℕ) (after_word : Bool) (opened : List Bracket) (done : List SpannedTemplateToken) → IsLexedTo characters table rest at after_word opened done
+pub lex_word : (characters : List ℕ) (table : List Entry) (rest : List ℕ) (at : ℕ) (after_word : Bool) (opened : List Bracket) (done : List SpannedTemplateToken) → IsLexedTo characters table rest at after_word opened done
     → (c : ℕ) (following : List ℕ) → rest ≡ c ∷ following → (found : ShortWord) → IsShortWord c following found → (back : List ℕ) → back ≡ drop found.length rest → (word : Bool) (brackets : List Bracket) (more : List SpannedTemplateToken)
     → more ≡ done ++ record { token = Plain found.token; span = record { start = at; end = at + found.length } } ∷ [] → word ≡ is_word (Plain found.token) → reverse brackets ≡ behind (reverse opened) (Plain found.token)
     → IsLexedTo characters table back (at + found.length) word brackets more

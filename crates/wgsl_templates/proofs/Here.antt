@@ -1,5 +1,5 @@
 -- What stands at a place.
-use Rattle.std.specs.Prelude.{Option, Some, None, slice_index_or}
+use Rattle.std.specs.Prelude.{Option, Some, None, is_some, slice_index_or}
 use Rattle.std.proofs.Common.{◌≡◌, ℕ, zero, suc, ◌+◌, ◌<◌, ◌≤◌, Bool, true, false, ◌&&◌, ◌==◌, List, [], ◌∷◌, length, take, drop, refl, sym, ◌∙◌, ap, subst, arith}
 use Rattle.wgsl_token.specs.declared.token.Token.{Token}
 use Rattle.wgsl_items.proofs.Bools.{and_both, false_if}
@@ -10,7 +10,10 @@ use Rattle.wgsl_template_spec.specs.declared.token.TemplateToken.{TemplateToken}
 use Rattle.wgsl_template_spec.specs.declared.token.TemplateToken.TheVariants.{Plain, TemplateArgsEnd}
 use Rattle.wgsl_template_spec.specs.Tokens.{is_less, is_in_list, less_or_start, State, IsFirst, closing, asked, plain, Opens}
 use Rattle.wgsl_template_spec.proofs.Once.{first_takes}
-use Rattle.wgsl_templates.specs.Steps.{StandsHere, trivia_here, token_here, IsTable}
+use Rattle.wgsl_templates.specs.declared.entry.Entry.{Entry}
+use Rattle.wgsl_templates.specs.Levels.{none, IsTable}
+use Rattle.wgsl_templates.specs.Steps.{StandsHere, trivia_here, token_here}
+use Rattle.wgsl_templates.proofs.Levels.{opens_where}
 
 pub is_first : (c : ℕ) (cs : List ℕ) (n : ℕ) (o : Option Token) → StandsFirst (c ∷ cs) n o → IsFirst (c ∷ cs) n o
 is_first c cs n o h = record { some = λ e. cc; stands = h }
@@ -44,14 +47,14 @@ module _ (s : State) (c : ℕ) (cs : List ℕ) (n : ℕ) (t : Token) (within : n
   pub here_plain : (is_in_list s.opened && (c == 62)) ≡ false → (s.after_word && ((c == 60) && (n == 1))) ≡ false → StandsHere s (c ∷ cs) n (Some (Plain t))
   here_plain e f = token_here (plain n t first e (asks ∙ f))
 
-  pub here_asked : (table : List Bool) (u : TemplateToken) (opens : Bool) → (s.after_word && ((c == 60) && (n == 1))) ≡ true → IsTable (c ∷ cs) table → length cs < length table → opens ≡ slice_index_or table (length cs) false
+  pub here_asked : (table : List Entry) (u : TemplateToken) (opens : Bool) → (s.after_word && ((c == 60) && (n == 1))) ≡ true → IsTable (c ∷ cs) table → length cs < length table → opens ≡ is_some (slice_index_or table (length cs) none).end
       → u ≡ less_or_start opens t → StandsHere s (c ∷ cs) n (Some u)
   here_asked table u opens e has covered entry made =
       let signs = and_both (c == 60) (n == 1) (and_both s.after_word ((c == 60) && (n == 1)) e).1 in
       let less : c ≡ 60 = is_number c 60 signs.0 in
       let single : n ≡ 1 = is_number n 1 signs.1 in
       let P : Bool → Type 0 = Opens cs in
-      let found : Opens cs opens = subst P (sym entry) (has [] cs (ap (λ x. x ∷ cs) less) covered) in
+      let found : Opens cs opens = subst P (sym entry) (opens_where cs _ ((has [] 60 cs (ap (λ x. x ∷ cs) less) covered).list refl)) in
       let Q : TemplateToken → Type 0 = λ x. StandsHere s (c ∷ cs) n (Some x) in
       let R : ℕ → Type 0 = λ k. Opens (drop k (c ∷ cs)) opens in
       subst Q (sym made) (token_here (asked n t first (asks ∙ e) (subst R (sym single) found)))

@@ -2,4 +2,8 @@ pub mod Ascii
 pub mod Blanks
 pub mod Entries
 pub mod Here
+pub mod Levels
+pub mod Lines
 pub mod Reading
+pub mod Signs
+pub mod Within

@@ -5,15 +5,14 @@ use Rattle.std.specs.Str.{chars, IsUtf8}
 use Rattle.std.proofs.lemmas.Str.{encodes-chars, scalars-chars}
 use Rattle.wgsl_lex.specs.Tokens.{size}
 use Rattle.wgsl_lex.proofs.Sizes.{size_parts}
-use Rattle.wgsl_template_spec.specs.declared.kind.Kind.{Kind}
 use Rattle.wgsl_template_spec.specs.declared.token.Bracket.{Bracket}
-use Rattle.wgsl_template_spec.specs.declared.token.Bracket.TheVariants as b
 use Rattle.wgsl_template_spec.specs.declared.token.TemplateToken.{TemplateToken}
 use Rattle.wgsl_template_spec.specs.declared.token.SpannedTemplateToken.{SpannedTemplateToken}
-use Rattle.wgsl_template_spec.specs.Kinds.{kind, kinds}
-use Rattle.wgsl_template_spec.specs.Tokens.{is_word, behind, State, start, in_list, past, after, spanned, Reads, nothing, behind_trivia, a_token, Stands, closing, asked, plain, Lexes, IsLexed}
-use Rattle.wgsl_template_spec.proofs.Once.{first_takes, reads_then, kinds_append}
-use Rattle.wgsl_templates.specs.Steps.{StandsHere, trivia_here, token_here, state, IsTable, AreRead}
+use Rattle.wgsl_template_spec.specs.Tokens.{is_word, behind, State, start, past, after, spanned, Reads, nothing, behind_trivia, a_token, Stands, closing, asked, plain, Lexes, IsLexed}
+use Rattle.wgsl_template_spec.proofs.Once.{first_takes, reads_then}
+use Rattle.wgsl_templates.specs.declared.entry.Entry.{Entry}
+use Rattle.wgsl_templates.specs.Levels.{IsTable}
+use Rattle.wgsl_templates.specs.Steps.{StandsHere, trivia_here, token_here, state}
 use Rattle.wgsl_templates.proofs.Entries.{table_back, parts}
 
 -- something stands first
@@ -32,87 +31,27 @@ step_trivia s text back n b (trivia_here h) = let P : List ℕ → Type 0 = λ x
 step_token : (s : State) (text back : List ℕ) (n : ℕ) (t : TemplateToken) → back ≡ drop n text → StandsHere s text n (Some t) → Reads s text (spanned s (take n text) t ∷ []) (after s (take n text) t) back
 step_token s text back n _ b (token_here {t = t} h) = let P : List ℕ → Type 0 = λ x. Reads (after s (take n text) t) (drop n text) [] (after s (take n text) t) x in a_token n t h (subst P (sym b) nothing)
 
--- what was read of a text as it stands in a list
-pub record IsReadTo (text : List ℕ) (table : List Bool) (rest : List ℕ) (after_word : Bool) (opened : List Bracket) (done : List Kind) : Type 0 where
-  pub at : ℕ
-  pub tokens : List SpannedTemplateToken
-  pub reads : Reads in_list text tokens (state at after_word opened) rest
-  pub are : kinds tokens ≡ done
-  pub has : IsTable rest table
-  pub covered : length rest ≤ length table
-
-pub read_start : (text : List ℕ) (table : List Bool) (before items : List Bracket) (done : List Kind) → IsTable text table → length text ≤ length table → before ≡ [] → items ≡ before ++ b.TemplateList ∷ [] → done ≡ []
-    → IsReadTo text table text false items done
-read_start text table before items done has covered none pushed empty =
-    let P : List Bracket → Type 0 = λ x. Reads in_list text [] (state 0 false x) text in
-    let is : items ≡ b.TemplateList ∷ [] = pushed ∙ ap (λ x. x ++ b.TemplateList ∷ []) none in
-    record { at = 0; tokens = []; reads = subst P (sym is) nothing; are = sym empty; has = has; covered = covered }
-
 -- what is read of the characters of a whole text
-pub record IsLexedTo (characters : List ℕ) (table : List Bool) (rest : List ℕ) (at : ℕ) (after_word : Bool) (opened : List Bracket) (done : List SpannedTemplateToken) : Type 0 where
+pub record IsLexedTo (characters : List ℕ) (table : List Entry) (rest : List ℕ) (at : ℕ) (after_word : Bool) (opened : List Bracket) (done : List SpannedTemplateToken) : Type 0 where
   pub ends : at + size rest ≡ size characters
   pub reads : Reads start characters done (state at after_word opened) rest
   pub has : IsTable rest table
   pub covered : length rest ≤ length table
 
-pub lex_start : (characters : List ℕ) (table : List Bool) (opened : List Bracket) (done : List SpannedTemplateToken) → IsTable characters table → length characters ≤ length table → opened ≡ [] → done ≡ []
+pub lex_start : (characters : List ℕ) (table : List Entry) (opened : List Bracket) (done : List SpannedTemplateToken) → IsTable characters table → length characters ≤ length table → opened ≡ [] → done ≡ []
     → IsLexedTo characters table characters 0 false opened done
 lex_start characters table opened done has covered none empty =
     let P : List Bracket × List SpannedTemplateToken → Type 0 = λ x. Reads start characters x.1 (state 0 false x.0) characters in
     record { ends = omega arith; reads = subst P (λ i. (sym none i, sym empty i)) nothing; has = has; covered = covered }
 
-module _ (rest : List ℕ) (table : List Bool) (has : IsTable rest table) (covered : length rest ≤ length table) (n : ℕ) (front back : List ℕ) (f : front ≡ take n rest) (b' : back ≡ drop n rest) where
+module _ (rest : List ℕ) (table : List Entry) (has : IsTable rest table) (covered : length rest ≤ length table) (n : ℕ) (front back : List ℕ) (f : front ≡ take n rest) (b' : back ≡ drop n rest) where
   has_back : IsTable back table
   has_back = table_back rest front back table (parts rest front back n f b') has
 
   covered_back : length back ≤ length table
   covered_back = grind (arith, ap length b', length-drop n rest, covered)
 
-module _ (text : List ℕ) (table : List Bool) (rest : List ℕ) (after_word : Bool) (opened : List Bracket) (done : List Kind) (still : IsReadTo text table rest after_word opened done)
-    (c : ℕ) (following : List ℕ) (is : rest ≡ c ∷ following) (n : ℕ) (front back : List ℕ) (f : front ≡ take n rest) (b' : back ≡ drop n rest)
-    (brackets : List Bracket) (same : brackets ≡ opened) (o : Option TemplateToken) (stands : (at : ℕ) → StandsHere (state at after_word brackets) (c ∷ following) n o) where
-  here : (at : ℕ) (p : Option TemplateToken) → o ≡ p → StandsHere (state at after_word opened) rest n p
-  here at p e = let P : List Bracket × List ℕ × Option TemplateToken → Type 0 = λ x. StandsHere (state at after_word x.0) x.1 n x.2 in subst P (λ i. (same i, sym is i, e i)) (stands at)
-
-  pub read_trivia : o ≡ None → IsReadTo text table back after_word opened done
-  read_trivia none =
-      let next = step_trivia (state still.at after_word opened) rest back n b' (here still.at None none) in
-      let P : List SpannedTemplateToken → Type 0 = λ x. Reads in_list text x (state (still.at + size (take n rest)) after_word opened) back in
-      record {
-        at = still.at + size (take n rest);
-        tokens = still.tokens;
-        reads = subst P (append-nil still.tokens) (reads_then in_list text still.tokens _ rest still.reads [] _ back next);
-        are = still.are;
-        has = has_back rest table still.has still.covered n front back f b';
-        covered = covered_back rest table still.has still.covered n front back f b';
-      }
-
-  pub read_token : (t : TemplateToken) (word : Bool) (brackets' : List Bracket) (more : List Kind) → o ≡ Some t → more ≡ done ++ kind t ∷ [] → word ≡ is_word t → reverse brackets' ≡ behind (reverse opened) t
-      → IsReadTo text table back word brackets' more
-  read_token t word brackets' more some pushed w k =
-      let s = state still.at after_word opened in
-      let next = step_token s rest back n t b' (here still.at (Some t) some) in
-      let P : State → Type 0 = λ x. Reads in_list text (still.tokens ++ (spanned s (take n rest) t ∷ [])) x back in
-      record {
-        at = still.at + size (take n rest);
-        tokens = still.tokens ++ (spanned s (take n rest) t ∷ []);
-        reads = subst P (λ i. record { at = still.at + size (take n rest); after_word = sym w i; opened = sym k i }) (reads_then in_list text still.tokens _ rest still.reads _ _ back next);
-        are = kinds_append still.tokens (spanned s (take n rest) t ∷ []) ∙ ap (λ x. x ++ kind t ∷ []) still.are ∙ sym pushed;
-        has = has_back rest table still.has still.covered n front back f b';
-        covered = covered_back rest table still.has still.covered n front back f b';
-      }
-
-pub read_front : (text : List ℕ) (table : List Bool) (rest : List ℕ) (after_word : Bool) (opened : List Bracket) (done : List Kind) (whole ended : Bool) → IsReadTo text table rest after_word opened done → whole ≡ false → ended ≡ false
-    → AreRead text whole done ended
-read_front text table rest after_word opened done whole ended still part early =
-    record { tokens = still.tokens; last = state still.at after_word opened; left = rest; reads = still.reads; are = still.are; at_end = λ e. cc; all = λ e. cc }
-
-pub read_all : (text : List ℕ) (table : List Bool) (rest : List ℕ) (after_word : Bool) (opened : List Bracket) (done : List Kind) (whole : Bool) → IsReadTo text table rest after_word opened done → length rest ≡ 0 → AreRead text whole done true
-read_all text table [] after_word opened done whole still none =
-    record { tokens = still.tokens; last = state still.at after_word opened; left = []; reads = still.reads; are = still.are; at_end = λ e. refl; all = λ e. refl }
-read_all text table (c ∷ rest) after_word opened done whole still none = absurd (omega arith)
-
-module _ (characters : List ℕ) (table : List Bool) (rest : List ℕ) (at : ℕ) (after_word : Bool) (opened : List Bracket) (done : List SpannedTemplateToken) (still : IsLexedTo characters table rest at after_word opened done)
+module _ (characters : List ℕ) (table : List Entry) (rest : List ℕ) (at : ℕ) (after_word : Bool) (opened : List Bracket) (done : List SpannedTemplateToken) (still : IsLexedTo characters table rest at after_word opened done)
     (c : ℕ) (following : List ℕ) (is : rest ≡ c ∷ following) (n : ℕ) (front back : List ℕ) (f : front ≡ take n rest) (b' : back ≡ drop n rest) (bytes : ℕ) (sized : bytes ≡ size front)
     (brackets : List Bracket) (same : brackets ≡ opened) (o : Option TemplateToken) (stands : (at : ℕ) → StandsHere (state at after_word brackets) (c ∷ following) n o) where
   stood : (p : Option TemplateToken) → o ≡ p → StandsHere (state at after_word opened) rest n p
@@ -149,7 +88,7 @@ module _ (characters : List ℕ) (table : List Bool) (rest : List ℕ) (at : ℕ
         covered = covered_back rest table still.has still.covered n front back f b';
       }
 
-pub lex_all : (characters : List ℕ) (table : List Bool) (rest : List ℕ) (at : ℕ) (after_word : Bool) (opened : List Bracket) (done : List SpannedTemplateToken) → IsLexedTo characters table rest at after_word opened done → length rest ≡ 0 → Lexes start characters done
+pub lex_all : (characters : List ℕ) (table : List Entry) (rest : List ℕ) (at : ℕ) (after_word : Bool) (opened : List Bracket) (done : List SpannedTemplateToken) → IsLexedTo characters table rest at after_word opened done → length rest ≡ 0 → Lexes start characters done
 lex_all characters table [] at after_word opened done still none = (state at after_word opened, still.reads)
 lex_all characters table (c ∷ rest) at after_word opened done still none = absurd (omega arith)
 

@@ -4,12 +4,12 @@ ghost use Rattle.std.specs.Prelude.{◌≡◌, ◌<◌, ◌≤◌, ◌^◌, ◌+
 ghost use Rattle.std.specs.Str.{chars};
 ghost use Rattle.wgsl_lex.specs.Tokens.{size};
 ghost use Rattle.wgsl_template_spec.specs.Tokens.{start, is_word, behind, Lexes, IsLexed};
-ghost use Rattle.wgsl_templates.specs.Steps.{IsTable};
+ghost use Rattle.wgsl_templates.specs.Levels.{IsTable};
 
 use crate::characters::characters_of;
+use crate::entry::Entry;
 use crate::list::TokenList;
 use crate::piece::{Pieces, TemplatePiece, next, told_symbol};
-use crate::recognize::Recognizer;
 use crate::table::table_of;
 use std::alloc::{AllocError, Global};
 use wgsl_lex::{is_blankspace, short_word, symbol_alone};
@@ -19,27 +19,42 @@ use wgsl_token::{Fixed, Token};
 
 /// The tokens of a text (WGSL, "Textual Structure" and "Template Lists"), each with its place in bytes, put into a list that is
 /// empty. Only memory can fail.
-pub fn lex<P: Pieces, R: Recognizer, L: TokenList>(
+pub fn lex<P: Pieces, L: TokenList>(
     alloc: Global,
     pieces: &P,
-    recognizer: &R,
     text: &str,
     tokens: L,
 ) -> Result<L, AllocError>
     requires { L.listed tokens ≡ [] }
     ensures { IfOk result (λ lexed. IsLexed text.now (L.listed lexed)) }
 {
+    let (lexed, _) = lex_counted(alloc, pieces, text, tokens)?;
+    Ok(lexed)
+}
+
+/// The same, and how many entries the table has by which the template lists were told: at most one for each byte of the text.
+pub fn lex_counted<P: Pieces, L: TokenList>(
+    alloc: Global,
+    pieces: &P,
+    text: &str,
+    tokens: L,
+) -> Result<(L, usize), AllocError>
+    requires { L.listed tokens ≡ [] }
+    ensures tokens { IfOk result (λ lexed. IsLexed text.now (L.listed lexed.0)) }
+    ensures entries { IfOk result (λ lexed. lexed.1 ≤ length text.now) }
+{
     let characters = characters_of(alloc, text)?;
-    let table = table_of(alloc, pieces, recognizer, characters.as_slice())?;
+    let table = table_of(alloc, pieces, characters.as_slice())?;
     let one_byte_each = characters.len() == text.len();
-    lex_characters(
+    let lexed = lex_characters(
         alloc,
         pieces,
         characters.as_slice(),
         one_byte_each,
         table.as_slice(),
         tokens,
-    )
+    )?;
+    Ok((lexed, table.len()))
 }
 
 /// The tokens of some characters, which may have one byte each, by the table of their template lists.
@@ -48,7 +63,7 @@ fn lex_characters<P: Pieces, L: TokenList>(
     pieces: &P,
     characters: &[char],
     one_byte_each: bool,
-    table: &[bool],
+    table: &[Entry],
     tokens: L,
 ) -> Result<L, AllocError>
     requires empty { L.listed tokens ≡ [] }

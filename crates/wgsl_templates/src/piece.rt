@@ -3,8 +3,10 @@
 ghost use Rattle.std.specs.Prelude.{◌≡◌, ◌≤◌, ◌<◌, ◌+◌, ◌∷◌, ◌==◌, ◌&&◌, ℕ, length, reverse, IfOk, IfSome, Some, None};
 ghost use Rattle.wgsl_lex.specs.Pieces.{StandsFirst, IsShortWord};
 ghost use Rattle.wgsl_template_spec.specs.Tokens as tokens;
-ghost use Rattle.wgsl_templates.specs.Steps.{StandsHere, state, IsTable};
+ghost use Rattle.wgsl_templates.specs.Steps.{StandsHere, state};
+ghost use Rattle.wgsl_templates.specs.Levels.{IsTable};
 
+use crate::entry::Entry;
 use std::alloc::{AllocError, Global};
 use wgsl_lex::{
     Piece, ShortWord, is_blankspace, short_float, short_number, short_word, symbol_alone,
@@ -63,7 +65,7 @@ pub(crate) fn next<P: Pieces>(
     behind: &[char],
     after_word: bool,
     opened: &[Bracket],
-    table: &[bool],
+    table: &[Entry],
 ) -> Result<TemplatePiece, AllocError>
     requires whole { characters.now ≡ first ∷ behind.now }
     requires table { IsTable (first ∷ behind.now) table.now }
@@ -97,7 +99,7 @@ pub(crate) fn next_at_once<P: Pieces>(
     behind: &[char],
     after_word: bool,
     opened: &[Bracket],
-    table: &[bool],
+    table: &[Entry],
 ) -> Result<TemplatePiece, AllocError>
     requires whole { characters.now ≡ first ∷ behind.now }
     requires table { IsTable (first ∷ behind.now) table.now }
@@ -136,7 +138,7 @@ fn told(
     token: Token,
     after_word: bool,
     opened: &[Bracket],
-    table: &[bool],
+    table: &[Entry],
 ) -> TemplatePiece
     requires table { IsTable (first ∷ behind.now) table.now }
     requires covered { length behind.now < length table.now }
@@ -154,7 +156,7 @@ fn told(
     if is_asked(first, count, after_word) {
         return TemplatePiece {
             length: count,
-            token: Some(less_or_start(table[behind.len()], token)),
+            token: Some(less_or_start(table[behind.len()].end.is_some(), token)),
         };
     }
     TemplatePiece {
@@ -171,7 +173,7 @@ pub(crate) fn told_symbol(
     fixed: Fixed,
     after_word: bool,
     opened: &[Bracket],
-    table: &[bool],
+    table: &[Entry],
 ) -> TemplateToken
     requires table { IsTable (first ∷ behind.now) table.now }
     requires covered { length behind.now < length table.now }
@@ -182,7 +184,7 @@ pub(crate) fn told_symbol(
         return TemplateToken::TemplateArgsEnd;
     }
     if is_asked(first, 1, after_word) {
-        return less_or_start(table[behind.len()], Token::Fixed(fixed));
+        return less_or_start(table[behind.len()].end.is_some(), Token::Fixed(fixed));
     }
     TemplateToken::Plain(Token::Fixed(fixed))
 }

@@ -1,185 +1,122 @@
 //! The table of a text's template lists.
 
-ghost use Rattle.std.specs.Prelude.{◌≡◌, ◌≤◌, length, reverse, IfOk, ◌∷◌, ◌++◌, []};
-ghost use Rattle.wgsl_template_spec.specs.Kinds.{kind};
-ghost use Rattle.wgsl_template_spec.specs.Tokens.{is_word, behind, Opens};
-ghost use Rattle.wgsl_templates.specs.Steps.{IsTable, AreRead};
+ghost use Rattle.std.specs.Prelude.{◌≡◌, ◌≤◌, length, IfOk};
+ghost use Rattle.wgsl_template_spec.specs.Tokens.{Opens};
+ghost use Rattle.wgsl_templates.specs.Levels.{IsAhead, IsEntry, IsTable};
 
-use crate::lexer::{follow, is_word};
-use crate::piece::{Pieces, TemplatePiece, next_at_once};
-use crate::recognize::{Answer, Recognizer};
+use crate::ahead::{Ahead, begins_with_slash};
+use crate::entry::Entry;
+use crate::level::end_of;
+use crate::piece::Pieces;
 use std::alloc::{AllocError, Global};
-use wgsl_template_spec::{Bracket, Kind, TemplateToken};
+use wgsl_template_recognizer::{Enclosing, Place};
 
-/// For each place of a text, from its end: whether a `<` right before it opens a template list, if a word stands before that.
-pub(crate) fn table_of<P: Pieces, R: Recognizer>(
+/// For each place of a text, from its end: where what a character right before it opens ends. It is made from the right, each entry of
+/// those behind it.
+#[tactic(auto, using(crate::proofs::Lines::ahead_end))]
+pub(crate) fn table_of<P: Pieces>(
     alloc: Global,
     pieces: &P,
-    recognizer: &R,
     text: &[char],
-) -> Result<Vec<bool>, AllocError>
+) -> Result<Vec<Entry>, AllocError>
     ensures table { IfOk result (λ table. IsTable text.now table.items) }
     ensures covered { IfOk result (λ table. length table.items ≡ length text.now) }
 {
-    let mut table = vec![in alloc; false; text.len()]?;
-    let mut seen = Seen::new(alloc);
+    let mut table = vec![in alloc; Entry::none(); text.len()]?;
+    let mut ahead = Ahead::at_end();
     let mut place = text.len();
     while place > 0 {
         place -= 1;
-        if text[place] != '<' {
-            continue;
-        }
         let (_, behind) = text.split_at(place + 1);
         let count = behind.len();
-        let before = &table[..count];
-        table[count] = opens(alloc, pieces, recognizer, behind, before, &mut seen)?;
+        let made = &table[..count];
+        let character = text[place];
+        table[count] = entry_of(alloc, pieces, character, behind, made, ahead)?;
+        ahead = ahead.one_before(character, behind);
     }
     Ok(table)
 }
 
 /// Whether a `<` before these characters opens a template list, if a word stands before it. Only memory can fail.
-pub fn opens_list<P: Pieces, R: Recognizer>(
-    alloc: Global,
-    pieces: &P,
-    recognizer: &R,
-    behind: &[char],
-) -> Result<bool, AllocError>
+pub fn opens_list<P: Pieces>(alloc: Global, pieces: &P, behind: &[char]) -> Result<bool, AllocError>
     ensures { IfOk result (Opens behind.now) }
 {
-    let table = table_of(alloc, pieces, recognizer, behind)?;
-    let mut seen = Seen::new(alloc);
-    let list = table.as_slice();
-    opens(alloc, pieces, recognizer, behind, list, &mut seen)
+    let table = table_of(alloc, pieces, behind)?;
+    let list = Enclosing::List;
+    let end = end_of(
+        alloc,
+        pieces,
+        behind,
+        table.as_slice(),
+        list,
+        Place::Operand,
+    )?;
+    Ok(end.is_some())
 }
 
-/// Whether a `<` before these characters opens a template list: asked of some tokens, and of twice as many until they say it.
-pub(crate) fn opens<P: Pieces, R: Recognizer>(
+/// The entry of a character before these, with the table of those. Only memory can fail.
+fn entry_of<P: Pieces>(
     alloc: Global,
     pieces: &P,
-    recognizer: &R,
+    character: char,
     behind: &[char],
-    table: &[bool],
-    seen: &mut Seen,
-) -> Result<bool, AllocError>
+    table: &[Entry],
+    ahead: Ahead,
+) -> Result<Entry, AllocError>
     requires table { IsTable behind.now table.now }
     requires covered { length behind.now ≤ length table.now }
-    ensures { IfOk result (Opens behind.now) }
+    requires ahead { IsAhead behind.now ahead }
+    ensures { IfOk result (IsEntry character behind.now) }
 {
-    let mut limit: usize = 2;
-    for _ in 0..32 {
-        let ended = inside(alloc, pieces, behind, table, false, limit, seen)?;
-        match recognizer.recognize(seen.kinds.as_slice())? {
-            Answer::List => return Ok(true),
-            Answer::Never => return Ok(false),
-            Answer::Unfinished => {}
-        }
-        if ended {
-            break;
-        }
-        limit = limit.saturating_mul(2);
+    if character == '<' {
+        let place = Place::Operand;
+        let end = end_of(alloc, pieces, behind, table, Enclosing::List, place)?;
+        return Ok(Entry::ends(end));
     }
-    opens_whole(alloc, pieces, recognizer, behind, table, seen)
+    if character == ',' {
+        let place = Place::OperandOrEnd;
+        let end = end_of(alloc, pieces, behind, table, Enclosing::List, place)?;
+        return Ok(Entry::ends(end));
+    }
+    if character == '[' {
+        let place = Place::Operand;
+        let end = end_of(alloc, pieces, behind, table, Enclosing::Index, place)?;
+        return Ok(Entry::ends(end));
+    }
+    if character == '(' {
+        return parentheses(alloc, pieces, behind, table);
+    }
+    if character == '/' {
+        return Ok(comment(behind, ahead));
+    }
+    Ok(Entry::none())
 }
 
-/// The same, from all tokens behind the `<`.
-fn opens_whole<P: Pieces, R: Recognizer>(
+/// The entry of a `(` before these characters. Only memory can fail.
+fn parentheses<P: Pieces>(
     alloc: Global,
     pieces: &P,
-    recognizer: &R,
     behind: &[char],
-    table: &[bool],
-    seen: &mut Seen,
-) -> Result<bool, AllocError>
+    table: &[Entry],
+) -> Result<Entry, AllocError>
     requires table { IsTable behind.now table.now }
     requires covered { length behind.now ≤ length table.now }
-    ensures { IfOk result (Opens behind.now) }
+    ensures { IfOk result (IsEntry 40 behind.now) }
 {
-    inside(alloc, pieces, behind, table, true, 0, seen)?;
-    match recognizer.recognize(seen.kinds.as_slice())? {
-        Answer::List => Ok(true),
-        Answer::Never => Ok(false),
-        Answer::Unfinished => Ok(false),
-    }
+    let (one, any) = (Enclosing::Parentheses, Enclosing::Arguments);
+    Ok(Entry {
+        end: end_of(alloc, pieces, behind, table, one, Place::Operand)?,
+        arguments_end: end_of(alloc, pieces, behind, table, any, Place::OperandOrEnd)?,
+    })
 }
 
-/// What was seen of the tokens behind a `<`. Its lists are used again at each `<` of a text.
-#[derive(Drop)]
-pub(crate) struct Seen {
-    /// The brackets that are open, the last one at the end.
-    opened: Vec<Bracket>,
-    /// What the grammar sees of the tokens.
-    kinds: Vec<Kind>,
-}
-
-impl Seen {
-    /// Nothing yet. It needs no memory.
-    fn new(alloc: Global) -> Seen {
-        Seen {
-            opened: Vec::new(alloc),
-            kinds: Vec::new(alloc),
-        }
-    }
-}
-
-/// Sees the tokens of a text as they stand in a template list, by the table of their own lists: all of them, or about so many. Whether
-/// the text ends behind them.
-fn inside<P: Pieces>(
-    alloc: Global,
-    pieces: &P,
-    text: &[char],
-    table: &[bool],
-    whole: bool,
-    limit: usize,
-    seen: &mut Seen,
-) -> Result<bool, AllocError>
-    requires table { IsTable text.now table.now }
-    requires covered { length text.now ≤ length table.now }
-    ensures { IfOk result (λ ended. AreRead text.now whole seen.new.kinds.items ended) }
+/// The entry of a `/` before these characters.
+fn comment(behind: &[char], ahead: Ahead) -> Entry
+    requires { IsAhead behind.now ahead }
+    ensures { IsEntry 47 behind.now result }
 {
-    seen.opened.clear();
-    seen.opened.push(Bracket::TemplateList)?;
-    seen.kinds.clear();
-    let mut rest = text;
-    let mut after_word = false;
-    while let Some((first, behind)) = rest.split_first() {
-        if !whole && is_enough(seen.kinds.len(), limit) {
-            return Ok(false);
-        }
-        let TemplatePiece { length, token } = next_at_once(
-            alloc,
-            pieces,
-            rest,
-            *first,
-            behind,
-            after_word,
-            seen.opened.as_slice(),
-            table,
-        )?;
-        let (_, back) = rest.split_at(length);
-        if let Some(token) = token {
-            after_word = push_kind(&mut seen.kinds, &mut seen.opened, token)?;
-        }
-        rest = back;
+    if begins_with_slash(behind) {
+        return Entry::ends(Some(ahead.line_skip));
     }
-    Ok(true)
-}
-
-/// Takes a token that was read. Whether a `<` behind it may open a template list.
-#[inline(always)]
-fn push_kind(
-    kinds: &mut Vec<Kind>,
-    opened: &mut Vec<Bracket>,
-    token: TemplateToken,
-) -> Result<bool, AllocError>
-    ensures word { IfOk result (λ word. word ≡ is_word token) }
-    ensures seen { IfOk result (λ _. kinds.new.items ≡ kinds.old.items ++ kind token ∷ []) }
-    ensures brackets { IfOk result (λ _. reverse opened.new.items ≡ behind (reverse opened.old.items) token) }
-{
-    kinds.push(token.kind())?;
-    follow(opened, &token)?;
-    Ok(is_word(&token))
-}
-
-fn is_enough(count: usize, limit: usize) -> bool {
-    count >= limit
+    Entry::none()
 }

@@ -1,6 +1,7 @@
 use Rattle.std.proofs.Common.{◌≡◌, reverse, length}
 use Rattle.wgsl_template_recognizer.specs.Actions.{reading}
-use Rattle.wgsl_template_recognizer.proofs.Run.{verdict, beginning}
+use Rattle.wgsl_template_recognizer.specs.Runs.{verdict}
+use Rattle.wgsl_template_recognizer.proofs.Run.{beginning}
 use Rattle.wgsl_template_recognizer.proofs.recognizer.ListRecognizerRecognizer.recognize.Given as goal
 
 abbrev pub invariant-loop-kind : goal.invariant-loop-kind

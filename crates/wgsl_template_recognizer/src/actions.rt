@@ -7,7 +7,7 @@ use crate::place::{Action, Enclosing, Place, Progress, Relation, State};
 use wgsl_template_spec::Kind;
 
 /// At the beginning of an expression.
-pub(crate) fn fresh() -> Progress
+pub fn fresh() -> Progress
     ensures { result ≡ actions.fresh }
 {
     Progress::Unary(Relation {
@@ -17,7 +17,7 @@ pub(crate) fn fresh() -> Progress
 }
 
 /// What a token does, within such a bracket.
-pub(crate) fn action(state: State, enclosing: Enclosing, kind: Kind) -> Action
+pub fn action(state: State, enclosing: Enclosing, kind: Kind) -> Action
     ensures { result ≡ actions.action state enclosing kind }
 {
     let State { place, progress } = state;

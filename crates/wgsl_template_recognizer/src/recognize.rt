@@ -1,7 +1,7 @@
 //! Whether tokens begin with what stands in a template list.
 
 ghost use Rattle.std.specs.Prelude.{IfOk};
-ghost use Rattle.wgsl_templates.specs.Steps.{IsAnswer};
+ghost use Rattle.wgsl_template_recognizer.specs.Answers.{IsAnswer};
 
 use std::alloc::AllocError;
 use wgsl_template_spec::Kind;
