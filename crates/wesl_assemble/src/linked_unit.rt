@@ -2,7 +2,7 @@
 
 ghost use Rattle.std.specs.Prelude.{◌≡◌, [], IfOk};
 
-use crate::moving::{empty_unit, pour, pour_new};
+use crate::moving::{Moved, empty_unit, pour, pour_new};
 use crate::numbering::Numbering;
 use crate::scripts::{Meanings, find_meanings, script_of};
 use std::alloc::{AllocError, Global};
@@ -56,10 +56,18 @@ fn take_all(
     origins: &mut Vec<Spot>,
 ) -> Result<(), AllocError> {
     let mut turned = HeldUnit::new(empty_unit(alloc));
+    let mut moved = Moved::new(alloc);
     for number in order {
         if *number < resolutions.units.len() {
             let unit = resolutions.units[*number].get_mut();
-            take_directives(unit, *number, turned.get_mut(), directives, origins)?;
+            take_directives(
+                unit,
+                *number,
+                turned.get_mut(),
+                directives,
+                &mut moved,
+                origins,
+            )?;
         }
     }
     for number in order {
@@ -177,6 +185,7 @@ fn take_directives(
     number: usize,
     turned: &mut TranslationUnit,
     directives: &mut Items<GlobalDirective>,
+    moved: &mut Moved,
     origins: &mut Vec<Spot>,
 ) -> Result<(), AllocError> {
     let count = unit.global_directives.len();
@@ -186,6 +195,7 @@ fn take_directives(
             &mut turned.global_directives,
             directives,
             &mut unit.global_directives,
+            moved,
         )?;
         if is_new {
             origins.push(Spot {

@@ -7,23 +7,24 @@ use wesl_denote::{Link, Target};
 /// The modules that are asked for and not loaded, by their printed paths.
 pub type Asked = BTreeMap<String, AskedModule>;
 
-/// A module that is asked for, and the names that are sought there, each with the modules that chains to it passed.
+/// A module that is asked for, and the names that are sought there, each with the numbers of the published imports that name it and at which
+/// chains wait.
 #[derive(Drop)]
 pub struct AskedModule {
     pub target: Target,
     pub names: BTreeMap<String, Vec<usize>>,
 }
 
-/// Adds an item that is sought in a module, and the modules that a chain to it passed.
+/// Adds an item that is sought in a module, and the published import that names it, if one does.
 pub(crate) fn ask(
     alloc: Global,
     asked: &mut Asked,
     link: Link<'_>,
-    passed: &[usize],
+    import: Option<usize>,
 ) -> Result<(), AllocError> {
     let text = link.target.printed_path.as_str();
     let mut module = taken(alloc, asked, link.target)?;
-    add_name(alloc, &mut module.names, link.name, passed)?;
+    add_name(alloc, &mut module.names, link.name, import)?;
     asked.insert(String::from_str(alloc, text)?, module)?;
     Ok(())
 }
@@ -42,14 +43,14 @@ fn add_name(
     alloc: Global,
     names: &mut BTreeMap<String, Vec<usize>>,
     name: &str,
-    passed: &[usize],
+    import: Option<usize>,
 ) -> Result<(), AllocError> {
     let mut all = match names.remove(name) {
         Some(all) => all,
         None => Vec::new(alloc),
     };
-    for number in passed {
-        all.push(*number)?;
+    if let Some(import) = import {
+        all.push(import)?;
     }
     names.insert(String::from_str(alloc, name)?, all)?;
     Ok(())

@@ -1,9 +1,10 @@
 //! Which places are reached.
 
 use crate::asked::{Asked, ask};
+use crate::chains::{Chains, Joined};
 use std::alloc::{AllocError, Global};
 use std::mem;
-use wesl_denote::{Denoted, Link, Module, Modules, Spot, Start, Step, Turns, found_at, start_of};
+use wesl_denote::{Denoted, Link, Module, Modules, Spot, Start, Step, found_at, start_of};
 use wesl_mark::Kind;
 
 /// For each module, by number, which of its places are reached.
@@ -22,6 +23,8 @@ pub struct Closing {
     work: Vec<Spot>,
     /// How many of these were followed.
     done: usize,
+    /// The published imports that chains went through.
+    chains: Chains,
     asked: Asked,
     is_missing: bool,
 }
@@ -36,6 +39,7 @@ impl Closing {
             followed: Vec::new(alloc),
             work: Vec::new(alloc),
             done: 0,
+            chains: Chains::new(alloc),
             asked: Asked::new(alloc),
             is_missing: false,
         }
@@ -60,6 +64,7 @@ impl Closing {
             followed: _,
             work: _,
             done: _,
+            chains: _,
             asked: _,
             is_missing: _,
         } = self;
@@ -87,6 +92,7 @@ impl Closing {
         let references = flags(self.alloc, module.sought.len())?;
         self.followed.push(references)?;
         self.passed.push(false)?;
+        self.chains.take_in(number, module.items.len())?;
         for (place, found) in module.places.iter().enumerate() {
             if matches!(found.kind, Kind::Directive) {
                 self.reach(Spot {
@@ -189,7 +195,7 @@ impl Closing {
         reference: u32,
     ) -> Result<(), AllocError> {
         match start_of(modules, number, reference) {
-            Start::Leads(link) => self.seek(modules, link, &[]),
+            Start::Leads(link) => self.seek(modules, link, None),
             Start::Ends(Denoted::Declared(spot)) => {
                 self.pass(modules, spot.module)?;
                 self.reach(spot)
@@ -202,49 +208,60 @@ impl Closing {
         }
     }
 
-    /// Goes along the chain from an item, to which chains led that passed these modules. Where it ends at a declaration, that is reached,
-    /// and all modules of the chain are passed.
+    /// Goes along the chain from what a published import names, or a reference. Where it ends at a declaration, that is reached, and all
+    /// modules of the chain are passed. Where another chain went before, it goes no further.
     fn seek(
         &mut self,
         modules: &Modules,
         first: Link<'_>,
-        before: &[usize],
+        before: Option<usize>,
     ) -> Result<(), AllocError> {
-        let mut passed = Vec::new(self.alloc);
-        for number in before {
-            passed.push(*number)?;
-        }
-        let mut turns = Turns::new(first);
+        let mut before = before;
         let mut link = first;
         for _item in 0..=modules.item_count() {
             match found_at(modules, link) {
-                Step::Declared(spot) => return self.arrive(modules, passed.as_slice(), spot),
-                Step::Unloaded => {
-                    return ask(self.alloc, &mut self.asked, link, passed.as_slice());
-                }
+                Step::Declared(spot) => return self.arrive(modules, before, spot),
+                Step::Unloaded => return ask(self.alloc, &mut self.asked, link, before),
                 Step::Missing | Step::Private => break,
-                Step::Leads(number, next) => {
-                    passed.push(number)?;
-                    link = next;
-                }
-            }
-            if turns.is_back(link) {
-                break;
+                Step::Leads(via, next) => match self.chains.join(before, via)? {
+                    Joined::First(import) => {
+                        before = Some(import);
+                        link = next;
+                    }
+                    Joined::Passed => return self.pass_before(modules, before),
+                    Joined::Waiting => return Ok(()),
+                    Joined::Itself => break,
+                },
             }
         }
         self.is_missing = true;
         Ok(())
     }
 
+    /// Passes the modules of all published imports from which chains lead up to one, that one included.
+    fn pass_before(&mut self, modules: &Modules, last: Option<usize>) -> Result<(), AllocError> {
+        let mut work = Vec::new(self.alloc);
+        if let Some(import) = last {
+            work.push(import)?;
+        }
+        for at in 0..usize::MAX {
+            let Some(import) = work.get(at).copied() else {
+                break;
+            };
+            if let Some(module) = self.chains.pass(import, &mut work)? {
+                self.pass(modules, module)?;
+            }
+        }
+        Ok(())
+    }
+
     fn arrive(
         &mut self,
         modules: &Modules,
-        passed: &[usize],
+        last: Option<usize>,
         spot: Spot,
     ) -> Result<(), AllocError> {
-        for number in passed {
-            self.pass(modules, *number)?;
-        }
+        self.pass_before(modules, last)?;
         self.pass(modules, spot.module)?;
         self.reach(spot)
     }
@@ -252,12 +269,15 @@ impl Closing {
     /// Goes on with what was asked for, once the modules are loaded.
     pub fn seek_asked(&mut self, modules: &Modules, asked: &Asked) -> Result<(), AllocError> {
         for module in asked.values() {
-            for (name, passed) in &module.names {
+            for (name, waiting) in &module.names {
                 let link = Link {
                     target: &module.target,
                     name: name.as_str(),
                 };
-                self.seek(modules, link, passed.as_slice())?;
+                self.seek(modules, link, None)?;
+                for import in waiting {
+                    self.seek(modules, link, Some(*import))?;
+                }
             }
         }
         Ok(())

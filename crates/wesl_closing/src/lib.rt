@@ -2,6 +2,7 @@
 #![tactic(auto)]
 
 mod asked;
+mod chains;
 mod closing;
 mod missing;
 mod starts;
@@ -11,5 +12,5 @@ pub use closing::{Closing, Reached};
 pub use missing::first_missing;
 pub use starts::{all_places, kept_places};
 pub use wesl_denote::{
-    Denoted, ImportError, Module, Modules, Spot, Target, denotation, kept_missing,
+    Denoted, Ends, ImportError, Module, Modules, Spot, Target, denotation, kept_missing,
 };

@@ -2,7 +2,7 @@
 
 use crate::closing::Reached;
 use std::alloc::{AllocError, Global};
-use wesl_denote::{Denoted, ImportError, Module, Modules, denotation};
+use wesl_denote::{Denoted, Ends, ImportError, Module, Modules, denotation};
 use wgsl_items::{CloneIn, Text};
 use wgsl_path::ModulePath;
 
@@ -12,11 +12,12 @@ pub fn first_missing(
     modules: &Modules,
     reached: &Reached,
 ) -> Result<Option<ImportError>, AllocError> {
+    let ends = Ends::new(alloc, modules)?;
     let numbers = modules.in_path_order(alloc)?;
     for number in &numbers {
         let found = match reached.get(*number) {
             None => None,
-            Some(places) => missing_among(modules, *number, places.as_slice()),
+            Some(places) => missing_among(modules, &ends, *number, places.as_slice()),
         };
         if let Some(denoted) = found {
             return told(alloc, denoted);
@@ -26,10 +27,15 @@ pub fn first_missing(
 }
 
 /// The first reference at these places of a module that denotes nothing.
-fn missing_among<'a>(modules: &'a Modules, number: usize, places: &[bool]) -> Option<Denoted<'a>> {
+fn missing_among<'a>(
+    modules: &'a Modules,
+    ends: &Ends,
+    number: usize,
+    places: &[bool],
+) -> Option<Denoted<'a>> {
     let module = modules.get(number)?;
     for (place, is_reached) in places.iter().enumerate() {
-        if *is_reached && let Some(found) = missing_at(modules, module, number, place) {
+        if *is_reached && let Some(found) = missing_at(modules, ends, module, number, place) {
             return Some(found);
         }
     }
@@ -38,12 +44,13 @@ fn missing_among<'a>(modules: &'a Modules, number: usize, places: &[bool]) -> Op
 
 fn missing_at<'a>(
     modules: &'a Modules,
+    ends: &Ends,
     module: &Module,
     number: usize,
     place: usize,
 ) -> Option<Denoted<'a>> {
     for reference in module.uses.get(place)? {
-        let found = denotation(modules, number, *reference);
+        let found = denotation(modules, ends, number, *reference);
         if matches!(found, Denoted::Missing(..) | Denoted::Private(..)) {
             return Some(found);
         }

@@ -1,6 +1,6 @@
 //! What a name denotes: a declaration of its own module, or the end of a chain of published imports.
 
-use crate::turns::Turns;
+use crate::ends::{End, Ends};
 use wesl_tables::{ImportItem, Meaning, Module, Modules, Sought, Spot, Target};
 use wgsl_path::ModulePath;
 
@@ -11,12 +11,19 @@ pub struct Link<'a> {
     pub name: &'a str,
 }
 
+/// An item of a module's imports: the module's number, and the item's number there.
+#[derive(Clone, Copy, Debug, PartialEq, Eq)]
+pub struct Via {
+    pub module: usize,
+    pub item: usize,
+}
+
 /// What a module has under a name that another module seeks there.
 #[derive(Clone, Copy)]
 pub enum Step<'a> {
     Declared(Spot),
-    /// The module of this number publishes an import of the name, which leads on.
-    Leads(usize, Link<'a>),
+    /// The module publishes an import of the name, by this item, which leads on.
+    Leads(Via, Link<'a>),
     /// Nothing, or a published import of one bare name.
     Missing,
     /// An import that is not published.
@@ -60,26 +67,44 @@ pub fn found_at<'a>(modules: &'a Modules, link: Link<'a>) -> Step<'a> {
             module: number,
             place: *place,
         }),
-        Some(Meaning::Imported(item)) => match module.items.get(*item) {
+        Some(Meaning::Imported(item)) => found_by(
+            module,
+            Via {
+                module: number,
+                item: *item,
+            },
+        ),
+    }
+}
+
+fn found_by(module: &Module, via: Via) -> Step<'_> {
+    match module.items.get(via.item) {
+        None => Step::Missing,
+        Some(item) if !item.is_published => Step::Private,
+        Some(item) => match link_of(module, item) {
             None => Step::Missing,
-            Some(item) => found_by(number, item),
+            Some(link) => Step::Leads(via, link),
         },
     }
 }
 
-fn found_by(number: usize, item: &ImportItem) -> Step<'_> {
-    if !item.is_published {
-        return Step::Private;
-    }
-    match &item.module {
-        None => Step::Missing,
-        Some(target) => Step::Leads(
-            number,
-            Link {
-                target,
-                name: item.name.as_str(),
-            },
-        ),
+/// What an item of a module's imports names; none where it is one bare name.
+fn link_of<'a>(module: &'a Module, item: &'a ImportItem) -> Option<Link<'a>> {
+    let target = module.target_of(item)?;
+    Some(Link {
+        target,
+        name: item.name.as_str(),
+    })
+}
+
+/// What an item that a published import leads to names.
+pub(crate) fn link_via(modules: &Modules, via: Via) -> Option<Link<'_>> {
+    let module = modules.get(via.module)?;
+    let item = module.items.get(via.item)?;
+    if item.is_published {
+        link_of(module, item)
+    } else {
+        None
     }
 }
 
@@ -106,38 +131,55 @@ pub fn start_of<'a>(modules: &'a Modules, number: usize, reference: u32) -> Star
 }
 
 fn start_by<'a>(module: &'a Module, item: &'a ImportItem) -> Start<'a> {
-    match &item.module {
+    match link_of(module, item) {
         None => Start::Ends(Denoted::Missing(&module.target.path, item.name.as_str())),
-        Some(target) => Start::Leads(Link {
-            target,
-            name: item.name.as_str(),
-        }),
+        Some(link) => Start::Leads(link),
     }
 }
 
-/// What a reference of the module of this number denotes, if no local declaration hides its first name.
-pub fn denotation<'a>(modules: &'a Modules, number: usize, reference: u32) -> Denoted<'a> {
+/// What a reference of the module of this number denotes, if no local declaration hides its first name. The ends are those of the modules.
+pub fn denotation<'a>(
+    modules: &'a Modules,
+    ends: &Ends,
+    number: usize,
+    reference: u32,
+) -> Denoted<'a> {
     match start_of(modules, number, reference) {
         Start::Ends(denoted) => denoted,
-        Start::Leads(link) => end_of(modules, link),
+        Start::Leads(link) => denoted_by(modules, ends, link),
     }
 }
 
 /// What the chain from an item ends at. A chain that never ends denotes nothing, and its first item is named.
-fn end_of<'a>(modules: &'a Modules, first: Link<'a>) -> Denoted<'a> {
-    let mut turns = Turns::new(first);
-    let mut link = first;
-    for _item in 0..=modules.item_count() {
-        match found_at(modules, link) {
-            Step::Declared(spot) => return Denoted::Declared(spot),
-            Step::Missing => return Denoted::Missing(&link.target.path, link.name),
-            Step::Private => return Denoted::Private(&link.target.path, link.name),
-            Step::Unloaded => return Denoted::Unloaded(link),
-            Step::Leads(_, next) => link = next,
-        }
-        if turns.is_back(link) {
-            break;
-        }
+fn denoted_by<'a>(modules: &'a Modules, ends: &Ends, first: Link<'a>) -> Denoted<'a> {
+    match found_at(modules, first) {
+        Step::Leads(via, _) => match ends.get(via) {
+            End::Declared(spot) => Denoted::Declared(spot),
+            End::Stops(last) => stopped(modules, last, first),
+            End::Unknown | End::Sought | End::Never => missing(first),
+        },
+        step => stopped_at(step, first),
     }
-    Denoted::Missing(&first.target.path, first.name)
+}
+
+fn missing(link: Link<'_>) -> Denoted<'_> {
+    Denoted::Missing(&link.target.path, link.name)
+}
+
+/// What a chain denotes whose last item is this.
+fn stopped<'a>(modules: &'a Modules, last: Via, first: Link<'a>) -> Denoted<'a> {
+    match link_via(modules, last) {
+        None => missing(first),
+        Some(link) => stopped_at(found_at(modules, link), link),
+    }
+}
+
+/// What a chain denotes that stops at an item.
+fn stopped_at<'a>(step: Step<'a>, link: Link<'a>) -> Denoted<'a> {
+    match step {
+        Step::Declared(spot) => Denoted::Declared(spot),
+        Step::Private => Denoted::Private(&link.target.path, link.name),
+        Step::Unloaded => Denoted::Unloaded(link),
+        Step::Missing | Step::Leads(..) => missing(link),
+    }
 }

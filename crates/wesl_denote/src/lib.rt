@@ -2,8 +2,8 @@
 #![tactic(auto)]
 
 mod denote;
-mod turns;
+mod ends;
 
-pub use denote::{Denoted, Link, Start, Step, denotation, found_at, start_of};
-pub use turns::Turns;
+pub use denote::{Denoted, Link, Start, Step, Via, denotation, found_at, start_of};
+pub use ends::Ends;
 pub use wesl_tables::{ImportError, Module, Modules, Spot, Target, kept_missing};

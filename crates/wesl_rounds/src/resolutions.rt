@@ -2,7 +2,9 @@
 
 use crate::held_unit::HeldUnit;
 use std::alloc::{AllocError, Global};
-use wesl_closing::{Closing, Denoted, Modules, Reached, Spot, all_places, denotation, kept_places};
+use wesl_closing::{
+    Closing, Denoted, Ends, Modules, Reached, Spot, all_places, denotation, kept_places,
+};
 use wgsl_items::Text;
 
 /// The modules that linking loaded, and what is held of them. The root has number 0. `units` has the trees by the modules' numbers, and
@@ -12,6 +14,8 @@ pub struct Resolutions {
     pub modules: Modules,
     pub units: Vec<HeldUnit>,
     pub held: Reached,
+    /// What chains of published imports end at.
+    pub ends: Ends,
 }
 
 impl Resolutions {
@@ -48,7 +52,7 @@ impl Resolutions {
 
     /// The declaration that a reference of the module of this number denotes, if no local declaration hides its first name.
     pub fn denoted(&self, number: usize, reference: u32) -> Option<Spot> {
-        match denotation(&self.modules, number, reference) {
+        match denotation(&self.modules, &self.ends, number, reference) {
             Denoted::Declared(spot) => Some(spot),
             Denoted::Unloaded(_) | Denoted::Missing(..) | Denoted::Private(..) | Denoted::Free => {
                 None

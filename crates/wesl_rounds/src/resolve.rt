@@ -9,7 +9,7 @@ use crate::loading::{Given, Loaded, given_of, tabulated};
 use crate::resolutions::Resolutions;
 use std::alloc::{AllocError, Global};
 use wesl_closing::{
-    Asked, Closing, ImportError, Module, all_places, first_missing, kept_missing, kept_places,
+    Asked, Closing, Ends, ImportError, Module, all_places, first_missing, kept_missing, kept_places,
 };
 use wesl_resolvers::Resolver;
 use wgsl_declarations::TranslationUnit;
@@ -195,7 +195,7 @@ impl Loading {
             asked = self.next_round(resolver, &asked, max_modules)?;
         }
         test_none_asked(self.loaded.alloc, &asked)?;
-        Ok(self.finished())
+        Ok(self.finished()?)
     }
 
     fn next_round<R: Resolver>(
@@ -232,7 +232,8 @@ impl Loading {
         Ok(self.closing.take_asked())
     }
 
-    fn finished(self) -> Resolutions {
+    fn finished(self) -> Result<Resolutions, AllocError> {
+        let ends = Ends::new(self.loaded.alloc, &self.loaded.modules)?;
         let Loading {
             loaded,
             closing,
@@ -244,11 +245,12 @@ impl Loading {
             units,
             given: _,
         } = loaded;
-        Resolutions {
+        Ok(Resolutions {
             modules,
             units,
             held: closing.into_reached(),
-        }
+            ends,
+        })
     }
 }
 

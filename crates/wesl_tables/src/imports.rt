@@ -16,6 +16,8 @@ pub(crate) struct Names {
     pub alloc: Global,
     /// The module's own path.
     pub path: ModulePath,
+    /// The modules that imports name.
+    pub targets: Vec<Target>,
     pub items: Vec<ImportItem>,
     pub scope: HashMap<String, Meaning>,
 }
@@ -25,7 +27,8 @@ impl Names {
     pub fn add_import(&mut self, statement: &ImportStatement) -> Result<(), ImportError> {
         let module = self.first_module(&statement.path)?;
         let is_published = is_published(statement.attributes.as_slice());
-        add_content(self, &module, &statement.content, is_published)
+        let mut target = None;
+        add_content(self, &module, &mut target, &statement.content, is_published)
     }
 
     fn first_module(
@@ -41,6 +44,7 @@ impl Names {
     fn add_item(
         &mut self,
         module: &Option<ModulePath>,
+        target: &mut Option<usize>,
         item: &ItemTree,
         is_published: bool,
     ) -> Result<(), ImportError> {
@@ -50,26 +54,30 @@ impl Names {
             None => item.ident.as_str(),
         };
         self.add(local, Meaning::Imported(number))?;
-        let item = self.item(module, item.ident.as_str(), is_published)?;
-        self.items.push(item)?;
+        let module = self.target(module, target)?;
+        let name = Text::from_str(self.alloc, item.ident.as_str())?;
+        self.items.push(ImportItem {
+            module,
+            name,
+            is_published,
+        })?;
         Ok(())
     }
 
-    fn item(
-        &self,
+    /// The number of a module that is named. It gets one the first time.
+    fn target(
+        &mut self,
         module: &Option<ModulePath>,
-        name: &str,
-        is_published: bool,
-    ) -> Result<ImportItem, AllocError> {
-        let module = match module {
-            None => None,
-            Some(path) => Some(Target::new(self.alloc, path)?),
-        };
-        Ok(ImportItem {
-            module,
-            name: Text::from_str(self.alloc, name)?,
-            is_published,
-        })
+        target: &mut Option<usize>,
+    ) -> Result<Option<usize>, AllocError> {
+        if target.is_none()
+            && let Some(path) = module
+        {
+            let number = self.targets.len();
+            self.targets.push(Target::new(self.alloc, path)?)?;
+            *target = Some(number);
+        }
+        Ok(*target)
     }
 
     /// Adds a name. It is refused where the name is there.
@@ -85,18 +93,20 @@ impl Names {
     }
 }
 
+/// Adds the items behind a module. Its target's number is that of the first of these items, once it is there.
 #[cycle(import)]
 fn add_content(
     names: &mut Names,
     module: &Option<ModulePath>,
+    target: &mut Option<usize>,
     content: &ImportContent,
     is_published: bool,
 ) -> Result<(), ImportError> {
     match content {
-        ImportContent::Item(item) => names.add_item(module, item, is_published),
+        ImportContent::Item(item) => names.add_item(module, target, item, is_published),
         ImportContent::Collection(imports) => {
             for import in imports.as_slice() {
-                add_nested(names, module, import, is_published)?;
+                add_nested(names, module, target, import, is_published)?;
             }
             Ok(())
         }
@@ -107,11 +117,16 @@ fn add_content(
 fn add_nested(
     names: &mut Names,
     module: &Option<ModulePath>,
+    target: &mut Option<usize>,
     import: &Import,
     is_published: bool,
 ) -> Result<(), ImportError> {
+    if import.path.is_empty() {
+        return add_content(names, module, target, &import.content, is_published);
+    }
     let module = longer(names.alloc, module, import.path.as_slice())?;
-    add_content(names, &module, &import.content, is_published)
+    let mut target = None;
+    add_content(names, &module, &mut target, &import.content, is_published)
 }
 
 /// A path, and names behind it. The first name of all is a package's.

@@ -46,6 +46,8 @@ pub struct Module {
     pub uses: Vec<Vec<u32>>,
     /// What each reference of the list means here.
     pub sought: Vec<Sought>,
+    /// The modules that imports name, each with a number.
+    pub targets: Vec<Target>,
     /// The items of the imports in the order of the text.
     pub items: Vec<ImportItem>,
     /// The names that are declared and imported.
@@ -76,6 +78,11 @@ impl Module {
         }
     }
 
+    /// The module that an import item names its last name in; none where it is one bare name.
+    pub fn target_of(&self, item: &ImportItem) -> Option<&Target> {
+        self.targets.get(item.module?)
+    }
+
     /// The source name of the declaration at a place.
     pub fn name_at(&self, place: usize) -> Option<&str> {
         let name = self.places.get(place)?.name?;
@@ -103,6 +110,7 @@ fn names_of(
     let mut names = Names {
         alloc,
         path: path.clone_in(alloc)?,
+        targets: Vec::new(alloc),
         items: Vec::new(alloc),
         scope: HashMap::new(alloc),
     };
@@ -129,6 +137,7 @@ fn tabulated(
     let Names {
         alloc: _,
         path: _,
+        targets,
         items,
         scope,
     } = names;
@@ -138,6 +147,7 @@ fn tabulated(
         places,
         uses,
         sought,
+        targets,
         items,
         scope,
     })
@@ -181,7 +191,10 @@ fn sought_by(names: &Names, list: &MarkList, reference: &Reference) -> Result<So
 /// The module that the path before a name means. A first name that is an import stands for the import's whole path.
 fn module_meant(names: &Names, path: &ModulePath) -> Result<ModulePath, AllocError> {
     match import_of(names, path) {
-        Some(item) => item.path_behind(names.alloc, &path.components),
+        Some(item) => {
+            let target = item.module.and_then(|number| names.targets.get(number));
+            item.path_behind(names.alloc, target, &path.components)
+        }
         None => meant(names.alloc, &names.path, path),
     }
 }

@@ -60,8 +60,8 @@ pub(crate) fn meant(
 /// What a name that is imported stands for.
 #[derive(Debug, Drop)]
 pub struct ImportItem {
-    /// The module before the last name; `None` where the import is one bare name.
-    pub module: Option<Target>,
+    /// The module before the last name, by its number among those that imports name; `None` where the import is one bare name.
+    pub module: Option<usize>,
     /// The last name: that of the item in that module.
     pub name: Text,
     /// Whether other modules may import the item from here.
@@ -69,18 +69,19 @@ pub struct ImportItem {
 }
 
 impl ImportItem {
-    /// The whole path of the import, as a module, and names behind it.
-    pub fn path_behind(
+    /// The whole path of the import of a module, as a module, and names behind it.
+    pub(crate) fn path_behind(
         &self,
         alloc: Global,
+        target: Option<&Target>,
         names: &Items<Text>,
     ) -> Result<ModulePath, AllocError> {
         let names = names.clone_in(alloc)?;
-        self.whole_path(alloc)?.join(names)
+        self.whole_path(alloc, target)?.join(names)
     }
 
-    fn whole_path(&self, alloc: Global) -> Result<ModulePath, AllocError> {
-        match &self.module {
+    fn whole_path(&self, alloc: Global, target: Option<&Target>) -> Result<ModulePath, AllocError> {
+        match target {
             None => package(alloc, self.name.as_str()),
             Some(target) => {
                 let name = self.name.clone_in(alloc)?;

@@ -106,6 +106,7 @@ fn link_root<R: Resolver>(
                 modules,
                 units: _,
                 held: _,
+                ends: _,
             } = resolutions;
             Ok(LinkedModules {
                 unit,

@@ -1,5 +1,6 @@
 //! Declarations by their names and numbers.
 
+use crate::aliases::Meant;
 use crate::declared::{Declared, declared_of};
 use indexmap::IndexMap;
 use std::alloc::{AllocError, Global};
@@ -11,6 +12,8 @@ use wgsl_items::Items;
 pub struct Directory<'s> {
     names: IndexMap<String, usize>,
     declared: Items<Declared<'s>>,
+    /// What each declaration means, where it is an alias.
+    meant: Items<Meant<'s>>,
 }
 
 impl<'s> Directory<'s> {
@@ -19,16 +22,19 @@ impl<'s> Directory<'s> {
         let mut directory = Directory {
             names: IndexMap::new(alloc),
             declared: Items::new(alloc),
+            meant: Items::new(alloc),
         };
         for node in unit.global_declarations.as_slice() {
             directory.add(alloc, declared_of(node.node()))?;
         }
+        directory.find_meant(alloc)?;
         Ok(directory)
     }
 
     fn add(&mut self, alloc: Global, declared: Declared<'s>) -> Result<(), AllocError> {
         let number = self.declared.len();
         self.declared.push(declared)?;
+        self.meant.push(Meant::Unknown)?;
         if let Some(name) = declared.name()
             && self.number(name).is_none()
         {
@@ -58,6 +64,21 @@ impl<'s> Directory<'s> {
         match self.declared.get(number) {
             Some(declared) => *declared,
             None => Declared::Void,
+        }
+    }
+
+    /// What an alias means, by its number.
+    pub(crate) fn meant(&self, number: usize) -> Meant<'s> {
+        match self.meant.get(number) {
+            Some(meant) => *meant,
+            None => Meant::Unknown,
+        }
+    }
+
+    /// Sets what an alias means, by its number.
+    pub(crate) fn set_meant(&mut self, number: usize, meant: Meant<'s>) {
+        if number < self.meant.len() {
+            *self.meant.get_mut(number) = meant;
         }
     }
 

@@ -1,5 +1,6 @@
 //! What a name stands for, aliases followed.
 
+use crate::aliases::Meant;
 use crate::declared::Declared;
 use crate::directory::Directory;
 use wgsl_expressions::TypeExpression;
@@ -36,14 +37,14 @@ impl<'s> Directory<'s> {
         }
     }
 
-    /// The target of the alias that a type expression without template arguments names.
-    fn aliased(&self, ty: &TypeExpression, meaning: Meaning) -> Option<&'s TypeExpression> {
-        if ty.template_args.is_some() {
+    /// The number of the alias that a type expression without template arguments names.
+    pub(crate) fn next_alias(&self, target: Target<'_>) -> Option<usize> {
+        if target.ty.template_args.is_some() {
             return None;
         }
-        match meaning {
+        match target.meaning {
             Meaning::Module(number) => match self.declared(number) {
-                Declared::Alias(alias) => Some(&alias.ty),
+                Declared::Alias(_) => Some(number),
                 _ => None,
             },
             _ => None,
@@ -52,33 +53,22 @@ impl<'s> Directory<'s> {
 
     /// What a type expression means, the aliases followed that stand without template arguments. A ring of aliases means nothing.
     pub fn follow(&self, ty: &'s TypeExpression, is_local: bool) -> Option<Target<'s>> {
-        if is_local {
-            return Some(Target {
-                ty,
-                meaning: Meaning::Local,
-                is_aliased: false,
-            });
-        }
-        let mut target = Target {
+        let meaning = if is_local {
+            Meaning::Local
+        } else {
+            self.meaning(ty)
+        };
+        let target = Target {
             ty,
-            meaning: self.meaning(ty),
+            meaning,
             is_aliased: false,
         };
-        for _ in 0..self.len() {
-            match self.aliased(target.ty, target.meaning) {
-                None => return Some(target),
-                Some(next) => {
-                    target = Target {
-                        ty: next,
-                        meaning: self.meaning(next),
-                        is_aliased: true,
-                    }
-                }
-            }
-        }
-        match self.aliased(target.ty, target.meaning) {
+        match self.next_alias(target) {
             None => Some(target),
-            Some(_) => None,
+            Some(number) => match self.meant(number) {
+                Meant::Found(target) => Some(target),
+                Meant::Unknown | Meant::Sought | Meant::Nothing => None,
+            },
         }
     }
 }

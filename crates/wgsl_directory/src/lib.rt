@@ -1,6 +1,7 @@
 //! The declarations of a module by their names and numbers, without the statements of functions.
 #![tactic(auto)]
 
+mod aliases;
 mod declared;
 mod directory;
 mod follow;

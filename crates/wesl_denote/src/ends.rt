@@ -1,0 +1,131 @@
+//! What chains of published imports end at.
+
+use crate::denote::{Link, Step, Via, found_at, link_via};
+use std::alloc::{AllocError, Global};
+use wesl_tables::{Modules, Spot};
+
+/// What the chain ends at that a published item begins.
+#[derive(Clone, Copy, Debug, PartialEq, Eq)]
+pub(crate) enum End {
+    /// Nobody has looked yet.
+    Unknown,
+    /// Somebody is looking.
+    Sought,
+    Declared(Spot),
+    /// It stops behind this item, since what that one names is missing, private or not loaded.
+    Stops(Via),
+    /// It goes round.
+    Never,
+}
+
+/// What the chains of published imports end at, for modules as they were loaded once.
+#[derive(Drop)]
+pub struct Ends {
+    /// For each module, by number, what is known of its items.
+    ends: Vec<Vec<End>>,
+}
+
+impl Ends {
+    /// The ends of all chains in the loaded modules. Each item is looked at once.
+    pub fn new(alloc: Global, modules: &Modules) -> Result<Ends, AllocError> {
+        let mut ends = Ends {
+            ends: unknown(alloc, modules)?,
+        };
+        for module in 0..modules.len() {
+            for item in 0..ends.count(module) {
+                ends.find(alloc, modules, Via { module, item })?;
+            }
+        }
+        Ok(ends)
+    }
+
+    fn count(&self, module: usize) -> usize {
+        match self.ends.get(module) {
+            None => 0,
+            Some(items) => items.len(),
+        }
+    }
+
+    pub(crate) fn get(&self, via: Via) -> End {
+        match self.ends.get(via.module) {
+            None => End::Unknown,
+            Some(items) => match items.get(via.item) {
+                None => End::Unknown,
+                Some(end) => *end,
+            },
+        }
+    }
+
+    fn set(&mut self, via: Via, end: End) {
+        if let Some(items) = self.ends.get_mut(via.module)
+            && let Some(known) = items.get_mut(via.item)
+        {
+            *known = end;
+        }
+    }
+
+    /// Finds the end of the chain that a published item begins, and with it that of all items on the way.
+    fn find(&mut self, alloc: Global, modules: &Modules, first: Via) -> Result<(), AllocError> {
+        let mut met = Vec::new(alloc);
+        let end = self.walk(modules, first, &mut met)?;
+        for via in met.as_slice() {
+            self.set(*via, end);
+        }
+        Ok(())
+    }
+
+    /// Goes along a chain and notes which items it met; what it ends at.
+    fn walk(
+        &mut self,
+        modules: &Modules,
+        first: Via,
+        met: &mut Vec<Via>,
+    ) -> Result<End, AllocError> {
+        let mut via = first;
+        for _item in 0..=modules.item_count() {
+            let known = self.get(via);
+            if known != End::Unknown {
+                return Ok(if known == End::Sought {
+                    End::Never
+                } else {
+                    known
+                });
+            }
+            let Some(link) = link_via(modules, via) else {
+                return Ok(End::Unknown);
+            };
+            self.set(via, End::Sought);
+            met.push(via)?;
+            match behind(modules, via, link) {
+                Err(end) => return Ok(end),
+                Ok(next) => via = next,
+            }
+        }
+        Ok(End::Never)
+    }
+}
+
+/// The next item of a chain; else what the chain ends at.
+fn behind(modules: &Modules, via: Via, link: Link<'_>) -> Result<Via, End> {
+    match found_at(modules, link) {
+        Step::Leads(next, _) => Ok(next),
+        Step::Declared(spot) => Err(End::Declared(spot)),
+        Step::Missing | Step::Private | Step::Unloaded => Err(End::Stops(via)),
+    }
+}
+
+fn unknown(alloc: Global, modules: &Modules) -> Result<Vec<Vec<End>>, AllocError> {
+    let mut all = Vec::new(alloc);
+    for number in 0..modules.len() {
+        let count = match modules.get(number) {
+            None => 0,
+            Some(module) => module.items.len(),
+        };
+        let mut ends = Vec::new(alloc);
+        for _item in 0..count {
+            ends.push(End::Unknown)?;
+        }
+        all.push(ends)?;
+    }
+    Ok(all)
+}
