@@ -120,7 +120,7 @@ def main(argv):
     print("| shape | declarations | bundle, bytes | linked, s | compiled, s | ratio | peak, times the bundle |")
     print("|---|---|---|---|---|---|---|")
     rows = [(name, shape, n) for name, shape in [*SHAPES.items(), *WHOLE.items()] for n in (10, 100, 1000, 10000)]
-    rows += [(f"{name}, levels", shape, n) for name, shape in LEVELS.items() for n in (20, 200, 1200)]
+    rows += [(f"{name}, levels", shape, n) for name, shape in LEVELS.items() for n in (20, 200, 600)]
     for name, shape, n in rows:
         text, keep = shape(n)
         data = bundle("compile", text, keep)

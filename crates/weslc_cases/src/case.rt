@@ -1,10 +1,12 @@
 //! A case: a JSON object with a `name`. Keys that are not named here say nothing.
 //!
 //! The input is what stands under `bundle`, as JSON, the text `input`, the numbers `bytes`, 200 bytes that follow from the number
-//! `random`, and under `repeat` a `text` so many times (`count`), one after another; what is missing is empty. `text`, `line` and `status` are what comes on standard output,
-//! on standard error, and as the exit status: where they are missing, nothing and 0. `failing_read` is the number of the read
-//! of the input that fails, counted from 0, and `failing_text` and `failing_line` are those of the call that writes or flushes
-//! the text and the line.
+//! `random`, and under `repeat` a `text` so many times (`count`), and what is made of `nested`, one after another; what is missing is empty.
+//! `text`, `line` and `status` are what comes on standard output, on standard error, and as the exit status: where they are missing, nothing
+//! and 0. In the place of `text`, `length` is how many bytes come on standard output, and `nested_text` is what they are made of: between
+//! `head` and `tail` stand `open` so many times (`count`), `inner`, and `close` as many times. `failing_read` is the number of the read of
+//! the input that fails, counted from 0, and `failing_text` and `failing_line` are those of the call that writes or flushes the text and the
+//! line.
 
 use serde_json::Value;
 use std::alloc::{AllocError, Global};
@@ -35,11 +37,44 @@ pub fn input(alloc: Global, case: &Value) -> Result<Vec<u8>, AllocError> {
         push_random(&mut input, start)?;
     }
     if let Some(repeat) = case.get("repeat") {
-        for _ in 0..number_at(repeat, "count").unwrap_or(0) {
-            input.extend_from_slice(text_at(repeat, "text").as_bytes())?;
-        }
+        push_repeated(&mut input, repeat, "text")?;
+    }
+    if let Some(nested) = case.get("nested") {
+        push_nested(&mut input, nested)?;
     }
     Ok(input)
+}
+
+/// Adds the text at a key as often as `count` says.
+fn push_repeated(input: &mut Vec<u8>, repeat: &Value, key: &str) -> Result<(), AllocError> {
+    for _ in 0..number_at(repeat, "count").unwrap_or(0) {
+        input.extend_from_slice(text_at(repeat, key).as_bytes())?;
+    }
+    Ok(())
+}
+
+/// Adds a text in whose middle something stands in itself.
+fn push_nested(input: &mut Vec<u8>, nested: &Value) -> Result<(), AllocError> {
+    input.extend_from_slice(text_at(nested, "head").as_bytes())?;
+    push_repeated(input, nested, "open")?;
+    input.extend_from_slice(text_at(nested, "inner").as_bytes())?;
+    push_repeated(input, nested, "close")?;
+    input.extend_from_slice(text_at(nested, "tail").as_bytes())
+}
+
+/// Whether a text is the one that a case wants, or has the length that it wants.
+pub fn is_wanted(alloc: Global, case: &Value, text: &str) -> Result<bool, AllocError> {
+    if let Some(length) = number_at(case, "length") {
+        return Ok(text.len() as u64 == length);
+    }
+    match case.get("nested_text") {
+        Some(nested) => {
+            let mut wanted = Vec::new(alloc);
+            push_nested(&mut wanted, nested)?;
+            Ok(wanted.as_slice() == text.as_bytes())
+        }
+        None => Ok(text == text_at(case, "text")),
+    }
 }
 
 /// Adds 200 bytes: the highest ones of the numbers that a linear congruential generator gives behind a start.

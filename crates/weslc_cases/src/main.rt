@@ -6,7 +6,7 @@ mod case;
 mod stream;
 mod texts;
 
-use case::{input, number_at, text_at};
+use case::{input, is_wanted, number_at, text_at};
 use serde_json::Value;
 use std::rt::Files;
 use std::{fs, io};
@@ -26,7 +26,7 @@ const CALLS: [&str; 8] = [
 ];
 
 /// The files of inputs of the program, each a list.
-const FILES: [&str; 14] = [
+const FILES: [&str; 15] = [
     "bundles.json",
     "fields.json",
     "texts.json",
@@ -40,6 +40,7 @@ const FILES: [&str; 14] = [
     "precompiled.json",
     "nesting.json",
     "runs.json",
+    "assigned.json",
     "hostile.json",
 ];
 
@@ -81,7 +82,7 @@ fn run_case<R: Print + AllocGlobal>(rt: &R, case: &Value) -> io::Result<bool> {
     let mut line = Sink::new(rt.alloc(), number_at(case, "failing_line"));
     let status = u64::from(serve_bundle(rt.alloc(), &mut source, &mut text, &mut line));
     let wanted_status = number_at(case, "status").unwrap_or(0);
-    let is_well = text.as_str() == text_at(case, "text")
+    let is_well = is_wanted(rt.alloc(), case, text.as_str())?
         && line.as_str() == text_at(case, "line")
         && status == wanted_status;
     if !is_well {

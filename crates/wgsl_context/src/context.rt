@@ -162,7 +162,7 @@ impl<'s> Context<'s> {
     }
 
     fn answer(&mut self) -> Result<Option<Instance>, EvalError> {
-        match self.machine.operands.pop() {
+        match self.machine.pop_operand() {
             Some(Operand::Value(value)) => Ok(Some(value)),
             Some(Operand::Void) => Ok(None),
             other => {
@@ -212,9 +212,9 @@ impl<'s> Context<'s> {
     }
 
     fn type_answer(&mut self) -> Result<Type, EvalError> {
-        match self.machine.types.pop() {
-            Some(ty) => Ok(ty),
-            None => Err(OrOutOfMemory::OutOfMemory),
+        match self.machine.pop_type() {
+            Ok(ty) => Ok(ty),
+            Err(_) => Err(OrOutOfMemory::OutOfMemory),
         }
     }
 

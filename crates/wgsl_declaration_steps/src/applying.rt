@@ -2,7 +2,7 @@
 
 use crate::entering::call_function;
 use wgsl_directory::{Declared, Directory, Meaning, Target};
-use wgsl_expression_steps::{argument_count, construct, constructed_type, follow};
+use wgsl_expression_steps::{argument_count, construct, constructed_type, follow, typed_array};
 use wgsl_expressions::{FunctionCall, TypeExpression};
 use wgsl_fault::{NameFault, Stop};
 use wgsl_instance::Instance;
@@ -28,20 +28,26 @@ fn template_of(params: &Option<Items<TpltParam>>) -> Option<&[TpltParam]> {
 fn constructed(
     machine: &mut Machine,
     ty: &TypeExpression,
-    arguments: &[Instance],
+    arguments: Items<Instance>,
 ) -> Result<Instance, Stop> {
-    let params = params_of(machine, ty)?;
-    let made = construct(machine, ty.ident.name(), template_of(&params), arguments);
-    drop(params);
-    made
+    match params_of(machine, ty) {
+        Ok(params) => {
+            let made = construct(machine, ty.ident.name(), template_of(&params), arguments);
+            drop(params);
+            made
+        }
+        Err(stop) => {
+            drop(arguments);
+            Err(stop)
+        }
+    }
 }
 
 /// A built-in constructor.
 fn apply_constructor(machine: &mut Machine, ty: &TypeExpression, count: usize) -> Result<(), Stop> {
     let arguments = machine.take(count)?;
-    let made = constructed(machine, ty, arguments.as_slice());
-    drop(arguments);
-    machine.push_value(made?)
+    let made = constructed(machine, ty, arguments)?;
+    machine.push_value(made)
 }
 
 fn apply_module<'s>(
@@ -104,6 +110,10 @@ fn constructed_of(
 }
 
 fn typed_constructor(machine: &mut Machine, ty: &TypeExpression, count: usize) -> Result<(), Stop> {
+    if ty.ident.name() == "array" && ty.template_args.is_none() {
+        let made = typed_array(machine, count)?;
+        return machine.push_type(made);
+    }
     let arguments = machine.take_types(count)?;
     let made = constructed_of(machine, ty, arguments.as_slice());
     drop(arguments);

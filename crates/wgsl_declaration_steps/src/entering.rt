@@ -175,6 +175,10 @@ pub(crate) fn result(machine: &mut Machine) -> Result<(), Stop> {
 /// The uppermost operand is the value of a parameter.
 pub(crate) fn bind(machine: &mut Machine, name: &str) -> Result<(), Stop> {
     let value = machine.pop()?;
+    if let Err(stop) = machine.hold_named(&value) {
+        drop(value);
+        return Err(stop);
+    }
     if machine
         .locals
         .add(machine.alloc, name, Local::Known(value))?

@@ -230,19 +230,30 @@ pub(crate) fn variable<'s>(
 ) -> Result<(), Stop> {
     let value = machine.pop()?;
     match value.ty(machine.alloc) {
-        Ok(ty) => match machine.memory.allocate(value) {
+        Ok(ty) => match allocated(machine, value) {
             Ok(cell) => {
                 refer(machine, number, cell, ty, place_of(directory, number));
                 Ok(())
             }
-            Err(error) => {
+            Err(stop) => {
                 drop(ty);
-                Err(Stop::from(error))
+                Err(stop)
             }
         },
         Err(error) => {
             drop(value);
             Err(Stop::from(error))
+        }
+    }
+}
+
+/// A new cell with a value.
+fn allocated(machine: &mut Machine, value: Instance) -> Result<usize, Stop> {
+    match machine.hold_named(&value) {
+        Ok(()) => Ok(machine.memory.allocate(value)?),
+        Err(stop) => {
+            drop(value);
+            Err(stop)
         }
     }
 }

@@ -40,7 +40,7 @@ fn take_input(machine: &mut Machine, value: Instance) -> Result<(), Stop> {
             };
             if is_same {
                 drop(given);
-                drop(machine.types.pop());
+                drop(machine.pop_type()?);
                 return machine.push_value(value);
             }
             drop(value);

@@ -15,16 +15,16 @@ use wgsl_machine::{CallFrame, DeclarationFrame, Frame, Frames, Machine, Root};
 /// The structure of the uppermost type, built of so many operands.
 fn build(machine: &mut Machine, count: usize) -> Result<(), Stop> {
     let ty = machine.pop_type()?;
-    let made = match machine.take(count) {
+    match machine.take(count) {
         Ok(arguments) => {
-            let made = structure(machine, &ty, arguments.as_slice());
-            drop(arguments);
-            made
+            let made = structure(machine, ty, arguments)?;
+            machine.push_value(made)
         }
-        Err(stop) => Err(stop),
-    };
-    drop(ty);
-    machine.push_value(made?)
+        Err(stop) => {
+            drop(ty);
+            Err(stop)
+        }
+    }
 }
 
 fn step_declaration<'s>(
@@ -59,7 +59,7 @@ fn step_call<'s>(
         CallFrame::Apply(x) => apply(directory, machine, frames, x),
         CallFrame::Valued(x) => valued(directory, machine, x),
         CallFrame::Discard => {
-            drop(machine.operands.pop());
+            drop(machine.pop_operand());
             Ok(())
         }
         CallFrame::Typed(x) => push_typed_call(directory, machine, frames, x),

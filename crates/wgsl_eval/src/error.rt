@@ -23,6 +23,7 @@ pub(crate) fn named(alloc: Global, fault: NameFault, name: &Text) -> EvalError
 }
 
 /// What an operation gives, with its error as the fault.
+#[inline(never)]
 pub fn computed<T>(alloc: Global, operation: Result<T, Error>) -> Result<T, EvalError>
     ensures { Ends (spec.computed operation) result }
 {

@@ -25,6 +25,7 @@ use wgsl_syntax::{
 };
 
 /// The value of a name: of a const that has one by now.
+#[inline(never)]
 pub(crate) fn name_value(
     alloc: Global,
     scope: &Scope<'_>,
@@ -131,6 +132,7 @@ pub fn eval_value(
 }
 
 #[cycle(evaluating)]
+#[inline(never)]
 fn call_value(
     alloc: Global,
     scope: &Scope<'_>,

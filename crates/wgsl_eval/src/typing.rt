@@ -28,6 +28,7 @@ use wgsl_syntax::{
     TypeExpression,
 };
 
+#[inline(never)]
 fn name_type(alloc: Global, scope: &Scope<'_>, name: &Text) -> Result<ScalarType, EvalError>
     ensures { Ends (spec.local_or (find name.now scope.now.parameters.now) (spec.type_in_world ((stage (scope_of scope.now)).value_of name.now))) result }
 {
@@ -81,6 +82,7 @@ fn declared_type(
     }
 }
 
+#[inline(never)]
 fn call_type(
     alloc: Global,
     scope: &Scope<'_>,
@@ -127,6 +129,7 @@ pub fn eval_ty(
 }
 
 #[cycle(typing)]
+#[inline(never)]
 fn typed_call(alloc: Global, scope: &Scope<'_>, x: &FunctionCall) -> Result<ScalarType, EvalError>
     ensures { Ends (spec.typed (stage (scope_of scope.now)) scope.now.parameters.now (call_layer tree x.now)) result }
 {

@@ -45,10 +45,7 @@ fn clean_up(machine: &mut Machine, frames: &mut Frames<'_>, depth: usize) {
     for _ in depth..machine.locals.depth() {
         machine.leave();
     }
-    machine.operands.clear();
-    machine.types.clear();
-    machine.params.clear();
-    machine.numbers.clear();
+    machine.clear();
     machine.flow = Flow::Next;
     machine.stage = ShaderStage::Const;
 }
@@ -240,7 +237,7 @@ impl<'s> Evaluator<'s> {
     }
 
     fn value_answer(&mut self) -> Result<Instance, Stop> {
-        match self.machine.operands.pop() {
+        match self.machine.pop_operand() {
             Some(Operand::Value(value)) => Ok(value),
             other => {
                 drop(other);

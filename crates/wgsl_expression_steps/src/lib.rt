@@ -13,6 +13,6 @@ pub use valuing::{loaded_first, step_value};
 pub use wgsl_operand_steps::{
     CallFrame, ConversionPlace, DeclarationFrame, Flow, Frame, Frames, Local, Machine, Operand,
     ValueFrame, assign, bump, compound, construct, constructed_type, convert, is_constructible,
-    is_place, refuse_conversion, structure, truth, zero,
+    is_place, read_place, refuse_conversion, structure, truth, typed_array, zero,
 };
 pub use written::{argument_count, at_const, push_number, push_number_at_const, step_written};

@@ -161,6 +161,9 @@ fn node<'s>(
 
 /// The uppermost type, without the reference.
 fn load(machine: &mut Machine) -> Result<(), Stop> {
+    if !matches!(machine.types.top(), Some(Type::Ref(_, _, _))) {
+        return Ok(());
+    }
     match machine.pop_type()? {
         Type::Ref(_, stored, _) => {
             let stored = stored.into_inner();

@@ -35,8 +35,10 @@ pub enum PlainFault {
     NotRef,
     /// A `const_assert` that is false.
     ConstAssertFailure,
-    /// A type that nests deeper, or has more parts, than is taken.
+    /// A type that nests deeper than is taken.
     TypeTooDeep,
+    /// A type or a value with more parts than is taken, or more of them than are taken at once.
+    TooManyParts,
 }
 
 impl PlainFault {
@@ -60,6 +62,7 @@ impl PlainFault {
             PlainFault::NotRef => "NotRef",
             PlainFault::ConstAssertFailure => "ConstAssertFailure",
             PlainFault::TypeTooDeep => "TypeTooDeep",
+            PlainFault::TooManyParts => "TooManyParts",
         }
     }
 }

@@ -148,6 +148,7 @@ fn argument_conversion(
 }
 
 /// The conversions of the arguments of a call, where a function of the module is called. It may be known that they have types.
+#[inline(never)]
 pub(crate) fn argument_conversions(
     evaluator: &mut Evaluator<'_>,
     call: &FunctionCall,

@@ -8,18 +8,19 @@ use wgsl_expressions::{
     BinaryExpression, Expression, ExpressionNode, FunctionCall, IndexingExpression, TypeExpression,
 };
 use wgsl_instance::Instance;
-use wgsl_items::{Items, Text};
+use wgsl_items::{Boxed, Items, Text};
 use wgsl_replacing::{put_expression, rename_type, wrap_in_call};
 use wgsl_shader_type::Type;
 use wgsl_to_expr::instance_to_expr;
 
 /// A value is written in the place of an expression.
+#[inline(never)]
 fn write_value(
     evaluator: &mut Evaluator<'_>,
     node: &mut ExpressionNode,
-    value: Instance,
+    value: Boxed<Instance>,
 ) -> Result<(), Stop> {
-    let written = instance_to_expr(evaluator.alloc(), &value);
+    let written = instance_to_expr(evaluator.alloc(), value.get());
     drop(value);
     let written = evaluator.answered(written)?;
     put_expression(node, written);
@@ -57,16 +58,20 @@ pub fn fold_maybe(
     }
 }
 
-/// The const value of an expression, unless it is known to have none.
+/// The const value of an expression, unless it is known to have none. It is boxed, so that little of the call stack is kept where the parts of
+/// an expression are folded.
+#[inline(never)]
 fn value_unless_open(
     evaluator: &mut Evaluator<'_>,
     node: &ExpressionNode,
     known: Known,
-) -> Result<Option<Instance>, Stop> {
+) -> Result<Option<Boxed<Instance>>, Stop> {
     if known.open > 0 {
-        Ok(None)
-    } else {
-        evaluator.const_value(node)
+        return Ok(None);
+    }
+    match evaluator.const_value(node)? {
+        Some(value) => Ok(Some(Boxed::new(evaluator.alloc(), value)?)),
+        None => Ok(None),
     }
 }
 
@@ -89,6 +94,24 @@ fn fold_known(
     }
 }
 
+/// What is known of the part that is evaluated first, of an expression that has no const value.
+#[inline(never)]
+fn below(
+    evaluator: &mut Evaluator<'_>,
+    node: &ExpressionNode,
+    known: Known,
+) -> Result<Known, Stop> {
+    let open = if known.open > 0 {
+        known.open
+    } else {
+        open_levels(evaluator, node)?
+    };
+    Ok(Known {
+        open: open.saturating_sub(1),
+        is_typed: known.is_typed,
+    })
+}
+
 /// An expression that has no const value.
 #[cycle(fold)]
 fn fold_open(
@@ -96,16 +119,8 @@ fn fold_open(
     node: &mut ExpressionNode,
     known: Known,
 ) -> Result<(), Stop> {
-    let open = if known.open > 0 {
-        known.open
-    } else {
-        open_levels(evaluator, node)?
-    };
-    let below = Known {
-        open: open.saturating_sub(1),
-        is_typed: known.is_typed,
-    };
-    fold_parts(evaluator, node, below)
+    let known = below(evaluator, node, known)?;
+    fold_parts(evaluator, node, known)
 }
 
 /// The parts of an expression that has no const value, where this is known of the first one. An only part has none either.
@@ -244,6 +259,32 @@ fn fold_argument(
     }
 }
 
+/// A value, converted to a type, is written in the place of an expression.
+#[inline(never)]
+fn write_converted(
+    evaluator: &mut Evaluator<'_>,
+    node: &mut ExpressionNode,
+    ty: &Type,
+    value: Boxed<Instance>,
+) -> Result<(), Stop> {
+    let alloc = evaluator.alloc();
+    let converted = value.get().convert_to(alloc, ty);
+    drop(value);
+    let converted = evaluator.answered(converted)?;
+    write_value(evaluator, node, Boxed::new(alloc, converted)?)
+}
+
+/// A call of a type's constructor with an expression stands in its place.
+#[inline(never)]
+fn wrap_in_type(
+    evaluator: &mut Evaluator<'_>,
+    node: &mut ExpressionNode,
+    ty: &Type,
+) -> Result<(), Stop> {
+    let ty = written_type(evaluator, ty)?;
+    Ok(wrap_in_call(evaluator.alloc(), node, ty)?)
+}
+
 /// The const value of a call of a type's constructor with an expression, or that call, the expression's parts tried.
 #[cycle(fold)]
 fn fold_converted(
@@ -252,18 +293,11 @@ fn fold_converted(
     ty: &Type,
     known: Known,
 ) -> Result<(), Stop> {
-    let alloc = evaluator.alloc();
     match value_unless_open(evaluator, node, known)? {
-        Some(value) => {
-            let converted = value.convert_to(alloc, ty);
-            drop(value);
-            let converted = evaluator.answered(converted)?;
-            write_value(evaluator, node, converted)
-        }
+        Some(value) => write_converted(evaluator, node, ty, value),
         None => {
             fold_open(evaluator, node, known)?;
-            let ty = written_type(evaluator, ty)?;
-            Ok(wrap_in_call(alloc, node, ty)?)
+            wrap_in_type(evaluator, node, ty)
         }
     }
 }
@@ -294,6 +328,7 @@ pub(crate) fn callee_of(
     }
 }
 
+#[inline(never)]
 fn fold_callee(evaluator: &mut Evaluator<'_>, ty: &mut TypeExpression) -> Result<(), Stop> {
     match callee_of(evaluator, ty)? {
         Callee::Same => Ok(()),

@@ -1,6 +1,7 @@
 //! How the machine stops.
 
 use crate::machine::Machine;
+use crate::parts::{extent_of, is_too_large, parts_of_array};
 use std::mem;
 use wgsl_enumerations::ShaderStage;
 use wgsl_fault::{Fault, NameFault, PairFault, PlainFault, Stop, TypeFault};
@@ -88,12 +89,35 @@ impl Machine {
         }
     }
 
+    /// Stops where something has more parts than is taken.
+    pub fn check_parts(&mut self, parts: Option<u64>) -> Result<(), Stop> {
+        match parts {
+            None => self.refuse_plain(PlainFault::TypeTooDeep),
+            Some(parts) if is_too_large(parts) => self.refuse_plain(PlainFault::TooManyParts),
+            Some(_) => Ok(()),
+        }
+    }
+
     /// Stops where a type nests too deep or has too many parts.
     pub fn check_type(&mut self, ty: &Type) -> Result<(), Stop> {
-        if crate::parts::nests_in_bounds(ty) {
-            Ok(())
-        } else {
-            self.refuse_plain(PlainFault::TypeTooDeep)
-        }
+        let parts = match extent_of(ty) {
+            Some(extent) => Some(extent.ty),
+            None => None,
+        };
+        self.check_parts(parts)
+    }
+
+    /// Stops where an array of so many elements of a type has too many parts.
+    pub fn check_array(&mut self, element: &Type, count: usize) -> Result<(), Stop> {
+        self.check_parts(parts_of_array(element, count))
+    }
+
+    /// Stops where a value of a type has too many parts.
+    pub fn check_value(&mut self, ty: &Type) -> Result<(), Stop> {
+        let parts = match extent_of(ty) {
+            Some(extent) => Some(extent.value),
+            None => None,
+        };
+        self.check_parts(parts)
     }
 }

@@ -4,6 +4,7 @@
 mod bindings;
 mod faults;
 mod frames;
+mod held;
 mod machine;
 mod operands;
 mod parts;
@@ -14,7 +15,8 @@ pub use frames::{
     CallFrame, ConversionPlace, DeclarationFrame, Frame, Frames, TypeFrame, ValueFrame,
     WrittenFrame,
 };
-pub use machine::{Flow, Local, Machine, Start};
+pub use held::Held;
+pub use machine::{Block, Flow, Local, Machine, Start};
 pub use operands::{Operand, Root};
-pub use parts::{find_part, is_small, nests_in_bounds};
+pub use parts::{find_part, is_small};
 pub use slots::Slot;

@@ -1,6 +1,7 @@
 //! What an evaluation has computed so far.
 
 use crate::bindings::Bound;
+use crate::held::{Held, parts_of_slot};
 use crate::operands::{Operand, Root};
 use crate::parts::{find_part, is_small};
 use crate::slots::Slot;
@@ -44,6 +45,15 @@ pub enum Flow {
     Return(bool),
 }
 
+/// What there was when a level of names began.
+#[derive(Clone, Copy, Debug, Drop)]
+pub struct Block {
+    /// How many cells.
+    pub cells: usize,
+    /// How many parts of values in cells and by names.
+    pub named: u64,
+}
+
 /// What an evaluation has computed so far. It names no tree.
 #[derive(Drop)]
 pub struct Machine {
@@ -53,8 +63,9 @@ pub struct Machine {
     pub params: Stack<TpltParam>,
     pub numbers: Stack<u32>,
     pub locals: Scope<Local>,
-    /// How many cells there were when each level of names began.
-    pub blocks: Stack<usize>,
+    /// What there was when each level of names began.
+    pub blocks: Stack<Block>,
+    pub held: Held,
     pub memory: Memory,
     pub slots: Items<Slot>,
     /// The declarations that are being started, the innermost uppermost.
@@ -100,6 +111,7 @@ impl Machine {
             numbers: Stack::new(alloc),
             locals: Scope::new(alloc),
             blocks: Stack::new(alloc),
+            held: Held::nothing(),
             memory: Memory::new(alloc),
             slots,
             doing: Stack::new(alloc),
@@ -118,23 +130,32 @@ impl Machine {
         }
     }
 
+    fn begin_block(&mut self) -> Result<(), Stop> {
+        let block = Block {
+            cells: self.memory.len(),
+            named: self.held.named,
+        };
+        Ok(self.blocks.push(block)?)
+    }
+
     /// Begins a level of names in a function.
     pub fn enter(&mut self) -> Result<(), Stop> {
         self.locals.push()?;
-        Ok(self.blocks.push(self.memory.len())?)
+        self.begin_block()
     }
 
     /// Begins a level that sees the names of the module alone.
     pub fn enter_closed(&mut self) -> Result<(), Stop> {
         self.locals.push_closed()?;
-        Ok(self.blocks.push(self.memory.len())?)
+        self.begin_block()
     }
 
     /// Ends the last level of names, and with it the cells of its variables.
     pub fn leave(&mut self) {
         self.locals.pop();
-        if let Some(cells) = self.blocks.pop() {
-            self.memory.truncate(cells);
+        if let Some(block) = self.blocks.pop() {
+            self.memory.truncate(block.cells);
+            self.held.named = block.named;
         }
     }
 
@@ -149,12 +170,19 @@ impl Machine {
         self.locals.contains(name)
     }
 
+    /// A part of a known value, or that there is no value, is an operand.
     pub fn push(&mut self, operand: Operand) -> Result<(), Stop> {
         Ok(self.operands.push(operand)?)
     }
 
     pub fn push_value(&mut self, value: Instance) -> Result<(), Stop> {
-        Ok(self.operands.push(Operand::Value(value))?)
+        match self.hold_value(&value) {
+            Ok(()) => Ok(self.operands.push(Operand::Value(value))?),
+            Err(stop) => {
+                drop(value);
+                Err(stop)
+            }
+        }
     }
 
     pub fn push_literal(&mut self, value: LiteralInstance) -> Result<(), Stop> {
@@ -162,12 +190,20 @@ impl Machine {
     }
 
     pub fn push_type(&mut self, ty: Type) -> Result<(), Stop> {
-        Ok(self.types.push(ty)?)
+        match self.hold_type(&ty) {
+            Ok(()) => Ok(self.types.push(ty)?),
+            Err(stop) => {
+                drop(ty);
+                Err(stop)
+            }
+        }
     }
 
     /// The uppermost type. There always is one, so that none is told as want of memory.
     pub fn pop_type(&mut self) -> Result<Type, Stop> {
-        self.types.pop().ok_or(Stop::OutOfMemory)
+        let ty = self.types.pop().ok_or(Stop::OutOfMemory)?;
+        self.let_go_of_type(&ty);
+        Ok(ty)
     }
 
     /// The known value at a root.
@@ -213,7 +249,7 @@ impl Machine {
 
     /// The uppermost operand as a value or a reference. There always is one, so that none is told as want of memory.
     pub fn pop(&mut self) -> Result<Instance, Stop> {
-        match self.operands.pop() {
+        match self.pop_operand() {
             Some(Operand::Value(value)) => Ok(value),
             Some(Operand::Part(root, path)) => {
                 let part = self.copied_part(root, path.as_slice());
@@ -299,7 +335,10 @@ impl Machine {
     /// Sets what is known of a declaration.
     pub fn set_slot(&mut self, number: usize, slot: Slot) {
         if number < self.slots.len() {
-            drop(mem::replace(self.slots.get_mut(number), slot));
+            let parts = parts_of_slot(&slot);
+            let old = mem::replace(self.slots.get_mut(number), slot);
+            self.held.know(parts_of_slot(&old), parts);
+            drop(old);
         } else {
             drop(slot);
         }
@@ -320,10 +359,7 @@ impl Machine {
                 self.set_slot(number, Slot::Unknown);
             }
         }
-        self.operands.clear();
-        self.types.clear();
-        self.params.clear();
-        self.numbers.clear();
+        self.clear();
         self.doing.clear();
         for _ in 0..self.locals.depth() {
             self.leave();

@@ -1,17 +1,26 @@
 //! Conversions, and what operands have to be.
 
 use wgsl_fault::{Fault, PairFault, Stop};
-use wgsl_instance::Instance;
+use wgsl_instance::{ArrayInstance, Instance};
 use wgsl_items::Text;
 use wgsl_machine::{ConversionPlace, Machine};
 use wgsl_shader_type::{Error, LiteralInstance, TpltParam, Type};
 
-/// Whether a value is a scalar of a type. A value that isn't a scalar is not looked at.
-fn is_scalar_of(value: &Instance, ty: &Type) -> bool {
+/// Whether a value is an array of a type. One without a length of its own is none.
+fn is_array_of(array: &ArrayInstance, element: &Type, count: usize) -> bool {
+    !array.runtime_sized && array.components.len() == count && array.element == *element
+}
+
+/// Whether a value is a scalar, an array or a structure of a type. Another value is not looked at.
+pub(crate) fn is_of(value: &Instance, ty: &Type) -> bool {
     match (value, ty) {
         (Instance::Literal(LiteralInstance::U32(_)), Type::U32) => true,
         (Instance::Literal(LiteralInstance::I32(_)), Type::I32) => true,
         (Instance::Literal(LiteralInstance::Bool(_)), Type::Bool) => true,
+        (Instance::Array(x), Type::Array(element, Some(count))) => {
+            is_array_of(x, element.get(), *count)
+        }
+        (Instance::Struct(x), Type::Struct(y)) => x.ty == *y.get(),
         _ => false,
     }
 }
@@ -56,7 +65,7 @@ pub fn convert(machine: &mut Machine, place: ConversionPlace<'_>) -> Result<(), 
 
 fn convert_top(machine: &mut Machine, place: ConversionPlace<'_>, ty: &Type) -> Result<(), Stop> {
     let value = machine.pop()?;
-    if is_scalar_of(&value, ty) {
+    if is_of(&value, ty) {
         return machine.push_value(value);
     }
     let made = value.convert_to(machine.alloc, ty);
@@ -70,7 +79,7 @@ pub fn convert_to_place(
     value: Instance,
     ty: &Type,
 ) -> Result<Instance, Stop> {
-    if is_scalar_of(&value, ty) {
+    if is_of(&value, ty) {
         return Ok(value);
     }
     let made = value.convert_to(machine.alloc, ty);

@@ -7,7 +7,9 @@ mod operating;
 mod selecting;
 mod writing;
 
-pub use constructing::{construct, constructed_type, is_constructible, structure, zero};
+pub use constructing::{
+    construct, constructed_type, is_constructible, structure, typed_array, zero,
+};
 pub use converting::{argument_of, convert, convert_to_place, number, refuse_conversion, truth};
 pub use operating::{address_of, binary, decided, indirection, truth_of, unary};
 pub use selecting::{index, is_swizzle, member};
@@ -15,4 +17,4 @@ pub use wgsl_machine::{
     CallFrame, ConversionPlace, DeclarationFrame, Flow, Frame, Frames, Local, Machine, Operand,
     Root, Slot, Start, TypeFrame, ValueFrame, WrittenFrame,
 };
-pub use writing::{assign, bump, compound, is_place};
+pub use writing::{assign, bump, compound, is_place, read_place};

@@ -81,7 +81,7 @@ pub fn decided(machine: &mut Machine, operator: BinaryOperator) -> Result<bool, 
             if left == matches!(operator, BinaryOperator::ShortCircuitOr) {
                 Ok(true)
             } else {
-                drop(machine.operands.pop());
+                drop(machine.pop_operand());
                 Ok(false)
             }
         }

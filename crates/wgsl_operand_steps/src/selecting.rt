@@ -149,7 +149,7 @@ fn indexed(machine: &Machine, base: &Instance, index: i64) -> Result<Instance, E
 /// The part of the operand below the uppermost at the uppermost.
 pub fn index(machine: &mut Machine) -> Result<(), Stop> {
     let index = pop_index(machine)?;
-    match machine.operands.pop() {
+    match machine.pop_operand() {
         Some(Operand::Part(root, path)) => {
             let found = known_element(machine.alloc, machine.part(root, path.as_slice()), index);
             push_selected(machine, root, path, found)
@@ -235,7 +235,7 @@ fn member_of_value(machine: &mut Machine, base: &Instance, name: &str) -> Result
 
 /// The part of the uppermost operand of a name.
 pub fn member(machine: &mut Machine, name: &str) -> Result<(), Stop> {
-    match machine.operands.pop() {
+    match machine.pop_operand() {
         Some(Operand::Part(root, path)) => {
             let found = known_member(machine.alloc, machine.part(root, path.as_slice()), name);
             push_selected(machine, root, path, found)

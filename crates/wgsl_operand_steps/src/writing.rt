@@ -87,27 +87,59 @@ fn check_same(machine: &mut Machine, place: &RefInstance, value: &Instance) -> R
     }
 }
 
+/// What a place holds. An array without a length is not read: it is refused once the right side is there.
+fn held(machine: &mut Machine, place: &RefInstance) -> Result<Instance, Stop> {
+    if matches!(&place.ty, Type::Array(_, None)) {
+        return Ok(Instance::Literal(LiteralInstance::Bool(false)));
+    }
+    machine.read(place)
+}
+
+/// What the place that the uppermost operand is holds becomes an operand above it.
+pub fn read_place(machine: &mut Machine) -> Result<(), Stop> {
+    let place = pop_place(machine)?;
+    match held(machine, &place) {
+        Ok(value) => {
+            machine.push_value(Instance::Ref(place))?;
+            machine.push_value(value)
+        }
+        Err(stop) => {
+            drop(place);
+            Err(stop)
+        }
+    }
+}
+
+/// What an operator makes of two values, for a place.
 fn combined(
     machine: &mut Machine,
     operator: BinaryOperator,
     place: &RefInstance,
+    left: &Instance,
     right: &Instance,
 ) -> Result<Instance, Stop> {
     check_sized(machine, place)?;
-    let left = machine.read(place)?;
     let stage: ShaderStage = machine.stage;
-    let value = call_binary_op(machine.alloc, operator, &left, right, stage);
-    drop(left);
+    let value = call_binary_op(machine.alloc, operator, left, right, stage);
     machine.answered(value)
 }
 
-fn compound_at(
+fn write_combined(
     machine: &mut Machine,
     operator: BinaryOperator,
-    place: &RefInstance,
+    left: &Instance,
     right: &Instance,
 ) -> Result<(), Stop> {
-    let value = combined(machine, operator, place, right)?;
+    let place = pop_place(machine)?;
+    let written = match combined(machine, operator, &place, left, right) {
+        Ok(value) => write_same(machine, &place, value),
+        Err(stop) => Err(stop),
+    };
+    drop(place);
+    written
+}
+
+fn write_same(machine: &mut Machine, place: &RefInstance, value: Instance) -> Result<(), Stop> {
     match check_same(machine, place, &value) {
         Ok(()) => write(machine, place, value),
         Err(stop) => {
@@ -117,17 +149,21 @@ fn compound_at(
     }
 }
 
-/// What an operator makes of the place below the uppermost operand and that operand is written there.
+fn with_left(
+    machine: &mut Machine,
+    operator: BinaryOperator,
+    right: &Instance,
+) -> Result<(), Stop> {
+    let left = machine.pop()?;
+    let written = write_combined(machine, operator, &left, right);
+    drop(left);
+    written
+}
+
+/// What an operator makes of the two uppermost operands is written at the place below them, all of which are taken off.
 pub fn compound(machine: &mut Machine, operator: BinaryOperator) -> Result<(), Stop> {
     let right = machine.pop()?;
-    let written = match pop_place(machine) {
-        Ok(place) => {
-            let written = compound_at(machine, operator, &place, &right);
-            drop(place);
-            written
-        }
-        Err(stop) => Err(stop),
-    };
+    let written = with_left(machine, operator, &right);
     drop(right);
     written
 }

@@ -1,5 +1,5 @@
 -- The grammar: its rules, and what tokens and phrases stand for.
-use Rattle.std.specs.Prelude.{◌≡◌, ℕ, suc, Bool, true, false, if◌then◌else◌, List, Option, Some, None}
+use Rattle.std.specs.Prelude.{◌≡◌, ℕ, ◌+◌, Bool, true, false, if◌then◌else◌, List, Option, Some, None}
 use Rattle.wgsl_template_spec.specs.declared.token.SpannedTemplateToken.{SpannedTemplateToken}
 use Rattle.wgsl_shift_reduce.specs.Grammars.{Grammar}
 use Rattle.wgsl_shift_reduce.specs.Machine.{Tables}
@@ -16,6 +16,12 @@ use Rattle.wgsl_parts.specs.declared.label.NameLabel.{NameLabel}
 use Rattle.wgsl_parts.specs.declared.label.NameLabel.TheVariants as name
 use Rattle.wgsl_parts.specs.declared.label.ImportLabel.{ImportLabel}
 use Rattle.wgsl_parts.specs.declared.label.ImportLabel.TheVariants as imports
+use Rattle.wgsl_parts.specs.declared.label.ExpressionLabel.{ExpressionLabel}
+use Rattle.wgsl_parts.specs.declared.label.ExpressionLabel.TheVariants as expression
+use Rattle.wgsl_parts.specs.declared.label.StatementLabel.{StatementLabel}
+use Rattle.wgsl_parts.specs.declared.label.StatementLabel.TheVariants as statement
+use Rattle.wgsl_parts.specs.declared.label.ClauseLabel.{ClauseLabel}
+use Rattle.wgsl_parts.specs.declared.label.ClauseLabel.TheVariants as clause
 use Rattle.wgsl_reading.specs.Leaves as leaves
 use Rattle.wgsl_reading.specs.declared.phrase.Phrase.{Phrase}
 use Rattle.wgsl_reading.specs.declared.gather.Extent.{Extent}
@@ -49,6 +55,27 @@ nests (l.Name k) = name_nests k
 nests (l.Import k) = import_nests k
 nests _ = true
 
+-- How many levels a node that nests is: a call, a statement, and the braces round statements, which `loop` and `continuing` have of their own, are two each.
+abbrev pub expression_levels : ExpressionLabel → ℕ
+expression_levels expression.Called = 2
+expression_levels _ = 1
+
+abbrev pub statement_levels : StatementLabel → ℕ
+statement_levels statement.Loop = 4
+statement_levels _ = 2
+
+abbrev pub clause_levels : ClauseLabel → ℕ
+clause_levels clause.Block = 2
+clause_levels clause.Continuing = 2
+clause_levels _ = 1
+
+-- Any other node is one.
+abbrev pub levels : Label → ℕ
+levels (l.Expression k) = expression_levels k
+levels (l.Statement k) = statement_levels k
+levels (l.Clause k) = clause_levels k
+levels _ = 1
+
 -- what a production makes of some phrases, with this extent and these parts; of none it makes nothing
 abbrev pub made : Label → Option Extent → List Part → Phrase Part
 made label None parts = record { part = Absent; span = record { start = 0; end = 0 }; last = record { start = 0; end = 0 }; failure = None; depth = 0 }
@@ -57,7 +84,7 @@ made label (Some e) parts = record {
   span = e.span;
   last = e.last;
   failure = either e.failure (failure_in label parts (making.make label e.span parts) e.last);
-  depth = if nests label then suc e.depth else e.depth;
+  depth = if nests label then e.depth + levels label else e.depth;
 }
 
 abbrev pub make : ℕ → List (Phrase Part) → Phrase Part

@@ -1,10 +1,10 @@
 //! The driver of the parser.
 
-ghost use Rattle.std.specs.Prelude.{◌≡◌, ◌<◌, ◌≤◌, ◌+◌, ◌∷◌, [], true, Some, None, if◌then◌else◌, IfOk, IfErr, MatchOption};
+ghost use Rattle.std.specs.Prelude.{◌≡◌, ◌<◌, ◌+◌, ◌∷◌, [], true, Some, None, if◌then◌else◌, IfOk, IfErr, MatchOption};
 ghost use Rattle.wgsl_reading.specs.declared.phrase.Phrase as declared_phrase;
 ghost use Rattle.wgsl_shift_reduce.specs.Runs.{IsMade, PassesKept};
 ghost use Rattle.wgsl_grammar_tables.specs.Labels.{pattern_at};
-ghost use Rattle.wgsl_reading.specs.Phrases.{grammar, import_nests, made, name_nests, nests, number, IsKept};
+ghost use Rattle.wgsl_reading.specs.Phrases.{clause_levels, expression_levels, grammar, import_nests, levels, made, name_nests, nests, number, statement_levels, IsKept};
 
 use crate::alone::remade;
 use crate::failure::{failure_at, made_failed, severity_failed};
@@ -17,7 +17,9 @@ use wgsl_error::Refusal;
 use wgsl_grammar_tables::class::class_of;
 use wgsl_grammar_tables::{drive, passed_to, rule_label, rule_pattern};
 use wgsl_make::make;
-use wgsl_parts::{Held, ImportLabel, Label, NameLabel};
+use wgsl_parts::{
+    ClauseLabel, ExpressionLabel, Held, ImportLabel, Label, NameLabel, StatementLabel,
+};
 use wgsl_path::Span;
 use wgsl_shift_reduce::{Action, Driver, Entry, Shape};
 use wgsl_stack::Stack;
@@ -92,18 +94,63 @@ fn nests(label: Label) -> bool
     }
 }
 
+/// A call is two levels, any other expression one.
+fn expression_levels(label: ExpressionLabel) -> u32
+    ensures { result ≡ expression_levels label }
+{
+    if matches!(label, ExpressionLabel::Called) {
+        2
+    } else {
+        1
+    }
+}
+
+/// A statement is two levels, and so are the braces round statements, which a `loop` has of its own.
+fn statement_levels(label: StatementLabel) -> u32
+    ensures { result ≡ statement_levels label }
+{
+    if matches!(label, StatementLabel::Loop) {
+        4
+    } else {
+        2
+    }
+}
+
+/// A block is two levels, and so is `continuing`, which has braces of its own. Any other clause is one.
+fn clause_levels(label: ClauseLabel) -> u32
+    ensures { result ≡ clause_levels label }
+{
+    if matches!(label, ClauseLabel::Block | ClauseLabel::Continuing) {
+        2
+    } else {
+        1
+    }
+}
+
+/// How many levels a node that nests is.
+fn levels(label: Label) -> u32
+    ensures { result ≡ levels label }
+{
+    match label {
+        Label::Expression(label) => expression_levels(label),
+        Label::Statement(label) => statement_levels(label),
+        Label::Clause(label) => clause_levels(label),
+        _ => 1,
+    }
+}
+
 /// How deep trees are nested in what a production makes at this place. A node that is nested too deep is refused there.
 pub(crate) fn deeper(label: Label, depth: u32, span: Span) -> Result<u32, Refusal>
-    ensures depth { IfOk result (λ d. d ≡ (if nests label then depth + 1 else depth)) }
-    ensures refusal { IfErr result (λ r. (r ≡ Refusal.TooDeep span) × (nests label ≡ true) × (2500 ≤ depth)) }
+    ensures depth { IfOk result (λ d. d ≡ (if nests label then depth + levels label else depth)) }
+    ensures refusal { IfErr result (λ r. (r ≡ Refusal.TooDeep span) × (nests label ≡ true) × (2500 < depth + levels label)) }
 {
     if !nests(label) {
         return Ok(depth);
     }
-    if depth >= MAX_DEPTH {
-        return Err(Refusal::TooDeep(span));
+    match depth.checked_add(levels(label)) {
+        Some(depth) if depth <= MAX_DEPTH => Ok(depth),
+        _ => Err(Refusal::TooDeep(span)),
     }
-    Ok(depth + 1)
 }
 
 /// Puts what a production makes of its parts in the place of a phrase.

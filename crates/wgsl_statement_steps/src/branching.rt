@@ -86,7 +86,7 @@ fn clause_first<'s>(
     works: &mut Works<'s>,
     clause: &'s SwitchClause,
 ) -> Result<(), Stop> {
-    drop(machine.operands.pop());
+    drop(machine.pop_operand());
     works.push(StatementFrame::Branch(BranchFrame::EndSwitch))?;
     block_first(machine, works, &clause.body)
 }
@@ -102,7 +102,7 @@ fn default_first<'s>(
             return clause_first(machine, works, clause);
         }
     }
-    drop(machine.operands.pop());
+    drop(machine.pop_operand());
     Ok(())
 }
 

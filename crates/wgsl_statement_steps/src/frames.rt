@@ -1,7 +1,6 @@
 //! What is left to do of statements.
 
-use wgsl_enumerations::AssignmentOperator;
-use wgsl_expressions::ExpressionNode;
+use wgsl_expressions::{BinaryOperator, ExpressionNode};
 use wgsl_simple_statements::Declaration;
 use wgsl_stack::Stack;
 use wgsl_statements::{
@@ -37,8 +36,12 @@ pub enum SimpleFrame<'s> {
     Discard,
     /// The uppermost operand has to be a place.
     Place,
+    /// What the uppermost operand, a place, holds is an operand above it.
+    Held,
     /// The uppermost operand is written at the place below it.
-    Assign(AssignmentOperator),
+    Assign,
+    /// What an operator makes of the two uppermost operands is written at the place below them.
+    Compound(BinaryOperator),
     Increment,
     Decrement,
     /// The uppermost operand is returned.

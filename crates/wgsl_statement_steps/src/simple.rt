@@ -1,15 +1,14 @@
 //! Statements without others in them.
 
 use crate::frames::{SimpleFrame, StatementFrame, Works};
-use std::alloc::AllocError;
 use wgsl_attributes::{Attribute, AttributeNode};
 use wgsl_builtin::{is_known, other_types};
 use wgsl_directory::{Declared, Directory, Meaning};
 use wgsl_enumerations::{AccessMode, AddressSpace, AssignmentOperator};
 use wgsl_expression_steps::{
     CallFrame, ConversionPlace, DeclarationFrame, Flow, Frame, Frames, Local, Machine, ValueFrame,
-    assign, at_const, bump, compound, follow, is_constructible, is_place, loaded_first, truth,
-    zero,
+    assign, at_const, bump, compound, follow, is_constructible, is_place, loaded_first, read_place,
+    truth, zero,
 };
 use wgsl_expressions::{Expression, ExpressionNode, FunctionCall};
 use wgsl_fault::{Fault, NameFault, PlainFault, Stop};
@@ -38,6 +37,31 @@ fn is_phony(node: &ExpressionNode) -> bool {
     }
 }
 
+/// The operator of a compound sign.
+fn operator_of(sign: AssignmentOperator) -> Option<BinaryOperator> {
+    match sign {
+        AssignmentOperator::Equal => None,
+        AssignmentOperator::PlusEqual => Some(BinaryOperator::Addition),
+        AssignmentOperator::MinusEqual => Some(BinaryOperator::Subtraction),
+        AssignmentOperator::TimesEqual => Some(BinaryOperator::Multiplication),
+        AssignmentOperator::DivisionEqual => Some(BinaryOperator::Division),
+        AssignmentOperator::ModuloEqual => Some(BinaryOperator::Remainder),
+        AssignmentOperator::AndEqual => Some(BinaryOperator::BitwiseAnd),
+        AssignmentOperator::OrEqual => Some(BinaryOperator::BitwiseOr),
+        AssignmentOperator::XorEqual => Some(BinaryOperator::BitwiseXor),
+        AssignmentOperator::ShiftRightAssign => Some(BinaryOperator::ShiftRight),
+        AssignmentOperator::ShiftLeftAssign => Some(BinaryOperator::ShiftLeft),
+    }
+}
+
+/// What is done with a place before the right side: a compound assignment reads it.
+fn place_frame<'s>(sign: AssignmentOperator) -> SimpleFrame<'s> {
+    match sign {
+        AssignmentOperator::Equal => SimpleFrame::Place,
+        _ => SimpleFrame::Held,
+    }
+}
+
 pub(crate) fn assignment<'s>(
     frames: &mut Frames<'s>,
     works: &mut Works<'s>,
@@ -47,9 +71,12 @@ pub(crate) fn assignment<'s>(
         then(works, SimpleFrame::Discard)?;
         return place_first(frames, &x.rhs);
     }
-    then(works, SimpleFrame::Assign(x.operator))?;
+    match operator_of(x.operator) {
+        None => then(works, SimpleFrame::Assign)?,
+        Some(operator) => then(works, SimpleFrame::Compound(operator))?,
+    }
     works.push(StatementFrame::Value(&x.rhs))?;
-    then(works, SimpleFrame::Place)?;
+    then(works, place_frame(x.operator))?;
     place_first(frames, &x.lhs)
 }
 
@@ -155,30 +182,6 @@ pub(crate) fn call<'s>(
     Ok(())
 }
 
-/// The operator of a compound sign.
-fn operator_of(sign: AssignmentOperator) -> Option<BinaryOperator> {
-    match sign {
-        AssignmentOperator::Equal => None,
-        AssignmentOperator::PlusEqual => Some(BinaryOperator::Addition),
-        AssignmentOperator::MinusEqual => Some(BinaryOperator::Subtraction),
-        AssignmentOperator::TimesEqual => Some(BinaryOperator::Multiplication),
-        AssignmentOperator::DivisionEqual => Some(BinaryOperator::Division),
-        AssignmentOperator::ModuloEqual => Some(BinaryOperator::Remainder),
-        AssignmentOperator::AndEqual => Some(BinaryOperator::BitwiseAnd),
-        AssignmentOperator::OrEqual => Some(BinaryOperator::BitwiseOr),
-        AssignmentOperator::XorEqual => Some(BinaryOperator::BitwiseXor),
-        AssignmentOperator::ShiftRightAssign => Some(BinaryOperator::ShiftRight),
-        AssignmentOperator::ShiftLeftAssign => Some(BinaryOperator::ShiftLeft),
-    }
-}
-
-fn write(machine: &mut Machine, sign: AssignmentOperator) -> Result<(), Stop> {
-    match operator_of(sign) {
-        None => assign(machine),
-        Some(operator) => compound(machine, operator),
-    }
-}
-
 /// The value of a local declaration comes next, converted to the uppermost type.
 fn value_first<'s>(
     frames: &mut Frames<'s>,
@@ -243,6 +246,10 @@ fn typed<'s>(
 
 /// Names a value in the last level.
 fn add(machine: &mut Machine, name: &str, value: Instance) -> Result<(), Stop> {
+    if let Err(stop) = machine.hold_named(&value) {
+        drop(value);
+        return Err(stop);
+    }
     if machine
         .locals
         .add(machine.alloc, name, Local::Known(value))?
@@ -253,9 +260,20 @@ fn add(machine: &mut Machine, name: &str, value: Instance) -> Result<(), Stop> {
     }
 }
 
+/// A new cell with a value.
+fn allocated(machine: &mut Machine, value: Instance) -> Result<usize, Stop> {
+    match machine.hold_named(&value) {
+        Ok(()) => Ok(machine.memory.allocate(value)?),
+        Err(stop) => {
+            drop(value);
+            Err(stop)
+        }
+    }
+}
+
 /// A new cell with a value, and the reference to it.
-fn stored(machine: &mut Machine, value: Instance, ty: Type) -> Result<Instance, AllocError> {
-    match machine.memory.allocate(value) {
+fn stored(machine: &mut Machine, value: Instance, ty: Type) -> Result<Instance, Stop> {
+    match allocated(machine, value) {
         Ok(cell) => Ok(Instance::Ref(RefInstance {
             cell,
             path: Items::new(machine.alloc),
@@ -263,9 +281,9 @@ fn stored(machine: &mut Machine, value: Instance, ty: Type) -> Result<Instance, 
             space: AddressSpace::Function,
             access: AccessMode::ReadWrite,
         })),
-        Err(error) => {
+        Err(stop) => {
             drop(ty);
-            Err(error)
+            Err(stop)
         }
     }
 }
@@ -305,11 +323,13 @@ pub(crate) fn step_simple<'s>(
 ) -> Result<(), Stop> {
     match frame {
         SimpleFrame::Discard => {
-            drop(machine.operands.pop());
+            drop(machine.pop_operand());
             Ok(())
         }
         SimpleFrame::Place => is_place(machine),
-        SimpleFrame::Assign(sign) => write(machine, sign),
+        SimpleFrame::Held => read_place(machine),
+        SimpleFrame::Assign => assign(machine),
+        SimpleFrame::Compound(operator) => compound(machine, operator),
         SimpleFrame::Increment => bump(machine, true),
         SimpleFrame::Decrement => bump(machine, false),
         SimpleFrame::Return => {
