@@ -1,13 +1,13 @@
 //! Errors of the calls as their fields, which the programs for people and for editors show.
 #![tactic(auto)]
 
-mod compile;
+mod compiling;
 mod condition;
 mod kind;
 mod serve;
 mod told;
 
-pub use compile::{told_compile_error, told_fault, told_whole_refusal};
+pub use compiling::{told_compile_error, told_fault, told_whole_refusal};
 pub use serve::{told_refusal, told_value};
 pub use told::{Told, written};
 pub use weslc_bundle::{

@@ -1,6 +1,6 @@
 //! All errors of a call.
 
-use crate::compile::{told_compile_error, told_fault};
+use crate::compiling::{told_compile_error, told_fault};
 use crate::condition::{flag_of, kind_of};
 use crate::kind::Kind;
 use crate::told::{Told, written};
