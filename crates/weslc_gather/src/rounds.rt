@@ -16,7 +16,7 @@ use wgsl_path::ModulePath;
 
 /// What a call is asked for.
 #[derive(Clone, Copy)]
-pub struct Wanted<'a> {
+pub struct Wanted<'a, 'r> {
     pub root: &'a ModulePath,
     /// What the feature flags of conditions are set to.
     pub features: &'a Features,
@@ -27,9 +27,9 @@ pub struct Wanted<'a> {
     /// How many modules may be loaded, the root counted.
     pub max_modules: u32,
     /// The entry point that is run: it is kept too.
-    pub entry: Option<&'a str>,
+    pub entry: Option<&'r str>,
     /// The expression that is evaluated: a const at the end of the root stands for it, and is kept alone.
-    pub expression: Option<&'a str>,
+    pub expression: Option<&'r str>,
 }
 
 /// Reads the files of the modules that a call asks for, round by round as the call loads them, beside the root, which was read. Where it
@@ -38,7 +38,7 @@ pub fn gather<R: Files + AllocGlobal>(
     rt: &R,
     folders: &Folders,
     sources: &mut Sources,
-    wanted: Wanted<'_>,
+    wanted: Wanted<'_, '_>,
 ) -> Result<(), AllocError> {
     match load_rounds(rt, folders, sources, wanted) {
         Ok(()) | Err(Stop::Fault) => Ok(()),
@@ -69,7 +69,7 @@ fn append_question(alloc: Global, unit: &mut HeldUnit, expression: &str) -> Resu
 }
 
 /// The names of the root that are kept.
-fn kept_names(alloc: Global, wanted: Wanted<'_>) -> Result<Items<Text>, AllocError> {
+fn kept_names(alloc: Global, wanted: Wanted<'_, '_>) -> Result<Items<Text>, AllocError> {
     let mut keep = Items::new(alloc);
     if wanted.expression.is_some() {
         keep.push(Text::from_str(alloc, OWN_NAME)?)?;
@@ -85,7 +85,11 @@ fn kept_names(alloc: Global, wanted: Wanted<'_>) -> Result<Items<Text>, AllocErr
 }
 
 /// The root, loaded.
-fn loaded_root(alloc: Global, sources: &mut Sources, wanted: Wanted<'_>) -> Result<Loading, Stop> {
+fn loaded_root(
+    alloc: Global,
+    sources: &mut Sources,
+    wanted: Wanted<'_, '_>,
+) -> Result<Loading, Stop> {
     let keep = kept_names(alloc, wanted)?;
     let mut unit = decided(alloc, sources, wanted.features, wanted.root)?;
     if let Some(expression) = wanted.expression {
@@ -98,7 +102,7 @@ fn load_rounds<R: Files + AllocGlobal>(
     rt: &R,
     folders: &Folders,
     sources: &mut Sources,
-    wanted: Wanted<'_>,
+    wanted: Wanted<'_, '_>,
 ) -> Result<(), Stop> {
     let mut loading = loaded_root(rt.alloc(), sources, wanted)?;
     let mut asked = loading.close()?;
@@ -119,7 +123,7 @@ fn load_asked<R: Files + AllocGlobal>(
     rt: &R,
     folders: &Folders,
     sources: &mut Sources,
-    wanted: Wanted<'_>,
+    wanted: Wanted<'_, '_>,
     loading: &mut Loading,
     asked: &Asked,
 ) -> Result<(), Stop> {

@@ -42,7 +42,7 @@ impl Asked {
     }
 
     /// What says which modules the call asks for.
-    pub fn wanted<'a>(&'a self, request: &Request<'a>) -> Wanted<'a> {
+    pub fn wanted<'a, 'r>(&'a self, request: &Request<'r>) -> Wanted<'a, 'r> {
         Wanted {
             root: &self.root,
             features: &self.options.features,

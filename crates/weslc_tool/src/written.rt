@@ -10,13 +10,13 @@ use weslc_gather::Sources;
 use weslc_told::{Report, SourceFile, Told, plain_json, report_json, report_text, told_value};
 
 /// Writes an error in the form that is asked for: its fields, the modules that were read, and why a file was not.
-fn write_told<E: Write>(
+fn write_told<'a, E: Write>(
     alloc: Global,
     request: &Request<'_>,
-    told: &Told,
-    sources: &[SourceFile<'_>],
-    message: Option<&str>,
-    reason: Option<&str>,
+    told: &'a Told,
+    sources: &'a [SourceFile<'a>],
+    message: Option<&'a str>,
+    reason: Option<&'a str>,
     errors: &mut E,
 ) -> io::Result<()> {
     let report = Report {
