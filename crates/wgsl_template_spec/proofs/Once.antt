@@ -8,7 +8,7 @@ use Rattle.wgsl_lex.specs.Tokens.{Form, trivia, token, form, NoLonger}
 use Rattle.wgsl_lex.specs.Pieces.{StandsFirst, trivia_first, token_first, nothing_first}
 use Rattle.wgsl_lex.proofs.Bools.{is_number}
 use Rattle.wgsl_lex.proofs.Once.{stands_some}
-use Rattle.wgsl_lex.proofs.ItemsBools.{and_both}
+use Rattle.wgsl_items.proofs.Bools.{and_both}
 use Rattle.wgsl_template_spec.specs.declared.token.TemplateToken.{TemplateToken}
 use Rattle.wgsl_template_spec.specs.declared.token.TemplateToken.TheVariants.{Plain}
 use Rattle.wgsl_template_spec.specs.declared.token.SpannedTemplateToken.{SpannedTemplateToken}
