@@ -1,6 +1,6 @@
 -- What the places of a unit are to say.
 use Rattle.std.specs.Prelude.{ℕ, ◌^◌, ◌-◌, min, Bool, true, false, List, [], ◌++◌, map, length, Option, Some, None}
-use Rattle.std.specs.List.{list_any, flat_map}
+use Rattle.std.specs.List.{list_any}
 use Rattle.wgsl_path.specs.declared.span.Spanned.{Spanned}
 use Rattle.wgsl_attributes.specs.Tree as a
 use Rattle.wgsl_attributes.specs.Tree.{Attr}
