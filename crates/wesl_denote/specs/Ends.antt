@@ -7,7 +7,7 @@ use Rattle.wesl_tables.specs.declared.modules.Modules.{Modules}
 use Rattle.wesl_tables.specs.Loaded.{home_of, place_at, AreTabled, IsUse}
 use Rattle.wesl_chains.specs.Outlines.{Path, Symbol, Use, Outline, Finder}
 use Rattle.wesl_chains.specs.Senses.{sense}
-use Rattle.wesl_chains.specs.Chains.{next, leads, Outcome, declared_at, outcome_at, Leads, Loops, Ends}
+use Rattle.wesl_chains.specs.Chains.{next, stands, leads, Outcome, outcome_at, Leads, Loops, Ends}
 use Rattle.wesl_denote.specs.declared.denote.Via.{Via}
 use Rattle.wesl_denote.specs.declared.denote.Denoted.{Denoted}
 use Rattle.wesl_denote.specs.declared.denote.Start.{Start}
@@ -38,7 +38,7 @@ HasEnded find t = (more : List Path) × (o : Outcome) × (outcome_at t (next fin
 abbrev pub IsEnd : Modules → Finder → Symbol → End → Type 0
 IsEnd ms find s Unknown = ⊥
 IsEnd ms find s Sought = ⊥
-IsEnd ms find s (Declared spot) = (p : Path) × (ps : List Path) × (home_of ms spot.«module» ≡ Some p) × Ends find s ps (declared_at p (place_at ms spot))
+IsEnd ms find s (Declared spot) = (t : Symbol) × (ps : List Path) × (home_of ms spot.«module» ≡ Some t.home) × Leads find s ps t × (next find t ≡ stands (place_at ms spot))
 IsEnd ms find s (Stops via) = (t : Symbol) × (ps : List Path) × (symbol_via ms via ≡ Some t) × Leads find s ps t × HasEnded find t
 IsEnd ms find s Never = Loops find s
 

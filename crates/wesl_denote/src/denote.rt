@@ -1,13 +1,13 @@
 //! What a name denotes: a declaration of its own module, or the end of a chain of published imports.
 
-ghost use Rattle.std.specs.Prelude.{◌≡◌, Some, slice_get};
+ghost use Rattle.std.specs.Prelude.{◌≡◌, Some, slice_get, string_bytes};
 ghost use Rattle.std.specs.Option.{option_map};
 ghost use Rattle.wesl_tables.specs.declared.modules.Modules.{Modules};
-ghost use Rattle.wesl_tables.specs.Tables.{import_said, import_at, symbol_named};
+ghost use Rattle.wesl_tables.specs.Tables.{import_said, import_at, import_sense, symbol_named};
 ghost use Rattle.wesl_tables.specs.Loaded.{AreTabled};
 ghost use Rattle.wesl_chains.specs.Outlines.{Path, Symbol, Finder};
 ghost use Rattle.wesl_chains.specs.Chains.{next, missing};
-ghost use Rattle.wesl_denote.specs.Links.{symbol_of, symbol_via, step_of, item_step, IsFoundIn, outcome_of, StopsAs};
+ghost use Rattle.wesl_denote.specs.Links.{symbol_of, symbol_via, step_of, item_step, IsFoundIn, outcome_of, beginning_of, begins, StopsAs};
 ghost use Rattle.wesl_denote.specs.Ends.{AreEnds, Starts, IsDenotation, ComesTo};
 
 use crate::ends::{End, Ends};
@@ -153,7 +153,9 @@ pub fn start_of<'a>(modules: &'a Modules, number: usize, reference: u32) -> Star
     }
 }
 
-fn start_by<'a>(module: &'a Module, item: &'a ImportItem) -> Start<'a> {
+fn start_by<'a>(module: &'a Module, item: &'a ImportItem) -> Start<'a>
+    ensures { (ms : Modules) → beginning_of ms result ≡ begins (string_bytes module.now.target.printed_path) (import_sense (Some (import_said module.now.targets.items item.now))) }
+{
     match link_of(module, item) {
         None => Start::Ends(Denoted::Missing(&module.target.path, item.name.as_str())),
         Some(link) => Start::Leads(link),
@@ -190,7 +192,7 @@ fn denoted_by<'a>(modules: &'a Modules, ends: &Ends, first: Link<'a>) -> Denoted
 }
 
 fn missing(link: Link<'_>) -> Denoted<'_>
-    ensures { (ms : Modules) → outcome_of ms result ≡ Some (missing (symbol_of link)) }
+    ensures { (ms : Modules) → outcome_of ms result ≡ Some (missing (symbol_of link.entry)) }
 {
     Denoted::Missing(&link.target.path, link.name)
 }

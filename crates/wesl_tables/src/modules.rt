@@ -1,6 +1,7 @@
 //! The loaded modules.
 
-ghost use Rattle.std.specs.Prelude.{◌≡◌, ◌≤◌, ◌∷◌, [], ◌++◌, ◌<◌, ℕ, List, length, Some, None, slice_get, string_bytes, IfOk, OnOk};
+ghost use Rattle.std.specs.Prelude.{◌≡◌, ◌≤◌, ◌∷◌, [], ◌++◌, ◌<◌, ℕ, List, length, Some, None, slice_get, string_bytes, if◌then◌else◌, OnOk};
+ghost use Rattle.std.specs.Str.{bytes_eq};
 ghost use Rattle.std.specs.Option.{option_copied};
 ghost use Rattle.std.specs.BTreeMap.{get_by_text};
 ghost use Rattle.wesl_tables.specs.Counts.{item_total, home_in, AreKeyed};
@@ -74,13 +75,19 @@ impl Modules {
     }
 
     /// Adds a module, with the next number.
-    pub fn push(&mut self, alloc: Global, module: Module) -> Result<(), AllocError> {
+    #[tactic(auto, using(crate::proofs::Pushed::total_more, crate::proofs::Pushed::keyed_more))]
+    pub fn push(&mut self, alloc: Global, module: Module) -> Result<(), AllocError>
+        ensures list { OnOk result (self.new.list.items ≡ self.old.list.items ++ «module» ∷ []) }
+        ensures numbers { OnOk result ((p : List ℕ) → get_by_text self.new.numbers p ≡ if bytes_eq (string_bytes «module».target.printed_path) p then Some (length self.old.list.items) else get_by_text self.old.numbers p) }
+    {
         let text = String::from_str(alloc, module.target.printed_path.as_str())?;
-        let count = self.item_count.saturating_add(module.items.len());
+        let Some(count) = self.item_count.checked_add(module.items.len()) else {
+            return Err(AllocError);
+        };
         let number = self.list.len();
+        self.item_count = count;
         self.list.push(module)?;
         self.numbers.insert(text, number)?;
-        self.item_count = count;
         Ok(())
     }
 

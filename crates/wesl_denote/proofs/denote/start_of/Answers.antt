@@ -1,0 +1,43 @@
+use Rattle.std.proofs.Common.{◌≡◌, sym, ap, ◌∙◌, subst, Some, None, slice_get, ℕ, ◌<◌, ◌^◌}
+use Rattle.std.specs.Prelude.{string_bytes}
+use Rattle.std.specs.Option.{option_copied}
+use Rattle.wesl_chains.specs.Outlines.{Path}
+use Rattle.wesl_chains.proofs.Loops.{same_some}
+use Rattle.wesl_tables.specs.declared.module.Module.{Module}
+use Rattle.wesl_tables.specs.declared.module.Sought.TheVariants.{Imported, Item, Free}
+use Rattle.wesl_tables.specs.Tables.{import_said, import_at, import_sense, sense_said}
+use Rattle.wesl_tables.specs.Loaded.{home_of}
+use Rattle.wesl_denote.specs.Links.{Beginning, known, seeks, begins, beginning_of}
+use Rattle.wesl_denote.proofs.Answered.{starts}
+use Rattle.wesl_denote.proofs.denote.start_of.Goals.{in-None-1, in-Some+in-Free-1}
+use Rattle.wesl_denote.proofs.denote.start_of.Goals as goal
+
+pub returns-in-Some-get : goal.returns-in-Some-get
+returns-in-Some-get c =
+    let m = c.in-Some.module.now in
+    let is : slice_get c.args.modules.now.list.items c.args.number ≡ Some m = sym c.get.ensures ∙ ap option_copied c.in-Some.is in
+    let fits : c.args.reference < 2 ^ 32 = search in
+    let e : slice_get m.sought.items c.args.reference ≡ Some (Imported c.in-Some-Imported.item) = search in
+    let i : import_at m c.in-Some-Imported.item ≡ Some (import_said m.targets.items c.in-Some-get.item.now) = search in
+    starts c.args.modules.now c.args.number c.args.reference m c.start_by.result is fits (λ p h.
+        let home : string_bytes m.target.printed_path ≡ p = same_some (ap (λ o. elim o [ Some x ↦ Some (string_bytes x.target.printed_path) | None ↦ None ]) (sym is) ∙ h) in
+        c.start_by.ensures c.args.modules.now ∙ ap (λ q. begins q (import_sense (Some (import_said m.targets.items c.in-Some-get.item.now)))) home
+        ∙ ap (λ o. begins p (import_sense o)) (sym i) ∙ ap (λ g. begins p (sense_said m g)) (sym e))
+
+pub returns-in-Some-Item : goal.returns-in-Some-Item
+returns-in-Some-Item c =
+    let m = c.in-Some.module.now in
+    let is : slice_get c.args.modules.now.list.items c.args.number ≡ Some m = sym c.get.ensures ∙ ap option_copied c.in-Some.is in
+    let fits : c.args.reference < 2 ^ 32 = search in
+    let e : slice_get m.sought.items c.args.reference ≡ Some (Item c.in-Some-Item.target c.in-Some-Item.name) = search in
+    starts c.args.modules.now c.args.number c.args.reference m _ is fits (λ p h.
+        ap (λ n. seeks (record { home = string_bytes c.in-Some-Item.target.printed_path; name = n })) c.as_str.ensures ∙ ap (λ g. begins p (sense_said m g)) (sym e))
+
+pub returns-in-None : goal.returns-in-None
+returns-in-None c =
+    let m = c.in-Some.module.now in
+    let is : slice_get c.args.modules.now.list.items c.args.number ≡ Some m = sym c.get.ensures ∙ ap option_copied c.in-Some.is in
+    let fits : c.args.reference < 2 ^ 32 = search in
+    starts c.args.modules.now c.args.number c.args.reference m _ is fits (λ p h. elim c.in-None-1.branch [
+      in-None-1 w ↦ (let e : slice_get m.sought.items c.args.reference ≡ None = search in ap (λ g. begins p (sense_said m g)) (sym e))
+    | in-Some+in-Free-1 w ↦ (let e : slice_get m.sought.items c.args.reference ≡ Some Free = search in ap (λ g. begins p (sense_said m g)) (sym e)) ])
