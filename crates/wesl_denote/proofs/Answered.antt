@@ -1,5 +1,5 @@
 -- Where searches begin, and what they come to.
-use Rattle.std.proofs.Common.{◌≡◌, refl, sym, ap, ◌∙◌, subst, ℕ, ◌<◌, ◌^◌, List, [], ◌∷◌, ◌++◌, length, Option, Some, None}
+use Rattle.std.proofs.Common.{◌≡◌, refl, sym, ap, ◌∙◌, subst, ℕ, ◌<◌, ◌^◌, ◌⊎◌, inl, inr, List, [], ◌∷◌, ◌++◌, length, Option, Some, None}
 use Rattle.std.specs.Prelude.{slice_get}
 use Rattle.wesl_chains.proofs.Loops.{same_some, loops_behind}
 use Rattle.wesl_chains.specs.Outlines.{Path, Symbol, Use, Outline, Finder}
@@ -11,25 +11,28 @@ use Rattle.wesl_tables.specs.declared.modules.Spot.{Spot}
 use Rattle.wesl_tables.specs.Tables.{use_at, sense_said, IsTabled}
 use Rattle.wesl_tables.specs.Loaded.{home_of, numbered_module, module_at, place_at, AreSame, AreTabled, IsUse}
 use Rattle.wesl_denote.specs.declared.denote.Via.{Via}
+use Rattle.wesl_denote.specs.declared.denote.Link.{Link}
 use Rattle.wesl_denote.specs.declared.denote.Start.{Start}
+use Rattle.wesl_denote.specs.declared.denote.Step as code
+use Rattle.wesl_denote.specs.declared.denote.Step.TheVariants as step
 use Rattle.wesl_denote.specs.declared.ends.End.{End}
 use Rattle.wesl_denote.specs.declared.ends.End.TheVariants as end
-use Rattle.wesl_denote.specs.Links.{symbol_via, declared_in, outcome_of, StopsAs, IsDenoted, Beginning, known, seeks, begins, beginning_of}
+use Rattle.wesl_denote.specs.Links.{symbol_via, step_of, declared_in, outcome_of, StopsAs, IsDenoted, Beginning, known, seeks, begins, beginning_of}
 use Rattle.wesl_denote.specs.Ends.{IsEnd, HasEnded, Starts, ComesTo}
 
 -- ---- starts
 
 uses : (ms : Modules) (find : Finder) → AreTabled ms find → (number reference : ℕ) (p : Path) (o : Outline) (u : Use) → IsUse ms find number reference p o u
     → (m : Module) → slice_get ms.list.items number ≡ Some m → reference < 2 ^ 32 → sense_said m (slice_get m.sought.items reference) ≡ sense o u
-uses ms find tabled number reference p o u use m is fits =
-    let same : use.table ≡ m = same_some (sym use.is_there ∙ is) in
-    let there : module_at ms p ≡ Some m = ap (numbered_module ms) use.is_numbered ∙ is in
-    let t : IsTabled m o = subst (λ y. AreSame y (Some o)) there (subst (λ z. AreSame (module_at ms p) z) use.is_module (tabled p)) in
-    t.senses reference fits (subst (λ v. reference < length v.list.references.keys) same use.within) ∙ ap (sense o) (subst (λ v. use_at v.list reference ≡ u) same use.is_use)
+uses ms find tabled number reference p o u its m is fits =
+    let same : its.table ≡ m = same_some (sym its.is_there ∙ is) in
+    let there : module_at ms p ≡ Some m = ap (numbered_module ms) its.is_numbered ∙ is in
+    let t : IsTabled m o = subst (λ y. AreSame y (Some o)) there (subst (λ z. AreSame (module_at ms p) z) its.is_module (tabled p)) in
+    t.senses reference fits (subst (λ v. reference < length v.list.references.keys) same its.within) ∙ ap (sense o) (subst (λ v. use_at v.list reference ≡ u) same its.is_use)
 
 pub starts : (ms : Modules) (number reference : ℕ) (m : Module) (start : Start) → slice_get ms.list.items number ≡ Some m → reference < 2 ^ 32
     → ((p : Path) → home_of ms number ≡ Some p → beginning_of ms start ≡ begins p (sense_said m (slice_get m.sought.items reference))) → Starts ms number reference start
-starts ms number reference m start is fits said find tabled p o u use = said p (ms.keyed p number use.is_numbered) ∙ ap (begins p) (uses ms find tabled number reference p o u use m is fits)
+starts ms number reference m start is fits said find tabled p o u its = said p (ms.keyed p number its.is_numbered) ∙ ap (begins p) (uses ms find tabled number reference p o u its m is fits)
 
 -- ---- answers
 
@@ -89,9 +92,15 @@ module _ (find : Finder) where
         at (u, qs, v, l, n) = stopped (onto e l) (next find u) refl (λ w f. ended_leads u n w f) r (answers u v)
 
     -- or it never ends
-    pub led_round : (known : End) → IsEnd ms find t known → ((spot : Spot) → known ≡ end.Declared spot → ⊥) → ((last : Via) → known ≡ end.Stops last → ⊥) → (r : Option Outcome) → r ≡ Some (missing s) → ComesTo find s r
-    led_round end.Unknown is no_spot no_stop r h = absurd is
-    led_round end.Sought is no_spot no_stop r h = absurd is
-    led_round (end.Declared spot) is no_spot no_stop r h = absurd (no_spot spot refl)
-    led_round (end.Stops last) is no_spot no_stop r h = absurd (no_stop last refl)
-    led_round end.Never is no_spot no_stop r h = subst (λ y. ComesTo find s y) (sym h) ([], is_endless (loops_behind find (onto e here) is))
+    pub led_round : (known : End) → IsEnd ms find t known → (known ≡ end.Unknown) ⊎ (known ≡ end.Sought) ⊎ (known ≡ end.Never) → (r : Option Outcome) → r ≡ Some (missing s) → ComesTo find s r
+    led_round known is (inl f) r h = absurd (subst (λ x. IsEnd ms find t x) f is)
+    led_round known is (inr (inl f)) r h = absurd (subst (λ x. IsEnd ms find t x) f is)
+    led_round known is (inr (inr f)) r h = subst (λ y. ComesTo find s y) (sym h) ([], is_endless (loops_behind find (onto e here) (subst (λ x. IsEnd ms find t x) f is)))
+
+-- a step that leads nowhere
+pub leads_nowhere : (ms : Modules) (x : code.Step) → ((via : Via) (l : Link) → x ≡ step.Leads via l → ⊥) → (u : Symbol) → step_of ms x ≡ leads u → ⊥
+leads_nowhere ms (step.Declared spot) none u e = absurd (cc)
+leads_nowhere ms (step.Leads via l) none u e = none via l refl
+leads_nowhere ms step.Missing none u e = absurd (cc)
+leads_nowhere ms step.Private none u e = absurd (cc)
+leads_nowhere ms step.Unloaded none u e = absurd (cc)

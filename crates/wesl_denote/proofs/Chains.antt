@@ -6,8 +6,9 @@ use Rattle.std.specs.List.{Contains}
 use Rattle.std.specs.HashMap.{get_by_text}
 use Rattle.std.specs.BTreeMap as b
 use Rattle.std.proofs.lemmas.List.Elements.{Contains-append_left, Contains-append_right}
+use Rattle.std.proofs.lemmas.Option.{none-some}
 use Rattle.wesl_chains.proofs.Members.{to_contains, in_map}
-use Rattle.wesl_chains.proofs.Loops.{leads_then, leads_more, loops_behind, loops_shift, long_loops}
+use Rattle.wesl_chains.proofs.Loops.{same_some, leads_then, leads_more, loops_behind, loops_shift, long_loops}
 use Rattle.wesl_chains.specs.Outlines.{Name, Path, Symbol, Finder}
 use Rattle.wesl_chains.specs.Chains.{Step, stands, leads, lacks, hides, unknown, next, Leads, here, onto, Loops}
 use Rattle.wesl_chains.specs.Laws.{AreTargets}
@@ -60,27 +61,44 @@ symbol_or x (Some p) = record { home = p; name = x }
 abbrev import_target : Import → Symbol
 import_target i = symbol_or i.last i.home
 
-abbrev pub all_targets : List Module → List Symbol
-all_targets [] = []
-all_targets (m ∷ ms) = map import_target (map (import_said m.targets.items) m.items.items) ++ all_targets ms
+-- what the imports of a module name
+abbrev targets_of : Module → List Symbol
+targets_of m = map import_target (map (import_said m.targets.items) m.items.items)
+
+module _ (targets : Module → List Symbol) (count : Module → ℕ) (counted : (m : Module) → length (targets m) ≡ count m) where
+  abbrev all_of : List Module → List Symbol
+  all_of [] = []
+  all_of (m ∷ ms) = targets m ++ all_of ms
+
+  abbrev sum_of : List Module → ℕ
+  sum_of [] = 0
+  sum_of (m ∷ ms) = count m + sum_of ms
+
+  length_all : (ms : List Module) → length (all_of ms) ≡ sum_of ms
+  length_all [] = refl
+  length_all (m ∷ ms) = length-append (targets m) (all_of ms) ∙ (λ k. counted m k + length_all ms k)
+
+  in_all : (ms : List Module) (i : ℕ) (m : Module) (x : Symbol) → slice_get ms i ≡ Some m → Contains (targets m) x → Contains (all_of ms) x
+  in_all [] i m x is c = absurd (none-some m is)
+  in_all (n ∷ ms) zero m x is c = Contains-append_left (targets n) (all_of ms) x (subst (λ v. Contains (targets v) x) (sym (same_some is)) c)
+  in_all (n ∷ ms) (suc i) m x is c = Contains-append_right (targets n) (all_of ms) x (in_all ms i m x is c)
 
 length_map : {X Y : Type 0} (f : X → Y) (xs : List X) → length (map f xs) ≡ length xs
 length_map f [] = refl
 length_map f (x ∷ xs) = ap suc (length_map f xs)
 
-pub length_targets : (ms : List Module) → length (all_targets ms) ≡ item_total ms
-length_targets [] = refl
-length_targets (m ∷ ms) =
-    length-append (map import_target (map (import_said m.targets.items) m.items.items)) (all_targets ms)
-    ∙ (λ k. (length_map import_target (map (import_said m.targets.items) m.items.items) ∙ length_map (import_said m.targets.items) m.items.items) k + length_targets ms k)
+counted : (m : Module) → length (targets_of m) ≡ length m.items.items
+counted m = length_map import_target (map (import_said m.targets.items) m.items.items) ∙ length_map (import_said m.targets.items) m.items.items
 
-in_targets : (ms : List Module) (i : ℕ) (m : Module) (x : Symbol) → slice_get ms i ≡ Some m → Contains (map import_target (map (import_said m.targets.items) m.items.items)) x → Contains (all_targets ms) x
-in_targets [] i m x is c = absurd (cc)
-in_targets (n ∷ ms) zero m x is c =
-    let same : n ≡ m = cc in
-    Contains-append_left (map import_target (map (import_said n.targets.items) n.items.items)) (all_targets ms) x
-    (subst (λ v. Contains (map import_target (map (import_said v.targets.items) v.items.items)) x) (sym same) c)
-in_targets (n ∷ ms) (suc i) m x is c = Contains-append_right (map import_target (map (import_said n.targets.items) n.items.items)) (all_targets ms) x (in_targets ms i m x is c)
+abbrev pub all_targets : List Module → List Symbol
+all_targets ms = all_of targets_of (λ m. length m.items.items) counted ms
+
+total_same : (ms : List Module) → sum_of targets_of (λ m. length m.items.items) counted ms ≡ item_total ms
+total_same [] = refl
+total_same (m ∷ ms) = ap (λ n. length m.items.items + n) (total_same ms)
+
+pub length_targets : (ms : List Module) → length (all_targets ms) ≡ item_total ms
+length_targets ms = length_all targets_of (λ m. length m.items.items) counted ms ∙ total_same ms
 
 module _ (t : Symbol) where
   by_home : (x : Name) (h : Option Path) → symbol_step (option_map (λ p. let s : Symbol = record { home = p; name = x } in s) h) ≡ leads t → symbol_or x h ≡ t
@@ -99,14 +117,14 @@ module _ (t : Symbol) where
       subst (λ x. Contains (map import_target (map (import_said targets) items)) x) (by_published said.is_published said.last said.home e)
       (in_map import_target (map (import_said targets) items) said (in_map (import_said targets) items i (to_contains items n i is)))
 
-  by_meaning : (m : Module) (g : Option Meaning) → meaning_step m g ≡ leads t → Contains (map import_target (map (import_said m.targets.items) m.items.items)) t
+  by_meaning : (m : Module) (g : Option Meaning) → meaning_step m g ≡ leads t → Contains (targets_of m) t
   by_meaning m None e = absurd (cc)
   by_meaning m (Some (Declared k)) e = absurd (cc)
   by_meaning m (Some (Imported n)) e = by_item m.targets.items m.items.items n (slice_get m.items.items n) refl e
 
   by_module : (ms : List Module) (n : ℕ) (x : Name) (m : Option Module) → slice_get ms n ≡ m → module_step x m ≡ leads t → Contains (all_targets ms) t
   by_module ms n x None is e = absurd (cc)
-  by_module ms n x (Some m) is e = in_targets ms n m t is (by_meaning m (get_by_text m.scope x) e)
+  by_module ms n x (Some m) is e = in_all targets_of (λ v. length v.items.items) counted ms n m t is (by_meaning m (get_by_text m.scope x) e)
 
   by_number : (ms : Modules) (x : Name) (n : Option ℕ) → module_step x (numbered_module ms n) ≡ leads t → Contains (all_targets ms.list.items) t
   by_number ms x None e = absurd (cc)

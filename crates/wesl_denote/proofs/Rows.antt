@@ -53,7 +53,7 @@ row_set (r ∷ rows) zero k row e is zero j =
     elim (item_set row.items k e j) [ inl f ↦ inl (f ∙ ap (λ x. get_or x.items j Unknown) (sym same)) | inr f ↦ inr (refl, f.0, f.1) ]
 row_set (r ∷ rows) zero k row e is (suc n) j = inl refl
 row_set (r ∷ rows) (suc m) k row e is zero j = inl refl
-row_set (r ∷ rows) (suc m) k row e is (suc n) j = elim (row_set rows m k row e is n j) [ inl f ↦ inl f | inr f ↦ inr (ap suc f.0, f.1.0, f.1.1) ]
+row_set (r ∷ rows) (suc m) k row e is (suc n) j = elim (row_set rows m k row e is n j) [ inl f ↦ inl f | inr f ↦ inr (ap suc f.0, f.1, f.2) ]
 
 item_there : (xs : List End) (k : ℕ) (e : End) → k < length xs → get_or (slice_set xs k e) k Unknown ≡ e
 item_there [] k e less = absurd (omega arith)
@@ -71,7 +71,7 @@ sets_one rows via e row is = record {
   there = λ within. row_there rows via.«module» via.item row e is within;
   others = λ v. elim (row_set rows via.«module» via.item row e is v.«module» v.item) [
     | inl f ↦ inl f
-    | inr f ↦ inr (λ i. record { «module» = f.0 i; item = f.1.0 i }, f.1.1)
+    | inr f ↦ inr (λ i. record { «module» = f.0 i; item = f.1 i }, f.2)
   ];
 }
 
@@ -133,8 +133,8 @@ module _ (ms : Modules) (old mid new : Rows) (first : Via) (met : List Via) (e :
   found_right find tabled v x is = elim (s.others v) [
     | inl f ↦ subst (λ y. IsRight ms find x y) (sym f) (w.right find tabled v x is)
     | inr f ↦ (let g = w.ends find tabled v f.0 in
-        let same : g.0 ≡ x = same_some (sym g.1.0 ∙ is) in
-        subst (λ y. IsRight ms find x y) (sym f.1) (subst (λ z. IsRight ms find z e) same (end_right ms find g.0 e g.1.1)))
+        let same : g.0 ≡ x = same_some (sym g.1 ∙ is) in
+        subst (λ y. IsRight ms find x y) (sym f.1) (subst (λ z. IsRight ms find z e) same (end_right ms find g.0 e g.2)))
   ]
 
   pub found_none : NoneSought new

@@ -91,7 +91,7 @@ module _ (ms : Modules) (old : Rows) (first via : Via) (met : List Via) (rows : 
     }
 
     first_met : Contains (met ++ via ∷ []) first
-    first_met = elim u.begun [ inl e ↦ subst (λ x. Contains (met ++ via ∷ []) x) e.1.0 (last_in met via) | inr c ↦ Contains-append_left met (via ∷ []) first c ]
+    first_met = elim u.begun [ inl e ↦ subst (λ x. Contains (met ++ via ∷ []) x) e.1 (last_in met via) | inr c ↦ Contains-append_left met (via ∷ []) first c ]
 
     module _ (s : Symbol) (is : symbol_via ms via ≡ Some s) where
       to_here : (find : Finder) (x : Option Symbol) → Comes find x (symbol_via ms via) → (last : Symbol) (step : Path) (to : Option Symbol) → to ≡ Some last → next find s ≡ leads last → Comes find x to
@@ -153,7 +153,7 @@ module _ (ms : Modules) (old : Rows) (first via : Via) (met : List Via) (rows : 
     others = u.marks.others;
     sought = u.marks.sought;
     begun = λ s is. elim u.begun [
-      | inl e ↦ inl (subst (λ v. end_at rows v ≢ Unknown) e.1.0 (there s (ap (symbol_via ms) e.1.0 ∙ is)))
+      | inl e ↦ inl (subst (λ v. end_at rows v ≢ Unknown) e.1 (there s (ap (symbol_via ms) e.1 ∙ is)))
       | inr c ↦ inr c
     ];
     ends = λ find tabled v c. let k = u.comes find tabled v c in (k.first, k.is_first, end_behind ms find k.chain end (is_end find tabled k.last k.is_last));

@@ -1,4 +1,5 @@
-use Rattle.std.proofs.Common.{◌≡◌, sym, ap, ◌∙◌, subst, Some, None, slice_get, ℕ, ◌<◌, ◌^◌}
+use Rattle.std.proofs.Common.{◌≡◌, sym, ap, ◌∙◌, subst, Some, None, slice_get, ℕ, ◌<◌, ◌^◌, arith, rules}
+use Rattle.std.proofs.lemmas.Grind.{common_steps}
 use Rattle.std.specs.Prelude.{string_bytes}
 use Rattle.std.specs.Option.{option_copied}
 use Rattle.wesl_chains.specs.Outlines.{Path}
@@ -16,9 +17,9 @@ pub returns-in-Some-get : goal.returns-in-Some-get
 returns-in-Some-get c =
     let m = c.in-Some.module.now in
     let is : slice_get c.args.modules.now.list.items c.args.number ≡ Some m = sym c.get.ensures ∙ ap option_copied c.in-Some.is in
-    let fits : c.args.reference < 2 ^ 32 = search in
-    let e : slice_get m.sought.items c.args.reference ≡ Some (Imported c.in-Some-Imported.item) = search in
-    let i : import_at m c.in-Some-Imported.item ≡ Some (import_said m.targets.items c.in-Some-get.item.now) = search in
+    let fits : c.args.reference < 2 ^ 32 = first_of (search rules, grind (arith, common_steps)) in
+    let e : slice_get m.sought.items c.args.reference ≡ Some (Imported c.in-Some-Imported.item) = first_of (search rules, grind (arith, common_steps)) in
+    let i : import_at m c.in-Some-Imported.item ≡ Some (import_said m.targets.items c.in-Some-get.item.now) = first_of (search rules, grind (arith, common_steps)) in
     starts c.args.modules.now c.args.number c.args.reference m c.start_by.result is fits (λ p h.
         let home : string_bytes m.target.printed_path ≡ p = same_some (ap (λ o. elim o [ Some x ↦ Some (string_bytes x.target.printed_path) | None ↦ None ]) (sym is) ∙ h) in
         c.start_by.ensures c.args.modules.now ∙ ap (λ q. begins q (import_sense (Some (import_said m.targets.items c.in-Some-get.item.now)))) home
@@ -28,8 +29,8 @@ pub returns-in-Some-Item : goal.returns-in-Some-Item
 returns-in-Some-Item c =
     let m = c.in-Some.module.now in
     let is : slice_get c.args.modules.now.list.items c.args.number ≡ Some m = sym c.get.ensures ∙ ap option_copied c.in-Some.is in
-    let fits : c.args.reference < 2 ^ 32 = search in
-    let e : slice_get m.sought.items c.args.reference ≡ Some (Item c.in-Some-Item.target c.in-Some-Item.name) = search in
+    let fits : c.args.reference < 2 ^ 32 = first_of (search rules, grind (arith, common_steps)) in
+    let e : slice_get m.sought.items c.args.reference ≡ Some (Item c.in-Some-Item.target c.in-Some-Item.name) = first_of (search rules, grind (arith, common_steps)) in
     starts c.args.modules.now c.args.number c.args.reference m _ is fits (λ p h.
         ap (λ n. seeks (record { home = string_bytes c.in-Some-Item.target.printed_path; name = n })) c.as_str.ensures ∙ ap (λ g. begins p (sense_said m g)) (sym e))
 
@@ -37,7 +38,7 @@ pub returns-in-None : goal.returns-in-None
 returns-in-None c =
     let m = c.in-Some.module.now in
     let is : slice_get c.args.modules.now.list.items c.args.number ≡ Some m = sym c.get.ensures ∙ ap option_copied c.in-Some.is in
-    let fits : c.args.reference < 2 ^ 32 = search in
+    let fits : c.args.reference < 2 ^ 32 = first_of (search rules, grind (arith, common_steps)) in
     starts c.args.modules.now c.args.number c.args.reference m _ is fits (λ p h. elim c.in-None-1.branch [
-      in-None-1 w ↦ (let e : slice_get m.sought.items c.args.reference ≡ None = search in ap (λ g. begins p (sense_said m g)) (sym e))
-    | in-Some+in-Free-1 w ↦ (let e : slice_get m.sought.items c.args.reference ≡ Some Free = search in ap (λ g. begins p (sense_said m g)) (sym e)) ])
+      in-None-1 w ↦ (let e : slice_get m.sought.items c.args.reference ≡ None = first_of (search rules, grind (arith, common_steps)) in ap (λ g. begins p (sense_said m g)) (sym e))
+    | in-Some+in-Free-1 w ↦ (let e : slice_get m.sought.items c.args.reference ≡ Some Free = first_of (search rules, grind (arith, common_steps)) in ap (λ g. begins p (sense_said m g)) (sym e)) ])
