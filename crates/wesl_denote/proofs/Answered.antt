@@ -1,6 +1,7 @@
 -- Where searches begin, and what they come to.
-use Rattle.std.proofs.Common.{◌≡◌, refl, sym, ap, ◌∙◌, subst, ℕ, ◌<◌, ◌^◌, ◌⊎◌, inl, inr, List, [], ◌∷◌, ◌++◌, length, Option, Some, None}
-use Rattle.std.specs.Prelude.{slice_get}
+use Rattle.std.proofs.Common.{◌≡◌, refl, sym, ap, ◌∙◌, subst, ℕ, ◌<◌, ◌^◌, ◌⊎◌, inl, inr, List, [], ◌∷◌, ◌++◌, length, Option, Some, None, arith}
+use Rattle.std.specs.Prelude.{slice_get, get_or, nat_lt, true}
+use Rattle.std.proofs.lemmas.Option.{slice_get_read}
 use Rattle.wesl_chains.proofs.Loops.{same_some, loops_behind}
 use Rattle.wesl_chains.specs.Outlines.{Path, Symbol, Use, Outline, Finder}
 use Rattle.wesl_chains.specs.Senses.{Sense, own, imported, bare, free, sense}
@@ -21,6 +22,12 @@ use Rattle.wesl_denote.specs.Links.{symbol_via, step_of, declared_in, outcome_of
 use Rattle.wesl_denote.specs.Ends.{IsEnd, HasEnded, Starts, ComesTo}
 
 -- ---- starts
+
+-- what is read of a slice
+pub read : {X : Type 0} (xs ys : List X) (i : ℕ) (x : X) → ys ≡ xs → (true ≡ nat_lt i (length ys)) × (x ≡ get_or ys i x) → slice_get xs i ≡ Some x
+read xs ys i x same r =
+    let less : i < length ys = let h = r.0 in omega (arith, h) in
+    subst (λ zs. slice_get zs i ≡ Some x) same (slice_get_read ys (length ys) i x refl less r.1)
 
 uses : (ms : Modules) (find : Finder) → AreTabled ms find → (number reference : ℕ) (p : Path) (o : Outline) (u : Use) → IsUse ms find number reference p o u
     → (m : Module) → slice_get ms.list.items number ≡ Some m → reference < 2 ^ 32 → sense_said m (slice_get m.sought.items reference) ≡ sense o u
@@ -78,24 +85,24 @@ module _ (find : Finder) where
 
   module _ (ms : Modules) (s t : Symbol) (e : next find s ≡ leads t) where
     -- behind the first link a declaration
-    pub led_to_declaration : (known : End) → IsEnd ms find t known → (spot : Spot) → known ≡ end.Declared spot → ComesTo find s (declared_in (place_at ms spot) (home_of ms spot.«module»))
-    led_to_declaration known is spot same = at (subst (λ x. IsEnd ms find t x) same is)
+    pub led_to_declaration : (ending : End) → IsEnd ms find t ending → (spot : Spot) → ending ≡ end.Declared spot → ComesTo find s (declared_in (place_at ms spot) (home_of ms spot.«module»))
+    led_to_declaration ending is spot same = at (subst (λ x. IsEnd ms find t x) same is)
       where
         at : IsEnd ms find t (end.Declared spot) → ComesTo find s (declared_in (place_at ms spot) (home_of ms spot.«module»))
         at (u, qs, h, l, n) = subst (λ y. ComesTo find s (declared_in (place_at ms spot) y)) (sym h) ((s.home ∷ qs) ++ u.home ∷ [], comes_to (onto e l) (ap (outcome_at u) n))
 
     -- or an item at which it stops
-    pub led_to_stop : (known : End) → IsEnd ms find t known → (last : Via) → known ≡ end.Stops last → (r : Option Outcome) → ((u : Symbol) → symbol_via ms last ≡ Some u → StopsAs u (next find u) r) → ComesTo find s r
-    led_to_stop known is last same r answers = at (subst (λ x. IsEnd ms find t x) same is)
+    pub led_to_stop : (ending : End) → IsEnd ms find t ending → (last : Via) → ending ≡ end.Stops last → (r : Option Outcome) → ((u : Symbol) → symbol_via ms last ≡ Some u → StopsAs u (next find u) r) → ComesTo find s r
+    led_to_stop ending is last same r answers = at (subst (λ x. IsEnd ms find t x) same is)
       where
         at : IsEnd ms find t (end.Stops last) → ComesTo find s r
         at (u, qs, v, l, n) = stopped (onto e l) (next find u) refl (λ w f. ended_leads u n w f) r (answers u v)
 
     -- or it never ends
-    pub led_round : (known : End) → IsEnd ms find t known → (known ≡ end.Unknown) ⊎ (known ≡ end.Sought) ⊎ (known ≡ end.Never) → (r : Option Outcome) → r ≡ Some (missing s) → ComesTo find s r
-    led_round known is (inl f) r h = absurd (subst (λ x. IsEnd ms find t x) f is)
-    led_round known is (inr (inl f)) r h = absurd (subst (λ x. IsEnd ms find t x) f is)
-    led_round known is (inr (inr f)) r h = subst (λ y. ComesTo find s y) (sym h) ([], is_endless (loops_behind find (onto e here) (subst (λ x. IsEnd ms find t x) f is)))
+    pub led_round : (ending : End) → IsEnd ms find t ending → (ending ≡ end.Unknown) ⊎ (ending ≡ end.Sought) ⊎ (ending ≡ end.Never) → (r : Option Outcome) → r ≡ Some (missing s) → ComesTo find s r
+    led_round ending is (inl f) r h = absurd (subst (λ x. IsEnd ms find t x) f is)
+    led_round ending is (inr (inl f)) r h = absurd (subst (λ x. IsEnd ms find t x) f is)
+    led_round ending is (inr (inr f)) r h = subst (λ y. ComesTo find s y) (sym h) ([], is_endless (loops_behind find (onto e here) (subst (λ x. IsEnd ms find t x) f is)))
 
 -- a step that leads nowhere
 pub leads_nowhere : (ms : Modules) (x : code.Step) → ((via : Via) (l : Link) → x ≡ step.Leads via l → ⊥) → (u : Symbol) → step_of ms x ≡ leads u → ⊥

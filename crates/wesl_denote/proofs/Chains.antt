@@ -87,7 +87,7 @@ length_map : {X Y : Type 0} (f : X → Y) (xs : List X) → length (map f xs) �
 length_map f [] = refl
 length_map f (x ∷ xs) = ap suc (length_map f xs)
 
-counted : (m : Module) → length (targets_of m) ≡ length m.items.items
+pub counted : (m : Module) → length (targets_of m) ≡ length m.items.items
 counted m = length_map import_target (map (import_said m.targets.items) m.items.items) ∙ length_map (import_said m.targets.items) m.items.items
 
 abbrev pub all_targets : List Module → List Symbol

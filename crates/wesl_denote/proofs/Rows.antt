@@ -20,6 +20,7 @@ use Rattle.wesl_denote.specs.declared.ends.Ends as memo
 use Rattle.wesl_denote.specs.Links.{symbol_via, published_symbol, import_in}
 use Rattle.wesl_denote.specs.Ends.{Rows, row_end, end_at, counts_of, item_counts, IsWithin, IsEnd, IsRight, AreRight, NoneSought, Keeps, IsKnown, SetsOne, SetsAll, Walks, AreEnds}
 use Rattle.wesl_denote.proofs.Chains.{right_end, end_right}
+use Rattle.wesl_denote.proofs.Known.{found_or}
 
 abbrev Row : Type 0
 Row = Vec End Global
@@ -82,14 +83,6 @@ is_found k f = subst IsKnown f k
 
 not_sought : {e : End} → IsKnown e → e ≢ Sought
 not_sought k f = subst IsKnown f k
-
-pub found_or : (e : End) → (e ≢ Unknown) → (e ≢ Sought) → IsKnown e
-found_or e u s = at e u s
-  where
-    at : (x : End) → (x ≢ Unknown) → (x ≢ Sought) → IsKnown x
-    at Unknown u s = u refl
-    at Sought u s = s refl
-    at _ u s = tt
 
 row_within : (rows : Rows) (m k : ℕ) → row_end (slice_get rows m) k ≢ Unknown → k < get_or (counts_of rows) m 0
 row_within [] m k known = absurd (known refl)
@@ -271,3 +264,31 @@ unknown_more rows row n is old v = at rows v.«module» (λ m. old (record { «m
     at [] (suc m) all = refl
     at (r ∷ rs) zero all = all 0
     at (r ∷ rs) (suc m) all = at rs m (λ k. all (suc k))
+
+counts_append : (rows : Rows) (row : Row) → counts_of (rows ++ row ∷ []) ≡ counts_of rows ++ length row.items ∷ []
+counts_append [] row = refl
+counts_append (r ∷ rows) row = ap (λ ns. length r.items ∷ ns) (counts_append rows row)
+
+take_one : (list : List Module) (n : ℕ) (m : Module) → slice_get list n ≡ Some m → take (n + 1) (item_counts list) ≡ take n (item_counts list) ++ length m.items.items ∷ []
+take_one [] n m is = absurd (cc)
+take_one (x ∷ list) zero m is = ap (λ y. length y.items.items ∷ []) (same_some is)
+take_one (x ∷ list) (suc n) m is = ap (λ ns. length x.items.items ∷ ns) (take_one list n m is)
+
+pub counts_more : (rows : Rows) (row : Row) (list : List Module) (n : ℕ) (m : Module) → counts_of rows ≡ take n (item_counts list) → slice_get list n ≡ Some m → length row.items ≡ length m.items.items
+    → counts_of (rows ++ row ∷ []) ≡ take (n + 1) (item_counts list)
+counts_more rows row list n m counts is e = counts_append rows row ∙ (λ k. counts k ++ e k ∷ []) ∙ sym (take_one list n m is)
+
+pub none_past : {X : Type 0} (xs : List X) (n : ℕ) → slice_get xs n ≡ None → n < length xs → ⊥
+none_past [] n e less = omega (arith, less)
+none_past (x ∷ xs) zero e less = absurd (cc)
+none_past (x ∷ xs) (suc n) e less = none_past xs n e (omega (arith, less))
+
+pub take_all : {X : Type 0} (xs : List X) (n : ℕ) → length xs ≤ n → take n xs ≡ xs
+take_all [] zero le = refl
+take_all [] (suc n) le = refl
+take_all (x ∷ xs) zero le = absurd (omega (arith, le))
+take_all (x ∷ xs) (suc n) le = ap (λ ys. x ∷ ys) (take_all xs n (omega (arith, le)))
+
+pub length_replicate : {X : Type 0} (n : ℕ) (x : X) → length (replicate n x) ≡ n
+length_replicate zero x = refl
+length_replicate (suc n) x = ap suc (length_replicate n x)

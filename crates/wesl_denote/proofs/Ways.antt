@@ -16,6 +16,7 @@ use Rattle.wesl_denote.specs.declared.ends.End.TheVariants.{Unknown, Sought, Nev
 use Rattle.wesl_denote.specs.Links.{symbol_via}
 use Rattle.wesl_denote.specs.Ends.{Rows, end_at, counts_of, IsEnd, IsRight, AreRight, NoneSought, IsKnown, SetsOne, Walks}
 use Rattle.wesl_denote.proofs.Chains.{end_behind, right_end, exhausted}
+use Rattle.wesl_denote.proofs.Known.{found_or}
 
 -- one import leads to another by one link at least
 pub record Comes (find : Finder) (from to : Option Symbol) : Type 0 where
@@ -176,6 +177,13 @@ module _ (ms : Modules) (old : Rows) (first via : Via) (met : List Via) (rows : 
             there = s; before = []; onward = here; first = c.by; more = c.more;
             back = subst (λ x. Leads find x (c.by ∷ c.more) s) one (subst (λ y. Leads find c.first (c.by ∷ c.more) y) two c.chain);
           }
+
+  -- the same of an end that was read
+  pub knows_read : (e : End) → e ≡ end_at rows via → e ≢ Unknown → e ≢ Sought → Walks ms old first met rows e
+  knows_read e is there other = subst (λ x. Walks ms old first met rows x) (sym is) (knows (λ f. there (is ∙ f)) (found_or (end_at rows via) (λ f. there (is ∙ f)) (λ f. other (is ∙ f))))
+
+  pub turns_read : (e : End) → e ≡ end_at rows via → e ≢ Unknown → e ≡ Sought → Walks ms old first met rows Never
+  turns_read e is there again = turns (λ f. there (is ∙ f)) (sym is ∙ again)
 
   -- nothing leads on from it
   pub stands_still : symbol_via ms via ≡ None → Walks ms old first met rows Unknown

@@ -3,4 +3,4 @@ use Rattle.wesl_denote.specs.Ends.{SetsAll}
 use Rattle.wesl_denote.proofs.ends.Ends.find.Given as goal
 
 abbrev pub invariant-loop-via : goal.invariant-loop-via
-invariant-loop-via l = SetsAll l.initial.self.ends.items (take l.via-index l.met.items) l.end l.self.ends.items
+invariant-loop-via l = SetsAll l.initial.self.ends.items (take l.via-index l.via-items) l.end l.self.ends.items
