@@ -1,6 +1,6 @@
 -- Where searches begin, and what they come to.
-use Rattle.std.proofs.Common.{◌≡◌, refl, sym, ap, ◌∙◌, subst, ℕ, ◌<◌, ◌^◌, ◌⊎◌, inl, inr, List, [], ◌∷◌, ◌++◌, length, Option, Some, None, arith}
-use Rattle.std.specs.Prelude.{slice_get, get_or, nat_lt, true}
+use Rattle.std.proofs.Common.{◌≡◌, refl, sym, ap, ◌∙◌, subst, ℕ, ◌<◌, ◌^◌, ◌⊎◌, inl, inr, List, [], ◌∷◌, ◌++◌, length, Option, Some, None}
+use Rattle.std.specs.Prelude.{slice_get, get_or}
 use Rattle.std.proofs.lemmas.Option.{slice_get_read}
 use Rattle.wesl_chains.proofs.Loops.{same_some, loops_behind}
 use Rattle.wesl_chains.specs.Outlines.{Path, Symbol, Use, Outline, Finder}
@@ -24,10 +24,8 @@ use Rattle.wesl_denote.specs.Ends.{IsEnd, HasEnded, Starts, ComesTo}
 -- ---- starts
 
 -- what is read of a slice
-pub read : {X : Type 0} (xs ys : List X) (i : ℕ) (x : X) → ys ≡ xs → (true ≡ nat_lt i (length ys)) × (x ≡ get_or ys i x) → slice_get xs i ≡ Some x
-read xs ys i x same r =
-    let less : i < length ys = let h = r.0 in omega (arith, h) in
-    subst (λ zs. slice_get zs i ≡ Some x) same (slice_get_read ys (length ys) i x refl less r.1)
+pub read : {X : Type 0} (xs ys : List X) (i : ℕ) (x : X) → ys ≡ xs → i < length ys → x ≡ get_or ys i x → slice_get xs i ≡ Some x
+read xs ys i x same less r = subst (λ zs. slice_get zs i ≡ Some x) same (slice_get_read ys (length ys) i x refl less r)
 
 uses : (ms : Modules) (find : Finder) → AreTabled ms find → (number reference : ℕ) (p : Path) (o : Outline) (u : Use) → IsUse ms find number reference p o u
     → (m : Module) → slice_get ms.list.items number ≡ Some m → reference < 2 ^ 32 → sense_said m (slice_get m.sought.items reference) ≡ sense o u

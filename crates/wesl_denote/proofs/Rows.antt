@@ -272,7 +272,9 @@ counts_append (r ∷ rows) row = ap (λ ns. length r.items ∷ ns) (counts_appen
 take_one : (list : List Module) (n : ℕ) (m : Module) → slice_get list n ≡ Some m → take (n + 1) (item_counts list) ≡ take n (item_counts list) ++ length m.items.items ∷ []
 take_one [] n m is = absurd (cc)
 take_one (x ∷ list) zero m is = ap (λ y. length y.items.items ∷ []) (same_some is)
-take_one (x ∷ list) (suc n) m is = ap (λ ns. length x.items.items ∷ ns) (take_one list n m is)
+take_one (x ∷ list) (suc n) m is =
+    let e : suc n + 1 ≡ suc (n + 1) = omega arith in
+    ap (λ k. take k (item_counts (x ∷ list))) e ∙ ap (λ ns. length x.items.items ∷ ns) (take_one list n m is)
 
 pub counts_more : (rows : Rows) (row : Row) (list : List Module) (n : ℕ) (m : Module) → counts_of rows ≡ take n (item_counts list) → slice_get list n ≡ Some m → length row.items ≡ length m.items.items
     → counts_of (rows ++ row ∷ []) ≡ take (n + 1) (item_counts list)

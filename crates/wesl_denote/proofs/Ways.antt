@@ -1,5 +1,5 @@
 -- What the search along a chain knows on its way.
-use Rattle.std.proofs.Common.{◌≡◌, refl, sym, ap, ◌∙◌, subst, ℕ, zero, suc, ◌+◌, ◌<◌, ◌≤◌, ◌⊎◌, inl, inr, List, [], ◌∷◌, ◌++◌, length, Option, Some, None, arith, length-append}
+use Rattle.std.proofs.Common.{◌≡◌, refl, sym, ap, ◌∙◌, subst, ℕ, zero, suc, ◌+◌, ◌<◌, ◌≤◌, ◌⊎◌, inl, inr, List, [], ◌∷◌, ◌++◌, length, Option, Some, None, true, arith, length-append}
 use Rattle.std.specs.Prelude.{◌≢◌}
 use Rattle.std.specs.List.{Contains}
 use Rattle.std.proofs.lemmas.List.Elements.{Contains-append_left, Contains-append_right, Contains-append_cases}
@@ -12,9 +12,9 @@ use Rattle.wesl_tables.specs.Counts.{item_total}
 use Rattle.wesl_tables.specs.Loaded.{AreTabled}
 use Rattle.wesl_denote.specs.declared.denote.Via.{Via}
 use Rattle.wesl_denote.specs.declared.ends.End.{End}
-use Rattle.wesl_denote.specs.declared.ends.End.TheVariants.{Unknown, Sought, Never}
+use Rattle.wesl_denote.specs.declared.ends.End.TheVariants.{Unknown, Sought, Declared, Stops, Never}
 use Rattle.wesl_denote.specs.Links.{symbol_via}
-use Rattle.wesl_denote.specs.Ends.{Rows, end_at, counts_of, IsEnd, IsRight, AreRight, NoneSought, IsKnown, SetsOne, Walks}
+use Rattle.wesl_denote.specs.Ends.{Rows, end_at, counts_of, IsEnd, IsRight, AreRight, NoneSought, IsKnown, is_looked_at, said_by, SetsOne, Walks}
 use Rattle.wesl_denote.proofs.Chains.{end_behind, right_end, exhausted}
 use Rattle.wesl_denote.proofs.Known.{found_or}
 
@@ -184,6 +184,13 @@ module _ (ms : Modules) (old : Rows) (first via : Via) (met : List Via) (rows : 
 
   pub turns_read : (e : End) → e ≡ end_at rows via → e ≢ Unknown → e ≡ Sought → Walks ms old first met rows Never
   turns_read e is there again = turns (λ f. there (is ∙ f)) (sym is ∙ again)
+
+  pub knows_told : (e : End) → e ≡ end_at rows via → is_looked_at e ≡ true → Walks ms old first met rows (said_by e)
+  knows_told Unknown is known = absurd (cc)
+  knows_told Sought is known = turns_read Sought is (λ f. absurd (cc)) refl
+  knows_told (Declared spot) is known = knows_read (Declared spot) is (λ f. absurd (cc)) (λ f. absurd (cc))
+  knows_told (Stops last) is known = knows_read (Stops last) is (λ f. absurd (cc)) (λ f. absurd (cc))
+  knows_told Never is known = knows_read Never is (λ f. absurd (cc)) (λ f. absurd (cc))
 
   -- nothing leads on from it
   pub stands_still : symbol_via ms via ≡ None → Walks ms old first met rows Unknown

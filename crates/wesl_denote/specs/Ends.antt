@@ -1,5 +1,5 @@
 -- What is known of the chains that published imports begin.
-use Rattle.std.specs.Prelude.{◌≡◌, ◌≢◌, ◌⊎◌, ⊤, ℕ, ◌<◌, List, [], ◌∷◌, map, length, Option, Some, None, slice_get, get_or, Vec, Result, Ok, Err}
+use Rattle.std.specs.Prelude.{◌≡◌, ◌≢◌, ◌⊎◌, ⊤, ℕ, ◌<◌, List, [], ◌∷◌, Bool, true, false, map, length, Option, Some, None, slice_get, get_or, Vec, Result, Ok, Err}
 use Rattle.std.specs.List.{Contains}
 use Rattle.std.specs.declared.alloc.Global.{Global}
 use Rattle.wesl_tables.specs.declared.module.Module.{Module}
@@ -82,6 +82,22 @@ IsKnown Sought = ⊥
 IsKnown (Declared spot) = ⊤
 IsKnown (Stops via) = ⊤
 IsKnown Never = ⊤
+
+-- somebody has looked
+abbrev pub is_looked_at : End → Bool
+is_looked_at Unknown = false
+is_looked_at Sought = true
+is_looked_at (Declared spot) = true
+is_looked_at (Stops via) = true
+is_looked_at Never = true
+
+-- what this says of a chain that comes there: one that is still sought goes round
+abbrev pub said_by : End → End
+said_by Unknown = Unknown
+said_by Sought = Never
+said_by (Declared spot) = Declared spot
+said_by (Stops via) = Stops via
+said_by Never = Never
 
 -- nothing wrong is known
 abbrev pub IsRight : Modules → Finder → Symbol → End → Type 0

@@ -137,7 +137,8 @@ pub fn start_of<'a>(modules: &'a Modules, number: usize, reference: u32) -> Star
         return Start::Ends(Denoted::Free);
     };
     match module.sought.get(reference as usize) {
-        None | Some(Sought::Free) => Start::Ends(Denoted::Free),
+        None => Start::Ends(Denoted::Free),
+        Some(Sought::Free) => Start::Ends(Denoted::Free),
         Some(Sought::Declared(place)) => Start::Ends(Denoted::Declared(Spot {
             module: number,
             place: *place,

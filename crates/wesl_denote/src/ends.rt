@@ -5,7 +5,7 @@ ghost use Rattle.std.specs.List.{Contains};
 ghost use Rattle.wesl_tables.specs.Loaded.{AreTabled};
 ghost use Rattle.wesl_chains.specs.Outlines.{Symbol, Finder};
 ghost use Rattle.wesl_denote.specs.Links.{symbol_of, symbol_via};
-ghost use Rattle.wesl_denote.specs.Ends.{AreEnds, AreRight, NoneSought, Keeps, SetsOne, SetsAll, Walks, IsBehind, IsKnown, IsWithin, end_at, counts_of, item_counts};
+ghost use Rattle.wesl_denote.specs.Ends.{AreEnds, AreRight, NoneSought, Keeps, SetsOne, SetsAll, Walks, IsBehind, IsKnown, IsWithin, is_looked_at, said_by, end_at, counts_of, item_counts};
 ghost use Rattle.wesl_denote.specs.declared.denote.Via.{Via};
 ghost use Rattle.wesl_denote.specs.declared.ends.End.TheVariants as end;
 
@@ -114,12 +114,8 @@ impl Ends {
         let mut via = first;
         for _item in 0..=modules.item_count() {
             let known = self.get(via);
-            if known != End::Unknown {
-                return Ok(if known == End::Sought {
-                    End::Never
-                } else {
-                    known
-                });
+            if is_known(known) {
+                return Ok(told(known));
             }
             let Some(link) = link_via(modules, via) else {
                 return Ok(End::Unknown);
@@ -135,9 +131,30 @@ impl Ends {
     }
 }
 
+/// Whether somebody has looked.
+fn is_known(end: End) -> bool
+    ensures { result ≡ is_looked_at end }
+{
+    match end {
+        End::Unknown => false,
+        _ => true,
+    }
+}
+
+/// What a known end says of a chain that comes there: one that is still sought goes round.
+fn told(end: End) -> End
+    ensures { result ≡ said_by end }
+{
+    match end {
+        End::Sought => End::Never,
+        end => end,
+    }
+}
+
 /// The next item of a chain; else what the chain ends at.
 fn behind(modules: &Modules, via: Via, link: Link<'_>) -> Result<Via, End>
     ensures known { IfErr result IsKnown }
+    ensures leads { IfOk result (λ next. (t : Symbol) × (symbol_via modules.now next ≡ Some t)) }
     ensures behind { (find : Finder) → AreTabled modules.now find → symbol_via modules.now via ≡ Some (symbol_of link.entry) → IsBehind modules.now find (symbol_of link.entry) result }
 {
     match found_at(modules, link) {

@@ -16,5 +16,6 @@ loop-number-preserved c =
     let size : length c.loop-item.ends.items ≡ c.match-get.count = ap length c.loop-item.invariant ∙ length_replicate c.loop-item._item Unknown ∙ full in
     let counts : counts_of c.push-in-loop-number.new.self.items ≡ take (c.loop-number.number + 1) (item_counts list) = elim c.match-get.branch [
       in-None w ↦ absurd (none_past list c.loop-number.number (sym c.get.ensures ∙ ap option_copied w.in-None.is) less)
-    | in-Some w ↦ (let m = w.in-Some in let n = w.len-count in let k = w.count-is in ?) ] in
+    | in-Some w ↦ ap counts_of items ∙ counts_more c.loop-number.all.items c.loop-item.ends list c.loop-number.number w.in-Some.module.now c.loop-number.invariant.0
+        (sym c.get.ensures ∙ ap option_copied w.in-Some.is) (size ∙ w.count-is ∙ w.len-count.ensures ∙ w.in-Some.module.now.items.ok.0) ] in
     (counts, λ v. subst (λ rows. end_at rows v ≡ Unknown) (sym items) (unknown_more c.loop-number.all.items c.loop-item.ends c.loop-item._item c.loop-item.invariant c.loop-number.invariant.1 v))

@@ -8,18 +8,14 @@ use Rattle.wesl_tables.specs.Loaded.{AreTabled}
 use Rattle.wesl_denote.specs.declared.ends.End.TheVariants.{Unknown, Sought, Never}
 use Rattle.wesl_denote.specs.Links.{symbol_of, symbol_via}
 use Rattle.wesl_denote.specs.Ends.{Walks, IsBehind, IsKnown}
-use Rattle.wesl_denote.proofs.Ways.{Underway, knows_read, turns_read, stands_still, goes_on, ends_behind, goes_round}
+use Rattle.wesl_denote.proofs.Ways.{Underway, knows_told, stands_still, goes_on, ends_behind, goes_round}
 use Rattle.wesl_denote.proofs.ends.Ends.walk.Goals as goal
 
-pub returns-then-eq : goal.returns-then-eq
-returns-then-eq c =
-    turns_read c.args.modules.now c.args.self.now.ends.items c.args.first c.loop-item.via c.loop-item.met.items c.loop-item.self.ends.items c.loop-item._item c.loop-item.invariant
-    c.get-known.result c.get-known.ensures (let f = c.ne.ensures in let g = c.if-ne.true in ?) (let f = c.eq.ensures in let g = c.if-eq.true in ?)
-
-pub returns-else-eq : goal.returns-else-eq
-returns-else-eq c =
-    knows_read c.args.modules.now c.args.self.now.ends.items c.args.first c.loop-item.via c.loop-item.met.items c.loop-item.self.ends.items c.loop-item._item c.loop-item.invariant
-    c.get-known.result c.get-known.ensures (λ e. let f = c.ne.ensures in let g = c.if-ne.true in absurd (cc)) (λ e. let f = c.eq.ensures in let g = c.if-eq.false in absurd (cc))
+pub returns-then-is_known : goal.returns-then-is_known
+returns-then-is_known c =
+    subst (λ x. Walks c.args.modules.now c.args.self.now.ends.items c.args.first c.loop-item.met.items c.loop-item.self.ends.items x) (sym c.told.ensures)
+    (knows_told c.args.modules.now c.args.self.now.ends.items c.args.first c.loop-item.via c.loop-item.met.items c.loop-item.self.ends.items c.loop-item._item c.loop-item.invariant
+      c.get-known.result c.get-known.ensures (sym c.is_known.ensures ∙ c.if-is_known.true))
 
 pub returns-in_default : goal.returns-in_default
 returns-in_default c =
@@ -40,8 +36,21 @@ loop-item-preserved c =
     let ms = c.args.modules.now in
     let s = symbol_of c.in-Some.link in
     let is : symbol_via ms c.loop-item.via ≡ Some s = sym c.link_via.ensures ∙ ap (option_map symbol_of) c.in-Some.is in
+    let to = c.in-Ok.ensures.leads in
     subst (λ l. Underway ms c.args.self.now.ends.items c.args.first c.in-Ok.next l c.set.new.self.ends.items (c.loop-item._item + 1)) (sym c.in_ok-push.ensures.items)
-    (let b = c.in-Ok.ensures.behind in ?)
+    (goes_on ms c.args.self.now.ends.items c.args.first c.loop-item.via c.loop-item.met.items c.loop-item.self.ends.items c.loop-item._item c.loop-item.invariant
+      c.set.new.self.ends.items c.set.ensures s is c.in-Ok.next to.0 to.1
+      (λ find tabled. let b = c.in-Ok.ensures.behind find tabled is in subst (λ t. next find s ≡ leads t) (same_some (sym b.1 ∙ to.1)) b.2))
 
 pub returns-in-Ok : goal.returns-in-Ok
-returns-in-Ok c = ?
+returns-in-Ok c =
+    let ms = c.args.modules.now in
+    let s = symbol_of c.in-Some.link in
+    let is : symbol_via ms c.loop-item.via ≡ Some s = sym c.link_via.ensures ∙ ap (option_map symbol_of) c.in-Some.is in
+    let to = c.in-Ok.ensures.leads in
+    subst (λ l. Walks ms c.args.self.now.ends.items c.args.first l c.set.new.self.ends.items Never) (sym c.in_ok-push.ensures.items)
+    (goes_round ms c.args.self.now.ends.items c.args.first c.in-Ok.next (c.loop-item.met.items ++ c.loop-item.via ∷ []) c.set.new.self.ends.items (c.loop-item._item + 1)
+      (goes_on ms c.args.self.now.ends.items c.args.first c.loop-item.via c.loop-item.met.items c.loop-item.self.ends.items c.loop-item._item c.loop-item.invariant
+        c.set.new.self.ends.items c.set.ensures s is c.in-Ok.next to.0 to.1
+        (λ find tabled. let b = c.in-Ok.ensures.behind find tabled is in subst (λ t. next find s ≡ leads t) (same_some (sym b.1 ∙ to.1)) b.2))
+      c.item_count-item-end.result c.item_count-item-end.ensures (omega arith))
