@@ -13,13 +13,12 @@ use Rattle.wesl_tables.specs.Tables.{use_at, sense_said, IsTabled}
 use Rattle.wesl_tables.specs.Loaded.{home_of, numbered_module, module_at, place_at, AreSame, AreTabled, IsUse}
 use Rattle.wesl_denote.specs.declared.denote.Via.{Via}
 use Rattle.wesl_denote.specs.declared.denote.Link.{Link}
-use Rattle.wesl_denote.specs.declared.denote.Start.{Start}
 use Rattle.wesl_denote.specs.declared.denote.Step as code
 use Rattle.wesl_denote.specs.declared.denote.Step.TheVariants as step
 use Rattle.wesl_denote.specs.declared.ends.End.{End}
 use Rattle.wesl_denote.specs.declared.ends.End.TheVariants as end
-use Rattle.wesl_denote.specs.Links.{symbol_via, step_of, declared_in, outcome_of, StopsAs, IsDenoted, Beginning, known, seeks, begins, beginning_of}
-use Rattle.wesl_denote.specs.Ends.{IsEnd, HasEnded, Starts, ComesTo}
+use Rattle.wesl_denote.specs.Links.{symbol_via, step_of, declared_in, outcome_of, StopsAs, IsDenoted, Beginning, known, seeks, begins}
+use Rattle.wesl_denote.specs.Ends.{IsEnd, HasEnded, ComesTo}
 
 -- ---- starts
 
@@ -35,9 +34,10 @@ uses ms find tabled number reference p o u its m is fits =
     let t : IsTabled m o = subst (λ y. AreSame y (Some o)) there (subst (λ z. AreSame (module_at ms p) z) its.is_module (tabled p)) in
     t.senses reference fits (subst (λ v. reference < length v.list.references.keys) same its.within) ∙ ap (sense o) (subst (λ v. use_at v.list reference ≡ u) same its.is_use)
 
-pub starts : (ms : Modules) (number reference : ℕ) (m : Module) (start : Start) → slice_get ms.list.items number ≡ Some m → reference < 2 ^ 32
-    → ((p : Path) → home_of ms number ≡ Some p → beginning_of ms start ≡ begins p (sense_said m (slice_get m.sought.items reference))) → Starts ms number reference start
-starts ms number reference m start is fits said find tabled p o u its = said p (ms.keyed p number its.is_numbered) ∙ ap (begins p) (uses ms find tabled number reference p o u its m is fits)
+pub starts : (ms : Modules) (number reference : ℕ) (m : Module) (b : Beginning) → slice_get ms.list.items number ≡ Some m → reference < 2 ^ 32
+    → ((p : Path) → home_of ms number ≡ Some p → b ≡ begins p (sense_said m (slice_get m.sought.items reference)))
+    → (find : Finder) → AreTabled ms find → (p : Path) (o : Outline) (u : Use) → IsUse ms find number reference p o u → b ≡ begins p (sense o u)
+starts ms number reference m b is fits said find tabled p o u its = said p (ms.keyed p number its.is_numbered) ∙ ap (begins p) (uses ms find tabled number reference p o u its m is fits)
 
 -- ---- answers
 

@@ -15,6 +15,7 @@ returns-in-Declared-clause-behind c find tabled via =
 pub returns-in-Missing : goal.returns-in-Missing
 returns-in-Missing c = record {
   known = tt;
+  leads = tt;
   behind = λ find tabled via. (symbol_of c.args.link, [], via, here, ended find tabled);
 }
   where
