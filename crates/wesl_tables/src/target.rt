@@ -1,12 +1,10 @@
 //! Modules that a module names.
 
 ghost use Rattle.std.specs.Prelude.{◌≡◌, [], IfOk, string_bytes};
-ghost use Rattle.std.specs.Option.{option_map};
 ghost use Rattle.wgsl_path.specs.declared.path.PathOrigin.TheVariants.{Package};
 ghost use Rattle.wgsl_path.specs.Paths.{path_text};
-ghost use Rattle.wgsl_path.specs.Joining.{with_names};
 ghost use Rattle.wesl_chains.specs.Canonical.{canonical};
-ghost use Rattle.wesl_chains.specs.Senses.{meant_by, item_as_module};
+ghost use Rattle.wesl_chains.specs.Senses.{meant_by};
 
 use std::alloc::{AllocError, Global};
 use wgsl_items::{CloneIn, Items, Text};
@@ -94,16 +92,12 @@ impl ImportItem {
         alloc: Global,
         target: Option<&Target>,
         names: &Items<Text>,
-    ) -> Result<ModulePath, AllocError>
-        ensures { IfOk result (λ path. path ≡ with_names (item_as_module (option_map (λ t. t.now.path) target) self.now.name) names.now) }
-    {
+    ) -> Result<ModulePath, AllocError> {
         let names = names.clone_in(alloc)?;
         self.whole_path(alloc, target)?.join(names)
     }
 
-    fn whole_path(&self, alloc: Global, target: Option<&Target>) -> Result<ModulePath, AllocError>
-        ensures { IfOk result (λ path. path ≡ item_as_module (option_map (λ t. t.now.path) target) self.now.name) }
-    {
+    fn whole_path(&self, alloc: Global, target: Option<&Target>) -> Result<ModulePath, AllocError> {
         match target {
             None => package(alloc, self.name.as_str()),
             Some(target) => {
