@@ -1,5 +1,9 @@
 //! The tables of a module.
 
+ghost use Rattle.std.specs.Prelude.{◌≡◌};
+ghost use Rattle.std.specs.Option.{option_copied};
+ghost use Rattle.wesl_tables.specs.Tables.{target_at};
+
 use crate::error::ImportError;
 use crate::imports::Names;
 use crate::target::{ImportItem, Target, meant};
@@ -79,7 +83,9 @@ impl Module {
     }
 
     /// The module that an import item names its last name in; none where it is one bare name.
-    pub fn target_of(&self, item: &ImportItem) -> Option<&Target> {
+    pub fn target_of(&self, item: &ImportItem) -> Option<&Target>
+        ensures { option_copied result ≡ target_at self.now.targets.items item.now.«module» }
+    {
         self.targets.get(item.module?)
     }
 
