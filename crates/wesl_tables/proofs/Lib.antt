@@ -1,1 +1,3 @@
+mod Bits
 mod Pushed
+mod Trails

@@ -44,8 +44,11 @@ abbrev pub symbol_named : Import → Option Symbol
 symbol_named i = option_map (λ p. record { home = p; name = i.last }) i.home
 
 -- the import of a number
+abbrev pub import_by : List Target → List ImportItem → ℕ → Option Import
+import_by targets items n = option_map (import_said targets) (slice_get items n)
+
 abbrev pub import_at : Module → ℕ → Option Import
-import_at m n = option_map (import_said m.targets.items) (slice_get m.items.items n)
+import_at m n = import_by m.targets.items m.items.items n
 
 -- ---- the scope
 
@@ -60,15 +63,21 @@ is_entry p = not (is_void p.kind)
 abbrev pub place_number : List Place → ℕ → ℕ
 place_number places k = length (filter is_entry (take k places))
 
+abbrev pub place_by : List Place → Option Meaning → Option ℕ
+place_by places None = None
+place_by places (Some (meaning.Declared k)) = Some (place_number places k)
+place_by places (Some (meaning.Imported n)) = None
+
+abbrev pub item_by : List Target → List ImportItem → Option Meaning → Option Import
+item_by targets items None = None
+item_by targets items (Some (meaning.Declared k)) = None
+item_by targets items (Some (meaning.Imported n)) = import_by targets items n
+
 abbrev pub place_said : Module → Option Meaning → Option ℕ
-place_said m None = None
-place_said m (Some (meaning.Declared k)) = Some (place_number m.places.items k)
-place_said m (Some (meaning.Imported n)) = None
+place_said m meaning = place_by m.places.items meaning
 
 abbrev pub item_said : Module → Option Meaning → Option Import
-item_said m None = None
-item_said m (Some (meaning.Declared k)) = None
-item_said m (Some (meaning.Imported n)) = import_at m n
+item_said m meaning = item_by m.targets.items m.items.items meaning
 
 -- ---- what is used
 
@@ -83,12 +92,15 @@ abbrev pub import_sense : Option Import → Sense
 import_sense None = free
 import_sense (Some i) = symbol_sense i.last (symbol_named i)
 
+abbrev pub sense_by : List Place → List Target → List ImportItem → Option Sought → Sense
+sense_by places targets items None = free
+sense_by places targets items (Some (sought.Declared k)) = own (place_number places k)
+sense_by places targets items (Some (sought.Imported n)) = import_sense (import_by targets items n)
+sense_by places targets items (Some (sought.Item target name)) = imported (record { home = string_bytes target.printed_path; name = name })
+sense_by places targets items (Some sought.Free) = free
+
 abbrev pub sense_said : Module → Option Sought → Sense
-sense_said m None = free
-sense_said m (Some (sought.Declared k)) = own (place_number m.places.items k)
-sense_said m (Some (sought.Imported n)) = import_sense (import_at m n)
-sense_said m (Some (sought.Item target name)) = imported (record { home = string_bytes target.printed_path; name = name })
-sense_said m (Some sought.Free) = free
+sense_said m sought = sense_by m.places.items m.targets.items m.items.items sought
 
 -- ---- directives and declarations
 

@@ -1,10 +1,12 @@
 //! Modules that a module names.
 
-ghost use Rattle.std.specs.Prelude.{◌≡◌, [], IfOk, string_bytes};
+ghost use Rattle.std.specs.Prelude.{◌≡◌, [], Option, IfOk, option_map, string_bytes};
+ghost use Rattle.wgsl_path.specs.declared.path.ModulePath as spec;
+ghost use Rattle.wgsl_path.specs.Joining.{with_names};
 ghost use Rattle.wgsl_path.specs.declared.path.PathOrigin.TheVariants.{Package};
 ghost use Rattle.wgsl_path.specs.Paths.{path_text};
 ghost use Rattle.wesl_chains.specs.Canonical.{canonical};
-ghost use Rattle.wesl_chains.specs.Senses.{meant_by};
+ghost use Rattle.wesl_chains.specs.Senses.{meant_by, item_as_module};
 
 use std::alloc::{AllocError, Global};
 use wgsl_items::{CloneIn, Items, Text};
@@ -92,12 +94,18 @@ impl ImportItem {
         alloc: Global,
         target: Option<&Target>,
         names: &Items<Text>,
-    ) -> Result<ModulePath, AllocError> {
+    ) -> Result<ModulePath, AllocError>
+        ensures { (base : Option spec.ModulePath) → option_map (λ t. string_bytes t.now.printed_path) target ≡ option_map path_text base
+            → IfOk result (λ path. path_text path ≡ path_text (with_names (item_as_module base self.now.name) names.now)) }
+    {
         let names = names.clone_in(alloc)?;
         self.whole_path(alloc, target)?.join(names)
     }
 
-    fn whole_path(&self, alloc: Global, target: Option<&Target>) -> Result<ModulePath, AllocError> {
+    fn whole_path(&self, alloc: Global, target: Option<&Target>) -> Result<ModulePath, AllocError>
+        ensures { (base : Option spec.ModulePath) → option_map (λ t. string_bytes t.now.printed_path) target ≡ option_map path_text base
+            → IfOk result (λ path. path_text path ≡ path_text (item_as_module base self.now.name)) }
+    {
         match target {
             None => package(alloc, self.name.as_str()),
             Some(target) => {
