@@ -1,7 +1,8 @@
 -- Booleans and elements of lists.
-use Rattle.std.proofs.Common.{◌≡◌, refl, sym, ap, ◌∙◌, ℕ, zero, suc, ◌<◌, ◌≤◌, ◌&&◌, ◌||◌, List, [], ◌∷◌, ◌++◌, Bool, true, false, true≢false, arith, length, map, take, drop, slice_get, nat_lt, Option, Some, None}
+use Rattle.std.proofs.Common.{◌≡◌, refl, sym, ap, ◌∙◌, ℕ, zero, suc, ◌<◌, ◌≤◌, ◌&&◌, ◌||◌, List, [], ◌∷◌, ◌++◌, Bool, true, false, true≢false, arith, length, map, take, drop, slice_get, nat_lt, Option, Some, None, Result, Ok, Err, Bor}
 use Rattle.std.specs.List.{All, list_all}
-use Rattle.std.specs.Prelude.{if◌then◌else◌}
+use Rattle.std.specs.Prelude.{if◌then◌else◌, not, IfOk}
+use Rattle.std.specs.Option.{is_some, option_map, option_copied}
 use Rattle.std.proofs.lemmas.Bool.Decides.{Decides-ltb}
 
 pub below : (a b : ℕ) → nat_lt a b ≡ true → a < b
@@ -51,23 +52,64 @@ drop_take (y ∷ xs) start zero x lt e = absurd (omega arith)
 drop_take (y ∷ xs) zero (suc end) x lt e = let same : y ≡ x = cc in ap (λ z. z ∷ take end xs) same
 drop_take (y ∷ xs) (suc start) (suc end) x lt e = let less : start < end = omega arith in drop_take xs start end x less e
 
+pub drop_nothing : {A : Type 0} (n : ℕ) → drop n ([] {A = A}) ≡ []
+drop_nothing zero = refl
+drop_nothing (suc n) = refl
+
 -- nothing stands behind the end
 pub drop_past : {A : Type 0} (xs : List A) (start end : ℕ) → end ≤ start → drop start (take end xs) ≡ []
-drop_past [] start zero le = nothing start
-  where
-    nothing : {A : Type 0} (n : ℕ) → drop n ([] {A = A}) ≡ []
-    nothing zero = refl
-    nothing (suc n) = refl
-drop_past [] start (suc end) le = nothing start
-  where
-    nothing : {A : Type 0} (n : ℕ) → drop n ([] {A = A}) ≡ []
-    nothing zero = refl
-    nothing (suc n) = refl
+drop_past [] start zero le = drop_nothing start
+drop_past [] start (suc end) le = drop_nothing start
 drop_past (y ∷ xs) zero zero le = refl
-drop_past (y ∷ xs) zero (suc end) le = absurd (omega arith)
+drop_past (y ∷ xs) zero (suc end) le = absurd (omega (arith, le))
 drop_past (y ∷ xs) (suc start) zero le = refl
-drop_past (y ∷ xs) (suc start) (suc end) le = let less : end ≤ start = omega arith in drop_past xs start end less
+drop_past (y ∷ xs) (suc start) (suc end) le = let less : end ≤ start = omega (arith, le) in drop_past xs start end less
+
+pub drop_beyond : {A : Type 0} (xs : List A) (start end : ℕ) → slice_get xs start ≡ None → drop start (take end xs) ≡ []
+drop_beyond [] start zero e = drop_nothing start
+drop_beyond [] start (suc end) e = drop_nothing start
+drop_beyond (x ∷ xs) zero end e = absurd (cc)
+drop_beyond (x ∷ xs) (suc start) zero e = refl
+drop_beyond (x ∷ xs) (suc start) (suc end) e = drop_beyond xs start end e
+
+pub none_past : {A : Type 0} (xs : List A) (n : ℕ) → slice_get xs n ≡ None → slice_get xs (suc n) ≡ None
+none_past [] n e = refl
+none_past (x ∷ xs) zero e = absurd (cc)
+none_past (x ∷ xs) (suc n) e = none_past xs n e
+
+-- ---- what holds of all elements
+
+pub all_none : {A : Type 0} (P : A → Type 0) → All P []
+all_none P k d lt = absurd (omega (arith, lt))
+
+pub all_head : {A : Type 0} (P : A → Type 0) (x : A) (xs : List A) → All P (x ∷ xs) → P x
+all_head P x xs h = let some : 0 < length (x ∷ xs) = omega arith in h 0 x some
+
+pub all_tail : {A : Type 0} (P : A → Type 0) (x : A) (xs : List A) → All P (x ∷ xs) → All P xs
+all_tail P x xs h k d lt = let more : suc k < length (x ∷ xs) = omega (arith, lt) in h (suc k) d more
+
+pub all_cons : {A : Type 0} (P : A → Type 0) (x : A) (xs : List A) → P x → All P xs → All P (x ∷ xs)
+all_cons P x xs p h zero d lt = p
+all_cons P x xs p h (suc k) d lt = let less : k < length xs = omega (arith, lt) in h k d less
 
 pub all_push : {A : Type 0} (P : A → Type 0) (xs : List A) (x : A) → All P xs → P x → All P (xs ++ x ∷ [])
-all_push P [] x h p = (p, tt)
-all_push P (y ∷ xs) x h p = (h.0, all_push P xs x h.1 p)
+all_push P [] x h p = all_cons P x [] p (all_none P)
+all_push P (y ∷ xs) x h p = all_cons P y (xs ++ x ∷ []) (all_head P y xs h) (all_push P xs x (all_tail P y xs h) p)
+
+-- ---- options
+
+pub nothing : {A : Type 0} (o : Option A) (b : Bool) → is_some o ≡ not b → b ≡ true → o ≡ None
+nothing None b e t = refl
+nothing (Some x) true e t = absurd (true≢false e)
+nothing (Some x) false e t = absurd (true≢false (sym t))
+
+-- ---- results
+
+pub if_ok : {A E : Type 0} (r : Result A E) (P Q : A → Type 0) → ((x : A) → P x → Q x) → IfOk r P → IfOk r Q
+if_ok (Ok x) P Q so h = so x h
+if_ok (Err e) P Q so h = h
+
+-- what references point at
+pub copied_map : {A B : Type 0} (f : A → B) (o : Option (Bor A)) → option_map (λ r. f r.now) o ≡ option_map f (option_copied o)
+copied_map f None = refl
+copied_map f (Some r) = refl

@@ -1,5 +1,5 @@
 -- The scopes that are open, by numbers and by names.
-use Rattle.std.proofs.Common.{◌≡◌, refl, sym, ap, ◌∙◌, subst, ℕ, zero, suc, ◌<◌, ◌≤◌, ◌&&◌, ◌||◌, ◌⊎◌, inl, inr, List, [], ◌∷◌, ◌++◌, Bool, true, false, true≢false, arith, append_assoc, length, map, take, drop, slice_get, nat_lt, Option, Some, None}
+use Rattle.std.proofs.Common.{◌≡◌, refl, sym, ap, ◌∙◌, subst, ℕ, zero, suc, ◌+◌, ◌<◌, ◌≤◌, ◌&&◌, ◌||◌, ◌⊎◌, inl, inr, List, [], ◌∷◌, ◌++◌, Bool, true, false, true≢false, arith, add-one, append_assoc, length, map, take, drop, slice_get, nat_lt, Option, Some, None}
 use Rattle.std.specs.Prelude.{String, string_bytes, option_map, unwrap_or, fold, nat_eq, if◌then◌else◌}
 use Rattle.std.specs.Option.{is_some}
 use Rattle.std.specs.List.{All, list_all, list_any, flat_map}
@@ -23,7 +23,7 @@ use Rattle.wesl_mark.specs.Trail.{behind, nearest, is_bound, Leaves}
 use Rattle.wgsl_skeleton.specs.Occurrences.{is_among, hidden_by}
 use Rattle.wgsl_skeleton.specs.Flats.{Flat, enters, leaves, declares, occurs, Trail, names_on, outer, replayed}
 use Rattle.wesl_tables.specs.Uses.{read_at, name_in, trail_said, is_named_below, AreLocals, trail_after, Follows}
-use Rattle.wesl_tables.proofs.Bits.{below, both, and, same_tests, element, some_at, drop_take, drop_past}
+use Rattle.wesl_tables.proofs.Bits.{below, both, and, same_tests, element, some_at, drop_take, drop_past, drop_beyond, none_past}
 
 -- ---- one more, and one scope less
 
@@ -127,7 +127,6 @@ pub between_step : (l : MarkList) (start end : ℕ) (m : Mark) → start < end �
     → flats_between l start end ≡ flat_of (said_by l.names.keys l.references.keys m) ++ flats_between l (suc start) end
 unfolding flats_between says
 between_step l start end m lt e =
-    let f = said_by l.names.keys l.references.keys in
     flats_map (said_by l.names.keys l.references.keys) flat_of l.marks.items start end
     ∙ ap (λ ms. flat_map flat_of (map (said_by l.names.keys l.references.keys) ms)) (drop_take l.marks.items start end m lt e)
     ∙ ap (λ fs. flat_of (said_by l.names.keys l.references.keys m) ++ fs) (sym (flats_map (said_by l.names.keys l.references.keys) flat_of l.marks.items (suc start) end))
@@ -141,15 +140,34 @@ pub between_beyond : (l : MarkList) (start end : ℕ) → slice_get l.marks.item
 unfolding flats_between says
 between_beyond l start end e =
     flats_map (said_by l.names.keys l.references.keys) flat_of l.marks.items start end
-    ∙ ap (λ ms. flat_map flat_of (map (said_by l.names.keys l.references.keys) ms)) (beyond l.marks.items start end e)
-  where
-    nothing : {A : Type 0} (n : ℕ) → drop n ([] {A = A}) ≡ []
-    nothing zero = refl
-    nothing (suc n) = refl
+    ∙ ap (λ ms. flat_map flat_of (map (said_by l.names.keys l.references.keys) ms)) (drop_beyond l.marks.items start end e)
 
-    beyond : {A : Type 0} (xs : List A) (start end : ℕ) → slice_get xs start ≡ None → drop start (take end xs) ≡ []
-    beyond [] start zero e = nothing start
-    beyond [] start (suc end) e = nothing start
-    beyond (x ∷ xs) zero end e = absurd (cc)
-    beyond (x ∷ xs) (suc start) zero e = refl
-    beyond (x ∷ xs) (suc start) (suc end) e = beyond xs start end e
+pub after_append : (ms rest : List Flat) (t : Trail) → trail_after (ms ++ rest) t ≡ trail_after rest (trail_after ms t)
+after_append [] rest t = refl
+after_append (enters ∷ ms) rest t = after_append ms rest (None ∷ t)
+after_append (leaves ∷ ms) rest t = after_append ms rest (outer t)
+after_append (declares x ∷ ms) rest t = after_append ms rest (Some x ∷ t)
+after_append (occurs path x ∷ ms) rest t = after_append ms rest t
+
+pub uses_step : (l : MarkList) (at end : ℕ) (m : Mark) (old : List Entry) (before : List ℕ) (new : List Entry) (after : List ℕ) → at < end → slice_get l.marks.items at ≡ Some m
+    → Follows l (flat_of (said_by l.names.keys l.references.keys m)) old before new after
+    → map (read_at l) after ++ replayed (flats_between l (at + 1) end) (trail_said l.names.keys new) ≡ map (read_at l) before ++ replayed (flats_between l at end) (trail_said l.names.keys old)
+uses_step l at end m old before new after lt is f =
+    ap (λ k. map (read_at l) after ++ replayed (flats_between l k end) (trail_said l.names.keys new)) (add-one at)
+    ∙ f.uses (flats_between l (suc at) end)
+    ∙ ap (λ fs. map (read_at l) before ++ replayed fs (trail_said l.names.keys old)) (sym (between_step l at end m lt is))
+
+pub trail_step : (l : MarkList) (at end : ℕ) (m : Mark) (old : List Entry) (before : List ℕ) (new : List Entry) (after : List ℕ) → at < end → slice_get l.marks.items at ≡ Some m
+    → Follows l (flat_of (said_by l.names.keys l.references.keys m)) old before new after
+    → trail_after (flats_between l (at + 1) end) (trail_said l.names.keys new) ≡ trail_after (flats_between l at end) (trail_said l.names.keys old)
+trail_step l at end m old before new after lt is f =
+    ap (λ k. trail_after (flats_between l k end) (trail_said l.names.keys new)) (add-one at)
+    ∙ ap (trail_after (flats_between l (suc at) end)) f.trail
+    ∙ sym (after_append (flat_of (said_by l.names.keys l.references.keys m)) (flats_between l (suc at) end) (trail_said l.names.keys old))
+    ∙ ap (λ fs. trail_after fs (trail_said l.names.keys old)) (sym (between_step l at end m lt is))
+
+-- beyond the marks nothing is said
+pub none_step : (l : MarkList) (at end : ℕ) → slice_get l.marks.items at ≡ None → flats_between l (at + 1) end ≡ flats_between l at end
+none_step l at end e =
+    let past : slice_get l.marks.items (at + 1) ≡ None = ap (slice_get l.marks.items) (add-one at) ∙ none_past l.marks.items at e in
+    between_beyond l (at + 1) end past ∙ sym (between_beyond l at end e)

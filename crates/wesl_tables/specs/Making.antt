@@ -1,5 +1,5 @@
 -- What a module's tables are made of, and when they are refused.
-use Rattle.std.specs.Prelude.{◌≡◌, ◌⊎◌, ℕ, ◌<◌, ◌^◌, List, map, length, Bool, true, not, Option, None, Result, Ok, Err, slice_get}
+use Rattle.std.specs.Prelude.{◌≡◌, ◌⊎◌, ℕ, ◌<◌, ◌^◌, List, [], map, length, Bool, true, not, Option, None, Result, Ok, Err, slice_get}
 use Rattle.std.specs.List.{All, filter, flat_map}
 use Rattle.wgsl_path.specs.declared.path.ModulePath.{ModulePath}
 use Rattle.wgsl_skeleton.specs.ImportsTree.{Importing}
@@ -46,9 +46,9 @@ IsMade o (Err e) = (e ≡ OutOfMemory) ⊎ ((x : Name) × IsFirstAgain (scope_na
 
 -- the tables are made of these parts
 pub record IsTable (target : Target) (list : MarkList) (places : List Place) (names : Names) (m : Module) : Type 0 where
-  pub target : m.target ≡ target
-  pub list : m.list ≡ list
-  pub places : m.places.items ≡ places
+  pub is_target : m.target ≡ target
+  pub is_list : m.list ≡ list
+  pub are_places : m.places.items ≡ places
   pub targets : m.targets.items ≡ names.targets.items
   pub items : m.items.items ≡ names.items.items
   pub scope : m.scope ≡ names.scope

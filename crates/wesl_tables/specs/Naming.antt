@@ -1,6 +1,6 @@
 -- The names of a module as they are gathered: its imports item by item, then what it declares.
 use Rattle.std.specs.Prelude.{◌≡◌, ◌⊎◌, ⊤, ℕ, ◌+◌, ◌<◌, List, [], ◌∷◌, ◌++◌, map, length, Bool, Option, Some, None, Result, Ok, Err, if◌then◌else◌, slice_get, String, string_bytes}
-use Rattle.std.specs.Option.{option_map}
+use Rattle.std.specs.Option.{option_map, unwrap_or}
 use Rattle.std.specs.List.{All, Contains, flat_map}
 use Rattle.std.specs.Str.{bytes_eq}
 use Rattle.std.specs.HashMap.{HashMap, get_by_text}
@@ -12,6 +12,7 @@ use Rattle.wgsl_path.specs.declared.path.PathOrigin.{PathOrigin}
 use Rattle.wgsl_path.specs.declared.path.PathOrigin.TheVariants.{Absolute, Relative, Package}
 use Rattle.wgsl_path.specs.Paths.{path_text}
 use Rattle.wgsl_skeleton.specs.ImportsTree.{Importing}
+use Rattle.wgsl_imports.specs.declared.import.ImportItem as code
 use Rattle.wgsl_imports.specs.declared.import.ImportOf.{ImportOf}
 use Rattle.wgsl_imports.specs.declared.import.ImportContent.{ImportContent}
 use Rattle.wgsl_imports.specs.View.{content_tree}
@@ -105,7 +106,21 @@ abbrev pub Adds : Names → Name → Meaning → Result ⊤ ImportError → Name
 Adds old x meaning (Ok done) new = IsAdded old x meaning new
 Adds old x meaning (Err e) new = (e ≡ OutOfMemory) ⊎ ((e ≡ DuplicateSymbol old.path x) × ((ns : List Meant) → IsScope old.scope ns → Contains (names_in ns) x))
 
+-- the same where there is a name
+abbrev pub AddsEach : Names → List Meant → Result ⊤ ImportError → Names → Type 0
+AddsEach old [] (Ok done) new = new ≡ old
+AddsEach old [] (Err e) new = ⊥
+AddsEach old (n ∷ ns) result new = Adds old n.0 n.1 result new
+
 -- ---- items
+
+-- the name that an item brings into scope
+abbrev pub local_of : code.ImportItem → Name
+local_of x = unwrap_or (option_map (λ r. r.name) x.rename) x.ident.name
+
+-- an item behind a module
+abbrev pub item_behind : Bool → Option ModulePath → code.ImportItem → Item
+item_behind published base x = record { local = local_of x; base = base; last = x.ident.name; is_published = published }
 
 -- these items are gathered
 pub record IsGathered (n : Names) (items : List Item) : Type 0 where
@@ -135,7 +150,7 @@ nested_items published base imports = flat_map (λ i. items_in published (longer
 
 -- the names of the module at a path: of these items, and of what these places declare
 pub record IsNamed (path : ModulePath) (items : List Item) (declared : List Meant) (n : Names) : Type 0 where
-  pub path : n.path ≡ path
+  pub is_path : n.path ≡ path
   pub imports : map (import_said n.targets.items) n.items.items ≡ map import_of items
   pub scope : IsScope n.scope (numbered 0 items ++ declared)
 

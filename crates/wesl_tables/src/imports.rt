@@ -1,21 +1,25 @@
 //! The items of a module's imports.
 
-ghost use Rattle.std.specs.Prelude.{◌≡◌, ◌∷◌, [], Some, map, option_map, IfOk, OnOk};
+ghost use Rattle.std.specs.Prelude.{◌≡◌, ◌∷◌, [], Some, map, option_map, if◌then◌else◌, IfOk, OnOk};
+ghost use Rattle.std.specs.Str.{bytes_eq};
+ghost use Rattle.std.specs.HashMap.{get_by_text};
 ghost use Rattle.std.specs.Option.{option_copied};
 ghost use Rattle.std.specs.List.{list_any};
 ghost use Rattle.wgsl_attributes.specs.View.{attribute_tree, attributes_tree};
 ghost use Rattle.wgsl_imports.specs.View.{item_tree, content_tree, importing_tree};
+ghost use Rattle.wesl_chains.specs.Outlines.{Name};
 ghost use Rattle.wesl_chains.specs.Senses.{meant_by};
 ghost use Rattle.wesl_linking_spec.specs.Outlining as spec;
 ghost use Rattle.wesl_linking_spec.specs.Outlining.{items_in, items_of};
 ghost use Rattle.wesl_tables.specs.Tables.{target_at};
-ghost use Rattle.wesl_tables.specs.Naming.{HasTarget, IsTarget, OnlyMore, Adds, Gathers};
+ghost use Rattle.wesl_tables.specs.Naming.{HasTarget, IsTarget, OnlyMore, Adds, AddsEach, Gathers, declared_by, local_of};
 
 use crate::error::ImportError;
 use crate::module::Meaning;
 use crate::target::{ImportItem, Target, meant, package};
 use std::alloc::{AllocError, Global};
 use std::collections::HashMap;
+use wesl_mark::MarkList;
 use wgsl_attributes::{Attribute, AttributeNode};
 use wgsl_imports::{Import, ImportContent, ImportItem as ItemTree, ImportStatement};
 use wgsl_items::{Boxed, CloneIn, Items, Text};
@@ -68,11 +72,7 @@ impl Names {
         ensures gathers { Gathers self.old (items_in is_published module.now (item_tree item.now)) result self.new }
     {
         let number = self.items.len();
-        let local = match &item.rename {
-            Some(name) => name.as_str(),
-            None => item.ident.as_str(),
-        };
-        self.add(local, Meaning::Imported(number))?;
+        self.add(local_name(item), Meaning::Imported(number))?;
         let module = self.target(module, target)?;
         let name = Text::from_str(self.alloc, item.ident.as_str())?;
         self.items.push(ImportItem {
@@ -125,9 +125,46 @@ impl Names {
             let path = self.path.clone_in(self.alloc)?;
             return Err(ImportError::DuplicateSymbol(path, name));
         }
-        self.scope
-            .insert(String::from_str(self.alloc, name)?, meaning)?;
+        put(self.alloc, &mut self.scope, name, meaning)?;
         Ok(())
+    }
+}
+
+/// Adds the name that a place declares, if it has one.
+pub(crate) fn add_declared(
+    names: &mut Names,
+    list: &MarkList,
+    at: usize,
+    name: Option<u32>,
+) -> Result<(), ImportError>
+    ensures { AddsEach names.old (declared_by list.now.names.keys at name) result names.new }
+{
+    match name {
+        None => Ok(()),
+        Some(name) => names.add(list.name(name), Meaning::Declared(at)),
+    }
+}
+
+/// Puts a meaning under a name.
+fn put(
+    alloc: Global,
+    scope: &mut HashMap<String, Meaning>,
+    name: &str,
+    meaning: Meaning,
+) -> Result<(), AllocError>
+    ensures { OnOk result ((x : Name) → get_by_text scope.new x ≡ (if bytes_eq name.now x then Some meaning else get_by_text scope.old x)) }
+{
+    scope.insert(String::from_str(alloc, name)?, meaning)?;
+    Ok(())
+}
+
+/// The name that an item brings into scope.
+fn local_name(item: &ItemTree) -> &str
+    ensures { result.now ≡ local_of item.now }
+{
+    match &item.rename {
+        Some(name) => name.as_str(),
+        None => item.ident.as_str(),
     }
 }
 

@@ -18,7 +18,7 @@ ghost use Rattle.wesl_tables.specs.Naming.{AreNamed, IsSense, SayNames, declared
 ghost use Rattle.wesl_tables.specs.Making.{IsMade, IsOrderly, IsTable, outline_said};
 
 use crate::error::ImportError;
-use crate::imports::Names;
+use crate::imports::{Names, add_declared};
 use crate::target::{ImportItem, Target, meant};
 use crate::uses::uses_of;
 use std::alloc::{AllocError, Global};
@@ -142,9 +142,7 @@ fn names_of(
         names.add_import(statement)?;
     }
     for (at, place) in places.iter().enumerate() {
-        if let Some(name) = place.name {
-            names.add(list.name(name), Meaning::Declared(at))?;
-        }
+        add_declared(&mut names, list, at, place.name)?;
     }
     Ok(names)
 }
@@ -249,7 +247,8 @@ fn import_of<'a>(names: &'a Names, path: &ModulePath) -> Option<&'a ImportItem>
         PathOrigin::Absolute | PathOrigin::Relative(_) => None,
         PathOrigin::Package(name) => match names.scope.get(name.as_str()) {
             Some(Meaning::Imported(item)) => names.items.get(*item),
-            Some(Meaning::Declared(_)) | None => None,
+            Some(Meaning::Declared(_)) => None,
+            None => None,
         },
     }
 }

@@ -1,6 +1,6 @@
 //! The loaded modules.
 
-ghost use Rattle.std.specs.Prelude.{◌≡◌, ◌≤◌, ◌∷◌, [], ◌++◌, ◌<◌, ℕ, List, length, Some, None, slice_get, string_bytes, if◌then◌else◌, OnOk};
+ghost use Rattle.std.specs.Prelude.{◌≡◌, ◌≤◌, ◌∷◌, [], ◌++◌, ◌<◌, ℕ, List, length, Some, None, slice_get, string_bytes, if◌then◌else◌, OnOk, OnErr};
 ghost use Rattle.std.specs.Str.{bytes_eq};
 ghost use Rattle.std.specs.Option.{option_copied};
 ghost use Rattle.std.specs.BTreeMap.{get_by_text};
@@ -75,7 +75,7 @@ impl Modules {
     }
 
     /// Adds a module, with the next number.
-    #[tactic(auto, using(crate::proofs::Pushed::total_more, crate::proofs::Pushed::keyed_more))]
+    #[tactic(auto, using(crate::proofs::Pushed::total_more, crate::proofs::Pushed::keyed_pushed, crate::proofs::Pushed::keyed_same))]
     pub fn push(&mut self, alloc: Global, module: Module) -> Result<(), AllocError>
         ensures list { OnOk result (self.new.list.items ≡ self.old.list.items ++ «module» ∷ []) }
         ensures numbers { OnOk result ((p : List ℕ) → get_by_text self.new.numbers p ≡ if bytes_eq (string_bytes «module».target.printed_path) p then Some (length self.old.list.items) else get_by_text self.old.numbers p) }
@@ -87,8 +87,7 @@ impl Modules {
         let number = self.list.len();
         self.item_count = count;
         self.list.push(module)?;
-        self.numbers.insert(text, number)?;
-        Ok(())
+        note(&mut self.numbers, text, number)
     }
 
     /// The numbers of the modules in byte order of their printed paths.
@@ -112,4 +111,17 @@ impl Modules {
         }
         Ok(numbers)
     }
+}
+
+/// Notes the number of the module at a printed path. Where memory is refused nothing changes.
+fn note(
+    numbers: &mut BTreeMap<String, usize>,
+    printed_path: String,
+    number: usize,
+) -> Result<(), AllocError>
+    ensures noted { OnOk result ((p : List ℕ) → get_by_text numbers.new p ≡ if bytes_eq (string_bytes printed_path) p then Some number else get_by_text numbers.old p) }
+    ensures same { OnErr result ((p : List ℕ) → get_by_text numbers.new p ≡ get_by_text numbers.old p) }
+{
+    numbers.insert(printed_path, number)?;
+    Ok(())
 }

@@ -95,7 +95,7 @@ impl ImportItem {
         target: Option<&Target>,
         names: &Items<Text>,
     ) -> Result<ModulePath, AllocError>
-        ensures { (base : Option spec.ModulePath) → option_map (λ t. string_bytes t.now.printed_path) target ≡ option_map path_text base
+        ensures { (base : Option spec.ModulePath) → option_map (λ t. string_bytes t.now.printed_path) target.entry ≡ option_map path_text base
             → IfOk result (λ path. path_text path ≡ path_text (with_names (item_as_module base self.now.name) names.now)) }
     {
         let names = names.clone_in(alloc)?;
@@ -103,7 +103,7 @@ impl ImportItem {
     }
 
     fn whole_path(&self, alloc: Global, target: Option<&Target>) -> Result<ModulePath, AllocError>
-        ensures { (base : Option spec.ModulePath) → option_map (λ t. string_bytes t.now.printed_path) target ≡ option_map path_text base
+        ensures { (base : Option spec.ModulePath) → option_map (λ t. string_bytes t.now.printed_path) target.entry ≡ option_map path_text base
             → IfOk result (λ path. path_text path ≡ path_text (item_as_module base self.now.name)) }
     {
         match target {

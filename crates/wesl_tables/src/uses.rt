@@ -41,8 +41,9 @@ fn uses_in(
 {
     let mut uses = Vec::new(alloc);
     for at in place.start..place.end {
-        if let Some(mark) = list.marks().get(at) {
-            follow(list, mark, scopes, &mut uses)?;
+        match list.marks().get(at) {
+            None => {}
+            Some(mark) => follow(list, mark, scopes, &mut uses)?,
         }
     }
     Ok(uses)
