@@ -1,6 +1,6 @@
 -- The names of a module, gathered import by import and place by place.
 use Rattle.std.proofs.Common.{◌≡◌, refl, sym, ap, ◌∙◌, subst, ℕ, zero, suc, ◌+◌, ◌<◌, ◌⊎◌, inl, inr, List, [], ◌∷◌, ◌++◌, length, map, take, Bool, Option, Some, None, Result, Ok, Err, slice_get, get_or, arith, append_assoc}
-use Rattle.std.specs.Prelude.{String, string_bytes, ⊤}
+use Rattle.std.specs.Prelude.{String, string_bytes, ⊤, OnOk}
 use Rattle.std.specs.Option.{option_map}
 use Rattle.std.specs.List.{All, Contains, flat_map}
 use Rattle.std.specs.HashMap.{get_by_text}
@@ -28,7 +28,7 @@ use Rattle.wesl_tables.specs.declared.target.Target.{Target}
 use Rattle.wesl_tables.specs.Tables.{import_of, import_said, target_at}
 use Rattle.wesl_tables.specs.Naming.{Meant, names_in, IsScope, numbered, locals_of, declared_by, declared_from, printed_at, IsWithin, HasTarget, IsTarget, OnlyMore, IsAdded, Adds, AddsEach, IsGathered, AreGathered, IsRefused, Gathers, nested_items, IsNamed, AreNamed}
 use Rattle.wesl_tables.proofs.Bits.{get_last, all_none}
-use Rattle.wesl_tables.proofs.Items.{names_numbered, then_gathered, refused_first, refused_later, nested, flat_append, flat_more, flat_begins}
+use Rattle.wesl_tables.proofs.Items.{has_kept, names_numbered, then_gathered, refused_first, refused_later, nested, flat_append, flat_more, flat_begins}
 use Rattle.wesl_tables.proofs.Scopes.{again_more, again_here, empty_scope}
 
 -- ---- targets
@@ -47,6 +47,12 @@ new_target ts us t p e is = record {
 
 pub has_new : (us : List Target) (n : ℕ) (base : Option ModulePath) → IsTarget us base (Some n) → HasTarget us (Some n) base
 has_new us n base t = (t.within, t.printed)
+
+-- a target that was known stays so
+pub kept_after : (old new : Names) (more : List Item) (r : Result ⊤ ImportError) (n : Option ℕ) (base : Option ModulePath) → HasTarget old.targets.items n base → Gathers old more r new
+    → OnOk r (HasTarget new.targets.items n base)
+kept_after old new more (Ok done) n base h g = has_kept old.targets.items new.targets.items n base g.targets h
+kept_after old new more (Err e) n base h g = tt
 
 -- ---- imports in braces
 

@@ -31,8 +31,8 @@ use Rattle.wesl_linking_spec.specs.Outlining.{items_of}
 use Rattle.wesl_linking_spec.specs.Loading.{AreDistinct, IsFirstAgain}
 use Rattle.wesl_tables.specs.Tables.{is_void, is_entry, kind_said, import_of, import_said, import_by, place_by, item_by, place_number, use_at, sense_by, sense_said, entry_said, entries_said, IsTabled}
 use Rattle.wesl_tables.specs.Uses.{read_at, AreReferences, flats_at, uses_at, IsClosed, trail_after}
-use Rattle.wesl_tables.specs.Naming.{Meant, meaning_of, names_in, IsScope, numbered, locals_of, declared_by, declared_from, IsNamed, SayNames, IsSense}
-use Rattle.wesl_tables.specs.Making.{spot_entry, is_spot_entry, spot_entries, IsOrderly, outline_said, IsTable}
+use Rattle.wesl_tables.specs.Naming.{Meant, meaning_of, names_in, IsScope, numbered, locals_of, declared_by, declared_from, IsNamed, AreNamed, SayNames, IsSense}
+use Rattle.wesl_tables.specs.Making.{spot_entry, is_spot_entry, spot_entries, IsOrderly, outline_said, IsMade, IsTable}
 use Rattle.wesl_tables.proofs.Bits.{all_none, all_head, all_tail, all_cons}
 use Rattle.wesl_tables.proofs.Items.{names_numbered}
 use Rattle.wesl_tables.proofs.Scopes.{absent, present, apart}
@@ -243,6 +243,10 @@ module _ (path : ModulePath) (imports : List Importing) (l : MarkList) (places :
 
   pub refused_said : (x : Name) → IsFirstAgain (locals_of items ++ names_in declared) x → IsFirstAgain (scope_names (outline_said path imports spots)) x
   refused_said x again = subst (λ ns. IsFirstAgain ns x) scope_said again
+
+  pub refused_made : (e : ImportError) → AreNamed path items declared (Err e) → IsMade (outline_said path imports spots) (Err e)
+  refused_made e (inl memory) = inl memory
+  refused_made e (inr r) = inr (r.0, refused_said r.0 r.1, r.2)
 
 -- ---- entries
 

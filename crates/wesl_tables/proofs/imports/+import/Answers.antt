@@ -1,3 +1,4 @@
+use Rattle.wesl_tables.proofs.Gathering.{kept_after, collection_items, collection_more, collection_refused}
 use Rattle.wesl_tables.proofs.imports.+import.Goals as goal
 
 pub add_content-returns-in_err-add_nested-in-Collection-clause-gathers : goal.add_content-returns-in_err-add_nested-in-Collection-clause-gathers
