@@ -3,7 +3,9 @@ use Rattle.std.proofs.Common.{◌≡◌, refl, sym, ap, ◌∙◌, ℕ, zero, su
 use Rattle.std.specs.List.{All, list_all}
 use Rattle.std.specs.Prelude.{if◌then◌else◌, not, IfOk}
 use Rattle.std.specs.Option.{is_some, option_map, option_copied}
+use Rattle.std.specs.Slice.{IsItemAt}
 use Rattle.std.proofs.lemmas.Bool.Decides.{Decides-ltb}
+use Rattle.std.proofs.lemmas.Option.{slice_get_past, slice_get_read}
 
 pub below : (a b : ℕ) → nat_lt a b ≡ true → a < b
 below a b h = (Decides-ltb a b).0 h
@@ -52,22 +54,22 @@ drop_take (y ∷ xs) start zero x lt e = absurd (omega arith)
 drop_take (y ∷ xs) zero (suc end) x lt e = let same : y ≡ x = cc in ap (λ z. z ∷ take end xs) same
 drop_take (y ∷ xs) (suc start) (suc end) x lt e = let less : start < end = omega arith in drop_take xs start end x less e
 
-pub drop_nothing : {A : Type 0} (n : ℕ) → drop n ([] {A = A}) ≡ []
-drop_nothing zero = refl
-drop_nothing (suc n) = refl
-
 -- nothing stands behind the end
 pub drop_past : {A : Type 0} (xs : List A) (start end : ℕ) → end ≤ start → drop start (take end xs) ≡ []
-drop_past [] start zero le = drop_nothing start
-drop_past [] start (suc end) le = drop_nothing start
+drop_past [] zero zero le = refl
+drop_past [] (suc start) zero le = refl
+drop_past [] zero (suc end) le = refl
+drop_past [] (suc start) (suc end) le = refl
 drop_past (y ∷ xs) zero zero le = refl
 drop_past (y ∷ xs) zero (suc end) le = absurd (omega (arith, le))
 drop_past (y ∷ xs) (suc start) zero le = refl
 drop_past (y ∷ xs) (suc start) (suc end) le = let less : end ≤ start = omega (arith, le) in drop_past xs start end less
 
 pub drop_beyond : {A : Type 0} (xs : List A) (start end : ℕ) → slice_get xs start ≡ None → drop start (take end xs) ≡ []
-drop_beyond [] start zero e = drop_nothing start
-drop_beyond [] start (suc end) e = drop_nothing start
+drop_beyond [] zero zero e = refl
+drop_beyond [] (suc start) zero e = refl
+drop_beyond [] zero (suc end) e = refl
+drop_beyond [] (suc start) (suc end) e = refl
 drop_beyond (x ∷ xs) zero end e = absurd (cc)
 drop_beyond (x ∷ xs) (suc start) zero e = refl
 drop_beyond (x ∷ xs) (suc start) (suc end) e = drop_beyond xs start end e
@@ -113,3 +115,8 @@ if_ok (Err e) P Q so h = h
 pub copied_map : {A B : Type 0} (f : A → B) (o : Option (Bor A)) → option_map (λ r. f r.now) o ≡ option_map f (option_copied o)
 copied_map f None = refl
 copied_map f (Some r) = refl
+
+-- what a reference to an element points at is the element
+pub item_at : {A : Type 0} (xs : List A) (i : ℕ) (r : Option (Bor A)) → IsItemAt xs i r → option_copied r ≡ slice_get xs i
+item_at xs i None h = sym (slice_get_past xs i h.3)
+item_at xs i (Some x) h = sym (slice_get_read xs (length xs) i x.now refl h.3.0 h.1)

@@ -216,6 +216,11 @@ none_named n no_targets no_items empty = record {
 pub imports_named : (path : ModulePath) (items : List Item) (names : List (String Global)) (n : Names) → n.path ≡ path → IsGathered n items → IsNamed path items (declared_from names 0 []) n
 imports_named path items names n here g = record { is_path = here; imports = g.imports; scope = subst (IsScope n.scope) (sym (append-nil (numbered 0 items))) g.scope }
 
+get_or_any : {A : Type 0} (xs : List A) (i : ℕ) (d e : A) → i < length xs → get_or xs i d ≡ get_or xs i e
+get_or_any [] i d e lt = absurd (omega (arith, lt))
+get_or_any (x ∷ xs) zero d e lt = refl
+get_or_any (x ∷ xs) (suc i) d e lt = let less : i < length xs = omega (arith, lt) in get_or_any xs i d e less
+
 -- a place more
 module _ (path : ModulePath) (items : List Item) (names : List (String Global)) (ps : List Place) where
   pub place_more : (mid new : Names) (at : ℕ) (p : Place) (done : ⊤) → at < length ps → p ≡ get_or ps at p → IsNamed path items (declared_from names 0 (take at ps)) mid
@@ -233,3 +238,12 @@ module _ (path : ModulePath) (items : List Item) (names : List (String Global)) 
       by : (n : Option ℕ) → p.name ≡ n → AddsEach mid (declared_by names at n) (Err e) new → AreNamed path items (declared_from names 0 ps) (Err e)
       by None none stops = absurd stops
       by (Some n) some stops = place_refused path items names ps mid at p n e lt is some named stops
+
+  -- the place that stands there, whatever is read where none does
+  pub place_more_at : (mid new : Names) (at : ℕ) (d : Place) (done : ⊤) → at < length ps → IsNamed path items (declared_from names 0 (take at ps)) mid
+      → AddsEach mid (declared_by names at (get_or ps at d).name) (Ok done) new → IsNamed path items (declared_from names 0 (take (at + 1) ps)) new
+  place_more_at mid new at d done lt named added = place_more mid new at (get_or ps at d) done lt (get_or_any ps at d (get_or ps at d) lt) named added
+
+  pub place_stops_at : (mid new : Names) (at : ℕ) (d : Place) (e : ImportError) → at < length ps → IsNamed path items (declared_from names 0 (take at ps)) mid
+      → AddsEach mid (declared_by names at (get_or ps at d).name) (Err e) new → AreNamed path items (declared_from names 0 ps) (Err e)
+  place_stops_at mid new at d e lt named stops = place_stops mid new at (get_or ps at d) e lt (get_or_any ps at d (get_or ps at d) lt) named stops

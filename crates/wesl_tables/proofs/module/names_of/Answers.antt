@@ -5,7 +5,7 @@ use Rattle.std.proofs.lemmas.List.{take_all}
 use Rattle.wgsl_imports.specs.View.{importing_tree}
 use Rattle.wesl_linking_spec.specs.Outlining.{items_of}
 use Rattle.wesl_tables.specs.Naming.{declared_from, IsNamed, AreNamed}
-use Rattle.wesl_tables.proofs.Gathering.{none_named, statement_items, statement_more, statement_refused, place_more, place_stops, imports_named}
+use Rattle.wesl_tables.proofs.Gathering.{none_named, statement_items, statement_more, statement_refused, place_more_at, place_stops_at, imports_named}
 use Rattle.wesl_tables.proofs.module.names_of.Goals as goal
 
 pub loop-statement-init : goal.loop-statement-init
@@ -28,13 +28,13 @@ returns-in_err-add_declared c =
     let p = err_from_is_err_and c.from_residual-in_err-add_declared.result c.from_residual-in_err-add_declared.ensures.1 in
     rw (p.1, p.2)
     (subst (λ is. AreNamed c.args.path.now is (declared_from c.args.list.now.names.keys 0 c.args.places.now) (Err c.in_err-add_declared.field-0.0)) (sym (statement_items c.args.path.now c.args.imports.now))
-    (place_stops c.args.path.now (flat_map (λ s. items_of c.args.path.now (importing_tree s)) c.args.imports.now) c.args.list.now.names.keys c.args.places.now
-    c.loop-at.names c.add_declared.new.names c.loop-at.at c.place-item.result c.in_err-add_declared.field-0.0 c.loop-at-test.true c.place-item.is c.loop-at.invariant c.in_err-add_declared.ensures))
+    (place_stops_at c.args.path.now (flat_map (λ s. items_of c.args.path.now (importing_tree s)) c.args.imports.now) c.args.list.now.names.keys c.args.places.now
+    c.loop-at.names c.add_declared.new.names c.loop-at.at _ c.in_err-add_declared.field-0.0 c.loop-at-test.true c.loop-at.invariant c.in_err-add_declared.ensures))
 
 pub loop-at-preserved : goal.loop-at-preserved
 loop-at-preserved c =
-    place_more c.args.path.now (flat_map (λ s. items_of c.args.path.now (importing_tree s)) c.args.imports.now) c.args.list.now.names.keys c.args.places.now
-    c.loop-at.names c.add_declared.new.names c.loop-at.at c.place-item.result c.in_ok-add_declared.field-0 c.loop-at-test.true c.place-item.is c.loop-at.invariant c.in_ok-add_declared.ensures
+    place_more_at c.args.path.now (flat_map (λ s. items_of c.args.path.now (importing_tree s)) c.args.imports.now) c.args.list.now.names.keys c.args.places.now
+    c.loop-at.names c.add_declared.new.names c.loop-at.at _ c.in_ok-add_declared.field-0 c.loop-at-test.true c.loop-at.invariant c.in_ok-add_declared.ensures
 
 pub returns : goal.returns
 returns c =

@@ -13,6 +13,6 @@ returns c = record {
   items = refl;
   scope = refl;
   numbered = c.in_ok-uses.ensures.numbered;
-  uses = subst (λ (ps : List Place). All (IsClosed c.args.list) ps → map (λ references. map (read_at c.args.list) references.items) c.in_ok-uses.uses.items ≡ map (uses_at c.args.list) ps) c.as_slice.ensures c.in_ok-uses.ensures.uses;
+  uses = subst (λ (ps : List Place). All (IsClosed c.args.list) ps → map (λ references. map (read_at c.args.list) references.items) c.in_ok-uses.uses.items ≡ map (uses_at c.args.list) ps) c.as_slice.ensures.value c.in_ok-uses.ensures.uses;
   senses = c.in_ok-sought.ensures;
 }

@@ -1,9 +1,11 @@
 use Rattle.std.proofs.Common.{rules, ◌≡◌, ◌+◌, ◌<◌, ◌≤◌, ap, sym, ◌∙◌, subst, [], ◌++◌, Some, None, map, slice_get, arith}
+use Rattle.std.specs.Option.{option_copied}
 use Rattle.std.proofs.lemmas.List.{append-nil}
 use Rattle.wesl_mark.specs.declared.scopes.Scopes.{Scopes}
 use Rattle.wesl_mark.specs.Lists.{flats_between}
 use Rattle.wgsl_skeleton.specs.Flats.{replayed}
 use Rattle.wesl_tables.specs.Uses.{read_at, AreReferences, AreLocals, trail_said, trail_after, flats_at}
+use Rattle.wesl_tables.proofs.Bits.{item_at}
 use Rattle.wesl_tables.proofs.Trails.{uses_step, trail_step, none_step, between_past}
 use Rattle.wesl_tables.proofs.uses.uses_in.Goals as goal
 use Rattle.wesl_tables.proofs.uses.uses_in.Goals.{in-Some+in_ok-follow-in-Some, in-None}
@@ -23,7 +25,8 @@ loop-at-preserved c =
             trail = rw scopes (trail_step c.args.list.now c.loop-at.at c.args.place.now.end w.in-Some.mark.now _ _ _ _ lt is w.in_ok-follow-in-Some.ensures.follows ∙ c.loop-at.invariant.trail);
           }
       | in-None w ↦
-          let none : slice_get c.args.list.now.marks.items c.loop-at.at ≡ None = search rules in
+          let none : slice_get c.args.list.now.marks.items c.loop-at.at ≡ None
+          = sym (ap (λ xs. slice_get xs c.loop-at.at) c.marks.ensures) ∙ sym (item_at c.marks.result.now c.loop-at.at c.get.result c.get.ensures.lookup) ∙ ap option_copied w.in-None.is in
           let same = none_step c.args.list.now c.loop-at.at c.args.place.now.end none in
           let scopes : c.match-get.scopes.trail.items ≡ c.loop-at.scopes.trail.items = ap (λ (s : Scopes). s.trail.items) w.scopes-is in
           record {

@@ -22,7 +22,7 @@ returns-in_err-names c = λ spots h o.
     (subst
     (λ (ps : List Place).
     AreNamed c.in_ok-target.target.path (flat_map (items_of c.in_ok-target.target.path) (map importing_tree c.args.imports.now)) (declared_from c.args.list.names.keys 0 ps) (Err c.in_err-names.field-0.0))
-    c.as_slice.ensures c.in_err-names.ensures)))
+    c.as_slice.ensures.value c.in_err-names.ensures)))
 
 pub returns : goal.returns
 returns c = λ spots h o.
@@ -30,7 +30,7 @@ returns c = λ spots h o.
     let named : IsNamed c.in_ok-target.target.path (flat_map (items_of c.in_ok-target.target.path) (map importing_tree c.args.imports.now)) (declared_from c.args.list.names.keys 0 c.args.places.items) c.in_ok-names.names
     = subst
     (λ (ps : List Place). IsNamed c.in_ok-target.target.path (flat_map (items_of c.in_ok-target.target.path) (map importing_tree c.args.imports.now)) (declared_from c.args.list.names.keys 0 ps) c.in_ok-names.names)
-    c.as_slice.ensures c.in_ok-names.ensures in
+    c.as_slice.ensures.value c.in_ok-names.ensures in
     subst (λ (q : ModulePath). IsMade (outline_said q (map importing_tree c.args.imports.now) spots) (Ok c.in_ok-module.«module»)) path (
       tabled c.in_ok-target.target.path (map importing_tree c.args.imports.now) c.in_ok-target.target c.args.list c.args.places.items spots c.in_ok-names.names c.in_ok-module.«module» h o refl named c.in_ok-module.ensures,
       distinct_said c.in_ok-target.target.path (map importing_tree c.args.imports.now) c.args.list c.args.places.items spots h o c.in_ok-names.names named,
