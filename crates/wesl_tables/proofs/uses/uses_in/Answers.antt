@@ -15,7 +15,8 @@ loop-at-preserved c =
     elim c.match-get.branch [
       | in-Some+in_ok-follow-in-Some w ↦
           let lt : c.loop-at.at < c.args.place.now.end = search rules in
-          let is : slice_get c.args.list.now.marks.items c.loop-at.at ≡ Some w.in-Some.mark.now = search rules in
+          let is : slice_get c.args.list.now.marks.items c.loop-at.at ≡ Some w.in-Some.mark.now
+          = sym (ap (λ xs. slice_get xs c.loop-at.at) c.marks.ensures) ∙ sym (item_at c.marks.result.now c.loop-at.at c.get.result c.get.ensures.lookup) ∙ ap option_copied w.in-Some.is in
           let scopes : c.match-get.scopes.trail.items ≡ w.follow.new.scopes.trail.items = ap (λ (s : Scopes). s.trail.items) w.scopes-is in
           let f = w.in_ok-follow-in-Some.ensures.follows in
           record {
