@@ -1,7 +1,7 @@
 -- Booleans and elements of lists.
-use Rattle.std.proofs.Common.{◌≡◌, refl, sym, ap, ◌∙◌, ℕ, zero, suc, ◌<◌, ◌≤◌, ◌&&◌, ◌||◌, List, [], ◌∷◌, ◌++◌, Bool, true, false, true≢false, arith, length, map, take, drop, slice_get, nat_lt, Option, Some, None, Result, Ok, Err, Bor}
+use Rattle.std.proofs.Common.{◌≡◌, refl, sym, ap, ◌∙◌, ℕ, zero, suc, ◌<◌, ◌≤◌, ◌&&◌, List, [], ◌∷◌, ◌++◌, Bool, true, false, true≢false, arith, length, take, drop, slice_get, nat_lt, Option, Some, None, Result, Ok, Err, Bor}
 use Rattle.std.specs.List.{All, list_all}
-use Rattle.std.specs.Prelude.{if◌then◌else◌, not, IfOk}
+use Rattle.std.specs.Prelude.{not, IfOk}
 use Rattle.std.specs.Option.{is_some, option_map, option_copied}
 use Rattle.std.specs.Slice.{IsItemAt}
 use Rattle.std.proofs.lemmas.Bool.Decides.{Decides-ltb}

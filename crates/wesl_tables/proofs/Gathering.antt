@@ -1,5 +1,5 @@
 -- The names of a module, gathered import by import and place by place.
-use Rattle.std.proofs.Common.{◌≡◌, refl, sym, ap, ◌∙◌, subst, ℕ, zero, suc, ◌+◌, ◌<◌, ◌⊎◌, inl, inr, List, [], ◌∷◌, ◌++◌, length, map, take, Bool, Option, Some, None, Result, Ok, Err, slice_get, get_or, arith, append_assoc}
+use Rattle.std.proofs.Common.{◌≡◌, refl, sym, ap, ◌∙◌, subst, ℕ, zero, suc, ◌+◌, ◌<◌, ◌⊎◌, inl, inr, List, [], ◌∷◌, ◌++◌, length, map, take, Bool, Option, Some, None, Result, Ok, Err, get_or, arith, append_assoc}
 use Rattle.std.specs.Prelude.{String, string_bytes, ⊤, OnOk}
 use Rattle.std.specs.Option.{option_map}
 use Rattle.std.specs.List.{All, Contains, flat_map}
@@ -18,17 +18,16 @@ use Rattle.wesl_mark.specs.declared.place.Place.{Place}
 use Rattle.wesl_mark.specs.Marks.{text_at}
 use Rattle.wesl_chains.specs.Outlines.{Name, Item}
 use Rattle.wesl_linking_spec.specs.Outlining.{longer, items_in, items_of}
-use Rattle.wesl_linking_spec.specs.Loading.{AreDistinct, IsFirstAgain}
+use Rattle.wesl_linking_spec.specs.Loading.{IsFirstAgain}
 use Rattle.wesl_tables.specs.declared.error.ImportError.{ImportError}
 use Rattle.wesl_tables.specs.declared.error.ImportError.TheVariants.{DuplicateSymbol, OutOfMemory}
 use Rattle.wesl_tables.specs.declared.imports.Names.{Names}
-use Rattle.wesl_tables.specs.declared.module.Meaning.{Meaning}
-use Rattle.wesl_tables.specs.declared.module.Meaning.TheVariants.{Declared, Imported}
+use Rattle.wesl_tables.specs.declared.module.Meaning.TheVariants.{Declared}
 use Rattle.wesl_tables.specs.declared.target.Target.{Target}
-use Rattle.wesl_tables.specs.Tables.{import_of, import_said, target_at}
-use Rattle.wesl_tables.specs.Naming.{Meant, names_in, IsScope, numbered, locals_of, declared_by, declared_from, printed_at, IsWithin, HasTarget, IsTarget, OnlyMore, IsAdded, Adds, AddsEach, IsGathered, AreGathered, IsRefused, Gathers, nested_items, IsNamed, AreNamed}
+use Rattle.wesl_tables.specs.Tables.{import_said}
+use Rattle.wesl_tables.specs.Naming.{Meant, names_in, IsScope, numbered, locals_of, declared_by, declared_from, printed_at, IsWithin, HasTarget, IsTarget, IsAdded, AddsEach, IsGathered, AreGathered, IsRefused, Gathers, nested_items, IsNamed, AreNamed}
 use Rattle.wesl_tables.proofs.Bits.{get_last, all_none}
-use Rattle.wesl_tables.proofs.Items.{has_kept, names_numbered, then_gathered, refused_first, refused_later, nested, flat_append, flat_more, flat_begins}
+use Rattle.wesl_tables.proofs.Items.{has_kept, names_numbered, then_gathered, refused_first, refused_later, nested, flat_more, flat_begins}
 use Rattle.wesl_tables.proofs.Scopes.{again_more, again_here, empty_scope}
 
 -- ---- targets

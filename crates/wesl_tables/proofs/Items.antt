@@ -1,28 +1,25 @@
 -- Items of imports, one after another.
-use Rattle.std.proofs.Common.{◌≡◌, refl, sym, ap, ◌∙◌, subst, ℕ, zero, suc, ◌+◌, ◌<◌, ◌⊎◌, inl, inr, List, [], ◌∷◌, ◌++◌, length, map, take, Bool, true, false, true≢false, Option, Some, None, Result, Ok, Err, slice_get, get_or, arith, append_assoc, add-one, drop-cons}
-use Rattle.std.specs.Prelude.{if◌then◌else◌, ⊤, String, string_bytes}
+use Rattle.std.proofs.Common.{◌≡◌, refl, sym, ap, ◌∙◌, subst, ℕ, zero, suc, ◌+◌, ◌<◌, ◌⊎◌, inl, inr, List, [], ◌∷◌, ◌++◌, length, map, take, Bool, Option, Some, None, slice_get, get_or, arith, append_assoc}
+use Rattle.std.specs.Prelude.{string_bytes}
 use Rattle.std.specs.Option.{option_map}
 use Rattle.std.specs.List.{All, Contains, flat_map}
-use Rattle.std.specs.Str.{bytes_eq}
 use Rattle.std.proofs.lemmas.List.{append-nil, map-append, length-append, length-map, take_more}
 use Rattle.wgsl_path.specs.declared.path.ModulePath.{ModulePath}
-use Rattle.wgsl_path.specs.Paths.{path_text}
 use Rattle.wgsl_imports.specs.declared.import.ImportOf.{ImportOf}
 use Rattle.wgsl_imports.specs.declared.import.ImportContent.{ImportContent}
-use Rattle.wgsl_imports.specs.Tree.{Content, item, collection, Imps, nil, cons, Imp, imps}
+use Rattle.wgsl_imports.specs.Tree.{imps}
 use Rattle.wgsl_imports.specs.View.{content_tree, import_tree}
 use Rattle.wesl_tables.specs.declared.error.ImportError.{ImportError}
 use Rattle.wesl_tables.specs.declared.error.ImportError.TheVariants.{DuplicateSymbol, OutOfMemory}
 use Rattle.wesl_tables.specs.declared.imports.Names.{Names}
-use Rattle.wesl_tables.specs.declared.module.Meaning.{Meaning}
-use Rattle.wesl_tables.specs.declared.module.Meaning.TheVariants.{Declared, Imported}
+use Rattle.wesl_tables.specs.declared.module.Meaning.TheVariants.{Imported}
 use Rattle.wesl_tables.specs.declared.target.Target.{Target}
 use Rattle.wesl_tables.specs.declared.target.ImportItem.{ImportItem}
-use Rattle.wesl_chains.specs.Outlines.{Name, Item}
+use Rattle.wesl_chains.specs.Outlines.{Item}
 use Rattle.wesl_linking_spec.specs.Outlining.{longer, items_in, all_items_in}
-use Rattle.wesl_linking_spec.specs.Loading.{AreDistinct, IsFirstAgain}
-use Rattle.wesl_tables.specs.Tables.{Import, import_of, import_said, target_at}
-use Rattle.wesl_tables.specs.Naming.{Meant, names_in, IsScope, numbered, locals_of, printed_at, IsWithin, HasTarget, IsTarget, OnlyMore, IsAdded, IsGathered, AreGathered, IsRefused, Gathers, nested_items}
+use Rattle.wesl_linking_spec.specs.Loading.{IsFirstAgain}
+use Rattle.wesl_tables.specs.Tables.{import_of, import_said, target_at}
+use Rattle.wesl_tables.specs.Naming.{Meant, names_in, IsScope, numbered, locals_of, printed_at, IsWithin, HasTarget, IsTarget, OnlyMore, IsAdded, IsGathered, AreGathered, IsRefused, nested_items}
 use Rattle.wesl_tables.proofs.Bits.{all_none, all_head, all_tail, all_cons, all_push}
 use Rattle.wesl_tables.proofs.Scopes.{again_more, again_here}
 

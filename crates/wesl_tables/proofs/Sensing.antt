@@ -1,8 +1,7 @@
 -- What uses mean, by the names of a module.
-use Rattle.std.proofs.Common.{◌≡◌, refl, sym, ap, ◌∙◌, subst, ℕ, List, [], ◌∷◌, ◌++◌, Option, Some, None, append_assoc}
-use Rattle.std.specs.Prelude.{string_bytes, codes}
-use Rattle.std.specs.Option.{option_map, option_copied}
-use Rattle.std.specs.List.{flat_map}
+use Rattle.std.proofs.Common.{◌≡◌, refl, sym, ap, ◌∙◌, ℕ, List, [], ◌∷◌, ◌++◌, Option, Some, None, append_assoc}
+use Rattle.std.specs.Prelude.{codes}
+use Rattle.std.specs.Option.{option_map}
 use Rattle.std.specs.HashMap.{get_by_text}
 use Rattle.wgsl_path.specs.declared.path.ModulePath.{ModulePath}
 use Rattle.wgsl_path.specs.declared.path.PathOrigin.{PathOrigin}
@@ -11,13 +10,11 @@ use Rattle.wgsl_path.specs.Joining.{with_names}
 use Rattle.wgsl_path.specs.Paths.{path_text, origin_text, components_text}
 use Rattle.wesl_mark.specs.declared.place.Place.{Place}
 use Rattle.wesl_chains.specs.Outlines.{Name, Item, Outline, item_named, place_of}
-use Rattle.wesl_chains.specs.Senses.{Sense, own, imported, bare, free, base_sense, item_sense, name_sense, item_as_module, unless_imported, module_meant, meant_by, sense}
+use Rattle.wesl_chains.specs.Senses.{own, free, base_sense, item_sense, name_sense, item_as_module, unless_imported, module_meant, meant_by, sense}
 use Rattle.wesl_tables.specs.declared.imports.Names.{Names}
 use Rattle.wesl_tables.specs.declared.module.Meaning.{Meaning}
 use Rattle.wesl_tables.specs.declared.module.Meaning.TheVariants.{Declared, Imported}
-use Rattle.wesl_tables.specs.declared.target.Target.{Target}
-use Rattle.wesl_tables.specs.declared.target.ImportItem.{ImportItem}
-use Rattle.wesl_tables.specs.Tables.{Import, import_of, import_said, import_by, place_by, item_by, place_number, symbol_named, symbol_sense, import_sense}
+use Rattle.wesl_tables.specs.Tables.{Import, import_of, import_by, place_by, item_by, place_number, symbol_sense, import_sense}
 use Rattle.wesl_tables.specs.Naming.{SayNames, leading}
 use Rattle.wesl_tables.proofs.Items.{flat_append}
 

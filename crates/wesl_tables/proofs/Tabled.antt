@@ -1,8 +1,8 @@
 -- The tables of a module say its outline.
-use Rattle.std.proofs.Common.{◌≡◌, refl, sym, ap, ◌∙◌, subst, ℕ, zero, suc, ◌+◌, ◌<◌, ◌^◌, ◌⊎◌, inl, inr, List, [], ◌∷◌, ◌++◌, length, map, take, Bool, true, false, true≢false, Option, Some, None, Result, Ok, Err, slice_get, arith, append_assoc}
-use Rattle.std.specs.Prelude.{if◌then◌else◌, not, string_bytes, String, Vec, unwrap_or}
+use Rattle.std.proofs.Common.{◌≡◌, refl, sym, ap, ◌∙◌, subst, ℕ, suc, ◌+◌, ◌<◌, ◌^◌, inl, inr, List, [], ◌∷◌, ◌++◌, length, map, take, Bool, true, false, Option, Some, None, Err, slice_get, arith, append_assoc}
+use Rattle.std.specs.Prelude.{if◌then◌else◌, not, String, Vec, unwrap_or}
 use Rattle.std.specs.Option.{option_map}
-use Rattle.std.specs.List.{All, AllZip, Contains, filter, filter_map, flat_map}
+use Rattle.std.specs.List.{All, AllZip, filter, filter_map, flat_map}
 use Rattle.std.specs.Str.{bytes_eq}
 use Rattle.std.specs.HashMap.{get_by_text}
 use Rattle.std.specs.declared.alloc.Global.{Global}
@@ -15,27 +15,26 @@ use Rattle.wgsl_skeleton.specs.ImportsTree.{Importing}
 use Rattle.wgsl_skeleton.specs.Flats.{replayed}
 use Rattle.wesl_mark.specs.declared.mark.MarkList.{MarkList}
 use Rattle.wesl_mark.specs.declared.place.Place.{Place}
-use Rattle.wesl_mark.specs.Marks.{name_at, text_at}
+use Rattle.wesl_mark.specs.Marks.{text_at}
 use Rattle.wesl_mark.specs.Places.{Spot, IsNumber, IsSpot}
 use Rattle.wesl_tables.specs.declared.error.ImportError.{ImportError}
-use Rattle.wesl_tables.specs.declared.error.ImportError.TheVariants.{DuplicateSymbol, OutOfMemory}
 use Rattle.wesl_tables.specs.declared.imports.Names.{Names}
 use Rattle.wesl_tables.specs.declared.module.Meaning.{Meaning}
 use Rattle.wesl_tables.specs.declared.module.Meaning.TheVariants.{Declared, Imported}
 use Rattle.wesl_tables.specs.declared.module.Module.{Module}
 use Rattle.wesl_tables.specs.declared.target.Target.{Target}
 use Rattle.wesl_tables.specs.declared.target.ImportItem.{ImportItem}
-use Rattle.wesl_chains.specs.Outlines.{Name, Item, Use, Entry, Outline, own_names, scope_names, item_named, is_named, place_from, place_of}
+use Rattle.wesl_chains.specs.Outlines.{Name, Item, Use, Entry, scope_names, item_named, is_named, place_from, place_of}
 use Rattle.wesl_chains.specs.Senses.{sense}
 use Rattle.wesl_linking_spec.specs.Outlining.{items_of}
 use Rattle.wesl_linking_spec.specs.Loading.{AreDistinct, IsFirstAgain}
 use Rattle.wesl_tables.specs.Tables.{is_void, is_entry, kind_said, import_of, import_said, import_by, place_by, item_by, place_number, use_at, sense_by, sense_said, entry_said, entries_said, IsTabled}
-use Rattle.wesl_tables.specs.Uses.{read_at, AreReferences, flats_at, uses_at, IsClosed, trail_after}
-use Rattle.wesl_tables.specs.Naming.{Meant, meaning_of, names_in, IsScope, numbered, locals_of, declared_by, declared_from, IsNamed, AreNamed, SayNames, IsSense}
+use Rattle.wesl_tables.specs.Uses.{read_at, AreReferences, uses_at, IsClosed, trail_after}
+use Rattle.wesl_tables.specs.Naming.{Meant, meaning_of, names_in, numbered, locals_of, declared_by, declared_from, IsNamed, AreNamed, SayNames}
 use Rattle.wesl_tables.specs.Making.{spot_entry, is_spot_entry, spot_entries, IsOrderly, outline_said, IsMade, IsTable}
 use Rattle.wesl_tables.proofs.Bits.{all_none, all_head, all_tail, all_cons}
 use Rattle.wesl_tables.proofs.Items.{names_numbered}
-use Rattle.wesl_tables.proofs.Scopes.{absent, present, apart}
+use Rattle.wesl_tables.proofs.Scopes.{present, apart}
 
 -- ---- the name of a place
 

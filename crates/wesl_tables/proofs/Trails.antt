@@ -1,12 +1,11 @@
 -- The scopes that are open, by numbers and by names.
-use Rattle.std.proofs.Common.{◌≡◌, refl, sym, ap, ◌∙◌, subst, ℕ, zero, suc, ◌+◌, ◌<◌, ◌≤◌, ◌&&◌, ◌||◌, ◌⊎◌, inl, inr, List, [], ◌∷◌, ◌++◌, Bool, true, false, true≢false, arith, add-one, append_assoc, length, map, take, drop, slice_get, nat_lt, Option, Some, None}
+use Rattle.std.proofs.Common.{◌≡◌, refl, sym, ap, ◌∙◌, subst, ℕ, zero, suc, ◌+◌, ◌<◌, ◌≤◌, ◌&&◌, ◌||◌, ◌⊎◌, inl, inr, List, [], ◌∷◌, ◌++◌, Bool, true, false, true≢false, add-one, length, map, take, drop, slice_get, nat_lt, Option, Some, None}
 use Rattle.std.specs.Prelude.{String, string_bytes, option_map, unwrap_or, fold, nat_eq, if◌then◌else◌}
 use Rattle.std.specs.Option.{is_some}
-use Rattle.std.specs.List.{All, list_all, list_any, flat_map}
+use Rattle.std.specs.List.{list_all, flat_map}
 use Rattle.std.specs.Str.{bytes_eq}
 use Rattle.std.specs.declared.alloc.Global.{Global}
 use Rattle.std.proofs.lemmas.Bool.Decides.{Decides-eqb}
-use Rattle.std.proofs.lemmas.List.{append-nil, map-append}
 use Rattle.std.proofs.lemmas.List.Sums.{fold-append}
 use Rattle.std.proofs.lemmas.List.Folds.{list_all-append}
 use Rattle.wgsl_path.specs.declared.path.ModulePath.{ModulePath}
@@ -16,7 +15,6 @@ use Rattle.wesl_mark.specs.declared.mark.Mark.{Mark}
 use Rattle.wesl_mark.specs.declared.mark.MarkList.{MarkList}
 use Rattle.wesl_mark.specs.declared.scopes.Entry.{Entry}
 use Rattle.wesl_mark.specs.declared.scopes.Entry.TheVariants.{Start, Bound}
-use Rattle.wesl_mark.specs.declared.scopes.Shadowing.{Shadowing}
 use Rattle.wesl_mark.specs.Marks.{Name, name_at, text_at, path_of, name_of, said_by, flat_of, AreApart, AreNamed}
 use Rattle.wesl_mark.specs.Lists.{says, flats_between}
 use Rattle.wesl_mark.specs.Trail.{behind, nearest, is_bound, Leaves}

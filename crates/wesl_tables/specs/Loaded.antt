@@ -1,6 +1,5 @@
 -- What the tables of loaded modules say of their outlines.
 use Rattle.std.specs.Prelude.{◌≡◌, ⊤, ℕ, ◌<◌, length, Option, Some, None, slice_get}
-use Rattle.std.specs.Option.{option_map}
 use Rattle.std.specs.BTreeMap.{get_by_text}
 use Rattle.wesl_tables.specs.declared.module.Module.{Module}
 use Rattle.wesl_tables.specs.declared.modules.Modules.{Modules}

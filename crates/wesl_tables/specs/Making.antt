@@ -1,5 +1,5 @@
 -- What a module's tables are made of, and when they are refused.
-use Rattle.std.specs.Prelude.{◌≡◌, ◌⊎◌, ℕ, ◌<◌, ◌^◌, List, [], map, length, Bool, true, not, Option, None, Result, Ok, Err, slice_get}
+use Rattle.std.specs.Prelude.{◌≡◌, ◌⊎◌, ℕ, ◌<◌, ◌^◌, List, [], map, length, Bool, true, not, None, Result, Ok, Err, slice_get}
 use Rattle.std.specs.List.{All, filter, flat_map}
 use Rattle.wgsl_path.specs.declared.path.ModulePath.{ModulePath}
 use Rattle.wgsl_skeleton.specs.ImportsTree.{Importing}

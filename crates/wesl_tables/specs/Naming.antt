@@ -1,5 +1,5 @@
 -- The names of a module as they are gathered: its imports item by item, then what it declares.
-use Rattle.std.specs.Prelude.{◌≡◌, ◌⊎◌, ⊤, ℕ, ◌+◌, ◌<◌, List, [], ◌∷◌, ◌++◌, map, length, Bool, Option, Some, None, Result, Ok, Err, if◌then◌else◌, slice_get, String, string_bytes}
+use Rattle.std.specs.Prelude.{◌≡◌, ◌⊎◌, ⊤, ℕ, ◌+◌, ◌<◌, List, [], ◌∷◌, ◌++◌, map, length, Bool, Option, Some, None, Result, Ok, Err, if◌then◌else◌, String, string_bytes}
 use Rattle.std.specs.Option.{option_map, unwrap_or}
 use Rattle.std.specs.List.{All, Contains, flat_map}
 use Rattle.std.specs.Str.{bytes_eq}
@@ -11,12 +11,10 @@ use Rattle.wgsl_path.specs.declared.path.ModulePath.{ModulePath}
 use Rattle.wgsl_path.specs.declared.path.PathOrigin.{PathOrigin}
 use Rattle.wgsl_path.specs.declared.path.PathOrigin.TheVariants.{Absolute, Relative, Package}
 use Rattle.wgsl_path.specs.Paths.{path_text}
-use Rattle.wgsl_skeleton.specs.ImportsTree.{Importing}
 use Rattle.wgsl_imports.specs.declared.import.ImportItem as code
 use Rattle.wgsl_imports.specs.declared.import.ImportOf.{ImportOf}
 use Rattle.wgsl_imports.specs.declared.import.ImportContent.{ImportContent}
 use Rattle.wgsl_imports.specs.View.{content_tree}
-use Rattle.wesl_mark.specs.declared.mark.MarkList.{MarkList}
 use Rattle.wesl_mark.specs.declared.place.Place.{Place}
 use Rattle.wesl_mark.specs.Marks.{text_at}
 use Rattle.wesl_tables.specs.declared.error.ImportError.{ImportError}
@@ -26,12 +24,11 @@ use Rattle.wesl_tables.specs.declared.module.Meaning.{Meaning}
 use Rattle.wesl_tables.specs.declared.module.Meaning.TheVariants.{Declared, Imported}
 use Rattle.wesl_tables.specs.declared.module.Sought.{Sought}
 use Rattle.wesl_tables.specs.declared.target.Target.{Target}
-use Rattle.wesl_tables.specs.declared.target.ImportItem.{ImportItem}
 use Rattle.wesl_chains.specs.Outlines.{Name, Item, Use, Outline, item_named, place_of}
-use Rattle.wesl_chains.specs.Senses.{Sense, sense}
+use Rattle.wesl_chains.specs.Senses.{sense}
 use Rattle.wesl_linking_spec.specs.Loading.{AreDistinct, IsFirstAgain}
-use Rattle.wesl_linking_spec.specs.Outlining.{longer, items_in, items_of}
-use Rattle.wesl_tables.specs.Tables.{import_of, import_said, target_at, import_by, place_by, item_by, sense_by, use_at}
+use Rattle.wesl_linking_spec.specs.Outlining.{longer, items_in}
+use Rattle.wesl_tables.specs.Tables.{import_of, import_said, target_at, place_by, item_by, sense_by}
 
 -- ---- the scope
 

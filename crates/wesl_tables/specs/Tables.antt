@@ -1,6 +1,6 @@
 -- What the tables of a module say of its outline. Numbers that the tables made up stand here alone: those of names, references, targets
 -- and imports, and places, which count `;`.
-use Rattle.std.specs.Prelude.{◌≡◌, ℕ, ◌+◌, ◌<◌, ◌^◌, List, [], ◌∷◌, map, length, take, Option, Some, None, Bool, true, false, not, if◌then◌else◌, slice_get, string_bytes, Vec}
+use Rattle.std.specs.Prelude.{◌≡◌, ℕ, ◌<◌, ◌^◌, List, [], ◌∷◌, map, length, take, Option, Some, None, Bool, true, false, not, if◌then◌else◌, slice_get, string_bytes, Vec}
 use Rattle.std.specs.Option.{option_map}
 use Rattle.std.specs.List.{All, filter}
 use Rattle.std.specs.HashMap.{get_by_text}

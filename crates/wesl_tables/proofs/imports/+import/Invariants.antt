@@ -1,4 +1,4 @@
-use Rattle.std.proofs.Common.{◌≡◌, take}
+use Rattle.std.proofs.Common.{take}
 use Rattle.wesl_tables.specs.Naming.{HasTarget, AreGathered, nested_items}
 use Rattle.wesl_tables.proofs.imports.+import.Given as goal
 

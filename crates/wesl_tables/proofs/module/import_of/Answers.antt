@@ -1,4 +1,4 @@
-use Rattle.std.proofs.Common.{rules, ◌≡◌, sym, ap, ◌∙◌, List, Some, None, slice_get}
+use Rattle.std.proofs.Common.{rules, ◌≡◌, ap, ◌∙◌, List, Some, None, slice_get}
 use Rattle.std.specs.Option.{option_map, option_copied}
 use Rattle.std.specs.HashMap.{get_by_text}
 use Rattle.wesl_tables.specs.declared.module.Meaning.TheVariants.{Declared, Imported}

@@ -1,9 +1,8 @@
-use Rattle.std.proofs.Common.{◌≡◌, sym, ap, ◌∙◌, Some, Bor}
+use Rattle.std.proofs.Common.{◌≡◌, sym, ap, ◌∙◌, Bor}
 use Rattle.std.specs.Prelude.{string_bytes}
 use Rattle.std.specs.Option.{option_map}
 use Rattle.wgsl_path.specs.Joining.{with_names}
 use Rattle.wgsl_path.specs.Paths.{path_text}
-use Rattle.wesl_chains.specs.Outlines.{Outline}
 use Rattle.wesl_chains.specs.Senses.{item_as_module, meant_by, module_meant}
 use Rattle.wesl_tables.specs.declared.target.Target.{Target}
 use Rattle.wesl_tables.specs.Tables.{Import, import_said}

@@ -1,11 +1,11 @@
-use Rattle.std.proofs.Common.{rules, ◌≡◌, ◌<◌, ◌∙◌, refl, ap, sym, subst, length, take, get_or, map, Ok, Err, arith}
+use Rattle.std.proofs.Common.{rules, sym, subst, Err}
 use Rattle.std.specs.List.{flat_map}
 use Rattle.std.proofs.lemmas.Result.{err_from_is_err_and}
 use Rattle.std.proofs.lemmas.List.{take_all}
 use Rattle.wgsl_imports.specs.View.{importing_tree}
 use Rattle.wesl_linking_spec.specs.Outlining.{items_of}
 use Rattle.wesl_tables.specs.Naming.{declared_from, IsNamed, AreNamed}
-use Rattle.wesl_tables.proofs.Gathering.{none_named, statement_items, statement_more, statement_refused, place_more_at, place_stops_at, imports_named}
+use Rattle.wesl_tables.proofs.Gathering.{none_named, statement_items, statement_more, statement_refused, place_more_at, place_stops_at}
 use Rattle.wesl_tables.proofs.module.names_of.Goals as goal
 
 pub loop-statement-init : goal.loop-statement-init

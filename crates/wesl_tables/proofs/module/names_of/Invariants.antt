@@ -1,9 +1,8 @@
-use Rattle.std.proofs.Common.{◌≡◌, ◌++◌, map, take}
+use Rattle.std.proofs.Common.{◌≡◌, take}
 use Rattle.std.specs.List.{flat_map}
 use Rattle.wgsl_imports.specs.View.{importing_tree}
 use Rattle.wesl_linking_spec.specs.Outlining.{items_of}
-use Rattle.wesl_tables.specs.Tables.{import_of, import_said}
-use Rattle.wesl_tables.specs.Naming.{IsScope, IsGathered, IsNamed, numbered, declared_from}
+use Rattle.wesl_tables.specs.Naming.{IsGathered, IsNamed, declared_from}
 use Rattle.wesl_tables.proofs.module.names_of.Given as goal
 
 abbrev pub invariant-loop-statement : goal.invariant-loop-statement

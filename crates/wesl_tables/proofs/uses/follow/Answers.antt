@@ -1,4 +1,4 @@
-use Rattle.std.proofs.Common.{◌≡◌, ap, ◌++◌, map, subst, sym}
+use Rattle.std.proofs.Common.{ap, ◌++◌, map, subst, sym}
 use Rattle.wgsl_skeleton.specs.Flats.{replayed}
 use Rattle.wesl_mark.specs.Marks.{said_by, flat_of}
 use Rattle.wesl_tables.specs.Uses.{read_at, Follows}

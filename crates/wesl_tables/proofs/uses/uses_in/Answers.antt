@@ -1,10 +1,9 @@
-use Rattle.std.proofs.Common.{rules, ◌≡◌, ◌+◌, ◌<◌, ◌≤◌, ap, sym, ◌∙◌, subst, [], ◌++◌, Some, None, map, slice_get, arith}
+use Rattle.std.proofs.Common.{rules, ◌≡◌, ◌<◌, ◌≤◌, ap, sym, ◌∙◌, ◌++◌, Some, None, map, slice_get}
 use Rattle.std.specs.Option.{option_copied}
 use Rattle.std.proofs.lemmas.List.{append-nil}
 use Rattle.wesl_mark.specs.declared.scopes.Scopes.{Scopes}
-use Rattle.wesl_mark.specs.Lists.{flats_between}
 use Rattle.wgsl_skeleton.specs.Flats.{replayed}
-use Rattle.wesl_tables.specs.Uses.{read_at, AreReferences, AreLocals, trail_said, trail_after, flats_at}
+use Rattle.wesl_tables.specs.Uses.{read_at, trail_said, trail_after}
 use Rattle.wesl_tables.proofs.Bits.{item_at}
 use Rattle.wesl_tables.proofs.Trails.{uses_step, trail_step, none_step, between_past}
 use Rattle.wesl_tables.proofs.uses.uses_in.Goals as goal

@@ -1,4 +1,4 @@
-use Rattle.std.proofs.Common.{rules, ◌≡◌, refl, sym, subst, [], ◌∷◌, ◌++◌, length, List, ℕ, Ok, Err}
+use Rattle.std.proofs.Common.{rules, ◌≡◌, refl, subst, [], ◌∷◌, ◌++◌, length, List, ℕ, Err}
 use Rattle.std.proofs.lemmas.Result.{err_from_is_err_and}
 use Rattle.wesl_tables.specs.declared.module.Meaning.TheVariants.{Imported}
 use Rattle.wesl_tables.specs.Naming.{Adds, IsAdded, item_behind, local_of}
