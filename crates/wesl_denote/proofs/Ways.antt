@@ -99,7 +99,12 @@ module _ (ms : Modules) (old : Rows) (first via : Via) (met : List Via) (rows : 
       to_here find x c last step to is_to e =
           let same : c.last ≡ s = same_some (sym c.is_last ∙ is) in
           record {
-            first = c.first; last = last; by = c.by; more = c.more ++ s.home ∷ []; is_first = c.is_first; is_last = is_to;
+            first = c.first;
+            last = last;
+            by = c.by;
+            more = c.more ++ s.home ∷ [];
+            is_first = c.is_first;
+            is_last = is_to;
             chain = leads_more find (subst (λ y. Leads find c.first (c.by ∷ c.more) y) same c.chain) e;
           }
 
@@ -119,7 +124,10 @@ module _ (ms : Modules) (old : Rows) (first via : Via) (met : List Via) (rows : 
               let same : g.last ≡ s = same_some (sym g.is_last ∙ is) in
               let c = g.count in
               record {
-                first = g.first; last = t; by = g.by ++ s.home ∷ []; is_last = is_to;
+                first = g.first;
+                last = t;
+                by = g.by ++ s.home ∷ [];
+                is_last = is_to;
                 chain = leads_more find (subst (λ y. Leads find g.first g.by y) same g.chain) (e find tabled);
                 count = omega (arith, c, length-append g.by (s.home ∷ []));
               })
@@ -174,7 +182,11 @@ module _ (ms : Modules) (old : Rows) (first via : Via) (met : List Via) (rows : 
           let one : c.first ≡ s = same_some (sym c.is_first ∙ is) in
           let two : c.last ≡ s = same_some (sym c.is_last ∙ is) in
           record {
-            there = s; before = []; onward = here; first = c.by; more = c.more;
+            there = s;
+            before = [];
+            onward = here;
+            first = c.by;
+            more = c.more;
             back = subst (λ x. Leads find x (c.by ∷ c.more) s) one (subst (λ y. Leads find c.first (c.by ∷ c.more) y) two c.chain);
           }
 

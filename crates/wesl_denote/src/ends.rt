@@ -100,12 +100,7 @@ impl Ends {
     }
 
     /// Goes along a chain and notes which items it met; what it ends at.
-    fn walk(
-        &mut self,
-        modules: &Modules,
-        first: Via,
-        met: &mut Vec<Via>,
-    ) -> Result<End, AllocError>
+    fn walk(&mut self, modules: &Modules, first: Via, met: &mut Vec<Via>) -> Result<End, AllocError>
         requires right { AreRight modules.now self.old.ends.items }
         requires none_sought { NoneSought self.old.ends.items }
         requires none_met { met.old.items ≡ [] }

@@ -24,9 +24,9 @@ returns-in-Missing c = record {
         let s = symbol_of c.args.link in
         let said = sym (c.found_at.ensures.step find tabled) in
         elim c.in-Missing.is [
-          inl a ↦ ([], missing s, ap (outcome_at s) (said ∙ ap (step_of c.args.modules.now) a))
-        | inr b ↦ elim b [
-            inl p ↦ ([], private s, ap (outcome_at s) (said ∙ ap (step_of c.args.modules.now) p))
-          | inr u ↦ ([], unloaded s, ap (outcome_at s) (said ∙ ap (step_of c.args.modules.now) u))
+          | inl a ↦ ([], missing s, ap (outcome_at s) (said ∙ ap (step_of c.args.modules.now) a))
+          | inr b ↦ elim b [
+            | inl p ↦ ([], private s, ap (outcome_at s) (said ∙ ap (step_of c.args.modules.now) p))
+            | inr u ↦ ([], unloaded s, ap (outcome_at s) (said ∙ ap (step_of c.args.modules.now) u))
           ]
         ]
