@@ -177,7 +177,7 @@ module _ (find : Finder) where
   begun here = inl (refl, refl)
   begun (onto {t = t} {ps = ps} e l) = inr (record { to = t; rest = ps; whole = refl; is = e; chain = l })
 
-  loops_shift : {s t : Symbol} → next find s ≡ leads t → Loops find s → Loops find t
+  pub loops_shift : {s t : Symbol} → next find s ≡ leads t → Loops find s → Loops find t
   loops_shift {s = s} {t = t} e l = at (begun l.onward) (begun l.back)
     where
       at : ((l.before ≡ []) × (s ≡ l.there)) ⊎ Begun s l.there l.before → ((l.first ∷ l.more ≡ []) × (l.there ≡ l.there)) ⊎ Begun l.there l.there (l.first ∷ l.more) → Loops find t

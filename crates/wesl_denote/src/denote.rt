@@ -1,5 +1,15 @@
 //! What a name denotes: a declaration of its own module, or the end of a chain of published imports.
 
+ghost use Rattle.std.specs.Prelude.{◌≡◌, Some, slice_get, string_bytes};
+ghost use Rattle.std.specs.Option.{option_map};
+ghost use Rattle.wesl_tables.specs.declared.modules.Modules.{Modules};
+ghost use Rattle.wesl_tables.specs.Tables.{import_said, import_at, import_sense, symbol_named};
+ghost use Rattle.wesl_tables.specs.Loaded.{AreTabled};
+ghost use Rattle.wesl_chains.specs.Outlines.{Path, Symbol, Finder};
+ghost use Rattle.wesl_chains.specs.Chains.{next, missing};
+ghost use Rattle.wesl_denote.specs.Links.{symbol_of, symbol_via, step_of, item_step, IsFoundIn, outcome_of, beginning_of, begins, StopsAs};
+ghost use Rattle.wesl_denote.specs.Ends.{AreEnds, Starts, IsDenotation, ComesTo};
+
 use crate::ends::{End, Ends};
 use wesl_tables::{ImportItem, Meaning, Module, Modules, Sought, Spot, Target};
 use wgsl_path::ModulePath;
@@ -54,7 +64,11 @@ pub enum Start<'a> {
 }
 
 /// What the module of an item has under its name.
-pub fn found_at<'a>(modules: &'a Modules, link: Link<'a>) -> Step<'a> {
+#[tactic(auto, using(crate::proofs::Steps::found))]
+pub fn found_at<'a>(modules: &'a Modules, link: Link<'a>) -> Step<'a>
+    ensures step { (find : Finder) → AreTabled modules.now find → step_of modules.now result ≡ next find (symbol_of link.entry) }
+    ensures found { IsFoundIn modules.now (symbol_of link.entry).home result }
+{
     let Some(number) = modules.number_of(link.target.printed_path.as_str()) else {
         return Step::Unloaded;
     };
@@ -77,7 +91,10 @@ pub fn found_at<'a>(modules: &'a Modules, link: Link<'a>) -> Step<'a> {
     }
 }
 
-fn found_by(module: &Module, via: Via) -> Step<'_> {
+fn found_by(module: &Module, via: Via) -> Step<'_>
+    ensures step { (ms : Modules) → step_of ms result ≡ item_step (import_at module.now via.item) }
+    ensures found { (ms : Modules) (home : Path) → slice_get ms.list.items via.«module» ≡ Some module.now → IsFoundIn ms home result }
+{
     match module.items.get(via.item) {
         None => Step::Missing,
         Some(item) if !item.is_published => Step::Private,
@@ -89,7 +106,9 @@ fn found_by(module: &Module, via: Via) -> Step<'_> {
 }
 
 /// What an item of a module's imports names; none where it is one bare name.
-fn link_of<'a>(module: &'a Module, item: &'a ImportItem) -> Option<Link<'a>> {
+fn link_of<'a>(module: &'a Module, item: &'a ImportItem) -> Option<Link<'a>>
+    ensures { option_map symbol_of result ≡ symbol_named (import_said module.now.targets.items item.now) }
+{
     let target = module.target_of(item)?;
     Some(Link {
         target,
@@ -98,7 +117,9 @@ fn link_of<'a>(module: &'a Module, item: &'a ImportItem) -> Option<Link<'a>> {
 }
 
 /// What an item that a published import leads to names.
-pub(crate) fn link_via(modules: &Modules, via: Via) -> Option<Link<'_>> {
+pub(crate) fn link_via(modules: &Modules, via: Via) -> Option<Link<'_>>
+    ensures { option_map symbol_of result ≡ symbol_via modules.now via }
+{
     let module = modules.get(via.module)?;
     let item = module.items.get(via.item)?;
     if item.is_published {
@@ -109,12 +130,15 @@ pub(crate) fn link_via(modules: &Modules, via: Via) -> Option<Link<'_>> {
 }
 
 /// Where the search begins for what a reference of the module of this number denotes, if no local declaration hides its first name.
-pub fn start_of<'a>(modules: &'a Modules, number: usize, reference: u32) -> Start<'a> {
+pub fn start_of<'a>(modules: &'a Modules, number: usize, reference: u32) -> Start<'a>
+    ensures { Starts modules.now number reference result }
+{
     let Some(module) = modules.get(number) else {
         return Start::Ends(Denoted::Free);
     };
     match module.sought.get(reference as usize) {
-        None | Some(Sought::Free) => Start::Ends(Denoted::Free),
+        None => Start::Ends(Denoted::Free),
+        Some(Sought::Free) => Start::Ends(Denoted::Free),
         Some(Sought::Declared(place)) => Start::Ends(Denoted::Declared(Spot {
             module: number,
             place: *place,
@@ -130,7 +154,9 @@ pub fn start_of<'a>(modules: &'a Modules, number: usize, reference: u32) -> Star
     }
 }
 
-fn start_by<'a>(module: &'a Module, item: &'a ImportItem) -> Start<'a> {
+fn start_by<'a>(module: &'a Module, item: &'a ImportItem) -> Start<'a>
+    ensures { (ms : Modules) → beginning_of ms result ≡ begins (string_bytes module.now.target.printed_path) (import_sense (Some (import_said module.now.targets.items item.now))) }
+{
     match link_of(module, item) {
         None => Start::Ends(Denoted::Missing(&module.target.path, item.name.as_str())),
         Some(link) => Start::Leads(link),
@@ -143,7 +169,9 @@ pub fn denotation<'a>(
     ends: &Ends,
     number: usize,
     reference: u32,
-) -> Denoted<'a> {
+) -> Denoted<'a>
+    ensures { AreEnds modules.now ends.now → IsDenotation modules.now number reference result }
+{
     match start_of(modules, number, reference) {
         Start::Ends(denoted) => denoted,
         Start::Leads(link) => denoted_by(modules, ends, link),
@@ -151,7 +179,9 @@ pub fn denotation<'a>(
 }
 
 /// What the chain from an item ends at. A chain that never ends denotes nothing, and its first item is named.
-fn denoted_by<'a>(modules: &'a Modules, ends: &Ends, first: Link<'a>) -> Denoted<'a> {
+fn denoted_by<'a>(modules: &'a Modules, ends: &Ends, first: Link<'a>) -> Denoted<'a>
+    ensures { AreEnds modules.now ends.now → (find : Finder) → AreTabled modules.now find → ComesTo find (symbol_of first.entry) (outcome_of modules.now result) }
+{
     match found_at(modules, first) {
         Step::Leads(via, _) => match ends.get(via) {
             End::Declared(spot) => Denoted::Declared(spot),
@@ -162,12 +192,16 @@ fn denoted_by<'a>(modules: &'a Modules, ends: &Ends, first: Link<'a>) -> Denoted
     }
 }
 
-fn missing(link: Link<'_>) -> Denoted<'_> {
+fn missing(link: Link<'_>) -> Denoted<'_>
+    ensures { (ms : Modules) → outcome_of ms result ≡ Some (missing (symbol_of link.entry)) }
+{
     Denoted::Missing(&link.target.path, link.name)
 }
 
 /// What a chain denotes whose last item is this.
-fn stopped<'a>(modules: &'a Modules, last: Via, first: Link<'a>) -> Denoted<'a> {
+fn stopped<'a>(modules: &'a Modules, last: Via, first: Link<'a>) -> Denoted<'a>
+    ensures { (find : Finder) → AreTabled modules.now find → (t : Symbol) → symbol_via modules.now last ≡ Some t → StopsAs t (next find t) (outcome_of modules.now result) }
+{
     match link_via(modules, last) {
         None => missing(first),
         Some(link) => stopped_at(found_at(modules, link), link),
@@ -175,7 +209,9 @@ fn stopped<'a>(modules: &'a Modules, last: Via, first: Link<'a>) -> Denoted<'a> 
 }
 
 /// What a chain denotes that stops at an item.
-fn stopped_at<'a>(step: Step<'a>, link: Link<'a>) -> Denoted<'a> {
+fn stopped_at<'a>(step: Step<'a>, link: Link<'a>) -> Denoted<'a>
+    ensures { (ms : Modules) → IsFoundIn ms (symbol_of link.entry).home step.entry → StopsAs (symbol_of link.entry) (step_of ms step.entry) (outcome_of ms result) }
+{
     match step {
         Step::Declared(spot) => Denoted::Declared(spot),
         Step::Private => Denoted::Private(&link.target.path, link.name),

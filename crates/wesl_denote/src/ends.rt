@@ -1,5 +1,14 @@
 //! What chains of published imports end at.
 
+ghost use Rattle.std.specs.Prelude.{◌≡◌, ◌≢◌, [], ◌⊎◌, Some, IfOk, OnOk, IfErr, get_or, length};
+ghost use Rattle.std.specs.List.{Contains};
+ghost use Rattle.wesl_tables.specs.Loaded.{AreTabled};
+ghost use Rattle.wesl_chains.specs.Outlines.{Symbol, Finder};
+ghost use Rattle.wesl_denote.specs.Links.{symbol_of, symbol_via};
+ghost use Rattle.wesl_denote.specs.Ends.{AreEnds, AreRight, NoneSought, Keeps, SetsOne, SetsAll, Walks, IsBehind, IsKnown, IsWithin, is_looked_at, said_by, end_at, counts_of, item_counts};
+ghost use Rattle.wesl_denote.specs.declared.denote.Via.{Via};
+ghost use Rattle.wesl_denote.specs.declared.ends.End.TheVariants as end;
+
 use crate::denote::{Link, Step, Via, found_at, link_via};
 use std::alloc::{AllocError, Global};
 use wesl_tables::{Modules, Spot};
@@ -27,7 +36,9 @@ pub struct Ends {
 
 impl Ends {
     /// The ends of all chains in the loaded modules. Each item is looked at once.
-    pub fn new(alloc: Global, modules: &Modules) -> Result<Ends, AllocError> {
+    pub fn new(alloc: Global, modules: &Modules) -> Result<Ends, AllocError>
+        ensures { IfOk result (λ ends. AreEnds modules.now ends) }
+    {
         let mut ends = Ends {
             ends: unknown(alloc, modules)?,
         };
@@ -39,14 +50,18 @@ impl Ends {
         Ok(ends)
     }
 
-    fn count(&self, module: usize) -> usize {
+    fn count(&self, module: usize) -> usize
+        ensures { result ≡ get_or (counts_of self.now.ends.items) «module» 0 }
+    {
         match self.ends.get(module) {
             None => 0,
             Some(items) => items.len(),
         }
     }
 
-    pub(crate) fn get(&self, via: Via) -> End {
+    pub(crate) fn get(&self, via: Via) -> End
+        ensures { result ≡ end_at self.now.ends.items via }
+    {
         match self.ends.get(via.module) {
             None => End::Unknown,
             Some(items) => match items.get(via.item) {
@@ -56,7 +71,9 @@ impl Ends {
         }
     }
 
-    fn set(&mut self, via: Via, end: End) {
+    fn set(&mut self, via: Via, end: End)
+        ensures { SetsOne self.old.ends.items via end self.new.ends.items }
+    {
         if let Some(items) = self.ends.get_mut(via.module)
             && let Some(known) = items.get_mut(via.item)
         {
@@ -65,7 +82,15 @@ impl Ends {
     }
 
     /// Finds the end of the chain that a published item begins, and with it that of all items on the way.
-    fn find(&mut self, alloc: Global, modules: &Modules, first: Via) -> Result<(), AllocError> {
+    fn find(&mut self, alloc: Global, modules: &Modules, first: Via) -> Result<(), AllocError>
+        requires right { AreRight modules.now self.old.ends.items }
+        requires none_sought { NoneSought self.old.ends.items }
+        ensures right { OnOk result (AreRight modules.now self.new.ends.items) }
+        ensures none_sought { OnOk result (NoneSought self.new.ends.items) }
+        ensures counts { OnOk result (counts_of self.new.ends.items ≡ counts_of self.old.ends.items) }
+        ensures keeps { OnOk result (Keeps self.old.ends.items self.new.ends.items) }
+        ensures first { OnOk result ((s : Symbol) → symbol_via modules.now first ≡ Some s → IsWithin self.old.ends.items first → end_at self.new.ends.items first ≢ end.Unknown) }
+    {
         let mut met = Vec::new(alloc);
         let end = self.walk(modules, first, &mut met)?;
         for via in met.as_slice() {
@@ -75,21 +100,17 @@ impl Ends {
     }
 
     /// Goes along a chain and notes which items it met; what it ends at.
-    fn walk(
-        &mut self,
-        modules: &Modules,
-        first: Via,
-        met: &mut Vec<Via>,
-    ) -> Result<End, AllocError> {
+    fn walk(&mut self, modules: &Modules, first: Via, met: &mut Vec<Via>) -> Result<End, AllocError>
+        requires right { AreRight modules.now self.old.ends.items }
+        requires none_sought { NoneSought self.old.ends.items }
+        requires none_met { met.old.items ≡ [] }
+        ensures { IfOk result (λ end. Walks modules.now self.old.ends.items first met.new.items self.new.ends.items end) }
+    {
         let mut via = first;
         for _item in 0..=modules.item_count() {
             let known = self.get(via);
-            if known != End::Unknown {
-                return Ok(if known == End::Sought {
-                    End::Never
-                } else {
-                    known
-                });
+            if is_known(known) {
+                return Ok(told(known));
             }
             let Some(link) = link_via(modules, via) else {
                 return Ok(End::Unknown);
@@ -105,8 +126,32 @@ impl Ends {
     }
 }
 
+/// Whether somebody has looked.
+fn is_known(end: End) -> bool
+    ensures { result ≡ is_looked_at end }
+{
+    match end {
+        End::Unknown => false,
+        _ => true,
+    }
+}
+
+/// What a known end says of a chain that comes there: one that is still sought goes round.
+fn told(end: End) -> End
+    ensures { result ≡ said_by end }
+{
+    match end {
+        End::Sought => End::Never,
+        end => end,
+    }
+}
+
 /// The next item of a chain; else what the chain ends at.
-fn behind(modules: &Modules, via: Via, link: Link<'_>) -> Result<Via, End> {
+fn behind(modules: &Modules, via: Via, link: Link<'_>) -> Result<Via, End>
+    ensures known { IfErr result IsKnown }
+    ensures leads { IfOk result (λ next. (t : Symbol) × (symbol_via modules.now next ≡ Some t)) }
+    ensures behind { (find : Finder) → AreTabled modules.now find → symbol_via modules.now via ≡ Some (symbol_of link.entry) → IsBehind modules.now find (symbol_of link.entry) result }
+{
     match found_at(modules, link) {
         Step::Leads(next, _) => Ok(next),
         Step::Declared(spot) => Err(End::Declared(spot)),
@@ -114,7 +159,10 @@ fn behind(modules: &Modules, via: Via, link: Link<'_>) -> Result<Via, End> {
     }
 }
 
-fn unknown(alloc: Global, modules: &Modules) -> Result<Vec<Vec<End>>, AllocError> {
+fn unknown(alloc: Global, modules: &Modules) -> Result<Vec<Vec<End>>, AllocError>
+    ensures counts { IfOk result (λ rows. counts_of rows.items ≡ item_counts modules.now.list.items) }
+    ensures unknown { IfOk result (λ rows. (via : Via) → end_at rows.items via ≡ end.Unknown) }
+{
     let mut all = Vec::new(alloc);
     for number in 0..modules.len() {
         let count = match modules.get(number) {

@@ -1,10 +1,25 @@
 //! The items of a module's imports.
 
+ghost use Rattle.std.specs.Prelude.{◌≡◌, ◌∷◌, [], Some, map, option_map, if◌then◌else◌, IfOk, OnOk};
+ghost use Rattle.std.specs.Str.{bytes_eq};
+ghost use Rattle.std.specs.HashMap.{get_by_text};
+ghost use Rattle.std.specs.Option.{option_copied};
+ghost use Rattle.std.specs.List.{list_any};
+ghost use Rattle.wgsl_attributes.specs.View.{attribute_tree, attributes_tree};
+ghost use Rattle.wgsl_imports.specs.View.{item_tree, content_tree, importing_tree};
+ghost use Rattle.wesl_chains.specs.Outlines.{Name};
+ghost use Rattle.wesl_chains.specs.Senses.{meant_by};
+ghost use Rattle.wesl_linking_spec.specs.Outlining as spec;
+ghost use Rattle.wesl_linking_spec.specs.Outlining.{items_in, items_of};
+ghost use Rattle.wesl_tables.specs.Tables.{target_at};
+ghost use Rattle.wesl_tables.specs.Naming.{HasTarget, IsTarget, OnlyMore, Adds, AddsEach, Gathers, declared_by, local_of};
+
 use crate::error::ImportError;
 use crate::module::Meaning;
 use crate::target::{ImportItem, Target, meant, package};
 use std::alloc::{AllocError, Global};
 use std::collections::HashMap;
+use wesl_mark::MarkList;
 use wgsl_attributes::{Attribute, AttributeNode};
 use wgsl_imports::{Import, ImportContent, ImportItem as ItemTree, ImportStatement};
 use wgsl_items::{Boxed, CloneIn, Items, Text};
@@ -24,7 +39,9 @@ pub(crate) struct Names {
 
 impl Names {
     /// Adds the items of an import.
-    pub fn add_import(&mut self, statement: &ImportStatement) -> Result<(), ImportError> {
+    pub fn add_import(&mut self, statement: &ImportStatement) -> Result<(), ImportError>
+        ensures { Gathers self.old (items_of self.old.path (importing_tree statement.now)) result self.new }
+    {
         let module = self.first_module(&statement.path)?;
         let is_published = is_published(statement.attributes.as_slice());
         let mut target = None;
@@ -34,7 +51,9 @@ impl Names {
     fn first_module(
         &self,
         written: &Option<Boxed<ModulePath>>,
-    ) -> Result<Option<ModulePath>, AllocError> {
+    ) -> Result<Option<ModulePath>, AllocError>
+        ensures { IfOk result (λ path. path ≡ option_map (λ p. meant_by self.now.path p p.origin) written.now) }
+    {
         match written {
             None => Ok(None),
             Some(written) => Ok(Some(meant(self.alloc, &self.path, written.get())?)),
@@ -47,13 +66,13 @@ impl Names {
         target: &mut Option<usize>,
         item: &ItemTree,
         is_published: bool,
-    ) -> Result<(), ImportError> {
+    ) -> Result<(), ImportError>
+        requires { HasTarget self.old.targets.items target.old module.now }
+        ensures target { OnOk result (HasTarget self.new.targets.items target.new module.now) }
+        ensures gathers { Gathers self.old (items_in is_published module.now (item_tree item.now)) result self.new }
+    {
         let number = self.items.len();
-        let local = match &item.rename {
-            Some(name) => name.as_str(),
-            None => item.ident.as_str(),
-        };
-        self.add(local, Meaning::Imported(number))?;
+        self.add(local_name(item), Meaning::Imported(number))?;
         let module = self.target(module, target)?;
         let name = Text::from_str(self.alloc, item.ident.as_str())?;
         self.items.push(ImportItem {
@@ -69,27 +88,83 @@ impl Names {
         &mut self,
         module: &Option<ModulePath>,
         target: &mut Option<usize>,
-    ) -> Result<Option<usize>, AllocError> {
-        if target.is_none()
-            && let Some(path) = module
-        {
-            let number = self.targets.len();
-            self.targets.push(Target::new(self.alloc, path)?)?;
-            *target = Some(number);
+    ) -> Result<Option<usize>, AllocError>
+        requires { HasTarget self.old.targets.items target.old module.now }
+        ensures target { OnOk result (HasTarget self.new.targets.items target.new module.now) }
+        ensures number { IfOk result (λ number. IsTarget self.new.targets.items module.now number) }
+        ensures more { OnOk result (OnlyMore self.old.targets.items self.new.targets.items) }
+        ensures path { self.new.path ≡ self.old.path }
+        ensures items { self.new.items.items ≡ self.old.items.items }
+        ensures scope { self.new.scope ≡ self.old.scope }
+    {
+        if target.is_some() {
+            return Ok(*target);
         }
+        let Some(path) = module else {
+            return Ok(None);
+        };
+        let number = self.targets.len();
+        self.targets.push(Target::new(self.alloc, path)?)?;
+        *target = Some(number);
         Ok(*target)
     }
 
+    /// The module that an import item names its last name in; none where it is one bare name.
+    pub fn target_of(&self, item: &ImportItem) -> Option<&Target>
+        ensures { option_copied result ≡ target_at self.now.targets.items item.now.«module» }
+    {
+        self.targets.get(item.module?)
+    }
+
     /// Adds a name. It is refused where the name is there.
-    pub fn add(&mut self, name: &str, meaning: Meaning) -> Result<(), ImportError> {
+    pub fn add(&mut self, name: &str, meaning: Meaning) -> Result<(), ImportError>
+        ensures { Adds self.old name.now meaning result self.new }
+    {
         if self.scope.contains_key(name) {
             let name = Text::from_str(self.alloc, name)?;
             let path = self.path.clone_in(self.alloc)?;
             return Err(ImportError::DuplicateSymbol(path, name));
         }
-        self.scope
-            .insert(String::from_str(self.alloc, name)?, meaning)?;
+        put(self.alloc, &mut self.scope, name, meaning)?;
         Ok(())
+    }
+}
+
+/// Adds the name that a place declares, if it has one.
+pub(crate) fn add_declared(
+    names: &mut Names,
+    list: &MarkList,
+    at: usize,
+    name: Option<u32>,
+) -> Result<(), ImportError>
+    ensures { AddsEach names.old (declared_by list.now.names.keys at name) result names.new }
+{
+    match name {
+        None => Ok(()),
+        Some(name) => names.add(list.name(name), Meaning::Declared(at)),
+    }
+}
+
+/// Puts a meaning under a name.
+fn put(
+    alloc: Global,
+    scope: &mut HashMap<String, Meaning>,
+    name: &str,
+    meaning: Meaning,
+) -> Result<(), AllocError>
+    ensures { OnOk result ((x : Name) → get_by_text scope.new x ≡ (if bytes_eq name.now x then Some meaning else get_by_text scope.old x)) }
+{
+    scope.insert(String::from_str(alloc, name)?, meaning)?;
+    Ok(())
+}
+
+/// The name that an item brings into scope.
+fn local_name(item: &ItemTree) -> &str
+    ensures { result.now ≡ local_of item.now }
+{
+    match &item.rename {
+        Some(name) => name.as_str(),
+        None => item.ident.as_str(),
     }
 }
 
@@ -101,7 +176,11 @@ fn add_content(
     target: &mut Option<usize>,
     content: &ImportContent,
     is_published: bool,
-) -> Result<(), ImportError> {
+) -> Result<(), ImportError>
+    requires { HasTarget names.old.targets.items target.old module.now }
+    ensures target { OnOk result (HasTarget names.new.targets.items target.new module.now) }
+    ensures gathers { Gathers names.old (items_in is_published module.now (content_tree content.now)) result names.new }
+{
     match content {
         ImportContent::Item(item) => names.add_item(module, target, item, is_published),
         ImportContent::Collection(imports) => {
@@ -120,7 +199,11 @@ fn add_nested(
     target: &mut Option<usize>,
     import: &Import,
     is_published: bool,
-) -> Result<(), ImportError> {
+) -> Result<(), ImportError>
+    requires { HasTarget names.old.targets.items target.old module.now }
+    ensures target { OnOk result (HasTarget names.new.targets.items target.new module.now) }
+    ensures gathers { Gathers names.old (items_in is_published (spec.longer module.now import.now.path) (content_tree import.now.content)) result names.new }
+{
     if import.path.is_empty() {
         return add_content(names, module, target, &import.content, is_published);
     }
@@ -134,7 +217,9 @@ fn longer(
     alloc: Global,
     module: &Option<ModulePath>,
     names: &[Text],
-) -> Result<Option<ModulePath>, AllocError> {
+) -> Result<Option<ModulePath>, AllocError>
+    ensures { IfOk result (λ path. path ≡ spec.longer module.now names.now) }
+{
     let mut module = module.clone_in(alloc)?;
     for name in names {
         module = Some(step(alloc, module, name)?);
@@ -142,18 +227,28 @@ fn longer(
     Ok(module)
 }
 
-fn step(alloc: Global, module: Option<ModulePath>, name: &Text) -> Result<ModulePath, AllocError> {
+fn step(alloc: Global, module: Option<ModulePath>, name: &Text) -> Result<ModulePath, AllocError>
+    ensures { IfOk result (λ path. Some path ≡ spec.longer «module» (name.now ∷ [])) }
+{
     match module {
         None => package(alloc, name.as_str()),
         Some(path) => path.with_name(name.clone_in(alloc)?),
     }
 }
 
-fn is_published(attributes: &[AttributeNode]) -> bool {
+fn is_published(attributes: &[AttributeNode]) -> bool
+    ensures { result ≡ list_any spec.is_publish (attributes_tree attributes.now) }
+{
     for attribute in attributes {
-        if matches!(attribute.node(), Attribute::Publish) {
+        if is_publish(attribute.node()) {
             return true;
         }
     }
     false
+}
+
+fn is_publish(attribute: &Attribute) -> bool
+    ensures { result ≡ spec.is_publish (attribute_tree attribute.now) }
+{
+    matches!(attribute, Attribute::Publish)
 }

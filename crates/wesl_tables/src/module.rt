@@ -1,7 +1,24 @@
 //! The tables of a module.
 
+ghost use Rattle.std.specs.Prelude.{◌≡◌, ◌<◌, ◌^◌, ℕ, List, Some, None, map, length, option_map, slice_get, string_bytes, IfOk};
+ghost use Rattle.std.specs.Option.{option_copied};
+ghost use Rattle.std.specs.List.{All, AllZip, flat_map};
+ghost use Rattle.wgsl_path.specs.Paths.{path_text};
+ghost use Rattle.wgsl_imports.specs.View.{importing_tree};
+ghost use Rattle.wesl_mark.specs.declared.place.Place as marked;
+ghost use Rattle.wesl_mark.specs.Places.{Spot, IsSpot};
+ghost use Rattle.wesl_mark.specs.Marks.{text_at};
+ghost use Rattle.wesl_chains.specs.Outlines.{Outline};
+ghost use Rattle.wesl_chains.specs.Canonical.{canonical};
+ghost use Rattle.wesl_chains.specs.Senses as senses;
+ghost use Rattle.wesl_linking_spec.specs.Outlining.{items_of};
+ghost use Rattle.wesl_tables.specs.Tables.{import_said, target_at, use_at};
+ghost use Rattle.wesl_tables.specs.Tables as tables;
+ghost use Rattle.wesl_tables.specs.Naming.{AreNamed, IsSense, SayNames, declared_from, leading};
+ghost use Rattle.wesl_tables.specs.Making.{IsMade, IsOrderly, IsTable, outline_said};
+
 use crate::error::ImportError;
-use crate::imports::Names;
+use crate::imports::{Names, add_declared};
 use crate::target::{ImportItem, Target, meant};
 use crate::uses::uses_of;
 use std::alloc::{AllocError, Global};
@@ -63,7 +80,10 @@ impl Module {
         imports: &[ImportStatement],
         list: MarkList,
         places: Vec<Place>,
-    ) -> Result<Module, ImportError> {
+    ) -> Result<Module, ImportError>
+        ensures { (spots : List Spot) → AllZip (IsSpot list) places.items spots → All IsOrderly spots
+            → IsMade (outline_said (canonical (path_text path.now)) (map importing_tree imports.now) spots) result }
+    {
         let target = Target::new(alloc, path)?;
         let names = names_of(alloc, &target.path, imports, &list, places.as_slice())?;
         let module = tabulated(alloc, target, list, places, names)?;
@@ -79,7 +99,9 @@ impl Module {
     }
 
     /// The module that an import item names its last name in; none where it is one bare name.
-    pub fn target_of(&self, item: &ImportItem) -> Option<&Target> {
+    pub fn target_of(&self, item: &ImportItem) -> Option<&Target>
+        ensures { option_copied result ≡ target_at self.now.targets.items item.now.«module» }
+    {
         self.targets.get(item.module?)
     }
 
@@ -106,7 +128,9 @@ fn names_of(
     imports: &[ImportStatement],
     list: &MarkList,
     places: &[Place],
-) -> Result<Names, ImportError> {
+) -> Result<Names, ImportError>
+    ensures { AreNamed path.now (flat_map (items_of path.now) (map importing_tree imports.now)) (declared_from list.now.names.keys 0 places.now) result }
+{
     let mut names = Names {
         alloc,
         path: path.clone_in(alloc)?,
@@ -118,9 +142,7 @@ fn names_of(
         names.add_import(statement)?;
     }
     for (at, place) in places.iter().enumerate() {
-        if let Some(name) = place.name {
-            names.add(list.name(name), Meaning::Declared(at))?;
-        }
+        add_declared(&mut names, list, at, place.name)?;
     }
     Ok(names)
 }
@@ -131,7 +153,9 @@ fn tabulated(
     list: MarkList,
     places: Vec<Place>,
     names: Names,
-) -> Result<Module, AllocError> {
+) -> Result<Module, AllocError>
+    ensures { IfOk result (IsTable target list places.items names) }
+{
     let uses = uses_of(alloc, &list, places.as_slice())?;
     let sought = all_sought(&names, &list)?;
     let Names {
@@ -153,7 +177,9 @@ fn tabulated(
     })
 }
 
-fn all_sought(names: &Names, list: &MarkList) -> Result<Vec<Sought>, AllocError> {
+fn all_sought(names: &Names, list: &MarkList) -> Result<Vec<Sought>, AllocError>
+    ensures { IfOk result (λ all. (r : ℕ) → r < 2 ^ 32 → r < length list.now.references.keys → IsSense names.now (use_at list.now r) (slice_get all.items r)) }
+{
     let mut all = Vec::new(names.alloc);
     for number in 0..list.reference_count() {
         let sought = match u32::try_from(number) {
@@ -165,21 +191,22 @@ fn all_sought(names: &Names, list: &MarkList) -> Result<Vec<Sought>, AllocError>
     Ok(all)
 }
 
-fn sought_at(names: &Names, list: &MarkList, number: u32) -> Result<Sought, AllocError> {
+fn sought_at(names: &Names, list: &MarkList, number: u32) -> Result<Sought, AllocError>
+    requires { number < length list.now.references.keys }
+    ensures { IfOk result (λ sought. IsSense names.now (use_at list.now number) (Some sought)) }
+{
     match list.reference(number) {
         None => Ok(Sought::Free),
         Some(reference) => sought_by(names, list, reference),
     }
 }
 
-fn sought_by(names: &Names, list: &MarkList, reference: &Reference) -> Result<Sought, AllocError> {
+fn sought_by(names: &Names, list: &MarkList, reference: &Reference) -> Result<Sought, AllocError>
+    ensures { IfOk result (λ sought. IsSense names.now (record { path = reference.now.path; name = text_at list.now.names.keys reference.now.name }) (Some sought)) }
+{
     let name = list.name(reference.name);
     match &reference.path {
-        None => Ok(match names.scope.get(name) {
-            None => Sought::Free,
-            Some(Meaning::Declared(place)) => Sought::Declared(*place),
-            Some(Meaning::Imported(item)) => Sought::Imported(*item),
-        }),
+        None => Ok(sought_plain(names, name)),
         Some(path) => {
             let path = module_meant(names, path)?;
             let target = Target::new(names.alloc, &path)?;
@@ -188,23 +215,40 @@ fn sought_by(names: &Names, list: &MarkList, reference: &Reference) -> Result<So
     }
 }
 
+/// What a name means that stands without a path.
+fn sought_plain(names: &Names, name: &str) -> Sought
+    ensures { IsSense names.now (record { path = None; name = name.now }) (Some result) }
+{
+    match names.scope.get(name) {
+        None => Sought::Free,
+        Some(Meaning::Declared(place)) => Sought::Declared(*place),
+        Some(Meaning::Imported(item)) => Sought::Imported(*item),
+    }
+}
+
 /// The module that the path before a name means. A first name that is an import stands for the import's whole path.
-fn module_meant(names: &Names, path: &ModulePath) -> Result<ModulePath, AllocError> {
+fn module_meant(names: &Names, path: &ModulePath) -> Result<ModulePath, AllocError>
+    ensures { (places : List marked.Place) (o : Outline) → SayNames names.now places o → IfOk result (λ meant. path_text meant ≡ path_text (senses.module_meant o path.now path.now.origin)) }
+{
     match import_of(names, path) {
         Some(item) => {
-            let target = item.module.and_then(|number| names.targets.get(number));
+            let target = names.target_of(item);
             item.path_behind(names.alloc, target, &path.components)
         }
         None => meant(names.alloc, &names.path, path),
     }
 }
 
-fn import_of<'a>(names: &'a Names, path: &ModulePath) -> Option<&'a ImportItem> {
+fn import_of<'a>(names: &'a Names, path: &ModulePath) -> Option<&'a ImportItem>
+    ensures { (places : List marked.Place) (o : Outline) → SayNames names.now places o
+        → option_map (λ i. import_said names.now.targets.items i.now) result ≡ option_map tables.import_of (leading o path.now.origin) }
+{
     match &path.origin {
         PathOrigin::Absolute | PathOrigin::Relative(_) => None,
         PathOrigin::Package(name) => match names.scope.get(name.as_str()) {
             Some(Meaning::Imported(item)) => names.items.get(*item),
-            Some(Meaning::Declared(_)) | None => None,
+            Some(Meaning::Declared(_)) => None,
+            None => None,
         },
     }
 }
