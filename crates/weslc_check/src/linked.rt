@@ -4,7 +4,7 @@ use crate::held::HeldModules;
 use crate::names::{CheckRefusal, name_refusal};
 use std::alloc::Global;
 use weslc_calls::{
-    CompileError, Conditions, LinkedModules, Options, Preprocessor, Resolver, Unprintable,
+    CompileError, Conditions, Decided, LinkedModules, Options, Preprocessor, Resolver, Unprintable,
     print_checked,
 };
 use wgsl_error::Refusal;
@@ -37,7 +37,8 @@ pub fn check<R: Resolver>(
     options: &Options,
 ) -> Result<(), CheckRefusal> {
     let features = &options.features;
-    let mut decided = Preprocessor::new(resolver, Conditions { features });
+    let inner = Preprocessor::new(resolver, Conditions { features });
+    let mut decided = Decided { inner };
     let mut held = HeldModules::link(alloc, &mut decided, root, options)?;
     check_linked(alloc, held.get_mut())
 }
