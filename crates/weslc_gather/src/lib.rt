@@ -7,4 +7,7 @@ mod sources;
 
 pub use rounds::{Wanted, gather};
 pub use sources::{ModuleFile, Sources};
-pub use weslc_folder::{FileProblem, Folders, ReadProblem, Root, Source, read_text};
+pub use weslc_folder::{
+    FileProblem, Folders, ReadProblem, Root, Selection, Source, folder_of, full_path, is_folder,
+    modules_in, read_input, read_text,
+};

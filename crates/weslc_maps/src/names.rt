@@ -1,4 +1,4 @@
-//! The map of printed names.
+//! The map of the names that a text declares.
 
 use std::alloc::{AllocError, Global};
 use weslc_told::{BasicSourceMap, SourceMap, declared_names, push_json};

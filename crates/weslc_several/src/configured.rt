@@ -1,0 +1,124 @@
+//! What a `wesl.toml` adds to a request.
+
+use std::alloc::{AllocError, Global};
+use std::rt::Files;
+use weslc_command::{Flag, Package, Request, STANDARD_INPUT};
+use weslc_config::{Config, ConfigFailure, Fitted, find_config, fitted};
+use weslc_tool::{Failure, failed, folder_of, is_folder};
+
+/// The folder from which a `wesl.toml` is sought upwards.
+fn start_of<'a>(request: &Request<'a>, file: &'a str) -> &'a str {
+    match (file, request.root) {
+        (STANDARD_INPUT, Some(root)) => root,
+        (STANDARD_INPUT, None) => ".",
+        (file, _) => folder_of(file),
+    }
+}
+
+/// The `wesl.toml` of a file, if one is sought and found.
+pub fn config_of<'a, R: Files + AllocGlobal>(
+    rt: &R,
+    request: &Request<'a>,
+    file: &'a str,
+) -> Result<Option<Config>, ConfigFailure> {
+    match request.reads_config {
+        true => find_config(rt, start_of(request, file)),
+        false => Ok(None),
+    }
+}
+
+/// The failure of a `wesl.toml`.
+pub fn config_failure<'a>(alloc: Global, failure: &'a ConfigFailure) -> Failure<'a> {
+    let (file, why) = match failure {
+        ConfigFailure::File(file, problem) => return failed(alloc, file.as_str(), *problem),
+        ConfigFailure::NotToml(file) => (file, String::from_str(alloc, "it is no TOML")),
+        ConfigFailure::Value(file, key) => {
+            (
+                file,
+                format!(in alloc; "this is nothing that `{key}` takes"),
+            )
+        }
+        ConfigFailure::OutOfMemory => return Failure::OutOfMemory,
+    };
+    match why {
+        Ok(why) => Failure::File(file.as_str(), why),
+        Err(AllocError) => Failure::OutOfMemory,
+    }
+}
+
+/// How a file lies in the package that a `wesl.toml` describes. A folder that the request names wins.
+pub fn fit<'a, R: Files + AllocGlobal>(
+    rt: &R,
+    request: &Request<'a>,
+    config: &Config,
+    file: &str,
+) -> Result<Fitted, AllocError> {
+    let alloc = rt.alloc();
+    if file != STANDARD_INPUT && request.root.is_none() {
+        return fitted(rt, config, file);
+    }
+    let root = match request.root {
+        None if is_folder(rt, config.root.as_str()) => {
+            Some(String::from_str(alloc, config.root.as_str())?)
+        }
+        _ => None,
+    };
+    let file = String::from_str(alloc, file)?;
+    Ok(Fitted { file, root })
+}
+
+fn names_package(request: &Request<'_>, name: &str) -> bool {
+    request
+        .packages
+        .as_slice()
+        .iter()
+        .any(|package| package.name == name)
+}
+
+fn names_flag(request: &Request<'_>, name: &str) -> bool {
+    request
+        .flags
+        .as_slice()
+        .iter()
+        .any(|flag| flag.name == name)
+}
+
+/// A request for a file, with what a `wesl.toml` adds: the folder of the package, other packages, and flags. What the request names itself
+/// stays.
+pub fn configured<'a>(
+    alloc: Global,
+    request: &Request<'a>,
+    config: &'a Config,
+    fitted: &'a Fitted,
+) -> Result<Request<'a>, AllocError> {
+    let root = match (request.root, &fitted.root) {
+        (Some(root), _) => Some(root),
+        (None, Some(root)) => Some(root.as_str()),
+        (None, None) => None,
+    };
+    let mut made = request.of_file(alloc, fitted.file.as_str(), root)?;
+    for dependency in config.dependencies.as_slice() {
+        let (name, folder) = (dependency.name.as_str(), dependency.folder.as_str());
+        if !names_package(request, name) {
+            let is_named = false;
+            made.packages.push(Package {
+                name,
+                folder,
+                is_named,
+            })?;
+        }
+    }
+    for flag in config.flags.as_slice() {
+        let (name, setting) = (flag.name.as_str(), flag.setting);
+        if !names_flag(request, name) {
+            let is_named = false;
+            made.flags.push(Flag {
+                name,
+                setting,
+                is_named,
+            })?;
+        }
+    }
+    made.config = Some(config.file.as_str());
+    Ok(made)
+}
