@@ -131,7 +131,10 @@ fn behind_part(
             behind.push(is_before)?;
         } else {
             behind.push(is_before)?;
-            is_before = *is_reached && stands_for(alloc, part, name)?;
+            is_before = match *is_reached {
+                true => stands_for(alloc, part, name)?,
+                false => false,
+            };
         }
     }
     let is_last = match part {

@@ -8,11 +8,10 @@ use weslc_tool::{Failure, failed, folder_of, is_folder};
 
 /// The folder from which a `wesl.toml` is sought upwards.
 fn start_of<'a>(request: &Request<'a>, file: &'a str) -> &'a str {
-    match (file, request.root) {
-        (STANDARD_INPUT, Some(root)) => root,
-        (STANDARD_INPUT, None) => ".",
-        (file, _) => folder_of(file),
+    if file == STANDARD_INPUT {
+        return request.root.unwrap_or(".");
     }
+    folder_of(file)
 }
 
 /// The `wesl.toml` of a file, if one is sought and found.

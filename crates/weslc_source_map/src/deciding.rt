@@ -91,7 +91,7 @@ fn behind_item(words: &[Word<'_>], first: usize, is_list: bool) -> usize {
             Turn::Opens => depth = depth.saturating_add(1),
             Turn::Closes if depth == 0 => return number,
             Turn::Closes => {
-                depth -= 1;
+                depth = depth.saturating_sub(1);
                 if depth == 0 && word.text == "}" && text_at(words, next) != "else" {
                     return next;
                 }

@@ -23,9 +23,10 @@ fn push_digit(out: &mut String, digit: u64) -> Result<(), AllocError> {
 
 /// Adds a difference: its sign is the lowest bit, and each digit has five bits and one that says whether another follows.
 fn push_difference(out: &mut String, from: u64, to: u64) -> Result<(), AllocError> {
-    let (size, sign) = match to >= from {
-        true => (to - from, 0),
-        false => (from - to, 1),
+    let (size, sign) = if to >= from {
+        (to - from, 0)
+    } else {
+        (from - to, 1)
     };
     let mut rest = (size % (1 << 62)) * 2 + sign;
     for _turn in 0..13 {

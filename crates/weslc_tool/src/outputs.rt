@@ -59,9 +59,10 @@ fn check_read<'a, R: Files + AllocGlobal>(
     request: &Request<'a>,
     file: &'a str,
 ) -> Result<(), Failure<'a>> {
-    let root = match request.file {
-        STANDARD_INPUT => None,
-        file => Some(file),
+    let root = if request.file == STANDARD_INPUT {
+        None
+    } else {
+        Some(request.file)
     };
     let read = [
         root,

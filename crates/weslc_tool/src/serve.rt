@@ -56,9 +56,10 @@ fn read_root<'a, R: Files + AllocGlobal, I: Read>(
     path: &ModulePath,
     input: &mut I,
 ) -> Result<Sources, Failure<'a>> {
-    let (shown, text) = match request.file {
-        STANDARD_INPUT => (SHOWN_INPUT, read_input(rt.alloc(), input)),
-        file => (file, read_text(rt, file)),
+    let (shown, text) = if request.file == STANDARD_INPUT {
+        (SHOWN_INPUT, read_input(rt.alloc(), input))
+    } else {
+        (request.file, read_text(rt, request.file))
     };
     let text = match text {
         Ok(text) => text,
