@@ -11,3 +11,4 @@ mod places;
 mod words;
 
 pub use mapping::{Origin, Target, source_map_json};
+pub use places::{Place, places_of};

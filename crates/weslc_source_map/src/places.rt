@@ -4,17 +4,13 @@ use std::alloc::{AllocError, Global};
 
 /// A place in a text: its line, and its column in units of UTF-16, both counted from 0.
 #[derive(Clone, Copy, Debug, PartialEq, Eq)]
-pub(crate) struct Place {
+pub struct Place {
     pub line: u64,
     pub column: u64,
 }
 
 /// The places of some bytes of a text, which are in order.
-pub(crate) fn places_of(
-    alloc: Global,
-    text: &str,
-    starts: &[usize],
-) -> Result<Vec<Place>, AllocError> {
+pub fn places_of(alloc: Global, text: &str, starts: &[usize]) -> Result<Vec<Place>, AllocError> {
     let mut places = Vec::new(alloc);
     let mut place = Place { line: 0, column: 0 };
     let mut left = starts.iter();

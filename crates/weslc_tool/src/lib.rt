@@ -15,6 +15,7 @@ mod serve;
 mod written;
 
 pub use failure::{Failure, failed, misused};
+pub use refusal::Refusal;
 pub use serve::serve;
 pub use weslc_gather::{Selection, folder_of, is_folder, modules_in};
 pub use weslc_told::serve_bundle;

@@ -1,0 +1,160 @@
+//! Calls beside the workspace, over the same texts.
+
+use crate::answer::{error_answer, error_json};
+use crate::command::Handed;
+use crate::texts::Texts;
+use std::alloc::{AllocError, Global};
+use weslc_check::check;
+use weslc_maps::{result_json, value_json};
+use weslc_told::{
+    Mode, Options, RunRefusal, ServeError, VirtualResolver, eval, precompile, push_json, run,
+    told_refusal,
+};
+use weslc_tool::Refusal;
+use wgsl_path::ModulePath;
+
+/// What a call works on.
+#[derive(Drop)]
+pub struct Room {
+    pub root: ModulePath,
+    pub options: Options,
+    pub texts: Texts,
+}
+
+fn refused(refusal: RunRefusal) -> ServeError {
+    match refusal {
+        RunRefusal::Compile(error) => ServeError::from(error),
+        RunRefusal::OutOfMemory => ServeError::OutOfMemory,
+        refusal => ServeError::Run(refusal),
+    }
+}
+
+/// The refusal of a call over a root.
+fn refusal_of(
+    alloc: Global,
+    room: &Room,
+    root: &ModulePath,
+    refusal: &ServeError,
+) -> Result<String, AllocError> {
+    let printed = root.to_string(alloc)?;
+    let files = room.texts.files(printed.as_str())?;
+    let told = told_refusal(alloc, refusal)?;
+    error_answer(alloc, &told.line(), files.as_slice())
+}
+
+/// A text, as an answer.
+fn text_answer(alloc: Global, text: &str) -> Result<String, AllocError> {
+    let mut json = String::from_str(alloc, "{\"text\":")?;
+    push_json(&mut json, text)?;
+    json.push_str("}\n")?;
+    Ok(json)
+}
+
+/// What comes of fixing flags in a module.
+pub fn precompiled(alloc: Global, room: &Room, path: &ModulePath) -> Result<String, AllocError> {
+    let resolver = room.texts.resolver()?;
+    let made = match resolver.get_module(path) {
+        Ok(text) => match precompile(alloc, text, &room.options.features) {
+            Ok(text) => Ok(text),
+            Err(error) => Err(ServeError::from(error)),
+        },
+        Err(_) => Err(ServeError::NoRoot),
+    };
+    match made {
+        Ok(text) => text_answer(alloc, text.as_str()),
+        Err(error) => refusal_of(alloc, room, path, &error),
+    }
+}
+
+/// What comes of a run.
+pub fn ran(alloc: Global, room: &Room, entry: &str, handed: &Handed) -> Result<String, AllocError> {
+    let mut resolver = room.texts.resolver()?;
+    let ran = run(
+        alloc,
+        &mut resolver,
+        &room.root,
+        &room.options,
+        entry,
+        &handed.inputs,
+        handed.bindings.as_slice(),
+        handed.overrides.as_slice(),
+    );
+    match ran {
+        Ok(ran) => match result_json(alloc, &ran) {
+            Ok(json) => Ok(json),
+            Err(_) => Err(AllocError),
+        },
+        Err(refusal) => refusal_of(alloc, room, &room.root, &refused(refusal)),
+    }
+}
+
+/// What comes of an expression: its value, and the text of that.
+pub fn evaluated(alloc: Global, room: &Room, expression: &str) -> Result<String, AllocError> {
+    let mut resolver = room.texts.resolver()?;
+    match eval(alloc, &mut resolver, &room.root, &room.options, expression) {
+        Ok(text) => {
+            let mut json = String::from_str(alloc, "{\"value\":")?;
+            let value = value_json(alloc, text.as_str())?;
+            json.push_str(value.as_str())?;
+            json.push_str(",\"text\":")?;
+            push_json(&mut json, text.as_str())?;
+            json.push_str("}\n")?;
+            Ok(json)
+        }
+        Err(refusal) => refusal_of(alloc, room, &room.root, &refused(refusal)),
+    }
+}
+
+/// The error of a module as a root, all of whose declarations are checked, as JSON. Where that asks for modules that are not there, it is the
+/// error of what is kept.
+fn error_of(
+    alloc: Global,
+    room: &mut Room,
+    resolver: &mut VirtualResolver,
+    root: &ModulePath,
+) -> Result<Option<String>, AllocError> {
+    let mode = room.options.mode;
+    room.options.mode = Mode::Whole;
+    let checked = check(alloc, resolver, root, &room.options);
+    room.options.mode = mode;
+    let Err(refusal) = checked else {
+        return Ok(None);
+    };
+    let refusal = Refusal::from(refusal);
+    let printed = root.to_string(alloc)?;
+    let files = room.texts.files(printed.as_str())?;
+    let told = refusal.told(alloc, resolver)?;
+    Ok(Some(error_json(alloc, &told.line(), files.as_slice())?))
+}
+
+/// Whether one of these is equal to a text.
+fn is_among(text: &str, texts: &[String]) -> bool {
+    for other in texts {
+        if other.as_str() == text {
+            return true;
+        }
+    }
+    false
+}
+
+/// The errors of all modules, each as a root, and each once.
+pub fn checked(alloc: Global, room: &mut Room) -> Result<String, AllocError> {
+    let mut resolver = room.texts.resolver()?;
+    let mut errors = Vec::new(alloc);
+    for path in room.texts.paths()?.as_slice() {
+        if let Some(error) = error_of(alloc, room, &mut resolver, path)? {
+            if !is_among(error.as_str(), errors.as_slice()) {
+                errors.push(error)?;
+            }
+        }
+    }
+    let mut json = String::from_str(alloc, "{\"errors\":[")?;
+    let mut before = "";
+    for error in errors.as_slice() {
+        json.push_str(before)?;
+        json.push_str(error.as_str())?;
+        before = ",";
+    }
+    json.push_str("]}\n")?;
+    Ok(json)
+}
