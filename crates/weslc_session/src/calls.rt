@@ -7,8 +7,8 @@ use std::alloc::{AllocError, Global};
 use weslc_check::check;
 use weslc_maps::{result_json, value_json};
 use weslc_told::{
-    Mode, Options, RunRefusal, ServeError, VirtualResolver, eval, precompile, push_json, run,
-    told_refusal,
+    ErrorLine, Mode, Options, RunRefusal, ServeError, SourceFile, VirtualResolver, eval,
+    precompile, push_json, run, told_refusal,
 };
 use weslc_tool::Refusal;
 use wgsl_path::ModulePath;
@@ -42,12 +42,44 @@ fn refusal_of(
     error_answer(alloc, &told.line(), files.as_slice())
 }
 
+/// The refusal of an expression, which is a text of no module.
+fn refusal_of_expression(
+    alloc: Global,
+    room: &Room,
+    expression: &str,
+    refusal: &ServeError,
+) -> Result<String, AllocError> {
+    let printed = room.root.to_string(alloc)?;
+    let mut files = Vec::new(alloc);
+    files.push(SourceFile {
+        path: "",
+        file: "",
+        text: expression,
+    })?;
+    files.extend_from_slice(room.texts.files(printed.as_str())?.as_slice())?;
+    let told = told_refusal(alloc, refusal)?;
+    error_answer(alloc, &told.line(), files.as_slice())
+}
+
 /// A text, as an answer.
 fn text_answer(alloc: Global, text: &str) -> Result<String, AllocError> {
     let mut json = String::from_str(alloc, "{\"text\":")?;
     push_json(&mut json, text)?;
     json.push_str("}\n")?;
     Ok(json)
+}
+
+/// What is answered where there is no such module.
+fn missing_answer(alloc: Global, path: &ModulePath) -> Result<String, AllocError> {
+    let module = path.to_string(alloc)?;
+    let line = ErrorLine {
+        kind: "Resolve.ModuleNotFound",
+        module: Some(module.as_str()),
+        declaration: None,
+        span: None,
+        subject: None,
+    };
+    error_answer(alloc, &line, &[])
 }
 
 /// What comes of fixing flags in a module.
@@ -58,7 +90,7 @@ pub fn precompiled(alloc: Global, room: &Room, path: &ModulePath) -> Result<Stri
             Ok(text) => Ok(text),
             Err(error) => Err(ServeError::from(error)),
         },
-        Err(_) => Err(ServeError::NoRoot),
+        Err(_) => return missing_answer(alloc, path),
     };
     match made {
         Ok(text) => text_answer(alloc, text.as_str()),
@@ -101,12 +133,11 @@ pub fn evaluated(alloc: Global, room: &Room, expression: &str) -> Result<String,
             json.push_str("}\n")?;
             Ok(json)
         }
-        Err(refusal) => refusal_of(alloc, room, &room.root, &refused(refusal)),
+        Err(refusal) => refusal_of_expression(alloc, room, expression, &refused(refusal)),
     }
 }
 
-/// The error of a module as a root, all of whose declarations are checked, as JSON. Where that asks for modules that are not there, it is the
-/// error of what is kept.
+/// The error of a module as a root, all of whose declarations are checked, as JSON.
 fn error_of(
     alloc: Global,
     room: &mut Room,

@@ -25,8 +25,8 @@ fn push_range(json: &mut String, text: &str, span: Span) -> Result<(), AllocErro
     json.push('}')
 }
 
-/// Adds where an error is behind its other members, if it is somewhere: the module, and the range in it. Lines and characters count from 0,
-/// characters in units of UTF-16.
+/// Adds where an error is behind its other members, if it is somewhere: the module, null for a text of none, and the range in it. Lines and
+/// characters count from 0, characters in units of UTF-16.
 pub fn push_place(
     alloc: Global,
     json: &mut String,
@@ -37,7 +37,10 @@ pub fn push_place(
         return Ok(());
     };
     json.push_str(",\"place\":{\"module\":")?;
-    push_json(json, file.path)?;
+    match file.path {
+        "" => json.push_str("null")?,
+        path => push_json(json, path)?,
+    }
     json.push_str(",\"range\":")?;
     push_range(json, file.text, span)?;
     json.push('}')

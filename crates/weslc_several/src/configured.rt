@@ -26,22 +26,32 @@ pub fn config_of<'a, R: Files + AllocGlobal>(
     }
 }
 
+/// What is said of a key that does not take what stands there.
+fn key_problem(key: &str) -> &'static str {
+    match key {
+        "root" => "this is nothing that `root` takes",
+        "include" => "this is nothing that `include` takes",
+        "exclude" => "this is nothing that `exclude` takes",
+        "features" => "this is nothing that `features` takes",
+        _ => "this is nothing that `dependencies` takes",
+    }
+}
+
+/// The failure of a `wesl.toml` for a reason.
+fn refused<'a>(alloc: Global, file: &'a str, why: &str) -> Failure<'a> {
+    match String::from_str(alloc, why) {
+        Ok(why) => Failure::File(file, why),
+        Err(AllocError) => Failure::OutOfMemory,
+    }
+}
+
 /// The failure of a `wesl.toml`.
 pub fn config_failure<'a>(alloc: Global, failure: &'a ConfigFailure) -> Failure<'a> {
-    let (file, why) = match failure {
-        ConfigFailure::File(file, problem) => return failed(alloc, file.as_str(), *problem),
-        ConfigFailure::NotToml(file) => (file, String::from_str(alloc, "it is no TOML")),
-        ConfigFailure::Value(file, key) => {
-            (
-                file,
-                format!(in alloc; "this is nothing that `{key}` takes"),
-            )
-        }
-        ConfigFailure::OutOfMemory => return Failure::OutOfMemory,
-    };
-    match why {
-        Ok(why) => Failure::File(file.as_str(), why),
-        Err(AllocError) => Failure::OutOfMemory,
+    match failure {
+        ConfigFailure::File(file, problem) => failed(alloc, file.as_str(), *problem),
+        ConfigFailure::NotToml(file) => refused(alloc, file.as_str(), "it is no TOML"),
+        ConfigFailure::Value(file, key) => refused(alloc, file.as_str(), key_problem(key)),
+        ConfigFailure::OutOfMemory => Failure::OutOfMemory,
     }
 }
 
