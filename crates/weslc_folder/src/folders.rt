@@ -145,19 +145,24 @@ impl Folders {
         self.selection = Some(selection);
     }
 
-    /// Whether a file is a module.
-    fn takes(&self, alloc: Global, file: &str) -> Result<bool, AllocError> {
+    /// Whether a file of a package is a module. What the own package selects says nothing of others.
+    fn takes(&self, alloc: Global, package: &Package, file: &str) -> Result<bool, AllocError> {
         match &self.selection {
-            Some(selection) => selection.takes(alloc, file),
-            None => Ok(true),
+            Some(selection) if package.name.is_none() => selection.takes(alloc, file),
+            _ => Ok(true),
         }
     }
 
     /// Why a module without a file is not read.
-    fn missing(&self, alloc: Global, stem: &str) -> Result<ReadProblem, AllocError> {
+    fn missing(
+        &self,
+        alloc: Global,
+        package: &Package,
+        stem: &str,
+    ) -> Result<ReadProblem, AllocError> {
         let mut file = Text::from_str(alloc, stem)?;
         file.push_str(".wesl")?;
-        let problem = match self.takes(alloc, file.as_str())? {
+        let problem = match self.takes(alloc, package, file.as_str())? {
             true => FileProblem::Missing,
             false => FileProblem::LeftOut,
         };
@@ -171,15 +176,19 @@ impl Folders {
     fn read_ending<R: Files + AllocGlobal>(
         &self,
         rt: &R,
+        package: &Package,
         stem: &str,
         ending: &str,
-        within: Option<&str>,
     ) -> Result<Option<Source>, ReadProblem> {
         let mut file = Text::from_str(rt.alloc(), stem)?;
         file.push_str(ending)?;
-        if !self.takes(rt.alloc(), file.as_str())? {
+        if !self.takes(rt.alloc(), package, file.as_str())? {
             return Ok(None);
         }
+        let within = match self.follows_links {
+            true => None,
+            false => Some(package.real.as_str()),
+        };
         read_source(rt, file, within)
     }
 
@@ -231,15 +240,11 @@ impl Folders {
         let Some(stem) = stem_in(rt.alloc(), package.folder.as_str(), path)? else {
             return Err(unnamed());
         };
-        let within = match self.follows_links {
-            true => None,
-            false => Some(package.real.as_str()),
-        };
-        match self.read_ending(rt, stem.as_str(), ".wesl", within)? {
+        match self.read_ending(rt, package, stem.as_str(), ".wesl")? {
             Some(source) => Ok(source),
-            None => match self.read_ending(rt, stem.as_str(), ".wgsl", within)? {
+            None => match self.read_ending(rt, package, stem.as_str(), ".wgsl")? {
                 Some(source) => Ok(source),
-                None => Err(self.missing(rt.alloc(), stem.as_str())?),
+                None => Err(self.missing(rt.alloc(), package, stem.as_str())?),
             },
         }
     }
