@@ -2,7 +2,9 @@
 #![tactic(auto)]
 
 mod error_line;
+mod findings;
 mod flags;
+mod hint;
 mod json;
 mod place;
 mod plain;

@@ -5,6 +5,10 @@ use std::alloc::{AllocError, Global};
 use wgsl_items::Text;
 use wgsl_lex::lex;
 use wgsl_path::Span;
+use wgsl_places::{
+    Chained, chain_fault, flag_in_condition, initial_value, miscounted_call, no_condition, no_flag,
+    only_assertion, only_index, only_operator, parameter_count,
+};
 use wgsl_token::{Fixed, Token};
 
 /// A module that was read: its path as it is printed, its file and its text.
@@ -15,14 +19,40 @@ pub struct SourceFile<'a> {
     pub text: &'a str,
 }
 
-/// Which of the places of a name is wanted. Where there is none such, it is the first.
+/// Which of the places of a name is wanted. Where there is none such, it is the first that is no member's, else the first.
 #[derive(Clone, Copy, Debug, PartialEq, Eq)]
 pub enum Seek {
     First,
     Second,
     /// The first behind a word that declares a name.
     Declared,
+    /// The first behind `::`, or in an import.
+    Path,
 }
+
+/// What stands before a place of a text.
+#[derive(Clone, Copy, Debug)]
+struct Before {
+    /// The last token, if it is a fixed one.
+    last: Option<Fixed>,
+    /// Whether a name is declared there.
+    is_declared: bool,
+    /// Whether the name of a `var` may still be to come.
+    is_in_var: bool,
+    /// Whether an import is not ended.
+    is_in_import: bool,
+    /// Whether a structure is not ended.
+    is_in_struct: bool,
+}
+
+/// The beginning of a text.
+const START: Before = Before {
+    last: None,
+    is_declared: false,
+    is_in_var: false,
+    is_in_import: false,
+    is_in_struct: false,
+};
 
 /// Whether a name that is declared stands behind a token. A `>` is one where it ends the template list of a `var`, whose name is still to
 /// come.
@@ -52,6 +82,42 @@ fn is_in_var_behind(is_in_var: bool, token: &Token) -> bool {
     }
 }
 
+/// The fixed token that a token is.
+fn fixed_of(token: &Token) -> Option<Fixed> {
+    match token {
+        Token::Fixed(fixed) => Some(*fixed),
+        _ => None,
+    }
+}
+
+/// What stands before the place behind a token.
+fn behind(before: Before, token: &Token) -> Before {
+    let last = fixed_of(token);
+    Before {
+        last,
+        is_declared: declares(token, before.is_in_var),
+        is_in_var: is_in_var_behind(before.is_in_var, token),
+        is_in_import: match last {
+            Some(Fixed::Import) => true,
+            Some(Fixed::Semicolon) => false,
+            _ => before.is_in_import,
+        },
+        is_in_struct: match last {
+            Some(Fixed::Struct) => true,
+            Some(Fixed::BraceRight) => false,
+            _ => before.is_in_struct,
+        },
+    }
+}
+
+/// Whether a name is that of a member or of an attribute, by what stands before and behind it.
+fn is_part(before: Before, next: Option<Fixed>) -> bool {
+    match before.last {
+        Some(Fixed::Period | Fixed::Attr) => true,
+        _ => before.is_in_struct && next == Some(Fixed::Colon),
+    }
+}
+
 fn is_name(token: &Token, name: &str) -> bool {
     match token {
         Token::Identifier(identifier) => identifier.as_str() == name,
@@ -60,11 +126,12 @@ fn is_name(token: &Token, name: &str) -> bool {
 }
 
 /// Whether this place of a name is the one that is sought, and no other need be looked at.
-fn is_sought(seek: Seek, is_declared: bool, is_again: bool) -> bool {
+fn is_sought(seek: Seek, before: Before, is_again: bool) -> bool {
     match seek {
         Seek::First => true,
         Seek::Second => is_again,
-        Seek::Declared => is_declared,
+        Seek::Declared => before.is_declared,
+        Seek::Path => before.is_in_import || before.last == Some(Fixed::PathSeparator),
     }
 }
 
@@ -76,22 +143,28 @@ pub fn find_name(
     seek: Seek,
 ) -> Result<Option<Span>, AllocError> {
     let tokens = lex(alloc, text)?;
+    let tokens = tokens.as_slice();
+    let mut part: Option<Span> = None;
     let mut first: Option<Span> = None;
-    let mut is_declared = false;
-    let mut is_in_var = false;
-    for spanned in tokens.as_slice() {
+    let mut before = START;
+    for number in 0..tokens.len() {
+        let spanned = &tokens[number];
         if is_name(&spanned.token, name) {
-            if is_sought(seek, is_declared, first.is_some()) {
+            let next = match tokens.get(number + 1) {
+                Some(next) => fixed_of(&next.token),
+                None => None,
+            };
+            if is_part(before, next) {
+                part = part.or(Some(spanned.span));
+            } else if is_sought(seek, before, first.is_some()) {
                 return Ok(Some(spanned.span));
-            }
-            if first.is_none() {
-                first = Some(spanned.span);
+            } else {
+                first = first.or(Some(spanned.span));
             }
         }
-        is_declared = declares(&spanned.token, is_in_var);
-        is_in_var = is_in_var_behind(is_in_var, &spanned.token);
+        before = behind(before, &spanned.token);
     }
-    Ok(first)
+    Ok(first.or(part))
 }
 
 /// The place of a name in a part of a text, in comments not: the first one there, or the last. Only memory can fail.
@@ -148,7 +221,10 @@ pub fn declared_names(alloc: Global, text: &str) -> Result<Vec<Text>, AllocError
 }
 
 /// The module at a path.
-fn source_at<'a>(sources: &[SourceFile<'a>], path: Option<&str>) -> Option<SourceFile<'a>> {
+pub(crate) fn source_at<'a>(
+    sources: &[SourceFile<'a>],
+    path: Option<&str>,
+) -> Option<SourceFile<'a>> {
     match path {
         Some(path) => {
             for source in sources {
@@ -173,7 +249,7 @@ fn find_use<'a>(
         if Some(source.path) == but {
             continue;
         }
-        if let Some(span) = find_name(alloc, source.text, name, Seek::First)? {
+        if let Some(span) = find_name(alloc, source.text, name, Seek::Path)? {
             return Ok(Some((*source, span)));
         }
     }
@@ -232,15 +308,117 @@ pub fn find_place<'a>(
             Some(name) => find_use(alloc, sources, None, name),
             None => Ok(None),
         },
-        "Import.DuplicateSymbol" | "Validate.Duplicate" => match source_at(sources, line.module) {
-            Some(source) => find_in_module(alloc, source, line, Seek::Second),
-            None => Ok(None),
-        },
+        "Validate.ParamCount" => find_call(alloc, line, sources),
         _ => match source_at(sources, line.module) {
-            Some(source) => find_in_module(alloc, source, line, Seek::First),
+            Some(source) => find_within(alloc, source, line),
             None => Ok(None),
         },
     }
+}
+
+/// The place of an error in the text of its module.
+fn find_within<'a>(
+    alloc: Global,
+    source: SourceFile<'a>,
+    line: &ErrorLine<'_>,
+) -> Result<Option<(SourceFile<'a>, Span)>, AllocError> {
+    let seek = match line.kind {
+        "Import.DuplicateSymbol" | "Validate.Duplicate" => Seek::Second,
+        _ => Seek::First,
+    };
+    match find_by_kind(alloc, source.text, line)? {
+        Some(span) => Ok(Some((source, span))),
+        None => find_in_module(alloc, source, line, seek),
+    }
+}
+
+/// The place of an error that is none of a name, by its kind.
+fn find_by_kind(
+    alloc: Global,
+    text: &str,
+    line: &ErrorLine<'_>,
+) -> Result<Option<Span>, AllocError> {
+    match line.kind.split_once('.') {
+        Some(("Condition", inner)) => find_condition(alloc, text, inner, line.subject),
+        Some(("Eval", "ConstAssertFailure")) => only_assertion(alloc, text),
+        Some(("Eval", inner)) if line.subject.is_none() => match line.declaration {
+            Some(name) => find_evaluated(alloc, text, inner, name),
+            None => Ok(None),
+        },
+        _ => Ok(None),
+    }
+}
+
+/// The place of a fault of conditions.
+fn find_condition(
+    alloc: Global,
+    text: &str,
+    kind: &str,
+    flag: Option<&str>,
+) -> Result<Option<Span>, AllocError> {
+    match (kind, flag) {
+        ("InvalidExpression", _) => no_condition(alloc, text),
+        ("InvalidFeatureFlag", _) => no_flag(alloc, text),
+        ("UnexpectedFeatureFlag", Some(flag)) => flag_in_condition(alloc, text, flag),
+        ("NoPrecedingIf", _) => chain_fault(alloc, text, Chained::WithoutIf),
+        ("DuplicateIf", _) => chain_fault(alloc, text, Chained::Twice),
+        _ => Ok(None),
+    }
+}
+
+/// The place of a fault of evaluation in a declaration: its only operation that can have it, else the value of the declaration.
+fn find_evaluated(
+    alloc: Global,
+    text: &str,
+    kind: &str,
+    declaration: &str,
+) -> Result<Option<Span>, AllocError> {
+    let only = match kind {
+        "DivByZero" | "RemZeroDiv" => {
+            let (first, second) = (Fixed::ForwardSlash, Fixed::Modulo);
+            only_operator(alloc, text, declaration, first, second)?
+        }
+        "OutOfBounds" => only_index(alloc, text, declaration)?,
+        _ => None,
+    };
+    match only {
+        Some(span) => Ok(Some(span)),
+        None => initial_value(alloc, text, declaration),
+    }
+}
+
+/// How many parameters a function has that one of the modules declares.
+fn parameters_of(
+    alloc: Global,
+    sources: &[SourceFile<'_>],
+    name: &str,
+) -> Result<Option<usize>, AllocError> {
+    for source in sources {
+        if let Some(count) = parameter_count(alloc, source.text, name)? {
+            return Ok(Some(count));
+        }
+    }
+    Ok(None)
+}
+
+/// Where a function is called with a wrong number of arguments.
+fn find_call<'a>(
+    alloc: Global,
+    line: &ErrorLine<'_>,
+    sources: &[SourceFile<'a>],
+) -> Result<Option<(SourceFile<'a>, Span)>, AllocError> {
+    let Some(source) = source_at(sources, line.module) else {
+        return Ok(None);
+    };
+    if let Some(name) = line.subject {
+        if let Some(count) = parameters_of(alloc, sources, name)? {
+            let text = source.text;
+            if let Some(span) = miscounted_call(alloc, text, line.declaration, name, count)? {
+                return Ok(Some((source, span)));
+            }
+        }
+    }
+    find_in_module(alloc, source, line, Seek::First)
 }
 
 /// Where a name that a module lacks is asked for: in another module first.

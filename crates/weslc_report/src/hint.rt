@@ -1,0 +1,149 @@
+//! What was meant by a name, and where else an error is.
+
+use crate::error_line::ErrorLine;
+use crate::place::{Seek, SourceFile, find_name, source_at};
+use std::alloc::{AllocError, Global};
+use wgsl_expected::{
+    ATTRIBUTES, EXTENSIONS, did_you_mean, member_names, module_names, names_before, own_names,
+};
+use wgsl_path::Span;
+use wgsl_snippet::Snippet;
+
+/// A place that is shown, and the module that has it.
+pub(crate) type Place<'a> = Option<(SourceFile<'a>, Span)>;
+
+/// The names that a place may speak of.
+fn names_at<'a>(alloc: Global, place: Place<'a>) -> Result<Vec<&'a str>, AllocError> {
+    let mut names = match place {
+        Some((source, span)) => names_before(alloc, source.text, span.start)?,
+        None => Vec::new(alloc),
+    };
+    own_names(&mut names)?;
+    Ok(names)
+}
+
+/// The names that a module declares.
+fn names_of<'a>(
+    alloc: Global,
+    sources: &[SourceFile<'a>],
+    module: Option<&str>,
+) -> Result<Vec<&'a str>, AllocError> {
+    match source_at(sources, module) {
+        Some(source) => module_names(alloc, source.text),
+        None => Ok(Vec::new(alloc)),
+    }
+}
+
+/// The names of all members.
+fn members_of<'a>(alloc: Global, sources: &[SourceFile<'a>]) -> Result<Vec<&'a str>, AllocError> {
+    let mut names = Vec::new(alloc);
+    for source in sources {
+        let more = member_names(alloc, source.text)?;
+        for name in more.as_slice() {
+            names.push(*name)?;
+        }
+    }
+    Ok(names)
+}
+
+/// The paths of the modules that were read.
+fn paths_of<'a>(alloc: Global, sources: &[SourceFile<'a>]) -> Result<Vec<&'a str>, AllocError> {
+    let mut paths = Vec::new(alloc);
+    for source in sources {
+        paths.push(source.path)?;
+    }
+    Ok(paths)
+}
+
+/// Where the first of two declarations of a name stands, of which the second is shown.
+fn first_place(alloc: Global, place: Place<'_>, name: &str) -> Result<Option<String>, AllocError> {
+    let Some((source, shown)) = place else {
+        return Ok(None);
+    };
+    match find_name(alloc, source.text, name, Seek::First)? {
+        Some(span) if span.start < shown.start => placed(alloc, source, span, name),
+        _ => Ok(None),
+    }
+}
+
+/// Where a function is declared.
+fn declared_place(
+    alloc: Global,
+    sources: &[SourceFile<'_>],
+    place: Place<'_>,
+    name: &str,
+) -> Result<Option<String>, AllocError> {
+    for source in sources {
+        let declared = find_name(alloc, source.text, name, Seek::Declared)?;
+        let (Some(span), Some((_, shown))) = (declared, place) else {
+            continue;
+        };
+        if span != shown {
+            return placed(alloc, *source, span, name);
+        }
+    }
+    Ok(None)
+}
+
+/// A sentence that a name is declared at a place.
+fn placed(
+    alloc: Global,
+    source: SourceFile<'_>,
+    span: Span,
+    name: &str,
+) -> Result<Option<String>, AllocError> {
+    let snippet = Snippet {
+        text: source.text,
+        span,
+    };
+    let written = snippet.to_string(alloc)?;
+    let (place, _) = written.as_str().split_once('\n').unwrap_or(("", ""));
+    let file = source.file;
+    Ok(Some(format!(in alloc; "`{name}` is declared in {file}, {place}")?))
+}
+
+/// What was meant by a name, by the kind of an error, or where else its name stands.
+pub(crate) fn hint_of<'a>(
+    alloc: Global,
+    line: &ErrorLine<'_>,
+    sources: &[SourceFile<'a>],
+    place: Place<'a>,
+) -> Result<Option<String>, AllocError> {
+    if line.kind == "Resolve.ModuleNotFound" {
+        let paths = paths_of(alloc, sources)?;
+        return did_you_mean(alloc, line.module.unwrap_or(""), paths.as_slice());
+    }
+    let Some(name) = line.subject else {
+        return Ok(None);
+    };
+    match line.kind {
+        "Import.DuplicateSymbol" | "Validate.Duplicate" => first_place(alloc, place, name),
+        "Validate.ParamCount" => declared_place(alloc, sources, place, name),
+        "Validate.UnknownAttribute" => did_you_mean(alloc, name, &ATTRIBUTES[..]),
+        "Validate.UnknownExtension" => did_you_mean(alloc, name, &EXTENSIONS[..]),
+        kind => {
+            let names = candidates(alloc, kind, line.module, sources, place)?;
+            did_you_mean(alloc, name, names.as_slice())
+        }
+    }
+}
+
+/// The names that may be meant, by the kind of an error.
+fn candidates<'a>(
+    alloc: Global,
+    kind: &str,
+    module: Option<&str>,
+    sources: &[SourceFile<'a>],
+    place: Place<'a>,
+) -> Result<Vec<&'a str>, AllocError> {
+    match kind {
+        "Validate.UndefinedSymbol"
+        | "Validate.UnknownEnumerant"
+        | "Eval.UnknownDecl"
+        | "Eval.UnknownFunction"
+        | "Eval.UnknownType" => names_at(alloc, place),
+        "Validate.UndefinedMember" | "Eval.Component" => members_of(alloc, sources),
+        "Import.MissingDecl" | "Eval.NotEntrypoint" => names_of(alloc, sources, module),
+        _ => Ok(Vec::new(alloc)),
+    }
+}

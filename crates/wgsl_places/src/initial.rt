@@ -1,0 +1,123 @@
+//! What a fault of evaluation is about, where a declaration has one such thing alone.
+
+use crate::extent::{Extent, extent_of};
+use crate::row::Row;
+use std::alloc::{AllocError, Global};
+use wgsl_lex::lex;
+use wgsl_path::Span;
+use wgsl_token::{Fixed, Token};
+
+/// The first token of the value that a declaration of a text gives its name. Only memory can fail.
+pub fn initial_value(
+    alloc: Global,
+    text: &str,
+    declaration: &str,
+) -> Result<Option<Span>, AllocError> {
+    let tokens = lex(alloc, text)?;
+    let row = Row {
+        tokens: tokens.as_slice(),
+    };
+    let Some(extent) = extent_of(row, declaration) else {
+        return Ok(None);
+    };
+    if row.fixed_before(extent.name) == Some(Fixed::Fn) {
+        return Ok(None);
+    }
+    for number in extent.name..extent.end {
+        if row.is_fixed(number, Fixed::Equal) {
+            return Ok(row.span(number.saturating_add(1)));
+        }
+    }
+    Ok(None)
+}
+
+/// The only token of these in a declaration.
+fn only_among(row: Row<'_>, extent: Extent, first: Fixed, second: Fixed) -> Option<usize> {
+    let mut only: Option<usize> = None;
+    for number in extent.name..extent.end {
+        if row.is_fixed(number, first) || row.is_fixed(number, second) {
+            if only.is_some() {
+                return None;
+            }
+            only = Some(number);
+        }
+    }
+    only
+}
+
+/// Whether an operand is this one token, so that it begins there.
+fn is_operand_alone(row: Row<'_>, number: usize) -> bool {
+    let is_plain = match row.token(number) {
+        Some(Token::Fixed(_)) | Some(Token::Invalid) | None => false,
+        Some(_) => true,
+    };
+    is_plain
+        && !matches!(
+            row.fixed_before(number),
+            Some(
+                Fixed::Period
+                    | Fixed::PathSeparator
+                    | Fixed::Star
+                    | Fixed::ForwardSlash
+                    | Fixed::Modulo
+            )
+        )
+}
+
+/// The operand before the only operator of two in a declaration, or the operator where that is longer than a token. Only memory can fail.
+pub fn only_operator(
+    alloc: Global,
+    text: &str,
+    declaration: &str,
+    first: Fixed,
+    second: Fixed,
+) -> Result<Option<Span>, AllocError> {
+    let tokens = lex(alloc, text)?;
+    let row = Row {
+        tokens: tokens.as_slice(),
+    };
+    let Some(extent) = extent_of(row, declaration) else {
+        return Ok(None);
+    };
+    let Some(number) = only_among(row, extent, first, second) else {
+        return Ok(None);
+    };
+    let before = number.saturating_sub(1);
+    let shown = if is_operand_alone(row, before) {
+        before
+    } else {
+        number
+    };
+    Ok(row.span(shown))
+}
+
+/// What stands in the only index of a declaration. Only memory can fail.
+pub fn only_index(
+    alloc: Global,
+    text: &str,
+    declaration: &str,
+) -> Result<Option<Span>, AllocError> {
+    let tokens = lex(alloc, text)?;
+    let row = Row {
+        tokens: tokens.as_slice(),
+    };
+    let Some(extent) = extent_of(row, declaration) else {
+        return Ok(None);
+    };
+    match only_among(row, extent, Fixed::BracketLeft, Fixed::BracketLeft) {
+        Some(number) => Ok(row.span(number.saturating_add(1))),
+        None => Ok(None),
+    }
+}
+
+/// The brace that ends a function. Only memory can fail.
+pub fn end_of_function(alloc: Global, text: &str, name: &str) -> Result<Option<Span>, AllocError> {
+    let tokens = lex(alloc, text)?;
+    let row = Row {
+        tokens: tokens.as_slice(),
+    };
+    match extent_of(row, name) {
+        Some(extent) => Ok(row.span(extent.end.saturating_sub(1))),
+        None => Ok(None),
+    }
+}

@@ -1,0 +1,16 @@
+//! Places in a text that an error has no span of: they are sought among the text's tokens, by what the error says.
+#![tactic(auto)]
+
+mod asserted;
+mod calls;
+mod chains;
+mod conditions;
+mod extent;
+mod initial;
+mod row;
+
+pub use asserted::only_assertion;
+pub use calls::{miscounted_call, parameter_count};
+pub use chains::{Chained, chain_fault};
+pub use conditions::{flag_in_condition, no_condition, no_flag};
+pub use initial::{end_of_function, initial_value, only_index, only_operator};
