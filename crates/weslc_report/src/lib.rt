@@ -13,8 +13,9 @@ mod sentence;
 mod shown;
 
 pub use error_line::ErrorLine;
-pub use flags::names_flag;
+pub use flags::{meant_flag, names_flag};
 pub use json::push_json;
 pub use place::{Seek, SourceFile, declared_names, find_name, find_name_in, find_place};
 pub use plain::plain_json;
 pub use report::{Report, report_json, report_text};
+pub use wgsl_expected::did_you_mean;

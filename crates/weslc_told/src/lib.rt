@@ -17,6 +17,6 @@ pub use weslc_bundle::{
     read_inputs, read_options, read_overrides, result_text, run, serve_bundle, zero_inputs,
 };
 pub use weslc_report::{
-    ErrorLine, Report, SourceFile, declared_names, find_name_in, names_flag, plain_json, push_json,
-    report_json, report_text,
+    ErrorLine, Report, SourceFile, declared_names, did_you_mean, find_name_in, meant_flag,
+    names_flag, plain_json, push_json, report_json, report_text,
 };

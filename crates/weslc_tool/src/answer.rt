@@ -182,7 +182,7 @@ pub fn answer_reading<R: Files + AllocGlobal>(
     }
     for _turn in 0..u64::MAX {
         let held = called(rt.alloc(), request, asked, sources);
-        match read_missing(rt, folders, sources, held.missing_module())? {
+        match read_missing(rt, folders, sources, request, held.missing_module())? {
             Read::Nothing => return Ok((held, None)),
             Read::Refused(reason) => return Ok((held, Some(reason))),
             Read::Added => {}

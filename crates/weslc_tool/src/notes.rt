@@ -5,7 +5,7 @@ use std::io;
 use std::io::Write;
 use weslc_command::{Format, Request, Verb};
 use weslc_gather::{ModuleFile, Sources};
-use weslc_told::names_flag;
+use weslc_told::{meant_flag, names_flag};
 
 /// Whether a text is empty since the root has no entry point.
 fn keeps_nothing(request: &Request<'_>, text: &str) -> bool {
@@ -67,7 +67,12 @@ fn push_flags(
         if !is_named(alloc, flag.name, texts.as_slice())? {
             notes.push_str("note: no condition in what was read names the flag `")?;
             notes.push_str(flag.name)?;
-            notes.push_str("`\n")?;
+            notes.push('`')?;
+            if let Some(question) = meant_flag(alloc, texts.as_slice(), flag.name)? {
+                notes.push_str("; ")?;
+                notes.push_str(question.as_str())?;
+            }
+            notes.push('\n')?;
         }
     }
     Ok(())
