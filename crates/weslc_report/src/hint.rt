@@ -1,7 +1,7 @@
 //! What was meant by a name, and where else an error is.
 
 use crate::error_line::ErrorLine;
-use crate::place::{Seek, SourceFile, find_name, source_at};
+use crate::place::{Seek, SourceFile, find_name, parameters_of, source_at};
 use std::alloc::{AllocError, Global};
 use wgsl_expected::{
     ATTRIBUTES, EXTENSIONS, did_you_mean, member_names, module_names, names_before, own_names,
@@ -85,6 +85,21 @@ fn declared_place(
     Ok(None)
 }
 
+/// How many arguments a function takes, and where it is declared.
+fn counted_place(
+    alloc: Global,
+    sources: &[SourceFile<'_>],
+    place: Place<'_>,
+    name: &str,
+) -> Result<Option<String>, AllocError> {
+    let declared = declared_place(alloc, sources, place, name)?;
+    let (Some(declared), Some(count)) = (declared, parameters_of(alloc, sources, name)?) else {
+        return Ok(None);
+    };
+    let declared = declared.as_str();
+    Ok(Some(format!(in alloc; "{declared}; it takes {count}")?))
+}
+
 /// A sentence that a name is declared at a place.
 fn placed(
     alloc: Global,
@@ -118,7 +133,7 @@ pub(crate) fn hint_of<'a>(
     };
     match line.kind {
         "Import.DuplicateSymbol" | "Validate.Duplicate" => first_place(alloc, place, name),
-        "Validate.ParamCount" => declared_place(alloc, sources, place, name),
+        "Validate.ParamCount" => counted_place(alloc, sources, place, name),
         "Validate.UnknownAttribute" => did_you_mean(alloc, name, &ATTRIBUTES[..]),
         "Validate.UnknownExtension" => did_you_mean(alloc, name, &EXTENSIONS[..]),
         kind => {

@@ -6,8 +6,8 @@ use wgsl_items::Text;
 use wgsl_lex::lex;
 use wgsl_path::Span;
 use wgsl_places::{
-    Chained, chain_fault, flag_in_condition, initial_value, miscounted_call, no_condition, no_flag,
-    only_assertion, only_index, only_operator, parameter_count,
+    Chained, chain_fault, flag_in_condition, function_head, initial_value, miscounted_call,
+    no_condition, no_flag, only_assertion, only_index, only_operator, parameter_count,
 };
 use wgsl_token::{Fixed, Token};
 
@@ -340,11 +340,7 @@ fn find_by_kind(
 ) -> Result<Option<Span>, AllocError> {
     match line.kind.split_once('.') {
         Some(("Condition", inner)) => find_condition(alloc, text, inner, line.subject),
-        Some(("Eval", "ConstAssertFailure")) => only_assertion(alloc, text),
-        Some(("Eval", inner)) if line.subject.is_none() => match line.declaration {
-            Some(name) => find_evaluated(alloc, text, inner, name),
-            None => Ok(None),
-        },
+        Some(("Eval", inner)) => find_evaluated(alloc, text, inner, line),
         _ => Ok(None),
     }
 }
@@ -366,8 +362,23 @@ fn find_condition(
     }
 }
 
-/// The place of a fault of evaluation in a declaration: its only operation that can have it, else the value of the declaration.
+/// The place of a fault of evaluation.
 fn find_evaluated(
+    alloc: Global,
+    text: &str,
+    kind: &str,
+    line: &ErrorLine<'_>,
+) -> Result<Option<Span>, AllocError> {
+    match (kind, line.subject, line.declaration) {
+        ("ConstAssertFailure", _, _) => only_assertion(alloc, text),
+        ("NoReturn", Some(name), _) => function_head(alloc, text, name),
+        (_, None, Some(name)) => find_operation(alloc, text, kind, name),
+        _ => Ok(None),
+    }
+}
+
+/// The only operation of a declaration that can have a fault, else the value of the declaration.
+fn find_operation(
     alloc: Global,
     text: &str,
     kind: &str,
@@ -388,7 +399,7 @@ fn find_evaluated(
 }
 
 /// How many parameters a function has that one of the modules declares.
-fn parameters_of(
+pub(crate) fn parameters_of(
     alloc: Global,
     sources: &[SourceFile<'_>],
     name: &str,

@@ -113,6 +113,30 @@ fn told_at<'a>(view: View<'a>, place: Span) -> &'a str {
     }
 }
 
+/// How many words are listed at most.
+const MOST_LISTED: usize = 5;
+
+/// Adds the words that can stand at a place, where they are few.
+fn push_words(out: &mut String, list: &[&str]) -> Result<(), AllocError> {
+    let mut left = list.len();
+    if left > MOST_LISTED {
+        return Ok(());
+    }
+    out.push_str(": it is ")?;
+    for word in list {
+        out.push('`')?;
+        out.push_str(word)?;
+        out.push('`')?;
+        left = left.saturating_sub(1);
+        if left == 1 {
+            out.push_str(" or ")?;
+        } else if left > 1 {
+            out.push_str(", ")?;
+        }
+    }
+    Ok(())
+}
+
 /// An argument that is none of the words that can stand there: what these are, and the word.
 fn unknown_word(
     alloc: Global,
@@ -125,8 +149,10 @@ fn unknown_word(
     if is_word_among(word, list) {
         return Ok(None);
     }
+    let mut message = format!(in alloc; "there is no {what} `{word}`")?;
+    push_words(&mut message, list)?;
     Ok(Some(Explained {
-        message: format!(in alloc; "there is no {what} `{word}`")?,
+        message,
         help: did_you_mean(alloc, word, list)?,
         span: place,
     }))

@@ -110,14 +110,21 @@ pub fn only_index(
     }
 }
 
-/// The brace that ends a function. Only memory can fail.
-pub fn end_of_function(alloc: Global, text: &str, name: &str) -> Result<Option<Span>, AllocError> {
+/// Where a function begins that a text declares: from its `fn` to its name. Only memory can fail.
+pub fn function_head(alloc: Global, text: &str, name: &str) -> Result<Option<Span>, AllocError> {
     let tokens = lex(alloc, text)?;
     let row = Row {
         tokens: tokens.as_slice(),
     };
-    match extent_of(row, name) {
-        Some(extent) => Ok(row.span(extent.end.saturating_sub(1))),
-        None => Ok(None),
+    let Some(extent) = extent_of(row, name) else {
+        return Ok(None);
+    };
+    let word = extent.name.saturating_sub(1);
+    match (row.span(word), row.span(extent.name)) {
+        (Some(first), Some(last)) if row.is_fixed(word, Fixed::Fn) => Ok(Some(Span {
+            start: first.start,
+            end: last.end,
+        })),
+        _ => Ok(None),
     }
 }

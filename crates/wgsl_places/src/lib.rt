@@ -13,4 +13,4 @@ pub use asserted::only_assertion;
 pub use calls::{miscounted_call, parameter_count};
 pub use chains::{Chained, chain_fault};
 pub use conditions::{flag_in_condition, no_condition, no_flag};
-pub use initial::{end_of_function, initial_value, only_index, only_operator};
+pub use initial::{function_head, initial_value, only_index, only_operator};
