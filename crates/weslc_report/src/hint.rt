@@ -7,19 +7,36 @@ use wgsl_expected::{
     ATTRIBUTES, EXTENSIONS, did_you_mean, member_names, module_names, names_before, own_names,
 };
 use wgsl_path::Span;
+use wgsl_places::ring;
 use wgsl_snippet::Snippet;
 
 /// A place that is shown, and the module that has it.
 pub(crate) type Place<'a> = Option<(SourceFile<'a>, Span)>;
 
-/// The names that a place may speak of.
-fn names_at<'a>(alloc: Global, place: Place<'a>) -> Result<Vec<&'a str>, AllocError> {
-    let mut names = match place {
-        Some((source, span)) => names_before(alloc, source.text, span.start)?,
-        None => Vec::new(alloc),
-    };
+/// The names that a place may speak of. An expression beside the modules, which has no path, speaks of those of the root behind it.
+fn names_at<'a>(
+    alloc: Global,
+    sources: &[SourceFile<'a>],
+    place: Place<'a>,
+) -> Result<Vec<&'a str>, AllocError> {
+    let mut names = Vec::new(alloc);
+    if let Some((source, span)) = place {
+        let near = names_before(alloc, source.text, span.start)?;
+        add_all(&mut names, near.as_slice())?;
+        if let (true, Some(root)) = (source.path.is_empty(), sources.get(1)) {
+            let more = module_names(alloc, root.text)?;
+            add_all(&mut names, more.as_slice())?;
+        }
+    }
     own_names(&mut names)?;
     Ok(names)
+}
+
+fn add_all<'a>(names: &mut Vec<&'a str>, more: &[&'a str]) -> Result<(), AllocError> {
+    for name in more {
+        names.push(*name)?;
+    }
+    Ok(())
 }
 
 /// The names that a module declares.
@@ -39,9 +56,7 @@ fn members_of<'a>(alloc: Global, sources: &[SourceFile<'a>]) -> Result<Vec<&'a s
     let mut names = Vec::new(alloc);
     for source in sources {
         let more = member_names(alloc, source.text)?;
-        for name in more.as_slice() {
-            names.push(*name)?;
-        }
+        add_all(&mut names, more.as_slice())?;
     }
     Ok(names)
 }
@@ -83,6 +98,32 @@ fn declared_place(
         }
     }
     Ok(None)
+}
+
+/// How a declaration needs itself, as "`a` -> `b` -> `a`", where other declarations of its module do so between.
+fn chain(
+    alloc: Global,
+    sources: &[SourceFile<'_>],
+    module: Option<&str>,
+    name: &str,
+) -> Result<Option<String>, AllocError> {
+    let Some(source) = source_at(sources, module) else {
+        return Ok(None);
+    };
+    let back = ring(alloc, source.text, name)?;
+    if back.len() < 2 {
+        return Ok(None);
+    }
+    let mut out = String::new(alloc);
+    for step in back.as_slice().iter().rev() {
+        out.push('`')?;
+        out.push_str(step)?;
+        out.push_str("` -> ")?;
+    }
+    out.push('`')?;
+    out.push_str(name)?;
+    out.push('`')?;
+    Ok(Some(out))
 }
 
 /// How many arguments a function takes, and where it is declared.
@@ -133,6 +174,10 @@ pub(crate) fn hint_of<'a>(
     };
     match line.kind {
         "Import.DuplicateSymbol" | "Validate.Duplicate" => first_place(alloc, place, name),
+        "Validate.Cycle" | "Eval.CyclicDecl" => {
+            let name = line.declaration.unwrap_or(name);
+            chain(alloc, sources, line.module, name)
+        }
         "Validate.ParamCount" => counted_place(alloc, sources, place, name),
         "Validate.UnknownAttribute" => did_you_mean(alloc, name, &ATTRIBUTES[..]),
         "Validate.UnknownExtension" => did_you_mean(alloc, name, &EXTENSIONS[..]),
@@ -156,7 +201,7 @@ fn candidates<'a>(
         | "Validate.UnknownEnumerant"
         | "Eval.UnknownDecl"
         | "Eval.UnknownFunction"
-        | "Eval.UnknownType" => names_at(alloc, place),
+        | "Eval.UnknownType" => names_at(alloc, sources, place),
         "Validate.UndefinedMember" | "Eval.Component" => members_of(alloc, sources),
         "Import.MissingDecl" | "Eval.NotEntrypoint" => names_of(alloc, sources, module),
         _ => Ok(Vec::new(alloc)),

@@ -372,9 +372,18 @@ fn find_evaluated(
     match (kind, line.subject, line.declaration) {
         ("ConstAssertFailure", _, _) => only_assertion(alloc, text),
         ("NoReturn", Some(name), _) => function_head(alloc, text, name),
-        (_, None, Some(name)) => find_operation(alloc, text, kind, name),
+        (_, None, Some(name)) if is_of_value(kind) => find_operation(alloc, text, kind, name),
         _ => Ok(None),
     }
+}
+
+/// Whether a fault of evaluation is one of a value that is made.
+fn is_of_value(kind: &str) -> bool {
+    kind.ends_with("Overflow")
+        || matches!(
+            kind,
+            "Conversion" | "DivByZero" | "RemZeroDiv" | "OutOfBounds" | "Binary" | "Unary"
+        )
 }
 
 /// The only operation of a declaration that can have a fault, else the value of the declaration.

@@ -48,9 +48,7 @@ fn bracket_of(token: &TemplateToken) -> Bracket {
 /// The token that opens what the one at fault closes.
 fn opening(view: View<'_>) -> Option<usize> {
     let mut depth: usize = 1;
-    let mut number = view.at;
-    while number > 0 {
-        number -= 1;
+    for number in (0..view.at).rev() {
         depth = match bracket_of(view.token(number)?) {
             Bracket::Opens => depth.saturating_sub(1),
             Bracket::Closes => depth.saturating_add(1),

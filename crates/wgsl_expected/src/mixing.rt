@@ -58,9 +58,7 @@ fn clashes(found: Fixed, before: Fixed) -> bool {
 /// The last operator before the one at fault that it clashes with, in the same expression.
 pub(crate) fn clashing_operator(view: View<'_>, found: Fixed) -> Option<Fixed> {
     let mut depth: usize = 0;
-    let mut number = view.at;
-    while number > 0 {
-        number -= 1;
+    for number in (0..view.at).rev() {
         let token = view.token(number)?;
         depth = depth_before(token, depth)?;
         if depth == 0 {

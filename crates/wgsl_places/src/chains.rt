@@ -72,7 +72,8 @@ fn is_fault(list: List, is_if: bool, sought: Chained) -> bool {
 /// Changes the last list.
 fn change_last(lists: &mut Vec<List>, list: List) -> Result<(), AllocError> {
     let _last = lists.pop();
-    lists.push(list)
+    lists.push(list)?;
+    Ok(())
 }
 
 /// Reads a token that is no word of a condition.
@@ -84,7 +85,8 @@ fn read_token(lists: &mut Vec<List>, fixed: Option<Fixed>) -> Result<(), AllocEr
     match fixed {
         Some(Fixed::BraceLeft | Fixed::ParenLeft | Fixed::BracketLeft) => {
             change_last(lists, list.begun(None))?;
-            lists.push(EMPTY)
+            lists.push(EMPTY)?;
+            Ok(())
         }
         Some(Fixed::ParenRight | Fixed::BracketRight) => {
             let _inner = lists.pop();

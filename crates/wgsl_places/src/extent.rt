@@ -1,6 +1,7 @@
 //! The tokens of a declaration of a module.
 
 use crate::row::{Row, depth_behind};
+use std::alloc::{AllocError, Global};
 use wgsl_token::Fixed;
 
 /// The tokens of a declaration of a module, by their numbers: its name, and the first one behind it.
@@ -38,6 +39,22 @@ fn end_of(row: Row<'_>, name: usize) -> usize {
         }
     }
     row.tokens.len()
+}
+
+/// The declarations of a module that have a name.
+pub(crate) fn extents_of(alloc: Global, row: Row<'_>) -> Result<Vec<Extent>, AllocError> {
+    let mut extents = Vec::new(alloc);
+    let mut depth: usize = 0;
+    for number in 0..row.tokens.len() {
+        depth = depth_behind(row.fixed(number), depth);
+        if depth == 0 && row.is_word(number) && declares(row.fixed_before(number)) {
+            extents.push(Extent {
+                name: number,
+                end: end_of(row, number),
+            })?;
+        }
+    }
+    Ok(extents)
 }
 
 /// The declaration of a name of the module.

@@ -7,6 +7,7 @@ mod chains;
 mod conditions;
 mod extent;
 mod initial;
+mod rings;
 mod row;
 
 pub use asserted::only_assertion;
@@ -14,3 +15,4 @@ pub use calls::{miscounted_call, parameter_count};
 pub use chains::{Chained, chain_fault};
 pub use conditions::{flag_in_condition, no_condition, no_flag};
 pub use initial::{function_head, initial_value, only_index, only_operator};
+pub use rings::ring;

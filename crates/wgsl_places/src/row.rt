@@ -41,6 +41,11 @@ impl<'a> Row<'a> {
         self.fixed(number.checked_sub(1)?)
     }
 
+    /// Whether the token of a number is an identifier.
+    pub fn is_word(self, number: usize) -> bool {
+        matches!(self.token(number), Some(Token::Identifier(_)))
+    }
+
     /// Whether the token of a number is an identifier of this name.
     pub fn is_name(self, number: usize, name: &str) -> bool {
         match self.token(number) {
@@ -63,11 +68,9 @@ impl<'a> Row<'a> {
     /// the rest.
     pub fn enclosed(self, open: usize) -> usize {
         let mut depth: usize = 0;
-        let mut number = open;
         let mut count: usize = 0;
-        while number < self.tokens.len() {
+        for number in open..self.tokens.len() {
             depth = depth_behind(self.fixed(number), depth);
-            number += 1;
             count = count.saturating_add(1);
             if depth == 0 {
                 return count;

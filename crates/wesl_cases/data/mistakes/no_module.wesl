@@ -1,1 +1,1 @@
-import package::mistakes::maths::two; fn main() -> u32 { return two; }
+import package::maths::two; fn main() -> u32 { return two; }
