@@ -150,7 +150,7 @@ pub fn find_name(
     for number in 0..tokens.len() {
         let spanned = &tokens[number];
         if is_name(&spanned.token, name) {
-            let next = match tokens.get(number + 1) {
+            let next = match tokens.get(number.saturating_add(1)) {
                 Some(next) => fixed_of(&next.token),
                 None => None,
             };
