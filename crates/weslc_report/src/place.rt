@@ -45,6 +45,20 @@ struct Before {
     is_in_struct: bool,
 }
 
+/// The operators that divide.
+static DIVISIONS: [Fixed; 4] = [
+    Fixed::ForwardSlash,
+    Fixed::Modulo,
+    Fixed::DivisionEqual,
+    Fixed::ModuloEqual,
+];
+
+/// The operators that add.
+static SUMS: [Fixed; 2] = [Fixed::Plus, Fixed::PlusEqual];
+
+/// The operators that multiply.
+static PRODUCTS: [Fixed; 2] = [Fixed::Star, Fixed::TimesEqual];
+
 /// The beginning of a text.
 const START: Before = Before {
     last: None,
@@ -386,6 +400,16 @@ fn is_of_value(kind: &str) -> bool {
         )
 }
 
+/// The operators that can have a fault of evaluation.
+fn operators_of(kind: &str) -> &'static [Fixed] {
+    match kind {
+        "DivByZero" | "RemZeroDiv" => &DIVISIONS[..],
+        "AddOverflow" => &SUMS[..],
+        "MulOverflow" => &PRODUCTS[..],
+        _ => &[],
+    }
+}
+
 /// The only operation of a declaration that can have a fault, else the value of the declaration.
 fn find_operation(
     alloc: Global,
@@ -394,12 +418,8 @@ fn find_operation(
     declaration: &str,
 ) -> Result<Option<Span>, AllocError> {
     let only = match kind {
-        "DivByZero" | "RemZeroDiv" => {
-            let (first, second) = (Fixed::ForwardSlash, Fixed::Modulo);
-            only_operator(alloc, text, declaration, first, second)?
-        }
         "OutOfBounds" => only_index(alloc, text, declaration)?,
-        _ => None,
+        _ => only_operator(alloc, text, declaration, operators_of(kind))?,
     };
     match only {
         Some(span) => Ok(Some(span)),

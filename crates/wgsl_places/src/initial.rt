@@ -1,5 +1,6 @@
 //! What a fault of evaluation is about, where a declaration has one such thing alone.
 
+use crate::closed::is_closed;
 use crate::extent::{Extent, extent_of};
 use crate::row::Row;
 use std::alloc::{AllocError, Global};
@@ -32,10 +33,10 @@ pub fn initial_value(
 }
 
 /// The only token of these in a declaration.
-fn only_among(row: Row<'_>, extent: Extent, first: Fixed, second: Fixed) -> Option<usize> {
+fn only_among(row: Row<'_>, extent: Extent, wanted: &[Fixed]) -> Option<usize> {
     let mut only: Option<usize> = None;
     for number in extent.name..extent.end {
-        if row.is_fixed(number, first) || row.is_fixed(number, second) {
+        if is_among(row.fixed(number), wanted) {
             if only.is_some() {
                 return None;
             }
@@ -43,6 +44,15 @@ fn only_among(row: Row<'_>, extent: Extent, first: Fixed, second: Fixed) -> Opti
         }
     }
     only
+}
+
+fn is_among(fixed: Option<Fixed>, wanted: &[Fixed]) -> bool {
+    for one in wanted {
+        if fixed == Some(*one) {
+            return true;
+        }
+    }
+    false
 }
 
 /// Whether an operand is this one token, so that it begins there.
@@ -64,13 +74,13 @@ fn is_operand_alone(row: Row<'_>, number: usize) -> bool {
         )
 }
 
-/// The operand before the only operator of two in a declaration, or the operator where that is longer than a token. Only memory can fail.
+/// The operand before the only operator of these in a declaration that names no other, or the operator where that is longer than a token.
+/// Only memory can fail.
 pub fn only_operator(
     alloc: Global,
     text: &str,
     declaration: &str,
-    first: Fixed,
-    second: Fixed,
+    operators: &[Fixed],
 ) -> Result<Option<Span>, AllocError> {
     let tokens = lex(alloc, text)?;
     let row = Row {
@@ -79,7 +89,10 @@ pub fn only_operator(
     let Some(extent) = extent_of(row, declaration) else {
         return Ok(None);
     };
-    let Some(number) = only_among(row, extent, first, second) else {
+    if !is_closed(row, extent) {
+        return Ok(None);
+    }
+    let Some(number) = only_among(row, extent, operators) else {
         return Ok(None);
     };
     let before = number.saturating_sub(1);
@@ -91,7 +104,7 @@ pub fn only_operator(
     Ok(row.span(shown))
 }
 
-/// What stands in the only index of a declaration. Only memory can fail.
+/// What stands in the only index of a declaration that names no other. Only memory can fail.
 pub fn only_index(
     alloc: Global,
     text: &str,
@@ -104,7 +117,10 @@ pub fn only_index(
     let Some(extent) = extent_of(row, declaration) else {
         return Ok(None);
     };
-    match only_among(row, extent, Fixed::BracketLeft, Fixed::BracketLeft) {
+    if !is_closed(row, extent) {
+        return Ok(None);
+    }
+    match only_among(row, extent, &[Fixed::BracketLeft]) {
         Some(number) => Ok(row.span(number.saturating_add(1))),
         None => Ok(None),
     }

@@ -4,6 +4,7 @@
 mod asserted;
 mod calls;
 mod chains;
+mod closed;
 mod conditions;
 mod extent;
 mod initial;
