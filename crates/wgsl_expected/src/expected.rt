@@ -51,6 +51,8 @@ mod phrase {
 pub(crate) enum Weight {
     /// It goes on with what stands before it, or comes before what is wanted: it is told where nothing else can stand.
     Loose,
+    /// An operator, which goes on with what stands before it too.
+    Operator,
     /// It closes what is open, and is told last.
     Closer,
     /// A token that is told by its spelling.
@@ -203,7 +205,7 @@ impl Expected {
         if is_among(fixed, &BINARY_OPERATORS[..]) {
             return Thing {
                 text: "an operator",
-                weight: Weight::Loose,
+                weight: Weight::Operator,
             };
         }
         let text = fixed.as_str();

@@ -27,6 +27,7 @@ fn told_of(alloc: Global, things: &[Thing]) -> Result<Vec<Thing>, AllocError> {
     add_weighing(&mut told, things, Weight::Token)?;
     add_weighing(&mut told, things, Weight::Closer)?;
     if told.is_empty() {
+        add_weighing(&mut told, things, Weight::Operator)?;
         add_weighing(&mut told, things, Weight::Loose)?;
     }
     Ok(told)
@@ -34,8 +35,7 @@ fn told_of(alloc: Global, things: &[Thing]) -> Result<Vec<Thing>, AllocError> {
 
 /// Adds a thing: a token in quotes.
 fn push_thing(out: &mut String, thing: Thing) -> Result<(), AllocError> {
-    let is_named = thing.weight == Weight::Group || thing.text == "an operator";
-    if is_named {
+    if matches!(thing.weight, Weight::Group | Weight::Operator) {
         return out.push_str(thing.text);
     }
     out.push('`')?;
