@@ -252,18 +252,19 @@ pub(crate) fn source_at<'a>(
     }
 }
 
-/// The first place of a name in modules other than one, and the module.
+/// A place of a name in modules other than one, and the module.
 fn find_use<'a>(
     alloc: Global,
     sources: &[SourceFile<'a>],
     but: Option<&str>,
     name: &str,
+    seek: Seek,
 ) -> Result<Option<(SourceFile<'a>, Span)>, AllocError> {
     for source in sources {
         if Some(source.path) == but {
             continue;
         }
-        if let Some(span) = find_name(alloc, source.text, name, Seek::Path)? {
+        if let Some(span) = find_name(alloc, source.text, name, seek)? {
             return Ok(Some((*source, span)));
         }
     }
@@ -314,12 +315,12 @@ pub fn find_place<'a>(
     }
     match line.kind {
         "Resolve.ModuleNotFound" | "TooManyModules" => match line.module {
-            Some(path) => find_use(alloc, sources, Some(path), last_part(path)),
+            Some(path) => find_use(alloc, sources, Some(path), last_part(path), Seek::Path),
             None => Ok(None),
         },
         "Import.MissingDecl" | "Import.Private" => find_import(alloc, line, sources),
         "NameClash" | "UnclearName" | "Unprintable" => match line.subject {
-            Some(name) => find_use(alloc, sources, None, name),
+            Some(name) => find_use(alloc, sources, None, name, Seek::First),
             None => Ok(None),
         },
         "Validate.ParamCount" => find_call(alloc, line, sources),
@@ -470,8 +471,8 @@ fn find_import<'a>(
     let Some(name) = line.subject else {
         return Ok(None);
     };
-    match find_use(alloc, sources, line.module, name)? {
+    match find_use(alloc, sources, line.module, name, Seek::Path)? {
         Some(found) => Ok(Some(found)),
-        None => find_use(alloc, sources, None, name),
+        None => find_use(alloc, sources, None, name, Seek::Path),
     }
 }
