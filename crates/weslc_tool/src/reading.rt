@@ -5,7 +5,7 @@ use std::rt::Files;
 use weslc_command::Request;
 use weslc_gather::{FileProblem, Folders, ReadProblem, Sources};
 use weslc_told::did_you_mean;
-use wgsl_path::ModulePath;
+use wgsl_path::{ModulePath, ModulePathParseError};
 
 /// What came of reading a module that a call did not find.
 #[derive(Drop)]
@@ -32,8 +32,10 @@ fn is_own<R: Files + AllocGlobal>(
     path: &str,
 ) -> Result<bool, AllocError> {
     let own = format!(in rt.alloc(); "package::{path}")?;
-    let Ok(own) = ModulePath::from_str(rt.alloc(), own.as_str()) else {
-        return Ok(false);
+    let own = match ModulePath::from_str(rt.alloc(), own.as_str()) {
+        Ok(own) => own,
+        Err(ModulePathParseError::OutOfMemory) => return Err(AllocError),
+        Err(_) => return Ok(false),
     };
     match folders.read(rt, &own) {
         Ok(_) => Ok(true),
