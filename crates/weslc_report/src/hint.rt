@@ -1,13 +1,13 @@
 //! What was meant by a name, and where else an error is.
 
 use crate::error_line::ErrorLine;
-use crate::place::{Seek, SourceFile, find_name, parameters_of, source_at};
+use crate::place::{SourceFile, parameters_of, source_at};
 use std::alloc::{AllocError, Global};
 use wgsl_expected::{
     ATTRIBUTES, EXTENSIONS, did_you_mean, member_names, module_names, names_before, own_names,
 };
 use wgsl_path::Span;
-use wgsl_places::ring;
+use wgsl_places::{Seek, find_name, ring};
 use wgsl_snippet::Snippet;
 
 /// A place that is shown, and the module that has it.
@@ -75,7 +75,7 @@ fn first_place(alloc: Global, place: Place<'_>, name: &str) -> Result<Option<Str
     let Some((source, shown)) = place else {
         return Ok(None);
     };
-    match find_name(alloc, source.text, name, Seek::First)? {
+    match find_name(alloc, source.text, name, seek)? {
         Some(span) if span.start < shown.start => placed(alloc, source, span, name),
         _ => Ok(None),
     }
@@ -173,7 +173,8 @@ pub(crate) fn hint_of<'a>(
         return Ok(None);
     };
     match line.kind {
-        "Import.DuplicateSymbol" | "Validate.Duplicate" => first_place(alloc, place, name),
+        "Import.DuplicateSymbol" => first_place(alloc, place, name, Seek::InModule(0)),
+        "Validate.Duplicate" => first_place(alloc, place, name, Seek::Inside(0)),
         "Validate.Cycle" | "Eval.CyclicDecl" => {
             let name = line.declaration.unwrap_or(name);
             chain(alloc, sources, line.module, name)

@@ -2,14 +2,13 @@
 
 use crate::error_line::ErrorLine;
 use std::alloc::{AllocError, Global};
-use wgsl_items::Text;
-use wgsl_lex::lex;
 use wgsl_path::Span;
 use wgsl_places::{
-    Chained, chain_fault, flag_in_condition, function_head, initial_value, miscounted_call,
-    no_condition, no_flag, only_assertion, only_index, only_operator, parameter_count,
+    Chained, Seek, chain_fault, find_name, flag_in_condition, function_head, initial_value,
+    miscounted_call, no_condition, no_flag, only_assertion, only_index, only_operator,
+    parameter_count,
 };
-use wgsl_token::{Fixed, Token};
+use wgsl_token::Fixed;
 
 /// A module that was read: its path as it is printed, its file and its text.
 #[derive(Clone, Copy, Debug)]
@@ -17,32 +16,6 @@ pub struct SourceFile<'a> {
     pub path: &'a str,
     pub file: &'a str,
     pub text: &'a str,
-}
-
-/// Which of the places of a name is wanted. Where there is none such, it is the first that is no member's, else the first.
-#[derive(Clone, Copy, Debug, PartialEq, Eq)]
-pub enum Seek {
-    First,
-    Second,
-    /// The first behind a word that declares a name.
-    Declared,
-    /// The first behind `::`, or in an import.
-    Path,
-}
-
-/// What stands before a place of a text.
-#[derive(Clone, Copy, Debug)]
-struct Before {
-    /// The last token, if it is a fixed one.
-    last: Option<Fixed>,
-    /// Whether a name is declared there.
-    is_declared: bool,
-    /// Whether the name of a `var` may still be to come.
-    is_in_var: bool,
-    /// Whether an import is not ended.
-    is_in_import: bool,
-    /// Whether a structure is not ended.
-    is_in_struct: bool,
 }
 
 /// The operators that divide.
@@ -58,181 +31,6 @@ static SUMS: [Fixed; 2] = [Fixed::Plus, Fixed::PlusEqual];
 
 /// The operators that multiply.
 static PRODUCTS: [Fixed; 2] = [Fixed::Star, Fixed::TimesEqual];
-
-/// The beginning of a text.
-const START: Before = Before {
-    last: None,
-    is_declared: false,
-    is_in_var: false,
-    is_in_import: false,
-    is_in_struct: false,
-};
-
-/// Whether a name that is declared stands behind a token. A `>` is one where it ends the template list of a `var`, whose name is still to
-/// come.
-fn declares(token: &Token, is_in_var: bool) -> bool {
-    match token {
-        Token::Fixed(Fixed::GreaterThan) => is_in_var,
-        Token::Fixed(fixed) => matches!(
-            *fixed,
-            Fixed::Fn
-                | Fixed::Const
-                | Fixed::Struct
-                | Fixed::Alias
-                | Fixed::Override
-                | Fixed::Let
-                | Fixed::Var
-        ),
-        _ => false,
-    }
-}
-
-/// Whether behind a token the name of a `var` may still be to come.
-fn is_in_var_behind(is_in_var: bool, token: &Token) -> bool {
-    match token {
-        Token::Fixed(Fixed::Var) => true,
-        Token::Fixed(Fixed::GreaterThan | Fixed::Colon | Fixed::Equal | Fixed::Semicolon) => false,
-        _ => is_in_var,
-    }
-}
-
-/// The fixed token that a token is.
-fn fixed_of(token: &Token) -> Option<Fixed> {
-    match token {
-        Token::Fixed(fixed) => Some(*fixed),
-        _ => None,
-    }
-}
-
-/// What stands before the place behind a token.
-fn behind(before: Before, token: &Token) -> Before {
-    let last = fixed_of(token);
-    Before {
-        last,
-        is_declared: declares(token, before.is_in_var),
-        is_in_var: is_in_var_behind(before.is_in_var, token),
-        is_in_import: match last {
-            Some(Fixed::Import) => true,
-            Some(Fixed::Semicolon) => false,
-            _ => before.is_in_import,
-        },
-        is_in_struct: match last {
-            Some(Fixed::Struct) => true,
-            Some(Fixed::BraceRight) => false,
-            _ => before.is_in_struct,
-        },
-    }
-}
-
-/// Whether a name is that of a member or of an attribute, by what stands before and behind it.
-fn is_part(before: Before, next: Option<Fixed>) -> bool {
-    match before.last {
-        Some(Fixed::Period | Fixed::Attr) => true,
-        _ => before.is_in_struct && next == Some(Fixed::Colon),
-    }
-}
-
-fn is_name(token: &Token, name: &str) -> bool {
-    match token {
-        Token::Identifier(identifier) => identifier.as_str() == name,
-        _ => false,
-    }
-}
-
-/// Whether this place of a name is the one that is sought, and no other need be looked at.
-fn is_sought(seek: Seek, before: Before, is_again: bool) -> bool {
-    match seek {
-        Seek::First => true,
-        Seek::Second => is_again,
-        Seek::Declared => before.is_declared,
-        Seek::Path => before.is_in_import || before.last == Some(Fixed::PathSeparator),
-    }
-}
-
-/// A place of a name in a text, in comments not. Only memory can fail.
-pub fn find_name(
-    alloc: Global,
-    text: &str,
-    name: &str,
-    seek: Seek,
-) -> Result<Option<Span>, AllocError> {
-    let tokens = lex(alloc, text)?;
-    let tokens = tokens.as_slice();
-    let mut part: Option<Span> = None;
-    let mut first: Option<Span> = None;
-    let mut before = START;
-    for number in 0..tokens.len() {
-        let spanned = &tokens[number];
-        if is_name(&spanned.token, name) {
-            let next = match tokens.get(number.saturating_add(1)) {
-                Some(next) => fixed_of(&next.token),
-                None => None,
-            };
-            if is_part(before, next) {
-                part = part.or(Some(spanned.span));
-            } else if is_sought(seek, before, first.is_some()) {
-                return Ok(Some(spanned.span));
-            } else {
-                first = first.or(Some(spanned.span));
-            }
-        }
-        before = behind(before, &spanned.token);
-    }
-    Ok(first.or(part))
-}
-
-/// The place of a name in a part of a text, in comments not: the first one there, or the last. Only memory can fail.
-pub fn find_name_in(
-    alloc: Global,
-    text: &str,
-    span: Span,
-    name: &str,
-    is_last: bool,
-) -> Result<Option<Span>, AllocError> {
-    let Some(part) = text.get(span.start..span.end) else {
-        return Ok(None);
-    };
-    let tokens = lex(alloc, part)?;
-    let mut found: Option<Span> = None;
-    for spanned in tokens.as_slice() {
-        if is_name(&spanned.token, name) && (is_last || found.is_none()) {
-            found = Some(Span {
-                start: span.start.saturating_add(spanned.span.start),
-                end: span.start.saturating_add(spanned.span.end),
-            });
-        }
-    }
-    Ok(found)
-}
-
-/// How deep in braces a token leaves those that stand behind it.
-fn depth_behind(depth: usize, token: &Token) -> usize {
-    match token {
-        Token::Fixed(Fixed::BraceLeft) => depth.saturating_add(1),
-        Token::Fixed(Fixed::BraceRight) => depth.saturating_sub(1),
-        _ => depth,
-    }
-}
-
-/// The names that a module declares, in their order. Only memory can fail.
-pub fn declared_names(alloc: Global, text: &str) -> Result<Vec<Text>, AllocError> {
-    let tokens = lex(alloc, text)?;
-    let mut names = Vec::new(alloc);
-    let mut depth = 0;
-    let mut is_declared = false;
-    let mut is_in_var = false;
-    for spanned in tokens.as_slice() {
-        if depth == 0 && is_declared {
-            if let Token::Identifier(name) = &spanned.token {
-                names.push(Text::from_str(alloc, name.as_str())?)?;
-            }
-        }
-        depth = depth_behind(depth, &spanned.token);
-        is_declared = declares(&spanned.token, is_in_var);
-        is_in_var = is_in_var_behind(is_in_var, &spanned.token);
-    }
-    Ok(names)
-}
 
 /// The module at a path.
 pub(crate) fn source_at<'a>(
@@ -338,7 +136,8 @@ fn find_within<'a>(
     line: &ErrorLine<'_>,
 ) -> Result<Option<(SourceFile<'a>, Span)>, AllocError> {
     let seek = match line.kind {
-        "Import.DuplicateSymbol" | "Validate.Duplicate" => Seek::Second,
+        "Import.DuplicateSymbol" => Seek::InModule(1),
+        "Validate.Duplicate" => Seek::Inside(1),
         _ => Seek::First,
     };
     match find_by_kind(alloc, source.text, line)? {

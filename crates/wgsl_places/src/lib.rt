@@ -8,6 +8,7 @@ mod closed;
 mod conditions;
 mod extent;
 mod initial;
+mod named;
 mod rings;
 mod row;
 
@@ -16,4 +17,5 @@ pub use calls::{miscounted_call, parameter_count};
 pub use chains::{Chained, chain_fault};
 pub use conditions::{flag_in_condition, no_condition, no_flag};
 pub use initial::{function_head, initial_value, only_index, only_operator};
+pub use named::{Seek, declared_names, find_name, find_name_in};
 pub use rings::ring;
