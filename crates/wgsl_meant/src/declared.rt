@@ -14,8 +14,10 @@ struct Walk {
     is_in_import: bool,
     /// Whether a structure is not ended.
     is_in_struct: bool,
-    /// Whether a word stands before that declares a name, and only a template list between.
+    /// Whether a word stands before that declares a name, and at most a template list between.
     declares: bool,
+    /// Whether such a template list is not ended.
+    is_in_list: bool,
 }
 
 /// The beginning of a text.
@@ -24,6 +26,7 @@ const START: Walk = Walk {
     is_in_import: false,
     is_in_struct: false,
     declares: false,
+    is_in_list: false,
 };
 
 /// Whether a name is declared behind a token.
@@ -44,8 +47,13 @@ impl Walk {
     /// Where the walk is behind a fixed token.
     fn behind_fixed(self, fixed: Fixed) -> Walk {
         let mut walk = self;
-        walk.declares = declares(fixed) || fixed == Fixed::GreaterThan && self.declares;
+        walk.declares = declares(fixed);
         match fixed {
+            Fixed::LessThan => walk.is_in_list = self.declares,
+            Fixed::GreaterThan => {
+                walk.declares = self.is_in_list;
+                walk.is_in_list = false;
+            }
             Fixed::BraceLeft => walk.depth = self.depth.saturating_add(1),
             Fixed::BraceRight => {
                 walk.depth = self.depth.saturating_sub(1);
@@ -54,7 +62,6 @@ impl Walk {
             Fixed::Import => walk.is_in_import = true,
             Fixed::Struct => walk.is_in_struct = true,
             Fixed::Semicolon => walk.is_in_import = false,
-            Fixed::LessThan | Fixed::Comma => walk.declares = self.declares,
             _ => {}
         }
         walk
@@ -64,7 +71,10 @@ impl Walk {
     fn behind(self, token: &Token) -> Walk {
         match token {
             Token::Fixed(fixed) => self.behind_fixed(*fixed),
-            _ => self,
+            _ => Walk {
+                declares: false,
+                ..self
+            },
         }
     }
 
@@ -122,7 +132,7 @@ fn declared_by(walk: Walk, next: Option<Fixed>) -> Option<Declared> {
             None
         };
     }
-    if walk.declares && next != Some(Fixed::LessThan) {
+    if walk.declares {
         return Some(if walk.depth == 0 {
             Declared::InModule
         } else {
@@ -157,13 +167,9 @@ fn add_names<'a>(
         if wanted == Declared::InFunction && walk.ends_declaration(&spanned.token) {
             names.truncate(0);
         }
-        if matches!(&spanned.token, Token::Identifier(_)) {
-            if declared_by(walk, next) == Some(wanted) {
-                names.push(part(text, spanned.span))?;
-            }
-            if next != Some(Fixed::LessThan) && !walk.is_in_import {
-                walk.declares = walk.declares && next == Some(Fixed::Comma);
-            }
+        let is_name = matches!(&spanned.token, Token::Identifier(_));
+        if is_name && declared_by(walk, next) == Some(wanted) {
+            names.push(part(text, spanned.span))?;
         }
         walk = walk.behind(&spanned.token);
         number = number.saturating_add(1);
