@@ -11,20 +11,32 @@ pub(crate) struct Extent {
     pub end: usize,
 }
 
-/// Whether a name is declared by a token before it. Of a `var` with a template list this is `>`.
-fn declares(fixed: Option<Fixed>) -> bool {
-    matches!(
-        fixed,
-        Some(
-            Fixed::Fn
-                | Fixed::Const
-                | Fixed::Override
-                | Fixed::Var
-                | Fixed::GreaterThan
-                | Fixed::Struct
-                | Fixed::Alias
-        )
-    )
+/// Whether the token of a number is the `>` that ends the template list of a `var`.
+fn ends_var_list(row: Row<'_>, number: usize) -> bool {
+    for before in (0..number).rev() {
+        if row.is_fixed(before, Fixed::LessThan) {
+            return row.fixed_before(before) == Some(Fixed::Var);
+        }
+        if !row.is_word(before) && !row.is_fixed(before, Fixed::Comma) {
+            return false;
+        }
+    }
+    false
+}
+
+/// Whether the token of a number is a name that is declared there.
+fn is_declared(row: Row<'_>, number: usize) -> bool {
+    if !row.is_word(number) {
+        return false;
+    }
+    match row.fixed_before(number) {
+        Some(Fixed::GreaterThan) => ends_var_list(row, number.saturating_sub(1)),
+        Some(before) => matches!(
+            before,
+            Fixed::Fn | Fixed::Const | Fixed::Override | Fixed::Var | Fixed::Struct | Fixed::Alias
+        ),
+        None => false,
+    }
 }
 
 /// Where a declaration ends whose name has this number: behind its `;`, or the brace that closes it.
@@ -47,7 +59,7 @@ pub(crate) fn extents_of(alloc: Global, row: Row<'_>) -> Result<Vec<Extent>, All
     let mut depth: usize = 0;
     for number in 0..row.tokens.len() {
         depth = depth_behind(row.fixed(number), depth);
-        if depth == 0 && row.is_word(number) && declares(row.fixed_before(number)) {
+        if depth == 0 && is_declared(row, number) {
             extents.push(Extent {
                 name: number,
                 end: end_of(row, number),
@@ -62,7 +74,7 @@ pub(crate) fn extent_of(row: Row<'_>, name: &str) -> Option<Extent> {
     let mut depth: usize = 0;
     for number in 0..row.tokens.len() {
         depth = depth_behind(row.fixed(number), depth);
-        if depth == 0 && row.is_name(number, name) && declares(row.fixed_before(number)) {
+        if depth == 0 && row.is_name(number, name) && is_declared(row, number) {
             return Some(Extent {
                 name: number,
                 end: end_of(row, number),
