@@ -1,5 +1,7 @@
 //! The parser's tables run over tokens, without trees.
 
+ghost use Rattle.std.specs.Prelude.{◌<◌};
+
 use std::alloc::{AllocError, Global};
 use wgsl_grammar_tables::drive;
 use wgsl_shift_reduce::Action;
