@@ -71,7 +71,12 @@ fn paths_of<'a>(alloc: Global, sources: &[SourceFile<'a>]) -> Result<Vec<&'a str
 }
 
 /// Where the first of two declarations of a name stands, of which the second is shown.
-fn first_place(alloc: Global, place: Place<'_>, name: &str) -> Result<Option<String>, AllocError> {
+fn first_place(
+    alloc: Global,
+    place: Place<'_>,
+    name: &str,
+    seek: Seek,
+) -> Result<Option<String>, AllocError> {
     let Some((source, shown)) = place else {
         return Ok(None);
     };
