@@ -61,13 +61,21 @@ fn members_of<'a>(alloc: Global, sources: &[SourceFile<'a>]) -> Result<Vec<&'a s
     Ok(names)
 }
 
-/// The paths of the modules that were read.
-fn paths_of<'a>(alloc: Global, sources: &[SourceFile<'a>]) -> Result<Vec<&'a str>, AllocError> {
-    let mut paths = Vec::new(alloc);
+/// The last parts of the paths of the modules that were read beside another, which has this path but for the last part.
+fn siblings_of<'a>(
+    alloc: Global,
+    sources: &[SourceFile<'a>],
+    parent: &str,
+) -> Result<Vec<&'a str>, AllocError> {
+    let mut names = Vec::new(alloc);
     for source in sources {
-        paths.push(source.path)?;
+        if let Some((above, last)) = source.path.rsplit_once("::") {
+            if above == parent {
+                names.push(last)?;
+            }
+        }
     }
-    Ok(paths)
+    Ok(names)
 }
 
 /// Where the first of two declarations of a name stands, of which the second is shown.
@@ -171,8 +179,10 @@ pub(crate) fn hint_of<'a>(
     place: Place<'a>,
 ) -> Result<Option<String>, AllocError> {
     if line.kind == "Resolve.ModuleNotFound" {
-        let paths = paths_of(alloc, sources)?;
-        return did_you_mean(alloc, line.module.unwrap_or(""), paths.as_slice());
+        let path = line.module.unwrap_or("");
+        let (parent, last) = path.rsplit_once("::").unwrap_or(("", path));
+        let names = siblings_of(alloc, sources, parent)?;
+        return did_you_mean(alloc, last, names.as_slice());
     }
     let Some(name) = line.subject else {
         return Ok(None);
