@@ -6,10 +6,10 @@ use crate::moving::{Moved, empty_unit, pour, pour_new};
 use crate::numbering::Numbering;
 use crate::scripts::{Meanings, find_meanings, script_of};
 use std::alloc::{AllocError, Global};
-use wesl_mark::Kind;
-use wesl_marks_mut::{write_declaration, write_directive};
+use wesl_mark::{Kind, Place};
+use wesl_marks_mut::{Script, write_declaration, write_directive};
 use wesl_rounds::{HeldUnit, Resolutions};
-use wesl_tables::{Module, Spot};
+use wesl_tables::Spot;
 use wgsl_declarations::{GlobalDeclarationNode, TranslationUnit, let_go, retain_declarations};
 use wgsl_imports::GlobalDirective;
 use wgsl_items::{Items, Text};
@@ -120,22 +120,20 @@ fn write_module(
     Ok(())
 }
 
-/// Whether a place goes into the linked unit: each directive, and what is held but a `;` alone.
+/// Whether a place goes into the linked unit: each directive, and what is held.
 fn is_taken(resolutions: &Resolutions, spot: Spot) -> bool {
-    match kind_at(resolutions, spot) {
+    match place_at(resolutions, spot) {
         None => false,
-        Some(Kind::Directive) => true,
-        Some(Kind::Void) => false,
-        Some(_) => resolutions.is_held(spot),
+        Some(place) => place.kind == Kind::Directive || resolutions.is_held(spot),
     }
 }
 
-fn kind_at(resolutions: &Resolutions, spot: Spot) -> Option<Kind> {
+fn place_at(resolutions: &Resolutions, spot: Spot) -> Option<Place> {
     match resolutions.modules.get(spot.module) {
         None => None,
         Some(module) => match module.places.get(spot.place) {
             None => None,
-            Some(place) => Some(place.kind),
+            Some(place) => Some(*place),
         },
     }
 }
@@ -148,20 +146,14 @@ fn write_place(
     spot: Spot,
     meanings: &mut Meanings,
 ) -> Result<(), AllocError> {
-    match resolutions.modules.get(spot.module) {
-        None => return Ok(()),
-        Some(module) => find_in(resolutions, numbering, module, spot, meanings)?,
-    }
+    let Some(place) = place_at(resolutions, spot) else {
+        return Ok(());
+    };
+    find_in(resolutions, numbering, spot, place, meanings)?;
     let mut script = script_of(alloc, meanings.meant.as_slice(), names)?;
     if spot.module < resolutions.units.len() {
         let unit = resolutions.units[spot.module].get_mut();
-        let directives = unit.global_directives.len();
-        if spot.place < directives {
-            write_directive(unit.global_directives.get_mut(spot.place), &mut script);
-        } else if spot.place - directives < unit.global_declarations.len() {
-            let node = unit.global_declarations.get_mut(spot.place - directives);
-            write_declaration(node.node_mut(), &mut script);
-        }
+        write_at(unit, place, &mut script);
     }
     Ok(())
 }
@@ -169,13 +161,25 @@ fn write_place(
 fn find_in(
     resolutions: &Resolutions,
     numbering: &Numbering,
-    module: &Module,
     spot: Spot,
+    place: Place,
     meanings: &mut Meanings,
 ) -> Result<(), AllocError> {
-    match module.places.get(spot.place) {
+    match resolutions.modules.get(spot.module) {
         None => Ok(()),
-        Some(place) => find_meanings(resolutions, numbering, &module.list, spot, *place, meanings),
+        Some(module) => find_meanings(resolutions, numbering, &module.list, spot, place, meanings),
+    }
+}
+
+/// Writes into the directive or the declaration at a place of a module what a script holds for it.
+fn write_at(unit: &mut TranslationUnit, place: Place, script: &mut Script) {
+    if place.kind == Kind::Directive {
+        if place.at < unit.global_directives.len() {
+            write_directive(unit.global_directives.get_mut(place.at), script);
+        }
+    } else if place.at < unit.global_declarations.len() {
+        let node = unit.global_declarations.get_mut(place.at);
+        write_declaration(node.node_mut(), script);
     }
 }
 
@@ -207,7 +211,7 @@ fn take_directives(
     Ok(())
 }
 
-/// Which of the declarations of a module go into the linked unit. Where each that does comes from is added to the origins.
+/// Which of the declarations of a module, `;` counted, go into the linked unit. Where each that does comes from is added to the origins.
 fn taken_declarations(
     alloc: Global,
     resolutions: &Resolutions,
@@ -225,6 +229,9 @@ fn taken_declarations(
                 place,
             };
             let is_taken = is_taken(resolutions, spot);
+            for _void in taken.len()..entry.at {
+                taken.push(false)?;
+            }
             taken.push(is_taken)?;
             if is_taken {
                 origins.push(spot)?;

@@ -6,20 +6,20 @@ use wesl_name_rules::{Kind, NameFault, StepList, StepPlace, faults_of};
 use wgsl_declarations::{GlobalDeclaration, TranslationUnit};
 use wgsl_expressions::Span;
 
-/// What stands at a place.
-fn kind_of(declaration: &GlobalDeclaration) -> Kind {
+/// What a declaration is; none of `;`.
+fn kind_of(declaration: &GlobalDeclaration) -> Option<Kind> {
     match declaration {
-        GlobalDeclaration::Void => Kind::Void,
-        GlobalDeclaration::Declaration(_) => Kind::Variable,
-        GlobalDeclaration::TypeAlias(_) => Kind::Alias,
-        GlobalDeclaration::Struct(x) => Kind::Struct {
+        GlobalDeclaration::Void => None,
+        GlobalDeclaration::Declaration(_) => Some(Kind::Variable),
+        GlobalDeclaration::TypeAlias(_) => Some(Kind::Alias),
+        GlobalDeclaration::Struct(x) => Some(Kind::Struct {
             members: counted(x.members.len()),
-        },
-        GlobalDeclaration::Function(x) => Kind::Function {
+        }),
+        GlobalDeclaration::Function(x) => Some(Kind::Function {
             parameters: counted(x.parameters.len()),
             is_entry_point: false,
-        },
-        GlobalDeclaration::ConstAssert(_) => Kind::Assertion,
+        }),
+        GlobalDeclaration::ConstAssert(_) => Some(Kind::Assertion),
     }
 }
 
@@ -48,7 +48,7 @@ fn name_of(
     Ok(Some(number))
 }
 
-/// Lays a module out: its directives, and behind them its declarations, `;` counted.
+/// Lays a module out: its directives, and behind them its declarations without `;`.
 fn walk_unit(unit: &TranslationUnit, list: &mut StepList) -> Result<(), AllocError> {
     for directive in unit.global_directives.as_slice() {
         let start = list.len();
@@ -68,14 +68,16 @@ fn walk_unit(unit: &TranslationUnit, list: &mut StepList) -> Result<(), AllocErr
         let span = declaration.span;
         let body = walk_declaration(declaration.node(), span, list)?;
         let name = name_of(declaration.node(), list)?;
-        list.push_place(StepPlace {
-            kind: kind_of(declaration.node()),
-            name,
-            start,
-            body,
-            end: list.len(),
-            span,
-        })?;
+        if let Some(kind) = kind_of(declaration.node()) {
+            list.push_place(StepPlace {
+                kind,
+                name,
+                start,
+                body,
+                end: list.len(),
+                span,
+            })?;
+        }
     }
     Ok(())
 }

@@ -4,8 +4,6 @@
 #[derive(Clone, Copy, Debug, PartialEq, Eq)]
 pub enum Kind {
     Directive,
-    /// A `;` alone.
-    Void,
     Assertion,
     Variable,
     Alias,
@@ -18,10 +16,12 @@ pub enum Kind {
     },
 }
 
-/// A directive or a declaration of a module.
+/// A directive or a declaration of a module; a `;` alone is none.
 #[derive(Clone, Copy, Debug)]
 pub struct Place {
     pub kind: Kind,
+    /// How many directives stand before a directive, or declarations, `;` counted, before a declaration.
+    pub at: usize,
     /// The number of its name, where it has one.
     pub name: Option<u32>,
     /// Its marks are those of the list from `start` on, up to `end`, which is not among them.

@@ -1,14 +1,14 @@
 //! The marks of a module, and its places.
 
-ghost use Rattle.std.specs.Prelude.{◌≡◌, ◌++◌, length, IfOk, OnOk};
+ghost use Rattle.std.specs.Prelude.{◌≡◌, ◌++◌, length, map, option_map, IfOk, OnOk};
 ghost use Rattle.std.specs.List.{list_any, AllZip};
 ghost use Rattle.wgsl_attributes.specs.View.{attribute_tree, attributes_tree};
 ghost use Rattle.wgsl_declarations.specs.ImportsView.{directive_tree};
-ghost use Rattle.wgsl_declarations.specs.View.{declaration_tree};
+ghost use Rattle.wgsl_declarations.specs.View.{declaration_tree, unit_tree};
 ghost use Rattle.wesl_mark.specs.Lists.{flats, says, OnlyGrows};
 ghost use Rattle.wesl_mark.specs.Places.{IsNumber, IsSpot};
 ghost use Rattle.wesl_marks.specs.Units as units;
-ghost use Rattle.wesl_marks.specs.Units.{declaration_flats, declaration_spot, directive_flats, directive_spot, is_stage, unit_spots};
+ghost use Rattle.wesl_marks.specs.Units.{directive_flats, directive_spot, is_stage, IsPlace, unit_numbers, unit_spots};
 
 use crate::declarations::mark_declaration;
 use crate::expressions::mark_attributes;
@@ -18,21 +18,24 @@ use wgsl_attributes::{Attribute, AttributeNode};
 use wgsl_declarations::{GlobalDeclaration, TranslationUnit};
 use wgsl_imports::GlobalDirective;
 
-/// Adds the marks of a unit to a list, and returns the unit's places: its directives, and behind them its declarations, `;` counted.
+/// Adds the marks of a unit to a list, and returns the unit's places: its directives, and behind them its declarations without `;`.
 pub fn mark_unit(
     alloc: Global,
     list: &mut MarkList,
     unit: &TranslationUnit,
 ) -> Result<Vec<Place>, AllocError>
-    ensures places { IfOk result (λ places. AllZip (IsSpot list.new) places.items (unit_spots unit.now)) }
+    ensures places { IfOk result (λ places. AllZip (IsSpot list.new) places.items (unit_spots (unit_tree unit.now))) }
+    ensures numbers { IfOk result (λ places. map (λ p. p.at) places.items ≡ unit_numbers unit.now) }
     ensures grows { OnOk result (OnlyGrows list.old list.new) }
 {
     let mut places = Vec::new(alloc);
-    for directive in unit.global_directives.as_slice() {
-        places.push(mark_directive_place(directive, list)?)?;
+    for (at, directive) in unit.global_directives.as_slice().iter().enumerate() {
+        places.push(mark_directive_place(directive, at, list)?)?;
     }
-    for declaration in unit.global_declarations.as_slice() {
-        places.push(mark_place(declaration.node(), list)?)?;
+    for (at, declaration) in unit.global_declarations.as_slice().iter().enumerate() {
+        if let Some(place) = mark_place(declaration.node(), at, list)? {
+            places.push(place)?;
+        }
     }
     Ok(places)
 }
@@ -50,42 +53,55 @@ pub fn mark_directive(directive: &GlobalDirective, list: &mut MarkList) -> Resul
     }
 }
 
-/// Marks a directive, and returns its place.
+/// Marks a directive of this number, and returns its place.
 fn mark_directive_place(
     directive: &GlobalDirective,
+    at: usize,
     list: &mut MarkList,
 ) -> Result<Place, AllocError>
     ensures spot { IfOk result (λ place. IsSpot list.new place (directive_spot (directive_tree directive.now))) }
+    ensures number { IfOk result (λ place. place.at ≡ at) }
     ensures grows { OnOk result (OnlyGrows list.old list.new) }
 {
     let start = list.len();
     mark_directive(directive, list)?;
     Ok(Place {
         kind: Kind::Directive,
+        at,
         name: None,
         start,
         end: list.len(),
     })
 }
 
-/// Marks a declaration, and returns its place.
-fn mark_place(declaration: &GlobalDeclaration, list: &mut MarkList) -> Result<Place, AllocError>
-    ensures spot { IfOk result (λ place. IsSpot list.new place (declaration_spot (declaration_tree declaration.now))) }
+/// Marks a declaration of this number, and returns its place. A `;` has none.
+fn mark_place(
+    declaration: &GlobalDeclaration,
+    at: usize,
+    list: &mut MarkList,
+) -> Result<Option<Place>, AllocError>
+    ensures place { IfOk result (λ place. IsPlace list.new at place (declaration_tree declaration.now)) }
     ensures grows { OnOk result (OnlyGrows list.old list.new) }
 {
     let start = list.len();
     mark_declaration(declaration, list)?;
-    Ok(Place {
-        kind: kind_of(declaration),
-        name: name_of(declaration, list)?,
-        start,
-        end: list.len(),
-    })
+    let name = name_of(declaration, list)?;
+    let end = list.len();
+    match kind_of(declaration) {
+        None => Ok(None),
+        Some(kind) => Ok(Some(Place {
+            kind,
+            at,
+            name,
+            start,
+            end,
+        })),
+    }
 }
 
 /// The number of a declaration's name. It is there already, behind the declaration's marks.
 fn name_of(declaration: &GlobalDeclaration, list: &mut MarkList) -> Result<Option<u32>, AllocError>
-    ensures name { IfOk result (λ number. IsNumber list.new.names.keys number (units.name_of (declaration_tree declaration.now))) }
+    ensures name { IfOk result (λ number. IsNumber list.new.names.keys number (units.optional_name (declaration_tree declaration.now))) }
     ensures says { OnOk result (says list.new ≡ says list.old) }
     ensures flats { OnOk result (flats list.new ≡ flats list.old) }
     ensures grows { OnOk result (OnlyGrows list.old list.new) }
@@ -102,21 +118,22 @@ fn name_of(declaration: &GlobalDeclaration, list: &mut MarkList) -> Result<Optio
     Ok(Some(number))
 }
 
-fn kind_of(declaration: &GlobalDeclaration) -> Kind
-    ensures { result ≡ units.kind_of (declaration_tree declaration.now) }
+/// What a declaration is; none of `;`.
+fn kind_of(declaration: &GlobalDeclaration) -> Option<Kind>
+    ensures { result ≡ option_map units.kind_of (declaration_tree declaration.now) }
 {
     match declaration {
-        GlobalDeclaration::Void => Kind::Void,
-        GlobalDeclaration::Declaration(_) => Kind::Variable,
-        GlobalDeclaration::TypeAlias(_) => Kind::Alias,
-        GlobalDeclaration::Struct(x) => Kind::Struct {
+        GlobalDeclaration::Void => None,
+        GlobalDeclaration::Declaration(_) => Some(Kind::Variable),
+        GlobalDeclaration::TypeAlias(_) => Some(Kind::Alias),
+        GlobalDeclaration::Struct(x) => Some(Kind::Struct {
             members: counted(x.members.len()),
-        },
-        GlobalDeclaration::Function(x) => Kind::Function {
+        }),
+        GlobalDeclaration::Function(x) => Some(Kind::Function {
             parameters: counted(x.parameters.len()),
             is_entry_point: has_stage(x.attributes.as_slice()),
-        },
-        GlobalDeclaration::ConstAssert(_) => Kind::Assertion,
+        }),
+        GlobalDeclaration::ConstAssert(_) => Some(Kind::Assertion),
     }
 }
 

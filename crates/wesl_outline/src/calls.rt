@@ -13,7 +13,7 @@ fn kind_fault(kind: Kind, arguments: u32) -> Option<ValidateError> {
         Kind::Variable => return Some(ValidateError::NotCallable),
         Kind::Function { parameters, .. } => arguments != parameters,
         Kind::Struct { members } => arguments != 0 && arguments != members,
-        Kind::Directive | Kind::Void | Kind::Assertion | Kind::Alias => false,
+        Kind::Directive | Kind::Assertion | Kind::Alias => false,
     };
     if is_wrong {
         Some(ValidateError::ParamCount)

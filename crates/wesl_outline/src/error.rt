@@ -24,7 +24,7 @@ pub enum ValidateError {
     Cycle,
 }
 
-/// The fault of a unit: the number of the directive or declaration that holds its place, directives first and `;` counted, and the name
+/// The fault of a unit: the number of the directive or declaration that holds its place, directives first and without `;`, and the name
 /// concerned.
 #[derive(Debug, Drop, PartialEq, Message)]
 #[error("{kind}: `{name}`")]

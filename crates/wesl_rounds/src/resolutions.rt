@@ -8,7 +8,7 @@ use wesl_closing::{
 use wgsl_items::Text;
 
 /// The modules that linking loaded, and what is held of them. The root has number 0. `units` has the trees by the modules' numbers, and
-/// `held` says of each module, by number, which of its places (directives, then declarations, `;` counted) are held.
+/// `held` says of each module, by number, which of its places (directives, then declarations without `;`) are held.
 #[derive(Drop)]
 pub struct Resolutions {
     pub modules: Modules,

@@ -40,7 +40,7 @@ pub struct Module {
     pub target: Target,
     /// What the tree says of names.
     pub list: MarkList,
-    /// The directives, then the declarations, `;` counted.
+    /// The directives, then the declarations without `;`.
     pub places: Vec<Place>,
     /// For each place the references in it whose first name no local declaration hides, in the order of the text.
     pub uses: Vec<Vec<u32>>,
