@@ -16,9 +16,9 @@ use Rattle.wgsl_declarations.specs.StatementsTree.{Stm, Stms, Block, Elses, Clau
 use Rattle.wgsl_declarations.specs.Tree as d
 use Rattle.wgsl_declarations.specs.Tree.{Member, Param, Decl}
 use Rattle.wgsl_skeleton.specs.Skeleton as l
-use Rattle.wgsl_skeleton.specs.Skeleton.{Name, Node, occurrence, local, scope, node, Nodes, nil, cons}
+use Rattle.wgsl_skeleton.specs.Skeleton.{Name, Node, occurrence, local, Nodes, nil, cons}
 use Rattle.wgsl_skeleton.specs.Trees as tree
-use Rattle.wgsl_skeleton.specs.Trees.{nodes, then_nodes, leaf, list, named_node, exp_node, exp_nodes, type_node, attribute_node, attributes_node, simple_nodes, selector_node, if_break, statement_nodes, statements_nodes, block_node, inside_nodes, elses_node, clause_nodes, loop_nodes, continuing_node, part_nodes, member_node, parameter_node, declaration_node}
+use Rattle.wgsl_skeleton.specs.Trees.{nodes, then_nodes, leaf, named_node, exp_node, exp_nodes, type_node, attribute_node, attributes_node, simple_nodes, selector_node, if_break, statement_nodes, statements_nodes, block_node, elses_node, clause_nodes, continuing_node, part_nodes, member_node, parameter_node, declaration_node}
 use Rattle.wgsl_skeleton.specs.Flats.{Flat, enters, leaves, declares, occurs, flat, all_flat}
 use Rattle.wesl_marks.specs.Laid.{in_name, in_exp, in_exps, in_typ, in_option, if_exp, if_typ, in_attr, in_attrs, in_simple, in_break_if, in_selector, in_header, in_stm, in_stms, in_block, in_elses, in_clauses, in_continuing, in_part, in_member, in_param, in_signature, in_decl}
 

@@ -12,9 +12,8 @@ use Rattle.wgsl_declarations.specs.SimpleStatementsTree as p
 use Rattle.wgsl_declarations.specs.StatementsTree as t
 use Rattle.wgsl_declarations.specs.StatementsTree.{Stms, Block, Elses, Clauses, Part}
 use Rattle.wgsl_imports.specs.Tree as i
-use Rattle.wgsl_imports.specs.Tree.{Directive}
 use Rattle.wgsl_declarations.specs.Tree as d
-use Rattle.wgsl_declarations.specs.Tree.{Member, Param, Decl}
+use Rattle.wgsl_declarations.specs.Tree.{Param}
 use Rattle.wesl_marks_mut.specs.declared.script.New.{New}
 use Rattle.wesl_marks_mut.specs.Lasts.{init_from, init, last_from, last}
 use Rattle.wesl_marks_mut.specs.Putting.{without, put_path, put_name}

@@ -1,4 +1,4 @@
-use Rattle.std.proofs.Common.{◌≡◌, ◌++◌, true, drop, map}
+use Rattle.std.proofs.Common.{◌≡◌, ◌++◌, drop, map}
 use Rattle.std.specs.List.{flat_map}
 use Rattle.wesl_mark.specs.Lists.{flats, OnlyGrows}
 use Rattle.wgsl_expressions.specs.View.{node_tree}
