@@ -46,7 +46,7 @@ spot_kept old new grows p s spot = record {
   flats = between_kept old new grows p.start p.end spot.within ∙ spot.flats;
 }
 
-spots_kept : (old new : MarkList) → Grows old new → (ps : List Place) (ss : List Spot) → AllZip (IsSpot old) ps ss → AllZip (IsSpot new) ps ss
+pub spots_kept : (old new : MarkList) → Grows old new → (ps : List Place) (ss : List Spot) → AllZip (IsSpot old) ps ss → AllZip (IsSpot new) ps ss
 spots_kept old new grows [] [] h = tt
 spots_kept old new grows [] (s ∷ ss) h = absurd h
 spots_kept old new grows (p ∷ ps) [] h = absurd h
