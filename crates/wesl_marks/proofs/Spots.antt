@@ -1,6 +1,7 @@
 -- What a directive, a declaration and a place say.
 use Rattle.std.proofs.Common.{◌≡◌, refl, sym, ap, ◌∙◌, subst, ℕ, zero, suc, ◌+◌, ◌<◌, ◌≤◌, [], ◌∷◌, ◌++◌, arith, length, take, map, get_or, List, Option, Some, None, append_assoc, append-nil}
 use Rattle.std.specs.List.{AllZip, filter_map, enumerate_from, range_with_len}
+use Rattle.std.specs.Option.{option_map}
 use Rattle.std.proofs.lemmas.List.{map-append, take_more}
 use Rattle.std.proofs.lemmas.List.Elements.{filter_map-append}
 use Rattle.wgsl_path.specs.declared.span.Spanned.{Spanned}
@@ -112,3 +113,34 @@ range_more a (suc n) = ap (λ s. a ∷ s) (range_more (a + 1) n ∙ ap (λ k. ra
 enumerate_more : {A : Type 0} (a : ℕ) (xs : List A) (x : A) → enumerate_from a (xs ++ x ∷ []) ≡ enumerate_from a xs ++ (a + length xs, x) ∷ []
 enumerate_more a [] x = ap (λ k. (k, x) ∷ []) (omega arith)
 enumerate_more a (y ∷ xs) x = ap (λ s. (a, y) ∷ s) (enumerate_more (a + 1) xs x ∙ ap (λ k. enumerate_from (a + 1) xs ++ (k, x) ∷ []) (omega arith))
+
+pub directive_number : (ps qs : List Place) (p : Place) (i : ℕ) → qs ≡ ps ++ p ∷ [] → p.at ≡ i → map (λ p. p.at) ps ≡ range_with_len 0 i → map (λ p. p.at) qs ≡ range_with_len 0 (i + 1)
+directive_number ps qs p i e at h =
+    let one : i + 1 ≡ suc i = omega arith in
+    ap (map (λ p. p.at)) e ∙ map-append (λ p. p.at) ps (p ∷ []) ∙ ap (λ s. s ++ p.at ∷ []) h ∙ ap (λ k. range_with_len 0 i ++ k ∷ []) at ∙ sym (ap (range_with_len 0) one ∙ range_more 0 i)
+
+-- the numbers of declarations with one more, which is a `;` or not
+numbers_more : (xs : List (Spanned GlobalDeclaration)) (i : ℕ) (x : Spanned GlobalDeclaration) → i < length xs → x ≡ get_or xs i x
+    → filter_map number_of (enumerate_from 0 (take (i + 1) xs)) ≡ filter_map number_of (enumerate_from 0 (take i xs)) ++ filter_map number_of ((i, x) ∷ [])
+numbers_more xs i x below at =
+    let long : 0 + length (take i xs) ≡ i = omega (arith, length-take_le i xs (omega (arith, below))) in
+    ap (λ ys. filter_map number_of (enumerate_from 0 ys)) (take_more xs i x below ∙ ap (λ y. take i xs ++ y ∷ []) (sym at))
+    ∙ ap (filter_map number_of) (enumerate_more 0 (take i xs) x ∙ ap (λ k. enumerate_from 0 (take i xs) ++ (k, x) ∷ []) long)
+    ∙ filter_map-append number_of (enumerate_from 0 (take i xs)) ((i, x) ∷ [])
+
+pub declaration_number : (l : MarkList) (front : List ℕ) (xs : List (Spanned GlobalDeclaration)) (i : ℕ) (x : Spanned GlobalDeclaration) (ps qs : List Place) (p : Place) → i < length xs → x ≡ get_or xs i x
+    → qs ≡ ps ++ p ∷ [] → map (λ p. p.at) ps ≡ front ++ filter_map number_of (enumerate_from 0 (take i xs)) → IsPlace l i (Some p) (declaration_tree x.node)
+    → map (λ p. p.at) qs ≡ front ++ filter_map number_of (enumerate_from 0 (take (i + 1) xs))
+declaration_number l front xs i x ps qs p below at e h place =
+    let (d, is, spot, number) = declared_place l i p (declaration_tree x.node) place in
+    ap (map (λ p. p.at)) e ∙ map-append (λ p. p.at) ps (p ∷ []) ∙ ap (λ s. s ++ p.at ∷ []) h ∙ ap (λ k. (front ++ filter_map number_of (enumerate_from 0 (take i xs))) ++ k ∷ []) number
+    ∙ append_assoc front (filter_map number_of (enumerate_from 0 (take i xs))) (i ∷ [])
+    ∙ ap (λ s. front ++ s) (sym (numbers_more xs i x below at ∙ ap (λ s. filter_map number_of (enumerate_from 0 (take i xs)) ++ s) (filtered_one number_of (i, x) i (ap (option_map (λ x. i)) is))))
+
+pub void_number : (l : MarkList) (front : List ℕ) (xs : List (Spanned GlobalDeclaration)) (i : ℕ) (x : Spanned GlobalDeclaration) (ps : List Place) → i < length xs → x ≡ get_or xs i x
+    → map (λ p. p.at) ps ≡ front ++ filter_map number_of (enumerate_from 0 (take i xs)) → IsPlace l i None (declaration_tree x.node)
+    → map (λ p. p.at) ps ≡ front ++ filter_map number_of (enumerate_from 0 (take (i + 1) xs))
+void_number l front xs i x ps below at h place =
+    h ∙ ap (λ s. front ++ s) (sym (numbers_more xs i x below at
+    ∙ ap (λ s. filter_map number_of (enumerate_from 0 (take i xs)) ++ s) (filtered_none number_of (i, x) (ap (option_map (λ x. i)) (no_place l i (declaration_tree x.node) place)))
+    ∙ append-nil (filter_map number_of (enumerate_from 0 (take i xs)))))

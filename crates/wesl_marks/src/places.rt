@@ -29,11 +29,13 @@ pub fn mark_unit(
     ensures grows { OnOk result (OnlyGrows list.old list.new) }
 {
     let mut places = Vec::new(alloc);
-    for (at, directive) in unit.global_directives.as_slice().iter().enumerate() {
+    let directives = unit.global_directives.as_slice();
+    for (at, directive) in directives.iter().enumerate() {
         places.push(mark_directive_place(directive, at, list)?)?;
     }
-    for (at, declaration) in unit.global_declarations.as_slice().iter().enumerate() {
-        if let Some(place) = mark_place(declaration.node(), at, list)? {
+    let declarations = unit.global_declarations.as_slice();
+    for (number, declaration) in declarations.iter().enumerate() {
+        if let Some(place) = mark_place(declaration.node(), number, list)? {
             places.push(place)?;
         }
     }
