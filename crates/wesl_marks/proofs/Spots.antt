@@ -2,7 +2,7 @@
 use Rattle.std.proofs.Common.{◌≡◌, refl, sym, ap, ◌∙◌, subst, ℕ, zero, suc, ◌+◌, ◌<◌, ◌≤◌, [], ◌∷◌, ◌++◌, arith, length, take, map, get_or, List, Option, Some, None, append_assoc, append-nil}
 use Rattle.std.specs.List.{AllZip, filter_map, enumerate_from, range_with_len}
 use Rattle.std.specs.Option.{option_map}
-use Rattle.std.proofs.lemmas.List.{map-append, take_more}
+use Rattle.std.proofs.lemmas.List.{length-take-le, map-append, take_more}
 use Rattle.std.proofs.lemmas.List.Elements.{filter_map-append}
 use Rattle.wgsl_path.specs.declared.span.Spanned.{Spanned}
 use Rattle.wgsl_declarations.specs.GlobalDirective.{GlobalDirective}
@@ -19,7 +19,7 @@ use Rattle.wesl_mark.specs.Places.{Spot, IsSpot}
 use Rattle.wesl_mark.specs.Flats.{Flat}
 use Rattle.wesl_mark.specs.Lists.{says, flats, flats_between, OnlyGrows}
 use Rattle.wesl_mark.proofs.Growing.{grows_itself}
-use Rattle.wesl_mark.proofs.Spots.{said_since, spots_more}
+use Rattle.wesl_mark.proofs.Spots.{said_since, spots_kept, spots_more}
 use Rattle.wesl_marks.specs.Laid.{in_attrs, in_optional_decl}
 use Rattle.wesl_marks.specs.Units.{directive_flats, declaration_flats, directive_spot, declaration_spot, IsPlace, number_of}
 use Rattle.wesl_marks.proofs.Skeletons as skeletons
@@ -123,7 +123,7 @@ directive_number ps qs p i e at h =
 numbers_more : (xs : List (Spanned GlobalDeclaration)) (i : ℕ) (x : Spanned GlobalDeclaration) → i < length xs → x ≡ get_or xs i x
     → filter_map number_of (enumerate_from 0 (take (i + 1) xs)) ≡ filter_map number_of (enumerate_from 0 (take i xs)) ++ filter_map number_of ((i, x) ∷ [])
 numbers_more xs i x below at =
-    let long : 0 + length (take i xs) ≡ i = omega (arith, length-take_le i xs (omega (arith, below))) in
+    let long : 0 + length (take i xs) ≡ i = omega (arith, length-take-le i xs (omega (arith, below))) in
     ap (λ ys. filter_map number_of (enumerate_from 0 ys)) (take_more xs i x below ∙ ap (λ y. take i xs ++ y ∷ []) (sym at))
     ∙ ap (filter_map number_of) (enumerate_more 0 (take i xs) x ∙ ap (λ k. enumerate_from 0 (take i xs) ++ (k, x) ∷ []) long)
     ∙ filter_map-append number_of (enumerate_from 0 (take i xs)) ((i, x) ∷ [])
