@@ -1,5 +1,5 @@
 #!/usr/bin/env python3
-"""Writes the tables of the parser, crates/wgsl_parser_table/src/table.rt and crates/wgsl_parser_steps/src/steps.rt, from the grammar in
+"""Writes the tables of the parser, crates/wgsl_parser_table/src/table.rt and crates/wgsl_grammar_tables/src/steps/steps.rt, from the grammar in
 crates/wgsl_grammar_tables/specs/Grammar.antt.
 
 The tool writes each line of the grammar out without pieces that may be absent or stand any number of times, builds the SLR(1) automaton
@@ -15,7 +15,7 @@ REPOSITORY = pathlib.Path(__file__).resolve().parent.parent
 TOKENS = REPOSITORY / "crates/wgsl_token/src/token.rt"
 SPECS = REPOSITORY / "crates/wgsl_grammar_tables/specs"
 TABLE = REPOSITORY / "crates/wgsl_parser_table/src/table.rt"
-STEPS = REPOSITORY / "crates/wgsl_parser_steps/src/steps.rt"
+STEPS = REPOSITORY / "crates/wgsl_grammar_tables/src/steps/steps.rt"
 
 # Classes of tokens beside the fixed ones, in their order behind these.
 CLASSES = ["word", "literal", "reserved", "opens", "closes", "invalid"]
@@ -331,8 +331,8 @@ class Arrays:
         self.write_phrases()
         self.write_rules()
         self.write_starts()
-        head = "//! The tables of the parser. The tool `tools/parser_tables.py` writes this file.\n\nuse wgsl_enumerations::AssignmentOperator;\n"
-        head += "use wgsl_operators::{BinaryOperator, UnaryOperator};\nuse wgsl_parts::{" + ", ".join(GROUPS) + "};\nuse wgsl_token::Fixed;\n\n"
+        head = "//! The tables of the parser. The tool `tools/parser_tables.py` writes this file.\n\n"
+        head += "use wgsl_semantic_values::{" + ", ".join(GROUPS) + "};\nuse wgsl_token::Fixed;\nuse wgsl_words::{AssignmentOperator, BinaryOperator, UnaryOperator};\n\n"
         return head + "\n".join(self.texts)
 
 

@@ -2,17 +2,18 @@
 
 ghost use Rattle.std.specs.Prelude.{◌≡◌, [], IfOk};
 
-use crate::moving::{Moved, empty_unit, pour, pour_new};
+use crate::moving::{Moved, empty_unit, move_reversed, move_unless_equal};
 use crate::numbering::Numbering;
 use crate::scripts::{Meanings, find_meanings, script_of};
 use std::alloc::{AllocError, Global};
+use wesl_load::{HeldUnit, Resolutions};
 use wesl_mark::Kind;
 use wesl_marks_mut::{write_declaration, write_directive};
-use wesl_rounds::{HeldUnit, Resolutions};
-use wesl_tables::{Module, Spot};
-use wgsl_declarations::{GlobalDeclarationNode, TranslationUnit, let_go, retain_declarations};
-use wgsl_imports::GlobalDirective;
-use wgsl_items::{Items, Text};
+use wesl_module_index::{DeclarationId, Module};
+use wgsl_base::{Items, Text};
+use wgsl_declarations::{
+    GlobalDeclarationNode, GlobalDirective, TranslationUnit, let_go, retain_declarations,
+};
 
 /// Puts the linked unit together: the directives of all loaded modules, equal ones once, and the held declarations, in the order of the
 /// symbols' numbers and without imports. `names` has the name of each symbol, by number. The trees are moved out of the resolutions, whose
@@ -22,7 +23,7 @@ pub fn assemble(
     resolutions: &mut Resolutions,
     numbering: &Numbering,
     names: &[Text],
-    origins: &mut Vec<Spot>,
+    origins: &mut Vec<DeclarationId>,
 ) -> Result<TranslationUnit, AllocError>
     ensures { IfOk result (λ unit. unit.imports ≡ []) }
 {
@@ -53,7 +54,7 @@ fn take_all(
     order: &[usize],
     directives: &mut Items<GlobalDirective>,
     declarations: &mut Items<GlobalDeclarationNode>,
-    origins: &mut Vec<Spot>,
+    origins: &mut Vec<DeclarationId>,
 ) -> Result<(), AllocError> {
     let mut turned = HeldUnit::new(empty_unit(alloc));
     let mut moved = Moved::new(alloc);
@@ -109,7 +110,7 @@ fn write_module(
         Some(module) => module.places.len(),
     };
     for place in 0..count {
-        let spot = Spot {
+        let spot = DeclarationId {
             module: number,
             place,
         };
@@ -121,7 +122,7 @@ fn write_module(
 }
 
 /// Whether a place goes into the linked unit: each directive, and what is held but a `;` alone.
-fn is_taken(resolutions: &Resolutions, spot: Spot) -> bool {
+fn is_taken(resolutions: &Resolutions, spot: DeclarationId) -> bool {
     match kind_at(resolutions, spot) {
         None => false,
         Some(Kind::Directive) => true,
@@ -130,7 +131,7 @@ fn is_taken(resolutions: &Resolutions, spot: Spot) -> bool {
     }
 }
 
-fn kind_at(resolutions: &Resolutions, spot: Spot) -> Option<Kind> {
+fn kind_at(resolutions: &Resolutions, spot: DeclarationId) -> Option<Kind> {
     match resolutions.modules.get(spot.module) {
         None => None,
         Some(module) => match module.places.get(spot.place) {
@@ -145,7 +146,7 @@ fn write_place(
     resolutions: &mut Resolutions,
     numbering: &Numbering,
     names: &[Text],
-    spot: Spot,
+    spot: DeclarationId,
     meanings: &mut Meanings,
 ) -> Result<(), AllocError> {
     match resolutions.modules.get(spot.module) {
@@ -170,7 +171,7 @@ fn find_in(
     resolutions: &Resolutions,
     numbering: &Numbering,
     module: &Module,
-    spot: Spot,
+    spot: DeclarationId,
     meanings: &mut Meanings,
 ) -> Result<(), AllocError> {
     match module.places.get(spot.place) {
@@ -186,19 +187,19 @@ fn take_directives(
     turned: &mut TranslationUnit,
     directives: &mut Items<GlobalDirective>,
     moved: &mut Moved,
-    origins: &mut Vec<Spot>,
+    origins: &mut Vec<DeclarationId>,
 ) -> Result<(), AllocError> {
     let count = unit.global_directives.len();
-    pour(&mut unit.global_directives, &mut turned.global_directives)?;
+    move_reversed(&mut unit.global_directives, &mut turned.global_directives)?;
     for place in 0..count {
-        let is_new = pour_new(
+        let is_new = move_unless_equal(
             &mut turned.global_directives,
             directives,
             &mut unit.global_directives,
             moved,
         )?;
         if is_new {
-            origins.push(Spot {
+            origins.push(DeclarationId {
                 module: number,
                 place,
             })?;
@@ -212,7 +213,7 @@ fn taken_declarations(
     alloc: Global,
     resolutions: &Resolutions,
     number: usize,
-    origins: &mut Vec<Spot>,
+    origins: &mut Vec<DeclarationId>,
 ) -> Result<Vec<bool>, AllocError> {
     let mut taken = Vec::new(alloc);
     let Some(module) = resolutions.modules.get(number) else {
@@ -220,7 +221,7 @@ fn taken_declarations(
     };
     for (place, entry) in module.places.iter().enumerate() {
         if entry.kind != Kind::Directive {
-            let spot = Spot {
+            let spot = DeclarationId {
                 module: number,
                 place,
             };
@@ -247,9 +248,9 @@ fn take_declarations(
         at = at.saturating_add(1);
         is_taken
     });
-    pour(
+    move_reversed(
         &mut unit.global_declarations,
         &mut turned.global_declarations,
     )?;
-    pour(&mut turned.global_declarations, declarations)
+    move_reversed(&mut turned.global_declarations, declarations)
 }

@@ -5,8 +5,8 @@ ghost use Rattle.std.specs.Prelude.{◌≡◌, []};
 use std::alloc::{AllocError, Global};
 use std::collections::HashMap;
 use std::fmt::Display;
+use wgsl_base::Items;
 use wgsl_declarations::TranslationUnit;
-use wgsl_items::Items;
 
 /// A unit with nothing in it.
 pub(crate) fn empty_unit(alloc: Global) -> TranslationUnit
@@ -20,7 +20,10 @@ pub(crate) fn empty_unit(alloc: Global) -> TranslationUnit
 }
 
 /// Moves all items, the last one first.
-pub(crate) fn pour<T: Drop>(from: &mut Items<T>, to: &mut Items<T>) -> Result<(), AllocError> {
+pub(crate) fn move_reversed<T: Drop>(
+    from: &mut Items<T>,
+    to: &mut Items<T>,
+) -> Result<(), AllocError> {
     while let Some(item) = from.pop() {
         to.push(item)?;
     }
@@ -71,7 +74,7 @@ impl Moved {
 }
 
 /// Moves the last item, where there is one. One that is there already goes to what is left. Whether it was new.
-pub(crate) fn pour_new<T: Drop + PartialEq + Display>(
+pub(crate) fn move_unless_equal<T: Drop + PartialEq + Display>(
     from: &mut Items<T>,
     to: &mut Items<T>,
     left: &mut Items<T>,

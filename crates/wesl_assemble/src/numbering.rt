@@ -1,9 +1,9 @@
 //! The symbols of the linked unit: one for each held declaration that has a name.
 
 use std::alloc::{AllocError, Global};
+use wesl_load::Resolutions;
 use wesl_mark::Place;
-use wesl_rounds::Resolutions;
-use wesl_tables::Spot;
+use wesl_module_index::DeclarationId;
 use wgsl_path::ModulePath;
 
 /// The symbols of the linked unit, numbered in its order: the root's held declarations, then those of the other modules in byte order of
@@ -13,17 +13,17 @@ pub struct Numbering {
     /// For each module and each place the number of its symbol, where it has one.
     numbers: Vec<Vec<Option<u32>>>,
     /// Where the symbol of each number is declared.
-    spots: Vec<Spot>,
+    spots: Vec<DeclarationId>,
 }
 
 impl Numbering {
     /// Where each symbol is declared, by number.
-    pub fn spots(&self) -> &[Spot] {
+    pub fn spots(&self) -> &[DeclarationId] {
         self.spots.as_slice()
     }
 
     /// The number of the symbol that is declared at a spot, if that is held and has a name.
-    pub fn number(&self, spot: Spot) -> Option<u32> {
+    pub fn number(&self, spot: DeclarationId) -> Option<u32> {
         match self.numbers.get(spot.module) {
             None => None,
             Some(numbers) => match numbers.get(spot.place) {
@@ -61,11 +61,11 @@ fn number_places(
     resolutions: &Resolutions,
     module: usize,
     places: &[Place],
-    spots: &mut Vec<Spot>,
+    spots: &mut Vec<DeclarationId>,
 ) -> Result<Vec<Option<u32>>, AllocError> {
     let mut numbers = Vec::new(alloc);
     for (place, entry) in places.iter().enumerate() {
-        let spot = Spot { module, place };
+        let spot = DeclarationId { module, place };
         let number = if entry.name.is_some() && resolutions.is_held(spot) {
             let number = counted(spots.len())?;
             spots.push(spot)?;
@@ -87,7 +87,10 @@ pub(crate) fn counted(count: usize) -> Result<u32, AllocError> {
 }
 
 /// The module that a spot stands in, and the name that is declared there, if one is.
-pub fn origin(resolutions: &Resolutions, spot: Spot) -> Option<(&ModulePath, Option<&str>)> {
+pub fn origin(
+    resolutions: &Resolutions,
+    spot: DeclarationId,
+) -> Option<(&ModulePath, Option<&str>)> {
     match resolutions.modules.get(spot.module) {
         None => None,
         Some(module) => Some((&module.target.path, module.name_at(spot.place))),

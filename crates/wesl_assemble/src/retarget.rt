@@ -3,9 +3,9 @@
 use crate::numbering::counted;
 use crate::scripts::{Meanings, Meant, script_of};
 use std::alloc::{AllocError, Global};
+use wesl_load::mark_unit;
 use wesl_mark::{Mark, MarkList};
 use wesl_marks_mut::write_unit;
-use wesl_rounds::mark_unit;
 use wgsl_declarations::TranslationUnit;
 
 /// Gives each identifier of a unit the number of the symbol that it stands for, by the scopes of the unit: the declarations of the module

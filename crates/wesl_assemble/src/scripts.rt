@@ -2,11 +2,11 @@
 
 use crate::numbering::{Numbering, counted};
 use std::alloc::{AllocError, Global};
+use wesl_load::Resolutions;
 use wesl_mark::{Mark, MarkList, Place, Scopes};
 use wesl_marks_mut::{New, Script};
-use wesl_rounds::Resolutions;
-use wesl_tables::Spot;
-use wgsl_items::{CloneIn, Text};
+use wesl_module_index::DeclarationId;
+use wgsl_base::{CloneIn, Text};
 
 /// What an identifier stands for.
 #[derive(Clone, Copy)]
@@ -79,7 +79,7 @@ pub(crate) fn find_meanings(
     resolutions: &Resolutions,
     numbering: &Numbering,
     list: &MarkList,
-    spot: Spot,
+    spot: DeclarationId,
     place: Place,
     meanings: &mut Meanings,
 ) -> Result<(), AllocError> {
@@ -107,7 +107,7 @@ pub(crate) fn find_meanings(
     Ok(())
 }
 
-fn symbol_at(numbering: &Numbering, spot: Spot) -> Meant {
+fn symbol_at(numbering: &Numbering, spot: DeclarationId) -> Meant {
     match numbering.number(spot) {
         None => Meant::Free,
         Some(number) => Meant::Symbol(number),

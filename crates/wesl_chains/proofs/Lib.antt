@@ -1,4 +1,4 @@
 pub mod Loops
 pub mod Onward
 mod Shown
-pub use Rattle.wgsl_items.proofs.Members
+pub use Rattle.wgsl_base.proofs.Members

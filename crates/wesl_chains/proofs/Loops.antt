@@ -3,7 +3,7 @@ use Rattle.std.proofs.Common.{◌≡◌, refl, sym, ap, ◌∙◌, subst, ℕ, z
 use Rattle.std.specs.List.{Contains}
 use Rattle.std.specs.Str.{bytes_eq}
 use Rattle.std.proofs.lemmas.Slice.Eq.{bytes_eq-Decides}
-use Rattle.wgsl_items.proofs.Members.{first_in, later_in, in_cases, in_none}
+use Rattle.wgsl_base.proofs.Members.{first_in, later_in, in_cases, in_none}
 use Rattle.wesl_chains.specs.Outlines.{Path, Symbol, Finder}
 use Rattle.wesl_chains.specs.Senses.{Sense, own, imported, bare}
 use Rattle.wesl_chains.specs.Chains.{Step, stands, leads, lacks, hides, unknown, next, Outcome, declared_at, unloaded, missing, private, outcome_at, Leads, here, onto, Loops, Ends, comes_to, is_endless, by_own, by_item, by_bare}
@@ -177,7 +177,7 @@ module _ (find : Finder) where
   begun here = inl (refl, refl)
   begun (onto {t = t} {ps = ps} e l) = inr (record { to = t; rest = ps; whole = refl; is = e; chain = l })
 
-  loops_shift : {s t : Symbol} → next find s ≡ leads t → Loops find s → Loops find t
+  pub loops_shift : {s t : Symbol} → next find s ≡ leads t → Loops find s → Loops find t
   loops_shift {s = s} {t = t} e l = at (begun l.onward) (begun l.back)
     where
       at : ((l.before ≡ []) × (s ≡ l.there)) ⊎ Begun s l.there l.before → ((l.first ∷ l.more ≡ []) × (l.there ≡ l.there)) ⊎ Begun l.there l.there (l.first ∷ l.more) → Loops find t

@@ -1,4 +1,5 @@
 pub mod Outlines
+pub mod Canonical
 pub mod Senses
 pub mod Chains
 pub mod Reaching

@@ -2,8 +2,9 @@
 
 use std::alloc::AllocError;
 use wesl_name_rules::{Choice, Role, Step, StepList, ValueStep};
-use wgsl_attributes::{Attribute, AttributeNode};
-use wgsl_expressions::{Expression, ExpressionNode, FunctionCall, Span, TypeExpression};
+use wgsl_expressions::{
+    Attribute, AttributeNode, Expression, ExpressionNode, FunctionCall, Span, TypeExpression,
+};
 
 /// A value step.
 pub(crate) fn push_value(

@@ -6,13 +6,12 @@ use crate::expressions::{
 };
 use std::alloc::AllocError;
 use wesl_name_rules::{DeclareStep, Role, Step, StepList, ValueStep};
-use wgsl_attributes::{AssignmentOperator, AttributeNode};
 use wgsl_declarations::{
     AssignmentStatement, BreakIfStatement, CaseSelector, CompoundStatement, ConstAssert,
     ContinuingStatement, Declaration, ForStatement, FunctionCallStatement, IfStatement,
     LoopStatement, ReturnStatement, Statement, StatementNode, SwitchStatement, WhileStatement,
 };
-use wgsl_expressions::{BinaryOperator, ExpressionNode, Span};
+use wgsl_expressions::{AssignmentOperator, AttributeNode, BinaryOperator, ExpressionNode, Span};
 
 /// The stack is no longer needed.
 fn push_clear(list: &mut StepList) -> Result<(), AllocError> {

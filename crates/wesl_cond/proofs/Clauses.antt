@@ -3,7 +3,7 @@ use Rattle.std.proofs.Common.{◌≡◌, refl, sym, ap, ◌∙◌, List, [], ◌
 use Rattle.std.specs.Option.{option_map, option_or}
 use Rattle.wgsl_expressions.specs.Tree.{Exp}
 use Rattle.wgsl_expressions.specs.View.{node_tree}
-use Rattle.wgsl_attributes.specs.Tree.{Attr}
+use Rattle.wgsl_expressions.specs.AttributesTree.{Attr}
 use Rattle.wgsl_simple_statements.specs.Tree.{Selector}
 use Rattle.wgsl_statements.specs.declared.statement.Statement.{Statement}
 use Rattle.wgsl_statements.specs.declared.statement.ElseIfClauseOf.{ElseIfClauseOf}
@@ -11,9 +11,9 @@ use Rattle.wgsl_statements.specs.declared.statement.ElseClauseOf.{ElseClauseOf}
 use Rattle.wgsl_statements.specs.declared.statement.SwitchClauseOf.{SwitchClauseOf}
 use Rattle.wgsl_statements.specs.Tree.{Stm, if_statement, Block, Elses, else_if_clause, Clauses, no_clauses, switch_clause}
 use Rattle.wgsl_statements.specs.View.{statement_tree, block_tree, else_layer, elses_layer, clauses_layer, part}
-use Rattle.wesl_features.specs.declared.feature.Features.{Features}
-use Rattle.wesl_features.specs.declared.error.CondCompError.{CondCompError}
-use Rattle.wesl_cond_spec.specs.Faults.{block_fault, elses_fault, part_fault}
+use Rattle.wesl_conditions.specs.declared.features.feature.Features.{Features}
+use Rattle.wesl_conditions.specs.declared.features.error.CondCompError.{CondCompError}
+use Rattle.wesl_conditions.specs.Faults.{block_fault, elses_fault, part_fault}
 use Rattle.wesl_cond.specs.Leaving.{statement_left, block_left, elses_left, clauses_left, part_left, else_if_pair, switch_pair, pair_left}
 use Rattle.wesl_cond.specs.Passing.{inside_statement, first_of}
 

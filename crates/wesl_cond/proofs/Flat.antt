@@ -3,20 +3,20 @@ use Rattle.std.proofs.Common.{◌≡◌, refl, sym, ap, ◌∙◌, subst, List, 
 use Rattle.std.specs.List.{cons_option}
 use Rattle.std.specs.Option.{option_map}
 use Rattle.wgsl_path.specs.declared.span.Spanned.{Spanned}
-use Rattle.wgsl_imports.specs.declared.import.ImportStatement.{ImportStatement}
-use Rattle.wgsl_imports.specs.declared.directive.GlobalDirective.{GlobalDirective}
-use Rattle.wgsl_imports.specs.View.{importing_tree, directive_tree}
+use Rattle.wgsl_declarations.specs.declared.imports.import.ImportStatement.{ImportStatement}
+use Rattle.wgsl_declarations.specs.declared.imports.directive.GlobalDirective.{GlobalDirective}
+use Rattle.wgsl_declarations.specs.ImportsView.{importing_tree, directive_tree}
 use Rattle.wgsl_declarations.specs.declared.declaration.StructMember.{StructMember}
 use Rattle.wgsl_declarations.specs.declared.declaration.FormalParameter.{FormalParameter}
 use Rattle.wgsl_declarations.specs.declared.declaration.GlobalDeclaration.{GlobalDeclaration}
 use Rattle.wgsl_declarations.specs.Tree.{Decl}
 use Rattle.wgsl_declarations.specs.View.{member_tree, members_tree, parameter_tree, declaration_tree, declarations_tree}
-use Rattle.wesl_features.specs.declared.feature.Features.{Features}
-use Rattle.wesl_features.specs.declared.error.CondCompError.{CondCompError}
-use Rattle.wesl_cond_spec.specs.Chains.{HasAttributes, left}
-use Rattle.wesl_cond_spec.specs.Trees.{of_members, of_parameters, of_imports, of_directives, of_declarations}
-use Rattle.wesl_cond_spec.specs.Seen.{list_fault}
-use Rattle.wesl_cond_spec.specs.Faults.{flat_fault}
+use Rattle.wesl_conditions.specs.declared.features.feature.Features.{Features}
+use Rattle.wesl_conditions.specs.declared.features.error.CondCompError.{CondCompError}
+use Rattle.wesl_conditions.specs.Chains.{HasAttributes, left}
+use Rattle.wesl_conditions.specs.Trees.{of_members, of_parameters, of_imports, of_directives, of_declarations}
+use Rattle.wesl_conditions.specs.Seen.{list_fault}
+use Rattle.wesl_conditions.specs.Faults.{flat_fault}
 use Rattle.wesl_conditions.specs.Told.{TellsFault}
 use Rattle.wesl_cond.specs.Passing.{see}
 use Rattle.wesl_cond.specs.Declarations.{declaration_left}

@@ -3,16 +3,16 @@ use Rattle.std.proofs.Common.{◌≡◌, refl, sym, ap, ◌∙◌, List, [], ◌
 use Rattle.std.specs.List.{cons_option}
 use Rattle.std.specs.Option.{option_map}
 use Rattle.wgsl_path.specs.declared.span.Spanned.{Spanned}
-use Rattle.wgsl_attributes.specs.declared.attribute.Attribute.{Attribute}
-use Rattle.wgsl_attributes.specs.View.{attributes_tree}
+use Rattle.wgsl_expressions.specs.declared.attributes.attribute.Attribute.{Attribute}
+use Rattle.wgsl_expressions.specs.AttributesView.{attributes_tree}
 use Rattle.wgsl_statements.specs.declared.statement.Statement.{Statement}
 use Rattle.wgsl_statements.specs.Tree.{Stm, cons, block}
 use Rattle.wgsl_statements.specs.View.{stms, statement_tree, statements_tree}
-use Rattle.wesl_features.specs.declared.feature.Features.{Features}
-use Rattle.wesl_cond_spec.specs.Chains.{left}
-use Rattle.wesl_cond_spec.specs.Seen.{Seen}
-use Rattle.wesl_cond_spec.specs.Trees.{of_statements, from_list, in_each}
-use Rattle.wesl_cond_spec.specs.Faults.{statement_fault, seen_statements}
+use Rattle.wesl_conditions.specs.declared.features.feature.Features.{Features}
+use Rattle.wesl_conditions.specs.Chains.{left}
+use Rattle.wesl_conditions.specs.Seen.{Seen}
+use Rattle.wesl_conditions.specs.Trees.{of_statements, from_list, in_each}
+use Rattle.wesl_conditions.specs.Faults.{statement_fault, seen_statements}
 use Rattle.wesl_cond.specs.Leaving.{statement_left, block_left}
 use Rattle.wesl_cond.specs.Passing.{see, see_node}
 

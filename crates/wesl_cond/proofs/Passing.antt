@@ -3,18 +3,18 @@ use Rattle.std.proofs.Common.{◌≡◌, refl, sym, ap, ◌∙◌, subst, List, 
 use Rattle.std.specs.List.{cons_option}
 use Rattle.std.specs.Option.{option_or, option_map, option_and_then}
 use Rattle.wgsl_path.specs.declared.span.Spanned.{Spanned}
-use Rattle.wgsl_attributes.specs.Tree.{Attr}
+use Rattle.wgsl_expressions.specs.AttributesTree.{Attr}
 use Rattle.wgsl_statements.specs.declared.statement.Statement.{Statement}
 use Rattle.wgsl_statements.specs.View.{statements_tree}
-use Rattle.wesl_features.specs.declared.feature.Features.{Features}
-use Rattle.wesl_features.specs.declared.error.CondCompError.{CondCompError}
-use Rattle.wesl_features.specs.declared.error.CondCompError.TheVariants.{OutOfMemory}
-use Rattle.wesl_cond_spec.specs.declared.chain.Chain.{Chain}
-use Rattle.wesl_cond_spec.specs.Chains.{marks, HasAttributes}
-use Rattle.wesl_cond_spec.specs.Seen.{Seen, list_fault}
-use Rattle.wesl_cond_spec.specs.Walks.{start, checked}
-use Rattle.wesl_cond_spec.specs.Faults.{seen_statements}
-use Rattle.wesl_cond_spec.proofs.Checking.{checked_is_fault}
+use Rattle.wesl_conditions.specs.declared.features.feature.Features.{Features}
+use Rattle.wesl_conditions.specs.declared.features.error.CondCompError.{CondCompError}
+use Rattle.wesl_conditions.specs.declared.features.error.CondCompError.TheVariants.{OutOfMemory}
+use Rattle.wesl_conditions.specs.declared.meaning.chain.Chain.{Chain}
+use Rattle.wesl_conditions.specs.Chains.{marks, HasAttributes}
+use Rattle.wesl_conditions.specs.Seen.{Seen, list_fault}
+use Rattle.wesl_conditions.specs.Walks.{start, checked}
+use Rattle.wesl_conditions.specs.Faults.{seen_statements}
+use Rattle.wesl_conditions.proofs.Checking.{checked_is_fault}
 use Rattle.wesl_conditions.specs.Told.{TellsFault}
 use Rattle.wesl_cond_items.specs.Check.{Check}
 use Rattle.wesl_cond_items.specs.Entering.{seen, Enters}

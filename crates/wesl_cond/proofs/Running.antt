@@ -1,9 +1,9 @@
 -- What `run` leaves of a module.
 use Rattle.std.proofs.Common.{◌≡◌, sym, ap, ◌∙◌, None}
 use Rattle.wgsl_declarations.specs.Tree.{UnitTree}
-use Rattle.wesl_features.specs.declared.feature.Features.{Features}
-use Rattle.wesl_cond_spec.specs.Trees.{unit_under, unit_left}
-use Rattle.wesl_cond_spec.specs.Faults.{unit_fault}
+use Rattle.wesl_conditions.specs.declared.features.feature.Features.{Features}
+use Rattle.wesl_conditions.specs.Trees.{unit_under, unit_left}
+use Rattle.wesl_conditions.specs.Faults.{unit_fault}
 use Rattle.wesl_cond_laws.proofs.Modules.{meaning_stays, twice_is_once, no_fault_is_made}
 use Rattle.wesl_cond.specs.Laws.{MeanTheSame}
 

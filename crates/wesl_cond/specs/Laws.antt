@@ -1,9 +1,9 @@
 -- Laws of `run`.
 use Rattle.std.specs.Prelude.{◌≡◌}
 use Rattle.wgsl_declarations.specs.Tree.{UnitTree}
-use Rattle.wesl_features.specs.declared.feature.Features.{Features}
-use Rattle.wesl_cond_spec.specs.Conditions.{Choice, Admits}
-use Rattle.wesl_cond_spec.specs.Trees.{unit_under}
+use Rattle.wesl_conditions.specs.declared.features.feature.Features.{Features}
+use Rattle.wesl_conditions.specs.Conditions.{Choice, Admits}
+use Rattle.wesl_conditions.specs.Trees.{unit_under}
 
 -- Two modules mean the same, under each choice that features admit.
 abbrev pub MeanTheSame : Features → UnitTree → UnitTree → Type 0

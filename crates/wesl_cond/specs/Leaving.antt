@@ -10,9 +10,9 @@ use Rattle.wgsl_statements.specs.declared.statement.ElseClauseOf.{ElseClauseOf}
 use Rattle.wgsl_statements.specs.declared.statement.SwitchClauseOf.{SwitchClauseOf}
 use Rattle.wgsl_statements.specs.Tree.{Stm, Block, Elses, Clauses, Continuing, Part}
 use Rattle.wgsl_statements.specs.View.{block_tree}
-use Rattle.wesl_features.specs.declared.feature.Features.{Features}
-use Rattle.wesl_cond_spec.specs.Chains.{left}
-use Rattle.wesl_cond_spec.specs.Trees.{in_statement, in_block, in_elses, in_clauses, in_continuing, in_part}
+use Rattle.wesl_conditions.specs.declared.features.feature.Features.{Features}
+use Rattle.wesl_conditions.specs.Chains.{left}
+use Rattle.wesl_conditions.specs.Trees.{in_statement, in_block, in_elses, in_clauses, in_continuing, in_part}
 
 abbrev pub statement_left : Features → Stm → Stm
 statement_left features = in_statement (λ T has items. left features has items)

@@ -6,14 +6,14 @@ use Rattle.wgsl_path.specs.declared.span.Spanned.{Spanned}
 use Rattle.wgsl_statements.specs.declared.statement.Statement.{Statement}
 use Rattle.wgsl_statements.specs.Tree.{Stm}
 use Rattle.wgsl_statements.specs.View.{statement_tree}
-use Rattle.wesl_features.specs.declared.feature.Features.{Features}
-use Rattle.wesl_features.specs.declared.error.CondCompError.{CondCompError}
-use Rattle.wesl_features.specs.declared.error.CondCompError.TheVariants.{OutOfMemory}
-use Rattle.wesl_cond_spec.specs.Chains.{marks_of, HasAttributes}
-use Rattle.wesl_cond_spec.specs.Seen.{Seen}
-use Rattle.wesl_cond_spec.specs.Walks.{checked}
-use Rattle.wesl_cond_spec.specs.Trees.{of_statements}
-use Rattle.wesl_cond_spec.specs.Faults.{statement_fault}
+use Rattle.wesl_conditions.specs.declared.features.feature.Features.{Features}
+use Rattle.wesl_conditions.specs.declared.features.error.CondCompError.{CondCompError}
+use Rattle.wesl_conditions.specs.declared.features.error.CondCompError.TheVariants.{OutOfMemory}
+use Rattle.wesl_conditions.specs.Chains.{marks_of, HasAttributes}
+use Rattle.wesl_conditions.specs.Seen.{Seen}
+use Rattle.wesl_conditions.specs.Walks.{checked}
+use Rattle.wesl_conditions.specs.Trees.{of_statements}
+use Rattle.wesl_conditions.specs.Faults.{statement_fault}
 use Rattle.wesl_cond_items.specs.Check.{Check}
 
 -- An item is passed, or a `;`, which is none; or this is the first error of the list, or memory was refused.

@@ -4,15 +4,15 @@ ghost use Rattle.std.specs.Prelude.{◌≡◌, map};
 ghost use Rattle.std.specs.Option.{option_or};
 ghost use Rattle.wgsl_declarations.specs.View.{declaration_tree, members_tree, parameter_tree, unit_tree};
 ghost use Rattle.wgsl_statements.specs.View.{block_tree};
-ghost use Rattle.wesl_cond_spec.specs.Trees.{of_members, of_parameters};
-ghost use Rattle.wesl_cond_spec.specs.Faults.{flat_fault, block_fault, unit_fault};
+ghost use Rattle.wesl_conditions.specs.Trees.{of_members, of_parameters};
+ghost use Rattle.wesl_conditions.specs.Faults.{flat_fault, block_fault, unit_fault};
 ghost use Rattle.wesl_conditions.specs.Told.{TellsFault};
 ghost use Rattle.wesl_cond.specs.Declarations.{inside_declaration};
 
 use crate::list::check_list;
 use crate::statements::check_block;
 use std::alloc::Global;
-use wesl_features::{CondCompError, Features};
+use wesl_conditions::{CondCompError, Features};
 use wgsl_declarations::{Function, GlobalDeclaration, Struct, TranslationUnit};
 
 /// The first error inside a declaration.

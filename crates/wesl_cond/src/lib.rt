@@ -8,4 +8,4 @@ mod statements;
 mod unit;
 
 pub use unit::run;
-pub use wesl_features::{CondCompError, Feature, Features};
+pub use wesl_conditions::{CondCompError, Feature, Features};

@@ -2,18 +2,19 @@
 
 ghost use Rattle.std.specs.Prelude.{◌≡◌, Some, filter_map, map};
 ghost use Rattle.std.specs.Option.{option_map};
-ghost use Rattle.wgsl_attributes.specs.View.{attributes_tree};
-ghost use Rattle.wesl_cond_spec.specs.Seen.{list_fault};
+ghost use Rattle.wgsl_expressions.specs.AttributesView.{attributes_tree};
+ghost use Rattle.wesl_conditions.specs.Seen.{list_fault};
 ghost use Rattle.wesl_conditions.specs.Told.{TellsFault};
 ghost use Rattle.wesl_cond.specs.Passing.{Passes, see};
 
 use crate::check::check_declaration;
 use std::alloc::Global;
 use wesl_cond_items::{Check, Item};
-use wesl_features::{CondCompError, Features};
-use wgsl_attributes::Attributes;
-use wgsl_declarations::{FormalParameter, GlobalDeclarationNode, StructMemberNode};
-use wgsl_imports::{GlobalDirective, ImportStatement};
+use wesl_conditions::{CondCompError, Features};
+use wgsl_declarations::{
+    FormalParameter, GlobalDeclarationNode, GlobalDirective, ImportStatement, StructMemberNode,
+};
+use wgsl_expressions::Attributes;
 
 /// An item that may have an error inside.
 pub trait CheckedItem: Item {

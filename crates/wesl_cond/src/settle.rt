@@ -3,16 +3,16 @@
 ghost use Rattle.std.specs.Prelude.{◌≡◌, map};
 ghost use Rattle.std.specs.Option.{option_map};
 ghost use Rattle.wgsl_declarations.specs.View.{declaration_tree, structure_tree, function_tree, unit_tree};
-ghost use Rattle.wesl_cond_spec.specs.Trees.{unit_left};
+ghost use Rattle.wesl_conditions.specs.Trees.{unit_left};
 ghost use Rattle.wesl_cond.specs.Declarations.{declaration_left};
 
 use crate::statements::settle_block;
 use wesl_cond_items::settle_list;
-use wesl_features::Features;
+use wesl_conditions::Features;
+use wgsl_base::Items;
 use wgsl_declarations::{
     Function, GlobalDeclaration, GlobalDeclarationNode, Struct, TranslationUnit,
 };
-use wgsl_items::Items;
 
 /// What features leave inside a declaration. Its own attributes stay.
 fn settle_declaration(declaration: &mut GlobalDeclaration, features: &Features)

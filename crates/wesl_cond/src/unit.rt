@@ -2,15 +2,15 @@
 
 ghost use Rattle.std.specs.Prelude.{◌≡◌, None, OnOk, OnErr};
 ghost use Rattle.wgsl_declarations.specs.View.{unit_tree};
-ghost use Rattle.wesl_cond_spec.specs.Trees.{unit_left};
-ghost use Rattle.wesl_cond_spec.specs.Faults.{unit_fault};
+ghost use Rattle.wesl_conditions.specs.Trees.{unit_left};
+ghost use Rattle.wesl_conditions.specs.Faults.{unit_fault};
 ghost use Rattle.wesl_conditions.specs.Told.{TellsFault};
 ghost use Rattle.wesl_cond.specs.Laws.{MeanTheSame};
 
 use crate::check::check_unit;
 use crate::settle::settle_unit;
 use std::alloc::Global;
-use wesl_features::{CondCompError, Features};
+use wesl_conditions::{CondCompError, Features};
 use wgsl_declarations::TranslationUnit;
 
 /// Fixes feature flags ahead (WESL, "Conditional Translation"): in each list of items the false ones go, a true one loses its condition and ends

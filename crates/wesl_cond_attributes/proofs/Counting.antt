@@ -1,7 +1,7 @@
 -- The kind of conditions, one by one.
 use Rattle.std.proofs.Common.{◌≡◌, refl, List, [], ◌∷◌, Option, Some, None}
 use Rattle.std.specs.List.{cons_option}
-use Rattle.wesl_cond_spec.specs.Chains.{Mark, if_mark, elif_mark, else_mark}
+use Rattle.wesl_conditions.specs.Chains.{Mark, if_mark, elif_mark, else_mark}
 use Rattle.wesl_cond_attributes.specs.declared.kind.Kind.{Kind}
 use Rattle.wesl_cond_attributes.specs.declared.kind.Kind.TheVariants.{Plain, If, Elif, Else, Several}
 use Rattle.wesl_cond_attributes.specs.Kinds.{mark_kind, kind, both_kinds, with_more}

@@ -2,13 +2,13 @@
 use Rattle.std.proofs.Common.{◌≡◌, refl, ap, ◌∙◌, List, [], ◌∷◌, map, Bool, true, false, ◌&&◌, Option, Some, None}
 use Rattle.std.specs.Prelude.{if◌then◌else◌}
 use Rattle.wgsl_expressions.specs.Tree.{Exp}
-use Rattle.wgsl_attributes.specs.Tree.{Attr, if_true, else_if}
-use Rattle.wesl_features.specs.declared.feature.Features.{Features}
-use Rattle.wesl_cond_spec.specs.declared.chain.Chain.{Chain}
-use Rattle.wesl_cond_spec.specs.Conditions.{known, simplified}
-use Rattle.wesl_cond_spec.specs.Chains.{Mark, if_mark, elif_mark, else_mark, marks, remarked, opens, continues, Standing, goes, stays, waits, standing}
-use Rattle.wesl_cond_spec.specs.Seen.{item_fault}
-use Rattle.wesl_cond_spec.specs.Walks.{start, chain_at, behind_standing, behind, standing_in, attributes_with, attributes_left}
+use Rattle.wgsl_expressions.specs.AttributesTree.{Attr, if_true, else_if}
+use Rattle.wesl_conditions.specs.declared.features.feature.Features.{Features}
+use Rattle.wesl_conditions.specs.declared.meaning.chain.Chain.{Chain}
+use Rattle.wesl_conditions.specs.Conditions.{known, simplified}
+use Rattle.wesl_conditions.specs.Chains.{Mark, if_mark, elif_mark, else_mark, marks, remarked, opens, continues, Standing, goes, stays, waits, standing}
+use Rattle.wesl_conditions.specs.Seen.{item_fault}
+use Rattle.wesl_conditions.specs.Walks.{start, chain_at, behind_standing, behind, standing_in, attributes_with, attributes_left}
 use Rattle.wesl_cond_attributes.proofs.Rewriting.{reopened_waits}
 use Rattle.wesl_cond_attributes.specs.declared.kind.Outlook.TheVariants.{Goes, Waits}
 use Rattle.wesl_cond_attributes.specs.Kinds.{kind, kind_opens, kind_continues, chain_before, first_value, value_outlook, kind_outlook, outlook, chain_behind, first_condition_fault, kind_fault, reopened}

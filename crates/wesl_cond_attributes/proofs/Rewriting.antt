@@ -5,12 +5,12 @@ use Rattle.std.specs.List.{cons_option, filter}
 use Rattle.std.specs.List.Retain.{RetainsInTurn}
 use Rattle.wgsl_path.specs.declared.span.Spanned.{Spanned}
 use Rattle.wgsl_expressions.specs.Tree.{Exp}
-use Rattle.wgsl_attributes.specs.declared.attribute.Attribute.{Attribute}
-use Rattle.wgsl_attributes.specs.Tree.{Attr, align, binding, blend_src, builtin, constant, diagnostic, group, id_number, interpolate, invariant, location, must_use, byte_size, workgroup_size, vertex, fragment, compute, publish, if_true, else_if, otherwise, custom}
-use Rattle.wgsl_attributes.specs.View.{attribute_tree, attributes_tree}
-use Rattle.wesl_features.specs.declared.feature.Features.{Features}
-use Rattle.wesl_cond_spec.specs.Conditions.{known, simplified}
-use Rattle.wesl_cond_spec.specs.Chains.{Mark, if_mark, elif_mark, else_mark, mark, is_marked, is_condition, marks, unmarked, remarked, goes, stays, waits, standing}
+use Rattle.wgsl_expressions.specs.declared.attributes.attribute.Attribute.{Attribute}
+use Rattle.wgsl_expressions.specs.AttributesTree.{Attr, align, binding, blend_src, builtin, constant, diagnostic, group, id_number, interpolate, invariant, location, must_use, byte_size, workgroup_size, vertex, fragment, compute, publish, if_true, else_if, otherwise, custom}
+use Rattle.wgsl_expressions.specs.AttributesView.{attribute_tree, attributes_tree}
+use Rattle.wesl_conditions.specs.declared.features.feature.Features.{Features}
+use Rattle.wesl_conditions.specs.Conditions.{known, simplified}
+use Rattle.wesl_conditions.specs.Chains.{Mark, if_mark, elif_mark, else_mark, mark, is_marked, is_condition, marks, unmarked, remarked, goes, stays, waits, standing}
 use Rattle.wesl_cond_attributes.specs.Kinds.{open_as, reopened}
 
 -- a closure that is called at each element, keeps it, and changes what it stands for

@@ -1,12 +1,12 @@
 -- A step of a walk that looks for the first error of a list.
 use Rattle.std.specs.Prelude.{◌≡◌, ◌⊎◌, List, ◌∷◌, Bool, Option, Some, None, Result, Ok, Err, if◌then◌else◌}
 use Rattle.std.specs.Option.{option_or}
-use Rattle.wesl_features.specs.declared.feature.Features.{Features}
-use Rattle.wesl_features.specs.declared.error.CondCompError.{CondCompError}
-use Rattle.wesl_features.specs.declared.error.CondCompError.TheVariants.{OutOfMemory}
-use Rattle.wesl_cond_spec.specs.Chains.{Mark}
-use Rattle.wesl_cond_spec.specs.Seen.{Seen}
-use Rattle.wesl_cond_spec.specs.Walks.{checked}
+use Rattle.wesl_conditions.specs.declared.features.feature.Features.{Features}
+use Rattle.wesl_conditions.specs.declared.features.error.CondCompError.{CondCompError}
+use Rattle.wesl_conditions.specs.declared.features.error.CondCompError.TheVariants.{OutOfMemory}
+use Rattle.wesl_conditions.specs.Chains.{Mark}
+use Rattle.wesl_conditions.specs.Seen.{Seen}
+use Rattle.wesl_conditions.specs.Walks.{checked}
 use Rattle.wesl_cond_attributes.specs.declared.check.Check.{Check}
 
 -- an item with these conditions, and this error inside

@@ -1,14 +1,14 @@
 -- Which conditions an item has, what becomes of it by them, and what is left of an open one.
 use Rattle.std.specs.Prelude.{List, [], ◌∷◌, Bool, true, false, ◌&&◌, Option, Some, None, if◌then◌else◌}
 use Rattle.wgsl_expressions.specs.Tree.{Exp}
-use Rattle.wgsl_attributes.specs.Tree.{Attr, if_true, else_if}
-use Rattle.wesl_features.specs.declared.feature.Features.{Features}
-use Rattle.wesl_features.specs.declared.error.CondCompError.{CondCompError}
-use Rattle.wesl_features.specs.declared.error.CondCompError.TheVariants.{NoPrecedingIf, DuplicateIf}
-use Rattle.wesl_cond_spec.specs.declared.chain.Chain.{Chain}
-use Rattle.wesl_cond_spec.specs.Conditions.{known, simplified, condition_fault}
-use Rattle.wesl_cond_spec.specs.Chains.{Mark, if_mark, elif_mark, else_mark, Standing, goes, stays, waits}
-use Rattle.wesl_cond_spec.specs.Walks.{start}
+use Rattle.wgsl_expressions.specs.AttributesTree.{Attr, if_true, else_if}
+use Rattle.wesl_conditions.specs.declared.features.feature.Features.{Features}
+use Rattle.wesl_conditions.specs.declared.features.error.CondCompError.{CondCompError}
+use Rattle.wesl_conditions.specs.declared.features.error.CondCompError.TheVariants.{NoPrecedingIf, DuplicateIf}
+use Rattle.wesl_conditions.specs.declared.meaning.chain.Chain.{Chain}
+use Rattle.wesl_conditions.specs.Conditions.{known, simplified, condition_fault}
+use Rattle.wesl_conditions.specs.Chains.{Mark, if_mark, elif_mark, else_mark, Standing, goes, stays, waits}
+use Rattle.wesl_conditions.specs.Walks.{start}
 use Rattle.wesl_cond_attributes.specs.declared.kind.Kind.{Kind}
 use Rattle.wesl_cond_attributes.specs.declared.kind.Kind.TheVariants.{Plain, If, Elif, Else, Several}
 use Rattle.wesl_cond_attributes.specs.declared.kind.Outlook.{Outlook}

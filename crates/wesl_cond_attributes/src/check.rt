@@ -2,11 +2,11 @@
 
 ghost use Rattle.std.specs.Prelude.{◌≡◌, true, None, Option, IfOk, OnOk, OnErr};
 ghost use Rattle.std.specs.Option.{option_or};
-ghost use Rattle.wgsl_attributes.specs.View.{attributes_tree};
-ghost use Rattle.wesl_features.specs.declared.error.CondCompError.TheVariants.{OutOfMemory};
-ghost use Rattle.wesl_cond_spec.specs.Chains.{marks};
-ghost use Rattle.wesl_cond_spec.specs.Seen.{item_fault};
-ghost use Rattle.wesl_cond_spec.specs.Walks as walks;
+ghost use Rattle.wgsl_expressions.specs.AttributesView.{attributes_tree};
+ghost use Rattle.wesl_conditions.specs.declared.features.error.CondCompError.TheVariants.{OutOfMemory};
+ghost use Rattle.wesl_conditions.specs.Chains.{marks};
+ghost use Rattle.wesl_conditions.specs.Seen.{item_fault};
+ghost use Rattle.wesl_conditions.specs.Walks as walks;
 ghost use Rattle.wesl_conditions.specs.Told.{TellsFault};
 ghost use Rattle.wesl_cond_attributes.specs.Kinds as kinds;
 ghost use Rattle.wesl_cond_attributes.specs.Kinds.{first_condition_fault, kind_fault};
@@ -14,13 +14,11 @@ ghost use Rattle.wesl_cond_attributes.specs.Entering.{Enters};
 
 use crate::kind::{Kind, Outlook, chain_at, chain_behind, continues, kind_of, outlook_in, start};
 use std::alloc::Global;
-use wesl_cond_spec::Chain;
-use wesl_conditions::check_condition;
-use wesl_features::{CondCompError, Features};
-use wgsl_attributes::{Attribute, Attributes};
+use wesl_conditions::{Chain, CondCompError, Features, check_condition};
+use wgsl_expressions::{Attribute, Attributes};
 
 /// A walk over a list that looks for its first error.
-#[derive(Debug, Drop)]
+#[derive(Drop)]
 pub struct Check {
     /// What is known of the chain before the next item.
     pub chain: Chain,

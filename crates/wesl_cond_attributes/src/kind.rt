@@ -1,19 +1,17 @@
 //! Which conditions an item has, and what becomes of it by them.
 
 ghost use Rattle.std.specs.Prelude.{◌≡◌, if◌then◌else◌};
-ghost use Rattle.wgsl_attributes.specs.View.{attribute_tree, attributes_tree};
-ghost use Rattle.wesl_cond_spec.specs.Chains.{mark, marks};
-ghost use Rattle.wesl_cond_spec.specs.Walks as walks;
+ghost use Rattle.wgsl_expressions.specs.AttributesView.{attribute_tree, attributes_tree};
+ghost use Rattle.wesl_conditions.specs.Chains.{mark, marks};
+ghost use Rattle.wesl_conditions.specs.Walks as walks;
 ghost use Rattle.wesl_cond_attributes.specs.Kinds as kinds;
 ghost use Rattle.wesl_cond_attributes.specs.Kinds.{mark_kind, kind_opens, kind_continues, chain_before, first_value, kind_outlook};
 
-use wesl_cond_spec::Chain;
-use wesl_conditions::condition_value;
-use wesl_features::Features;
-use wgsl_attributes::{Attribute, Attributes};
+use wesl_conditions::{Chain, Features, condition_value};
+use wgsl_expressions::{Attribute, Attributes};
 
 /// Which conditions an item has: none, one, or several, which is an error.
-#[derive(Clone, Copy, Debug, PartialEq, Eq)]
+#[derive(Clone, Copy)]
 pub enum Kind {
     Plain,
     If,
@@ -23,7 +21,7 @@ pub enum Kind {
 }
 
 /// What becomes of an item: it goes, it is true, or its condition is still open.
-#[derive(Clone, Copy, Debug, PartialEq, Eq)]
+#[derive(Clone, Copy)]
 pub enum Outlook {
     Goes,
     Stays,

@@ -2,22 +2,19 @@
 
 ghost use Rattle.std.specs.Prelude.{◌≡◌, map, if◌then◌else◌};
 ghost use Rattle.wgsl_expressions.specs.View.{node_tree};
-ghost use Rattle.wgsl_attributes.specs.Tree.{otherwise};
-ghost use Rattle.wgsl_attributes.specs.View.{attribute_tree, attributes_tree};
-ghost use Rattle.wesl_cond_spec.specs.Conditions.{simplified};
-ghost use Rattle.wesl_cond_spec.specs.Chains as chains;
-ghost use Rattle.wesl_cond_spec.specs.Chains.{marks, unmarked, remarked};
-ghost use Rattle.wesl_cond_spec.specs.Walks as walks;
-ghost use Rattle.wesl_cond_spec.specs.Walks.{standing_in, behind, attributes_left};
+ghost use Rattle.wgsl_expressions.specs.AttributesTree.{otherwise};
+ghost use Rattle.wgsl_expressions.specs.AttributesView.{attribute_tree, attributes_tree};
+ghost use Rattle.wesl_conditions.specs.Conditions.{simplified};
+ghost use Rattle.wesl_conditions.specs.Chains as chains;
+ghost use Rattle.wesl_conditions.specs.Chains.{marks, unmarked, remarked};
+ghost use Rattle.wesl_conditions.specs.Walks as walks;
+ghost use Rattle.wesl_conditions.specs.Walks.{standing_in, behind, attributes_left};
 ghost use Rattle.wesl_cond_attributes.specs.Kinds.{open_as, reopened};
 
 use crate::kind::{Kind, Outlook, chain_at, chain_behind, kind_of, kind_of_attribute, outlook_in};
 use std::mem;
-use wesl_cond_spec::Chain;
-use wesl_conditions::simplify;
-use wesl_features::Features;
-use wgsl_attributes::{Attribute, Attributes};
-use wgsl_expressions::ExpressionNode;
+use wesl_conditions::{Chain, Features, simplify};
+use wgsl_expressions::{Attribute, Attributes, ExpressionNode};
 
 /// Whether an attribute is a condition.
 fn is_condition(attribute: &Attribute) -> bool

@@ -2,28 +2,27 @@
 
 ghost use Rattle.std.specs.Prelude.{◌≡◌};
 ghost use Rattle.std.specs.Option.{option_map, option_copied};
-ghost use Rattle.wgsl_attributes.specs.View.{attributes_tree};
-ghost use Rattle.wgsl_imports.specs.View.{directive_tree};
+ghost use Rattle.wgsl_expressions.specs.AttributesView.{attributes_tree};
+ghost use Rattle.wgsl_declarations.specs.ImportsView.{directive_tree};
 ghost use Rattle.wgsl_declarations.specs.View.{declaration_tree};
-ghost use Rattle.wesl_cond_spec.specs.Walks.{Settles};
-ghost use Rattle.wesl_cond_spec.specs.Trees.{of_declarations, of_directives, declaration_attributes};
+ghost use Rattle.wesl_conditions.specs.Walks.{Settles};
+ghost use Rattle.wesl_conditions.specs.Trees.{of_declarations, of_directives, declaration_attributes};
 
 use crate::item::Item;
 use crate::own_declaration as own;
 use wesl_cond_attributes::settle_attributes;
-use wesl_cond_spec::Chain;
-use wesl_features::Features;
-use wgsl_attributes::Attributes;
+use wesl_conditions::{Chain, Features};
 use wgsl_declarations::{
-    FormalParameter, GlobalDeclaration, GlobalDeclarationNode, StructMemberNode,
+    FormalParameter, GlobalDeclaration, GlobalDeclarationNode, GlobalDirective, ImportStatement,
+    StructMemberNode,
 };
-use wgsl_imports::{GlobalDirective, ImportStatement};
+use wgsl_expressions::Attributes;
 
 impl Item for StructMemberNode {
     ghost use Rattle.std.specs.Prelude.{Some, None};
     ghost use Rattle.wgsl_declarations.specs.Tree.{Member};
     ghost use Rattle.wgsl_declarations.specs.View.{member_tree};
-    ghost use Rattle.wesl_cond_spec.specs.Trees.{of_members};
+    ghost use Rattle.wesl_conditions.specs.Trees.{of_members};
 
     ghost Tree = { Member };
 
@@ -46,7 +45,7 @@ impl Item for FormalParameter {
     ghost use Rattle.std.specs.Prelude.{Some, None};
     ghost use Rattle.wgsl_declarations.specs.Tree.{Param};
     ghost use Rattle.wgsl_declarations.specs.View.{parameter_tree};
-    ghost use Rattle.wesl_cond_spec.specs.Trees.{of_parameters};
+    ghost use Rattle.wesl_conditions.specs.Trees.{of_parameters};
 
     ghost Tree = { Param };
 
@@ -67,9 +66,9 @@ impl Item for FormalParameter {
 
 impl Item for ImportStatement {
     ghost use Rattle.std.specs.Prelude.{Some, None};
-    ghost use Rattle.wgsl_imports.specs.Tree.{Importing};
-    ghost use Rattle.wgsl_imports.specs.View.{importing_tree};
-    ghost use Rattle.wesl_cond_spec.specs.Trees.{of_imports};
+    ghost use Rattle.wgsl_declarations.specs.ImportsTree.{Importing};
+    ghost use Rattle.wgsl_declarations.specs.ImportsView.{importing_tree};
+    ghost use Rattle.wesl_conditions.specs.Trees.{of_imports};
 
     ghost Tree = { Importing };
 
@@ -90,9 +89,9 @@ impl Item for ImportStatement {
 
 impl Item for GlobalDirective {
     ghost use Rattle.std.specs.Prelude.{Some, None};
-    ghost use Rattle.wgsl_imports.specs.Tree.{Directive};
-    ghost use Rattle.wgsl_imports.specs.View.{directive_tree};
-    ghost use Rattle.wesl_cond_spec.specs.Trees.{of_directives};
+    ghost use Rattle.wgsl_declarations.specs.ImportsTree.{Directive};
+    ghost use Rattle.wgsl_declarations.specs.ImportsView.{directive_tree};
+    ghost use Rattle.wesl_conditions.specs.Trees.{of_directives};
 
     ghost Tree = { Directive };
 
@@ -150,8 +149,8 @@ fn settle_own(declaration: &mut GlobalDeclaration, chain: &mut Chain, features: 
 impl Item for GlobalDeclarationNode {
     ghost use Rattle.wgsl_declarations.specs.Tree.{Decl};
     ghost use Rattle.wgsl_declarations.specs.View.{declaration_tree};
-    ghost use Rattle.wesl_cond_spec.specs.Trees.{of_declarations};
-    ghost use Rattle.wesl_cond_spec.specs.Faults.{declaration_fault};
+    ghost use Rattle.wesl_conditions.specs.Trees.{of_declarations};
+    ghost use Rattle.wesl_conditions.specs.Faults.{declaration_fault};
 
     ghost Tree = { Decl };
 

@@ -1,23 +1,22 @@
 //! Lists of items that may have conditions.
 
 ghost use Rattle.std.specs.Prelude.{◌≡◌, filter_map};
-ghost use Rattle.wesl_cond_spec.specs.Chains.{left};
+ghost use Rattle.wesl_conditions.specs.Chains.{left};
 
 use wesl_cond_attributes::start;
-use wesl_cond_spec::Chain;
-use wesl_features::Features;
-use wgsl_attributes::Attributes;
-use wgsl_items::Items;
+use wesl_conditions::{Chain, Features};
+use wgsl_base::Items;
+use wgsl_expressions::Attributes;
 
 /// An item of a list whose items may have conditions, or a `;` in such a list, which is none.
 pub trait Item: Drop {
     ghost use Rattle.std.specs.Prelude.{◌≡◌, Option};
     ghost use Rattle.std.specs.Option.{option_map, option_copied};
-    ghost use Rattle.wgsl_attributes.specs.View.{attributes_tree};
-    ghost use Rattle.wesl_features.specs.declared.feature.Features.{Features};
-    ghost use Rattle.wesl_features.specs.declared.error.CondCompError.{CondCompError};
-    ghost use Rattle.wesl_cond_spec.specs.Chains.{HasAttributes};
-    ghost use Rattle.wesl_cond_spec.specs.Walks.{Settles};
+    ghost use Rattle.wgsl_expressions.specs.AttributesView.{attributes_tree};
+    ghost use Rattle.wesl_conditions.specs.declared.features.feature.Features.{Features};
+    ghost use Rattle.wesl_conditions.specs.declared.features.error.CondCompError.{CondCompError};
+    ghost use Rattle.wesl_conditions.specs.Chains.{HasAttributes};
+    ghost use Rattle.wesl_conditions.specs.Walks.{Settles};
 
     /// What items stand for.
     ghost Tree: { Type 0 };

@@ -1,16 +1,16 @@
 //! What features leave of the attributes of each kind of declaration and directive.
 
 ghost use Rattle.std.specs.Prelude.{Some};
-ghost use Rattle.wgsl_imports.specs.View.{diagnostic_tree, enable_tree, requires_tree};
+ghost use Rattle.wgsl_declarations.specs.ImportsView.{diagnostic_tree, enable_tree, requires_tree};
 ghost use Rattle.wgsl_declarations.specs.View.{variable_tree, alias_tree, structure_tree, function_tree, assertion_tree};
-ghost use Rattle.wesl_cond_spec.specs.Walks.{Settles};
-ghost use Rattle.wesl_cond_spec.specs.Trees.{of_declarations, of_directives};
+ghost use Rattle.wesl_conditions.specs.Walks.{Settles};
+ghost use Rattle.wesl_conditions.specs.Trees.{of_declarations, of_directives};
 
 use wesl_cond_attributes::settle_attributes;
-use wesl_cond_spec::Chain;
-use wesl_features::Features;
-use wgsl_declarations::{Function, Struct, TypeAlias};
-use wgsl_imports::{DiagnosticDirective, EnableDirective, RequiresDirective};
+use wesl_conditions::{Chain, Features};
+use wgsl_declarations::{
+    DiagnosticDirective, EnableDirective, Function, RequiresDirective, Struct, TypeAlias,
+};
 use wgsl_simple_statements::{ConstAssert, Declaration};
 
 pub(crate) fn own_variable(x: &mut Declaration, chain: &mut Chain, features: &Features) -> bool

@@ -4,12 +4,11 @@ ghost use Rattle.std.specs.Prelude.{Some};
 ghost use Rattle.wgsl_simple_statements.specs.View.{assignment_tree, increment_tree, decrement_tree, break_tree, continue_tree, return_tree, discard_tree, call_tree, assertion_tree, value_tree};
 ghost use Rattle.wgsl_statements.specs.Tree.{simple, compound_statement};
 ghost use Rattle.wgsl_statements.specs.View.{statement_tree, block_tree, if_layer, switch_layer, loop_layer, for_layer, while_layer};
-ghost use Rattle.wesl_cond_spec.specs.Walks.{Settles};
-ghost use Rattle.wesl_cond_spec.specs.Trees.{of_statements};
+ghost use Rattle.wesl_conditions.specs.Walks.{Settles};
+ghost use Rattle.wesl_conditions.specs.Trees.{of_statements};
 
 use wesl_cond_attributes::settle_attributes;
-use wesl_cond_spec::Chain;
-use wesl_features::Features;
+use wesl_conditions::{Chain, Features};
 use wgsl_simple_statements::{
     AssignmentStatement, BreakStatement, ConstAssert, ContinueStatement, Declaration,
     DecrementStatement, DiscardStatement, FunctionCallStatement, IncrementStatement,

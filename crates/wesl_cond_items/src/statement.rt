@@ -2,16 +2,15 @@
 
 ghost use Rattle.std.specs.Prelude.{◌≡◌};
 ghost use Rattle.std.specs.Option.{option_map, option_copied};
-ghost use Rattle.wgsl_attributes.specs.View.{attributes_tree};
+ghost use Rattle.wgsl_expressions.specs.AttributesView.{attributes_tree};
 ghost use Rattle.wgsl_statements.specs.View.{statement_tree};
-ghost use Rattle.wesl_cond_spec.specs.Walks.{Settles};
-ghost use Rattle.wesl_cond_spec.specs.Trees.{of_statements, statement_attributes};
+ghost use Rattle.wesl_conditions.specs.Walks.{Settles};
+ghost use Rattle.wesl_conditions.specs.Trees.{of_statements, statement_attributes};
 
 use crate::item::Item;
 use crate::own_statement as own;
-use wesl_cond_spec::Chain;
-use wesl_features::Features;
-use wgsl_attributes::Attributes;
+use wesl_conditions::{Chain, Features};
+use wgsl_expressions::Attributes;
 use wgsl_statements::{Statement, StatementNode};
 
 /// The attributes of a statement. A `;` alone has none.
@@ -69,8 +68,8 @@ fn settle_own(statement: &mut Statement, chain: &mut Chain, features: &Features)
 impl Item for StatementNode {
     ghost use Rattle.wgsl_statements.specs.Tree.{Stm};
     ghost use Rattle.wgsl_statements.specs.View.{statement_tree};
-    ghost use Rattle.wesl_cond_spec.specs.Trees.{of_statements};
-    ghost use Rattle.wesl_cond_spec.specs.Faults.{statement_fault};
+    ghost use Rattle.wesl_conditions.specs.Trees.{of_statements};
+    ghost use Rattle.wesl_conditions.specs.Faults.{statement_fault};
 
     ghost Tree = { Stm };
 

@@ -1,14 +1,14 @@
 -- A list that features have settled stays attrs it is when they settle it again.
 use Rattle.std.proofs.Common.{◌≡◌, refl, sym, ap, ◌∙◌, List, [], ◌∷◌, map, Bool, true, false, ◌&&◌, cond, Some, None}
 use Rattle.std.specs.Prelude.{if◌then◌else◌}
-use Rattle.wgsl_attributes.specs.Tree.{Attr, if_true, else_if, otherwise}
+use Rattle.wgsl_expressions.specs.AttributesTree.{Attr, if_true, else_if, otherwise}
 use Rattle.wgsl_expressions.specs.Tree.{Exp}
-use Rattle.wesl_features.specs.declared.feature.Features.{Features}
-use Rattle.wesl_cond_spec.specs.declared.chain.Chain.{Chain}
-use Rattle.wesl_cond_spec.specs.Conditions.{simplified}
-use Rattle.wesl_cond_spec.specs.Chains.{Mark, if_mark, elif_mark, else_mark, marks, marks_of, opens, continues, is_condition, unmarked, remarked, HasAttributes, bare, marked, Standing, goes, stays, waits, standing_of, standing, left}
-use Rattle.wesl_cond_spec.specs.Walks.{start, goes_on, chain_at, behind_standing, behind, is_left, attributes_with, settled}
-use Rattle.wesl_cond_spec.proofs.Walking.{settled_is_left}
+use Rattle.wesl_conditions.specs.declared.features.feature.Features.{Features}
+use Rattle.wesl_conditions.specs.declared.meaning.chain.Chain.{Chain}
+use Rattle.wesl_conditions.specs.Conditions.{simplified}
+use Rattle.wesl_conditions.specs.Chains.{Mark, if_mark, elif_mark, else_mark, marks, marks_of, opens, continues, is_condition, unmarked, remarked, HasAttributes, bare, marked, Standing, goes, stays, waits, standing_of, standing, left}
+use Rattle.wesl_conditions.specs.Walks.{start, goes_on, chain_at, behind_standing, behind, is_left, attributes_with, settled}
+use Rattle.wesl_conditions.proofs.Walking.{settled_is_left}
 use Rattle.wesl_cond_laws.proofs.Remarking.{unmarked_twice, remarked_twice}
 use Rattle.wesl_cond_laws.proofs.Simplifying.{simplified_again}
 use Rattle.wesl_cond_laws.proofs.Standings.{IsLawful, IsOpen, waiting}

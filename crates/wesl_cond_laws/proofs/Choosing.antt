@@ -2,9 +2,9 @@
 use Rattle.std.proofs.Common.{◌≡◌, refl, sym, ap, ◌∙◌, List, [], ◌∷◌, ◌++◌, map, Bool, true, false, ◌&&◌}
 use Rattle.std.specs.Prelude.{if◌then◌else◌}
 use Rattle.std.specs.List.{flat_map}
-use Rattle.wgsl_attributes.specs.Tree.{Attr}
-use Rattle.wesl_cond_spec.specs.Conditions.{Choice}
-use Rattle.wesl_cond_spec.specs.Chains.{marks, marks_of, unmarked, opens, continues, join, chains, HasAttributes, bare, is_true, first_true, chosen}
+use Rattle.wgsl_expressions.specs.AttributesTree.{Attr}
+use Rattle.wesl_conditions.specs.Conditions.{Choice}
+use Rattle.wesl_conditions.specs.Chains.{marks, marks_of, unmarked, opens, continues, join, chains, HasAttributes, bare, is_true, first_true, chosen}
 
 module _ (choice : Choice) {T : Type 0} (has : HasAttributes T) where
   -- what is chosen of a list, where the item before it may be gone on with, and a true one of its chain stands before it or not

@@ -2,17 +2,17 @@
 use Rattle.std.proofs.Common.{◌≡◌, refl, sym, ap, ◌∙◌, subst, List, [], ◌∷◌, map, Bool, true, false, not, ◌&&◌, cond, Option, Some, None}
 use Rattle.std.specs.Prelude.{if◌then◌else◌}
 use Rattle.std.specs.Option.{option_or}
-use Rattle.wgsl_attributes.specs.Tree.{Attr, if_true, else_if, otherwise}
+use Rattle.wgsl_expressions.specs.AttributesTree.{Attr, if_true, else_if, otherwise}
 use Rattle.wgsl_expressions.specs.Tree.{Exp}
-use Rattle.wesl_features.specs.declared.feature.Features.{Features}
-use Rattle.wesl_features.specs.declared.error.CondCompError.{CondCompError}
-use Rattle.wesl_cond_spec.specs.declared.chain.Chain.{Chain}
-use Rattle.wesl_cond_spec.specs.Conditions.{known, simplified, condition_fault}
-use Rattle.wesl_cond_spec.specs.Chains.{Mark, if_mark, elif_mark, else_mark, marks, marks_of, opens, continues, HasAttributes, bare, marked, Standing, goes, stays, waits, standing, left}
-use Rattle.wesl_cond_spec.specs.Seen.{item_fault, Seen, list_fault}
-use Rattle.wesl_cond_spec.specs.Walks.{start, goes_on, chain_at, standing_in, behind_standing, behind, is_left, attributes_with, settled, inside_of, checked}
-use Rattle.wesl_cond_spec.proofs.Walking.{settled_is_left}
-use Rattle.wesl_cond_spec.proofs.Checking.{checked_is_fault}
+use Rattle.wesl_conditions.specs.declared.features.feature.Features.{Features}
+use Rattle.wesl_conditions.specs.declared.features.error.CondCompError.{CondCompError}
+use Rattle.wesl_conditions.specs.declared.meaning.chain.Chain.{Chain}
+use Rattle.wesl_conditions.specs.Conditions.{known, simplified, condition_fault}
+use Rattle.wesl_conditions.specs.Chains.{Mark, if_mark, elif_mark, else_mark, marks, marks_of, opens, continues, HasAttributes, bare, marked, Standing, goes, stays, waits, standing, left}
+use Rattle.wesl_conditions.specs.Seen.{item_fault, Seen, list_fault}
+use Rattle.wesl_conditions.specs.Walks.{start, goes_on, chain_at, standing_in, behind_standing, behind, is_left, attributes_with, settled, inside_of, checked}
+use Rattle.wesl_conditions.proofs.Walking.{settled_is_left}
+use Rattle.wesl_conditions.proofs.Checking.{checked_is_fault}
 use Rattle.wesl_cond_laws.proofs.Simplifying.{first_none, second_none, simplified_faultless}
 use Rattle.wesl_cond_laws.proofs.Standings.{IsLawful, IsOpen, waiting}
 use Rattle.wesl_cond_laws.proofs.Keeping.{second_and, and_false, all_else, else_continues, marks_marked, marks_bare}

@@ -1,13 +1,13 @@
 -- A list that features have settled means the same under each choice that they admit, and is settled.
 use Rattle.std.proofs.Common.{◌≡◌, refl, sym, ap, ◌∙◌, List, [], ◌∷◌, map, Bool, true, false, ◌&&◌, cond, Some}
 use Rattle.std.specs.Prelude.{if◌then◌else◌}
-use Rattle.wgsl_attributes.specs.Tree.{Attr, if_true, else_if, otherwise}
-use Rattle.wesl_features.specs.declared.feature.Features.{Features}
-use Rattle.wesl_cond_spec.specs.declared.chain.Chain.{Chain}
-use Rattle.wesl_cond_spec.specs.Conditions.{Choice, Admits, holds}
-use Rattle.wesl_cond_spec.specs.Chains.{Mark, if_mark, elif_mark, else_mark, mark, marks, marks_of, opens, continues, is_true, is_condition, unmarked, remarked, HasAttributes, bare, marked, Standing, goes, stays, waits, standing, chosen, left}
-use Rattle.wesl_cond_spec.specs.Walks.{start, goes_on, chain_at, behind_standing, is_left, attributes_with, settled}
-use Rattle.wesl_cond_spec.proofs.Walking.{settled_is_left}
+use Rattle.wgsl_expressions.specs.AttributesTree.{Attr, if_true, else_if, otherwise}
+use Rattle.wesl_conditions.specs.declared.features.feature.Features.{Features}
+use Rattle.wesl_conditions.specs.declared.meaning.chain.Chain.{Chain}
+use Rattle.wesl_conditions.specs.Conditions.{Choice, Admits, holds}
+use Rattle.wesl_conditions.specs.Chains.{Mark, if_mark, elif_mark, else_mark, mark, marks, marks_of, opens, continues, is_true, is_condition, unmarked, remarked, HasAttributes, bare, marked, Standing, goes, stays, waits, standing, chosen, left}
+use Rattle.wesl_conditions.specs.Walks.{start, goes_on, chain_at, behind_standing, is_left, attributes_with, settled}
+use Rattle.wesl_conditions.proofs.Walking.{settled_is_left}
 use Rattle.wesl_cond_laws.proofs.Remarking.{marks_of_remarked, marks_of_unmarked, unmarked_twice, unmarked_remarked}
 use Rattle.wesl_cond_laws.proofs.Standings.{IsLawful, IsOpen, waiting, Agrees, agrees}
 use Rattle.wesl_cond_laws.proofs.Choosing.{walk, walk_is_chosen}

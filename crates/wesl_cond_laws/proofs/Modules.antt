@@ -1,16 +1,16 @@
 -- Modules whose conditions features have settled.
 use Rattle.std.proofs.Common.{◌≡◌, refl, sym, ap, ◌∙◌, List, [], ◌∷◌, map, Option, None}
 use Rattle.std.specs.Option.{option_or}
-use Rattle.wgsl_attributes.specs.Tree.{Attr}
+use Rattle.wgsl_expressions.specs.AttributesTree.{Attr}
 use Rattle.wgsl_statements.specs.Tree.{Stm, simple, compound_statement, if_statement, switch_statement, loop_statement, for_statement, while_statement, Stms, nil, cons, Block, block, Elses, no_else, else_clause, else_if_clause, Clauses, no_clauses, switch_clause, Continuing, no_continuing, continuing_statement, Part, absent, present}
 use Rattle.wgsl_declarations.specs.Tree.{Decl, variable, alias, structure, function, assertion, UnitTree}
-use Rattle.wesl_features.specs.declared.feature.Features.{Features}
-use Rattle.wesl_features.specs.declared.error.CondCompError.{CondCompError}
-use Rattle.wesl_cond_spec.specs.Conditions.{Choice, Admits}
-use Rattle.wesl_cond_spec.specs.Chains.{HasAttributes, marks_of, chosen, left}
-use Rattle.wesl_cond_spec.specs.Seen.{Seen, list_fault}
-use Rattle.wesl_cond_spec.specs.Trees.{of_statements, of_declarations, of_members, of_parameters, of_imports, of_directives, statement_with, declaration_with, Rewriting, from_list, in_statement, in_each, in_block, in_elses, in_clauses, in_continuing, in_part, in_declaration, unit_under, unit_left}
-use Rattle.wesl_cond_spec.specs.Faults.{flat_fault, statement_fault, seen_statements, block_fault, elses_fault, clauses_fault, continuing_fault, part_fault, declaration_fault, declarations_fault, unit_fault}
+use Rattle.wesl_conditions.specs.declared.features.feature.Features.{Features}
+use Rattle.wesl_conditions.specs.declared.features.error.CondCompError.{CondCompError}
+use Rattle.wesl_conditions.specs.Conditions.{Choice, Admits}
+use Rattle.wesl_conditions.specs.Chains.{HasAttributes, marks_of, chosen, left}
+use Rattle.wesl_conditions.specs.Seen.{Seen, list_fault}
+use Rattle.wesl_conditions.specs.Trees.{of_statements, of_declarations, of_members, of_parameters, of_imports, of_directives, statement_with, declaration_with, Rewriting, from_list, in_statement, in_each, in_block, in_elses, in_clauses, in_continuing, in_part, in_declaration, unit_under, unit_left}
+use Rattle.wesl_conditions.specs.Faults.{flat_fault, statement_fault, seen_statements, block_fault, elses_fault, clauses_fault, continuing_fault, part_fault, declaration_fault, declarations_fault, unit_fault}
 use Rattle.wesl_cond_laws.proofs.Simplifying.{first_none, second_none}
 use Rattle.wesl_cond_laws.proofs.Standings.{IsLawful}
 use Rattle.wesl_cond_laws.proofs.Keeping.{left_means_the_same}

@@ -2,8 +2,8 @@
 use Rattle.std.proofs.Common.{◌≡◌, refl, List, [], ◌∷◌, map, Bool, true, false, not, cond, Option, Some, None}
 use Rattle.std.specs.Prelude.{if◌then◌else◌}
 use Rattle.std.specs.List.{cons_option}
-use Rattle.wgsl_attributes.specs.Tree.{Attr}
-use Rattle.wesl_cond_spec.specs.Chains.{Mark, mark, is_marked, is_condition, marks, unmarked, remarked}
+use Rattle.wgsl_expressions.specs.AttributesTree.{Attr}
+use Rattle.wesl_conditions.specs.Chains.{Mark, mark, is_marked, is_condition, marks, unmarked, remarked}
 
 pub marks_of_remarked : (new : Attr) (m : Mark) → mark new ≡ Some m → (attributes : List Attr) → marks (remarked new attributes) ≡ map (λ n. m) (marks attributes)
 marks_of_remarked new m is [] = refl

@@ -2,18 +2,18 @@
 use Rattle.std.proofs.Common.{◌≡◌, refl, ap, ◌∙◌, ℕ, List, Bool, true, false, not, ◌||◌, Option, Some, None}
 use Rattle.std.specs.Prelude.{if◌then◌else◌}
 use Rattle.std.specs.Option.{option_or}
-use Rattle.wgsl_operators.specs.declared.UnaryOperator.{UnaryOperator}
-use Rattle.wgsl_operators.specs.declared.UnaryOperator.TheVariants as u
-use Rattle.wgsl_operators.specs.declared.BinaryOperator.{BinaryOperator}
-use Rattle.wgsl_operators.specs.declared.BinaryOperator.TheVariants as b
+use Rattle.wgsl_words.specs.declared.operators.UnaryOperator.{UnaryOperator}
+use Rattle.wgsl_words.specs.declared.operators.UnaryOperator.TheVariants as u
+use Rattle.wgsl_words.specs.declared.operators.BinaryOperator.{BinaryOperator}
+use Rattle.wgsl_words.specs.declared.operators.BinaryOperator.TheVariants as b
 use Rattle.wgsl_expressions.specs.Tree.{Exp, Typ, literal, parenthesized, component, indexed, unary, binary, call, named, simple, templated}
-use Rattle.wesl_features.specs.declared.feature.Feature.{Feature}
-use Rattle.wesl_features.specs.declared.feature.Feature.TheVariants.{Enable, Disable, Keep, Error}
-use Rattle.wesl_features.specs.declared.feature.Features.{Features}
-use Rattle.wesl_features.specs.declared.error.CondCompError.{CondCompError}
-use Rattle.wesl_features.specs.declared.error.CondCompError.TheVariants.{InvalidExpression}
-use Rattle.wesl_features.specs.Settings.{setting}
-use Rattle.wesl_cond_spec.specs.Conditions.{known, truth, is_negation, is_conjunction, is_disjunction, grouped, negated, both_of, one_of, set_flag, left_of_name, simplified, flag_fault, name_fault, condition_fault}
+use Rattle.wesl_conditions.specs.declared.features.feature.Feature.{Feature}
+use Rattle.wesl_conditions.specs.declared.features.feature.Feature.TheVariants.{Enable, Disable, Keep, Error}
+use Rattle.wesl_conditions.specs.declared.features.feature.Features.{Features}
+use Rattle.wesl_conditions.specs.declared.features.error.CondCompError.{CondCompError}
+use Rattle.wesl_conditions.specs.declared.features.error.CondCompError.TheVariants.{InvalidExpression}
+use Rattle.wesl_conditions.specs.Settings.{setting}
+use Rattle.wesl_conditions.specs.Conditions.{known, truth, is_negation, is_conjunction, is_disjunction, grouped, negated, both_of, one_of, set_flag, left_of_name, simplified, flag_fault, name_fault, condition_fault}
 
 module _ (features : Features) where
   abbrev Settled : Exp → Type 0

@@ -1,12 +1,12 @@
 -- What becomes of an item, and what is true of it.
 use Rattle.std.proofs.Common.{◌≡◌, refl, sym, ap, ◌∙◌, List, [], ◌∷◌, Bool, true, false, Option, Some, None}
 use Rattle.std.specs.Prelude.{if◌then◌else◌}
-use Rattle.wgsl_attributes.specs.Tree.{Attr}
+use Rattle.wgsl_expressions.specs.AttributesTree.{Attr}
 use Rattle.wgsl_expressions.specs.Tree.{Exp}
-use Rattle.wesl_features.specs.declared.feature.Features.{Features}
-use Rattle.wesl_cond_spec.specs.Conditions.{Choice, Admits, known, holds, simplified}
-use Rattle.wesl_cond_spec.specs.Chains.{Mark, if_mark, elif_mark, else_mark, opens, is_true, HasAttributes, Standing, goes, stays, waits, standing}
-use Rattle.wesl_conditions.proofs.Meaning.{known_holds, meaning_stays}
+use Rattle.wesl_conditions.specs.declared.features.feature.Features.{Features}
+use Rattle.wesl_conditions.specs.Conditions.{Choice, Admits, known, holds, simplified}
+use Rattle.wesl_conditions.specs.Chains.{Mark, if_mark, elif_mark, else_mark, opens, is_true, HasAttributes, Standing, goes, stays, waits, standing}
+use Rattle.wesl_conditions.proofs.MeaningLemmas.{known_holds, meaning_stays}
 
 -- attributes can be read as they were put, and what is put last counts
 pub record IsLawful {T : Type 0} (has : HasAttributes T) : Type 0 where

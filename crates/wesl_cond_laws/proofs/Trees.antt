@@ -1,12 +1,12 @@
 -- Statements, declarations and modules whose lists are rewritten at every depth.
 use Rattle.std.proofs.Common.{◌≡◌, refl, ap, ◌∙◌, List, [], ◌∷◌, map}
-use Rattle.wgsl_attributes.specs.Tree.{Attr}
+use Rattle.wgsl_expressions.specs.AttributesTree.{Attr}
 use Rattle.wgsl_simple_statements.specs.Tree.{Simple, assignment, increment, decrement, breaking, continuing, returning, discarding, calling, asserting, declaring}
 use Rattle.wgsl_statements.specs.Tree.{Stm, simple, compound_statement, if_statement, switch_statement, loop_statement, for_statement, while_statement, Stms, nil, cons, Block, block, Elses, no_else, else_clause, else_if_clause, Clauses, no_clauses, switch_clause, Continuing, no_continuing, continuing_statement, Part, absent, present}
-use Rattle.wgsl_imports.specs.Tree.{Importing, Directive, diagnostic, enabling, requiring}
+use Rattle.wgsl_declarations.specs.ImportsTree.{Importing, Directive, diagnostic, enabling, requiring}
 use Rattle.wgsl_declarations.specs.Tree.{Member, Param, Decl, variable, alias, structure, function, assertion, UnitTree}
-use Rattle.wesl_cond_spec.specs.Chains.{HasAttributes}
-use Rattle.wesl_cond_spec.specs.Trees.{of_statements, of_declarations, of_members, of_parameters, of_imports, of_directives, simple_attributes, simple_with, statement_attributes, statement_with, directive_attributes, directive_with, declaration_attributes, declaration_with, Rewriting, from_list, in_statement, in_each, in_block, in_elses, in_clauses, in_continuing, in_part, in_declaration, in_unit}
+use Rattle.wesl_conditions.specs.Chains.{HasAttributes}
+use Rattle.wesl_conditions.specs.Trees.{of_statements, of_declarations, of_members, of_parameters, of_imports, of_directives, simple_attributes, simple_with, statement_attributes, statement_with, directive_attributes, directive_with, declaration_attributes, declaration_with, Rewriting, from_list, in_statement, in_each, in_block, in_elses, in_clauses, in_continuing, in_part, in_declaration, in_unit}
 use Rattle.wesl_cond_laws.proofs.Standings.{IsLawful}
 
 -- ---- each kind of item

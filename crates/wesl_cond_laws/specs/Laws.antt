@@ -1,10 +1,10 @@
 -- Laws of modules and their conditions.
 use Rattle.std.specs.Prelude.{◌≡◌, None}
 use Rattle.wgsl_declarations.specs.Tree.{UnitTree}
-use Rattle.wesl_features.specs.declared.feature.Features.{Features}
-use Rattle.wesl_cond_spec.specs.Conditions.{Choice, Admits}
-use Rattle.wesl_cond_spec.specs.Trees.{unit_under, unit_left}
-use Rattle.wesl_cond_spec.specs.Faults.{unit_fault}
+use Rattle.wesl_conditions.specs.declared.features.feature.Features.{Features}
+use Rattle.wesl_conditions.specs.Conditions.{Choice, Admits}
+use Rattle.wesl_conditions.specs.Trees.{unit_under, unit_left}
+use Rattle.wesl_conditions.specs.Faults.{unit_fault}
 
 -- What features leave of a module means the same, under each choice that they admit.
 abbrev pub MeaningStays : Type 0

@@ -1,11 +1,11 @@
 -- Conditions simplified in two steps.
 use Rattle.std.proofs.Common.{◌≡◌, refl, Bool, true, false, ◌||◌}
 use Rattle.std.specs.Prelude.{if◌then◌else◌}
-use Rattle.wgsl_operators.specs.declared.BinaryOperator.{BinaryOperator}
-use Rattle.wgsl_operators.specs.declared.BinaryOperator.TheVariants as b
+use Rattle.wgsl_words.specs.declared.operators.BinaryOperator.{BinaryOperator}
+use Rattle.wgsl_words.specs.declared.operators.BinaryOperator.TheVariants as b
 use Rattle.wgsl_expressions.specs.Tree.{Exp, literal, parenthesized, component, indexed, unary, binary, call, named}
-use Rattle.wesl_features.specs.declared.feature.Features.{Features}
-use Rattle.wesl_cond_spec.specs.Conditions.{is_negation, is_conjunction, is_disjunction, negated, both_of, one_of, simplified}
+use Rattle.wesl_conditions.specs.declared.features.feature.Features.{Features}
+use Rattle.wesl_conditions.specs.Conditions.{is_negation, is_conjunction, is_disjunction, negated, both_of, one_of, simplified}
 use Rattle.wesl_conditions.specs.Absorbed.{is_operation, with_operands, absorbed}
 
 pub from_parts : (features : Features) (e : Exp) → is_operation e ≡ true → absorbed features (with_operands (simplified features) e) ≡ simplified features e

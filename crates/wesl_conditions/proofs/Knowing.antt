@@ -1,11 +1,11 @@
 -- What is known of a condition, from what is known of its operands.
 use Rattle.std.proofs.Common.{◌≡◌, refl, Bool, true, false, not, Option, Some, None}
 use Rattle.std.specs.Prelude.{if◌then◌else◌}
-use Rattle.wgsl_operators.specs.declared.UnaryOperator.TheVariants.{LogicalNegation}
-use Rattle.wgsl_operators.specs.declared.BinaryOperator.{BinaryOperator}
-use Rattle.wgsl_operators.specs.declared.BinaryOperator.TheVariants.{ShortCircuitAnd, ShortCircuitOr}
+use Rattle.wgsl_words.specs.declared.operators.UnaryOperator.TheVariants.{LogicalNegation}
+use Rattle.wgsl_words.specs.declared.operators.BinaryOperator.{BinaryOperator}
+use Rattle.wgsl_words.specs.declared.operators.BinaryOperator.TheVariants.{ShortCircuitAnd, ShortCircuitOr}
 use Rattle.wgsl_expressions.specs.Tree.{Exp, parenthesized, unary, binary}
-use Rattle.wesl_cond_spec.specs.Conditions.{known, truth, grouped, negated, both_of, one_of}
+use Rattle.wesl_conditions.specs.Conditions.{known, truth, grouped, negated, both_of, one_of}
 use Rattle.wesl_conditions.specs.Values.{opposite_of, both_values, either_value}
 
 pub of_group : (x : Exp) → known (grouped x) ≡ known x

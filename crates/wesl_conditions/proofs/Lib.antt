@@ -1,3 +1,7 @@
 pub mod Absorbing
 pub mod Knowing
-pub mod Meaning
+pub mod MeaningLemmas
+mod Insertion
+pub mod Walking
+pub mod Checking
+pub mod Turns

@@ -1,8 +1,8 @@
 -- A condition simplified in two steps: its operands, and then itself.
 use Rattle.std.specs.Prelude.{ℕ, List, Bool, true, false, ◌||◌, Option, Some, None, if◌then◌else◌}
 use Rattle.wgsl_expressions.specs.Tree.{Exp, parenthesized, unary, binary, named, Typ, simple, templated}
-use Rattle.wesl_features.specs.declared.feature.Features.{Features}
-use Rattle.wesl_cond_spec.specs.Conditions.{is_negation, is_conjunction, is_disjunction, grouped, negated, both_of, one_of, left_of_name}
+use Rattle.wesl_conditions.specs.declared.features.feature.Features.{Features}
+use Rattle.wesl_conditions.specs.Conditions.{is_negation, is_conjunction, is_disjunction, grouped, negated, both_of, one_of, left_of_name}
 
 -- the flag that a name is, where it has no path and no template arguments
 abbrev pub flag : Typ → Option (List ℕ)

@@ -2,3 +2,10 @@ pub mod Absorbed
 pub mod Told
 pub mod Values
 pub mod Laws
+pub mod Settings
+pub mod Conditions
+pub mod Chains
+pub mod Seen
+pub mod Walks
+pub mod Trees
+pub mod Faults

@@ -1,14 +1,14 @@
 //! The first error of a condition.
 
 ghost use Rattle.wgsl_expressions.specs.View.{tree, type_tree};
-ghost use Rattle.wesl_cond_spec.specs.Conditions.{condition_fault, literal_fault, name_fault, flag_fault};
+ghost use Rattle.wesl_conditions.specs.Conditions.{condition_fault, literal_fault, name_fault, flag_fault};
 ghost use Rattle.wesl_conditions.specs.Told.{TellsFault};
 
+use crate::features::{CondCompError, Feature, Features};
 use crate::simplification::{flag_of, is_and, is_not, is_or};
 use std::alloc::Global;
-use wesl_features::{CondCompError, Feature, Features};
+use wgsl_base::Text;
 use wgsl_expressions::{Expression, LiteralExpression, TypeExpression};
-use wgsl_items::Text;
 
 /// The first error of a condition, from left to right. Both sides of an operator count.
 #[cycle(check)]

@@ -2,10 +2,14 @@
 #![tactic(auto)]
 
 mod errors;
+mod features;
 pub mod laws;
+mod meaning;
 mod simplification;
 mod values;
 
 pub use errors::check_condition;
+pub use features::{CondCompError, Feature, Features};
+pub use meaning::Chain;
 pub use simplification::simplify;
 pub use values::condition_value;

@@ -3,18 +3,18 @@
 ghost use Rattle.std.specs.Prelude.{◌≡◌, true, if◌then◌else◌};
 ghost use Rattle.wgsl_expressions.specs.Tree as tree_of;
 ghost use Rattle.wgsl_expressions.specs.View.{tree, node_tree, type_tree};
-ghost use Rattle.wesl_cond_spec.specs.Conditions as conditions;
-ghost use Rattle.wesl_cond_spec.specs.Conditions.{is_negation, is_conjunction, is_disjunction, truth, grouped, negated, both_of, one_of, left_of_name, simplified};
+ghost use Rattle.wesl_conditions.specs.Conditions as conditions;
+ghost use Rattle.wesl_conditions.specs.Conditions.{is_negation, is_conjunction, is_disjunction, truth, grouped, negated, both_of, one_of, left_of_name, simplified};
 ghost use Rattle.std.specs.Option.{option_copied};
 ghost use Rattle.wesl_conditions.specs.Absorbed.{absorbed, is_operation, with_operands, flag};
 
+use crate::features::{Feature, Features};
 use std::mem;
-use wesl_features::{Feature, Features};
 use wgsl_expressions::{
     BinaryExpression, Expression, LiteralExpression, ParenthesizedExpression, TypeExpression,
     UnaryExpression,
 };
-use wgsl_operators::{BinaryOperator, UnaryOperator};
+use wgsl_words::{BinaryOperator, UnaryOperator};
 
 /// The truth value that an expression is, if it is one.
 #[tactic(auto, using(wgsl_expressions::proofs::Trees::tree_of_literal, wgsl_expressions::proofs::Trees::tree_of_parenthesized, wgsl_expressions::proofs::Trees::tree_of_component, wgsl_expressions::proofs::Trees::tree_of_indexed, wgsl_expressions::proofs::Trees::tree_of_unary, wgsl_expressions::proofs::Trees::tree_of_binary, wgsl_expressions::proofs::Trees::tree_of_call, wgsl_expressions::proofs::Trees::tree_of_named))]

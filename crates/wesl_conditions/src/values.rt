@@ -2,13 +2,13 @@
 
 ghost use Rattle.std.specs.Prelude.{◌≡◌};
 ghost use Rattle.wgsl_expressions.specs.View.{tree, type_tree};
-ghost use Rattle.wesl_cond_spec.specs.Conditions as conditions;
-ghost use Rattle.wesl_cond_spec.specs.Conditions.{left_of_name, simplified};
+ghost use Rattle.wesl_conditions.specs.Conditions as conditions;
+ghost use Rattle.wesl_conditions.specs.Conditions.{left_of_name, simplified};
 ghost use Rattle.wgsl_expressions.specs.Tree as tree_of;
 ghost use Rattle.wesl_conditions.specs.Values.{opposite_of, both_values, either_value};
 
+use crate::features::{Feature, Features};
 use crate::simplification::{flag_of, is_and, is_not, is_or, known_literal};
-use wesl_features::{Feature, Features};
 use wgsl_expressions::{Expression, TypeExpression};
 
 /// The truth value that features leave of a condition, if they decide it.

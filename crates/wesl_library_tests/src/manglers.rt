@@ -6,7 +6,7 @@ use std::test::Fail;
 use wesl_mangle::{
     BasicSourceMap, CacheMangler, EscapeMangler, Mangler, NoMangler, NoSourceMap, SourceMap,
 };
-use wgsl_items::Text;
+use wgsl_base::Text;
 use wgsl_path::ModulePath;
 
 /// Whether the item `two` of `package::m` is mangled into a name.

@@ -2,14 +2,14 @@
 
 use std::alloc::Global;
 use std::test::Fail;
-use wesl_features::{Feature, Features};
+use wesl_conditions::{Feature, Features};
+use wesl_load::HeldUnit;
 use wesl_mangle::{BasicSourceMap, Mangler, NoMangler, SourceMap, SourceMapper};
 use wesl_preprocess::{Conditions, Preprocessor};
 use wesl_resolvers::{NoResolver, RecordingResolver, ResolveError, Resolver};
-use wesl_rounds::HeldUnit;
 use wesl_router::Router;
-use weslc_texts::VirtualResolver;
-use wgsl_items::Text;
+use wesl_virtual_resolver::VirtualResolver;
+use wgsl_base::Text;
 use wgsl_parser::parse_str;
 use wgsl_path::ModulePath;
 

@@ -4,11 +4,12 @@ use crate::resolvers::{path, unit};
 use std::alloc::Global;
 use std::test::Fail;
 use wesl_assemble::retarget_idents;
+use wesl_load::{HeldUnit, Resolutions, resolve_lazy};
 use wesl_resolvers::NoResolver;
-use wesl_rounds::{HeldUnit, Resolutions, resolve_lazy};
-use wgsl_declarations::{GlobalDeclaration, GlobalDeclarationNode, TranslationUnit};
+use wgsl_declarations::{
+    GlobalDeclaration, GlobalDeclarationNode, GlobalDirective, ImportStatement, TranslationUnit,
+};
 use wgsl_expressions::ExpressionNode;
-use wgsl_imports::{GlobalDirective, ImportStatement};
 use wgsl_lex::is_identifier;
 use wgsl_parser::FromText;
 use wgsl_simple_statements::DeclarationKind;

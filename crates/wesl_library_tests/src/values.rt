@@ -3,12 +3,12 @@
 use crate::resolvers::unit;
 use std::alloc::Global;
 use std::test::Fail;
+use wgsl_base::{Items, Text};
 use wgsl_context::Context;
 use wgsl_declarations::{GlobalDeclaration, TranslationUnit};
 use wgsl_expressions::{Expression, ExpressionNode, TypeExpression};
 use wgsl_instance::{ArrayInstance, Instance, StructInstance};
-use wgsl_items::{Items, Text};
-use wgsl_scope::Scope;
+use wgsl_memory::Scope;
 use wgsl_shader_type::{LiteralInstance, StructType, Type};
 use wgsl_to_expr::{array_to_expr, struct_to_expr, type_to_expr};
 
@@ -26,11 +26,15 @@ fn is_vector<E: Drop>(answer: Result<Instance, E>) -> bool {
 fn constructs(alloc: Global) -> bool {
     let one = [Instance::Literal(LiteralInstance::AbstractInt(1))];
     is_scalar(
-        wgsl_constructors::bool(alloc, &one),
+        wgsl_instance_operators::bool(alloc, &one),
         LiteralInstance::Bool(true),
-    ) && is_scalar(wgsl_constructors::i32(alloc, &one), LiteralInstance::I32(1))
-        && is_scalar(wgsl_constructors::u32(alloc, &one), LiteralInstance::U32(1))
-        && is_vector(wgsl_constructors::vec(alloc, 2, None, &one))
+    ) && is_scalar(
+        wgsl_instance_operators::i32(alloc, &one),
+        LiteralInstance::I32(1),
+    ) && is_scalar(
+        wgsl_instance_operators::u32(alloc, &one),
+        LiteralInstance::U32(1),
+    ) && is_vector(wgsl_instance_operators::vec(alloc, 2, None, &one))
 }
 
 #[test]

@@ -4,12 +4,10 @@ use crate::resolvers::unit;
 use std::alloc::{AllocError, Global};
 use std::test::Fail;
 use wesl_visit::VisitStatements;
-use wesl_visit_attributes::VisitAttributes;
-use wesl_visit_expressions_in_modules::VisitExpressions;
-use wesl_visit_types_in_modules::VisitTypes;
-use wgsl_attributes::Attribute;
+use wesl_visit_children_mut::VisitAttributes;
+use wesl_visit_in_modules::{VisitExpressions, VisitTypes};
 use wgsl_declarations::{GlobalDeclaration, TranslationUnit};
-use wgsl_expressions::{Expression, TypeExpression};
+use wgsl_expressions::{Attribute, Expression, TypeExpression};
 use wgsl_statements::Statement;
 
 const TEXT: &str =

@@ -13,7 +13,7 @@ use Rattle.wesl_chains.specs.Chains.{declared_at, Denotes}
 use Rattle.wesl_linking_spec.specs.Outlining.{as_use, directive_node, name_of, outline_of}
 use Rattle.wesl_linking_spec.specs.Sources.{canonical, Modules, unit_at, finder}
 use Rattle.wesl_linking_spec.specs.Written.{Mangler, printed}
-use Rattle.wesl_linking_spec.specs.Linked.{Spot}
+use Rattle.wesl_linking_spec.specs.Linked.{DeclarationId}
 
 -- the first of a list that clashes does so as this name
 pub record IsFirst {A : Type 0} (C : A → Name → Type 0) (xs : List A) (y : Name) : Type 0 where
@@ -51,8 +51,8 @@ unit_mentions u = map directive_mentions u.directives ++ map declaration_mention
 module _ (ms : Modules) (root : Path) (mangler : Mangler) (held : Path → ℕ → Type 0) where
   -- two held declarations have this printed name
   pub record IsShared (y : Name) : Type 0 where
-    pub one : Spot
-    pub another : Spot
+    pub one : DeclarationId
+    pub another : DeclarationId
     pub differ : one ≢ another
     pub one_held : held one.0 one.1
     pub another_held : held another.0 another.1
@@ -61,7 +61,7 @@ module _ (ms : Modules) (root : Path) (mangler : Mangler) (held : Path → ℕ �
 
   -- a held declaration has it
   pub record IsTaken (y : Name) : Type 0 where
-    pub spot : Spot
+    pub spot : DeclarationId
     pub is_held : held spot.0 spot.1
     pub its_name : printed ms root mangler spot.0 spot.1 ≡ Some y
 
@@ -80,7 +80,7 @@ module _ (ms : Modules) (root : Path) (mangler : Mangler) (held : Path → ℕ �
     own_name : {y : Name} → printed ms root mangler m k ≡ Some y → IsShared y → MentionClashes m k o declares y
 
   -- a place of a module, by its first mention that clashes
-  pub record SpotClashes (p : Spot) (y : Name) : Type 0 where
+  pub record SpotClashes (p : DeclarationId) (y : Name) : Type 0 where
     pub unit : UnitTree
     pub is_module : unit_at ms p.0 ≡ Some unit
     pub mentions : List Mention
@@ -88,8 +88,8 @@ module _ (ms : Modules) (root : Path) (mangler : Mangler) (held : Path → ℕ �
     pub first : IsFirst (MentionClashes p.0 p.1 (outline_of (canonical p.0) unit)) mentions y
 
   -- the first clash of a unit that comes from these spots
-  abbrev pub IsFirstClash : List Spot → Name → Type 0
+  abbrev pub IsFirstClash : List DeclarationId → Name → Type 0
   IsFirstClash origins y = IsFirst SpotClashes origins y
 
-  abbrev pub NoneClashes : List Spot → Type 0
-  NoneClashes origins = (p : Spot) (y : Name) → Contains origins p → SpotClashes p y → ⊥
+  abbrev pub NoneClashes : List DeclarationId → Type 0
+  NoneClashes origins = (p : DeclarationId) (y : Name) → Contains origins p → SpotClashes p y → ⊥

@@ -30,25 +30,25 @@ pub data Selects {A : Type 0} (P : A → Type 0) : List A → List A → Type 0 
   leaves : {x : A} {xs ys : List A} → (P x → ⊥) → Selects P xs ys → Selects P (x ∷ xs) ys
 
 -- where a directive or a declaration stands: the module's path, and its place there
-abbrev pub Spot : Type 0
-Spot = Path × ℕ
+abbrev pub DeclarationId : Type 0
+DeclarationId = Path × ℕ
 
 -- what stands at the places of a module from one on
-abbrev pub at_spots : {A : Type 0} → Path → ℕ → List A → List (Spot × A)
+abbrev pub at_spots : {A : Type 0} → Path → ℕ → List A → List (DeclarationId × A)
 at_spots m n [] = []
 at_spots m n (x ∷ xs) = ((m, n), x) ∷ at_spots m (n + 1) xs
 
-abbrev pub spots_of : {A : Type 0} → List (Spot × A) → List Spot
+abbrev pub spots_of : {A : Type 0} → List (DeclarationId × A) → List DeclarationId
 spots_of xs = map (λ x. x.0) xs
 
-abbrev pub contents_of : {A : Type 0} → List (Spot × A) → List A
+abbrev pub contents_of : {A : Type 0} → List (DeclarationId × A) → List A
 contents_of xs = map (λ x. x.1) xs
 
 -- the first of equal ones, in order
-pub data FirstOfEqual {A : Type 0} : List (Spot × A) → List (Spot × A) → Type 0 where
+pub data FirstOfEqual {A : Type 0} : List (DeclarationId × A) → List (DeclarationId × A) → Type 0 where
   none_yet : FirstOfEqual [] []
-  is_new : (x : Spot × A) {xs ys : List (Spot × A)} → FirstOfEqual xs ys → (Contains (contents_of xs) x.1 → ⊥) → FirstOfEqual (xs ++ x ∷ []) (ys ++ x ∷ [])
-  is_again : (x : Spot × A) {xs ys : List (Spot × A)} → FirstOfEqual xs ys → Contains (contents_of xs) x.1 → FirstOfEqual (xs ++ x ∷ []) ys
+  is_new : (x : DeclarationId × A) {xs ys : List (DeclarationId × A)} → FirstOfEqual xs ys → (Contains (contents_of xs) x.1 → ⊥) → FirstOfEqual (xs ++ x ∷ []) (ys ++ x ∷ [])
+  is_again : (x : DeclarationId × A) {xs ys : List (DeclarationId × A)} → FirstOfEqual xs ys → Contains (contents_of xs) x.1 → FirstOfEqual (xs ++ x ∷ []) ys
 
 -- the loaded modules in the order of the linked unit: the root, then the others in byte order of their printed paths
 pub record IsInOrder (loaded : List Path) (root : Path) (order : List Path) : Type 0 where
@@ -62,31 +62,31 @@ pub record IsInOrder (loaded : List Path) (root : Path) (order : List Path) : Ty
 
 module _ (ms : Modules) (root : Path) (mangler : Mangler) (held : Path → ℕ → Type 0) where
   -- what a module has in the linked unit: its directives written, and its held declarations in text order, written
-  pub record IsLinkedModule (m : Path) (ds : List (Spot × Directive)) (es : List (Spot × Decl)) : Type 0 where
+  pub record IsLinkedModule (m : Path) (ds : List (DeclarationId × Directive)) (es : List (DeclarationId × Decl)) : Type 0 where
     pub unit : UnitTree
     pub is_module : unit_at ms m ≡ Some unit
     pub naming : Naming
     pub names : IsNaming ms root mangler held m (outline_of (canonical m) unit) naming
     pub directives : AllZip (λ d e. (e.0 ≡ d.0) × IsWrittenDirective naming d.1 e.1) (at_spots m 0 unit.directives) ds
-    pub held_there : List (Spot × Decl)
+    pub held_there : List (DeclarationId × Decl)
     pub selected : Selects (λ d. held d.0.0 d.0.1) (at_spots m (length unit.directives) unit.declarations) held_there
     pub declarations : AllZip (λ d e. (e.0 ≡ d.0) × IsWritten ms root mangler d.0.0 d.0.1 naming d.1 e.1) held_there es
 
   -- modules one after another
-  pub data AreLinkedModules : List Path → List (Spot × Directive) → List (Spot × Decl) → Type 0 where
+  pub data AreLinkedModules : List Path → List (DeclarationId × Directive) → List (DeclarationId × Decl) → Type 0 where
     no_module : AreLinkedModules [] [] []
-    a_module : {m : Path} {ns : List Path} {ds more_ds : List (Spot × Directive)} {es more_es : List (Spot × Decl)} → IsLinkedModule m ds es
+    a_module : {m : Path} {ns : List Path} {ds more_ds : List (DeclarationId × Directive)} {es more_es : List (DeclarationId × Decl)} → IsLinkedModule m ds es
         → AreLinkedModules ns more_ds more_es → AreLinkedModules (m ∷ ns) (ds ++ more_ds) (es ++ more_es)
 
   -- The unit, and the spot that each of its directives and declarations comes from: the root's, then the other modules' in byte order of
   -- their printed paths; equal directives once, where the first of them stands.
-  pub record IsAssembled (origins : List Spot) (u : UnitTree) : Type 0 where
+  pub record IsAssembled (origins : List DeclarationId) (u : UnitTree) : Type 0 where
     pub no_imports : u.imports ≡ []
     pub order : List Path
     pub in_order : IsInOrder (map (λ m. m.0) ms) root order
-    pub directives : List (Spot × Directive)
-    pub taken : List (Spot × Directive)
-    pub declarations : List (Spot × Decl)
+    pub directives : List (DeclarationId × Directive)
+    pub taken : List (DeclarationId × Directive)
+    pub declarations : List (DeclarationId × Decl)
     pub modules : AreLinkedModules order directives declarations
     pub once : FirstOfEqual directives taken
     pub all_directives : u.directives ≡ contents_of taken

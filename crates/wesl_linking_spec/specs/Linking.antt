@@ -6,7 +6,7 @@ use Rattle.wesl_linking_spec.specs.Sources.{Sources, with_root, Modules, finder}
 use Rattle.wesl_linking_spec.specs.Loading.{LoadError, kept_names, IsLoadingResult}
 use Rattle.wesl_linking_spec.specs.Asks.{AreAsked}
 use Rattle.wesl_linking_spec.specs.Written.{Mangler}
-use Rattle.wesl_linking_spec.specs.Linked.{Held, HeldStill, Spot, IsAssembled}
+use Rattle.wesl_linking_spec.specs.Linked.{Held, HeldStill, DeclarationId, IsAssembled}
 use Rattle.wesl_linking_spec.specs.Clashing.{IsFirstClash, NoneClashes}
 
 -- lazy: what the kept names reach is loaded and held; eager: all that loaded modules use is loaded, and what the kept names reach is held;
@@ -58,7 +58,7 @@ module _ (q : Request) where
     pub record IsLinkedFrom (u : UnitTree) : Type 0 where
       pub modules : Modules
       pub loaded : Loading found (Ok modules)
-      pub origins : List Spot
+      pub origins : List DeclarationId
       pub assembled : IsAssembled modules q.root mangler (IsHeld modules) origins u
       pub clear : NoneClashes modules q.root mangler (IsHeld modules) origins
 
@@ -67,7 +67,7 @@ module _ (q : Request) where
       pub modules : Modules
       pub loaded : Loading found (Ok modules)
       pub unit : UnitTree
-      pub origins : List Spot
+      pub origins : List DeclarationId
       pub assembled : IsAssembled modules q.root mangler (IsHeld modules) origins unit
       pub first : IsFirstClash modules q.root mangler (IsHeld modules) origins y
 

@@ -2,9 +2,9 @@
 use Rattle.std.specs.Prelude.{◌≡◌, ◌≢◌, ℕ, ◌+◌, ◌<◌, ◌≤◌, List, [], ◌∷◌, ◌++◌, length, Option, Some, None, Bool, Result, Ok, Err, ◌↔◌}
 use Rattle.std.specs.List.{Contains, filter_map}
 use Rattle.wesl_chains.specs.ModulePath.{ModulePath}
-use Rattle.wgsl_error.specs.declared.error.Error.{Error}
-use Rattle.wgsl_error.specs.declared.error.Refusal.{Refusal}
-use Rattle.wesl_features.specs.declared.error.CondCompError.{CondCompError}
+use Rattle.wgsl_token.specs.declared.fault.error.Error.{Error}
+use Rattle.wgsl_token.specs.declared.fault.error.Refusal.{Refusal}
+use Rattle.wesl_conditions.specs.declared.features.error.CondCompError.{CondCompError}
 use Rattle.wgsl_skeleton.specs.DeclarationsTree.{UnitTree}
 use Rattle.wesl_chains.specs.Outlines.{Name, Path, Kind, directive, assertion, entry_point, other, Outline, own_names, scope_names}
 use Rattle.wesl_chains.specs.Chains.{Outcome, declared_at, unloaded, missing, private}

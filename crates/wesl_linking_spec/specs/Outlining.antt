@@ -7,11 +7,12 @@ use Rattle.wesl_chains.specs.PathOrigin.TheVariants.{Package}
 use Rattle.wesl_chains.specs.Joining.{with_names}
 use Rattle.wgsl_skeleton.specs.AttributesTree as a
 use Rattle.wgsl_skeleton.specs.AttributesTree.{Attr}
-use Rattle.wgsl_skeleton.specs.ImportsTree.{Importing, Content, item, collection, Imps, nil, cons, Directive, diagnostic, enabling, requiring}
+use Rattle.wgsl_skeleton.specs.ImportsTree.{Importing, Content, item, collection, Imps, nil, cons, Directive}
 use Rattle.wgsl_skeleton.specs.DeclarationsTree.{Decl, variable, alias, structure, function, assertion as asserting, UnitTree}
 use Rattle.wgsl_skeleton.specs.Skeleton.{Node}
 use Rattle.wgsl_skeleton.specs.Occurrences.{Occurrence, occurrences, outside}
-use Rattle.wgsl_skeleton.specs.Trees.{attributes_node, declaration_node}
+pub use Rattle.wgsl_skeleton.specs.Trees.{directive_node}
+use Rattle.wgsl_skeleton.specs.Trees.{declaration_node}
 use Rattle.wesl_chains.specs.Outlines.{Name, Item, Use, Kind, directive, assertion, entry_point, other, Entry, Outline}
 use Rattle.wesl_chains.specs.Senses.{meant_by}
 
@@ -55,14 +56,6 @@ as_use o = record { path = o.path; name = o.name }
 
 abbrev pub uses_in : Node → List Use
 uses_in n = map as_use (outside (occurrences [] n))
-
-abbrev pub directive_attributes : Directive → List Attr
-directive_attributes (diagnostic attributes severity rule) = attributes
-directive_attributes (enabling attributes names) = attributes
-directive_attributes (requiring attributes names) = attributes
-
-abbrev pub directive_node : Directive → Node
-directive_node d = attributes_node (directive_attributes d)
 
 abbrev pub directive_entry : Directive → Entry
 directive_entry d = record { kind = directive; name = None; uses = uses_in (directive_node d) }

@@ -17,7 +17,7 @@ use Rattle.wesl_linking_spec.specs.Sources.{Answer, unit_of, not_found, Sources,
 use Rattle.wesl_linking_spec.specs.Loading.{too_many_modules, missing_decl}
 use Rattle.wesl_linking_spec.specs.Asks.{Asks}
 use Rattle.wesl_linking_spec.specs.Written.{IsWrittenDirective}
-use Rattle.wesl_linking_spec.specs.Linked.{Held, Spot, FirstOfEqual}
+use Rattle.wesl_linking_spec.specs.Linked.{Held, DeclarationId, FirstOfEqual}
 use Rattle.wesl_linking_spec.specs.Clashing.{Clashes}
 use Rattle.wesl_linking_spec.specs.Linking.{Mode, lazy, eager, Request, not_loaded, IsLinkedFrom, RefusesToLink, HeldAfterStripping}
 use Rattle.wesl_linking_spec.specs.Valid.{Call, calls, duplicate, undefined_symbol, param_count, IsMiscalled, IsFirstFault}
@@ -98,7 +98,7 @@ two_renamed path x = if bytes_eq x (codes "two") then codes "package_m_two" else
 abbrev pub enabling_by : e.Exp → Directive
 enabling_by x = i.enabling (a.custom (codes "my") (Some (x ∷ [])) ∷ []) (codes "y" ∷ [])
 
-abbrev pub at_spot : Path → Spot × Directive
+abbrev pub at_spot : Path → DeclarationId × Directive
 at_spot p = ((p, 0), enabling_by (name (codes "package_m_two")))
 
 abbrev pub DirectiveExample : Type 0

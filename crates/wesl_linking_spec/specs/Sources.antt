@@ -1,15 +1,14 @@
 -- Where modules come from, and those that are loaded.
-use Rattle.std.specs.Prelude.{◌≡◌, ◌⊎◌, List, [], ◌∷◌, Option, Some, None, if◌then◌else◌, Ok, Err}
+use Rattle.std.specs.Prelude.{◌≡◌, ◌⊎◌, List, [], ◌∷◌, Option, Some, None, if◌then◌else◌}
 use Rattle.std.specs.Option.{option_map}
 use Rattle.std.specs.Str.{bytes_eq}
 use Rattle.wesl_chains.specs.ModulePath.{ModulePath}
-use Rattle.wesl_chains.specs.PathOrigin.TheVariants.{Package}
-use Rattle.wesl_chains.specs.Reading.{PathResult, parts, path_of}
-use Rattle.wgsl_error.specs.declared.error.Error.{Error}
-use Rattle.wgsl_error.specs.declared.error.Refusal.{Refusal}
-use Rattle.wesl_features.specs.declared.error.CondCompError.{CondCompError}
+use Rattle.wgsl_token.specs.declared.fault.error.Error.{Error}
+use Rattle.wgsl_token.specs.declared.fault.error.Refusal.{Refusal}
+use Rattle.wesl_conditions.specs.declared.features.error.CondCompError.{CondCompError}
 use Rattle.wgsl_skeleton.specs.DeclarationsTree.{UnitTree}
 use Rattle.wesl_chains.specs.Outlines.{Path, Finder}
+pub use Rattle.wesl_chains.specs.Canonical.{canonical}
 use Rattle.wesl_linking_spec.specs.Outlining.{outline_of}
 
 -- What is found at a path, once conditions are decided: a module's unit; that there is none; what is wrong with its text, or with its
@@ -35,15 +34,6 @@ abbrev pub with_root : Path → UnitTree → Sources → Sources
 with_root root u found p a = ((p ≡ root) × (a ≡ unit_of u)) ⊎ ((p ≡ root → ⊥) × found p a)
 
 -- ---- paths
-
-abbrev pub path_or : Path → PathResult ModulePath → ModulePath
-path_or p (Ok path) = path
-path_or p (Err e) = record { origin = Package p; components = [] }
-
--- The path that a text is read as; of a text that is no path, a package of that name. Of the paths that print alike it is the one that a
--- module is asked for by, and that errors and maps name.
-abbrev pub canonical : Path → ModulePath
-canonical p = path_or p (path_of (parts p))
 
 -- what a resolver finds, which is asked by paths
 abbrev pub sources_of : (ModulePath → Answer → Type 0) → Sources

@@ -9,7 +9,7 @@ use Rattle.wgsl_skeleton.specs.DeclarationsTree.{Decl, variable, alias, structur
 use Rattle.wgsl_skeleton.specs.Skeleton as l
 use Rattle.wgsl_skeleton.specs.Skeleton.{Node, occurrence, local, scope, node, Nodes, nil, cons}
 use Rattle.wgsl_skeleton.specs.Occurrences.{Occurrence, behind, occurrences, is_among, denotes_local, outside}
-use Rattle.wesl_rings.specs.Rings.{IsFirstOnRing}
+use Rattle.wesl_cycles.specs.Rings.{IsFirstOnRing}
 use Rattle.wesl_chains.specs.Outlines.{Name, Entry, is_named, place_from}
 use Rattle.wesl_linking_spec.specs.Outlining.{name_of, entries_of, nodes_of}
 

@@ -3,7 +3,7 @@
 use crate::mangler::Mangler;
 use std::alloc::{AllocError, Global};
 use wesl_resolve::{BasicSourceMap, SourceMap};
-use wgsl_items::{CloneIn, Text};
+use wgsl_base::{CloneIn, Text};
 use wgsl_path::ModulePath;
 
 /// Mangles as another mangler. A name is read back as what was last mangled into it, and otherwise as the other mangler reads it.

@@ -5,7 +5,7 @@ ghost use Rattle.std.specs.Borrow.{GName};
 ghost use Rattle.wgsl_path.specs.declared.path.ModulePath.{ModulePath as Path};
 
 use std::alloc::{AllocError, Global};
-use wgsl_items::Text;
+use wgsl_base::Text;
 use wgsl_path::ModulePath;
 
 /// Gives the items of modules names. The name is a fixed function of the path and the item, which no call changes.

@@ -10,8 +10,8 @@ use crate::mangler::Mangler;
 use std::alloc::{AllocError, Global};
 use wesl_resolve::BasicSourceMap;
 use wesl_resolvers::{ResolveError, Resolver};
+use wgsl_base::{CloneIn, Text};
 use wgsl_declarations::{TranslationUnit, let_go};
-use wgsl_items::{CloneIn, Text};
 use wgsl_path::ModulePath;
 
 /// A resolver and a mangler, which answer as before, and the source map of what they were asked for: the text and the display name of

@@ -3,7 +3,7 @@
 use crate::mangler::Mangler;
 use std::alloc::{AllocError, Global};
 use wesl_resolve::EscapeMangler;
-use wgsl_items::Text;
+use wgsl_base::Text;
 use wgsl_path::ModulePath;
 
 impl Mangler for EscapeMangler {

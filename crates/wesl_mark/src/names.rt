@@ -1,6 +1,8 @@
 //! Tables of names and of references, which give each a number.
 
-ghost use Rattle.std.specs.Prelude.{◌≡◌, IfOk};
+ghost use Rattle.std.specs.Prelude.{◌≡◌, ◌<◌, ℕ, List, Some, String, length, slice_get, IfOk};
+ghost use Rattle.std.specs.declared.alloc.Global.{Global};
+ghost use Rattle.wesl_mark.specs.Marks.{name_at, AreApart, AreNamed, Keeps};
 
 use indexmap::IndexSet;
 use std::alloc::{AllocError, Global};
@@ -18,7 +20,12 @@ pub(crate) fn name_number(
     alloc: Global,
     names: &mut IndexSet<String>,
     name: &str,
-) -> Result<u32, AllocError> {
+) -> Result<u32, AllocError>
+    requires { AreApart names.old.keys }
+    ensures reads { IfOk result (λ number. name_at names.new.keys number ≡ Some name.now) }
+    ensures keeps { Keeps names.old.keys names.new.keys }
+    ensures apart { AreApart names.new.keys }
+{
     let (at, _) = names.insert_full(String::from_str(alloc, name)?)?;
     numbered(at)
 }
@@ -27,7 +34,11 @@ pub(crate) fn name_number(
 pub(crate) fn reference_number(
     references: &mut IndexSet<Reference>,
     reference: Reference,
-) -> Result<u32, AllocError> {
+) -> Result<u32, AllocError>
+    ensures reads { IfOk result (λ number. slice_get references.new.keys number ≡ Some reference) }
+    ensures keeps { Keeps references.old.keys references.new.keys }
+    ensures named { (names : List (String Global)) → reference.name < length names → AreNamed names references.old.keys → AreNamed names references.new.keys }
+{
     let (at, _) = references.insert_full(reference)?;
     numbered(at)
 }

@@ -1,7 +1,7 @@
 //! The places of a module.
 
 /// What stands at a place of a module.
-#[derive(Clone, Copy, Debug, PartialEq, Eq)]
+#[derive(Clone, Copy, PartialEq, Eq)]
 pub enum Kind {
     Directive,
     /// A `;` alone.
@@ -19,7 +19,7 @@ pub enum Kind {
 }
 
 /// A directive or a declaration of a module.
-#[derive(Clone, Copy, Debug)]
+#[derive(Clone, Copy)]
 pub struct Place {
     pub kind: Kind,
     /// The number of its name, where it has one.

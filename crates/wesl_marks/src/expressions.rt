@@ -1,9 +1,19 @@
 //! The marks of expressions, types and attributes.
 
+ghost use Rattle.std.specs.Prelude.{◌≡◌, ◌++◌, map, OnOk};
+ghost use Rattle.std.specs.List.{flat_map};
+ghost use Rattle.std.specs.Option.{option_map};
+ghost use Rattle.wgsl_expressions.specs.Tree.{exps};
+ghost use Rattle.wgsl_expressions.specs.View.{node_tree, type_tree};
+ghost use Rattle.wgsl_expressions.specs.AttributesView.{attribute_tree, attributes_tree};
+ghost use Rattle.wesl_mark.specs.Lists.{flats, OnlyGrows};
+ghost use Rattle.wesl_marks.specs.Laid.{if_exp, if_typ, in_attr, in_attrs, in_exp, in_exps, in_typ};
+
 use std::alloc::AllocError;
 use wesl_mark::MarkList;
-use wgsl_attributes::{Attribute, AttributeNode};
-use wgsl_expressions::{Expression, ExpressionNode, FunctionCall, TypeExpression};
+use wgsl_expressions::{
+    Attribute, AttributeNode, Expression, ExpressionNode, FunctionCall, TypeExpression,
+};
 
 /// Marks an expression.
 #[cycle(expressions)]
@@ -11,7 +21,10 @@ pub(crate) fn mark_expression(
     node: &ExpressionNode,
     is_custom: bool,
     list: &mut MarkList,
-) -> Result<(), AllocError> {
+) -> Result<(), AllocError>
+    ensures flats { OnOk result (flats list.new ≡ flats list.old ++ in_exp (node_tree node.now)) }
+    ensures grows { OnOk result (OnlyGrows list.old list.new) }
+{
     match node.node() {
         Expression::Literal(_) => Ok(()),
         Expression::Parenthesized(x) => mark_expression(&x.expression, is_custom, list),
@@ -36,7 +49,10 @@ fn mark_expressions(
     nodes: &[ExpressionNode],
     is_custom: bool,
     list: &mut MarkList,
-) -> Result<(), AllocError> {
+) -> Result<(), AllocError>
+    ensures flats { OnOk result (flats list.new ≡ flats list.old ++ in_exps (exps (map node_tree nodes.now))) }
+    ensures grows { OnOk result (OnlyGrows list.old list.new) }
+{
     for node in nodes {
         mark_expression(node, is_custom, list)?;
     }
@@ -49,7 +65,10 @@ pub(crate) fn mark_call(
     x: &FunctionCall,
     is_custom: bool,
     list: &mut MarkList,
-) -> Result<(), AllocError> {
+) -> Result<(), AllocError>
+    ensures flats { OnOk result (flats list.new ≡ flats list.old ++ (in_typ (type_tree x.now.ty) ++ in_exps (exps (map node_tree x.now.arguments)))) }
+    ensures grows { OnOk result (OnlyGrows list.old list.new) }
+{
     mark_type(&x.ty, Some(x.arguments.len()), is_custom, list)?;
     mark_expressions(x.arguments.as_slice(), is_custom, list)
 }
@@ -61,7 +80,10 @@ pub(crate) fn mark_type(
     arguments: Option<usize>,
     is_custom: bool,
     list: &mut MarkList,
-) -> Result<(), AllocError> {
+) -> Result<(), AllocError>
+    ensures flats { OnOk result (flats list.new ≡ flats list.old ++ in_typ (type_tree ty.now)) }
+    ensures grows { OnOk result (OnlyGrows list.old list.new) }
+{
     match &ty.template_args {
         None => {
             if ty.path.is_none() && ty.ident.as_str() == "_" {
@@ -83,7 +105,10 @@ pub(crate) fn mark_type(
 pub(crate) fn mark_optional(
     node: &Option<ExpressionNode>,
     list: &mut MarkList,
-) -> Result<(), AllocError> {
+) -> Result<(), AllocError>
+    ensures flats { OnOk result (flats list.new ≡ flats list.old ++ if_exp (option_map node_tree node.now)) }
+    ensures grows { OnOk result (OnlyGrows list.old list.new) }
+{
     match node {
         None => Ok(()),
         Some(node) => mark_expression(node, false, list),
@@ -94,7 +119,10 @@ pub(crate) fn mark_optional(
 pub(crate) fn mark_optional_type(
     ty: &Option<TypeExpression>,
     list: &mut MarkList,
-) -> Result<(), AllocError> {
+) -> Result<(), AllocError>
+    ensures flats { OnOk result (flats list.new ≡ flats list.old ++ if_typ (option_map type_tree ty.now)) }
+    ensures grows { OnOk result (OnlyGrows list.old list.new) }
+{
     match ty {
         None => Ok(()),
         Some(ty) => mark_type(ty, None, false, list),
@@ -102,7 +130,10 @@ pub(crate) fn mark_optional_type(
 }
 
 /// Marks an attribute.
-fn mark_attribute(attribute: &Attribute, list: &mut MarkList) -> Result<(), AllocError> {
+fn mark_attribute(attribute: &Attribute, list: &mut MarkList) -> Result<(), AllocError>
+    ensures flats { OnOk result (flats list.new ≡ flats list.old ++ in_attr (attribute_tree attribute.now)) }
+    ensures grows { OnOk result (OnlyGrows list.old list.new) }
+{
     match attribute {
         Attribute::Align(x) => mark_expression(x, false, list),
         Attribute::Binding(x) => mark_expression(x, false, list),
@@ -138,7 +169,10 @@ fn mark_attribute(attribute: &Attribute, list: &mut MarkList) -> Result<(), Allo
 }
 
 /// Marks the arguments of a custom attribute, one by one.
-fn mark_each(nodes: &[ExpressionNode], list: &mut MarkList) -> Result<(), AllocError> {
+fn mark_each(nodes: &[ExpressionNode], list: &mut MarkList) -> Result<(), AllocError>
+    ensures flats { OnOk result (flats list.new ≡ flats list.old ++ flat_map in_exp (map node_tree nodes.now)) }
+    ensures grows { OnOk result (OnlyGrows list.old list.new) }
+{
     for node in nodes {
         mark_expression(node, true, list)?;
     }
@@ -146,10 +180,10 @@ fn mark_each(nodes: &[ExpressionNode], list: &mut MarkList) -> Result<(), AllocE
 }
 
 /// Marks attributes, one by one.
-pub fn mark_attributes(
-    attributes: &[AttributeNode],
-    list: &mut MarkList,
-) -> Result<(), AllocError> {
+pub fn mark_attributes(attributes: &[AttributeNode], list: &mut MarkList) -> Result<(), AllocError>
+    ensures flats { OnOk result (flats list.new ≡ flats list.old ++ in_attrs (attributes_tree attributes.now)) }
+    ensures grows { OnOk result (OnlyGrows list.old list.new) }
+{
     for attribute in attributes {
         mark_attribute(attribute.node(), list)?;
     }

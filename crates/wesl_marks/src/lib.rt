@@ -7,6 +7,5 @@ mod places;
 mod statements;
 
 pub use declarations::mark_declaration;
-pub use expressions::mark_attributes;
 pub use places::{mark_directive, mark_unit};
 pub use wesl_mark::{Kind, Place};

@@ -1,29 +1,34 @@
 //! The marks of a module, and its places.
 
+ghost use Rattle.std.specs.Prelude.{◌≡◌, ◌++◌, length, IfOk, OnOk};
+ghost use Rattle.std.specs.List.{list_any, AllZip};
+ghost use Rattle.wgsl_expressions.specs.AttributesView.{attribute_tree, attributes_tree};
+ghost use Rattle.wgsl_declarations.specs.ImportsView.{directive_tree};
+ghost use Rattle.wgsl_declarations.specs.View.{declaration_tree};
+ghost use Rattle.wesl_mark.specs.Lists.{flats, says, OnlyGrows};
+ghost use Rattle.wesl_mark.specs.Places.{IsNumber, IsSpot};
+ghost use Rattle.wesl_marks.specs.Units as units;
+ghost use Rattle.wesl_marks.specs.Units.{declaration_flats, declaration_spot, directive_flats, directive_spot, is_stage, unit_spots};
+
 use crate::declarations::mark_declaration;
 use crate::expressions::mark_attributes;
 use std::alloc::{AllocError, Global};
 use wesl_mark::{Kind, MarkList, Place};
-use wgsl_attributes::{Attribute, AttributeNode};
-use wgsl_declarations::{GlobalDeclaration, TranslationUnit};
-use wgsl_imports::GlobalDirective;
+use wgsl_declarations::{GlobalDeclaration, GlobalDirective, TranslationUnit};
+use wgsl_expressions::{Attribute, AttributeNode};
 
 /// Adds the marks of a unit to a list, and returns the unit's places: its directives, and behind them its declarations, `;` counted.
 pub fn mark_unit(
     alloc: Global,
     list: &mut MarkList,
     unit: &TranslationUnit,
-) -> Result<Vec<Place>, AllocError> {
+) -> Result<Vec<Place>, AllocError>
+    ensures places { IfOk result (λ places. AllZip (IsSpot list.new) places.items (unit_spots unit.now)) }
+    ensures grows { OnOk result (OnlyGrows list.old list.new) }
+{
     let mut places = Vec::new(alloc);
     for directive in unit.global_directives.as_slice() {
-        let start = list.len();
-        mark_directive(directive, list)?;
-        places.push(Place {
-            kind: Kind::Directive,
-            name: None,
-            start,
-            end: list.len(),
-        })?;
+        places.push(mark_directive_place(directive, list)?)?;
     }
     for declaration in unit.global_declarations.as_slice() {
         places.push(mark_place(declaration.node(), list)?)?;
@@ -32,7 +37,11 @@ pub fn mark_unit(
 }
 
 /// Marks a directive: its attributes.
-pub fn mark_directive(directive: &GlobalDirective, list: &mut MarkList) -> Result<(), AllocError> {
+#[tactic(auto, using(crate::proofs::Spots::laid_directive))]
+pub fn mark_directive(directive: &GlobalDirective, list: &mut MarkList) -> Result<(), AllocError>
+    ensures flats { OnOk result (flats list.new ≡ flats list.old ++ directive_flats (directive_tree directive.now)) }
+    ensures grows { OnOk result (OnlyGrows list.old list.new) }
+{
     match directive {
         GlobalDirective::Diagnostic(x) => mark_attributes(x.attributes.as_slice(), list),
         GlobalDirective::Enable(x) => mark_attributes(x.attributes.as_slice(), list),
@@ -40,7 +49,29 @@ pub fn mark_directive(directive: &GlobalDirective, list: &mut MarkList) -> Resul
     }
 }
 
-fn mark_place(declaration: &GlobalDeclaration, list: &mut MarkList) -> Result<Place, AllocError> {
+/// Marks a directive, and returns its place.
+fn mark_directive_place(
+    directive: &GlobalDirective,
+    list: &mut MarkList,
+) -> Result<Place, AllocError>
+    ensures spot { IfOk result (λ place. IsSpot list.new place (directive_spot (directive_tree directive.now))) }
+    ensures grows { OnOk result (OnlyGrows list.old list.new) }
+{
+    let start = list.len();
+    mark_directive(directive, list)?;
+    Ok(Place {
+        kind: Kind::Directive,
+        name: None,
+        start,
+        end: list.len(),
+    })
+}
+
+/// Marks a declaration, and returns its place.
+fn mark_place(declaration: &GlobalDeclaration, list: &mut MarkList) -> Result<Place, AllocError>
+    ensures spot { IfOk result (λ place. IsSpot list.new place (declaration_spot (declaration_tree declaration.now))) }
+    ensures grows { OnOk result (OnlyGrows list.old list.new) }
+{
     let start = list.len();
     mark_declaration(declaration, list)?;
     Ok(Place {
@@ -52,10 +83,12 @@ fn mark_place(declaration: &GlobalDeclaration, list: &mut MarkList) -> Result<Pl
 }
 
 /// The number of a declaration's name. It is there already, behind the declaration's marks.
-fn name_of(
-    declaration: &GlobalDeclaration,
-    list: &mut MarkList,
-) -> Result<Option<u32>, AllocError> {
+fn name_of(declaration: &GlobalDeclaration, list: &mut MarkList) -> Result<Option<u32>, AllocError>
+    ensures name { IfOk result (λ number. IsNumber list.new.names.keys number (units.name_of (declaration_tree declaration.now))) }
+    ensures says { OnOk result (says list.new ≡ says list.old) }
+    ensures flats { OnOk result (flats list.new ≡ flats list.old) }
+    ensures grows { OnOk result (OnlyGrows list.old list.new) }
+{
     let ident = match declaration {
         GlobalDeclaration::Void => return Ok(None),
         GlobalDeclaration::ConstAssert(_) => return Ok(None),
@@ -68,7 +101,9 @@ fn name_of(
     Ok(Some(number))
 }
 
-fn kind_of(declaration: &GlobalDeclaration) -> Kind {
+fn kind_of(declaration: &GlobalDeclaration) -> Kind
+    ensures { result ≡ units.kind_of (declaration_tree declaration.now) }
+{
     match declaration {
         GlobalDeclaration::Void => Kind::Void,
         GlobalDeclaration::Declaration(_) => Kind::Variable,
@@ -85,7 +120,9 @@ fn kind_of(declaration: &GlobalDeclaration) -> Kind {
 }
 
 /// How many there are, or the greatest number below that.
-fn counted(count: usize) -> u32 {
+fn counted(count: usize) -> u32
+    ensures { result ≡ units.counted count }
+{
     match u32::try_from(count) {
         Ok(count) => count,
         Err(_) => u32::MAX,
@@ -93,14 +130,22 @@ fn counted(count: usize) -> u32 {
 }
 
 /// Whether a function has the attribute of a stage.
-fn has_stage(attributes: &[AttributeNode]) -> bool {
+fn has_stage(attributes: &[AttributeNode]) -> bool
+    ensures { result ≡ list_any is_stage (attributes_tree attributes.now) }
+{
     for attribute in attributes {
-        if matches!(
-            attribute.node(),
-            Attribute::Vertex | Attribute::Fragment | Attribute::Compute
-        ) {
+        if is_of_stage(attribute.node()) {
             return true;
         }
     }
     false
+}
+
+fn is_of_stage(attribute: &Attribute) -> bool
+    ensures { result ≡ is_stage (attribute_tree attribute.now) }
+{
+    matches!(
+        attribute,
+        Attribute::Vertex | Attribute::Fragment | Attribute::Compute
+    )
 }

@@ -7,7 +7,7 @@ use wesl_name_steps::{
     NameProblem, StepList, Type, ValueStep, binary_type, component_or_part, components, is_defined,
 };
 use wgsl_builtin_names::{Gives, WordKind, is_part};
-use wgsl_operators::{BinaryOperator, UnaryOperator};
+use wgsl_words::{BinaryOperator, UnaryOperator};
 
 /// The types that stand behind a name: the first template arguments and the first arguments.
 #[derive(Clone, Copy)]

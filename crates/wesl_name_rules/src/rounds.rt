@@ -2,8 +2,8 @@
 
 use crate::reader::Reader;
 use std::alloc::{AllocError, Global};
+use wesl_cycles::first_on_ring;
 use wesl_name_steps::{Found, NameFault, NameProblem, StepList, StepPlace, Type, type_name};
-use wesl_rings::first_on_ring;
 
 /// How often the types of a module's declarations are looked up. A type that comes by a longer chain of names, each declared behind the one
 /// before it, is not told.

@@ -7,7 +7,7 @@ use wgsl_builtin_names::{Choice, Counts};
 use wgsl_path::{Span, Text};
 
 /// What is wrong with a name.
-#[derive(Clone, Copy, Debug, PartialEq, Eq)]
+#[derive(Clone, Copy, PartialEq, Eq)]
 pub enum NameProblem {
     /// Nothing declares it.
     UndefinedSymbol,
@@ -61,7 +61,7 @@ impl NameProblem {
 /// A fault of a unit: the number of the directive or declaration that it stands in, directives first and `;` counted; the place in the text
 /// of the innermost statement or expression around it, else of the declaration; the name; and the type concerned, where it is told. For
 /// `TypeMismatch` the name is that of the type that is needed.
-#[derive(Debug, Drop, PartialEq)]
+#[derive(Drop)]
 pub struct NameFault {
     pub problem: NameProblem,
     pub place: usize,

@@ -1,7 +1,7 @@
 //! The types of operations.
 
 use crate::types::Type;
-use wgsl_operators::BinaryOperator;
+use wgsl_words::BinaryOperator;
 
 /// The type of a product.
 fn product(left: Type, right: Type) -> Type {

@@ -1,7 +1,7 @@
 //! What stands at a place of a tree, in the order in which types come about: a type or a value behind its parts.
 
 use wgsl_builtin_names::Choice;
-use wgsl_operators::{BinaryOperator, UnaryOperator};
+use wgsl_words::{BinaryOperator, UnaryOperator};
 
 /// What a name stands as.
 #[derive(Clone, Copy)]

@@ -6,12 +6,12 @@ use std::alloc::{AllocError, Global};
 use wesl_mark::{Kind, Mark};
 
 /// What an alias stands for.
-#[derive(Clone, Copy, Debug, PartialEq, Eq)]
+#[derive(Clone, Copy)]
 pub(crate) enum Target {
     /// Nobody has looked yet.
     Unknown,
     /// Somebody is looking.
-    Sought,
+    ReferenceTarget,
     /// The name of a type without template arguments that is no alias: what it denotes.
     Found(Meaning),
     /// A type with template arguments, or none: aliases in a ring.
@@ -62,10 +62,10 @@ impl Outline {
         for _alias in 0..=self.places.len() {
             match targets.get(place).copied() {
                 Some(Target::Unknown) => {}
-                Some(Target::Sought) | None => return Ok(Target::Other),
+                Some(Target::ReferenceTarget) | None => return Ok(Target::Other),
                 Some(known) => return Ok(known),
             }
-            set(targets, place, Target::Sought);
+            set(targets, place, Target::ReferenceTarget);
             met.push(place)?;
             match self.behind(place) {
                 Ok(next) => place = next,

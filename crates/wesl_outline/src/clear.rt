@@ -3,7 +3,7 @@
 use crate::outline::Outline;
 use std::alloc::{AllocError, Global};
 use wesl_mark::Mark;
-use wgsl_builtin::is_known;
+use wgsl_words::is_known;
 
 impl Outline {
     /// For each name whether it is in a table.

@@ -2,7 +2,7 @@
 
 use std::alloc::{AllocError, Global};
 use thiserror::Error as Message;
-use wgsl_items::{OrOutOfMemory, Text};
+use wgsl_base::{OrOutOfMemory, Text};
 
 /// What kind of fault a unit has.
 #[derive(Clone, Copy, Debug, PartialEq, Eq, Message)]
@@ -35,7 +35,7 @@ pub struct ValidateFault {
 }
 
 /// A fault as it is found: the name is still a number of the list of marks.
-#[derive(Clone, Copy, Debug)]
+#[derive(Clone, Copy)]
 pub(crate) struct Found {
     pub kind: ValidateError,
     pub place: usize,

@@ -4,7 +4,7 @@ use std::alloc::{AllocError, Global};
 use wesl_mark::{Mark, MarkList, Place, Scopes};
 
 /// What a mark denotes.
-#[derive(Clone, Copy, Debug, PartialEq, Eq)]
+#[derive(Clone, Copy, PartialEq, Eq)]
 pub enum Meaning {
     /// It is no use of a name, or one behind the path of a module.
     Nothing,
@@ -17,7 +17,7 @@ pub enum Meaning {
 }
 
 /// The declarations of a name in a module's scope.
-#[derive(Clone, Copy, Debug)]
+#[derive(Clone, Copy)]
 pub(crate) struct Declared {
     /// The place of the first one.
     pub first: Option<usize>,

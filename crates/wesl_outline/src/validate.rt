@@ -1,16 +1,16 @@
 //! The first fault of a linked unit.
 
 ghost use Rattle.std.specs.Prelude.{◌≡◌, ◌++◌, ℕ, IfOk, OnOk, IfNone, IfSome};
-ghost use Rattle.wesl_rings.specs.Rings.{IsOnRing, IsFirstOnRing};
+ghost use Rattle.wesl_cycles.specs.Rings.{IsOnRing, IsFirstOnRing};
 ghost use Rattle.wesl_outline.specs.Mentions.{mention, mentioned_in, mentions};
 
 use crate::error::{Found, ValidateError, ValidateFault, refused};
 use crate::meanings::Meaning;
 use crate::outline::Outline;
 use std::alloc::{AllocError, Global};
+use wesl_cycles::first_on_ring;
 use wesl_mark::Place;
-use wesl_rings::first_on_ring;
-use wgsl_items::{Items, OrOutOfMemory};
+use wgsl_base::{Items, OrOutOfMemory};
 
 /// Adds the place that a mark mentions.
 fn add_mention(meaning: Meaning, row: &mut Items<usize>) -> Result<(), AllocError>

@@ -1,11 +1,11 @@
 -- What comes of a module whose conditions are decided.
 use Rattle.std.specs.Prelude.{Bool, true, false, Option, Some, None, if◌then◌else◌}
 use Rattle.wgsl_declarations.specs.Tree.{UnitTree}
-use Rattle.wesl_features.specs.declared.feature.Features.{Features}
-use Rattle.wesl_features.specs.declared.error.CondCompError.{CondCompError}
-use Rattle.wesl_cond_spec.specs.Trees.{unit_left}
-use Rattle.wesl_cond_spec.specs.Faults.{unit_fault}
-use Rattle.wesl_open_conditions.specs.Open.{unit_open}
+use Rattle.wesl_conditions.specs.declared.features.feature.Features.{Features}
+use Rattle.wesl_conditions.specs.declared.features.error.CondCompError.{CondCompError}
+use Rattle.wesl_conditions.specs.Trees.{unit_left}
+use Rattle.wesl_conditions.specs.Faults.{unit_fault}
+use Rattle.wesl_cond_left.specs.Open.{unit_open}
 use Rattle.wesl_resolvers.specs.Found.{Answer, unit_of, conditioned, left_open}
 
 -- what features leave of it, or that a condition is left there

@@ -2,8 +2,8 @@
 
 use std::alloc::Global;
 use wesl_cond::run;
-use wesl_features::{CondCompError, Features};
-use wesl_open_conditions::has_conditions;
+use wesl_cond_left::has_conditions;
+use wesl_conditions::{CondCompError, Features};
 use wesl_resolve_fn::{ApplyError, ResolveFn};
 use wgsl_declarations::TranslationUnit;
 
@@ -19,7 +19,7 @@ impl<'a> ResolveFn for Conditions<'a> {
 
     ghost applied = { λ c. decided c.features.now };
 
-    #[tactic(auto, using(crate::proofs::Deciding::whole, crate::proofs::Deciding::left_there, crate::proofs::Deciding::faulty))]
+    #[tactic(auto, using(crate::proofs::DecidingLemmas::whole, crate::proofs::DecidingLemmas::left_there, crate::proofs::DecidingLemmas::faulty))]
     fn apply(&self, alloc: Global, unit: &mut TranslationUnit) -> Result<(), ApplyError> {
         match run(alloc, unit, self.features) {
             Ok(()) => {

@@ -2,6 +2,8 @@
 #![tactic(auto)]
 
 mod conditions;
+mod deciding;
 
 pub use conditions::Conditions;
+pub use deciding::Decided;
 pub use wesl_resolve_fn::{ApplyError, Preprocessor, ResolveFn};

@@ -2,10 +2,10 @@
 use Rattle.std.specs.Prelude.{◌≡◌, ⊤, ◌↔◌, ◌⊎◌, List, [], ◌∷◌, ◌++◌, ℕ, Option, Result, Ok, Err}
 use Rattle.std.specs.Option.{option_map}
 use Rattle.wgsl_path.specs.declared.path.ModulePath.{ModulePath}
-use Rattle.wgsl_error.specs.declared.error.Error.{Error}
-use Rattle.wgsl_syntax.specs.Tree.{UnitTree}
-use Rattle.wgsl_syntax.specs.declared.unit.TranslationUnit.{TranslationUnit}
-use Rattle.wgsl_syntax.specs.View.{unit_tree}
+use Rattle.wgsl_token.specs.declared.fault.error.Error.{Error}
+use Rattle.core_syntax.specs.Tree.{UnitTree}
+use Rattle.core_syntax.specs.declared.unit.TranslationUnit.{TranslationUnit}
+use Rattle.core_syntax.specs.View.{unit_tree}
 use Rattle.wesl_resolve.specs.declared.error.ResolveError.{ResolveError}
 use Rattle.wesl_resolve.specs.declared.error.ResolveError.TheVariants.{ModuleNotFound, Syntax, Unsupported, GaveUp, OutOfMemory}
 

@@ -3,4 +3,4 @@ pub mod Laws
 pub mod Mangling
 pub mod Unmangling
 pub mod SourceMaps
-pub use Rattle.wgsl_error.specs.declared.error.Error
+pub use Rattle.wgsl_token.specs.declared.fault.error.Error

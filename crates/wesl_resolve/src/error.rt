@@ -2,8 +2,8 @@
 
 use std::alloc::AllocError;
 use thiserror::Error as Message;
-use wgsl_error::{Error, Refusal};
 use wgsl_path::ModulePath;
+use wgsl_token::fault::{Error, Refusal};
 
 /// Why a resolver gives no module for a path.
 #[derive(Debug, Drop, Message)]

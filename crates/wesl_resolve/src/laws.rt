@@ -6,7 +6,7 @@ ghost use Rattle.wesl_resolve.specs.Unmangling.{IsPlainItem};
 
 use crate::mangle::EscapeMangler;
 use std::alloc::{AllocError, Global};
-use wgsl_items::Text;
+use wgsl_base::Text;
 use wgsl_path::ModulePath;
 
 /// Items with one mangled name are one item. The function states it, and does nothing.

@@ -4,7 +4,7 @@ ghost use Rattle.std.specs.Prelude.{◌≡◌, ◌++◌, ◌∷◌, IfOk, OnOk};
 ghost use Rattle.wesl_resolve.specs.Mangling.{mangled, mangled_origin, escaped, escaped_parts, more_supers};
 
 use std::alloc::{AllocError, Global};
-use wgsl_items::Text;
+use wgsl_base::Text;
 use wgsl_path::{ModulePath, PathOrigin};
 
 /// Writes the origin of a path, its components and the item with `_` between. A part that has underscores is written

@@ -3,14 +3,14 @@
 ghost use base.Fml.{GName};
 ghost use Rattle.std.specs.Prelude.{◌≡◌, ℕ, List, Option, None, IfOk};
 ghost use Rattle.wgsl_path.specs.Paths.{path_text};
-ghost use Rattle.wgsl_syntax.specs.Tree.{UnitTree};
+ghost use Rattle.core_syntax.specs.Tree.{UnitTree};
 ghost use Rattle.wesl_resolve.specs.Found.{Answer, unit_of, TellsUnit, TellsText, SameAnswers, SameTexts, IsSomeText, Asked, AsksFor};
 
 use crate::error::ResolveError;
+use core_syntax::TranslationUnit;
 use std::alloc::{AllocError, Global};
-use wgsl_items::Text;
+use wgsl_base::Text;
 use wgsl_path::ModulePath;
-use wgsl_syntax::TranslationUnit;
 
 /// Finds modules by their paths. What is found, the text and the display name are each a fixed function of the path, which no
 /// call changes. Paths that print alike are one path.

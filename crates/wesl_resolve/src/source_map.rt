@@ -8,7 +8,7 @@ ghost use Rattle.wesl_resolve.specs.SourceMaps.{decl_at, source_at, display_name
 
 use std::alloc::{AllocError, Global};
 use std::collections::HashMap;
-use wgsl_items::{CloneIn, Text};
+use wgsl_base::{CloneIn, Text};
 use wgsl_path::ModulePath;
 
 /// From names and paths of the linked unit back to declarations and texts.

@@ -18,7 +18,7 @@ ghost use Rattle.wesl_resolve.specs.Unmangling.{
 
 use crate::mangle::EscapeMangler;
 use std::alloc::{AllocError, Global};
-use wgsl_items::{Items, Text};
+use wgsl_base::{Items, Text};
 use wgsl_path::{ModulePath, PathOrigin};
 
 impl EscapeMangler {

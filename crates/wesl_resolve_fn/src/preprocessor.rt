@@ -7,8 +7,8 @@ ghost use Rattle.wesl_resolve_fn.specs.Applying.{TellsMade, RefusedAs};
 use crate::resolve_fn::{ApplyError, ResolveFn};
 use std::alloc::{AllocError, Global};
 use wesl_resolvers::{ResolveError, Resolver};
+use wgsl_base::{CloneIn, Text};
 use wgsl_declarations::{TranslationUnit, let_go};
-use wgsl_items::{CloneIn, Text};
 use wgsl_path::ModulePath;
 
 /// A resolver, and what is done with each module that it finds. Texts and display names stay.

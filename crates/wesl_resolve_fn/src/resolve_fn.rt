@@ -7,7 +7,7 @@ ghost use Rattle.wesl_resolve_fn.specs.Applying.{TellsApplied};
 
 use std::alloc::{AllocError, Global};
 use thiserror::Error as Message;
-use wesl_features::CondCompError;
+use wesl_conditions::CondCompError;
 use wgsl_declarations::TranslationUnit;
 
 /// Why nothing is made of a module.

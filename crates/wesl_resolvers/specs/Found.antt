@@ -2,8 +2,8 @@
 use Rattle.std.specs.Prelude.{◌≡◌, ⊤, ◌↔◌, ◌⊎◌, List, [], ◌∷◌, ◌++◌, ℕ, Option, Result, Ok, Err}
 use Rattle.std.specs.Option.{option_map}
 use Rattle.wgsl_path.specs.declared.path.ModulePath.{ModulePath}
-use Rattle.wgsl_error.specs.declared.error.Error.{Error}
-use Rattle.wesl_features.specs.declared.error.CondCompError.{CondCompError}
+use Rattle.wgsl_token.specs.declared.fault.error.Error.{Error}
+use Rattle.wesl_conditions.specs.declared.features.error.CondCompError.{CondCompError}
 use Rattle.wgsl_declarations.specs.Tree.{UnitTree}
 use Rattle.wgsl_declarations.specs.declared.unit.TranslationUnit.{TranslationUnit}
 use Rattle.wgsl_declarations.specs.View.{unit_tree}

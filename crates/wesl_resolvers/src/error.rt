@@ -2,9 +2,9 @@
 
 use std::alloc::AllocError;
 use thiserror::Error as Message;
-use wesl_features::CondCompError;
-use wgsl_error::{Error, Refusal};
+use wesl_conditions::CondCompError;
 use wgsl_path::ModulePath;
+use wgsl_token::fault::{Error, Refusal};
 
 /// Why a resolver gives no module for a path.
 #[derive(Debug, Drop, Message)]

@@ -11,5 +11,5 @@ pub use error::ResolveError;
 pub use none::NoResolver;
 pub use recording::RecordingResolver;
 pub use resolver::Resolver;
-pub use wesl_features::CondCompError;
-pub use wgsl_error::{Error, Refusal};
+pub use wesl_conditions::CondCompError;
+pub use wgsl_token::fault::{Error, Refusal};

@@ -3,8 +3,8 @@
 use crate::error::ResolveError;
 use crate::resolver::Resolver;
 use std::alloc::{AllocError, Global};
+use wgsl_base::{CloneIn, Text};
 use wgsl_declarations::TranslationUnit;
-use wgsl_items::{CloneIn, Text};
 use wgsl_path::ModulePath;
 
 /// Finds no module at any path.

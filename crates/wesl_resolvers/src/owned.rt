@@ -3,8 +3,8 @@
 use crate::error::ResolveError;
 use crate::resolver::Resolver;
 use std::alloc::{AllocError, Global};
+use wgsl_base::Text;
 use wgsl_declarations::TranslationUnit;
-use wgsl_items::Text;
 use wgsl_path::ModulePath;
 
 impl<T: Resolver> Resolver for Box<T> {

@@ -5,12 +5,12 @@ ghost use Rattle.std.specs.Prelude.{◌≡◌, []};
 use crate::error::ResolveError;
 use crate::resolver::Resolver;
 use std::alloc::{AllocError, Global};
+use wgsl_base::{CloneIn, Items, Text};
 use wgsl_declarations::TranslationUnit;
-use wgsl_items::{CloneIn, Items, Text};
 use wgsl_path::ModulePath;
 
 /// A resolver, and the paths of the modules that it was asked for, in order.
-#[derive(Debug, Drop)]
+#[derive(Drop)]
 pub struct RecordingResolver<R> {
     pub resolver: R,
     pub requests: Items<ModulePath>,

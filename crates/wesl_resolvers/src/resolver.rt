@@ -8,8 +8,8 @@ ghost use Rattle.wesl_resolvers.specs.Found.{Answer, unit_of, TellsUnit, TellsTe
 
 use crate::error::ResolveError;
 use std::alloc::{AllocError, Global};
+use wgsl_base::Text;
 use wgsl_declarations::TranslationUnit;
-use wgsl_items::Text;
 use wgsl_path::ModulePath;
 
 /// Finds modules by their paths. What is found, the text and the display name are each a fixed function of the path, which no

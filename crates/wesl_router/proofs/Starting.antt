@@ -4,7 +4,7 @@ use Rattle.std.specs.Prelude.{◌&&◌, ◌↔◌, IsTrue, nat_eq}
 use Rattle.std.specs.Str.{bytes_eq}
 use Rattle.std.proofs.lemmas.Bool.{eqb-true, eq-eqb}
 use Rattle.std.proofs.lemmas.Slice.Eq.{bytes_eq-Decides}
-use Rattle.wgsl_items.proofs.Members.{same_bytes as same_text}
+use Rattle.wgsl_base.proofs.Members.{same_bytes as same_text}
 use Rattle.wgsl_path.specs.declared.path.PathOrigin.{PathOrigin}
 use Rattle.wgsl_path.specs.declared.path.PathOrigin.TheVariants.{Absolute, Relative, Package}
 use Rattle.wgsl_path.specs.declared.path.ModulePath.{ModulePath}

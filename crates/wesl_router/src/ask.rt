@@ -9,8 +9,8 @@ ghost use Rattle.wesl_router.specs.Routing.{asked_of, answered, texted, named, I
 use crate::choice::{Served, rest_of};
 use std::alloc::{AllocError, Global};
 use wesl_resolvers::{ResolveError, Resolver};
+use wgsl_base::{CloneIn, Text};
 use wgsl_declarations::TranslationUnit;
-use wgsl_items::{CloneIn, Text};
 use wgsl_path::ModulePath;
 
 /// What a mount refused, told of the path that was asked for.

@@ -4,11 +4,11 @@ ghost use Rattle.std.specs.Prelude.{◌≡◌, IfOk};
 ghost use Rattle.wesl_router.specs.Choice.{best_of, is_no_shorter, better, rest_behind, starts};
 
 use std::alloc::{AllocError, Global};
-use wgsl_items::{CloneIn, Items};
+use wgsl_base::{CloneIn, Items};
 use wgsl_path::{ModulePath, PathOrigin};
 
 /// A prefix that serves a path: its place among the prefixes and how many names it has.
-#[derive(Clone, Copy, Debug, PartialEq, Eq)]
+#[derive(Clone, Copy)]
 pub struct Served {
     pub place: usize,
     pub names: usize,

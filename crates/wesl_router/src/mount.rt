@@ -3,8 +3,8 @@
 use crate::routes::Routes;
 use std::alloc::{AllocError, Global};
 use wesl_resolvers::{ResolveError, Resolver};
+use wgsl_base::Text;
 use wgsl_declarations::TranslationUnit;
-use wgsl_items::Text;
 use wgsl_path::ModulePath;
 
 /// A resolver of any type. It holds no reference.

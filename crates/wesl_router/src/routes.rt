@@ -4,14 +4,14 @@ use crate::ask::{module_at, module_behind, name_at, name_behind, source_at, sour
 use crate::choice::choose;
 use std::alloc::{AllocError, Global};
 use wesl_resolvers::{ResolveError, Resolver};
+use wgsl_base::{Items, Text};
 use wgsl_declarations::TranslationUnit;
-use wgsl_items::{Items, Text};
 use wgsl_path::ModulePath;
 
 /// Resolvers that are mounted under prefixes. A path is asked of the one with the longest prefix that the path starts with, of
 /// several such the last mounted, with what stands behind the prefix as a path from the root; where there is none, of the
 /// fallback, unchanged. What is refused is told of the path that was asked for.
-#[derive(Debug, Drop)]
+#[derive(Drop)]
 pub struct Routes<R> {
     prefixes: Items<ModulePath>,
     mounts: Vec<R>,

@@ -1,17 +1,8 @@
-//! Validation of a linked unit: locals of one name, free names, calls, rings of declarations, and names that printing would blur.
+//! The tests of a linked unit: printed names that two symbols share or that are read otherwise than meant, faults of names and calls,
+//! rings of declarations, and names that lowering could capture.
 #![tactic(auto)]
 
-mod check;
-mod clear;
-mod error;
-mod index;
-pub mod laws;
-mod place;
-mod ring;
-mod validate;
+mod unit;
 
-pub use clear::unclear_name;
-pub use error::{ValidateError, ValidateFault};
-pub use index::first_positions;
-pub use place::{Index, Meaning, Place, Row, rows};
-pub use validate::validate_wesl;
+pub use unit::{names_clash, read_outline, unclear_name, validate_wesl};
+pub use wesl_outline::{Outline, ValidateError, ValidateFault};

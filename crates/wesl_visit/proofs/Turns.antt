@@ -3,8 +3,8 @@ use Rattle.std.proofs.Common.{◌≡◌, Bool, true, false, List, Result, Ok}
 use Rattle.wgsl_path.specs.declared.span.Spanned.{Spanned}
 use Rattle.wgsl_statements.specs.declared.statement.Statement.{Statement}
 use Rattle.wesl_visit.specs.Statements.{inside_by, around_by, statements_in, around_statements}
-use Rattle.wesl_turns.specs.Turns.{ChangedInTurn, ChangedDeep, remade_none}
-use Rattle.wesl_turns.proofs.Deep.{shallow as at_each}
+use Rattle.wesl_visit_children.specs.Turns.{ChangedInTurn, ChangedDeep, remade_none}
+use Rattle.wesl_visit_children.proofs.Deep.{shallow as at_each}
 
 -- A visit that is not deep calls at the outermost statements alone.
 pub shallow : {S E : Type 0} (step : S → Spanned Statement → Result Unit E → S → Spanned Statement → Type 0) {s t : S} {xs ys : List (Spanned Statement)} {r : Result Unit E}

@@ -5,11 +5,11 @@ ghost use Rattle.std.specs.Prelude.{◌≡◌, [], ◌∷◌, map};
 ghost use Rattle.std.specs.List.{flat_map};
 ghost use Rattle.std.specs.Option.{option_map};
 ghost use Rattle.std.specs.Fn.{CalledAtMut};
-ghost use Rattle.wesl_turns.specs.Turns.{ChangedDeep};
+ghost use Rattle.wesl_visit_children.specs.Turns.{ChangedDeep};
 ghost use Rattle.wesl_visit.specs.Statements.{in_block, in_else_if, in_else, in_if, in_clause, in_switch, in_continuing, in_loop, in_part, in_for, in_declaration_node, statements_in, statements_in_declaration, statements_in_unit, around_node, around_block, around_else_if, around_else, around_if, around_clause, around_switch, around_continuing, around_loop, around_part, around_for, around_statements, around_statements_in_declaration, around_declaration_node, around_statements_in_unit, inside_by, around_by};
 
+use wgsl_base::Items;
 use wgsl_declarations::{GlobalDeclaration, GlobalDeclarationNode, TranslationUnit};
-use wgsl_items::Items;
 use wgsl_statements::{
     CompoundStatement, ContinuingStatement, ElseClause, ElseIfClause, ForStatement, IfStatement,
     LoopStatement, Statement, StatementNode, SwitchClause, SwitchStatement,

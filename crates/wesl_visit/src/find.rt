@@ -2,7 +2,7 @@
 
 ghost use Rattle.std.specs.Prelude.{◌≡◌, [], ◌∷◌, ◌++◌, OnOk};
 ghost use Rattle.std.specs.List.{flat_map};
-ghost use Rattle.wesl_turns.specs.Turns.{pointed};
+ghost use Rattle.wesl_visit_children.specs.Turns.{pointed};
 ghost use Rattle.wesl_visit.specs.Statements.{in_block, in_else_if, in_else, in_if, in_clause, in_switch, in_continuing, in_loop, in_part, in_for, in_declaration_node, statements_in, statements_in_declaration, statements_in_unit};
 
 use std::alloc::AllocError;

@@ -3,7 +3,7 @@
 ghost use Rattle.std.specs.Prelude.{◌≡◌, [], ◌∷◌};
 ghost use Rattle.std.specs.List.{flat_map};
 ghost use Rattle.std.specs.Fn.{CalledAt};
-ghost use Rattle.wesl_turns.specs.Turns.{CalledDeep};
+ghost use Rattle.wesl_visit_children.specs.Turns.{CalledDeep};
 ghost use Rattle.wesl_visit.specs.Statements.{in_block, in_else_if, in_else, in_if, in_clause, in_switch, in_continuing, in_loop, in_part, in_for, in_declaration_node, statements_in, statements_in_declaration, statements_in_unit, statements_inside};
 
 use wgsl_declarations::{GlobalDeclaration, GlobalDeclarationNode, TranslationUnit};

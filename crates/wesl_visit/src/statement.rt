@@ -16,7 +16,7 @@ pub trait VisitStatements {
     ghost use Rattle.std.specs.Fn.{CalledAt, CalledAtMut};
     ghost use Rattle.wgsl_path.specs.declared.span.Spanned.{Spanned};
     ghost use Rattle.wgsl_statements.specs.declared.statement.Statement.{Statement};
-    ghost use Rattle.wesl_turns.specs.Turns.{pointed, CalledDeep, ChangedInTurn, ChangedDeep};
+    ghost use Rattle.wesl_visit_children.specs.Turns.{pointed, CalledDeep, ChangedInTurn, ChangedDeep};
     ghost use Rattle.wesl_visit.specs.Statements.{statements_inside, around_inside};
 
     /// The outermost statements, in document order.

@@ -1,2 +1,5 @@
 pub mod Cases
 pub mod Turns
+pub mod Layers
+pub mod TypesCases
+pub mod Visits

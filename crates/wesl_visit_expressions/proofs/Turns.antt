@@ -2,8 +2,8 @@
 use Rattle.std.proofs.Common.{◌≡◌, Bool, true, false, List, Result, Ok}
 use Rattle.wgsl_path.specs.declared.span.Spanned.{Spanned}
 use Rattle.wgsl_expressions.specs.declared.expression.Expression.{Expression}
-use Rattle.wesl_turns.specs.Turns.{ChangedInTurn, ChangedDeep, remade_none}
-use Rattle.wesl_turns.proofs.Deep.{shallow as at_each}
+use Rattle.wesl_visit_children.specs.Turns.{ChangedInTurn, ChangedDeep, remade_none}
+use Rattle.wesl_visit_children.proofs.Deep.{shallow as at_each}
 use Rattle.wesl_visit_expressions.specs.Expressions.{inside_by, around_by, around_expressions}
 
 -- A visit that is not deep calls at the outermost expressions alone.

@@ -4,10 +4,10 @@ use Rattle.std.specs.List.{flat_map}
 use Rattle.std.specs.Option.{option_map}
 use Rattle.wgsl_path.specs.declared.span.Spanned.{Spanned}
 use Rattle.wgsl_expressions.specs.declared.expression.Expression.{Expression}
-use Rattle.wgsl_attributes.specs.declared.attribute.Attribute.{Attribute}
-use Rattle.wgsl_attributes.specs.declared.attribute.Attribute.TheVariants as code
-use Rattle.wgsl_attributes.specs.declared.attribute.WorkgroupSizeAttribute.{WorkgroupSizeAttribute}
-use Rattle.wgsl_attributes.specs.declared.attribute.CustomAttribute.{CustomAttribute}
+use Rattle.wgsl_expressions.specs.declared.attributes.attribute.Attribute.{Attribute}
+use Rattle.wgsl_expressions.specs.declared.attributes.attribute.Attribute.TheVariants as code
+use Rattle.wgsl_expressions.specs.declared.attributes.attribute.WorkgroupSizeAttribute.{WorkgroupSizeAttribute}
+use Rattle.wgsl_expressions.specs.declared.attributes.attribute.CustomAttribute.{CustomAttribute}
 use Rattle.wesl_visit_expressions.specs.Expressions.{in_option, blank, around_node}
 
 -- ---- the expressions

@@ -1,2 +1,4 @@
 pub mod Expressions
 pub mod Attributes
+pub mod Types
+pub mod TypesAttributes

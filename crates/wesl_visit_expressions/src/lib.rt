@@ -1,6 +1,5 @@
-//! Visits of the expressions in expressions, types and attributes: the walks that the visits of all parts of a module go by.
+//! Walks over the expressions, and over the types, of an expression.
 #![tactic(auto)]
 
-pub mod change;
-pub mod find;
-pub mod meet;
+pub mod expressions;
+pub mod types;

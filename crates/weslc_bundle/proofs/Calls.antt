@@ -2,11 +2,11 @@
 use Rattle.std.proofs.Common.{◌≡◌, refl, sym, subst, ℕ, List, ◌⊎◌, inl, inr, Option, Some, None, Result, Ok, Err, String, Global}
 use Rattle.std.specs.Prelude.{IfOk, IfErr, string_bytes}
 use Rattle.wgsl_path.specs.Paths.{path_text}
-use Rattle.weslc_whole.specs.Stored.{text_at}
-use Rattle.weslc_whole.specs.CompileError.{CompileError}
-use Rattle.weslc_whole.specs.Whole.{IsBeyond, RefusesPart}
-use Rattle.weslc_whole.specs.declared.refusal.WholeRefusal.{WholeRefusal}
-use Rattle.weslc_whole.specs.declared.refusal.WholeRefusal.TheVariants as whole
+use Rattle.weslc_compile.specs.Stored.{text_at}
+use Rattle.weslc_compile.specs.CompileError.{CompileError}
+use Rattle.weslc_compile.specs.Whole.{IsBeyond, RefusesCore}
+use Rattle.weslc_compile.specs.declared.refusal.CompileRefusal.{CompileRefusal}
+use Rattle.weslc_compile.specs.declared.refusal.CompileRefusal.TheVariants as whole
 use Rattle.weslc_precompile.specs.declared.error.PrecompileError.{PrecompileError}
 use Rattle.weslc_precompile.specs.declared.error.PrecompileError.TheVariants as precompiling
 use Rattle.weslc_precompile.specs.Precompiling.{RefusesPrecompiling}
@@ -26,8 +26,8 @@ pub modules_refused : (command : Command) (bundle : Bundle) (e : CompileError) (
 modules_refused command bundle e refusal h (inl same) = subst (IsRefusalFor command bundle) (sym same) h
 modules_refused command bundle e refusal h (inr memory) = subst (IsRefusalFor command bundle) (sym memory.1) tt
 
-pub whole_refused : (bundle : Bundle) (e : WholeRefusal) (refusal : ServeError)
-    → IsBeyond (found_by (text_at bundle.resolver)) bundle.root bundle.options ⊎ RefusesPart (found_by (text_at bundle.resolver)) bundle.root bundle.options e
+pub whole_refused : (bundle : Bundle) (e : CompileRefusal) (refusal : ServeError)
+    → IsBeyond (found_by (text_at bundle.resolver)) bundle.root bundle.options ⊎ RefusesCore (found_by (text_at bundle.resolver)) bundle.root bundle.options e
     → RefusesWholeCall e refusal → IsRefusalFor Compile bundle refusal
 whole_refused bundle (whole.Compile e) refusal h same = modules_refused Compile bundle e refusal h same
 whole_refused bundle (whole.Eval c fault) refusal (inl beyond) same = subst (IsRefusalFor Compile bundle) (sym same) (refl, beyond)

@@ -2,9 +2,9 @@
 use Rattle.std.proofs.Common.{◌≡◌, refl, sym, ap, ◌∙◌, ℕ, List, [], ◌∷◌, ◌++◌, ◌+◌, ◌<◌, length, drop, get_or, Option, Some, None, option_map, append_assoc, bytes_eq, if◌then◌else◌, string_bytes}
 use Rattle.std.proofs.lemmas.List.{append-nil, at_drop_more}
 use Rattle.serde_json.specs.View.{view, members_view}
-use Rattle.wesl_features.specs.declared.feature.Feature.{Feature}
-use Rattle.wesl_features.specs.declared.feature.Features.{Features}
-use Rattle.wesl_features.specs.Settings.{setting}
+use Rattle.wesl_conditions.specs.declared.features.feature.Feature.{Feature}
+use Rattle.wesl_conditions.specs.declared.features.feature.Features.{Features}
+use Rattle.wesl_conditions.specs.Settings.{setting}
 use Rattle.weslc_bundle.specs.declared.features.Flag.{Flag}
 use Rattle.weslc_bundle.specs.Bundles.{feature_of, flag_at, flags_in, set_to}
 use Rattle.weslc_bundle.proofs.Keys.{Entry}

@@ -2,7 +2,7 @@
 use Rattle.std.proofs.Common.{◌≡◌, ap, sym, subst, ◌∙◌, ◌⊎◌, inl, inr, List, ℕ, Some, None, Ok, Err}
 use Rattle.serde_json.specs.Data.{Data}
 use Rattle.wgsl_path.specs.declared.path.ModulePath.{ModulePath}
-use Rattle.wgsl_items.specs.declared.error.OrOutOfMemory.TheVariants as inner
+use Rattle.wgsl_base.specs.declared.items.error.OrOutOfMemory.TheVariants as inner
 use Rattle.weslc_values.specs.Keys as values
 use Rattle.weslc_values.specs.declared.settings.Needed.{Needed}
 use Rattle.weslc_values.specs.declared.settings.RunKey.{RunKey}

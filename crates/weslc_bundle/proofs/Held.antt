@@ -8,8 +8,8 @@ use Rattle.std.proofs.lemmas.Bool.{false_from_ne_true}
 use Rattle.std.proofs.lemmas.Slice.Eq.{bytes_eq-Decides}
 use Rattle.wgsl_path.specs.Paths.{path_text}
 use Rattle.wgsl_path.specs.declared.path.ModulePath.{ModulePath}
-use Rattle.weslc_whole.specs.Stored.{text_at, IsAdded}
-use Rattle.weslc_whole.specs.VirtualResolver.{VirtualResolver}
+use Rattle.weslc_compile.specs.Stored.{text_at, IsAdded}
+use Rattle.weslc_compile.specs.VirtualResolver.{VirtualResolver}
 use Rattle.weslc_bundle.specs.declared.request.Command.{Command}
 use Rattle.weslc_bundle.specs.declared.request.Module.{Module}
 use Rattle.weslc_bundle.specs.declared.request.Request.{Request}

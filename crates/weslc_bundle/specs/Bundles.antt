@@ -9,10 +9,10 @@ use Rattle.wgsl_path.specs.Reading.{PathResult, parts, path_of}
 use Rattle.wgsl_path.specs.declared.path.PathOrigin.{PathOrigin}
 use Rattle.wgsl_path.specs.declared.path.PathOrigin.TheVariants.{Absolute, Relative, Package}
 use Rattle.wgsl_path.specs.declared.path.ModulePath.{ModulePath}
-use Rattle.wesl_features.specs.declared.feature.Feature.{Feature}
-use Rattle.wesl_features.specs.declared.feature.Feature.TheVariants.{Enable, Disable, Keep, Error}
-use Rattle.wesl_features.specs.declared.feature.Features.{Features}
-use Rattle.wesl_features.specs.Settings.{setting}
+use Rattle.wesl_conditions.specs.declared.features.feature.Feature.{Feature}
+use Rattle.wesl_conditions.specs.declared.features.feature.Feature.TheVariants.{Enable, Disable, Keep, Error}
+use Rattle.wesl_conditions.specs.declared.features.feature.Features.{Features}
+use Rattle.wesl_conditions.specs.Settings.{setting}
 use Rattle.weslc_bundle.specs.declared.features.Flag.{Flag}
 use Rattle.weslc_bundle.specs.declared.features.FeatureSettings.{FeatureSettings}
 use Rattle.weslc_bundle.specs.declared.request.Command.{Command}
@@ -24,7 +24,7 @@ use Rattle.weslc_bundle.specs.declared.request.Request.{Request}
 use Rattle.weslc_bundle.specs.declared.bundle.Bundle.{Bundle}
 use Rattle.weslc_bundle.specs.declared.request.BundleError.{BundleError}
 use Rattle.weslc_bundle.specs.declared.request.BundleError.TheVariants.{NotAnObject, UnknownKey, Value, DuplicateModule, OutOfMemory}
-use Rattle.weslc_whole.specs.Options.{Options}
+use Rattle.weslc_compile.specs.Options.{Options}
 use Rattle.weslc_run.specs.Mode.{Mode}
 use Rattle.weslc_run.specs.Mode.TheVariants.{Lazy, Eager, Whole}
 use Rattle.weslc_bundle.specs.Held.{Holds}

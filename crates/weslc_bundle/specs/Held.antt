@@ -3,9 +3,9 @@ use Rattle.std.specs.Prelude.{◌≡◌, ℕ, List, Option, option_map}
 use Rattle.std.specs.List.{find}
 use Rattle.std.specs.Str.{bytes_eq}
 use Rattle.wgsl_path.specs.Paths.{path_text}
-use Rattle.weslc_whole.specs.Stored.{text_at, found_in}
-use Rattle.weslc_whole.specs.VirtualResolver.{VirtualResolver}
-use Rattle.weslc_whole.specs.OfPart.{Finding}
+use Rattle.weslc_compile.specs.Stored.{text_at, found_in}
+use Rattle.weslc_compile.specs.VirtualResolver.{VirtualResolver}
+use Rattle.weslc_compile.specs.OfCore.{Finding}
 use Rattle.weslc_bundle.specs.declared.request.Module.{Module}
 
 -- the text of the module at a printed path; in a bundle no two are at one

@@ -6,15 +6,15 @@ use Rattle.wgsl_path.specs.declared.path.ModulePath.{ModulePath}
 use Rattle.weslc_precompile.specs.declared.error.PrecompileError.{PrecompileError}
 use Rattle.weslc_precompile.specs.declared.error.PrecompileError.TheVariants as precompiling
 use Rattle.weslc_precompile.specs.Precompiling.{IsPrecompiledText, RefusesPrecompiling}
-use Rattle.weslc_whole.specs.Stored.{text_at}
-use Rattle.weslc_whole.specs.Options.{Options}
-use Rattle.weslc_whole.specs.OfPart.{Finding, sources, IsBeyondLink}
-use Rattle.weslc_whole.specs.Whole.{IsBeyond}
-use Rattle.weslc_whole.specs.declared.refusal.WholeRefusal.{WholeRefusal}
-use Rattle.weslc_whole.specs.declared.refusal.WholeRefusal.TheVariants as whole
-use Rattle.weslc_whole.specs.Answers.{IsLinkedText, IsCompiledText, RefusesToLink, RefusesToCompile}
-use Rattle.weslc_whole.specs.CompileError.{CompileError}
-use Rattle.weslc_whole.specs.CompileError.TheVariants as calls
+use Rattle.weslc_compile.specs.Stored.{text_at}
+use Rattle.weslc_compile.specs.Options.{Options}
+use Rattle.weslc_compile.specs.OfCore.{Finding, sources, IsBeyondLink}
+use Rattle.weslc_compile.specs.Whole.{IsBeyond}
+use Rattle.weslc_compile.specs.declared.refusal.CompileRefusal.{CompileRefusal}
+use Rattle.weslc_compile.specs.declared.refusal.CompileRefusal.TheVariants as whole
+use Rattle.weslc_compile.specs.Answers.{IsLinkedText, IsCompiledText, RefusesToLink, RefusesToCompile}
+use Rattle.weslc_compile.specs.CompileError.{CompileError}
+use Rattle.weslc_compile.specs.CompileError.TheVariants as calls
 use Rattle.weslc_bundle.specs.declared.input.TheConstants.{MAX_BUNDLE_LEN}
 use Rattle.weslc_bundle.specs.declared.input.InputError.{InputError}
 use Rattle.weslc_bundle.specs.declared.input.InputError.TheVariants as input
@@ -173,7 +173,7 @@ refused_bundle bundle.OutOfMemory = of.OutOfMemory
 abbrev pub RefusesCall : CompileError → ServeError → Type 0
 RefusesCall e refusal = (refusal ≡ of.Compile e) ⊎ ((e ≡ calls.OutOfMemory) × (refusal ≡ of.OutOfMemory))
 
-abbrev pub RefusesWholeCall : WholeRefusal → ServeError → Type 0
+abbrev pub RefusesWholeCall : CompileRefusal → ServeError → Type 0
 RefusesWholeCall (whole.Compile e) refusal = RefusesCall e refusal
 RefusesWholeCall (whole.Eval c fault) refusal = refusal ≡ of.Eval c fault
 

@@ -2,7 +2,7 @@
 
 ghost use Rattle.std.specs.Prelude.{◌≡◌, ◌⊎◌, IfOk, IfErr, Some, None, string_bytes};
 ghost use Rattle.wgsl_path.specs.Paths.{path_text};
-ghost use Rattle.weslc_whole.specs.Stored.{text_at};
+ghost use Rattle.weslc_compile.specs.Stored.{text_at};
 ghost use Rattle.weslc_bundle.specs.declared.error.ServeError.TheVariants.{NoRoot, OutOfMemory};
 ghost use Rattle.weslc_bundle.specs.declared.request.Command.TheVariants.{Link, Compile, Precompile};
 ghost use Rattle.weslc_bundle.specs.Served.{IsTextFor, IsRefusalFor};
@@ -12,8 +12,8 @@ use crate::error::ServeError;
 use crate::request::Command;
 use crate::running::{eval_expression, run_entry};
 use std::alloc::Global;
+use weslc_compile::{ResolveError, compile, link};
 use weslc_precompile::precompile;
-use weslc_whole::{ResolveError, compile, link};
 
 /// The text that the call of a bundle answers, or why there is none.
 pub(crate) fn answer(alloc: Global, bundle: Bundle) -> Result<String, ServeError>

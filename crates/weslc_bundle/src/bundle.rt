@@ -9,13 +9,13 @@ use crate::handed::{Asked, read_asked};
 use crate::request::{BundleError, Command, Module, Request};
 use std::alloc::{AllocError, Global};
 use std::collections::BTreeSet;
+use weslc_compile::{Options, VirtualResolver};
 use weslc_values::RunSettings;
-use weslc_whole::{Options, VirtualResolver};
-use wgsl_items::{CloneIn, Items};
+use wgsl_base::{CloneIn, Items};
 use wgsl_path::ModulePath;
 
 /// A request whose modules are ready to be loaded.
-#[derive(Debug, Drop)]
+#[derive(Drop)]
 pub struct Bundle {
     pub command: Command,
     pub root: ModulePath,

@@ -5,13 +5,13 @@ ghost use Rattle.std.specs.Prelude.{◌≡◌};
 use crate::input::InputError;
 use crate::request::BundleError;
 use std::alloc::AllocError;
+use weslc_compile::{CompileError, CompileRefusal, ErrorContext};
 use weslc_precompile::PrecompileError;
 use weslc_run::RunRefusal;
-use weslc_whole::{CompileError, ErrorContext, WholeRefusal};
-use wgsl_fault::Fault;
+use wgsl_eval_machine::Fault;
 
 /// Why the program writes no text.
-#[derive(Debug, Drop)]
+#[derive(Drop)]
 pub enum ServeError {
     /// A read failed.
     Read,
@@ -73,15 +73,15 @@ impl From<CompileError> for ServeError {
     }
 }
 
-impl From<WholeRefusal> for ServeError {
+impl From<CompileRefusal> for ServeError {
     ghost use Rattle.weslc_bundle.specs.Served.{RefusesWholeCall};
 
     ghost from_gives = { RefusesWholeCall };
 
-    fn from(refusal: WholeRefusal) -> ServeError {
+    fn from(refusal: CompileRefusal) -> ServeError {
         match refusal {
-            WholeRefusal::Compile(error) => ServeError::from(error),
-            WholeRefusal::Eval(context, fault) => ServeError::Eval(context, fault),
+            CompileRefusal::Compile(error) => ServeError::from(error),
+            CompileRefusal::Eval(context, fault) => ServeError::Eval(context, fault),
         }
     }
 }

@@ -7,18 +7,18 @@ ghost use Rattle.weslc_bundle.specs.Bundles.{Answers, required, feature_of, flag
 use crate::request::{BundleError, Key};
 use serde_json::{Map, Value};
 use std::alloc::{AllocError, Global};
-use wesl_features::{Feature, Features};
-use wgsl_items::{Items, Text};
+use wesl_conditions::{Feature, Features};
+use wgsl_base::{Items, Text};
 
 /// A feature flag, and what it is set to.
-#[derive(Debug, Drop)]
+#[derive(Drop)]
 pub struct Flag {
     pub name: Text,
     pub feature: Feature,
 }
 
 /// What feature flags are set to. One that is not listed is set to the default.
-#[derive(Debug, Drop)]
+#[derive(Drop)]
 pub struct FeatureSettings {
     pub flags: Items<Flag>,
     pub default: Feature,

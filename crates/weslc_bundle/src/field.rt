@@ -30,7 +30,7 @@ impl<T: fmt::Display> fmt::Display for Field<'_, T> {
 }
 
 /// What a text is, as far as it was written: nothing, a dash alone, or something else.
-#[derive(Clone, Copy, Debug, PartialEq, Eq)]
+#[derive(Clone, Copy)]
 enum Shape {
     Empty,
     Dash,

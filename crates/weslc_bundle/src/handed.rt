@@ -9,10 +9,10 @@ use crate::request::{BundleError, Command, Key, Request, read_members, read_valu
 use serde_json::Value;
 use std::alloc::Global;
 use weslc_values::{Needed, RunKey, RunSettings, read_run_settings};
-use wgsl_items::OrOutOfMemory;
+use wgsl_base::OrOutOfMemory;
 
 /// What a bundle asks for, and what it hands to a run or an evaluation.
-#[derive(Debug, Drop)]
+#[derive(Drop)]
 pub struct Asked {
     pub request: Request,
     pub handed: RunSettings,

@@ -10,7 +10,7 @@ use std::io::{ErrorKind, Read};
 pub const MAX_BUNDLE_LEN: usize = 16_777_216;
 
 /// Why there are no bytes.
-#[derive(Clone, Copy, Debug, PartialEq, Eq)]
+#[derive(Clone, Copy)]
 pub enum InputError {
     /// A read failed.
     Read,

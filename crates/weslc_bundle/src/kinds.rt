@@ -1,9 +1,9 @@
 //! The words by which a line tells the kind of an inner fault.
 
-use wesl_features::CondCompError;
-use weslc_whole::{Fault, NameFault, ValidateError};
-use wgsl_error::ErrorKind;
-use wgsl_shader_type::Error;
+use wesl_conditions::CondCompError;
+use weslc_compile::{Fault, NameFault, ValidateError};
+use wgsl_eval_machine::operation_kind;
+use wgsl_token::fault::ErrorKind;
 
 pub fn syntax_kind(kind: ErrorKind) -> &'static str {
     match kind {
@@ -49,44 +49,6 @@ pub fn eval_kind(fault: &Fault) -> &'static str {
         Fault::Deferred(_) => "Deferred",
         Fault::NegativeAttr(_) => "NegativeAttr",
         Fault::Name(fault, _) => name_kind(fault),
-    }
-}
-
-fn operation_kind(error: &Error) -> &'static str {
-    match error {
-        Error::Todo(_) => "Todo",
-        Error::NotScalar(_) => "NotScalar",
-        Error::NotConstructible(_) => "NotConstructible",
-        Error::UnknownType(_) => "UnknownType",
-        Error::UnexpectedTemplate(_) => "UnexpectedTemplate",
-        Error::MissingTemplate(_) => "MissingTemplate",
-        Error::WriteRefType(_, _) => "WriteRefType",
-        Error::NotWrite => "NotWrite",
-        Error::NotRead => "NotRead",
-        Error::NotReadWrite => "NotReadWrite",
-        Error::PtrHandle => "PtrHandle",
-        Error::PtrVecComp => "PtrVecComp",
-        Error::Conversion(_, _) => "Conversion",
-        Error::ConvOverflow(_, _) => "ConvOverflow",
-        Error::Component(_, _) => "Component",
-        Error::NotIndexable(_) => "NotIndexable",
-        Error::OutOfBounds(_, _, _) => "OutOfBounds",
-        Error::Unary(_, _) => "Unary",
-        Error::Binary(_, _, _) => "Binary",
-        Error::CompwiseBinary(_, _) => "CompwiseBinary",
-        Error::AddOverflow => "AddOverflow",
-        Error::SubOverflow => "SubOverflow",
-        Error::MulOverflow => "MulOverflow",
-        Error::DivByZero => "DivByZero",
-        Error::RemZeroDiv => "RemZeroDiv",
-        Error::ShlOverflow(_, _) => "ShlOverflow",
-        Error::ShrOverflow(_, _) => "ShrOverflow",
-        Error::Signature(_) => "Signature",
-        Error::Builtin(_) => "Builtin",
-        Error::TemplateArgs(_) => "TemplateArgs",
-        Error::ParamCount(_, _, _) => "ParamCount",
-        Error::ParamType(_, _) => "ParamType",
-        Error::OutOfMemory => "OutOfMemory",
     }
 }
 

@@ -4,7 +4,7 @@ use crate::features::{read_features, set_features};
 use crate::request::{BundleError, read_keep, read_max_modules, read_max_steps, read_mode};
 use serde_json::Value;
 use std::alloc::Global;
-use weslc_whole::Options;
+use weslc_compile::Options;
 
 /// Reads the keys of a bundle that are options, in this order: `features`, `default_feature`, `keep`, `mode`, `max_modules`, `max_steps`.
 /// Any may be missing, and other keys are not looked at.

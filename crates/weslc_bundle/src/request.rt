@@ -10,12 +10,12 @@ use serde_json::{Map, Value};
 use std::alloc::{AllocError, AllocFailed, Global};
 use std::fmt;
 use std::fmt::Display;
-use weslc_whole::Mode;
-use wgsl_items::{Items, Text};
+use weslc_compile::Mode;
+use wgsl_base::{Items, Text};
 use wgsl_path::{ModulePath, ModulePathParseError, PathOrigin};
 
 /// Which call a bundle asks for.
-#[derive(Clone, Copy, Debug, PartialEq, Eq)]
+#[derive(Clone, Copy)]
 pub enum Command {
     Link,
     Compile,
@@ -25,7 +25,7 @@ pub enum Command {
 }
 
 /// A key of a bundle.
-#[derive(Clone, Copy, Debug, PartialEq, Eq)]
+#[derive(Clone, Copy)]
 pub enum Key {
     Command,
     Root,
@@ -44,14 +44,14 @@ pub enum Key {
 }
 
 /// A module's text, and the path that it stands at.
-#[derive(Debug, Drop)]
+#[derive(Drop)]
 pub struct Module {
     pub path: ModulePath,
     pub text: Text,
 }
 
 /// What a bundle asks for, its modules in the order of the JSON.
-#[derive(Debug, Drop)]
+#[derive(Drop)]
 pub struct Request {
     pub command: Command,
     pub root: ModulePath,
@@ -64,7 +64,7 @@ pub struct Request {
 }
 
 /// Why bytes are no bundle.
-#[derive(Debug, Drop)]
+#[derive(Drop)]
 pub enum BundleError {
     /// They are no JSON object.
     NotAnObject,

@@ -8,7 +8,7 @@ use crate::error::ServeError;
 use std::alloc::Global;
 use weslc_run::{RunRefusal, eval, run};
 use weslc_values::{RunResult, RunSettings, inputs_of, result_text};
-use wgsl_items::Text;
+use wgsl_base::Text;
 
 /// The lines about what the run of an entry point leaves.
 pub(crate) fn run_entry(alloc: Global, bundle: Bundle) -> Result<String, ServeError>

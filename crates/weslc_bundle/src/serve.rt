@@ -15,14 +15,14 @@ use crate::request::BundleError;
 use std::alloc::Global;
 use std::io;
 use std::io::{Read, Write};
-use wesl_features::CondCompError;
+use wesl_conditions::CondCompError;
+use weslc_compile::{CompileError, ErrorContext};
 use weslc_precompile::PrecompileError;
 use weslc_run::RunRefusal;
-use weslc_whole::{CompileError, ErrorContext};
-use wgsl_error::Error;
-use wgsl_fault::Fault;
-use wgsl_items::Text;
+use wgsl_base::Text;
+use wgsl_eval_machine::Fault;
 use wgsl_path::{ModulePath, Span};
+use wgsl_token::fault::Error;
 
 /// Reads a bundle, and writes the text that it asks for, or one line about its first fault. It gives the program's status: 0
 /// for a text, 1 for a refused call or a write that fails, 2 for what is no bundle, one that has no root to precompile, or a read

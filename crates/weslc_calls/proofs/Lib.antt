@@ -1,4 +1,4 @@
 mod Plain
 mod Trying
-pub use Rattle.weslc_api.proofs.Alone
-pub use Rattle.weslc_texts.proofs.One
+pub use Rattle.core_calls.proofs.Alone
+pub use Rattle.wesl_virtual_resolver.proofs.One

@@ -3,15 +3,15 @@ use Rattle.std.proofs.Common.{◌≡◌, ℕ, List, [], map, ap, Result, Ok, Err
 use Rattle.std.specs.Prelude.{IfOk, string_bytes}
 use Rattle.wgsl_declarations.specs.declared.unit.TranslationUnit.{TranslationUnit}
 use Rattle.wgsl_declarations.specs.View.{unit_tree}
-use Rattle.wgsl_imports.specs.View.{importing_tree}
-use Rattle.weslc_api.specs.Derivable.{SaysTree}
-use Rattle.wgsl_part.specs.Widening.{widen_imp, widen_unit}
-use Rattle.wesl_link_spec.specs.Occurrences.{Name}
-use Rattle.wesl_link_spec.specs.Modules.{Path}
-use Rattle.wesl_link_spec.specs.Rounds.{Sources}
+use Rattle.wgsl_declarations.specs.ImportsView.{importing_tree}
+use Rattle.core_calls.specs.Derivable.{SaysTree}
+use Rattle.core_narrowing.specs.Widening.{widen_imp, widen_unit}
+use Rattle.core_link_spec.specs.Occurrences.{Name}
+use Rattle.core_link_spec.specs.Modules.{Path}
+use Rattle.core_link_spec.specs.Rounds.{Sources}
 use Rattle.wesl_resolve.specs.declared.source_map.BasicSourceMap.{BasicSourceMap}
-use Rattle.weslc_api.specs.CompileError.{CompileError}
-use Rattle.weslc_api.specs.Answers.{IsLinkedText}
+use Rattle.core_calls.specs.CompileError.{CompileError}
+use Rattle.core_calls.specs.Answers.{IsLinkedText}
 use Rattle.weslc_calls.specs.Plain.{IsPlain}
 
 pub plain_of_unit : (text : List ℕ) (unit : TranslationUnit) → unit.imports ≡ [] → SaysTree text (unit_tree unit) → IsPlain text

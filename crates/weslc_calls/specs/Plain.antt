@@ -1,7 +1,7 @@
 -- Texts without imports.
 use Rattle.std.specs.Prelude.{◌≡◌, ℕ, List, []}
 use Rattle.wgsl_declarations.specs.Tree.{UnitTree}
-use Rattle.weslc_api.specs.Derivable.{SaysTree}
+use Rattle.core_calls.specs.Derivable.{SaysTree}
 
 -- The text is read as a module, which has no imports.
 pub record IsPlain (text : List ℕ) : Type 0 where

@@ -2,17 +2,17 @@
 
 ghost use Rattle.std.specs.Prelude.{◌≡◌, ◌⊎◌, IfOk, IfErr, string_bytes};
 ghost use Rattle.wgsl_path.specs.Paths.{path_text};
-ghost use Rattle.weslc_modules.specs.Found.{at_text, part_names};
-ghost use Rattle.weslc_api.specs.Mapped.{HasNames};
-ghost use Rattle.weslc_api.specs.Answers.{RefusesToLink, IsMapped, IsLinkedText};
-ghost use Rattle.weslc_calls.specs.OfPart.{sources, IsBeyondLink};
+ghost use Rattle.weslc_link.specs.Found.{at_text, part_names};
+ghost use Rattle.core_calls.specs.Mapped.{HasNames};
+ghost use Rattle.core_calls.specs.Answers.{RefusesToLink, IsMapped, IsLinkedText};
+ghost use Rattle.weslc_calls.specs.OfCore.{sources, IsBeyondLink};
 ghost use Rattle.weslc_calls.specs.Plain.{IsPlain};
 
-use crate::part::{Tried, try_link};
+use crate::part::{CoreAnswer, try_link};
 use crate::whole::link_whole;
+use core_calls::{BasicSourceMap, CompileError, Options};
 use std::alloc::Global;
 use wesl_resolvers::Resolver;
-use weslc_api::{BasicSourceMap, CompileError, Options};
 use wgsl_path::ModulePath;
 
 /// One text without imports that declares what the options ask for of the modules, and the map from it back to the modules; or the first
@@ -30,7 +30,7 @@ pub fn link<R: Resolver>(
     ensures refusal { IsBeyondLink (R.answers resolver.old) root.now options.now ⊎ IfErr result (RefusesToLink (sources options.now.features (R.answers resolver.old)) (path_text root.now) options.now.keep options.now.max_modules) }
 {
     match try_link(alloc, resolver, root, options) {
-        Tried::Answered(answer) => answer,
-        Tried::Beyond(beyond) => link_whole(alloc, resolver, beyond, root, options),
+        CoreAnswer::Answered(answer) => answer,
+        CoreAnswer::BeyondCore(beyond) => link_whole(alloc, resolver, beyond, root, options),
     }
 }

@@ -1,22 +1,21 @@
 //! The calls of the part of the language whose linking and compiling is proved.
 
 ghost use Rattle.std.specs.Prelude.{◌≡◌, Err, IfOk, IfErr, string_bytes};
-ghost use Rattle.weslc_api.specs.ErrorContext.{ErrorContext};
-ghost use Rattle.weslc_api.specs.CompileError.TheVariants.{Unsupported};
+ghost use Rattle.core_calls.specs.ErrorContext.{ErrorContext};
+ghost use Rattle.core_calls.specs.CompileError.TheVariants.{Unsupported};
 ghost use Rattle.wgsl_path.specs.Paths.{path_text};
-ghost use Rattle.weslc_modules.specs.Found.{at_text, part_names};
-ghost use Rattle.weslc_api.specs.Mapped.{HasNames};
-ghost use Rattle.weslc_api.specs.Answers.{RefusesToLink, RefusesToCompile, IsMapped, IsLinkedText, IsCompiledText};
-ghost use Rattle.wesl_reach.specs.Alone.{only, Alone};
-ghost use Rattle.weslc_calls.specs.OfPart.{is_lazy, is_own, sources, texts_asked, IsBeyondLink, IsBeyondCompile, IsBeyondOf, IfAnswered, IfBeyond};
+ghost use Rattle.weslc_link.specs.Found.{at_text, part_names};
+ghost use Rattle.core_calls.specs.Mapped.{HasNames};
+ghost use Rattle.core_calls.specs.Answers.{RefusesToLink, RefusesToCompile, IsMapped, IsLinkedText, IsCompiledText};
+ghost use Rattle.core_reach.specs.Alone.{only, Alone};
+ghost use Rattle.weslc_calls.specs.OfCore.{is_lazy, is_own, sources, texts_asked, IsBeyondLink, IsBeyondCompile, IsBeyondOf, IfAnswered, IfBeyond};
 ghost use Rattle.weslc_calls.specs.Plain.{IsPlain};
 
-use crate::deciding::Decided;
+use core_calls::{BasicSourceMap, CompileError, Mode, Options};
 use std::alloc::Global;
-use wesl_preprocess::{Conditions, Preprocessor};
+use wesl_preprocess::{Conditions, Decided, Preprocessor};
 use wesl_resolvers::Resolver;
-use weslc_api::{BasicSourceMap, CompileError, Mode, Options};
-use weslc_modules::{Beyond, PartResolver};
+use weslc_link::{BeyondCore, NarrowingResolver};
 use wgsl_path::{ModulePath, PathOrigin};
 
 /// What a call answers.
@@ -24,10 +23,10 @@ pub type Answer = Result<(String, BasicSourceMap), CompileError>;
 
 /// What comes of a call that the part is tried on.
 #[derive(Drop)]
-pub enum Tried {
+pub enum CoreAnswer {
     Answered(Answer),
     /// It is none of the part's. The module that shows it may be parsed already.
-    Beyond(Option<Beyond>),
+    BeyondCore(Option<BeyondCore>),
 }
 
 fn is_lazy(mode: Mode) -> bool
@@ -55,7 +54,7 @@ pub(crate) fn try_link<R: Resolver>(
     resolver: &mut R,
     root: &ModulePath,
     options: &Options,
-) -> Tried
+) -> CoreAnswer
     ensures plain { IfAnswered result (λ r. IfOk r (λ answer. IsPlain (string_bytes answer.0))) }
     ensures text { IfAnswered result (λ r. IfOk r (λ answer. IsLinkedText (sources options.now.features (R.answers resolver.old)) (path_text root.now) options.now.keep options.now.max_modules (string_bytes answer.0))) }
     ensures map { IfAnswered result (λ r. IfOk r (λ answer. IsMapped (sources options.now.features (R.answers resolver.old)) (path_text root.now) options.now.keep options.now.max_modules (at_text (R.texts resolver.old)) answer.1)) }
@@ -64,28 +63,28 @@ pub(crate) fn try_link<R: Resolver>(
     ensures beyond { IfBeyond result (IsBeyondLink (R.answers resolver.old) root.now options.now) }
 {
     if !is_lazy(options.mode) {
-        return Tried::Beyond(None);
+        return CoreAnswer::BeyondCore(None);
     }
     if !is_own(&root.origin) {
-        return Tried::Beyond(None);
+        return CoreAnswer::BeyondCore(None);
     }
     let features = &options.features;
     let decided = Preprocessor::new(resolver, Conditions { features });
-    let mut part = PartResolver::new(Decided { inner: decided });
-    match weslc_api::link(alloc, &mut part, root, options) {
-        Err(CompileError::Unsupported(_)) => Tried::Beyond(part.into_beyond()),
-        answer => Tried::Answered(answer),
+    let mut part = NarrowingResolver::new(Decided { inner: decided });
+    match core_calls::link(alloc, &mut part, root, options) {
+        Err(CompileError::Unsupported(_)) => CoreAnswer::BeyondCore(part.into_beyond()),
+        answer => CoreAnswer::Answered(answer),
     }
 }
 
 /// What comes of a call that is answered so, where the module that was last refused as beyond the part is this one.
-fn outcome_of(answer: Answer, beyond: Option<Beyond>) -> Tried
+fn outcome_of(answer: Answer, beyond: Option<BeyondCore>) -> CoreAnswer
     ensures answered { IfAnswered result (λ r. r ≡ answer) }
     ensures beyond { IfBeyond result ((c : ErrorContext) × (answer ≡ Err (Unsupported c))) }
 {
     match answer {
-        Err(CompileError::Unsupported(_)) => Tried::Beyond(beyond),
-        answer => Tried::Answered(answer),
+        Err(CompileError::Unsupported(_)) => CoreAnswer::BeyondCore(beyond),
+        answer => CoreAnswer::Answered(answer),
     }
 }
 
@@ -97,7 +96,7 @@ pub fn try_compile<R: Resolver>(
     resolver: &mut R,
     root: &ModulePath,
     options: &Options,
-) -> Tried
+) -> CoreAnswer
     ensures text { IfAnswered result (λ r. IfOk r (λ answer. IsCompiledText (sources options.now.features (R.answers resolver.old)) (path_text root.now) options.now.keep options.now.max_modules options.now.max_steps (string_bytes answer.0))) }
     ensures map { IfAnswered result (λ r. IfOk r (λ answer. IsMapped (sources options.now.features (R.answers resolver.old)) (path_text root.now) options.now.keep options.now.max_modules (at_text (R.texts resolver.old)) answer.1)) }
     ensures names { IfAnswered result (λ r. IfOk r (λ answer. HasNames (part_names (R.display_names resolver.old)) answer.1)) }
@@ -109,16 +108,16 @@ pub fn try_compile<R: Resolver>(
     ensures alone_beyond { Alone (texts_asked (R.asked resolver.old)) (texts_asked (R.asked resolver.new)) (λ inside. IfBeyond result (IsBeyondOf (only inside (sources options.now.features (R.answers resolver.old))) root.now options.now)) }
 {
     if !is_lazy(options.mode) {
-        return Tried::Beyond(None);
+        return CoreAnswer::BeyondCore(None);
     }
     if !is_own(&root.origin) {
-        return Tried::Beyond(None);
+        return CoreAnswer::BeyondCore(None);
     }
     let features = &options.features;
     let decided = Preprocessor::new(resolver, Conditions { features });
-    let mut part = PartResolver::new(Decided { inner: decided });
-    let answer = weslc_api::compile(alloc, &mut part, root, options);
-    let PartResolver {
+    let mut part = NarrowingResolver::new(Decided { inner: decided });
+    let answer = core_calls::compile(alloc, &mut part, root, options);
+    let NarrowingResolver {
         resolver: Decided {
             inner: Preprocessor {
                 resolver: _lent,

@@ -16,9 +16,9 @@ fn push_line(text: &mut String, line: &str) -> Result<(), AllocError> {
 /// What a case of a file answers.
 fn answer(alloc: Global, path: &str, case: &str) -> Result<String, AllocError> {
     match path {
-        "types.txt" | "pairs.txt" => wgsl_types_cases::answer(alloc, case),
-        "part.txt" | "units.txt" => weslc_unit_cases::answer(alloc, case),
-        _ => wgsl_parser_cases::answer(alloc, case),
+        "types.txt" | "pairs.txt" => wgsl_cases::types::answer(alloc, case),
+        "part.txt" | "units.txt" => core_unit_cases::answer(alloc, case),
+        _ => wgsl_cases::parser::answer(alloc, case),
     }
 }
 
@@ -70,6 +70,6 @@ pub fn report<R: Files + Print + AllocGlobal>(rt: &R, path: &str) -> io::Result<
 pub fn report_scalars<R: Files + Print + AllocGlobal>(rt: &R, path: &str) -> io::Result<()> {
     let text = fs::read_to_string(rt, path)?;
     let mut report = String::new(rt.alloc());
-    let count = weslc_unit_cases::compare_all(rt.alloc(), &mut report, text.as_str())?;
+    let count = core_unit_cases::compare_all(rt.alloc(), &mut report, text.as_str())?;
     println!(rt; "{report}{path}: {count} results")
 }

@@ -5,15 +5,15 @@ use Rattle.wgsl_declarations.specs.declared.unit.TranslationUnit.{TranslationUni
 use Rattle.wgsl_declarations.specs.Tree.{UnitTree}
 use Rattle.wgsl_declarations.specs.View.{unit_tree}
 use Rattle.wgsl_declarations.specs.Print.{unit_text}
-use Rattle.wgsl_error.specs.declared.error.Error.{Error}
-use Rattle.wgsl_error.specs.declared.error.Refusal.TheVariants as why
-use Rattle.wgsl_error.specs.Errors.{refusal_of}
+use Rattle.wgsl_token.specs.declared.fault.error.Error.{Error}
+use Rattle.wgsl_token.specs.declared.fault.error.Refusal.TheVariants as why
+use Rattle.wgsl_token.specs.Errors.{refusal_of}
 use Rattle.wgsl_check_unit.specs.Texts.{IsModuleFault}
 use Rattle.wgsl_check_unit.specs.Derivable.{Says, SaysTree, IsDerivable}
 use Rattle.wgsl_check_unit.specs.Telling.{IsToldOf}
-use Rattle.wesl_features.specs.declared.feature.Features.{Features}
-use Rattle.wesl_cond_spec.specs.Trees.{unit_left}
-use Rattle.wesl_cond_spec.specs.Faults.{unit_fault}
+use Rattle.wesl_conditions.specs.declared.features.feature.Features.{Features}
+use Rattle.wesl_conditions.specs.Trees.{unit_left}
+use Rattle.wesl_conditions.specs.Faults.{unit_fault}
 use Rattle.weslc_precompile.specs.declared.error.PrecompileError.{PrecompileError}
 use Rattle.weslc_precompile.specs.declared.error.PrecompileError.TheVariants as refusal
 

@@ -2,9 +2,9 @@
 
 use std::alloc::AllocError;
 use wesl_cond::CondCompError;
+use wgsl_base::Text;
 use wgsl_check_unit::Error;
-use wgsl_error::Refusal;
-use wgsl_items::Text;
+use wgsl_token::fault::Refusal;
 
 /// Why a text is not precompiled.
 #[derive(Debug, Drop, PartialEq)]

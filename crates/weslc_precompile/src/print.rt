@@ -7,7 +7,7 @@ use crate::error::PrecompileError;
 use std::alloc::Global;
 use wgsl_check_unit::{Unprintable, print_checked};
 use wgsl_declarations::TranslationUnit;
-use wgsl_error::Refusal;
+use wgsl_token::fault::Refusal;
 
 /// The text of a module, which says it.
 pub(crate) fn print_back(

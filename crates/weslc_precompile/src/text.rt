@@ -11,7 +11,7 @@ use std::alloc::Global;
 use wesl_cond::{CondCompError, Features, run};
 use wgsl_check_unit::{Error, parse_str};
 use wgsl_declarations::{TranslationUnit, let_go};
-use wgsl_error::Refusal;
+use wgsl_token::fault::Refusal;
 
 /// Fixes the flags of a module.
 #[tactic(auto, using(crate::proofs::Steps::condition_told))]

@@ -1,1 +1,1 @@
-pub use Rattle.weslc_api.specs.Mode
+pub use Rattle.core_calls.specs.Mode

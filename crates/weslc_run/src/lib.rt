@@ -1,17 +1,8 @@
-//! The calls `run` and `eval`: runs of entry points, and evaluations, over linked modules.
+//! The calls `run` and `eval`: an entry point that is run, and the value of an expression.
 #![tactic(auto)]
 
-mod calls;
-mod deciding;
-mod evaluation;
-mod fault;
-mod held;
-mod kept;
-mod refusal;
-mod running;
+mod eval_question;
+mod unit_runs;
 
-pub use calls::{eval, run};
-pub use evaluation::eval_unit;
-pub use fault::{FaultPlace, RunError, RunFault};
-pub use refusal::RunRefusal;
-pub use running::{HandedOverride, run_unit};
+pub use eval_question::{EvalExpression, OWN_NAME};
+pub use unit_runs::{FaultPlace, HandedOverride, RunError, RunFault, RunRefusal, eval, run};

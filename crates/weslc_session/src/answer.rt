@@ -2,11 +2,11 @@
 
 use crate::command::CommandError;
 use std::alloc::{AllocError, Global};
-use weslc_told::{
-    BundleError, ErrorLine, declared_names, push_json, told_compile_error, told_whole_refusal,
+use wesl_diagnostics::{
+    BundleError, ErrorLine, declared_names, push_json, told_compile_error, told_compile_refusal,
 };
-use weslc_workspace::{BasicSourceMap, CompileError, SourceMap, WholeRefusal};
-use wgsl_items::Text;
+use weslc_workspace::{BasicSourceMap, CompileError, CompileRefusal, SourceMap};
+use wgsl_base::Text;
 
 /// What is answered where memory is refused. It needs none.
 pub const OUT_OF_MEMORY: &str = "{\"error\":{\"kind\":\"OutOfMemory\"}}\n";
@@ -81,8 +81,8 @@ fn push_member(json: &mut String, key: &str, value: Option<&str>) -> Result<(), 
 }
 
 /// The refusal of a compilation.
-pub fn refusal_answer(alloc: Global, refusal: &WholeRefusal) -> Result<String, AllocError> {
-    error_answer(alloc, &told_whole_refusal(alloc, refusal)?.line())
+pub fn refusal_answer(alloc: Global, refusal: &CompileRefusal) -> Result<String, AllocError> {
+    error_answer(alloc, &told_compile_refusal(alloc, refusal)?.line())
 }
 
 /// The refusal of linking.

@@ -1,9 +1,9 @@
 //! The commands of a session.
 
 use std::alloc::AllocError;
-use weslc_told::BundleError;
+use wesl_diagnostics::BundleError;
 use weslc_workspace::{Feature, Options};
-use wgsl_items::Text;
+use wgsl_base::Text;
 use wgsl_path::ModulePath;
 
 /// What a line asks for.

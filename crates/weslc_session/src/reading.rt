@@ -3,9 +3,9 @@
 use crate::command::{Command, CommandError};
 use serde_json::{Map, Value};
 use std::alloc::Global;
-use weslc_told::{BundleError, read_feature, read_options};
+use wesl_diagnostics::{BundleError, read_feature, read_options};
 use weslc_workspace::Options;
-use wgsl_items::Text;
+use wgsl_base::Text;
 use wgsl_path::{ModulePath, ModulePathParseError, PathOrigin};
 
 /// The keys of options.

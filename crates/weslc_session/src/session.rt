@@ -11,7 +11,7 @@ use std::alloc::Global;
 use std::io::{BufRead, Write};
 use std::{io, mem};
 use weslc_workspace::{Compiled, Feature, Linked, Options, Workspace};
-use wgsl_items::{Items, Text};
+use wgsl_base::{Items, Text};
 use wgsl_path::{ModulePath, PathOrigin};
 
 /// Answers each line with one, to the end of the input. The first workspace has the root `package` and the options of a bundle that names

@@ -2,8 +2,8 @@
 use Rattle.std.specs.Prelude.{◌≡◌, ◌⊎◌, ⊤, ℕ, List, codes, None}
 use Rattle.serde_json.specs.Data.{Data}
 use Rattle.serde_json.specs.Find.{get}
-use Rattle.wgsl_items.specs.declared.error.OrOutOfMemory.{OrOutOfMemory}
-use Rattle.wgsl_items.specs.declared.error.OrOutOfMemory.TheVariants.{Error, OutOfMemory}
+use Rattle.wgsl_base.specs.declared.items.error.OrOutOfMemory.{OrOutOfMemory}
+use Rattle.wgsl_base.specs.declared.items.error.OrOutOfMemory.TheVariants.{Error, OutOfMemory}
 use Rattle.weslc_values.specs.declared.settings.Needed.{Needed}
 use Rattle.weslc_values.specs.declared.settings.Needed.TheVariants as needed
 use Rattle.weslc_values.specs.declared.settings.RunKey.{RunKey}

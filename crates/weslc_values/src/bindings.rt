@@ -6,10 +6,10 @@ use crate::value::read_value;
 use serde_json::Value;
 use std::alloc::Global;
 use std::str::FromStr;
-use wgsl_enumerations::{AccessMode, AddressSpace};
+use wgsl_base::{Items, Text};
 use wgsl_instance::Instance;
-use wgsl_items::{Items, Text};
 use wgsl_path::{ModulePath, ModulePathParseError, PathOrigin};
+use wgsl_words::{AccessMode, AddressSpace};
 
 /// A value that is bound to a variable by its group and its number in it.
 #[derive(Debug, Drop)]

@@ -5,12 +5,12 @@ use crate::fields::{are_inputs, read_u32};
 use crate::value::read_value;
 use serde_json::{Map, Value};
 use std::alloc::{AllocError, Global};
-use wgsl_inputs::Inputs;
+use wgsl_base::Items;
 use wgsl_instance::Instance;
-use wgsl_items::Items;
+use wgsl_memory::Inputs;
 
 /// A value at a location.
-#[derive(Debug, Drop)]
+#[derive(Drop)]
 pub struct UserInput {
     pub location: u32,
     pub value: Instance,
@@ -18,7 +18,7 @@ pub struct UserInput {
 
 /// What stands in JSON for the inputs of an entry point: as `Inputs`, with the values at locations as a list, in which the last of
 /// equal locations counts.
-#[derive(Debug, Drop)]
+#[derive(Drop)]
 pub struct InputSettings {
     pub numbers: InputNumbers,
     pub front_facing: Option<bool>,
@@ -27,7 +27,7 @@ pub struct InputSettings {
 }
 
 /// The built-in values that are numbers.
-#[derive(Clone, Copy, Debug)]
+#[derive(Clone, Copy)]
 pub struct InputNumbers {
     pub vertex_index: Option<u32>,
     pub instance_index: Option<u32>,
@@ -39,7 +39,7 @@ pub struct InputNumbers {
 }
 
 /// The built-in values of three numbers.
-#[derive(Clone, Copy, Debug)]
+#[derive(Clone, Copy)]
 pub struct InputTriples {
     pub local_invocation_id: Option<[u32; 3]>,
     pub global_invocation_id: Option<[u32; 3]>,

@@ -7,9 +7,9 @@ ghost use Rattle.wgsl_to_expr.specs.Written.{Writes};
 ghost use Rattle.weslc_values.specs.Texts.{value_text, itself};
 
 use std::alloc::{AllocError, Global};
+use wgsl_base::{OrOutOfMemory, Text};
 use wgsl_expressions::Expression;
 use wgsl_instance::Instance;
-use wgsl_items::{OrOutOfMemory, Text};
 use wgsl_to_expr::written_instance;
 
 /// The text of a value, as `42u`, `(-3)`, `vec2(1u, 2u)` or `array(0u, 3u)`: of the expression that is written for it. A part for which

@@ -4,8 +4,8 @@ use crate::bindings::Binding;
 use crate::error::ValueError;
 use crate::print::instance_text;
 use std::alloc::{AllocError, Global};
+use wgsl_base::{Items, OrOutOfMemory, Text};
 use wgsl_instance::Instance;
-use wgsl_items::{Items, OrOutOfMemory, Text};
 
 /// What a run leaves: what the entry point returned, if anything, the bound values, in the order of their groups and numbers, and how
 /// many steps it took.

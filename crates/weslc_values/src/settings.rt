@@ -2,7 +2,7 @@
 
 ghost use Rattle.std.specs.Prelude.{◌≡◌, ◌⊎◌, IfErr};
 ghost use Rattle.serde_json.specs.View.{view};
-ghost use Rattle.wgsl_items.specs.declared.error.OrOutOfMemory.TheVariants.{Error, OutOfMemory};
+ghost use Rattle.wgsl_base.specs.declared.items.error.OrOutOfMemory.TheVariants.{Error, OutOfMemory};
 ghost use Rattle.weslc_values.specs.Keys.{IsNeeded, WrongAt};
 
 use crate::bindings::{Binding, OverrideValue, read_bindings, read_overrides};
@@ -11,10 +11,10 @@ use crate::inputs::{InputSettings, read_inputs, zero_inputs};
 use serde_json::Value;
 use std::alloc::Global;
 use std::fmt;
-use wgsl_items::{Items, OrOutOfMemory, Text};
+use wgsl_base::{Items, OrOutOfMemory, Text};
 
 /// A key of what is handed to a run or an evaluation.
-#[derive(Clone, Copy, Debug, PartialEq, Eq)]
+#[derive(Clone, Copy)]
 pub enum RunKey {
     Entry,
     Inputs,
@@ -36,7 +36,7 @@ impl fmt::Display for RunKey {
 }
 
 /// Which of the keys have to be there.
-#[derive(Clone, Copy, Debug, PartialEq, Eq)]
+#[derive(Clone, Copy)]
 pub enum Needed {
     Nothing,
     /// A run needs `entry`.
@@ -46,7 +46,7 @@ pub enum Needed {
 }
 
 /// What is handed to a run or an evaluation.
-#[derive(Debug, Drop)]
+#[derive(Drop)]
 pub struct RunSettings {
     pub entry: Option<Text>,
     pub inputs: InputSettings,

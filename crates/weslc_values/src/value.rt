@@ -4,8 +4,8 @@ use crate::error::ValueError;
 use crate::number::read_number;
 use serde_json::Value;
 use std::alloc::{AllocError, Global};
+use wgsl_base::Items;
 use wgsl_instance::{ArrayInstance, Instance, VecInstance};
-use wgsl_items::Items;
 use wgsl_scalar::type_of;
 use wgsl_shader_type::{LiteralInstance, Type};
 

@@ -3,14 +3,14 @@ use mathlib.Core.Logic.{∥∥₁_map}
 use Rattle.std.proofs.Common.{◌≡◌, refl, sym, ap, ◌∙◌, subst, inl, inr, List, ℕ, true, false, Option, Some, None, Result, Ok, Err}
 use Rattle.std.specs.Option.{is_some}
 use Rattle.wgsl_path.specs.declared.path.ModulePath.{ModulePath}
-use Rattle.wgsl_error.specs.declared.error.Error.{Error}
-use Rattle.wgsl_error.specs.Errors.{refusal_of}
+use Rattle.wgsl_token.specs.declared.fault.error.Error.{Error}
+use Rattle.wgsl_token.specs.Errors.{refusal_of}
 use Rattle.wgsl_declarations.specs.declared.unit.TranslationUnit.{TranslationUnit}
 use Rattle.wgsl_parser.specs.Texts.{ParsesModule, IsModuleFault}
 use Rattle.wesl_resolvers.specs.Found.{not_found, TellsUnit}
 use Rattle.wesl_resolvers.specs.declared.error.ResolveError.{ResolveError}
 use Rattle.wesl_resolvers.specs.declared.error.ResolveError.TheVariants.{ModuleNotFound, Syntax, GaveUp, Condition, ConditionLeft, OutOfMemory}
-use Rattle.weslc_texts.specs.Refused.{RefusedAs}
+use Rattle.wesl_virtual_resolver.specs.Refused.{RefusedAs}
 use Rattle.weslc_workspace.specs.Found.{found_in}
 use Rattle.weslc_workspace.specs.Outcome.{IsToldOf}
 

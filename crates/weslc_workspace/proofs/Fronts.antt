@@ -7,7 +7,7 @@ use Rattle.std.specs.Str.{bytes_eq}
 use Rattle.std.proofs.lemmas.List.{append-nil, take_all}
 use Rattle.std.proofs.lemmas.Bool.{false_from_ne_true}
 use Rattle.std.proofs.lemmas.Slice.Eq.{bytes_eq-Decides}
-use Rattle.wgsl_items.proofs.Members.{same_bytes as same_text}
+use Rattle.wgsl_base.proofs.Members.{same_bytes as same_text}
 use Rattle.wgsl_path.specs.Paths.{supers, origin_text, components_text}
 use Rattle.wgsl_path.specs.declared.path.PathOrigin.TheVariants.{Relative}
 use Rattle.weslc_workspace.specs.Behind.{IsBehind}

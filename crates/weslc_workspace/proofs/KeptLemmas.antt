@@ -6,22 +6,22 @@ use Rattle.std.specs.Option.{is_some}
 use Rattle.std.specs.Str.{bytes_eq}
 use Rattle.std.specs.HashSet.{HashSet, contains_text}
 use Rattle.std.specs.declared.string.String.{String}
-use Rattle.wgsl_items.proofs.Members.{same_bytes as same_text, from_contains, to_contains}
+use Rattle.wgsl_base.proofs.Members.{same_bytes as same_text, from_contains, to_contains}
 use Rattle.wgsl_path.specs.declared.path.ModulePath.{ModulePath}
 use Rattle.wgsl_path.specs.Paths.{path_text}
 use Rattle.wgsl_path.specs.Reading.{parts, path_of}
 use Rattle.wesl_resolve.specs.Found.{unit_of}
-use Rattle.wgsl_syntax.specs.Tree.{UnitTree}
-use Rattle.wesl_link_spec.specs.Modules.{Path}
-use Rattle.wesl_link_spec.specs.Rounds.{Sources}
-use Rattle.wesl_reach.specs.Alone.{only}
-use Rattle.weslc_part.specs.Found as part
-use Rattle.weslc_part.specs.Found.{at_text}
+use Rattle.core_syntax.specs.Tree.{UnitTree}
+use Rattle.core_link_spec.specs.Modules.{Path}
+use Rattle.core_link_spec.specs.Rounds.{Sources}
+use Rattle.core_reach.specs.Alone.{only}
+use Rattle.core_resolver.specs.Found as part
+use Rattle.core_resolver.specs.Found.{at_text}
 use Rattle.weslc_calls.specs.Options.{Options}
-use Rattle.weslc_calls.specs.OfPart.{decided_by}
-use Rattle.weslc_linking.proofs.Alone.{AreFoundToo}
-use Rattle.weslc_whole.specs.Whole.{Answer, IsAnswerFor, AllInside, OfAsked}
-use Rattle.weslc_whole.proofs.Too.{answers_too}
+use Rattle.weslc_calls.specs.OfCore.{decided_by}
+use Rattle.weslc_errors.proofs.Alone.{AreFoundToo}
+use Rattle.weslc_compile.specs.Whole.{Answer, IsAnswerFor, AllInside, OfAsked}
+use Rattle.weslc_compile.proofs.Too.{answers_too}
 use Rattle.weslc_workspace.specs.Held.{text_at, IsSet}
 use Rattle.weslc_workspace.specs.Found.{found_in}
 use Rattle.weslc_workspace.specs.Fresh.{finds, texts_of}
@@ -110,7 +110,7 @@ module _ (before modules : Modules) (inside : List ℕ → Bool) (same : (p : Li
 
   pub found_now : (options : Options) → AreFoundToo (only inside (part_of before options)) (part_of modules options)
   found_now options p a (in_asked, (q, is, found)) =
-      (q, is, subst (λ (o : Option (List ℕ)). part.IsPartAnswer (decided_by options.features (λ r b. found_in o b) q) a) (there p q in_asked is) found)
+      (q, is, subst (λ (o : Option (List ℕ)). part.IsCoreAnswer (decided_by options.features (λ r b. found_in o b) q) a) (there p q in_asked is) found)
 
   pub texts_now : (options : Options) (p : Path) (u : UnitTree) (text : List ℕ) → only inside (part_of before options) p (unit_of u) → at_text (texts_of before) p text → at_text (texts_of modules) p text
   texts_now options p u text found (q, is, stands) = (q, is, subst (λ (o : Option (List ℕ)). o ≡ Some text) (there p q found.0 is) stands)

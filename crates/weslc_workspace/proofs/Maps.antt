@@ -10,7 +10,7 @@ use Rattle.std.specs.String.{string_eq}
 use Rattle.std.specs.declared.string.String.{String}
 use Rattle.std.specs.declared.alloc.Global.{Global}
 use Rattle.std.proofs.lemmas.Map.Text.{hash_map_updates_text}
-use Rattle.wgsl_items.proofs.Members.{same_bytes as same_text}
+use Rattle.wgsl_base.proofs.Members.{same_bytes as same_text}
 use Rattle.weslc_workspace.specs.Outcome.{IsToldOf}
 use Rattle.weslc_workspace.specs.Told.{AreTold, AreOfTexts}
 use Rattle.weslc_workspace.specs.declared.parse.Parse.{Parse}

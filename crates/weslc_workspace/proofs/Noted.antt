@@ -8,7 +8,7 @@ use Rattle.std.specs.String.{string_eq}
 use Rattle.std.specs.declared.string.String.{String}
 use Rattle.std.proofs.lemmas.Map.Text.{hash_set_updates_text}
 use Rattle.std.proofs.lemmas.List.Elements.{Contains-append_cases}
-use Rattle.wgsl_items.proofs.Members.{bytes_same, in_cases, in_none}
+use Rattle.wgsl_base.proofs.Members.{bytes_same, in_cases, in_none}
 use Rattle.wgsl_path.specs.declared.path.ModulePath.{ModulePath}
 use Rattle.wgsl_path.specs.Paths.{path_text}
 use Rattle.weslc_workspace.specs.Noted.{IsNoted, AreNoted}

@@ -1,7 +1,7 @@
 -- What a workspace holds, and when it compiles.
 use Rattle.std.specs.Prelude.{◌≡◌, ℕ, ◌+◌, List, Bool, Result, min, if◌then◌else◌}
 use Rattle.std.specs.HashSet.{contains_text}
-use Rattle.weslc_whole.specs.declared.refusal.WholeRefusal.{WholeRefusal}
+use Rattle.weslc_compile.specs.declared.refusal.CompileRefusal.{CompileRefusal}
 use Rattle.weslc_workspace.specs.Held.{text_at}
 use Rattle.weslc_workspace.specs.Refusals.{is_out_of_memory}
 use Rattle.weslc_workspace.specs.declared.content.Workspace.{Workspace}
@@ -17,7 +17,7 @@ abbrev pub one_more : ℕ → ℕ
 one_more n = min (n + 1) 18446744073709551615
 
 -- the count of finished compilations after a call of `compile` that answers this
-abbrev pub rises : {A : Type 0} → Workspace → Result A WholeRefusal → ℕ
+abbrev pub rises : {A : Type 0} → Workspace → Result A CompileRefusal → ℕ
 rises old answer = if old.is_stale then (if is_out_of_memory answer then old.runs else one_more old.runs) else old.runs
 
 -- the last finished compilation asked for the module at a printed path

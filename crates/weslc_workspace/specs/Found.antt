@@ -7,8 +7,8 @@ use Rattle.wgsl_declarations.specs.Tree.{UnitTree}
 use Rattle.wgsl_declarations.specs.View.{unit_tree}
 use Rattle.wgsl_declarations.specs.declared.unit.TranslationUnit.{TranslationUnit}
 use Rattle.wgsl_declarations.specs.contracts.unit.TranslationUnit as trees
-use Rattle.wgsl_error.specs.declared.error.Error.{Error}
-use Rattle.wgsl_error.specs.contracts.error.Error as errors
+use Rattle.wgsl_token.specs.declared.fault.error.Error.{Error}
+use Rattle.wgsl_token.specs.contracts.fault.error.Error as errors
 use Rattle.wgsl_parser.specs.Texts.{ParsesModule, IsModuleFault}
 use Rattle.wgsl_parser.proofs.Once.{module_fault_once, module_apart}
 use Rattle.wgsl_read_back.proofs.One.{texts_have_one_module}

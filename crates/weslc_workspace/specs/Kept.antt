@@ -2,13 +2,13 @@
 use Rattle.std.specs.Prelude.{◌≡◌, List, ℕ, String, true}
 use Rattle.std.specs.HashSet.{HashSet, contains_text}
 use Rattle.wgsl_path.specs.declared.path.ModulePath.{ModulePath}
-use Rattle.wesl_features.specs.Settings.{setting}
-use Rattle.wesl_link_spec.specs.Rounds.{Sources}
-use Rattle.wesl_reach.specs.Alone.{only}
-use Rattle.weslc_part.specs.Found.{at_text}
+use Rattle.wesl_conditions.specs.Settings.{setting}
+use Rattle.core_link_spec.specs.Rounds.{Sources}
+use Rattle.core_reach.specs.Alone.{only}
+use Rattle.core_resolver.specs.Found.{at_text}
 use Rattle.weslc_calls.specs.Options.{Options}
-use Rattle.weslc_calls.specs.OfPart.{sources}
-use Rattle.weslc_whole.specs.Whole.{Answer, IsAnswerFor}
+use Rattle.weslc_calls.specs.OfCore.{sources}
+use Rattle.weslc_compile.specs.Whole.{Answer, IsAnswerFor}
 use Rattle.weslc_workspace.specs.Held.{text_at}
 use Rattle.weslc_workspace.specs.Fresh.{finds, texts_of}
 use Rattle.weslc_workspace.specs.declared.modules.Modules.{Modules}

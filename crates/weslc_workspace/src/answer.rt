@@ -4,13 +4,13 @@ ghost use Rattle.std.specs.Prelude.{◌≡◌, true, false};
 ghost use Rattle.weslc_workspace.specs.Refusals.{is_memory, is_link_refused, is_out_of_memory};
 
 use weslc_calls::{BasicSourceMap, CompileError};
-use weslc_whole::WholeRefusal;
+use weslc_compile::CompileRefusal;
 
 /// What `link` answers: a text and the map from it back to the modules, or the first fault.
 pub type Linked = Result<(String, BasicSourceMap), CompileError>;
 
 /// What `compile` answers.
-pub type Compiled = Result<(String, BasicSourceMap), WholeRefusal>;
+pub type Compiled = Result<(String, BasicSourceMap), CompileRefusal>;
 
 /// An answer that is held. It is dropped by a call of this module, so that whoever holds one need not prove the drop of all that it owns.
 pub(crate) struct HeldLinked {
@@ -57,7 +57,7 @@ impl HeldCompiled {
         ensures { is_out_of_memory result.answer ≡ true }
     {
         HeldCompiled {
-            answer: Err(WholeRefusal::Compile(CompileError::OutOfMemory)),
+            answer: Err(CompileRefusal::Compile(CompileError::OutOfMemory)),
         }
     }
 
@@ -78,8 +78,8 @@ impl HeldCompiled {
     {
         match &self.answer {
             Ok(_) => false,
-            Err(WholeRefusal::Eval(_, _)) => false,
-            Err(WholeRefusal::Compile(error)) => is_memory(error),
+            Err(CompileRefusal::Eval(_, _)) => false,
+            Err(CompileRefusal::Compile(error)) => is_memory(error),
         }
     }
 }

@@ -8,8 +8,8 @@ use crate::parse::{Parse, ParsedText};
 use indexmap::{IndexMap, IndexSet};
 use std::alloc::{AllocError, Global};
 use wesl_resolvers::{ResolveError, Resolver};
+use wgsl_base::{CloneIn, Items, Text};
 use wgsl_declarations::TranslationUnit;
-use wgsl_items::{CloneIn, Items, Text};
 use wgsl_path::ModulePath;
 
 /// The modules of a workspace, the paths of those that were asked for, in order, and as they are printed, and what was parsed for that.

@@ -14,4 +14,4 @@ pub use content::Workspace;
 pub use weslc_calls::{
     BasicSourceMap, CompileError, ErrorContext, Feature, Mode, Options, SourceMap,
 };
-pub use weslc_whole::WholeRefusal;
+pub use weslc_compile::CompileRefusal;

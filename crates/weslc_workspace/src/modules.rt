@@ -8,7 +8,7 @@ use crate::parse::{Parse, ParsedText};
 use crate::printed::is_printed;
 use indexmap::{IndexMap, IndexSet};
 use std::alloc::{AllocError, Global};
-use wgsl_items::Text;
+use wgsl_base::Text;
 use wgsl_path::ModulePath;
 
 /// The texts that are set, by the printed paths of their modules, and what the parser told of those that were parsed since.

@@ -3,18 +3,18 @@
 ghost use Rattle.std.specs.Prelude.{◌≡◌, List, ℕ, Option, IfOk};
 ghost use Rattle.wgsl_parser.specs.Texts.{ParsesModule};
 ghost use Rattle.wesl_resolvers.specs.Found.{TellsUnit};
-ghost use Rattle.weslc_texts.specs.Refused.{RefusedAs};
+ghost use Rattle.wesl_virtual_resolver.specs.Refused.{RefusedAs};
 ghost use Rattle.weslc_workspace.specs.Found.{found_in};
 ghost use Rattle.weslc_workspace.specs.Outcome.{IsToldOf};
 
 use std::alloc::{AllocError, Global};
+use wesl_load::HeldUnit;
 use wesl_resolvers::ResolveError;
-use wesl_rounds::HeldUnit;
+use wgsl_base::{CloneIn, Text};
 use wgsl_declarations::TranslationUnit;
-use wgsl_error::{Error, Refusal};
-use wgsl_items::{CloneIn, Text};
 use wgsl_parser::parse_str;
 use wgsl_path::ModulePath;
+use wgsl_token::fault::{Error, Refusal};
 
 /// What the parser tells of a text: its tree, or its fault.
 pub(crate) struct Parse {

@@ -8,8 +8,8 @@ use indexmap::IndexSet;
 use std::alloc::{AllocError, Global};
 use std::mem;
 use weslc_calls::{Feature, Options, link};
-use weslc_whole::compile;
-use wgsl_items::Text;
+use weslc_compile::compile;
+use wgsl_base::Text;
 use wgsl_path::ModulePath;
 
 impl Workspace {
@@ -24,7 +24,7 @@ impl Workspace {
     ghost use Rattle.weslc_workspace.specs.Lent.{Rests, IsCompiled, IsLinked};
     ghost use Rattle.std.specs.Borrow.{sem};
     ghost use Rattle.std.specs.Str.{bytes_eq};
-    ghost use Rattle.wesl_features.specs.Settings.{setting};
+    ghost use Rattle.wesl_conditions.specs.Settings.{setting};
 
     /// No modules. The root is not relative.
     pub fn new(alloc: Global, root: ModulePath, options: Options) -> Workspace

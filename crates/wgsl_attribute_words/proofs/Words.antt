@@ -1,6 +1,6 @@
 -- What is read is what the table of words says.
 use Rattle.std.proofs.Common.{◌≡◌, ◌≢◌, refl, ap, subst, ℕ, List, [], ◌∷◌, Option, Some, None}
-use Rattle.wgsl_choices.proofs.Choices.{none_named}
+use Rattle.wgsl_attribute_words.proofs.ChoicesLemmas.{none_named}
 use Rattle.wgsl_attribute_words.specs.declared.word.AttributeWord.{AttributeWord}
 use Rattle.wgsl_attribute_words.specs.declared.word.AttributeWord.TheVariants as word
 use Rattle.wgsl_attribute_words.specs.Words.{word_spelled, word_named}

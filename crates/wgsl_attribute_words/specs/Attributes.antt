@@ -2,14 +2,14 @@
 use Rattle.std.specs.Prelude.{ℕ, List, [], ◌∷◌, Option, Some, None}
 use Rattle.std.specs.Option.{option_map}
 use Rattle.wgsl_path.specs.declared.span.Spanned.{Spanned}
-use Rattle.wgsl_enumerations.specs.declared.address.AddressSpace.{AddressSpace}
-use Rattle.wgsl_enumerations.specs.declared.address.AccessMode.{AccessMode}
-use Rattle.wgsl_enumerations.specs.declared.words.DiagnosticSeverity.{DiagnosticSeverity}
-use Rattle.wgsl_enumerations.specs.declared.words.InterpolationType.{InterpolationType}
-use Rattle.wgsl_enumerations.specs.declared.words.InterpolationSampling.{InterpolationSampling}
+use Rattle.wgsl_words.specs.declared.enumerations.address.AddressSpace.{AddressSpace}
+use Rattle.wgsl_words.specs.declared.enumerations.address.AccessMode.{AccessMode}
+use Rattle.wgsl_words.specs.declared.enumerations.words.DiagnosticSeverity.{DiagnosticSeverity}
+use Rattle.wgsl_words.specs.declared.enumerations.words.InterpolationType.{InterpolationType}
+use Rattle.wgsl_words.specs.declared.enumerations.words.InterpolationSampling.{InterpolationSampling}
 use Rattle.wgsl_expressions.specs.declared.expression.Expression.{Expression}
-use Rattle.wgsl_attributes.specs.declared.attribute.Attribute.{Attribute}
-use Rattle.wgsl_attributes.specs.declared.attribute.Attribute.TheVariants as attribute
+use Rattle.wgsl_expressions.specs.declared.attributes.attribute.Attribute.{Attribute}
+use Rattle.wgsl_expressions.specs.declared.attributes.attribute.Attribute.TheVariants as attribute
 use Rattle.wgsl_attribute_words.specs.declared.word.AttributeWord.{AttributeWord}
 use Rattle.wgsl_attribute_words.specs.declared.word.AttributeWord.TheVariants as word
 use Rattle.wgsl_attribute_words.specs.Words.{word_named}

@@ -2,13 +2,13 @@
 use Rattle.std.specs.Prelude.{ℕ, List, ◌++◌, codes, Option, Some, None, Bool, ◌&&◌, is_some}
 use Rattle.std.specs.Option.{option_map, option_and_then}
 use Rattle.wgsl_path.specs.declared.span.Spanned.{Spanned}
-use Rattle.wgsl_enumerations.specs.declared.address.AddressSpace.{AddressSpace}
-use Rattle.wgsl_enumerations.specs.declared.address.AccessMode.{AccessMode}
-use Rattle.wgsl_enumerations.specs.declared.builtin.BuiltinValue.{BuiltinValue}
-use Rattle.wgsl_enumerations.specs.declared.words.DiagnosticSeverity.{DiagnosticSeverity}
-use Rattle.wgsl_enumerations.specs.declared.words.InterpolationType.{InterpolationType}
-use Rattle.wgsl_enumerations.specs.declared.words.InterpolationSampling.{InterpolationSampling}
-use Rattle.wgsl_choices.specs.Choices.{severity_of, interpolation_type_of, interpolation_sampling_of, builtin_value_of, address_space_of, access_mode_of}
+use Rattle.wgsl_words.specs.declared.enumerations.address.AddressSpace.{AddressSpace}
+use Rattle.wgsl_words.specs.declared.enumerations.address.AccessMode.{AccessMode}
+use Rattle.wgsl_words.specs.declared.enumerations.builtin.BuiltinValue.{BuiltinValue}
+use Rattle.wgsl_words.specs.declared.enumerations.words.DiagnosticSeverity.{DiagnosticSeverity}
+use Rattle.wgsl_words.specs.declared.enumerations.words.InterpolationType.{InterpolationType}
+use Rattle.wgsl_words.specs.declared.enumerations.words.InterpolationSampling.{InterpolationSampling}
+use Rattle.wgsl_attribute_words.specs.Choices.{severity_of, interpolation_type_of, interpolation_sampling_of, builtin_value_of, address_space_of, access_mode_of}
 use Rattle.wgsl_expressions.specs.declared.expression.Expression.{Expression, out-Expression}
 use Rattle.wgsl_expressions.specs.declared.expression.Expression.TheOpen.{Expression-F}
 use Rattle.wgsl_expressions.specs.declared.expression.NamedComponentExpressionOf.{NamedComponentExpressionOf}

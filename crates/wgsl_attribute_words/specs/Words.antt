@@ -1,6 +1,6 @@
 -- The names of attributes.
 use Rattle.std.specs.Prelude.{ℕ, List, [], ◌∷◌, Option, Some, codes}
-use Rattle.wgsl_choices.specs.Choices.{named}
+use Rattle.wgsl_attribute_words.specs.Choices.{named}
 use Rattle.wgsl_attribute_words.specs.declared.word.AttributeWord.{AttributeWord}
 use Rattle.wgsl_attribute_words.specs.declared.word.AttributeWord.TheVariants as word
 

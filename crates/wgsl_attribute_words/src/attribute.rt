@@ -8,12 +8,12 @@ use crate::name::{
 };
 use crate::word::{AttributeWord, word_named};
 use std::alloc::{AllocError, Global};
-use wgsl_attributes::{
-    Attribute, CustomAttribute, DiagnosticAttribute, InterpolateAttribute, WorkgroupSizeAttribute,
+use wgsl_base::{Boxed, CloneIn, Items, Text};
+use wgsl_expressions::{
+    Attribute, CustomAttribute, DiagnosticAttribute, ExpressionNode, InterpolateAttribute,
+    WorkgroupSizeAttribute,
 };
-use wgsl_enumerations::{DiagnosticSeverity, InterpolationSampling, InterpolationType};
-use wgsl_expressions::ExpressionNode;
-use wgsl_items::{Boxed, CloneIn, Items, Text};
+use wgsl_words::{DiagnosticSeverity, InterpolationSampling, InterpolationType};
 
 fn without_arguments(word: AttributeWord) -> Option<Attribute>
     ensures { result ≡ attributes.without_arguments word }

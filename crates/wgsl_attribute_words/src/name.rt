@@ -4,16 +4,16 @@ ghost use Rattle.std.specs.Prelude.{◌≡◌, IfOk, is_some};
 ghost use Rattle.std.specs.Option.{option_copied};
 ghost use Rattle.wgsl_attribute_words.specs.Names as names;
 
-use std::alloc::{AllocError, Global};
-use wgsl_choices::{
+use crate::choices::{
     access_mode, address_space, builtin_value, interpolation_sampling, interpolation_type, severity,
 };
-use wgsl_enumerations::{
+use std::alloc::{AllocError, Global};
+use wgsl_base::Text;
+use wgsl_expressions::{Expression, ExpressionNode, NamedComponentExpression, TypeExpression};
+use wgsl_words::{
     AccessMode, AddressSpace, BuiltinValue, DiagnosticSeverity, InterpolationSampling,
     InterpolationType,
 };
-use wgsl_expressions::{Expression, ExpressionNode, NamedComponentExpression, TypeExpression};
-use wgsl_items::Text;
 
 fn alone(ty: &TypeExpression) -> Option<&str>
     ensures { option_copied result ≡ names.alone ty.now.path ty.now.template_args ty.now.ident.name }

@@ -4,8 +4,8 @@ ghost use Rattle.std.specs.Prelude.{◌≡◌};
 ghost use Rattle.wgsl_attribute_words.specs.Attributes as attributes;
 
 use crate::name::{access_mode_in, address_space_in};
-use wgsl_enumerations::{AccessMode, AddressSpace};
 use wgsl_expressions::ExpressionNode;
+use wgsl_words::{AccessMode, AddressSpace};
 
 fn space_alone(space: &ExpressionNode) -> Option<(AddressSpace, Option<AccessMode>)>
     ensures { result ≡ attributes.space_alone space.now }

@@ -53,7 +53,7 @@ pub enum AttributeWord {
 }
 
 impl FromStr for AttributeWord {
-    ghost use Rattle.wgsl_enumerations.specs.Texts.{ParsesExactly};
+    ghost use Rattle.wgsl_words.specs.Texts.{ParsesExactly};
     ghost use Rattle.wgsl_attribute_words.specs.Words.{word_spelled};
 
     type Err = ();

@@ -3,7 +3,7 @@
 use std::fmt;
 
 /// How many arguments a call may have.
-#[derive(Clone, Copy, Debug, PartialEq, Eq)]
+#[derive(Clone, Copy, PartialEq, Eq)]
 pub enum Counts {
     /// From the first number to the second one.
     Between(u32, u32),

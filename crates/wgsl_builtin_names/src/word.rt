@@ -5,7 +5,7 @@ use crate::functions::FUNCTIONS;
 use crate::types::TYPES;
 
 /// What a value of an enumeration chooses.
-#[derive(Clone, Copy, Debug, PartialEq, Eq)]
+#[derive(Clone, Copy, PartialEq, Eq)]
 pub enum Choice {
     AddressSpace,
     AccessMode,
@@ -13,7 +13,7 @@ pub enum Choice {
 }
 
 /// The type of what a function returns, as far as that matters for members.
-#[derive(Clone, Copy, Debug, PartialEq, Eq)]
+#[derive(Clone, Copy)]
 pub enum Gives {
     /// No value, or one of a type that is not told.
     Nothing,
@@ -41,7 +41,7 @@ pub enum Gives {
 }
 
 /// What kind of thing a name of WGSL's own is. `is_generator` is said of those that take template arguments.
-#[derive(Clone, Copy, Debug, PartialEq, Eq)]
+#[derive(Clone, Copy)]
 pub enum WordKind {
     Function(Counts, Gives),
     Scalar,
@@ -71,7 +71,7 @@ pub enum WordKind {
 }
 
 /// A name of WGSL's own, and what it is.
-#[derive(Clone, Copy, Debug)]
+#[derive(Clone, Copy)]
 pub struct Word {
     pub name: &'static str,
     pub kind: WordKind,

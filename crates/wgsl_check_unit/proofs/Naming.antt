@@ -2,11 +2,11 @@
 use Rattle.std.proofs.Common.{◌≡◌, sym, subst, ℕ, ◌+◌, ◌<◌, ◌≤◌, length, drop, get_or, List, ◌∷◌, Bool, true, false, Option, Decides}
 use Rattle.std.specs.Option.{option_or}
 use Rattle.std.proofs.lemmas.List.{drop_all}
-use Rattle.wgsl_derivable.specs.NodeRef.{NodeRef}
-use Rattle.wgsl_derivable.specs.Found.{node_of, nodes}
-use Rattle.wgsl_derivable.specs.Placed.{holding}
-use Rattle.wgsl_derivable.specs.Alone.{alone}
-use Rattle.wgsl_derivable.specs.Derivable.{IsDerivable}
+use Rattle.wgsl_read_back.specs.NodeRef.{NodeRef}
+use Rattle.wgsl_read_back.specs.Found.{node_of, nodes}
+use Rattle.wgsl_read_back.specs.Placed.{holding}
+use Rattle.wgsl_read_back.specs.Alone.{alone}
+use Rattle.wgsl_read_back.specs.Derivable.{IsDerivable}
 use Rattle.wgsl_check_unit.specs.Names.{node_name}
 use Rattle.wgsl_check_unit.specs.Telling.{IsNamed, rest_is, node_is, further}
 use Rattle.wgsl_check_unit.proofs.Telling.{front, never}

@@ -6,9 +6,9 @@ use Rattle.wgsl_path.specs.declared.span.Spanned.{Spanned}
 use Rattle.wgsl_declarations.specs.declared.declaration.GlobalDeclaration.{GlobalDeclaration}
 use Rattle.wgsl_declarations.specs.Tree.{Decl}
 use Rattle.wgsl_declarations.specs.View.{declaration_tree, declarations_tree}
-use Rattle.wgsl_derivable.specs.Alone.{at_most_one}
-use Rattle.wgsl_derivable.specs.Derivable.{IsDerivable}
-use Rattle.wgsl_derivable.proofs.Deciding.{empty_derivable}
+use Rattle.wgsl_read_back.specs.Alone.{at_most_one}
+use Rattle.wgsl_read_back.specs.Derivable.{IsDerivable}
+use Rattle.wgsl_read_back.proofs.Deciding.{empty_derivable}
 use Rattle.wgsl_check_unit.specs.Telling as told
 use Rattle.wgsl_check_unit.specs.Telling.{IsToldIn, IsTold, here, later}
 

@@ -5,7 +5,7 @@ use Rattle.wgsl_simple_statements.specs.Tree.{declaring}
 use Rattle.wgsl_statements.specs.Tree as statement
 use Rattle.wgsl_statements.specs.Tree.{Stms}
 use Rattle.wgsl_declarations.specs.Tree.{Decl, variable, alias, structure, function, assertion}
-use Rattle.wgsl_derivable.specs.Nodes.{Node, attribute_node, expression_node, type_node, statement_node, member_node, parameter_node}
+use Rattle.wgsl_read_back.specs.Nodes.{Node, attribute_node, expression_node, type_node, statement_node, member_node, parameter_node}
 
 abbrev pub typ_name : Typ → List ℕ
 typ_name (simple path name) = name

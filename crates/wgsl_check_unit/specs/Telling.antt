@@ -4,10 +4,10 @@ use Rattle.std.specs.Option.{option_and_then, option_or}
 use Rattle.std.specs.declared.alloc.Global.{Global}
 use Rattle.wgsl_declarations.specs.Tree.{Decl, UnitTree}
 use Rattle.wgsl_declarations.specs.Print.{unit_text}
-use Rattle.wgsl_derivable.specs.Nodes.{Node, in_decl, in_optional_decl, in_directives}
-use Rattle.wgsl_derivable.specs.Placed.{holding}
-use Rattle.wgsl_derivable.specs.Alone.{alone}
-use Rattle.wgsl_derivable.specs.Derivable.{SaysTree, IsDerivable}
+use Rattle.wgsl_read_back.specs.Nodes.{Node, in_decl, in_optional_decl, in_directives}
+use Rattle.wgsl_read_back.specs.Placed.{holding}
+use Rattle.wgsl_read_back.specs.Alone.{alone}
+use Rattle.wgsl_read_back.specs.Derivable.{SaysTree, IsDerivable}
 use Rattle.wgsl_check_unit.specs.Names.{node_name, decl_name}
 use Rattle.wgsl_check_unit.specs.declared.error.Unprintable.{Unprintable}
 use Rattle.wgsl_check_unit.specs.declared.error.Unprintable.TheVariants as refusal

@@ -2,14 +2,14 @@
 
 ghost use Rattle.std.specs.Prelude.{◌≡◌};
 ghost use Rattle.wgsl_declarations.specs.View.{unit_tree};
-ghost use Rattle.wgsl_derivable.specs.Derivable.{IsDerivable};
+ghost use Rattle.wgsl_read_back.specs.Derivable.{IsDerivable};
 ghost use Rattle.wgsl_check_unit.specs.Telling.{IsRefused, Checks, Prints};
 
 use crate::error::Unprintable;
 use crate::told::told_of;
 use std::alloc::Global;
 use wgsl_declarations::TranslationUnit;
-use wgsl_derivable::{is_derivable, print_derivable};
+use wgsl_read_back::{is_derivable, print_derivable};
 
 /// Why a module that no text derives has no text.
 fn refusal(alloc: Global, unit: &TranslationUnit) -> Unprintable

@@ -1,7 +1,7 @@
 //! Why a module has no text.
 
-use wgsl_error::Refusal;
-use wgsl_items::Text;
+use wgsl_base::Text;
+use wgsl_token::fault::Refusal;
 
 /// Why a module has no text.
 #[derive(Debug, Drop, PartialEq)]

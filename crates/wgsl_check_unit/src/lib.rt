@@ -8,4 +8,4 @@ mod told;
 
 pub use check::{check_unit, print_checked};
 pub use error::Unprintable;
-pub use wgsl_derivable::{Error, parse_str};
+pub use wgsl_read_back::{Error, parse_str};

@@ -3,15 +3,15 @@
 ghost use Rattle.std.specs.Prelude.{◌≡◌, ◌∷◌, [], IfOk};
 ghost use Rattle.std.specs.Option.{option_copied, option_or};
 ghost use Rattle.wgsl_statements.specs.View.{statement_tree, stms};
-ghost use Rattle.wgsl_derivable.specs.Found as found;
+ghost use Rattle.wgsl_read_back.specs.Found as found;
 ghost use Rattle.wgsl_check_unit.specs.Names as names;
 ghost use Rattle.wgsl_check_unit.specs.Telling.{IsNamed};
 
 use std::alloc::Global;
-use wgsl_derivable::{NodeRef, is_node_derivable};
-use wgsl_error::Refusal;
-use wgsl_items::Text;
+use wgsl_base::Text;
+use wgsl_read_back::{NodeRef, is_node_derivable};
 use wgsl_statements::Statement;
+use wgsl_token::fault::Refusal;
 
 /// The name that a local declaration declares.
 #[tactic(auto, using(wgsl_statements::proofs::Trees::tree_of_void, wgsl_statements::proofs::Trees::tree_of_compound, wgsl_statements::proofs::Trees::tree_of_assignment, wgsl_statements::proofs::Trees::tree_of_increment, wgsl_statements::proofs::Trees::tree_of_decrement, wgsl_statements::proofs::Trees::tree_of_if, wgsl_statements::proofs::Trees::tree_of_switch, wgsl_statements::proofs::Trees::tree_of_loop, wgsl_statements::proofs::Trees::tree_of_for, wgsl_statements::proofs::Trees::tree_of_while, wgsl_statements::proofs::Trees::tree_of_break, wgsl_statements::proofs::Trees::tree_of_continue, wgsl_statements::proofs::Trees::tree_of_return, wgsl_statements::proofs::Trees::tree_of_discard, wgsl_statements::proofs::Trees::tree_of_call, wgsl_statements::proofs::Trees::tree_of_assertion, wgsl_statements::proofs::Trees::tree_of_value))]

@@ -8,10 +8,10 @@ ghost use Rattle.wgsl_check_unit.specs.Telling.{IsTold, IsToldIn, IsToldOf};
 
 use crate::named::named;
 use std::alloc::Global;
+use wgsl_base::Text;
 use wgsl_declarations::{GlobalDeclaration, GlobalDeclarationNode, TranslationUnit};
-use wgsl_derivable::{find_directive_nodes, find_nodes, is_declaration_derivable};
-use wgsl_error::Refusal;
-use wgsl_items::Text;
+use wgsl_read_back::{find_directive_nodes, find_nodes, is_declaration_derivable};
+use wgsl_token::fault::Refusal;
 
 /// The name of a declaration.
 fn name(declaration: &GlobalDeclaration) -> Option<&str>

@@ -1,24 +1,22 @@
 //! A module and what has been computed of it.
 
 use crate::entry::take_inputs;
-use crate::running::run;
 use std::alloc::{AllocError, Global};
 use std::mem;
-use wgsl_const_rule::{Used, const_functions, start_order, uses_of};
-use wgsl_declaration_steps::{loaded_first, push_entry};
+use wgsl_base::{Items, OrOutOfMemory, Stack};
 use wgsl_declarations::TranslationUnit;
-use wgsl_directory::Directory;
-use wgsl_enumerations::{AccessMode, AddressSpace, ShaderStage};
-use wgsl_expressions::{ExpressionNode, TypeExpression};
-use wgsl_fault::{EvalError, Stop};
-use wgsl_inputs::Inputs;
-use wgsl_instance::Instance;
-use wgsl_items::{Items, OrOutOfMemory};
-use wgsl_machine::{
-    Bound, DeclarationFrame, Frame, Frames, Machine, Operand, Slot, Start, TypeFrame, WrittenFrame,
+use wgsl_eval::{TypedLocals, run_frames};
+use wgsl_eval_declarations::{loaded_first, push_entry};
+use wgsl_eval_machine::{
+    Bound, DeclarationFrame, EvalError, Frame, Frames, Machine, Operand, Slot, Start, Stop,
+    TypeFrame, WrittenFrame,
 };
+use wgsl_eval_names::{Directory, Used, const_functions, start_order, uses_of};
+use wgsl_expressions::{ExpressionNode, TypeExpression};
+use wgsl_instance::Instance;
+use wgsl_memory::Inputs;
 use wgsl_shader_type::Type;
-use wgsl_stack::Stack;
+use wgsl_words::{AccessMode, AddressSpace, ShaderStage};
 
 /// A linked module and what has been computed of it.
 #[derive(Drop)]
@@ -123,12 +121,13 @@ impl<'s> Context<'s> {
 
     fn run_frames(&mut self, frames: &mut Frames<'s>) -> Result<(), EvalError> {
         let mut works = Stack::new(self.machine.alloc);
-        let ran = run(
+        let ran = run_frames(
             self.unit,
             &self.directory,
             &mut self.machine,
             frames,
             &mut works,
+            TypedLocals::Deferred,
         );
         drop(works);
         match ran {

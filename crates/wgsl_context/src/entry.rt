@@ -1,13 +1,13 @@
 //! The inputs of an entry point as the machine takes them.
 
 use std::alloc::AllocError;
-use wgsl_enumerations::BuiltinValue;
-use wgsl_inputs::Inputs;
+use wgsl_base::Items;
+use wgsl_eval_machine::Machine;
 use wgsl_instance::{Instance, VecInstance};
-use wgsl_items::Items;
-use wgsl_machine::Machine;
+use wgsl_memory::Inputs;
 use wgsl_scalar::{IntegerType, ScalarType};
 use wgsl_shader_type::LiteralInstance;
+use wgsl_words::BuiltinValue;
 
 fn add(
     machine: &mut Machine,

@@ -3,9 +3,7 @@
 
 mod context;
 mod entry;
-mod running;
 
 pub use context::Context;
-pub use wgsl_fault::{EvalError, Fault};
-pub use wgsl_inputs::Inputs;
-pub use wgsl_machine::Start;
+pub use wgsl_eval_machine::{EvalError, Fault, Start};
+pub use wgsl_memory::Inputs;

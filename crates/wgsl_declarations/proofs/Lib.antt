@@ -1,1 +1,4 @@
 pub mod Texts
+pub mod Trees
+pub mod ImportsTexts
+pub use Rattle.wgsl_expressions.proofs.Commas

@@ -2,8 +2,8 @@
 use Rattle.std.proofs.Common.{◌≡◌, refl, ap, ◌∙◌, ℕ, List, [], ◌∷◌, ◌++◌, Option, Some, None, map, codes}
 use Rattle.std.specs.List.{cons_option, flat_map}
 use Rattle.std.proofs.lemmas.List.Folds.{flat_map-map}
-use Rattle.wgsl_imports.specs.Spanned.{Spanned}
-use Rattle.wgsl_imports.specs.ExpressionsPrint.{indent}
+use Rattle.wgsl_declarations.specs.Spanned.{Spanned}
+use Rattle.wgsl_declarations.specs.ExpressionsPrint.{indent}
 use Rattle.wgsl_declarations.specs.declared.declaration.StructMember.{StructMember}
 use Rattle.wgsl_declarations.specs.declared.declaration.GlobalDeclaration.{GlobalDeclaration}
 use Rattle.wgsl_declarations.specs.Tree.{Decl}

@@ -1,15 +1,15 @@
 -- How declarations and modules are printed (this project's own layout).
 use Rattle.std.specs.Prelude.{ℕ, List, [], ◌∷◌, ◌++◌, Option, Some, None, codes}
 use Rattle.std.specs.List.{flat_map}
-use Rattle.wgsl_imports.specs.ExpressionsTree.{Typ}
-use Rattle.wgsl_imports.specs.ExpressionsPrint.{commas, typ_text, indent}
-use Rattle.wgsl_imports.specs.AttributesTree.{Attr}
-use Rattle.wgsl_imports.specs.AttributesPrint.{attrs_text}
+use Rattle.wgsl_declarations.specs.ExpressionsTree.{Typ}
+use Rattle.wgsl_declarations.specs.ExpressionsPrint.{commas, typ_text, indent}
+use Rattle.wgsl_declarations.specs.AttributesTree.{Attr}
+use Rattle.wgsl_declarations.specs.AttributesPrint.{attrs_text}
 use Rattle.wgsl_statements.specs.SimpleStatementsTree.{asserting, declaring}
 use Rattle.wgsl_statements.specs.SimpleStatementsPrint.{simple_line}
 use Rattle.wgsl_statements.specs.Tree.{Block}
 use Rattle.wgsl_statements.specs.Print.{block_text}
-use Rattle.wgsl_imports.specs.Print.{importing_text, directive_text}
+use Rattle.wgsl_declarations.specs.ImportsPrint.{importing_text, directive_text}
 use Rattle.wgsl_declarations.specs.Tree.{Member, Param, Decl, variable, alias, structure, function, assertion, UnitTree}
 
 -- another name for a type, from behind its attributes to its `;`

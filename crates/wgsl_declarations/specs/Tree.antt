@@ -1,10 +1,10 @@
 -- Declarations and modules without places: what a text says, whatever its layout. A `;` alone is no declaration.
 use Rattle.std.specs.Prelude.{ℕ, List, Option}
-use Rattle.wgsl_imports.specs.ExpressionsTree.{Exp, Typ}
-use Rattle.wgsl_imports.specs.AttributesTree.{Attr}
+use Rattle.wgsl_declarations.specs.ExpressionsTree.{Exp, Typ}
+use Rattle.wgsl_declarations.specs.AttributesTree.{Attr}
 use Rattle.wgsl_statements.specs.DeclarationKind.{DeclarationKind}
 use Rattle.wgsl_statements.specs.Tree.{Block}
-use Rattle.wgsl_imports.specs.Tree.{Importing, Directive}
+use Rattle.wgsl_declarations.specs.ImportsTree.{Importing, Directive}
 
 -- a member of a structure (WGSL, "Structure Types")
 pub record Member : Type 0 where

@@ -1,13 +1,13 @@
 -- The declaration and the module without places that a code tree stands for. `Void` stands for none.
 use Rattle.std.specs.Prelude.{List, map, filter_map, Option, Some, None}
 use Rattle.std.specs.Option.{option_map}
-use Rattle.wgsl_imports.specs.Spanned.{Spanned}
-use Rattle.wgsl_imports.specs.ExpressionsView.{node_tree, type_tree}
-use Rattle.wgsl_imports.specs.AttributesView.{attributes_tree}
+use Rattle.wgsl_declarations.specs.Spanned.{Spanned}
+use Rattle.wgsl_declarations.specs.ExpressionsView.{node_tree, type_tree}
+use Rattle.wgsl_declarations.specs.AttributesView.{attributes_tree}
 use Rattle.wgsl_statements.specs.Declaration.{Declaration}
 use Rattle.wgsl_statements.specs.ConstAssert.{ConstAssert}
 use Rattle.wgsl_statements.specs.View.{block_tree}
-use Rattle.wgsl_imports.specs.View.{importing_tree, directive_tree}
+use Rattle.wgsl_declarations.specs.ImportsView.{importing_tree, directive_tree}
 use Rattle.wgsl_declarations.specs.declared.declaration.TypeAlias.{TypeAlias}
 use Rattle.wgsl_declarations.specs.declared.declaration.Struct.{Struct}
 use Rattle.wgsl_declarations.specs.declared.declaration.StructMember.{StructMember}

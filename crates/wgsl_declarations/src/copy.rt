@@ -3,9 +3,9 @@
 use crate::declaration::{
     FormalParameter, Function, GlobalDeclaration, Struct, StructMember, TypeAlias,
 };
+use crate::imports::CloneIn;
 use crate::unit::TranslationUnit;
 use std::alloc::{AllocError, Global};
-use wgsl_imports::CloneIn;
 
 impl CloneIn for TypeAlias {
     fn clone_in(&self, alloc: Global) -> Result<TypeAlias, AllocError> {

@@ -1,6 +1,6 @@
 //! Declarations of a module (WGSL, "Declaration and Scope", "Type Aliases", "Structure Types", "Functions").
 
-use wgsl_imports::{Attributes, Ident, Items, Spanned, TypeExpression};
+use crate::imports::{Attributes, Ident, Items, Spanned, TypeExpression};
 use wgsl_statements::{CompoundStatement, ConstAssert, Declaration};
 
 /// A declaration of a module and its place.

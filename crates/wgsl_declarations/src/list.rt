@@ -5,8 +5,8 @@ ghost use Rattle.std.specs.Fn.{CalledAt};
 ghost use Rattle.std.specs.List.Retain.{IsFiltered};
 
 use crate::declaration::GlobalDeclarationNode;
+use crate::imports::Items;
 use crate::unit::TranslationUnit;
-use wgsl_imports::Items;
 
 /// Keeps, in order, the declarations at which the closure returns `true`, and drops the others.
 pub fn retain_declarations<F: FnMut(&GlobalDeclarationNode) -> bool>(

@@ -5,9 +5,9 @@ ghost use Rattle.std.specs.Prelude.{◌≡◌, [], None};
 use crate::declaration::{
     FormalParameter, Function, GlobalDeclaration, Struct, StructMember, TypeAlias,
 };
+use crate::imports::{Ident, Items, TypeExpression};
 use crate::unit::TranslationUnit;
 use std::alloc::Global;
-use wgsl_imports::{Ident, Items, TypeExpression};
 use wgsl_statements::{CompoundStatement, ConstAssert, Declaration};
 
 impl TranslationUnit {

@@ -4,9 +4,9 @@ ghost use Rattle.std.specs.Prelude.{◌≡◌, ◌++◌, Some, map, codes};
 ghost use Rattle.std.specs.List.{flat_map};
 ghost use Rattle.std.specs.Option.{option_map};
 ghost use Rattle.std.specs.Fmt.{WritesOnOk};
-ghost use Rattle.wgsl_imports.specs.ExpressionsView.{type_tree};
-ghost use Rattle.wgsl_imports.specs.ExpressionsPrint.{commas, indent};
-ghost use Rattle.wgsl_imports.specs.AttributesView.{attributes_tree};
+ghost use Rattle.wgsl_declarations.specs.ExpressionsView.{type_tree};
+ghost use Rattle.wgsl_declarations.specs.ExpressionsPrint.{commas, indent};
+ghost use Rattle.wgsl_declarations.specs.AttributesView.{attributes_tree};
 ghost use Rattle.wgsl_statements.specs.View.{block_tree};
 ghost use Rattle.wgsl_declarations.specs.View.{alias_tree, member_tree, members_tree, structure_tree, parameter_tree, function_tree, declaration_tree};
 ghost use Rattle.wgsl_declarations.specs.Print.{alias_text, structure_text, member_text, members_text, param_text, head_text, result_text, body_text, decl_text, lines_text};
@@ -14,9 +14,9 @@ ghost use Rattle.wgsl_declarations.specs.Print.{alias_text, structure_text, memb
 use crate::declaration::{
     FormalParameter, Function, GlobalDeclaration, Struct, StructMember, StructMemberNode, TypeAlias,
 };
+use crate::imports::{AttributeNode, TypeExpression, write_attributes, write_indent};
 use std::fmt;
 use std::fmt::Display;
-use wgsl_imports::{AttributeNode, TypeExpression, write_attributes, write_indent};
 use wgsl_statements::CompoundStatement;
 
 /// Writes it from behind its attributes to its `;`.

@@ -3,16 +3,16 @@
 ghost use Rattle.std.specs.Prelude.{◌≡◌, ◌++◌, Some, map};
 ghost use Rattle.std.specs.List.{flat_map};
 ghost use Rattle.std.specs.Fmt.{WritesOnOk};
-ghost use Rattle.wgsl_imports.specs.View.{importing_tree, directive_tree};
-ghost use Rattle.wgsl_imports.specs.Print.{importing_text, directive_text};
+ghost use Rattle.wgsl_declarations.specs.ImportsView.{importing_tree, directive_tree};
+ghost use Rattle.wgsl_declarations.specs.ImportsPrint.{importing_text, directive_text};
 ghost use Rattle.wgsl_declarations.specs.View.{declaration_tree, declarations_tree, unit_tree};
 ghost use Rattle.wgsl_declarations.specs.Print.{decl_text, lines_text, unit_text};
 
 use crate::declaration::GlobalDeclarationNode;
+use crate::imports::{GlobalDirective, ImportStatement};
 use crate::unit::TranslationUnit;
 use std::fmt;
 use std::fmt::Display;
-use wgsl_imports::{GlobalDirective, ImportStatement};
 
 impl fmt::Display for TranslationUnit {
     ghost output = { λ x. Some (unit_text (unit_tree x)) };

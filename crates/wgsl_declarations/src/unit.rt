@@ -1,7 +1,7 @@
 //! Whole modules.
 
 use crate::declaration::GlobalDeclarationNode;
-use wgsl_imports::{GlobalDirective, ImportStatement, Items};
+use crate::imports::{GlobalDirective, ImportStatement, Items};
 
 /// The syntax tree of a module.
 #[derive(Debug, Drop, PartialEq)]

@@ -1,19 +1,10 @@
-//! The evaluator of the const stage over a plain unit: values and types of expressions, and the consts at the start.
+//! The evaluator as lowering asks it: const values and types of trees, in the scope of a function; and the loop that every run goes
+//! through.
 #![tactic(auto)]
 
-mod error;
-mod evaluate;
-mod find;
-mod literal;
-mod scope;
-mod start;
-mod typing;
+mod evaluator;
+mod running;
 
-pub use error::{DeclarationFault, EvalError, UnitError, computed, refused};
-pub use evaluate::{call, callee, decides, eval_value, values};
-pub use find::{declarations_of, plain_name};
-pub use literal::literal_value;
-pub use scope::{Declarations, Scope, Values};
-pub use start::{Start, start_values};
-pub use typing::{const_value, eval_ty, ty_eval_ty};
-pub use wgsl_meaning::{Fault, NameFault};
+pub use evaluator::{Evaluator, UnitUses};
+pub use running::{TypedLocals, run_frames};
+pub use wgsl_eval_machine::{EvalError, Fault, PlainFault, Stop};

@@ -3,3 +3,4 @@ pub mod Texts
 pub mod Clinging
 pub mod Numbers
 pub mod Commas
+pub mod AttributesTexts

@@ -1,8 +1,8 @@
 //! Expressions (WGSL, "Expressions"). A struct that a variant of `Expression` holds is generic in it, so that the cycle of
 //! types has one member; the plain names are aliases.
 
-use wgsl_operators::{BinaryOperator, UnaryOperator};
 use wgsl_path::{Boxed, Ident, Items, ModulePath, Spanned, Text};
+use wgsl_words::{BinaryOperator, UnaryOperator};
 
 /// A literal (WGSL, "Literals"). A whole number stands as its value, and a float as it is spelled, each without its suffix.
 #[derive(Debug, Drop, PartialEq)]

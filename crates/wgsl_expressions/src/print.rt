@@ -3,7 +3,7 @@
 ghost use Rattle.std.specs.Prelude.{◌≡◌, ◌++◌, Some, [], map, codes, if◌then◌else◌};
 ghost use Rattle.std.specs.Option.{option_map};
 ghost use Rattle.std.specs.Fmt.{WritesOnOk, signed_decimal};
-ghost use Rattle.wgsl_operators.specs.Operators.{unary_text};
+ghost use Rattle.wgsl_words.specs.Operators.{unary_text};
 ghost use Rattle.wgsl_expressions.specs.Tree.{parenthesized, component, indexed, unary, binary, exps};
 ghost use Rattle.wgsl_expressions.specs.View.{tree, node_tree, type_tree, call_layer};
 ghost use Rattle.wgsl_expressions.specs.Print.{literal_text, is_numeric, gap, clings, commas, exp_text, exps_text, typ_text, qualifier_text, angled, brackets_text};
@@ -15,8 +15,8 @@ use crate::expression::{
 };
 use std::fmt;
 use std::fmt::Display;
-use wgsl_operators::UnaryOperator;
 use wgsl_path::{Boxed, Items, ModulePath, PathOrigin};
+use wgsl_words::UnaryOperator;
 
 impl fmt::Display for LiteralExpression {
     ghost output = { λ x. Some (literal_text x) };

@@ -1,8 +1,8 @@
 -- The rules that there are.
 use Rattle.std.proofs.Common.{◌≡◌, ℕ, ◌<◌, nat_lt, Some}
 use Rattle.std.proofs.lemmas.Bool.{lt-ltb}
-use Rattle.wgsl_tables.specs.Listed.{rule_at}
-use Rattle.wgsl_tables.proofs.Facts.{giving}
+use Rattle.wgsl_grammar_tables.specs.Listed.{rule_at}
+use Rattle.wgsl_grammar_tables.proofs.Facts.{giving}
 use Rattle.wgsl_parser_table.specs.declared.table.TheConstants.{RULE_COUNT}
 use Rattle.wgsl_grammar_tables.specs.Decoded.{listed}
 

@@ -4,10 +4,10 @@ use Rattle.std.proofs.lemmas.Bool.{eqb-true}
 use Rattle.wgsl_token.specs.declared.token.Token.TheVariants.{Fixed as OfFixed, Identifier, Reserved, I32, Invalid}
 use Rattle.std.specs.Prelude.{pos}
 use Rattle.wgsl_token.specs.declared.token.Fixed.TheVariants as f
-use Rattle.wgsl_template_spec.specs.declared.token.TemplateToken.{TemplateToken}
-use Rattle.wgsl_template_spec.specs.declared.token.TemplateToken.TheVariants.{Plain, TemplateArgsStart, TemplateArgsEnd}
-use Rattle.wgsl_tables.specs.Tests.{all_below}
-use Rattle.wgsl_tables.proofs.Facts.{each_below}
+use Rattle.wgsl_templates.specs.declared.meaning.token.TemplateToken.{TemplateToken}
+use Rattle.wgsl_templates.specs.declared.meaning.token.TemplateToken.TheVariants.{Plain, TemplateArgsStart, TemplateArgsEnd}
+use Rattle.wgsl_grammar_tables.specs.Tests.{all_below}
+use Rattle.wgsl_grammar_tables.proofs.Facts.{each_below}
 use Rattle.wgsl_grammar_tables.specs.Classes.{class_of}
 use Rattle.wgsl_grammar_tables.specs.Decoded.{listed}
 

@@ -1,11 +1,11 @@
 -- The tables fit each grammar that has their rules, from each start.
 use Rattle.std.proofs.Common.{◌≡◌, refl, ℕ, true, nat_lt}
-use Rattle.wgsl_shift_reduce.specs.Grammars.{Grammar}
-use Rattle.wgsl_shift_reduce.specs.Fit.{IsFit}
-use Rattle.wgsl_tables.specs.Listed.{rule_at, tables, account}
-use Rattle.wgsl_tables.specs.Tests.{all_below, Passes, test_begins, test_starts, test_ends, test_ends_all, test_accepts, test_no_start, test_no_sentence, test_follow}
-use Rattle.wgsl_tables.proofs.Facts.{each_below}
-use Rattle.wgsl_tables.proofs.Fitting.{fits}
+use Rattle.wgsl_grammar_tables.specs.Grammars.{Grammar}
+use Rattle.wgsl_grammar_tables.specs.Fit.{IsFit}
+use Rattle.wgsl_grammar_tables.specs.Listed.{rule_at, tables, account}
+use Rattle.wgsl_grammar_tables.specs.Tests.{all_below, Passes, test_begins, test_starts, test_ends, test_ends_all, test_accepts, test_no_start, test_no_sentence, test_follow}
+use Rattle.wgsl_grammar_tables.proofs.Facts.{each_below}
+use Rattle.wgsl_grammar_tables.proofs.Fitting.{fits}
 use Rattle.wgsl_grammar_tables.specs.Decoded.{listed}
 use Rattle.wgsl_grammar_tables.specs.Starts.{start}
 use Rattle.wgsl_grammar_tables.proofs.Passing as passing

@@ -1,7 +1,15 @@
 pub mod Passing
 pub mod Fits
 pub mod Read
-pub mod Steps
+pub mod StepsLemmas
 pub mod Examples
 pub mod Written
 pub mod Driving
+mod Stacks
+mod Replays
+mod Exact
+mod Sound
+pub mod Whole
+mod Moves
+pub mod Facts
+pub mod Fitting

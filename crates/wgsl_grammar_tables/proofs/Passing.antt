@@ -1,6 +1,6 @@
 -- The tables pass each test.
 use Rattle.std.proofs.Common.{◌≡◌, refl, true}
-use Rattle.wgsl_tables.specs.Tests.{test_rules_of, test_nonempty, test_steps, test_came, test_some_item, test_known, test_reduces, test_itself, test_deeper, test_reaches, test_order, test_inhabited, test_first}
+use Rattle.wgsl_grammar_tables.specs.Tests.{test_rules_of, test_nonempty, test_steps, test_came, test_some_item, test_known, test_reduces, test_itself, test_deeper, test_reaches, test_order, test_inhabited, test_first}
 use Rattle.wgsl_grammar_tables.specs.Decoded.{listed}
 
 pub rules_of : test_rules_of listed ≡ true

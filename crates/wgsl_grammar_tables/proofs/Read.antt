@@ -3,10 +3,10 @@ use Rattle.std.proofs.Common.{◌≡◌, ◌∙◌, refl, sym, ap, ℕ, zero, su
 use Rattle.std.specs.Prelude.{nat_le}
 use Rattle.std.proofs.lemmas.Bool.{eqb-true, leb-true, and_parts, lt-ltb, le-ltb, cases_lt}
 use Rattle.std.proofs.lemmas.List.{length-map}
-use Rattle.wgsl_shift_reduce.specs.Grammars.{Symbol, Rule}
-use Rattle.wgsl_tables.specs.Listed.{code, member, rule_at, finals_at, first_before}
-use Rattle.wgsl_tables.specs.Tests.{all_below}
-use Rattle.wgsl_tables.proofs.Facts.{given, each_below, code_is}
+use Rattle.wgsl_grammar_tables.specs.Grammars.{Symbol, Rule}
+use Rattle.wgsl_grammar_tables.specs.Listed.{code, member, rule_at, finals_at, first_before}
+use Rattle.wgsl_grammar_tables.specs.Tests.{all_below}
+use Rattle.wgsl_grammar_tables.proofs.Facts.{given, each_below, code_is}
 use Rattle.wgsl_parser_table.specs.declared.table.TheConstants.{LAST, PATTERNS, PATTERNS_STARTS, RULE_COUNT, STATE_COUNT, NONTERMINAL_COUNT, FINALS, FINALS_STARTS, FOLLOW, FOLLOW_STARTS, LEFT, RIGHT, RIGHT_STARTS}
 use Rattle.wgsl_grammar_tables.specs.Rows.{AreStarts, row_between}
 use Rattle.wgsl_grammar_tables.specs.Starts.{start}

@@ -1,11 +1,11 @@
 -- The tables' rules are those of the grammar's lines.
 use Rattle.std.proofs.Common.{nat_lt, ◌≡◌, ◌∙◌, refl, sym, ap, ℕ, zero, suc, ◌≤◌, Bool, true, false, ◌==◌, ◌&&◌, if◌then◌else◌, List, [], ◌∷◌, map, length, get_or, inl, inr, Option, Some, None, arith}
 use Rattle.std.proofs.lemmas.Bool.{eqb-true, and_parts, lt-ltb, le-ltb, cases_lt}
-use Rattle.wgsl_shift_reduce.specs.Grammars.{Rule, Grammar}
-use Rattle.wgsl_shift_reduce.specs.Fit.{IsFit}
-use Rattle.wgsl_tables.specs.Listed.{rule_at, tables, account}
-use Rattle.wgsl_tables.specs.Tests.{all_below}
-use Rattle.wgsl_tables.proofs.Facts.{each_below}
+use Rattle.wgsl_grammar_tables.specs.Grammars.{Rule, Grammar}
+use Rattle.wgsl_grammar_tables.specs.Fit.{IsFit}
+use Rattle.wgsl_grammar_tables.specs.Listed.{rule_at, tables, account}
+use Rattle.wgsl_grammar_tables.specs.Tests.{all_below}
+use Rattle.wgsl_grammar_tables.proofs.Facts.{each_below}
 use Rattle.wgsl_parser_table.specs.Label.TheVariants.{Pass}
 use Rattle.wgsl_parser_table.specs.declared.table.TheConstants.{RULE_COUNT, LABELS, GOAL, SENTENCE}
 use Rattle.wgsl_grammar_tables.specs.Decoded.{listed, nth}

@@ -1,7 +1,7 @@
 -- The tables as they are listed.
 use Rattle.std.specs.Prelude.{ℕ, zero, suc, nat_lt, ◌-◌, ◌/◌, ◌%◌, if◌then◌else◌, ◌==◌, List, [], ◌∷◌, take, drop, map}
-use Rattle.wgsl_shift_reduce.specs.Grammars.{Symbol, token, phrase, Rule}
-use Rattle.wgsl_tables.specs.Listed.{Listed}
+use Rattle.wgsl_grammar_tables.specs.Grammars.{Symbol, token, phrase, Rule}
+use Rattle.wgsl_grammar_tables.specs.Listed.{Listed}
 use Rattle.wgsl_parser_table.specs.declared.table.TheConstants.{CLASS_COUNT, RULE_COUNT, STATE_COUNT, NONTERMINAL_COUNT, STEPS, STEPS_STARTS, FINALS, FINALS_STARTS, KERNEL, KERNEL_STARTS, CORNERS, CORNERS_STARTS, WAYS, WAYS_STARTS, RULES, RULES_STARTS, FOLLOW, FOLLOW_STARTS, FIRST, FIRST_STARTS, ORDER, LEFT, RIGHT, RIGHT_STARTS}
 
 module _ {X : Type 0} where

@@ -3,8 +3,8 @@ use Rattle.std.specs.Prelude.{ℕ, zero, suc, ◌+◌, ◌*◌, Bool, true, fals
 use Rattle.wgsl_token.specs.declared.token.Fixed.{Fixed}
 use Rattle.wgsl_token.specs.declared.token.Fixed.TheVariants as f
 use Rattle.wgsl_token.specs.declared.token.Token.TheVariants as t
-use Rattle.wgsl_template_spec.specs.declared.token.TemplateToken.TheVariants.{Plain, TemplateArgsStart, TemplateArgsEnd}
-use Rattle.wgsl_shift_reduce.specs.Grammars.{Symbol, token, phrase, Rule}
+use Rattle.wgsl_templates.specs.declared.meaning.token.TemplateToken.TheVariants.{Plain, TemplateArgsStart, TemplateArgsEnd}
+use Rattle.wgsl_grammar_tables.specs.Grammars.{Symbol, token, phrase, Rule}
 use Rattle.wgsl_parser_table.specs.Label.{Label}
 use Rattle.wgsl_parser_table.specs.Label.TheVariants as l
 use Rattle.wgsl_grammar_tables.specs.Classes.{class_of, fixed_class}

@@ -1,8 +1,8 @@
 -- The grammar of WGSL and of imports (WGSL, "Grammar"; imports are WESL's).
 use Rattle.std.specs.Prelude.{List, [], ◌∷◌}
-use Rattle.wgsl_operators.specs.declared.UnaryOperator.TheVariants as u
-use Rattle.wgsl_operators.specs.declared.BinaryOperator.TheVariants as o
-use Rattle.wgsl_enumerations.specs.declared.words.AssignmentOperator.TheVariants as a
+use Rattle.wgsl_words.specs.declared.operators.UnaryOperator.TheVariants as u
+use Rattle.wgsl_words.specs.declared.operators.BinaryOperator.TheVariants as o
+use Rattle.wgsl_words.specs.declared.enumerations.words.AssignmentOperator.TheVariants as a
 use Rattle.wgsl_token.specs.declared.token.Fixed.{Fixed}
 use Rattle.wgsl_token.specs.declared.token.Fixed.TheVariants as f
 use Rattle.wgsl_parser_table.specs.Label.{Label}

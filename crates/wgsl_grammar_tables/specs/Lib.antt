@@ -7,3 +7,10 @@ pub mod Nonterminals
 pub mod Grammar
 pub mod Expansion
 pub mod PassedOn
+pub mod Grammars
+pub mod Machine
+pub mod Fit
+pub mod Laws
+pub mod Runs
+pub mod Listed
+pub mod Tests

@@ -1,7 +1,7 @@
 -- Rules that make nothing new of their one symbol.
 use Rattle.std.specs.Prelude.{◌≡◌, ℕ, length, [], ◌∷◌, Some}
-use Rattle.wgsl_shift_reduce.specs.Grammars.{Rule}
-use Rattle.wgsl_tables.specs.Listed.{rule_at}
+use Rattle.wgsl_grammar_tables.specs.Grammars.{Rule}
+use Rattle.wgsl_grammar_tables.specs.Listed.{rule_at}
 use Rattle.wgsl_parser_table.specs.Label.TheVariants.{Pass}
 use Rattle.wgsl_grammar_tables.specs.Decoded.{listed}
 use Rattle.wgsl_grammar_tables.specs.Labels.{label_at, pattern_at}

@@ -3,7 +3,7 @@
 ghost use Rattle.std.specs.Prelude.{◌≡◌, ◌<◌};
 ghost use Rattle.wgsl_grammar_tables.specs.Classes as classes;
 
-use wgsl_template_spec::TemplateToken;
+use wgsl_templates::TemplateToken;
 use wgsl_token::{Fixed, Token};
 
 /// The class of a token: a fixed token has its own; identifiers, literals and reserved words are one each.

@@ -1,16 +1,16 @@
 //! What the parser asks of its tables.
 
 ghost use Rattle.std.specs.Prelude.{◌≡◌, ℕ, ◌<◌, length, suc, zero, Some, MatchOption, if◌then◌else◌, ◌==◌};
-ghost use Rattle.wgsl_shift_reduce.specs.Grammars.{Rule, phrase, token};
-ghost use Rattle.wgsl_shift_reduce.specs.declared.machine.Action.TheVariants.{Accept};
-ghost use Rattle.wgsl_shift_reduce.specs.Machine.{action, reducing, shifting};
-ghost use Rattle.wgsl_tables.specs.Listed.{reduction_at, rule_at, step_at, tables};
+ghost use Rattle.wgsl_grammar_tables.specs.Grammars.{Rule, phrase, token};
+ghost use Rattle.wgsl_grammar_tables.specs.declared.shift_reduce.machine.Action.TheVariants.{Accept};
+ghost use Rattle.wgsl_grammar_tables.specs.Machine.{action, reducing, shifting};
+ghost use Rattle.wgsl_grammar_tables.specs.Listed.{reduction_at, rule_at, step_at, tables};
 ghost use Rattle.wgsl_grammar_tables.specs.Decoded.{listed};
 ghost use Rattle.wgsl_grammar_tables.specs.Starts.{start};
 
+use crate::shift_reduce::{Action, Shape};
 use crate::{last_state, phrase_step, reduction, rule_left, rule_length, token_step};
 use wgsl_parser_table::table::RULE_COUNT;
-use wgsl_shift_reduce::{Action, Shape};
 
 /// The reduction of a state before what is ahead, if there is one.
 fn reduce(state: u16, ahead: u16) -> Action

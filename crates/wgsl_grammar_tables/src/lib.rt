@@ -1,23 +1,28 @@
 //! The tables of the parser of WGSL and of the grammar of imports, and how they are read.
 #![tactic(auto)]
 
+pub mod shift_reduce;
+pub mod steps;
+pub mod theory;
+
 ghost use Rattle.std.specs.Prelude.{◌≡◌, ◌<◌, get_or, length, MatchOption};
 ghost use Rattle.wgsl_grammar_tables.specs.Decoded.{listed};
 ghost use Rattle.wgsl_parser_table.specs.Label.TheVariants.{Pass};
 ghost use Rattle.wgsl_grammar_tables.specs.Starts.{start};
 ghost use Rattle.wgsl_grammar_tables.specs.Labels.{label_at, pattern_at};
-ghost use Rattle.wgsl_shift_reduce.specs.Grammars.{phrase, token};
+ghost use Rattle.wgsl_grammar_tables.specs.Grammars.{phrase, token};
 ghost use Rattle.wgsl_grammar_tables.specs.PassedOn.{IsPassedTo};
-ghost use Rattle.wgsl_tables.specs.Listed.{finals_at, first_before, reduction_at, step_at};
+ghost use Rattle.wgsl_grammar_tables.specs.Listed.{finals_at, first_before, reduction_at, step_at};
 
 pub mod class;
 pub mod drive;
 mod rows;
 
 use crate::rows::{contains, less_one, row, within};
-use wgsl_parser_steps::steps::{
+use crate::steps::steps::{
     ONLY_FINALS, PASSED_TO, PHRASE_STEPS, PHRASE_STEPS_PLACES, TOKEN_STEPS, TOKEN_STEPS_PLACES,
 };
+pub use shift_reduce::{Action, Driver, Entry, Progress, Shape, Stopped, run};
 use wgsl_parser_table::Label;
 use wgsl_parser_table::table::{
     FINALS, FINALS_STARTS, FOLLOW, FOLLOW_STARTS, LABELS, LAST, LEFT, PATTERNS, PATTERNS_STARTS,
@@ -25,7 +30,7 @@ use wgsl_parser_table::table::{
 };
 
 /// The state that a token of this class leads to from a state.
-#[tactic(auto, using(crate::proofs::Steps::token_steps))]
+#[tactic(auto, using(crate::proofs::StepsLemmas::token_steps))]
 pub fn token_step(state: u16, class: u16) -> Option<u16>
     ensures { result ≡ step_at listed state (token class) }
 {
@@ -33,7 +38,7 @@ pub fn token_step(state: u16, class: u16) -> Option<u16>
 }
 
 /// The state that a phrase of this nonterminal leads to from a state.
-#[tactic(auto, using(crate::proofs::Steps::phrase_steps))]
+#[tactic(auto, using(crate::proofs::StepsLemmas::phrase_steps))]
 pub fn phrase_step(state: u16, nonterminal: u16) -> Option<u16>
     ensures { result ≡ step_at listed state (phrase nonterminal) }
 {
@@ -52,7 +57,7 @@ pub fn reduction(state: u16, ahead: u16) -> Option<u16>
 }
 
 /// The left side of a rule that makes nothing new of its one symbol.
-#[tactic(auto, using(crate::proofs::Steps::passed_to))]
+#[tactic(auto, using(crate::proofs::StepsLemmas::passed_to))]
 pub fn passed_to(rule: u16) -> Option<u16>
     ensures { MatchOption result Unit (λ left. IsPassedTo rule left) }
 {

@@ -2,7 +2,7 @@
 
 ghost use Rattle.std.specs.Prelude.{◌≡◌, length};
 ghost use Rattle.wgsl_grammar_tables.specs.Rows.{AreStarts, less_one, row_between, within};
-ghost use Rattle.wgsl_tables.specs.Listed.{member};
+ghost use Rattle.wgsl_grammar_tables.specs.Listed.{member};
 
 /// The row of this number, of those that begin at `starts`.
 pub fn row<'a>(starts: &[u16], entries: &'a [u16], number: u16) -> &'a [u16]

@@ -1,1 +1,1 @@
-pub use Rattle.wesl_visit_expressions_in_modules.specs.Modules
+pub use Rattle.wesl_visit_in_modules.specs.Modules

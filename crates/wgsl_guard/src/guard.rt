@@ -1,13 +1,13 @@
 //! Parentheses round the left operands of `<`.
 
 ghost use Rattle.std.specs.Prelude.{◌≡◌, OnErr};
-ghost use Rattle.wesl_visit_expressions_in_modules.specs.Modules.{around_expressions_in_unit};
+ghost use Rattle.wesl_visit_in_modules.specs.Modules.{around_expressions_in_unit};
 
 use crate::names::opens_template;
 use std::alloc::{AllocError, Global};
 use std::convert::Infallible;
 use std::mem;
-use wesl_visit_expressions_in_modules::VisitExpressions;
+use wesl_visit_in_modules::VisitExpressions;
 use wgsl_declarations::TranslationUnit;
 use wgsl_expressions::{
     Boxed, Expression, ExpressionNode, LiteralExpression, ParenthesizedExpression, Spanned,

@@ -1,7 +1,7 @@
 -- The zero value, variant by variant.
 use Rattle.std.proofs.Common.{◌≡◌, refl, sym, ap, ◌∙◌, ℕ, List, [], ◌∷◌, map, Option, Result, Ok, Err}
-use Rattle.wgsl_enumerations.specs.declared.address.AddressSpace.{AddressSpace}
-use Rattle.wgsl_enumerations.specs.declared.address.AccessMode.{AccessMode}
+use Rattle.wgsl_words.specs.declared.enumerations.address.AddressSpace.{AddressSpace}
+use Rattle.wgsl_words.specs.declared.enumerations.address.AccessMode.{AccessMode}
 use Rattle.wgsl_shader_type.specs.declared.error.Error.{Error}
 use Rattle.wgsl_shader_type.specs.declared.error.Error.TheVariants.{NotConstructible}
 use Rattle.wgsl_shader_type.specs.declared.tree.StructTypeOf.{StructTypeOf}

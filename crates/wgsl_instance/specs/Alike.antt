@@ -2,8 +2,8 @@
 use Rattle.std.specs.Prelude.{◌==◌, Bool, true, false, ◌&&◌}
 use Rattle.std.specs.Bool.{beq}
 use Rattle.std.specs.Cmp.Lexicographic.{pointwise}
-use Rattle.wgsl_enumerations.specs.contracts.address.AddressSpacePartialEq.TheImpl as space
-use Rattle.wgsl_enumerations.specs.contracts.address.AccessModePartialEq.TheImpl as access
+use Rattle.wgsl_words.specs.contracts.enumerations.address.AddressSpacePartialEq.TheImpl as space
+use Rattle.wgsl_words.specs.contracts.enumerations.address.AccessModePartialEq.TheImpl as access
 use Rattle.wgsl_shader_type.specs.contracts.literal.LiteralInstancePartialEq.TheImpl as literal
 use Rattle.wgsl_scalar.specs.contracts.scalar.ScalarTypePartialEq.TheImpl as scalar
 use Rattle.wgsl_instance.specs.contracts.tree.StepPartialEq.TheImpl as step

@@ -6,12 +6,12 @@ use Rattle.std.specs.Cmp.Lexicographic.{pointwise}
 use Rattle.std.proofs.lemmas.Slice.Eq.{slice_eq-Decides}
 use Rattle.std.proofs.lemmas.Bool.Decides.{Decides-int_eq}
 use denote.Enum.Bare.{same_true, true_same}
-use Rattle.wgsl_enumerations.specs.contracts.address.AddressSpace.{the_type as space_type}
-use Rattle.wgsl_enumerations.specs.contracts.address.AccessMode.{the_type as access_type}
-use Rattle.wgsl_enumerations.specs.contracts.address.AddressSpacePartialEq.TheImpl as space
-use Rattle.wgsl_enumerations.specs.contracts.address.AccessModePartialEq.TheImpl as access
-use Rattle.wgsl_enumerations.specs.declared.address.AddressSpace.{AddressSpace}
-use Rattle.wgsl_enumerations.specs.declared.address.AccessMode.{AccessMode}
+use Rattle.wgsl_words.specs.contracts.enumerations.address.AddressSpace.{the_type as space_type}
+use Rattle.wgsl_words.specs.contracts.enumerations.address.AccessMode.{the_type as access_type}
+use Rattle.wgsl_words.specs.contracts.enumerations.address.AddressSpacePartialEq.TheImpl as space
+use Rattle.wgsl_words.specs.contracts.enumerations.address.AccessModePartialEq.TheImpl as access
+use Rattle.wgsl_words.specs.declared.enumerations.address.AddressSpace.{AddressSpace}
+use Rattle.wgsl_words.specs.declared.enumerations.address.AccessMode.{AccessMode}
 use Rattle.wgsl_shader_type.specs.declared.tree.StructTypeOf.{StructTypeOf}
 use Rattle.wgsl_shader_type.specs.declared.tree.ShaderType.{ShaderType, out-ShaderType}
 use Rattle.wgsl_shader_type.specs.declared.tree.ShaderType.TheVariants as type

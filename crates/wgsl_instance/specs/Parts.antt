@@ -2,8 +2,8 @@
 use Rattle.std.specs.Prelude.{ℕ, ◌==◌, ◌&&◌, ◌||◌, ℤ, pos, negsuc, Bool, true, false, List, [], ◌∷◌, length, Option, Some, None, Result, Ok, Err, nat_lt, nat_le, position, option_and_then, slice_get, if◌then◌else◌}
 use Rattle.std.specs.List.{list_all}
 use Rattle.std.specs.Str.{bytes_eq}
-use Rattle.wgsl_enumerations.specs.declared.address.AddressSpace.{AddressSpace}
-use Rattle.wgsl_enumerations.specs.declared.address.AddressSpace.TheVariants.{Handle}
+use Rattle.wgsl_words.specs.declared.enumerations.address.AddressSpace.{AddressSpace}
+use Rattle.wgsl_words.specs.declared.enumerations.address.AddressSpace.TheVariants.{Handle}
 use Rattle.wgsl_shader_type.specs.UnaryOperator.TheVariants.{AddressOf, Indirection}
 use Rattle.wgsl_shader_type.specs.declared.error.Error.{Error}
 use Rattle.wgsl_shader_type.specs.declared.error.Error.TheVariants as error

@@ -14,7 +14,7 @@ ghost use Rattle.wgsl_instance.specs.Typed.{type_of};
 
 use crate::tree::{ArrayInstance, Instance, VecInstance};
 use std::alloc::Global;
-use wgsl_items::{Items, Text};
+use wgsl_base::{Items, Text};
 use wgsl_scalar::{IntegerType, ScalarType, convert_scalar};
 use wgsl_shader_type::{Error, LiteralInstance, Type};
 

@@ -6,7 +6,7 @@ use crate::tree::{
     ArrayInstance, Instance, PtrInstance, RefInstance, Step, StructInstance, VecInstance,
 };
 use std::alloc::{AllocError, Global};
-use wgsl_items::{CloneIn, Items};
+use wgsl_base::{CloneIn, Items};
 use wgsl_shader_type::LiteralInstance;
 
 impl Instance {

@@ -13,10 +13,10 @@ use crate::tree::{
     ArrayInstance, Instance, PtrInstance, RefInstance, Step, StructInstance, VecInstance,
 };
 use std::alloc::Global;
-use wgsl_enumerations::AddressSpace;
-use wgsl_items::{Boxed, Items};
+use wgsl_base::{Boxed, Items};
 use wgsl_scalar::ScalarType;
 use wgsl_shader_type::{Error, LiteralInstance, Type, UnaryOperator};
+use wgsl_words::AddressSpace;
 
 fn are_xyzw(name: &[u8]) -> bool
     ensures { result ≡ list_all spec.is_xyzw name.now }

@@ -5,7 +5,7 @@ ghost use Rattle.wgsl_instance.specs.Answer.{Answers};
 ghost use Rattle.wgsl_instance.specs.Parts as spec;
 
 use std::alloc::Global;
-use wgsl_items::Text;
+use wgsl_base::Text;
 use wgsl_shader_type::{Error, StructMemberType, Type};
 
 /// Whether a letter is one of `xyzw`.

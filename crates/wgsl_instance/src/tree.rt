@@ -1,9 +1,9 @@
 //! The tree of a value.
 
-use wgsl_enumerations::{AccessMode, AddressSpace};
-use wgsl_items::Items;
+use wgsl_base::Items;
 use wgsl_scalar::ScalarType;
 use wgsl_shader_type::{LiteralInstance, StructType, Type};
+use wgsl_words::{AccessMode, AddressSpace};
 
 /// A value (WGSL, "Types"; references and pointers are places in memory).
 #[derive(Debug, Drop)]

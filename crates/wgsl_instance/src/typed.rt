@@ -5,7 +5,7 @@ ghost use Rattle.wgsl_instance.specs.Typed as spec;
 
 use crate::tree::{ArrayInstance, Instance, RefInstance, VecInstance};
 use std::alloc::{AllocError, Global};
-use wgsl_items::Boxed;
+use wgsl_base::Boxed;
 use wgsl_scalar::type_of;
 use wgsl_shader_type::{LiteralInstance, Type};
 

@@ -8,7 +8,7 @@ ghost use Rattle.wgsl_instance.specs.Zero.{zero_member};
 
 use crate::tree::{ArrayInstance, Instance, StructInstance, VecInstance};
 use std::alloc::{AllocError, Global};
-use wgsl_items::{Boxed, Items};
+use wgsl_base::{Boxed, Items};
 use wgsl_scalar::type_of;
 use wgsl_shader_type::{Error, LiteralInstance, StructMemberType, StructType, Type};
 

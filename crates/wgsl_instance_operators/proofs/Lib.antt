@@ -1,2 +1,5 @@
 pub mod Pairing
 pub mod Types
+pub mod Gathering
+pub mod Members
+pub mod ConstructorsTypes

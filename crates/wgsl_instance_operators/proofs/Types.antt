@@ -4,9 +4,9 @@ use Rattle.std.specs.Prelude.{min, MatchOption, MatchResult}
 use Rattle.std.proofs.Math.Nat.{le_antisymm}
 use Rattle.std.proofs.lemmas.List.Elements.{All-nil, All-cons, All-head, All-tail}
 use Rattle.std.specs.Cmp.{first_so}
-use Rattle.wgsl_operators.specs.declared.UnaryOperator.{UnaryOperator}
-use Rattle.wgsl_operators.specs.declared.BinaryOperator.{BinaryOperator}
-use Rattle.wgsl_enumerations.specs.declared.words.ShaderStage.{ShaderStage}
+use Rattle.wgsl_words.specs.declared.operators.UnaryOperator.{UnaryOperator}
+use Rattle.wgsl_words.specs.declared.operators.BinaryOperator.{BinaryOperator}
+use Rattle.wgsl_words.specs.declared.enumerations.words.ShaderStage.{ShaderStage}
 use Rattle.wgsl_shader_type.specs.declared.error.Error.{Error}
 use Rattle.wgsl_shader_type.specs.declared.error.Error.TheVariants.{Unary, Binary}
 use Rattle.wgsl_shader_type.specs.declared.literal.LiteralInstance.{LiteralInstance}

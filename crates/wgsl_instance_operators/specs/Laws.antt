@@ -1,8 +1,8 @@
 -- Laws of the operators on values.
 use Rattle.std.specs.Prelude.{◌≡◌, Ok}
-use Rattle.wgsl_operators.specs.declared.UnaryOperator.{UnaryOperator}
-use Rattle.wgsl_operators.specs.declared.BinaryOperator.{BinaryOperator}
-use Rattle.wgsl_enumerations.specs.declared.words.ShaderStage.{ShaderStage}
+use Rattle.wgsl_words.specs.declared.operators.UnaryOperator.{UnaryOperator}
+use Rattle.wgsl_words.specs.declared.operators.BinaryOperator.{BinaryOperator}
+use Rattle.wgsl_words.specs.declared.enumerations.words.ShaderStage.{ShaderStage}
 use Rattle.wgsl_shader_type.specs.declared.tree.ShaderType.{ShaderType}
 use Rattle.wgsl_type_operators.specs.Operator.{IsBinaryResult, IsUnaryResult}
 use Rattle.wgsl_instance.specs.declared.tree.Instance.{Instance}

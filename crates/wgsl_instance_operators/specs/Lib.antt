@@ -1,2 +1,4 @@
 pub mod Laws
 pub mod Operators
+pub mod Built
+pub mod ConstructorsLaws

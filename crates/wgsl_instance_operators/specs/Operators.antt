@@ -1,9 +1,9 @@
 -- The operators on values at each stage (WGSL, "Arithmetic Expressions", "Comparison Expressions", "Logical Expressions", "Bit Expressions").
 use Rattle.std.specs.Prelude.{◌≡◌, ◌⊎◌, List, [], ◌∷◌, Option, Some, None, Result, Ok, Err, MatchResult}
-use Rattle.wgsl_operators.specs.declared.UnaryOperator.{UnaryOperator}
-use Rattle.wgsl_operators.specs.declared.UnaryOperator.TheVariants.{AddressOf, Indirection}
-use Rattle.wgsl_operators.specs.declared.BinaryOperator.{BinaryOperator}
-use Rattle.wgsl_enumerations.specs.declared.words.ShaderStage.{ShaderStage}
+use Rattle.wgsl_words.specs.declared.operators.UnaryOperator.{UnaryOperator}
+use Rattle.wgsl_words.specs.declared.operators.UnaryOperator.TheVariants.{AddressOf, Indirection}
+use Rattle.wgsl_words.specs.declared.operators.BinaryOperator.{BinaryOperator}
+use Rattle.wgsl_words.specs.declared.enumerations.words.ShaderStage.{ShaderStage}
 use Rattle.wgsl_shader_type.specs.declared.error.Error.{Error}
 use Rattle.wgsl_shader_type.specs.declared.error.Error.TheVariants.{OutOfMemory, Unary, Binary}
 use Rattle.wgsl_shader_type.specs.declared.literal.LiteralInstance.{LiteralInstance}

@@ -7,13 +7,12 @@ ghost use Rattle.wgsl_instance.specs.Typed.{type_of};
 ghost use Rattle.wgsl_instance_operators.specs.Operators as spec;
 
 use std::alloc::Global;
-use wgsl_enumerations::ShaderStage;
+use wgsl_base::Items;
 use wgsl_instance::{Instance, VecInstance};
-use wgsl_items::Items;
-use wgsl_operators::BinaryOperator;
 use wgsl_scalar::{ScalarType, binary_scalar_op};
 use wgsl_shader_type::{Error, LiteralInstance, Type};
 use wgsl_type_operators::type_binary_op;
+use wgsl_words::{BinaryOperator, ShaderStage};
 
 /// The type of the first scalar of a list that has one.
 fn first_type(components: &[LiteralInstance]) -> ScalarType

@@ -1,16 +1,15 @@
 //! Each operator by its name. `op_ref` and `op_deref` are methods of `Instance`.
 
-ghost use Rattle.wgsl_operators.specs.declared.BinaryOperator.TheVariants as binary;
-ghost use Rattle.wgsl_operators.specs.declared.UnaryOperator.TheVariants as unary;
+ghost use Rattle.wgsl_words.specs.declared.operators.BinaryOperator.TheVariants as binary;
+ghost use Rattle.wgsl_words.specs.declared.operators.UnaryOperator.TheVariants as unary;
 ghost use Rattle.wgsl_instance_operators.specs.Operators as spec;
 
 use crate::binary::call_binary_op;
 use crate::unary::call_unary_op;
 use std::alloc::Global;
-use wgsl_enumerations::ShaderStage;
 use wgsl_instance::Instance;
-use wgsl_operators::{BinaryOperator, UnaryOperator};
 use wgsl_shader_type::Error;
+use wgsl_words::{BinaryOperator, ShaderStage, UnaryOperator};
 
 /// What `!` gives, as `call_unary_op` does.
 pub fn op_not(alloc: Global, operand: &Instance, stage: ShaderStage) -> Result<Instance, Error>

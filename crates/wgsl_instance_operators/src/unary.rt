@@ -7,13 +7,12 @@ ghost use Rattle.wgsl_instance_operators.specs.Operators as spec;
 
 use crate::binary::vector_of;
 use std::alloc::Global;
-use wgsl_enumerations::ShaderStage;
+use wgsl_base::Items;
 use wgsl_instance::Instance;
-use wgsl_items::Items;
-use wgsl_operators::UnaryOperator;
 use wgsl_scalar::unary_scalar_op;
 use wgsl_shader_type::{Error, LiteralInstance};
 use wgsl_type_operators::type_unary_op;
+use wgsl_words::{ShaderStage, UnaryOperator};
 
 fn of_components(
     alloc: Global,

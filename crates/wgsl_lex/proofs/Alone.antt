@@ -16,7 +16,7 @@ use Rattle.wgsl_lex.proofs.Classes.{not_true}
 use Rattle.wgsl_lex.proofs.Tables.{begins_word, no_fixed, fixed_of-spelling}
 use Rattle.wgsl_lex.proofs.Symbols.{two_is, three_is, not_second, not_second_of_three}
 use Rattle.wgsl_lex.proofs.First.{one_first}
-use Rattle.wgsl_items.proofs.Bools.{and_both as both}
+use Rattle.wgsl_base.proofs.Bools.{and_both as both}
 
 -- whatever each entry passes, what is found passes
 beside_passes : (q : ℕ → Fixed → Bool) (table : List (ℕ × Fixed)) (c : ℕ) (g : Fixed) → list_all (λ x. q x.0 x.1) table ≡ true → beside table c ≡ Some g → q c g ≡ true

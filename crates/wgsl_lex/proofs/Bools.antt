@@ -1,7 +1,7 @@
 -- Tests.
 use Rattle.std.proofs.Common.{◌≡◌, ℕ, zero, suc, ◌<◌, Bool, true, false, not, ◌&&◌, ◌||◌, ◌==◌, refl, ◌∙◌, ap, arith}
 use Rattle.std.proofs.lemmas.Bool.Decides.{Decides-eqb}
-use Rattle.wgsl_items.proofs.Bools.{and_both as both, false_if as fails}
+use Rattle.wgsl_base.proofs.Bools.{and_both as both, false_if as fails}
 
 pub not_both : (b : Bool) → b ≡ true → b ≡ false → ⊥
 not_both b t f = cc

@@ -9,7 +9,7 @@ use Rattle.wgsl_lex.specs.Floats.{is_point}
 use Rattle.wgsl_lex.specs.Tokens.{is_line_break, is_blank}
 use Rattle.wgsl_lex.proofs.Bools.{not_both, is_number, differs, implies, all_below, below_passes}
 use Rattle.wgsl_lex.proofs.Tables.{begins_word}
-use Rattle.wgsl_items.proofs.Bools.{and_both as both, or_cases as either, false_if as fails}
+use Rattle.wgsl_base.proofs.Bools.{and_both as both, or_cases as either, false_if as fails}
 
 abbrev line_breaks : List ℕ
 line_breaks = 10 ∷ 11 ∷ 12 ∷ 13 ∷ 133 ∷ 8232 ∷ 8233 ∷ []

@@ -18,7 +18,7 @@ use Rattle.wgsl_lex.proofs.Forms.{fixed_form, opens_less, no_form}
 use Rattle.wgsl_lex.proofs.Longest.{longest_run, word_longest, blank_longest, line_comment_longest, block_comment_longest}
 use Rattle.wgsl_lex.proofs.Numbers.{decimal_longest, hexadecimal_longest, zero_longest}
 use Rattle.wgsl_lex.proofs.Symbols.{four_is_none}
-use Rattle.wgsl_items.proofs.Bools.{and_both as both, false_if as fails}
+use Rattle.wgsl_base.proofs.Bools.{and_both as both, false_if as fails}
 
 -- The first and so many behind it
 pub one_more : (c : ℕ) (behind : List ℕ) (n m : ℕ) (what : Form) → suc n ≡ m → IsLongest (c ∷ take n behind) (drop n behind) what → IsLongest (take m (c ∷ behind)) (drop m (c ∷ behind)) what

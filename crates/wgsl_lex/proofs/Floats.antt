@@ -24,7 +24,7 @@ use Rattle.wgsl_lex.proofs.Forms.{digit_form, opened_form, no_magnitude, no_floa
 use Rattle.wgsl_lex.proofs.Longest.{longest_run}
 use Rattle.wgsl_lex.proofs.First.{drop_one, one_more, piece_stands}
 use Rattle.wgsl_lex.proofs.Numbers.{plain_longest, suffixed_longest}
-use Rattle.wgsl_items.proofs.Bools.{and_both as both, or_cases as either, false_if as fails}
+use Rattle.wgsl_base.proofs.Bools.{and_both as both, or_cases as either, false_if as fails}
 
 -- What stands behind a run doesn't begin with one more.
 run_ends : (p : ℕ → Bool) (cs : List ℕ) (n : ℕ) → IsRun p cs n → begins p (drop n cs) ≡ false

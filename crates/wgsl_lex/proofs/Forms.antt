@@ -16,7 +16,7 @@ use Rattle.wgsl_lex.proofs.Bools.{not_both, and_false, and_true, or_true, neithe
 use Rattle.wgsl_lex.proofs.Patterns.{one_begins, many_here, many_empty, one_within, float_within}
 use Rattle.wgsl_lex.proofs.Tables.{begins_word, no_fixed, begins_fixed, spellings_begin}
 use Rattle.wgsl_lex.proofs.Classes.{digit_begins_no_word, digit_no_slash, digit_no_blank}
-use Rattle.wgsl_items.proofs.Bools.{and_both as both, false_if as fails}
+use Rattle.wgsl_base.proofs.Bools.{and_both as both, false_if as fails}
 
 pub trivia_form : (cs : List ℕ) → is_trivia cs ≡ true → form cs ≡ Some trivia
 unfolding form

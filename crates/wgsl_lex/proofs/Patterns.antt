@@ -5,7 +5,7 @@ use Rattle.std.specs.Char.{is_ascii_digit}
 use Rattle.wgsl_lex.specs.Floats.{empty, one, many, some, is_point, is_sign, exponent, float_of}
 use Rattle.wgsl_lex.specs.Pieces.{begins}
 use Rattle.wgsl_lex.proofs.Bools.{is_number}
-use Rattle.wgsl_items.proofs.Bools.{and_both as both}
+use Rattle.wgsl_base.proofs.Bools.{and_both as both}
 
 pub or_false : (b : Bool) → (b || false) ≡ b
 or_false true = refl

@@ -21,7 +21,7 @@ use Rattle.wgsl_lex.proofs.Floats.{decimal_front, float_made, no_float_made, no_
 use Rattle.wgsl_lex.proofs.Longest.{longest_run}
 use Rattle.wgsl_lex.proofs.Numbers.{zero_longest}
 use Rattle.wgsl_lex.proofs.Sizes.{size_more, size-append}
-use Rattle.wgsl_items.proofs.Bools.{and_both as both}
+use Rattle.wgsl_base.proofs.Bools.{and_both as both}
 
 -- what nothing more begins with
 record Ended (rest : List ℕ) : Type 0 where

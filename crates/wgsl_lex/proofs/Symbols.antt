@@ -16,7 +16,7 @@ use Rattle.wgsl_lex.specs.Tokens.{all_fixed, fixed_of}
 use Rattle.wgsl_lex.specs.Pieces.{is_second}
 use Rattle.wgsl_lex.proofs.Bools.{not_both, is_number}
 use Rattle.wgsl_lex.proofs.Tables.{find_found, find_all, fixed_passes, no_fixed, fixed_of-spelling}
-use Rattle.wgsl_items.proofs.Bools.{and_both as both, or_cases as either}
+use Rattle.wgsl_base.proofs.Bools.{and_both as both, or_cases as either}
 
 -- a search finds where some element passes
 find_some : {X : Type 0} (p : X → Bool) (xs : List X) → find p xs ≡ None → list_any p xs ≡ false

@@ -18,7 +18,7 @@ use Rattle.wgsl_lex.specs.Rows.{row, IsRow, is_there, is_other}
 use Rattle.wgsl_lex.specs.Pieces.{IsListed, listed, unlisted, is_meaning, is_listable}
 use Rattle.wgsl_lex.proofs.Bools.{not_both}
 use Rattle.wgsl_lex.proofs.Tables.{fixed_passes, no_fixed, fixed_of-spelling}
-use Rattle.wgsl_items.proofs.Bools.{and_both as both, or_cases as either, false_if as fails}
+use Rattle.wgsl_base.proofs.Bools.{and_both as both, or_cases as either, false_if as fails}
 
 -- What the rows say
 

@@ -3,7 +3,7 @@
 use wgsl_token::Token;
 
 /// The longest run of characters at the front that is blankspace, a comment or a token.
-#[derive(Debug, Drop)]
+#[derive(Drop)]
 pub struct Piece {
     /// How many characters it has.
     pub length: usize,

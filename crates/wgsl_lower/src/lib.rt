@@ -1,11 +1,12 @@
-//! Lowering of functions and units: constant expressions are written as their values, consts go, and bodies that do nothing are cleared.
+//! Lowering of whole modules: constant expressions are written as their values, types are written in full, and what only the compiler needs goes.
 #![tactic(auto)]
 
-mod function;
-pub mod laws;
-mod unit;
+mod effects;
+mod folding;
+mod modules;
+mod pruning;
+mod simplifying;
 
-pub use function::lowered_function;
-pub use unit::lower;
-pub use wgsl_eval::{DeclarationFault, Fault, NameFault, UnitError};
-pub use wgsl_lower_expressions::{lowered, to_expr};
+pub use effects::Effects;
+pub use folding::{EvalError, Evaluator, Fault, Stop};
+pub use modules::{Place, Refused, lower, lower_owned};

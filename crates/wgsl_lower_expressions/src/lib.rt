@@ -1,7 +1,12 @@
-//! Lowering of expressions: constant expressions are written as their values.
+//! Expressions and types with their constant parts written as values, in place.
 #![tactic(auto)]
 
-mod expression;
+mod folding;
+mod replacing;
 
-pub use expression::lowered;
-pub use wgsl_written::to_expr;
+pub use folding::{
+    EvalError, Evaluator, Fault, Stop, declare, fold, fold_as, fold_attributes, fold_call,
+    fold_declaration, fold_maybe, fold_maybe_type, fold_place, fold_type, returned_conversion,
+    type_of_written,
+};
+pub use replacing::{clear, clear_block};

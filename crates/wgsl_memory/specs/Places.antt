@@ -1,7 +1,7 @@
 -- Memory is a list of values, and a reference is a place in it: a cell, and a path from its value to a part (WGSL, "Memory Locations", "Memory Views").
 use Rattle.std.specs.Prelude.{ℕ, ◌^◌, ◌-◌, min, ℤ, pos, Bool, true, false, List, [], ◌∷◌, length, Option, Some, None, Result, Ok, Err, option_and_then, slice_get, slice_set, if◌then◌else◌}
-use Rattle.wgsl_enumerations.specs.declared.address.AccessMode.{AccessMode}
-use Rattle.wgsl_enumerations.specs.declared.address.AccessMode.TheVariants.{Read, Write, ReadWrite}
+use Rattle.wgsl_words.specs.declared.enumerations.address.AccessMode.{AccessMode}
+use Rattle.wgsl_words.specs.declared.enumerations.address.AccessMode.TheVariants.{Read, Write, ReadWrite}
 use Rattle.wgsl_shader_type.specs.declared.error.Error.{Error}
 use Rattle.wgsl_shader_type.specs.declared.error.Error.TheVariants.{NotRead, NotWrite, OutOfBounds, WriteRefType}
 use Rattle.wgsl_shader_type.specs.declared.literal.LiteralInstance.{LiteralInstance}

@@ -8,10 +8,10 @@ ghost use Rattle.wgsl_memory.specs.Places as spec;
 use crate::place::{put_part, read_part};
 use std::alloc::{AllocError, Global};
 use std::marker::Model;
-use wgsl_enumerations::AccessMode;
+use wgsl_base::Items;
 use wgsl_instance::{Instance, RefInstance};
-use wgsl_items::Items;
 use wgsl_shader_type::Error;
+use wgsl_words::AccessMode;
 
 /// Cells, each of which holds a value. Contracts see their values, in the order of the cells' numbers.
 #[derive(Debug, Drop)]

@@ -7,8 +7,8 @@ ghost use Rattle.wgsl_instance.specs.declared.tree.Step.TheVariants.{Member, Ele
 ghost use Rattle.wgsl_memory.specs.Places as spec;
 
 use std::alloc::{AllocError, Global};
+use wgsl_base::Items;
 use wgsl_instance::{Instance, Step};
-use wgsl_items::Items;
 use wgsl_shader_type::LiteralInstance;
 
 /// A copy of the part of a value at the end of a path, if it is there.

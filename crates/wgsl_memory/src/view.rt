@@ -9,11 +9,11 @@ ghost use Rattle.wgsl_memory.specs.Views as spec;
 
 use crate::memory::{Memory, no_place};
 use std::alloc::{AllocError, Global};
+use wgsl_base::CloneIn;
 use wgsl_instance::selector::{
     in_range, is_rgba, is_xyzw, letter_index, member_position, no_component,
 };
 use wgsl_instance::{Instance, RefInstance, Step};
-use wgsl_items::CloneIn;
 use wgsl_shader_type::{Error, StructType, Type};
 
 /// A reference to a part of what a reference refers to.

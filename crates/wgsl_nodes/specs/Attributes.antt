@@ -1,11 +1,11 @@
 -- Lists of attributes with their places.
 use Rattle.std.specs.Prelude.{◌≡◌, List, [], Bool, Option, Some, None}
 use Rattle.std.specs.Borrow.{RattleType}
-use Rattle.wgsl_items.specs.contracts.items.Items as items
+use Rattle.wgsl_base.specs.contracts.items.items.Items as items
 use Rattle.wgsl_path.specs.declared.span.Spanned.{Spanned}
 use Rattle.wgsl_path.specs.contracts.span.Spanned as spanned
-use Rattle.wgsl_attributes.specs.declared.attribute.Attribute.{Attribute}
-use Rattle.wgsl_attributes.specs.contracts.attribute.Attribute as attribute
+use Rattle.wgsl_expressions.specs.declared.attributes.attribute.Attribute.{Attribute}
+use Rattle.wgsl_expressions.specs.contracts.attributes.attribute.Attribute as attribute
 
 -- the type of such lists, as code holds it
 abbrev pub attributes_row : RattleType

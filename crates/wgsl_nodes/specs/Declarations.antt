@@ -2,7 +2,7 @@
 use Rattle.std.specs.Prelude.{List, Option, Some, None}
 use Rattle.wgsl_path.specs.declared.ident.Ident.{Ident}
 use Rattle.wgsl_path.specs.declared.span.Spanned.{Spanned}
-use Rattle.wgsl_attributes.specs.declared.attribute.Attribute.{Attribute}
+use Rattle.wgsl_expressions.specs.declared.attributes.attribute.Attribute.{Attribute}
 use Rattle.wgsl_declarations.specs.declared.declaration.GlobalDeclaration.{GlobalDeclaration}
 use Rattle.wgsl_declarations.specs.declared.declaration.GlobalDeclaration.TheVariants as code
 

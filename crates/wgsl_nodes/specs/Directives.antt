@@ -1,9 +1,9 @@
 -- The attributes of directives.
 use Rattle.std.specs.Prelude.{List}
 use Rattle.wgsl_path.specs.declared.span.Spanned.{Spanned}
-use Rattle.wgsl_attributes.specs.declared.attribute.Attribute.{Attribute}
-use Rattle.wgsl_imports.specs.declared.directive.GlobalDirective.{GlobalDirective}
-use Rattle.wgsl_imports.specs.declared.directive.GlobalDirective.TheVariants as code
+use Rattle.wgsl_expressions.specs.declared.attributes.attribute.Attribute.{Attribute}
+use Rattle.wgsl_declarations.specs.declared.imports.directive.GlobalDirective.{GlobalDirective}
+use Rattle.wgsl_declarations.specs.declared.imports.directive.GlobalDirective.TheVariants as code
 
 abbrev pub directive_attributes : GlobalDirective → List (Spanned Attribute)
 directive_attributes (code.Diagnostic x) = x.attributes

@@ -1,7 +1,7 @@
 //! Blocks and clauses. A clause of `if` or `switch` has no attributes of its own: those before its brace are its block's.
 
 use crate::node::{Header, SyntaxNode};
-use wgsl_attributes::Attributes;
+use wgsl_expressions::Attributes;
 use wgsl_statements::{
     CompoundStatementOf, ContinuingStatementOf, ElseClauseOf, ElseIfClauseOf, IfClauseOf,
     SwitchClauseOf,

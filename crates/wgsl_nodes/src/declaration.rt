@@ -1,10 +1,10 @@
 //! Declarations of modules, members and parameters.
 
 use crate::node::{Header, SyntaxNode};
-use wgsl_attributes::Attributes;
 use wgsl_declarations::{
     FormalParameter, Function, GlobalDeclaration, Struct, StructMember, TypeAlias,
 };
+use wgsl_expressions::Attributes;
 
 impl SyntaxNode for TypeAlias {
     ghost use Rattle.std.specs.Prelude.{Some, None};

@@ -1,8 +1,8 @@
 //! Directives.
 
 use crate::node::{Header, SyntaxNode};
-use wgsl_attributes::Attributes;
-use wgsl_imports::{DiagnosticDirective, EnableDirective, GlobalDirective, RequiresDirective};
+use wgsl_declarations::{DiagnosticDirective, EnableDirective, GlobalDirective, RequiresDirective};
+use wgsl_expressions::Attributes;
 
 impl SyntaxNode for DiagnosticDirective {
     ghost use Rattle.std.specs.Prelude.{Some, None};

@@ -1,10 +1,10 @@
 //! Expressions and types. They have no attributes and declare no name.
 
 use crate::node::{Header, SyntaxNode};
-use wgsl_attributes::Attributes;
 use wgsl_expressions::{
-    BinaryExpressionOf, Expression, FunctionCallOf, IndexingExpressionOf, LiteralExpression,
-    NamedComponentExpressionOf, ParenthesizedExpressionOf, TypeExpressionOf, UnaryExpressionOf,
+    Attributes, BinaryExpressionOf, Expression, FunctionCallOf, IndexingExpressionOf,
+    LiteralExpression, NamedComponentExpressionOf, ParenthesizedExpressionOf, TypeExpressionOf,
+    UnaryExpressionOf,
 };
 
 impl SyntaxNode for Expression {

@@ -1,8 +1,8 @@
 //! Imports.
 
 use crate::node::{Header, SyntaxNode};
-use wgsl_attributes::Attributes;
-use wgsl_imports::ImportStatement;
+use wgsl_declarations::ImportStatement;
+use wgsl_expressions::Attributes;
 
 impl SyntaxNode for ImportStatement {
     ghost use Rattle.std.specs.Prelude.{Some, None};

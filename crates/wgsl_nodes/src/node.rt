@@ -4,11 +4,11 @@ ghost use Rattle.std.specs.Fn.{CalledAtMut};
 ghost use Rattle.std.specs.List.Retain.{RetainsInTurn};
 ghost use Rattle.wgsl_nodes.specs.Attributes.{InPlace};
 
-use wgsl_attributes::{Attribute, AttributeNode, Attributes};
+use wgsl_expressions::{Attribute, AttributeNode, Attributes};
 use wgsl_path::{Ident, Span};
 
 /// What a node of a syntax tree has beside its parts.
-#[derive(Clone, Copy, Debug)]
+#[derive(Clone, Copy)]
 pub struct Header<'a> {
     /// The node's place in its text.
     pub span: Option<Span>,
@@ -29,7 +29,7 @@ pub trait SyntaxNode {
     ghost use Rattle.wgsl_path.specs.declared.span.Span.{Span};
     ghost use Rattle.wgsl_path.specs.declared.ident.Ident.{Ident};
     ghost use Rattle.wgsl_path.specs.declared.span.Spanned.{Spanned};
-    ghost use Rattle.wgsl_attributes.specs.declared.attribute.Attribute.{Attribute};
+    ghost use Rattle.wgsl_expressions.specs.declared.attributes.attribute.Attribute.{Attribute};
     ghost use Rattle.wgsl_nodes.specs.Attributes.{attributes_row, listed, InPlace};
 
     /// The node's place. Only nodes behind `Spanned` have one.

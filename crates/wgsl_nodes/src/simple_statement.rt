@@ -1,7 +1,7 @@
 //! Statements that hold no other statement.
 
 use crate::node::{Header, SyntaxNode};
-use wgsl_attributes::Attributes;
+use wgsl_expressions::Attributes;
 use wgsl_simple_statements::{
     AssignmentStatement, BreakIfStatement, BreakStatement, ContinueStatement, DecrementStatement,
     DiscardStatement, FunctionCallStatement, IncrementStatement, ReturnStatement,

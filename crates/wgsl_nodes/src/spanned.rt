@@ -1,7 +1,7 @@
 //! Nodes with their places.
 
 use crate::node::{Header, SyntaxNode};
-use wgsl_attributes::Attributes;
+use wgsl_expressions::Attributes;
 use wgsl_path::Spanned;
 
 impl<T: SyntaxNode> SyntaxNode for Spanned<T> {

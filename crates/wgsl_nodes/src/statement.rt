@@ -1,7 +1,7 @@
 //! Statements that hold others, and all statements.
 
 use crate::node::{Header, SyntaxNode};
-use wgsl_attributes::Attributes;
+use wgsl_expressions::Attributes;
 use wgsl_statements::{
     ForStatementOf, IfStatementOf, LoopStatementOf, Statement, SwitchStatementOf, WhileStatementOf,
 };

@@ -1,7 +1,7 @@
 //! Declarations of values and constant assertions.
 
 use crate::node::{Header, SyntaxNode};
-use wgsl_attributes::Attributes;
+use wgsl_expressions::Attributes;
 use wgsl_simple_statements::{ConstAssert, Declaration};
 
 impl SyntaxNode for Declaration {

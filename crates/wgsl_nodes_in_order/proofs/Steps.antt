@@ -9,7 +9,7 @@ use Rattle.wgsl_expressions.specs.declared.expression.Expression.TheVariants as 
 use Rattle.wgsl_expressions.specs.Tree.{Exp, exps, named}
 use Rattle.wgsl_expressions.specs.View.{call_layer, tree, node_tree, type_tree}
 use Rattle.wgsl_expressions.proofs.Trees as trees
-use Rattle.wgsl_attributes.specs.View.{attributes_tree}
+use Rattle.wgsl_expressions.specs.AttributesView.{attributes_tree}
 use Rattle.wgsl_simple_statements.specs.declared.statement.AssignmentStatement.{AssignmentStatement}
 use Rattle.wgsl_simple_statements.specs.declared.statement.IncrementStatement.{IncrementStatement}
 use Rattle.wgsl_simple_statements.specs.declared.statement.DecrementStatement.{DecrementStatement}

@@ -1,7 +1,7 @@
 -- Lists of references to nodes.
 use Rattle.std.specs.Prelude.{List, [], ◌∷◌, map}
 use Rattle.wgsl_expressions.specs.View.{tree, type_tree}
-use Rattle.wgsl_attributes.specs.View.{attribute_tree}
+use Rattle.wgsl_expressions.specs.AttributesView.{attribute_tree}
 use Rattle.wgsl_statements.specs.View.{statement_tree, stms}
 use Rattle.wgsl_declarations.specs.View.{member_tree, parameter_tree}
 use Rattle.wgsl_nodes_in_order.specs.declared.node.NodeRef.{NodeRef}

@@ -3,7 +3,7 @@
 ghost use Rattle.std.specs.Prelude.{◌≡◌, ◌++◌, map, OnOk};
 ghost use Rattle.wgsl_expressions.specs.Tree.{exps, indexed};
 ghost use Rattle.wgsl_expressions.specs.View.{call_layer, tree, node_tree, type_tree};
-ghost use Rattle.wgsl_attributes.specs.View.{attribute_tree, attributes_tree, workgroup_tree, custom_tree};
+ghost use Rattle.wgsl_expressions.specs.AttributesView.{attribute_tree, attributes_tree, workgroup_tree, custom_tree};
 ghost use Rattle.std.specs.List.{flat_map};
 ghost use Rattle.std.specs.Option.{option_map};
 ghost use Rattle.wgsl_nodes_in_order.specs.Nodes.{in_attr, in_attrs, in_exp, in_exps, in_option, in_typ, inside_attr, inside_exp, inside_typ};
@@ -11,10 +11,9 @@ ghost use Rattle.wgsl_nodes_in_order.specs.Found.{nodes};
 
 use crate::node::NodeRef;
 use std::alloc::AllocError;
-use wgsl_attributes::{Attribute, AttributeNode, CustomAttribute, WorkgroupSizeAttribute};
 use wgsl_expressions::{
-    BinaryExpression, Expression, ExpressionNode, FunctionCall, IndexingExpression, TemplateArg,
-    TypeExpression,
+    Attribute, AttributeNode, BinaryExpression, CustomAttribute, Expression, ExpressionNode,
+    FunctionCall, IndexingExpression, TemplateArg, TypeExpression, WorkgroupSizeAttribute,
 };
 
 /// Lists the nodes inside an expression.

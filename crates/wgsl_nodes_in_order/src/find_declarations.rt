@@ -3,7 +3,7 @@
 ghost use Rattle.std.specs.Prelude.{◌≡◌, ◌++◌, map, IfOk, OnOk};
 ghost use Rattle.std.specs.List.{flat_map};
 ghost use Rattle.wgsl_expressions.specs.View.{type_tree};
-ghost use Rattle.wgsl_attributes.specs.View.{attributes_tree};
+ghost use Rattle.wgsl_expressions.specs.AttributesView.{attributes_tree};
 ghost use Rattle.wgsl_declarations.specs.View.{alias_tree, declaration_tree, function_tree, member_tree, members_tree, parameter_tree, structure_tree};
 ghost use Rattle.wgsl_nodes_in_order.specs.Nodes.{in_attrs, in_decl, in_member, in_optional_decl, in_param, in_typ};
 ghost use Rattle.wgsl_nodes_in_order.specs.Found.{nodes};
@@ -12,11 +12,10 @@ use crate::find::{find_attributes, find_optional_type, find_type};
 use crate::find_statements::{find_assertion, find_block, find_value};
 use crate::node::NodeRef;
 use std::alloc::{AllocError, Global};
-use wgsl_attributes::AttributeNode;
 use wgsl_declarations::{
     FormalParameter, Function, GlobalDeclaration, Struct, StructMember, StructMemberNode, TypeAlias,
 };
-use wgsl_expressions::TypeExpression;
+use wgsl_expressions::{AttributeNode, TypeExpression};
 
 /// Lists the nodes of attributes, and of the type behind them.
 fn find_typed<'a>(

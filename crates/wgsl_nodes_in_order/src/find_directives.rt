@@ -1,14 +1,14 @@
 //! The nodes in directives.
 
 ghost use Rattle.std.specs.Prelude.{◌≡◌, ◌++◌, map, IfOk, OnOk};
-ghost use Rattle.wgsl_imports.specs.View.{directive_tree};
+ghost use Rattle.wgsl_declarations.specs.ImportsView.{directive_tree};
 ghost use Rattle.wgsl_nodes_in_order.specs.Nodes.{in_directive, in_directives};
 ghost use Rattle.wgsl_nodes_in_order.specs.Found.{nodes};
 
 use crate::find::find_attributes;
 use crate::node::NodeRef;
 use std::alloc::{AllocError, Global};
-use wgsl_imports::GlobalDirective;
+use wgsl_declarations::GlobalDirective;
 
 /// Lists the nodes of a directive's attributes.
 fn find_directive<'a>(

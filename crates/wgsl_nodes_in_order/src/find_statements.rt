@@ -3,9 +3,9 @@
 ghost use Rattle.std.specs.Prelude.{◌≡◌, ◌++◌, map, OnOk};
 ghost use Rattle.std.specs.List.{flat_map};
 ghost use Rattle.std.specs.Option.{is_some, option_map};
-ghost use Rattle.wgsl_enumerations.specs.declared.words.AssignmentOperator.TheVariants.{Equal};
+ghost use Rattle.wgsl_words.specs.declared.enumerations.words.AssignmentOperator.TheVariants.{Equal};
 ghost use Rattle.wgsl_expressions.specs.View.{tree, node_tree};
-ghost use Rattle.wgsl_attributes.specs.View.{attributes_tree};
+ghost use Rattle.wgsl_expressions.specs.AttributesView.{attributes_tree};
 ghost use Rattle.wgsl_simple_statements.specs.View.{assignment_tree, return_tree, call_tree, assertion_tree, value_tree, break_if_tree, selector_tree};
 ghost use Rattle.wgsl_statements.specs.View.{block_tree, clauses_layer, continuing_layer, elses_layer, else_layer, for_layer, if_layer, loop_layer, part_layer, statement_tree, statements_tree, switch_layer, while_layer};
 ghost use Rattle.wgsl_nodes_in_order.specs.Nodes.{in_attrs, in_block, in_break_if, in_clause, in_clauses, in_continued, in_continuing, in_elses, in_exp, in_option, in_optional_stm, in_part, in_place, in_selector, in_stms, inside_optional, inside_simple, inside_stm, is_phony};
@@ -14,9 +14,7 @@ ghost use Rattle.wgsl_nodes_in_order.specs.Found.{nodes};
 use crate::find::{find_attributes, find_call, find_expression, find_optional, find_optional_type};
 use crate::node::NodeRef;
 use std::alloc::AllocError;
-use wgsl_attributes::AttributeNode;
-use wgsl_enumerations::AssignmentOperator;
-use wgsl_expressions::{Expression, ExpressionNode};
+use wgsl_expressions::{AttributeNode, Expression, ExpressionNode};
 use wgsl_simple_statements::{
     AssignmentStatement, BreakIfStatement, CaseSelector, ConstAssert, Declaration,
     FunctionCallStatement, ReturnStatement,
@@ -25,6 +23,7 @@ use wgsl_statements::{
     CompoundStatement, ContinuingStatement, ElseClause, ElseIfClause, ForStatement, IfStatement,
     LoopStatement, Statement, StatementNode, SwitchClause, SwitchStatement, WhileStatement,
 };
+use wgsl_words::AssignmentOperator;
 
 /// Lists the nodes of attributes, and of the expression behind them.
 pub(crate) fn find_marked<'a>(

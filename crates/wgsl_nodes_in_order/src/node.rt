@@ -1,8 +1,7 @@
 //! A node of a declaration.
 
-use wgsl_attributes::Attribute;
 use wgsl_declarations::{FormalParameter, StructMember};
-use wgsl_expressions::{Expression, TypeExpression};
+use wgsl_expressions::{Attribute, Expression, TypeExpression};
 use wgsl_statements::Statement;
 
 /// A reference to a node.

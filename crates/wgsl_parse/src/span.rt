@@ -1,3 +1,3 @@
 //! Places in a text, in bytes, and nodes with their places.
 
-pub use wgsl_path::{Span, Spanned};
+pub use wgsl_syntax::{Span, Spanned};

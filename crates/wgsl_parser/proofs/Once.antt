@@ -1,15 +1,15 @@
 -- A text that is no module has one fault, and a module has none.
 use Rattle.std.proofs.Common.{◌≡◌, ◌∙◌, refl, sym, ap, subst, ℕ, false, Some, None, List, length, inl, inr, Ok, Err}
-use Rattle.wgsl_template_spec.proofs.Once.{lexed_once}
-use Rattle.wgsl_reading.specs.TranslationUnit.{TranslationUnit}
-use Rattle.wgsl_reading.specs.Part.TheVariants as part
-use Rattle.wgsl_reading.specs.declared.driver.Start.TheVariants.{Module}
-use Rattle.wgsl_reading.specs.declared.answer.Unread.{Unread}
-use Rattle.wgsl_reading.specs.declared.answer.Unread.TheVariants.{Refused, Failed, FailedAtEnd, Unexpected}
-use Rattle.wgsl_reading.specs.Readings.{Reads, is_refused}
-use Rattle.wgsl_reading.proofs.Once.{unread_once, read_apart}
-use Rattle.wgsl_error.specs.declared.error.Error.{Error}
-use Rattle.wgsl_error.specs.Errors.{refusal_of}
+use Rattle.wgsl_templates.proofs.Once.{lexed_once}
+use Rattle.wgsl_lr_driver.specs.TranslationUnit.{TranslationUnit}
+use Rattle.wgsl_lr_driver.specs.Part.TheVariants as part
+use Rattle.wgsl_lr_driver.specs.declared.driver.Start.TheVariants.{Module}
+use Rattle.wgsl_lr_driver.specs.declared.answer.Unread.{Unread}
+use Rattle.wgsl_lr_driver.specs.declared.answer.Unread.TheVariants.{Refused, Failed, FailedAtEnd, Unexpected}
+use Rattle.wgsl_lr_driver.specs.Readings.{Reads, is_refused}
+use Rattle.wgsl_lr_driver.proofs.Once.{unread_once, read_apart}
+use Rattle.wgsl_token.specs.declared.fault.error.Error.{Error}
+use Rattle.wgsl_token.specs.Errors.{refusal_of}
 use Rattle.wgsl_parser.specs.Errors.{error_of}
 use Rattle.wgsl_parser.proofs.Told.{refused_told}
 use Rattle.wgsl_parser.specs.Texts.{IsParsed, IsModuleFault, ParsesModule}

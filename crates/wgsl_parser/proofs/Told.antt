@@ -4,23 +4,23 @@ use Rattle.wgsl_path.specs.declared.span.Span.{Span}
 use Rattle.wgsl_token.specs.declared.token.Fixed.{Fixed}
 use Rattle.wgsl_token.specs.declared.token.Fixed.TheVariants as f
 use Rattle.wgsl_token.specs.declared.token.Token.TheVariants as t
-use Rattle.wgsl_template_spec.specs.declared.token.TemplateToken.{TemplateToken}
-use Rattle.wgsl_template_spec.specs.declared.token.TemplateToken.TheVariants.{Plain}
-use Rattle.wgsl_template_spec.specs.declared.token.SpannedTemplateToken.{SpannedTemplateToken}
-use Rattle.wgsl_template_spec.specs.Tokens.{IsLexed}
-use Rattle.wgsl_template_spec.proofs.Once.{lexed_once}
-use Rattle.wgsl_reading.specs.TranslationUnit.{TranslationUnit}
-use Rattle.wgsl_reading.specs.declared.phrase.Failure.{Failure}
-use Rattle.wgsl_reading.specs.declared.phrase.Check.{Check}
-use Rattle.wgsl_reading.specs.declared.phrase.Check.TheVariants as check
-use Rattle.wgsl_reading.specs.declared.driver.Start.TheVariants.{Module}
-use Rattle.wgsl_reading.specs.declared.answer.Unread.{Unread}
-use Rattle.wgsl_reading.specs.declared.answer.Unread.TheVariants.{Refused, Failed, FailedAtEnd, Unexpected}
-use Rattle.wgsl_reading.specs.Readings.{Reads}
-use Rattle.wgsl_error.specs.declared.error.Refusal.{Refusal}
-use Rattle.wgsl_error.specs.declared.error.Refusal.TheVariants as gave_up
-use Rattle.wgsl_error.specs.Errors.{refused, refusal_by, refusal_of}
-use Rattle.wgsl_error.specs.declared.error.Error.{Error}
+use Rattle.wgsl_templates.specs.declared.meaning.token.TemplateToken.{TemplateToken}
+use Rattle.wgsl_templates.specs.declared.meaning.token.TemplateToken.TheVariants.{Plain}
+use Rattle.wgsl_templates.specs.declared.meaning.token.SpannedTemplateToken.{SpannedTemplateToken}
+use Rattle.wgsl_templates.specs.Tokens.{IsLexed}
+use Rattle.wgsl_templates.proofs.Once.{lexed_once}
+use Rattle.wgsl_lr_driver.specs.TranslationUnit.{TranslationUnit}
+use Rattle.wgsl_lr_driver.specs.declared.phrase.Failure.{Failure}
+use Rattle.wgsl_lr_driver.specs.declared.phrase.Check.{Check}
+use Rattle.wgsl_lr_driver.specs.declared.phrase.Check.TheVariants as check
+use Rattle.wgsl_lr_driver.specs.declared.driver.Start.TheVariants.{Module}
+use Rattle.wgsl_lr_driver.specs.declared.answer.Unread.{Unread}
+use Rattle.wgsl_lr_driver.specs.declared.answer.Unread.TheVariants.{Refused, Failed, FailedAtEnd, Unexpected}
+use Rattle.wgsl_lr_driver.specs.Readings.{Reads}
+use Rattle.wgsl_token.specs.declared.fault.error.Refusal.{Refusal}
+use Rattle.wgsl_token.specs.declared.fault.error.Refusal.TheVariants as gave_up
+use Rattle.wgsl_token.specs.Errors.{refused, refusal_by, refusal_of}
+use Rattle.wgsl_token.specs.declared.fault.error.Error.{Error}
 use Rattle.wgsl_parser.specs.Errors.{kind_of_check, kind_of_fixed, kind_of_token, failed, failed_at_end, unexpected, error_of}
 use Rattle.wgsl_parser.specs.Texts.{ParsesTokens, ParsesModule, TellsModule}
 

@@ -3,18 +3,18 @@ use Rattle.std.specs.Prelude.{ℕ, nat_lt, if◌then◌else◌, Option, Some, No
 use Rattle.wgsl_token.specs.declared.token.Fixed.{Fixed}
 use Rattle.wgsl_token.specs.declared.token.Fixed.TheVariants as f
 use Rattle.wgsl_token.specs.declared.token.Token.TheVariants as t
-use Rattle.wgsl_template_spec.specs.declared.token.TemplateToken.{TemplateToken}
-use Rattle.wgsl_template_spec.specs.declared.token.TemplateToken.TheVariants.{Plain}
-use Rattle.wgsl_template_spec.specs.declared.token.SpannedTemplateToken.{SpannedTemplateToken}
-use Rattle.wgsl_reading.specs.declared.phrase.Check.{Check}
-use Rattle.wgsl_reading.specs.declared.phrase.Check.TheVariants as check
-use Rattle.wgsl_reading.specs.declared.phrase.Failure.{Failure}
-use Rattle.wgsl_reading.specs.declared.answer.Unread.{Unread}
-use Rattle.wgsl_reading.specs.declared.answer.Unread.TheVariants.{Refused, Failed, FailedAtEnd, Unexpected}
-use Rattle.wgsl_error.specs.declared.error.ErrorKind.{ErrorKind}
-use Rattle.wgsl_error.specs.declared.error.ErrorKind.TheVariants as kind
-use Rattle.wgsl_error.specs.declared.error.Error.{Error}
-use Rattle.wgsl_error.specs.Errors.{refused}
+use Rattle.wgsl_templates.specs.declared.meaning.token.TemplateToken.{TemplateToken}
+use Rattle.wgsl_templates.specs.declared.meaning.token.TemplateToken.TheVariants.{Plain}
+use Rattle.wgsl_templates.specs.declared.meaning.token.SpannedTemplateToken.{SpannedTemplateToken}
+use Rattle.wgsl_lr_driver.specs.declared.phrase.Check.{Check}
+use Rattle.wgsl_lr_driver.specs.declared.phrase.Check.TheVariants as check
+use Rattle.wgsl_lr_driver.specs.declared.phrase.Failure.{Failure}
+use Rattle.wgsl_lr_driver.specs.declared.answer.Unread.{Unread}
+use Rattle.wgsl_lr_driver.specs.declared.answer.Unread.TheVariants.{Refused, Failed, FailedAtEnd, Unexpected}
+use Rattle.wgsl_token.specs.declared.fault.error.ErrorKind.{ErrorKind}
+use Rattle.wgsl_token.specs.declared.fault.error.ErrorKind.TheVariants as kind
+use Rattle.wgsl_token.specs.declared.fault.error.Error.{Error}
+use Rattle.wgsl_token.specs.Errors.{refused}
 
 abbrev pub kind_of_check : Check → ErrorKind
 kind_of_check check.Attribute = kind.Attribute

@@ -1,7 +1,7 @@
 -- That the parser's answer of a module's text is the only one.
 use Rattle.std.specs.Prelude.{◌≡◌, ℕ, List, Ok}
-use Rattle.wgsl_reading.specs.TranslationUnit.{TranslationUnit}
-use Rattle.wgsl_error.specs.declared.error.Error.{Error}
+use Rattle.wgsl_lr_driver.specs.TranslationUnit.{TranslationUnit}
+use Rattle.wgsl_token.specs.declared.fault.error.Error.{Error}
 use Rattle.wgsl_parser.specs.Texts.{IsModuleFault, ParsesModule}
 
 -- Of two faults of a text the one is the other, and a text that is a module has no fault.

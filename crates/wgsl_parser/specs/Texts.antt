@@ -1,16 +1,16 @@
 -- What the parser's answer says of a text.
 use Rattle.std.specs.Prelude.{◌≡◌, ◌⊎◌, ℕ, None, List, [], length, Result, Ok, Err}
-use Rattle.wgsl_template_spec.specs.declared.token.SpannedTemplateToken.{SpannedTemplateToken}
-use Rattle.wgsl_template_spec.specs.Tokens.{IsLexed}
-use Rattle.wgsl_reading.specs.TranslationUnit.{TranslationUnit}
-use Rattle.wgsl_reading.specs.Part.{Part}
-use Rattle.wgsl_reading.specs.Part.TheVariants as part
-use Rattle.wgsl_reading.specs.declared.driver.Start.{Start}
-use Rattle.wgsl_reading.specs.declared.driver.Start.TheVariants.{Module}
-use Rattle.wgsl_reading.specs.declared.answer.Unread.{Unread}
-use Rattle.wgsl_reading.specs.Readings.{Reads, IsPart}
-use Rattle.wgsl_error.specs.declared.error.Error.{Error}
-use Rattle.wgsl_error.specs.Errors.{refusal_of, IsRefusal}
+use Rattle.wgsl_templates.specs.declared.meaning.token.SpannedTemplateToken.{SpannedTemplateToken}
+use Rattle.wgsl_templates.specs.Tokens.{IsLexed}
+use Rattle.wgsl_lr_driver.specs.TranslationUnit.{TranslationUnit}
+use Rattle.wgsl_lr_driver.specs.Part.{Part}
+use Rattle.wgsl_lr_driver.specs.Part.TheVariants as part
+use Rattle.wgsl_lr_driver.specs.declared.driver.Start.{Start}
+use Rattle.wgsl_lr_driver.specs.declared.driver.Start.TheVariants.{Module}
+use Rattle.wgsl_lr_driver.specs.declared.answer.Unread.{Unread}
+use Rattle.wgsl_lr_driver.specs.Readings.{Reads, IsPart}
+use Rattle.wgsl_token.specs.declared.fault.error.Error.{Error}
+use Rattle.wgsl_token.specs.Errors.{refusal_of, IsRefusal}
 use Rattle.wgsl_parser.specs.Errors.{error_of}
 
 -- The tokens of the text derive this part alone, from this start, and no check fails in it.

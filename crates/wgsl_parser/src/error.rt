@@ -3,10 +3,10 @@
 ghost use Rattle.std.specs.Prelude.{◌≡◌};
 ghost use Rattle.wgsl_parser.specs.Errors as errors;
 
-use wgsl_error::{Error, ErrorKind};
+use wgsl_lr_driver::{Check, Failure, Unread};
 use wgsl_path::Span;
-use wgsl_reading::{Check, Failure, Unread};
-use wgsl_template_spec::{SpannedTemplateToken, TemplateToken};
+use wgsl_templates::{SpannedTemplateToken, TemplateToken};
+use wgsl_token::fault::{Error, ErrorKind};
 use wgsl_token::{Fixed, Token};
 
 fn kind_of_check(check: Check) -> ErrorKind

@@ -12,4 +12,4 @@ pub use parse::{
     parse_import, parse_statement, parse_str,
 };
 pub use text::FromText;
-pub use wgsl_error::{Error, ErrorKind, Refusal};
+pub use wgsl_token::fault::{Error, ErrorKind, Refusal};

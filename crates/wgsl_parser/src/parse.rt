@@ -1,24 +1,23 @@
 //! Texts.
 
 ghost use Rattle.std.specs.Prelude.{◌≡◌, Ok, Err, OnOk, IfErr};
-ghost use Rattle.wgsl_reading.specs.Part.TheVariants as as_part;
-ghost use Rattle.wgsl_reading.specs.declared.driver.Start.TheVariants as from;
+ghost use Rattle.wgsl_lr_driver.specs.Part.TheVariants as as_part;
+ghost use Rattle.wgsl_lr_driver.specs.declared.driver.Start.TheVariants as from;
 ghost use Rattle.wgsl_parser.specs.Texts.{Parses, ParsesModule, ParsesTokens, TellsModule};
 
 use crate::error::error_of;
 use crate::take::{declaration, directive, expression, import, kind, module, statement};
 use std::alloc::{AllocError, Global};
-use wgsl_error::Error;
+use wgsl_base::{Items, Queue};
+use wgsl_declarations::{GlobalDirective, ImportStatement};
 use wgsl_expressions::ExpressionNode;
-use wgsl_imports::{GlobalDirective, ImportStatement};
-use wgsl_items::Items;
-use wgsl_reading::{
+use wgsl_lr_driver::{
     GlobalDeclarationNode, Part, Start, StatementNode, TranslationUnit, let_go, read,
 };
 use wgsl_simple_statements::DeclarationKind;
-use wgsl_stack::Queue;
-use wgsl_template_lexer::lexer::lex_queue;
-use wgsl_template_spec::SpannedTemplateToken;
+use wgsl_templates::SpannedTemplateToken;
+use wgsl_templates::reading::lexer::lex_queue;
+use wgsl_token::fault::Error;
 
 /// The part that tokens of a text of this length stand for.
 fn part_of(

@@ -2,12 +2,12 @@
 
 ghost use Rattle.std.specs.Prelude.{◌≡◌, IfOk};
 
-use wgsl_error::Refusal;
+use wgsl_declarations::{GlobalDirective, ImportStatement};
 use wgsl_expressions::ExpressionNode;
-use wgsl_imports::{GlobalDirective, ImportStatement};
-use wgsl_reading::take::misfit;
-use wgsl_reading::{GlobalDeclarationNode, Part, StatementNode, TranslationUnit};
+use wgsl_lr_driver::take::misfit;
+use wgsl_lr_driver::{GlobalDeclarationNode, Part, StatementNode, TranslationUnit};
 use wgsl_simple_statements::DeclarationKind;
+use wgsl_token::fault::Refusal;
 
 pub(crate) fn expression(part: Part) -> Result<ExpressionNode, Refusal>
     ensures { IfOk result (λ x. part ≡ Part.Expression x) }

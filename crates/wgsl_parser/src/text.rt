@@ -7,15 +7,15 @@ use crate::parse::{
     parse_statement, parse_str,
 };
 use std::alloc::Global;
-use wgsl_error::Error;
+use wgsl_declarations::{GlobalDirective, ImportStatement};
 use wgsl_expressions::ExpressionNode;
-use wgsl_imports::{GlobalDirective, ImportStatement};
-use wgsl_reading::{GlobalDeclarationNode, StatementNode, TranslationUnit};
+use wgsl_lr_driver::{GlobalDeclarationNode, StatementNode, TranslationUnit};
 use wgsl_simple_statements::DeclarationKind;
+use wgsl_token::fault::Error;
 
 /// A tree that texts are read as.
 pub trait FromText: Drop {
-    ghost use Rattle.wgsl_error.specs.declared.error.Error.{Error};
+    ghost use Rattle.wgsl_token.specs.declared.fault.error.Error.{Error};
 
     /// What an answer says of a text.
     ghost answers: { List ℕ → Result Self Error → Type 0 };
@@ -36,8 +36,8 @@ impl FromText for TranslationUnit {
 }
 
 impl FromText for ExpressionNode {
-    ghost use Rattle.wgsl_reading.specs.Part.TheVariants as as_part;
-    ghost use Rattle.wgsl_reading.specs.declared.driver.Start.TheVariants as from;
+    ghost use Rattle.wgsl_lr_driver.specs.Part.TheVariants as as_part;
+    ghost use Rattle.wgsl_lr_driver.specs.declared.driver.Start.TheVariants as from;
     ghost use Rattle.wgsl_parser.specs.Texts.{Parses};
 
     ghost answers = { Parses from.Expression as_part.Expression };
@@ -48,8 +48,8 @@ impl FromText for ExpressionNode {
 }
 
 impl FromText for StatementNode {
-    ghost use Rattle.wgsl_reading.specs.Part.TheVariants as as_part;
-    ghost use Rattle.wgsl_reading.specs.declared.driver.Start.TheVariants as from;
+    ghost use Rattle.wgsl_lr_driver.specs.Part.TheVariants as as_part;
+    ghost use Rattle.wgsl_lr_driver.specs.declared.driver.Start.TheVariants as from;
     ghost use Rattle.wgsl_parser.specs.Texts.{Parses};
 
     ghost answers = { Parses from.Statement as_part.Statement };
@@ -60,8 +60,8 @@ impl FromText for StatementNode {
 }
 
 impl FromText for GlobalDeclarationNode {
-    ghost use Rattle.wgsl_reading.specs.Part.TheVariants as as_part;
-    ghost use Rattle.wgsl_reading.specs.declared.driver.Start.TheVariants as from;
+    ghost use Rattle.wgsl_lr_driver.specs.Part.TheVariants as as_part;
+    ghost use Rattle.wgsl_lr_driver.specs.declared.driver.Start.TheVariants as from;
     ghost use Rattle.wgsl_parser.specs.Texts.{Parses};
 
     ghost answers = { Parses from.Declaration as_part.Global };
@@ -72,8 +72,8 @@ impl FromText for GlobalDeclarationNode {
 }
 
 impl FromText for GlobalDirective {
-    ghost use Rattle.wgsl_reading.specs.Part.TheVariants as as_part;
-    ghost use Rattle.wgsl_reading.specs.declared.driver.Start.TheVariants as from;
+    ghost use Rattle.wgsl_lr_driver.specs.Part.TheVariants as as_part;
+    ghost use Rattle.wgsl_lr_driver.specs.declared.driver.Start.TheVariants as from;
     ghost use Rattle.wgsl_parser.specs.Texts.{Parses};
 
     ghost answers = { Parses from.Directive as_part.Directive };
@@ -84,8 +84,8 @@ impl FromText for GlobalDirective {
 }
 
 impl FromText for ImportStatement {
-    ghost use Rattle.wgsl_reading.specs.Part.TheVariants as as_part;
-    ghost use Rattle.wgsl_reading.specs.declared.driver.Start.TheVariants as from;
+    ghost use Rattle.wgsl_lr_driver.specs.Part.TheVariants as as_part;
+    ghost use Rattle.wgsl_lr_driver.specs.declared.driver.Start.TheVariants as from;
     ghost use Rattle.wgsl_parser.specs.Texts.{Parses};
 
     ghost answers = { Parses from.Import as_part.Import };
@@ -96,8 +96,8 @@ impl FromText for ImportStatement {
 }
 
 impl FromText for DeclarationKind {
-    ghost use Rattle.wgsl_reading.specs.Part.TheVariants as as_part;
-    ghost use Rattle.wgsl_reading.specs.declared.driver.Start.TheVariants as from;
+    ghost use Rattle.wgsl_lr_driver.specs.Part.TheVariants as as_part;
+    ghost use Rattle.wgsl_lr_driver.specs.declared.driver.Start.TheVariants as from;
     ghost use Rattle.wgsl_parser.specs.Texts.{Parses};
 
     ghost answers = { Parses from.Kind as_part.Kind };

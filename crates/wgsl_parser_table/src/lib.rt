@@ -3,4 +3,4 @@
 
 pub mod table;
 
-pub use wgsl_parts::Label;
+pub use wgsl_semantic_values::Label;

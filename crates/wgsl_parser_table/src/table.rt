@@ -1,12 +1,11 @@
 //! The tables of the parser. The tool `tools/parser_tables.py` writes this file.
 
-use wgsl_enumerations::AssignmentOperator;
-use wgsl_operators::{BinaryOperator, UnaryOperator};
-use wgsl_parts::{
+use wgsl_semantic_values::{
     AttributeLabel, ClauseLabel, DeclarationLabel, DirectiveLabel, ExpressionLabel, ImportLabel,
     Label, NameLabel, PlainLabel, StatementLabel, ValueLabel,
 };
 use wgsl_token::Fixed;
+use wgsl_words::{AssignmentOperator, BinaryOperator, UnaryOperator};
 
 /// How many classes of tokens there are.
 pub const CLASS_COUNT: u16 = 83;

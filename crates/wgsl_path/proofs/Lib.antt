@@ -3,4 +3,4 @@ pub mod PartsLemmas
 pub mod JoinLemmas
 pub mod Lawful
 pub mod Printed
-pub use Rattle.wgsl_items.proofs.Bools
+pub use Rattle.wgsl_base.proofs.Bools

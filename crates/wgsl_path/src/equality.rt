@@ -6,7 +6,7 @@ ghost use Rattle.std.specs.Hash.{str};
 
 use crate::path::{ModulePath, PathOrigin};
 use std::hash::{Hash, Hasher};
-use wgsl_items::Text;
+use wgsl_base::Text;
 
 impl Eq for ModulePath {
     ghost use Rattle.wgsl_path.specs.Equality.{paths_equiv};

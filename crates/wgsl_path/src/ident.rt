@@ -6,7 +6,7 @@ ghost use Rattle.wgsl_path.specs.Paths.{ident_of};
 use std::alloc::{AllocError, Global};
 use std::fmt;
 use std::hash::{Hash, Hasher};
-use wgsl_items::{CloneIn, Text};
+use wgsl_base::{CloneIn, Text};
 
 /// What names something at a place of a tree: an owned name, and the number of the symbol that it stands for, which is set later by the
 /// linker's `retarget_idents`. Equality and hash look at the name alone.

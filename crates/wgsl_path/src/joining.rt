@@ -6,7 +6,7 @@ ghost use Rattle.wgsl_path.specs.Joining.{root_path, with_names, origin_above, p
 
 use crate::path::{ModulePath, PathOrigin};
 use std::alloc::{AllocError, Global};
-use wgsl_items::{CloneIn, Items, Text};
+use wgsl_base::{CloneIn, Items, Text};
 
 impl ModulePath {
     /// The root of the own package. It needs no memory.

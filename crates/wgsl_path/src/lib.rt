@@ -13,4 +13,4 @@ pub use ident::Ident;
 pub use path::{ModulePath, PathOrigin};
 pub use reading::ModulePathParseError;
 pub use span::{Span, Spanned};
-pub use wgsl_items::{Boxed, CloneIn, FromIn, Items, Text, both, three};
+pub use wgsl_base::{Boxed, CloneIn, FromIn, Items, Text, both, three};

@@ -6,7 +6,7 @@ ghost use Rattle.wgsl_path.specs.Paths.{supers, origin_text, path_text};
 
 use std::alloc::{AllocError, Global};
 use std::fmt;
-use wgsl_items::{CloneIn, Items, Text};
+use wgsl_base::{CloneIn, Items, Text};
 
 /// Where a path starts.
 #[derive(Debug, Drop, PartialEq, Eq)]

@@ -9,7 +9,7 @@ ghost use Rattle.wgsl_path.specs.declared.path.PathOrigin.TheVariants.{Relative}
 use crate::path::{ModulePath, PathOrigin};
 use std::alloc::{AllocError, Global};
 use thiserror::Error as Message;
-use wgsl_items::{Items, Text};
+use wgsl_base::{Items, Text};
 
 /// Why a text is no path.
 #[derive(Clone, Copy, Debug, PartialEq, Eq, Message)]

@@ -8,7 +8,7 @@ ghost use Rattle.wgsl_path.specs.contracts.span.Spanned.{the_row};
 use std::alloc::{AllocError, Global};
 use std::fmt;
 use std::ops::Range;
-use wgsl_items::{Boxed, CloneIn, FromIn};
+use wgsl_base::{Boxed, CloneIn, FromIn};
 
 /// A place in a text, in bytes: where it starts, and where it ends.
 #[derive(Clone, Copy, Debug, PartialEq, Eq)]

@@ -20,22 +20,22 @@ use Rattle.wgsl_lex.specs.Tokens.{is_word, is_reserved, fixed_of, form, token}
 use Rattle.wgsl_lex.proofs.Bools.{differs, not_both}
 use Rattle.wgsl_lex.proofs.Forms.{fixed_form, word_form}
 use Rattle.wgsl_lex.proofs.Tables.{begins_word, fixed_of-spelling}
-use Rattle.wgsl_spelled.proofs.Forms.{made}
-use Rattle.wgsl_spelled.proofs.Spells.{spells_ascii}
-use Rattle.wgsl_template_spec.specs.declared.token.TemplateToken.{TemplateToken}
-use Rattle.wgsl_template_spec.specs.Tokens.{start}
-use Rattle.wgsl_imports.specs.Tree.{Importing}
+use Rattle.wgsl_print_laws.proofs.Forms.{made}
+use Rattle.wgsl_print_laws.proofs.Spells.{spells_ascii}
+use Rattle.wgsl_templates.specs.declared.meaning.token.TemplateToken.{TemplateToken}
+use Rattle.wgsl_templates.specs.Tokens.{start}
+use Rattle.wgsl_declarations.specs.ImportsTree.{Importing}
 use Rattle.wgsl_declarations.specs.declared.unit.TranslationUnit.{TranslationUnit}
 use Rattle.wgsl_declarations.specs.Tree.{UnitTree}
 use Rattle.wgsl_declarations.specs.View.{unit_tree}
-use Rattle.wgsl_tree_tokens.specs.Tokens.{mark, origin_tokens, components_tokens, path_tokens, qualifier_tokens}
-use Rattle.wgsl_tree_tokens.specs.Imports.{content_tokens, import_rest, ImportTokens, an_import}
-use Rattle.wgsl_tree_tokens.specs.Printable.{IsSpelled, AreSpelled}
-use Rattle.wgsl_tree_tokens.proofs.Expressions.{are_front, are_behind}
-use Rattle.wgsl_tree_tokens.proofs.Leaves.{identifier_word}
-use Rattle.wgsl_tree_tokens.proofs.Spelled.{read_spelled}
-use Rattle.wgsl_module_tokens.specs.Declarations.{RowTokens, row_end, row_and, UnitTokens, a_unit}
-use Rattle.wgsl_parts.specs.declared.part.Part.TheVariants as part
+use Rattle.wgsl_print_laws.specs.Tokens.{mark, origin_tokens, components_tokens, path_tokens, qualifier_tokens}
+use Rattle.wgsl_print_laws.specs.Imports.{content_tokens, import_rest, ImportTokens, an_import}
+use Rattle.wgsl_print_laws.specs.Printable.{IsSpelled, AreSpelled}
+use Rattle.wgsl_print_laws.proofs.Expressions.{are_front, are_behind}
+use Rattle.wgsl_print_laws.proofs.Leaves.{identifier_word}
+use Rattle.wgsl_print_laws.proofs.Spelled.{read_spelled}
+use Rattle.wgsl_print_laws.specs.Declarations.{RowTokens, row_end, row_and, UnitTokens, a_unit}
+use Rattle.wgsl_semantic_values.specs.declared.part.Part.TheVariants as part
 use Rattle.wgsl_grammar_tables.specs.Nonterminals as n
 use Rattle.wgsl_grammar_tables.specs.Expansion.{plain}
 use Rattle.wgsl_parser.specs.Start.TheVariants.{Module}

@@ -7,34 +7,34 @@ use Rattle.wgsl_token.specs.declared.token.Token.TheVariants as t
 use Rattle.wgsl_token.specs.declared.token.Fixed.{Fixed}
 use Rattle.wgsl_token.specs.declared.token.Fixed.TheVariants as f
 use Rattle.wgsl_token.specs.Spelling.{spelling}
-use Rattle.wgsl_template_spec.specs.declared.token.TemplateToken.{TemplateToken}
-use Rattle.wgsl_template_spec.specs.declared.token.TemplateToken.TheVariants.{Plain}
-use Rattle.wgsl_template_spec.specs.declared.token.SpannedTemplateToken.{SpannedTemplateToken}
-use Rattle.wgsl_template_spec.specs.Kinds.{kind}
-use Rattle.wgsl_token_layout.specs.Laws.{without_places}
-use Rattle.wgsl_token_layout.specs.OptionalMarks.{Before, callee, groups, is_any_word, same_attribute, begins_outside}
+use Rattle.wgsl_templates.specs.declared.meaning.token.TemplateToken.{TemplateToken}
+use Rattle.wgsl_templates.specs.declared.meaning.token.TemplateToken.TheVariants.{Plain}
+use Rattle.wgsl_templates.specs.declared.meaning.token.SpannedTemplateToken.{SpannedTemplateToken}
+use Rattle.wgsl_templates.specs.Kinds.{kind}
+use Rattle.wgsl_print_laws.specs.Laws.{without_places}
+use Rattle.wgsl_print_laws.specs.OptionalMarks.{Before, callee, groups, is_any_word, same_attribute, begins_outside}
 use Rattle.wgsl_expressions.specs.declared.expression.Expression.{Expression}
 use Rattle.wgsl_expressions.specs.Tree.{Exp, exps}
 use Rattle.wgsl_expressions.specs.View.{node_tree}
-use Rattle.wgsl_attributes.specs.declared.attribute.Attribute.{Attribute}
-use Rattle.wgsl_attributes.specs.Tree.{Attr}
-use Rattle.wgsl_attributes.specs.View.{attribute_tree, attributes_tree}
-use Rattle.wgsl_tree_tokens.specs.Tokens.{mark, word}
-use Rattle.wgsl_tree_tokens.specs.Printable.{AreSpelled, are_apart}
-use Rattle.wgsl_tree_tokens.specs.Attributes.{IsWord, identifier, reserved, keyword, arguments_tokens, AttributeTokens, an_attribute}
-use Rattle.wgsl_tree_tokens.specs.Imports.{AttributesTokens, no_attributes, attributes_and}
-use Rattle.wgsl_tree_tokens.proofs.Expressions.{are_front, are_behind, are_both}
-use Rattle.wgsl_shift_reduce.specs.Grammars.{Symbol, token, phrase, Row, done, next}
-use Rattle.wgsl_parts.specs.Reading.{attributes_of}
-use Rattle.wgsl_parts.specs.declared.part.Part.{Part}
-use Rattle.wgsl_parts.specs.declared.part.Part.TheVariants as part
-use Rattle.wgsl_parts.specs.declared.label.Label.{Label}
-use Rattle.wgsl_parts.specs.declared.label.Label.TheVariants as l
-use Rattle.wgsl_parts.specs.declared.label.AttributeLabel.TheVariants as label
+use Rattle.wgsl_expressions.specs.declared.attributes.attribute.Attribute.{Attribute}
+use Rattle.wgsl_expressions.specs.AttributesTree.{Attr}
+use Rattle.wgsl_expressions.specs.AttributesView.{attribute_tree, attributes_tree}
+use Rattle.wgsl_print_laws.specs.Tokens.{mark, word}
+use Rattle.wgsl_print_laws.specs.Printable.{AreSpelled, are_apart}
+use Rattle.wgsl_print_laws.specs.Attributes.{IsWord, identifier, reserved, keyword, arguments_tokens, AttributeTokens, an_attribute}
+use Rattle.wgsl_print_laws.specs.Imports.{AttributesTokens, no_attributes, attributes_and}
+use Rattle.wgsl_print_laws.proofs.Expressions.{are_front, are_behind, are_both}
+use Rattle.wgsl_grammar_tables.specs.Grammars.{Symbol, token, phrase, Row, done, next}
+use Rattle.wgsl_semantic_values.specs.Reading.{attributes_of}
+use Rattle.wgsl_semantic_values.specs.declared.part.Part.{Part}
+use Rattle.wgsl_semantic_values.specs.declared.part.Part.TheVariants as part
+use Rattle.wgsl_semantic_values.specs.declared.label.Label.{Label}
+use Rattle.wgsl_semantic_values.specs.declared.label.Label.TheVariants as l
+use Rattle.wgsl_semantic_values.specs.declared.label.AttributeLabel.TheVariants as label
 use Rattle.wgsl_parser.specs.Phrase.{Phrase}
 use Rattle.wgsl_parser.specs.Attributes as make
 use Rattle.wgsl_parser.specs.Attributes.{checked}
-use Rattle.wgsl_parts.specs.Lists as lists
+use Rattle.wgsl_semantic_values.specs.Lists as lists
 use Rattle.wgsl_parser.specs.Failures.{attribute_failed, made_failed}
 use Rattle.wgsl_parser.specs.Phrases.{grammar}
 use Rattle.wgsl_grammar_tables.specs.Classes.{fixed_class}

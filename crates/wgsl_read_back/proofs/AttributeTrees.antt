@@ -2,36 +2,36 @@
 use Rattle.std.specs.Option.{option_map, option_and_then}
 use Rattle.std.proofs.Common.{◌≡◌, refl, sym, ap, ◌∙◌, subst, ℕ, List, [], ◌∷◌, ◌++◌, map, codes, Option, Some, None}
 use Rattle.wgsl_path.specs.declared.span.Spanned.{Spanned}
-use Rattle.wgsl_enumerations.specs.declared.builtin.BuiltinValue.{BuiltinValue}
-use Rattle.wgsl_enumerations.specs.declared.builtin.BuiltinValue.TheVariants as builtins
-use Rattle.wgsl_enumerations.specs.declared.words.DiagnosticSeverity.{DiagnosticSeverity}
-use Rattle.wgsl_enumerations.specs.declared.words.DiagnosticSeverity.TheVariants as severities
-use Rattle.wgsl_enumerations.specs.declared.words.InterpolationType.{InterpolationType}
-use Rattle.wgsl_enumerations.specs.declared.words.InterpolationType.TheVariants as types
-use Rattle.wgsl_enumerations.specs.declared.words.InterpolationSampling.{InterpolationSampling}
-use Rattle.wgsl_enumerations.specs.declared.words.InterpolationSampling.TheVariants as samplings
-use Rattle.wgsl_enumerations.specs.Texts.{builtin_value_text, builtin_value_spelled, diagnostic_severity_text, diagnostic_severity_spelled, interpolation_type_text, interpolation_type_spelled, interpolation_sampling_text, interpolation_sampling_spelled}
+use Rattle.wgsl_words.specs.declared.enumerations.builtin.BuiltinValue.{BuiltinValue}
+use Rattle.wgsl_words.specs.declared.enumerations.builtin.BuiltinValue.TheVariants as builtins
+use Rattle.wgsl_words.specs.declared.enumerations.words.DiagnosticSeverity.{DiagnosticSeverity}
+use Rattle.wgsl_words.specs.declared.enumerations.words.DiagnosticSeverity.TheVariants as severities
+use Rattle.wgsl_words.specs.declared.enumerations.words.InterpolationType.{InterpolationType}
+use Rattle.wgsl_words.specs.declared.enumerations.words.InterpolationType.TheVariants as types
+use Rattle.wgsl_words.specs.declared.enumerations.words.InterpolationSampling.{InterpolationSampling}
+use Rattle.wgsl_words.specs.declared.enumerations.words.InterpolationSampling.TheVariants as samplings
+use Rattle.wgsl_words.specs.Texts.{builtin_value_text, builtin_value_spelled, diagnostic_severity_text, diagnostic_severity_spelled, interpolation_type_text, interpolation_type_spelled, interpolation_sampling_text, interpolation_sampling_spelled}
 use Rattle.wgsl_expressions.specs.declared.expression.Expression.{Expression, Expression-F, out-Expression}
 use Rattle.wgsl_expressions.specs.Tree.{Exp, component, named, simple}
 use Rattle.wgsl_expressions.specs.View.{tree, node_tree, layer}
 use Rattle.wgsl_expressions.proofs.Trees.{tree_out}
-use Rattle.wgsl_attributes.specs.declared.attribute.Attribute.TheVariants as code
-use Rattle.wgsl_attributes.specs.Tree.{Attr, align, binding, blend_src, builtin, constant, diagnostic, group, id_number, interpolate, invariant, location, must_use, byte_size, workgroup_size, vertex, fragment, compute, publish, if_true, else_if, otherwise, custom}
-use Rattle.wgsl_attributes.specs.View.{attribute_tree}
-use Rattle.wgsl_choices.specs.Choices.{severity_of, interpolation_type_of, interpolation_sampling_of, builtin_value_of}
+use Rattle.wgsl_expressions.specs.declared.attributes.attribute.Attribute.TheVariants as code
+use Rattle.wgsl_expressions.specs.AttributesTree.{Attr, align, binding, blend_src, builtin, constant, diagnostic, group, id_number, interpolate, invariant, location, must_use, byte_size, workgroup_size, vertex, fragment, compute, publish, if_true, else_if, otherwise, custom}
+use Rattle.wgsl_expressions.specs.AttributesView.{attribute_tree}
+use Rattle.wgsl_attribute_words.specs.Choices.{severity_of, interpolation_type_of, interpolation_sampling_of, builtin_value_of}
 use Rattle.wgsl_attribute_words.specs.declared.word.AttributeWord.{AttributeWord}
 use Rattle.wgsl_attribute_words.specs.declared.word.AttributeWord.TheVariants as word
 use Rattle.wgsl_attribute_words.specs.Words.{word_text, word_spelled, word_named}
 use Rattle.wgsl_attribute_words.specs.Names.{name_of, layer_rule, rule_of}
-use Rattle.wgsl_attributes.specs.declared.attribute.Attribute.{Attribute}
+use Rattle.wgsl_expressions.specs.declared.attributes.attribute.Attribute.{Attribute}
 use Rattle.wgsl_attribute_words.specs.Attributes as code_attributes
 use Rattle.wgsl_attribute_words.specs.Attributes.{custom as custom_code}
 use Rattle.wgsl_parser.specs.Attributes.{or_else, checked}
 use Rattle.wgsl_parser.specs.Failures.{of_word, attribute_failed}
 use Rattle.wgsl_attribute_words.specs.Attributes.{attribute_of, attribute_named, known_attribute, with_arguments, with_one, with_two, with_three, without_arguments}
-use Rattle.wgsl_tree_tokens.specs.Attributes as tokens
-use Rattle.wgsl_tree_tokens.specs.Attributes.{name_exp, IsRuleExp, IsWritten}
-use Rattle.wgsl_tree_tokens.proofs.Attributes.{written_text}
+use Rattle.wgsl_print_laws.specs.Attributes as tokens
+use Rattle.wgsl_print_laws.specs.Attributes.{name_exp, IsRuleExp, IsWritten}
+use Rattle.wgsl_print_laws.proofs.Attributes.{written_text}
 use Rattle.wgsl_read_back.specs.Laws.{AttributesArePrintedAsRead}
 use Rattle.wgsl_read_back.proofs.Chosen.{named_is, tree_name, layer_name_is, name_is}
 

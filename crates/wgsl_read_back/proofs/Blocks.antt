@@ -2,21 +2,21 @@
 use Rattle.std.proofs.Common.{◌≡◌, ℕ, true, List, [], ◌∷◌, ◌++◌, Some, None}
 use Rattle.wgsl_path.specs.declared.span.Spanned.{Spanned}
 use Rattle.wgsl_token.specs.declared.token.Fixed.TheVariants as f
-use Rattle.wgsl_template_spec.specs.declared.token.TemplateToken.{TemplateToken}
-use Rattle.wgsl_template_spec.specs.declared.token.SpannedTemplateToken.{SpannedTemplateToken}
-use Rattle.wgsl_token_layout.specs.Laws.{without_places}
+use Rattle.wgsl_templates.specs.declared.meaning.token.TemplateToken.{TemplateToken}
+use Rattle.wgsl_templates.specs.declared.meaning.token.SpannedTemplateToken.{SpannedTemplateToken}
+use Rattle.wgsl_print_laws.specs.Laws.{without_places}
 use Rattle.wgsl_expressions.specs.Tree.{Exp}
 use Rattle.wgsl_simple_statements.specs.Tree.{BreakIf, Selector}
 use Rattle.wgsl_statements.specs.Tree.{Stm, Stms, nil, cons, Block, Clauses, Continuing}
 use Rattle.wgsl_statements.specs.declared.statement.Statement.{Statement}
 use Rattle.wgsl_statements.specs.View.{statement_tree, statements_tree}
-use Rattle.wgsl_tree_tokens.specs.Tokens.{mark, exp_tokens}
-use Rattle.wgsl_tree_tokens.specs.Printable.{is_apart}
-use Rattle.wgsl_module_tokens.specs.Simple.{case_tokens, selector_is_apart, selectors_are_apart}
-use Rattle.wgsl_module_tokens.specs.Statements.{BreakIfTokens, StmTokens, StmsTokens, BlockTokens, ClausesTokens, ContinuingTokens}
-use Rattle.wgsl_shift_reduce.specs.Grammars.{phrase}
-use Rattle.wgsl_parts.specs.declared.part.Part.{Part}
-use Rattle.wgsl_parts.specs.declared.part.Part.TheVariants as part
+use Rattle.wgsl_print_laws.specs.Tokens.{mark, exp_tokens}
+use Rattle.wgsl_print_laws.specs.Printable.{is_apart}
+use Rattle.wgsl_print_laws.specs.Simple.{case_tokens, selector_is_apart, selectors_are_apart}
+use Rattle.wgsl_print_laws.specs.Statements.{BreakIfTokens, StmTokens, StmsTokens, BlockTokens, ClausesTokens, ContinuingTokens}
+use Rattle.wgsl_grammar_tables.specs.Grammars.{phrase}
+use Rattle.wgsl_semantic_values.specs.declared.part.Part.{Part}
+use Rattle.wgsl_semantic_values.specs.declared.part.Part.TheVariants as part
 use Rattle.wgsl_parser.specs.Phrase.{Phrase}
 use Rattle.wgsl_read_back.proofs.Views as v
 use Rattle.wgsl_read_back.proofs.Items.{BeginsOutside, Back, CutList, AgainAs}

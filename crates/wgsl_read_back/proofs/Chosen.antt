@@ -2,25 +2,25 @@
 use Rattle.std.specs.Prelude.{if◌then◌else◌}
 use Rattle.std.specs.Option.{option_map, option_and_then}
 use Rattle.std.proofs.Common.{◌≡◌, refl, sym, ap, ◌∙◌, ℕ, Bool, true, false, List, [], ◌∷◌, ◌++◌, map, Option, Some, None}
-use Rattle.wgsl_items.proofs.Members.{same_bytes}
+use Rattle.wgsl_base.proofs.Members.{same_bytes}
 use Rattle.wgsl_path.specs.declared.span.Spanned.{Spanned}
 use Rattle.wgsl_path.specs.declared.path.ModulePath.{ModulePath}
-use Rattle.wgsl_enumerations.specs.declared.address.AccessMode.{AccessMode}
-use Rattle.wgsl_enumerations.specs.declared.address.AccessMode.TheVariants.{Read, Write, ReadWrite}
-use Rattle.wgsl_enumerations.specs.declared.address.AddressSpace.{AddressSpace}
-use Rattle.wgsl_enumerations.specs.declared.address.AddressSpace.TheVariants.{Function, Private, Workgroup, Uniform, Storage, Handle}
-use Rattle.wgsl_enumerations.specs.Texts.{address_space_text, address_space_spelled, access_mode_text, access_mode_spelled}
+use Rattle.wgsl_words.specs.declared.enumerations.address.AccessMode.{AccessMode}
+use Rattle.wgsl_words.specs.declared.enumerations.address.AccessMode.TheVariants.{Read, Write, ReadWrite}
+use Rattle.wgsl_words.specs.declared.enumerations.address.AddressSpace.{AddressSpace}
+use Rattle.wgsl_words.specs.declared.enumerations.address.AddressSpace.TheVariants.{Function, Private, Workgroup, Uniform, Storage, Handle}
+use Rattle.wgsl_words.specs.Texts.{address_space_text, address_space_spelled, access_mode_text, access_mode_spelled}
 use Rattle.wgsl_expressions.specs.declared.expression.Expression.{Expression, Expression-F, out-Expression}
 use Rattle.wgsl_expressions.specs.declared.expression.TemplateArgOf.{TemplateArgOf}
 use Rattle.wgsl_expressions.specs.Tree.{Exp, named, exps, simple}
 use Rattle.wgsl_expressions.specs.View.{tree, node_tree, layer, typed}
 use Rattle.wgsl_expressions.proofs.Trees.{tree_out}
-use Rattle.wgsl_choices.specs.Choices.{is_spelled, named as found_named, address_space_of, access_mode_of}
+use Rattle.wgsl_attribute_words.specs.Choices.{is_spelled, named as found_named, address_space_of, access_mode_of}
 use Rattle.wgsl_attribute_words.specs.Names.{alone, layer_name, name_of}
 use Rattle.wgsl_attribute_words.specs.Attributes.{moded, template_of}
 use Rattle.wgsl_token.specs.declared.token.Fixed.TheVariants as f
-use Rattle.wgsl_tree_tokens.specs.Tokens.{mark, word, exp_tokens, exps_tokens}
-use Rattle.wgsl_tree_tokens.specs.DeclarationKinds.{space_tokens}
+use Rattle.wgsl_print_laws.specs.Tokens.{mark, word, exp_tokens, exps_tokens}
+use Rattle.wgsl_print_laws.specs.DeclarationKinds.{space_tokens}
 
 -- ---- words
 

@@ -7,13 +7,13 @@ use Rattle.wgsl_lex.specs.Tokens.{form, token_form, fixed_of}
 use Rattle.wgsl_path.specs.declared.span.Span.{Span}
 use Rattle.wgsl_token.specs.declared.token.Fixed.{Fixed}
 use Rattle.wgsl_token.specs.declared.token.Fixed.TheVariants as f
-use Rattle.wgsl_template_spec.specs.declared.token.TemplateToken.{TemplateToken}
-use Rattle.wgsl_template_spec.specs.declared.token.SpannedTemplateToken.{SpannedTemplateToken}
-use Rattle.wgsl_token_layout.specs.Laws.{without_places}
-use Rattle.wgsl_token_layout.specs.OptionalMarks.{Before, outside, comma, begins_outside}
+use Rattle.wgsl_templates.specs.declared.meaning.token.TemplateToken.{TemplateToken}
+use Rattle.wgsl_templates.specs.declared.meaning.token.SpannedTemplateToken.{SpannedTemplateToken}
+use Rattle.wgsl_print_laws.specs.Laws.{without_places}
+use Rattle.wgsl_print_laws.specs.OptionalMarks.{Before, outside, comma, begins_outside}
 use Rattle.wgsl_expressions.specs.Tree.{Exp}
 use Rattle.wgsl_expressions.specs.View.{node_tree}
-use Rattle.wgsl_attributes.specs.Tree.{Attr}
+use Rattle.wgsl_expressions.specs.AttributesTree.{Attr}
 use Rattle.wgsl_simple_statements.specs.declared.statement.CaseSelector.TheVariants as selectors
 use Rattle.wgsl_simple_statements.specs.Tree.{BreakIf, Selector, default_selector, selected}
 use Rattle.wgsl_simple_statements.specs.View.{break_if_tree, selector_tree}
@@ -23,20 +23,20 @@ use Rattle.wgsl_statements.specs.declared.statement.ElseIfClauseOf.{ElseIfClause
 use Rattle.wgsl_statements.specs.declared.statement.SwitchClauseOf.{SwitchClauseOf}
 use Rattle.wgsl_statements.specs.Tree.{Stms, Block, block, Clauses, no_clauses, switch_clause, continuing_statement}
 use Rattle.wgsl_statements.specs.View.{statement_tree, statements_tree, block_tree, clauses_layer}
-use Rattle.wgsl_tree_tokens.specs.Tokens.{mark, exp_tokens}
-use Rattle.wgsl_tree_tokens.specs.Printable.{AreSpelled, is_apart}
-use Rattle.wgsl_tree_tokens.specs.Attributes.{an_attribute}
-use Rattle.wgsl_tree_tokens.specs.Imports.{AttributesTokens, no_attributes, attributes_and}
-use Rattle.wgsl_module_tokens.specs.Simple.{selector_tokens, more_selectors_tokens, selectors_tokens, case_tokens, selector_is_apart, selectors_are_apart}
-use Rattle.wgsl_module_tokens.specs.Statements.{BreakIfTokens, a_break_if as tokens_of_break_if, in_braces, StmsTokens, BlockTokens, a_block as tokens_of_block, ClausesTokens, no_clause, clause_and, an_end}
-use Rattle.wgsl_shift_reduce.specs.Grammars.{Symbol, token, phrase}
-use Rattle.wgsl_parts.specs.Reading.{attributes_of}
-use Rattle.wgsl_parts.specs.declared.part.Part.{Part}
-use Rattle.wgsl_parts.specs.declared.part.Part.TheVariants as part
-use Rattle.wgsl_parts.specs.declared.label.Label.TheVariants as l
-use Rattle.wgsl_parts.specs.declared.label.ClauseLabel.TheVariants as label
+use Rattle.wgsl_print_laws.specs.Tokens.{mark, exp_tokens}
+use Rattle.wgsl_print_laws.specs.Printable.{AreSpelled, is_apart}
+use Rattle.wgsl_print_laws.specs.Attributes.{an_attribute}
+use Rattle.wgsl_print_laws.specs.Imports.{AttributesTokens, no_attributes, attributes_and}
+use Rattle.wgsl_print_laws.specs.Simple.{selector_tokens, more_selectors_tokens, selectors_tokens, case_tokens, selector_is_apart, selectors_are_apart}
+use Rattle.wgsl_print_laws.specs.Statements.{BreakIfTokens, a_break_if as tokens_of_break_if, in_braces, StmsTokens, BlockTokens, a_block as tokens_of_block, ClausesTokens, no_clause, clause_and, an_end}
+use Rattle.wgsl_grammar_tables.specs.Grammars.{Symbol, token, phrase}
+use Rattle.wgsl_semantic_values.specs.Reading.{attributes_of}
+use Rattle.wgsl_semantic_values.specs.declared.part.Part.{Part}
+use Rattle.wgsl_semantic_values.specs.declared.part.Part.TheVariants as part
+use Rattle.wgsl_semantic_values.specs.declared.label.Label.TheVariants as l
+use Rattle.wgsl_semantic_values.specs.declared.label.ClauseLabel.TheVariants as label
 use Rattle.wgsl_parser.specs.Phrase.{Phrase}
-use Rattle.wgsl_parts.specs.Lists as lists
+use Rattle.wgsl_semantic_values.specs.Lists as lists
 use Rattle.wgsl_parser.specs.Reading.{statements_of, break_if_in}
 use Rattle.wgsl_parser.specs.Statements as make
 use Rattle.wgsl_grammar_tables.specs.Classes.{fixed_class}

@@ -2,25 +2,25 @@
 use Rattle.std.proofs.Common.{◌≡◌, refl, sym, ap, ◌∙◌, ℕ, Bool, List, [], ◌∷◌, ◌++◌, Option, Some, None}
 use Rattle.wgsl_token.specs.declared.token.Fixed.{Fixed}
 use Rattle.wgsl_token.specs.declared.token.Fixed.TheVariants as f
-use Rattle.wgsl_template_spec.specs.declared.token.TemplateToken.TheVariants.{TemplateArgsStart, TemplateArgsEnd}
-use Rattle.wgsl_template_spec.specs.declared.token.SpannedTemplateToken.{SpannedTemplateToken}
-use Rattle.wgsl_template_spec.specs.Kinds.{kind}
-use Rattle.wgsl_token_layout.specs.Laws.{without_places}
-use Rattle.wgsl_token_layout.specs.OptionalMarks.{Before, groups}
-use Rattle.wgsl_enumerations.specs.declared.address.AccessMode.{AccessMode}
-use Rattle.wgsl_enumerations.specs.declared.address.AddressSpace.{AddressSpace}
+use Rattle.wgsl_templates.specs.declared.meaning.token.TemplateToken.TheVariants.{TemplateArgsStart, TemplateArgsEnd}
+use Rattle.wgsl_templates.specs.declared.meaning.token.SpannedTemplateToken.{SpannedTemplateToken}
+use Rattle.wgsl_templates.specs.Kinds.{kind}
+use Rattle.wgsl_print_laws.specs.Laws.{without_places}
+use Rattle.wgsl_print_laws.specs.OptionalMarks.{Before, groups}
+use Rattle.wgsl_words.specs.declared.enumerations.address.AccessMode.{AccessMode}
+use Rattle.wgsl_words.specs.declared.enumerations.address.AddressSpace.{AddressSpace}
 use Rattle.wgsl_expressions.specs.Tree.{Exp}
 use Rattle.wgsl_simple_statements.specs.declared.declaration.DeclarationKind.{DeclarationKind}
 use Rattle.wgsl_simple_statements.specs.declared.declaration.DeclarationKind.TheVariants as kinds
-use Rattle.wgsl_tree_tokens.specs.Tokens.{mark}
-use Rattle.wgsl_tree_tokens.specs.DeclarationKinds.{kind_tokens}
+use Rattle.wgsl_print_laws.specs.Tokens.{mark}
+use Rattle.wgsl_print_laws.specs.DeclarationKinds.{kind_tokens}
 use Rattle.wgsl_attribute_words.specs.Attributes.{template_of}
 use Rattle.wgsl_parser.specs.Leaves.{leaf}
-use Rattle.wgsl_shift_reduce.specs.Grammars.{Symbol, token, phrase}
-use Rattle.wgsl_parts.specs.declared.part.Part.{Part}
-use Rattle.wgsl_parts.specs.declared.part.Part.TheVariants as part
-use Rattle.wgsl_parts.specs.declared.label.Label.TheVariants as l
-use Rattle.wgsl_parts.specs.declared.label.AttributeLabel.TheVariants as label
+use Rattle.wgsl_grammar_tables.specs.Grammars.{Symbol, token, phrase}
+use Rattle.wgsl_semantic_values.specs.declared.part.Part.{Part}
+use Rattle.wgsl_semantic_values.specs.declared.part.Part.TheVariants as part
+use Rattle.wgsl_semantic_values.specs.declared.label.Label.TheVariants as l
+use Rattle.wgsl_semantic_values.specs.declared.label.AttributeLabel.TheVariants as label
 use Rattle.wgsl_parser.specs.Phrase.{Phrase}
 use Rattle.wgsl_parser.specs.Attributes as make
 use Rattle.wgsl_parser.specs.Failures.{made_failed}

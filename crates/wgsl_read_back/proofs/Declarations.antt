@@ -3,29 +3,29 @@ use Rattle.std.proofs.Common.{◌≡◌, refl, ap, ◌∙◌, subst, ℕ, Bool, 
 use Rattle.wgsl_path.specs.declared.span.Spanned.{Spanned}
 use Rattle.wgsl_path.specs.Paths.{ident_of}
 use Rattle.wgsl_token.specs.declared.token.Fixed.TheVariants as f
-use Rattle.wgsl_template_spec.specs.declared.token.TemplateToken.{TemplateToken}
-use Rattle.wgsl_template_spec.specs.declared.token.SpannedTemplateToken.{SpannedTemplateToken}
-use Rattle.wgsl_token_layout.specs.Laws.{without_places}
-use Rattle.wgsl_token_layout.specs.OptionalMarks.{Before, outside, begins_outside}
+use Rattle.wgsl_templates.specs.declared.meaning.token.TemplateToken.{TemplateToken}
+use Rattle.wgsl_templates.specs.declared.meaning.token.SpannedTemplateToken.{SpannedTemplateToken}
+use Rattle.wgsl_print_laws.specs.Laws.{without_places}
+use Rattle.wgsl_print_laws.specs.OptionalMarks.{Before, outside, begins_outside}
 use Rattle.wgsl_expressions.specs.Tree.{Exp, Typ}
-use Rattle.wgsl_attributes.specs.Tree.{Attr}
+use Rattle.wgsl_expressions.specs.AttributesTree.{Attr}
 use Rattle.wgsl_simple_statements.specs.declared.declaration.DeclarationKind.{DeclarationKind}
 use Rattle.wgsl_statements.specs.Tree.{Block}
 use Rattle.wgsl_declarations.specs.declared.declaration.GlobalDeclaration.{GlobalDeclaration}
 use Rattle.wgsl_declarations.specs.declared.declaration.GlobalDeclaration.TheVariants as code
 use Rattle.wgsl_declarations.specs.Tree.{Member, Param, Decl, variable, alias, structure, function, assertion}
 use Rattle.wgsl_declarations.specs.View.{declaration_tree}
-use Rattle.wgsl_tree_tokens.specs.Tokens.{mark, word, typ_tokens}
-use Rattle.wgsl_tree_tokens.specs.Imports.{AttributesTokens, no_attributes}
-use Rattle.wgsl_module_tokens.specs.Simple.{declared_tokens, asserted_tokens}
-use Rattle.wgsl_module_tokens.specs.Statements.{in_braces, BlockTokens}
-use Rattle.wgsl_module_tokens.specs.Declarations.{ParametersTokens, no_parameters, ResultTokens, no_result, a_result, DeclTokens, a_variable, an_alias, a_structure, a_function, an_assertion}
-use Rattle.wgsl_shift_reduce.specs.Grammars.{Symbol, token, phrase, Derives, done, next}
-use Rattle.wgsl_parts.specs.Reading.{attributes_of}
-use Rattle.wgsl_parts.specs.declared.part.Part.{Part}
-use Rattle.wgsl_parts.specs.declared.part.Part.TheVariants as part
-use Rattle.wgsl_parts.specs.declared.label.Label.TheVariants as l
-use Rattle.wgsl_parts.specs.declared.label.DeclarationLabel.TheVariants as label
+use Rattle.wgsl_print_laws.specs.Tokens.{mark, word, typ_tokens}
+use Rattle.wgsl_print_laws.specs.Imports.{AttributesTokens, no_attributes}
+use Rattle.wgsl_print_laws.specs.Simple.{declared_tokens, asserted_tokens}
+use Rattle.wgsl_print_laws.specs.Statements.{in_braces, BlockTokens}
+use Rattle.wgsl_print_laws.specs.Declarations.{ParametersTokens, no_parameters, ResultTokens, no_result, a_result, DeclTokens, a_variable, an_alias, a_structure, a_function, an_assertion}
+use Rattle.wgsl_grammar_tables.specs.Grammars.{Symbol, token, phrase, Derives, done, next}
+use Rattle.wgsl_semantic_values.specs.Reading.{attributes_of}
+use Rattle.wgsl_semantic_values.specs.declared.part.Part.{Part}
+use Rattle.wgsl_semantic_values.specs.declared.part.Part.TheVariants as part
+use Rattle.wgsl_semantic_values.specs.declared.label.Label.TheVariants as l
+use Rattle.wgsl_semantic_values.specs.declared.label.DeclarationLabel.TheVariants as label
 use Rattle.wgsl_parser.specs.Phrase.{Phrase}
 use Rattle.wgsl_parser.specs.Phrases.{grammar}
 use Rattle.wgsl_parser.specs.Gathering.{either}

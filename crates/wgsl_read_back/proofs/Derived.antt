@@ -2,15 +2,15 @@
 use Rattle.std.proofs.Common.{◌≡◌, refl, sym, ap, ◌∙◌, subst, ℕ, zero, suc, Bool, true, false, List, [], ◌∷◌, ◌++◌, take, drop, take-append-drop, Some, None}
 use Rattle.std.specs.List.{list_all}
 use Rattle.std.proofs.lemmas.Bool.{and_parts}
-use Rattle.wgsl_operators.specs.declared.BinaryOperator.TheVariants as o
-use Rattle.wgsl_operators.specs.declared.UnaryOperator.TheVariants as u
-use Rattle.wgsl_enumerations.specs.declared.words.AssignmentOperator.TheVariants as a
+use Rattle.wgsl_words.specs.declared.operators.BinaryOperator.TheVariants as o
+use Rattle.wgsl_words.specs.declared.operators.UnaryOperator.TheVariants as u
+use Rattle.wgsl_words.specs.declared.enumerations.words.AssignmentOperator.TheVariants as a
 use Rattle.wgsl_token.specs.declared.token.Fixed.TheVariants as f
-use Rattle.wgsl_template_spec.specs.declared.token.SpannedTemplateToken.{SpannedTemplateToken}
-use Rattle.wgsl_shift_reduce.specs.Grammars.{Symbol, token, phrase, Rule, Derives, a_token, a_phrase, Row, done, next}
-use Rattle.wgsl_parts.specs.declared.part.Part.{Part}
-use Rattle.wgsl_parts.specs.declared.part.Part.TheVariants.{Absent}
-use Rattle.wgsl_parts.specs.declared.label.Label.TheVariants as l
+use Rattle.wgsl_templates.specs.declared.meaning.token.SpannedTemplateToken.{SpannedTemplateToken}
+use Rattle.wgsl_grammar_tables.specs.Grammars.{Symbol, token, phrase, Rule, Derives, a_token, a_phrase, Row, done, next}
+use Rattle.wgsl_semantic_values.specs.declared.part.Part.{Part}
+use Rattle.wgsl_semantic_values.specs.declared.part.Part.TheVariants.{Absent}
+use Rattle.wgsl_semantic_values.specs.declared.label.Label.TheVariants as l
 use Rattle.wgsl_parser.specs.Phrase.{Phrase}
 use Rattle.wgsl_parser.specs.Gathering.{extent_from, chosen}
 use Rattle.wgsl_grammar_tables.specs.Nonterminals as n
@@ -19,7 +19,7 @@ use Rattle.wgsl_grammar_tables.proofs.Written.{rules_are, label_is, parts_are}
 use Rattle.wgsl_parser.specs.Phrases.{grammar, made, make}
 use Rattle.wgsl_read_back.proofs.Items.{OneToken}
 use Rattle.wgsl_read_back.proofs.Rows.{make_of, Rebuild, AllPass, made_parts_pass}
-use Rattle.wgsl_parts.specs.declared.label.DirectiveLabel.TheVariants as dir
+use Rattle.wgsl_semantic_values.specs.declared.label.DirectiveLabel.TheVariants as dir
 use Rattle.wgsl_read_back.proofs.Directives.{bare_row, bare_pattern}
 use Rattle.wgsl_read_back.proofs.Steps.{PlainStep, always, s_rule, s_rule_of, s_extension, s_setting, s_setting_with, s_control_bare, s_control_attributed, s_enable_bare, s_enable_attributed, s_requires_bare, s_requires_attributed, s_first_name, s_more_names, s_names_without, s_names_with, s_var, s_var_in, s_const_kind, s_override_kind, s_let_kind, s_pass_kind, s_attribute_word, s_reserved_word, s_keyword, s_no_arguments, s_arguments, s_bare_attribute, s_pass_attribute, s_attribute, s_first_attribute, s_more_attributes, s_from_package, s_from_own, s_from_above, s_from_within, s_first_step, s_next_step, s_item, s_renamed, s_collection, s_tree_alone, s_tree_further, s_first_tree, s_more_trees, s_trees_without, s_trees_with, s_import_plain, s_import_from, s_import_attributed, s_import_attributed_from, Sort, unknown, sort_of, GoodAs, Good, GoodRow, good_end, good_next, Step, as_expressed, s_binary, s_unary, s_pass, s_pass_singles, s_pass_types, s_name_alone, s_name_above, s_name_in_package, s_name_within, s_one_up, s_further_up, s_simple, s_templated, s_call_without, s_call_with, s_number, s_true, s_false, s_named, s_called, s_parenthesized, s_component, s_indexed, s_first, s_more, s_listed_without, s_listed_with}
 use Rattle.wgsl_read_back.proofs.ValueSteps.{s_asserted, s_assertion, s_assigned, s_break, s_break_if, s_call_stated, s_case, s_case_colon, s_compound, s_const, s_continue, s_decremented, s_default, s_default_colon, s_default_selector, s_discard, s_else, s_else_if, s_first_clause, s_first_else_if, s_first_selector, s_first_statement, s_headed, s_incremented, s_let, s_local, s_more_clause, s_more_else_if, s_more_selectors, s_more_statements, s_override, s_override_set, s_pass_declared, s_pass_placed, s_pass_stated, s_phony, s_phony_assigned, s_place_behind, s_place_component, s_place_indexed, s_place_name, s_place_of, s_place_parenthesized, s_plain_bare, s_plain_attributed, s_return, s_return_with, s_selector, s_selectors_with, s_selectors_without, s_typed, s_typed_as, s_variable, s_variable_set, s_void_statement}

@@ -1,41 +1,41 @@
 -- The productions of directives.
 use Rattle.std.specs.Prelude.{if◌then◌else◌}
 use Rattle.std.specs.Str.{bytes_eq}
-use Rattle.wgsl_items.proofs.Members.{same_bytes}
+use Rattle.wgsl_base.proofs.Members.{same_bytes}
 use Rattle.std.proofs.Common.{◌≡◌, refl, sym, ap, ◌∙◌, ℕ, Bool, true, false, List, [], ◌∷◌, ◌++◌, append_assoc, append-nil, codes, Option, Some, None}
 use Rattle.wgsl_path.specs.Paths.{ident_of}
-use Rattle.wgsl_enumerations.specs.declared.words.DiagnosticSeverity.{DiagnosticSeverity}
-use Rattle.wgsl_enumerations.specs.declared.words.DiagnosticSeverity.TheVariants.{Error, Warning, Info, Off}
-use Rattle.wgsl_enumerations.specs.Texts.{diagnostic_severity_text}
+use Rattle.wgsl_words.specs.declared.enumerations.words.DiagnosticSeverity.{DiagnosticSeverity}
+use Rattle.wgsl_words.specs.declared.enumerations.words.DiagnosticSeverity.TheVariants.{Error, Warning, Info, Off}
+use Rattle.wgsl_words.specs.Texts.{diagnostic_severity_text}
 use Rattle.wgsl_token.specs.declared.token.Fixed.{Fixed}
 use Rattle.wgsl_token.specs.declared.token.Fixed.TheVariants as f
-use Rattle.wgsl_template_spec.specs.declared.token.TemplateToken.{TemplateToken}
-use Rattle.wgsl_template_spec.specs.declared.token.SpannedTemplateToken.{SpannedTemplateToken}
-use Rattle.wgsl_token_layout.specs.Laws.{without_places}
-use Rattle.wgsl_token_layout.specs.OptionalMarks.{Before, before, may_end_so, outer, comma, first_has}
+use Rattle.wgsl_templates.specs.declared.meaning.token.TemplateToken.{TemplateToken}
+use Rattle.wgsl_templates.specs.declared.meaning.token.SpannedTemplateToken.{SpannedTemplateToken}
+use Rattle.wgsl_print_laws.specs.Laws.{without_places}
+use Rattle.wgsl_print_laws.specs.OptionalMarks.{Before, before, may_end_so, outer, comma, first_has}
 use Rattle.wgsl_path.specs.declared.span.Spanned.{Spanned}
-use Rattle.wgsl_attributes.specs.declared.attribute.Attribute.{Attribute}
-use Rattle.wgsl_attributes.specs.Tree.{Attr}
-use Rattle.wgsl_attributes.specs.View.{attributes_tree}
-use Rattle.wgsl_imports.specs.declared.directive.GlobalDirective.{GlobalDirective}
-use Rattle.wgsl_imports.specs.declared.directive.GlobalDirective.TheVariants as directive
-use Rattle.wgsl_imports.specs.Tree.{Directive, diagnostic, enabling, requiring}
-use Rattle.wgsl_imports.specs.View.{directive_tree}
+use Rattle.wgsl_expressions.specs.declared.attributes.attribute.Attribute.{Attribute}
+use Rattle.wgsl_expressions.specs.AttributesTree.{Attr}
+use Rattle.wgsl_expressions.specs.AttributesView.{attributes_tree}
+use Rattle.wgsl_declarations.specs.declared.imports.directive.GlobalDirective.{GlobalDirective}
+use Rattle.wgsl_declarations.specs.declared.imports.directive.GlobalDirective.TheVariants as directive
+use Rattle.wgsl_declarations.specs.ImportsTree.{Directive, diagnostic, enabling, requiring}
+use Rattle.wgsl_declarations.specs.ImportsView.{directive_tree}
 use Rattle.wgsl_parser.specs.Directives.{directive_with}
-use Rattle.wgsl_tree_tokens.specs.Tokens.{mark, word}
-use Rattle.wgsl_tree_tokens.specs.Directives.{IsRule, one_name, two_names, more_names_tokens, names_tokens, setting_tokens, HasTokens, of_diagnostic, of_enable, of_requires}
-use Rattle.wgsl_tree_tokens.specs.Imports.{no_attributes}
-use Rattle.wgsl_tree_tokens.proofs.Expressions.{are_front, are_behind, are_both}
-use Rattle.wgsl_choices.specs.Choices.{severity_of}
-use Rattle.wgsl_shift_reduce.specs.Grammars.{Symbol, token, phrase}
-use Rattle.wgsl_parts.specs.Reading.{attributes_of}
-use Rattle.wgsl_parts.specs.declared.part.Part.{Part}
-use Rattle.wgsl_parts.specs.declared.part.Part.TheVariants as part
-use Rattle.wgsl_parts.specs.declared.label.Label.TheVariants as l
-use Rattle.wgsl_parts.specs.declared.label.DirectiveLabel.TheVariants as label
+use Rattle.wgsl_print_laws.specs.Tokens.{mark, word}
+use Rattle.wgsl_print_laws.specs.Directives.{IsRule, one_name, two_names, more_names_tokens, names_tokens, setting_tokens, HasTokens, of_diagnostic, of_enable, of_requires}
+use Rattle.wgsl_print_laws.specs.Imports.{no_attributes}
+use Rattle.wgsl_print_laws.proofs.Expressions.{are_front, are_behind, are_both}
+use Rattle.wgsl_attribute_words.specs.Choices.{severity_of}
+use Rattle.wgsl_grammar_tables.specs.Grammars.{Symbol, token, phrase}
+use Rattle.wgsl_semantic_values.specs.Reading.{attributes_of}
+use Rattle.wgsl_semantic_values.specs.declared.part.Part.{Part}
+use Rattle.wgsl_semantic_values.specs.declared.part.Part.TheVariants as part
+use Rattle.wgsl_semantic_values.specs.declared.label.Label.TheVariants as l
+use Rattle.wgsl_semantic_values.specs.declared.label.DirectiveLabel.TheVariants as label
 use Rattle.wgsl_parser.specs.Phrase.{Phrase}
 use Rattle.wgsl_parser.specs.Imports as make
-use Rattle.wgsl_parts.specs.Lists as lists
+use Rattle.wgsl_semantic_values.specs.Lists as lists
 use Rattle.wgsl_parser.specs.Failures.{part_severity, unknown_severity}
 use Rattle.wgsl_grammar_tables.specs.Classes.{fixed_class}
 use Rattle.wgsl_read_back.proofs.Views.{View, view_tokens, Stands, a_token, a_text, some_texts, a_directive}

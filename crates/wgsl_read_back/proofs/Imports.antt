@@ -6,26 +6,26 @@ use Rattle.wgsl_path.specs.declared.path.ModulePath.{ModulePath}
 use Rattle.wgsl_path.specs.Paths.{ident_of}
 use Rattle.wgsl_path.specs.Joining.{root_path, with_names}
 use Rattle.wgsl_token.specs.declared.token.Fixed.TheVariants as f
-use Rattle.wgsl_template_spec.specs.declared.token.TemplateToken.{TemplateToken}
-use Rattle.wgsl_template_spec.specs.declared.token.SpannedTemplateToken.{SpannedTemplateToken}
-use Rattle.wgsl_token_layout.specs.OptionalMarks.{comma}
-use Rattle.wgsl_attributes.specs.Tree.{Attr}
-use Rattle.wgsl_imports.specs.declared.import.ImportContent.TheVariants as content
-use Rattle.wgsl_imports.specs.Tree.{Content, item, collection, Imp, imps, Importing}
-use Rattle.wgsl_imports.specs.View.{import_tree}
-use Rattle.wgsl_imports.proofs.Trees.{tree_of_item, tree_of_collection}
-use Rattle.wgsl_tree_tokens.specs.Tokens.{mark, word, origin_tokens, qualifier_tokens}
-use Rattle.wgsl_tree_tokens.specs.Imports.{no_attributes, steps_tokens, content_tokens, more_imps_tokens, import_rest, ImportTokens, an_import}
-use Rattle.wgsl_shift_reduce.specs.Grammars.{Symbol, token, phrase}
-use Rattle.wgsl_parts.specs.Reading.{attributes_of}
-use Rattle.wgsl_parts.specs.declared.part.Part.{Part}
-use Rattle.wgsl_parts.specs.declared.part.Part.TheVariants as part
-use Rattle.wgsl_parts.specs.declared.label.Label.TheVariants as l
-use Rattle.wgsl_parts.specs.declared.label.ImportLabel.TheVariants as label
+use Rattle.wgsl_templates.specs.declared.meaning.token.TemplateToken.{TemplateToken}
+use Rattle.wgsl_templates.specs.declared.meaning.token.SpannedTemplateToken.{SpannedTemplateToken}
+use Rattle.wgsl_print_laws.specs.OptionalMarks.{comma}
+use Rattle.wgsl_expressions.specs.AttributesTree.{Attr}
+use Rattle.wgsl_declarations.specs.declared.imports.import.ImportContent.TheVariants as content
+use Rattle.wgsl_declarations.specs.ImportsTree.{Content, item, collection, Imp, imps, Importing}
+use Rattle.wgsl_declarations.specs.ImportsView.{import_tree}
+use Rattle.wgsl_declarations.proofs.Trees.{tree_of_item, tree_of_collection}
+use Rattle.wgsl_print_laws.specs.Tokens.{mark, word, origin_tokens, qualifier_tokens}
+use Rattle.wgsl_print_laws.specs.Imports.{no_attributes, steps_tokens, content_tokens, more_imps_tokens, import_rest, ImportTokens, an_import}
+use Rattle.wgsl_grammar_tables.specs.Grammars.{Symbol, token, phrase}
+use Rattle.wgsl_semantic_values.specs.Reading.{attributes_of}
+use Rattle.wgsl_semantic_values.specs.declared.part.Part.{Part}
+use Rattle.wgsl_semantic_values.specs.declared.part.Part.TheVariants as part
+use Rattle.wgsl_semantic_values.specs.declared.label.Label.TheVariants as l
+use Rattle.wgsl_semantic_values.specs.declared.label.ImportLabel.TheVariants as label
 use Rattle.wgsl_parser.specs.Phrase.{Phrase}
 use Rattle.wgsl_parser.specs.Imports as make
 use Rattle.wgsl_parser.specs.Reading.{path_in, names_of}
-use Rattle.wgsl_parts.specs.Lists as lists
+use Rattle.wgsl_semantic_values.specs.Lists as lists
 use Rattle.wgsl_grammar_tables.specs.Classes.{fixed_class}
 use Rattle.wgsl_read_back.proofs.Views.{View, view_tokens, Stands, some_attributes, a_source, no_source, some_steps, no_steps, a_content, a_tree, some_trees, an_importing}
 use Rattle.wgsl_read_back.proofs.Views as v

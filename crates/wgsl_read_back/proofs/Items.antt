@@ -1,13 +1,13 @@
 -- A symbol of a row and what stands there: what is printed of it derives it again.
 use Rattle.std.proofs.Common.{◌≡◌, refl, sym, ap, ◌∙◌, subst, ℕ, Bool, true, List, [], ◌∷◌, ◌++◌, append_assoc, append-nil, None}
-use Rattle.wgsl_template_spec.specs.declared.token.TemplateToken.{TemplateToken}
-use Rattle.wgsl_template_spec.specs.declared.token.SpannedTemplateToken.{SpannedTemplateToken}
-use Rattle.wgsl_template_spec.specs.Kinds.{kind}
-use Rattle.wgsl_token_layout.specs.Laws.{without_places}
-use Rattle.wgsl_token_layout.specs.OptionalMarks.{Before, before, ends_operand, is_closer, may_end_so, groups, comma, begins_outside, AreAlike, same, first_has, first_extra}
-use Rattle.wgsl_tree_tokens.specs.Printable.{AreSpelled}
-use Rattle.wgsl_shift_reduce.specs.Grammars.{Symbol, token, phrase, Derives, a_token}
-use Rattle.wgsl_parts.specs.declared.part.Part.{Part}
+use Rattle.wgsl_templates.specs.declared.meaning.token.TemplateToken.{TemplateToken}
+use Rattle.wgsl_templates.specs.declared.meaning.token.SpannedTemplateToken.{SpannedTemplateToken}
+use Rattle.wgsl_templates.specs.Kinds.{kind}
+use Rattle.wgsl_print_laws.specs.Laws.{without_places}
+use Rattle.wgsl_print_laws.specs.OptionalMarks.{Before, before, ends_operand, is_closer, may_end_so, groups, comma, begins_outside, AreAlike, same, first_has, first_extra}
+use Rattle.wgsl_print_laws.specs.Printable.{AreSpelled}
+use Rattle.wgsl_grammar_tables.specs.Grammars.{Symbol, token, phrase, Derives, a_token}
+use Rattle.wgsl_semantic_values.specs.declared.part.Part.{Part}
 use Rattle.wgsl_parser.specs.Leaves as leaves
 use Rattle.wgsl_parser.specs.Phrase.{Phrase}
 use Rattle.wgsl_grammar_tables.specs.Classes.{class_of}

@@ -36,3 +36,4 @@ pub mod Apart
 pub mod Whole
 pub mod Same
 pub use Rattle.wgsl_parser.proofs.Once
+pub mod Deciding

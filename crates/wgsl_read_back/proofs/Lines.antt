@@ -2,23 +2,23 @@
 use Rattle.std.proofs.Common.{◌≡◌, refl, sym, ap, ◌∙◌, subst, ℕ, Bool, List, [], ◌∷◌, ◌++◌, append_assoc, append-nil, map, Option, Some, None}
 use Rattle.wgsl_path.specs.declared.span.Spanned.{Spanned}
 use Rattle.wgsl_token.specs.declared.token.Fixed.TheVariants as f
-use Rattle.wgsl_template_spec.specs.declared.token.TemplateToken.{TemplateToken}
-use Rattle.wgsl_template_spec.specs.declared.token.SpannedTemplateToken.{SpannedTemplateToken}
-use Rattle.wgsl_token_layout.specs.Laws.{without_places}
-use Rattle.wgsl_token_layout.specs.OptionalMarks.{outside, AreAlike, first_outside}
+use Rattle.wgsl_templates.specs.declared.meaning.token.TemplateToken.{TemplateToken}
+use Rattle.wgsl_templates.specs.declared.meaning.token.SpannedTemplateToken.{SpannedTemplateToken}
+use Rattle.wgsl_print_laws.specs.Laws.{without_places}
+use Rattle.wgsl_print_laws.specs.OptionalMarks.{outside, AreAlike, first_outside}
 use Rattle.wgsl_statements.specs.declared.statement.Statement.{Statement}
 use Rattle.wgsl_statements.specs.Tree.{Stm, Stms, nil, cons}
 use Rattle.wgsl_statements.specs.View.{stms, statement_tree, statements_tree}
-use Rattle.wgsl_tree_tokens.specs.Tokens.{mark}
-use Rattle.wgsl_tree_tokens.specs.Printable.{AreSpelled}
-use Rattle.wgsl_tree_tokens.proofs.Expressions.{are_front, are_behind}
-use Rattle.wgsl_module_tokens.specs.Statements.{StmTokens, StmsTokens, no_statements, statements_and}
-use Rattle.wgsl_shift_reduce.specs.Grammars.{phrase}
-use Rattle.wgsl_parts.specs.declared.part.Part.{Part}
-use Rattle.wgsl_parts.specs.declared.part.Part.TheVariants as part
-use Rattle.wgsl_parts.specs.declared.label.Label.TheVariants as l
+use Rattle.wgsl_print_laws.specs.Tokens.{mark}
+use Rattle.wgsl_print_laws.specs.Printable.{AreSpelled}
+use Rattle.wgsl_print_laws.proofs.Expressions.{are_front, are_behind}
+use Rattle.wgsl_print_laws.specs.Statements.{StmTokens, StmsTokens, no_statements, statements_and}
+use Rattle.wgsl_grammar_tables.specs.Grammars.{phrase}
+use Rattle.wgsl_semantic_values.specs.declared.part.Part.{Part}
+use Rattle.wgsl_semantic_values.specs.declared.part.Part.TheVariants as part
+use Rattle.wgsl_semantic_values.specs.declared.label.Label.TheVariants as l
 use Rattle.wgsl_parser.specs.Phrase.{Phrase}
-use Rattle.wgsl_parts.specs.Lists as lists
+use Rattle.wgsl_semantic_values.specs.Lists as lists
 use Rattle.wgsl_read_back.proofs.Views.{View, Stands, a_statement, some_statements}
 use Rattle.wgsl_read_back.proofs.Views as v
 use Rattle.wgsl_read_back.proofs.Items.{places_append, split_two, moved}

@@ -1,16 +1,16 @@
 -- Lists with commas between, of anything: what is more than one, and that one that may end in a comma is what stands before the comma.
 use Rattle.std.proofs.Common.{◌≡◌, refl, sym, ap, ◌∙◌, subst, ℕ, Bool, List, [], ◌∷◌, ◌++◌, append_assoc, append-nil}
 use Rattle.wgsl_token.specs.declared.token.Fixed.TheVariants as f
-use Rattle.wgsl_template_spec.specs.declared.token.TemplateToken.{TemplateToken}
-use Rattle.wgsl_template_spec.specs.declared.token.SpannedTemplateToken.{SpannedTemplateToken}
-use Rattle.wgsl_template_spec.specs.Kinds.{kind}
-use Rattle.wgsl_token_layout.specs.Laws.{without_places}
-use Rattle.wgsl_token_layout.specs.OptionalMarks.{Before, before, groups, comma, AreAlike, same, first_extra}
-use Rattle.wgsl_tree_tokens.specs.Printable.{AreSpelled}
-use Rattle.wgsl_tree_tokens.proofs.Expressions.{are_front}
-use Rattle.wgsl_shift_reduce.specs.Grammars.{token, phrase}
-use Rattle.wgsl_parts.specs.declared.part.Part.{Part}
-use Rattle.wgsl_parts.specs.declared.label.Label.TheVariants as l
+use Rattle.wgsl_templates.specs.declared.meaning.token.TemplateToken.{TemplateToken}
+use Rattle.wgsl_templates.specs.declared.meaning.token.SpannedTemplateToken.{SpannedTemplateToken}
+use Rattle.wgsl_templates.specs.Kinds.{kind}
+use Rattle.wgsl_print_laws.specs.Laws.{without_places}
+use Rattle.wgsl_print_laws.specs.OptionalMarks.{Before, before, groups, comma, AreAlike, same, first_extra}
+use Rattle.wgsl_print_laws.specs.Printable.{AreSpelled}
+use Rattle.wgsl_print_laws.proofs.Expressions.{are_front}
+use Rattle.wgsl_grammar_tables.specs.Grammars.{token, phrase}
+use Rattle.wgsl_semantic_values.specs.declared.part.Part.{Part}
+use Rattle.wgsl_semantic_values.specs.declared.label.Label.TheVariants as l
 use Rattle.wgsl_parser.specs.Phrase.{Phrase}
 use Rattle.wgsl_grammar_tables.specs.Classes.{fixed_class}
 use Rattle.wgsl_read_back.proofs.Views.{View, view_tokens, Stands, ends_as}

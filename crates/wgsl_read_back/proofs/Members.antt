@@ -6,28 +6,28 @@ use Rattle.wgsl_token.specs.declared.token.Token.TheVariants as t
 use Rattle.wgsl_token.specs.declared.token.Fixed.TheVariants as f
 use Rattle.wgsl_lex.proofs.Tables.{fixed_of-spelling}
 use Rattle.wgsl_lex.proofs.Forms.{fixed_form}
-use Rattle.wgsl_template_spec.specs.declared.token.TemplateToken.{TemplateToken}
-use Rattle.wgsl_template_spec.specs.declared.token.SpannedTemplateToken.{SpannedTemplateToken}
-use Rattle.wgsl_token_layout.specs.Laws.{without_places}
-use Rattle.wgsl_token_layout.specs.OptionalMarks.{Before, AreAlike, second_extra}
+use Rattle.wgsl_templates.specs.declared.meaning.token.TemplateToken.{TemplateToken}
+use Rattle.wgsl_templates.specs.declared.meaning.token.SpannedTemplateToken.{SpannedTemplateToken}
+use Rattle.wgsl_print_laws.specs.Laws.{without_places}
+use Rattle.wgsl_print_laws.specs.OptionalMarks.{Before, AreAlike, second_extra}
 use Rattle.wgsl_expressions.specs.Tree.{Typ}
-use Rattle.wgsl_attributes.specs.Tree.{Attr}
+use Rattle.wgsl_expressions.specs.AttributesTree.{Attr}
 use Rattle.wgsl_declarations.specs.Tree.{Member}
 use Rattle.wgsl_declarations.specs.View.{member_tree}
-use Rattle.wgsl_tree_tokens.specs.Tokens.{mark, word}
-use Rattle.wgsl_tree_tokens.specs.Printable.{IsSpelled, AreSpelled, type_is_apart}
-use Rattle.wgsl_tree_tokens.specs.Imports.{AttributesTokens}
-use Rattle.wgsl_tree_tokens.proofs.Expressions.{are_both}
-use Rattle.wgsl_module_tokens.specs.Declarations.{typed_tokens, MembersTokens, no_members, members_and}
-use Rattle.wgsl_shift_reduce.specs.Grammars.{Symbol, token, phrase, Row, done, next}
-use Rattle.wgsl_parts.specs.Reading.{attributes_of}
-use Rattle.wgsl_parts.specs.declared.part.Part.{Part}
-use Rattle.wgsl_parts.specs.declared.part.Part.TheVariants as part
-use Rattle.wgsl_parts.specs.declared.label.Label.TheVariants as l
-use Rattle.wgsl_parts.specs.declared.label.DeclarationLabel.TheVariants as label
+use Rattle.wgsl_print_laws.specs.Tokens.{mark, word}
+use Rattle.wgsl_print_laws.specs.Printable.{IsSpelled, AreSpelled, type_is_apart}
+use Rattle.wgsl_print_laws.specs.Imports.{AttributesTokens}
+use Rattle.wgsl_print_laws.proofs.Expressions.{are_both}
+use Rattle.wgsl_print_laws.specs.Declarations.{typed_tokens, MembersTokens, no_members, members_and}
+use Rattle.wgsl_grammar_tables.specs.Grammars.{Symbol, token, phrase, Row, done, next}
+use Rattle.wgsl_semantic_values.specs.Reading.{attributes_of}
+use Rattle.wgsl_semantic_values.specs.declared.part.Part.{Part}
+use Rattle.wgsl_semantic_values.specs.declared.part.Part.TheVariants as part
+use Rattle.wgsl_semantic_values.specs.declared.label.Label.TheVariants as l
+use Rattle.wgsl_semantic_values.specs.declared.label.DeclarationLabel.TheVariants as label
 use Rattle.wgsl_parser.specs.Phrase.{Phrase}
 use Rattle.wgsl_parser.specs.Declarations as make
-use Rattle.wgsl_parts.specs.Lists as lists
+use Rattle.wgsl_semantic_values.specs.Lists as lists
 use Rattle.wgsl_parser.specs.Failures.{made_failed}
 use Rattle.wgsl_parser.specs.Phrases.{grammar}
 use Rattle.wgsl_grammar_tables.specs.Classes.{fixed_class}

@@ -1,27 +1,27 @@
 -- What is printed of a statement, a declaration or a module that a text derives is read as it again.
 use Rattle.std.proofs.Common.{◌≡◌, refl, sym, ap, ◌∙◌, subst, ℕ, List, [], ◌∷◌, Some, None, inl, inr, Ok}
 use Rattle.wgsl_path.specs.declared.span.Spanned.{Spanned}
-use Rattle.wgsl_template_spec.specs.declared.token.TemplateToken.{TemplateToken}
-use Rattle.wgsl_template_spec.specs.declared.token.SpannedTemplateToken.{SpannedTemplateToken}
-use Rattle.wgsl_template_spec.specs.Tokens.{IsLexed, start, nothing}
-use Rattle.wgsl_template_spec.proofs.Once.{lexed_once}
-use Rattle.wgsl_token_layout.specs.Laws.{without_places}
+use Rattle.wgsl_templates.specs.declared.meaning.token.TemplateToken.{TemplateToken}
+use Rattle.wgsl_templates.specs.declared.meaning.token.SpannedTemplateToken.{SpannedTemplateToken}
+use Rattle.wgsl_templates.specs.Tokens.{IsLexed, start, nothing}
+use Rattle.wgsl_templates.proofs.Once.{lexed_once}
+use Rattle.wgsl_print_laws.specs.Laws.{without_places}
 use Rattle.wgsl_declarations.specs.declared.declaration.GlobalDeclaration.{GlobalDeclaration}
 use Rattle.wgsl_declarations.specs.declared.unit.TranslationUnit.{TranslationUnit}
 use Rattle.wgsl_declarations.specs.Tree.{Decl, UnitTree}
 use Rattle.wgsl_declarations.specs.View.{declaration_tree, unit_tree}
 use Rattle.wgsl_declarations.specs.Print.{decl_text, unit_text}
-use Rattle.wgsl_module_tokens.proofs.Declarations.{declarations_are_laid_out}
-use Rattle.wgsl_module_tokens.proofs.Modules.{modules_are_laid_out}
-use Rattle.wgsl_module_tokens.proofs.Statements.{statements_are_laid_out}
+use Rattle.wgsl_print_laws.proofs.Declarations.{declarations_are_laid_out}
+use Rattle.wgsl_print_laws.proofs.ModulesLemmas.{modules_are_laid_out}
+use Rattle.wgsl_print_laws.proofs.Statements.{statements_are_laid_out}
 use Rattle.wgsl_statements.specs.declared.statement.Statement.{Statement as Code}
 use Rattle.wgsl_statements.specs.Tree.{Stm}
 use Rattle.wgsl_statements.specs.View.{statement_tree}
 use Rattle.wgsl_statements.specs.Print.{stm_text}
 use Rattle.wgsl_read_back.proofs.Blocks.{StatementRead, a_stated, a_void}
-use Rattle.wgsl_shift_reduce.specs.Grammars.{phrase}
-use Rattle.wgsl_parts.specs.declared.part.Part.{Part}
-use Rattle.wgsl_parts.specs.declared.part.Part.TheVariants as part
+use Rattle.wgsl_grammar_tables.specs.Grammars.{phrase}
+use Rattle.wgsl_semantic_values.specs.declared.part.Part.{Part}
+use Rattle.wgsl_semantic_values.specs.declared.part.Part.TheVariants as part
 use Rattle.wgsl_grammar_tables.specs.Nonterminals as n
 use Rattle.wgsl_grammar_tables.specs.Expansion.{plain}
 use Rattle.wgsl_grammar_tables.proofs.Written.{goal_is}

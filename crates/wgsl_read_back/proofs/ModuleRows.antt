@@ -4,27 +4,27 @@ use Rattle.std.specs.List.{cons_option}
 use Rattle.std.proofs.lemmas.List.{map-append}
 use Rattle.wgsl_path.specs.declared.span.Spanned.{Spanned}
 use Rattle.wgsl_token.specs.declared.token.Fixed.TheVariants as f
-use Rattle.wgsl_template_spec.specs.declared.token.TemplateToken.{TemplateToken}
-use Rattle.wgsl_template_spec.specs.declared.token.SpannedTemplateToken.{SpannedTemplateToken}
-use Rattle.wgsl_token_layout.specs.Laws.{without_places}
-use Rattle.wgsl_token_layout.specs.OptionalMarks.{outside, AreAlike, first_outside}
-use Rattle.wgsl_imports.specs.Tree.{Importing, Directive}
-use Rattle.wgsl_imports.specs.View.{importing_tree, directive_tree}
+use Rattle.wgsl_templates.specs.declared.meaning.token.TemplateToken.{TemplateToken}
+use Rattle.wgsl_templates.specs.declared.meaning.token.SpannedTemplateToken.{SpannedTemplateToken}
+use Rattle.wgsl_print_laws.specs.Laws.{without_places}
+use Rattle.wgsl_print_laws.specs.OptionalMarks.{outside, AreAlike, first_outside}
+use Rattle.wgsl_declarations.specs.ImportsTree.{Importing, Directive}
+use Rattle.wgsl_declarations.specs.ImportsView.{importing_tree, directive_tree}
 use Rattle.wgsl_declarations.specs.declared.declaration.GlobalDeclaration.{GlobalDeclaration}
 use Rattle.wgsl_declarations.specs.Tree.{Decl}
 use Rattle.wgsl_declarations.specs.View.{declaration_tree, declarations_tree}
-use Rattle.wgsl_tree_tokens.specs.Tokens.{mark}
-use Rattle.wgsl_tree_tokens.specs.Printable.{AreSpelled}
-use Rattle.wgsl_tree_tokens.specs.Directives.{HasTokens}
-use Rattle.wgsl_tree_tokens.specs.Imports.{ImportTokens}
-use Rattle.wgsl_tree_tokens.proofs.Expressions.{are_front, are_behind}
-use Rattle.wgsl_module_tokens.specs.Declarations.{DeclTokens, RowTokens, row_end, row_and}
-use Rattle.wgsl_shift_reduce.specs.Grammars.{phrase}
-use Rattle.wgsl_parts.specs.declared.part.Part.{Part}
-use Rattle.wgsl_parts.specs.declared.part.Part.TheVariants as part
-use Rattle.wgsl_parts.specs.declared.label.Label.TheVariants as l
+use Rattle.wgsl_print_laws.specs.Tokens.{mark}
+use Rattle.wgsl_print_laws.specs.Printable.{AreSpelled}
+use Rattle.wgsl_print_laws.specs.Directives.{HasTokens}
+use Rattle.wgsl_print_laws.specs.Imports.{ImportTokens}
+use Rattle.wgsl_print_laws.proofs.Expressions.{are_front, are_behind}
+use Rattle.wgsl_print_laws.specs.Declarations.{DeclTokens, RowTokens, row_end, row_and}
+use Rattle.wgsl_grammar_tables.specs.Grammars.{phrase}
+use Rattle.wgsl_semantic_values.specs.declared.part.Part.{Part}
+use Rattle.wgsl_semantic_values.specs.declared.part.Part.TheVariants as part
+use Rattle.wgsl_semantic_values.specs.declared.label.Label.TheVariants as l
 use Rattle.wgsl_parser.specs.Phrase.{Phrase}
-use Rattle.wgsl_parts.specs.Lists as lists
+use Rattle.wgsl_semantic_values.specs.Lists as lists
 use Rattle.wgsl_read_back.proofs.Views.{Stands, an_importing, some_imports, a_directive, some_directives, a_declaration, some_declarations}
 use Rattle.wgsl_read_back.proofs.Views as v
 use Rattle.wgsl_read_back.proofs.Items.{places_append, split_two, moved, Back}

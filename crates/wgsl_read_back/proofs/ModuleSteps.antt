@@ -1,10 +1,10 @@
 -- The steps of the rules of a module's declarations, of their parts, and of modules, in the order of the rules: for lines of the grammar by label, and for rows and lists.
 use Rattle.std.proofs.Common.{refl, ap, ℕ, [], ◌∷◌}
 use Rattle.wgsl_token.specs.declared.token.Fixed.TheVariants as f
-use Rattle.wgsl_token_layout.specs.OptionalMarks.{ends_operand}
-use Rattle.wgsl_shift_reduce.specs.Grammars.{token, phrase}
-use Rattle.wgsl_parts.specs.declared.label.Label.TheVariants as l
-use Rattle.wgsl_parts.specs.declared.label.DeclarationLabel.TheVariants as decl
+use Rattle.wgsl_print_laws.specs.OptionalMarks.{ends_operand}
+use Rattle.wgsl_grammar_tables.specs.Grammars.{token, phrase}
+use Rattle.wgsl_semantic_values.specs.declared.label.Label.TheVariants as l
+use Rattle.wgsl_semantic_values.specs.declared.label.DeclarationLabel.TheVariants as decl
 use Rattle.wgsl_grammar_tables.specs.Classes.{fixed_class}
 use Rattle.wgsl_read_back.proofs.Rows.{Rebuild}
 use Rattle.wgsl_read_back.proofs.Families.{Typed}

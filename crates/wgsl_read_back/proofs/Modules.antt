@@ -1,21 +1,21 @@
 -- The productions of modules: what is absent is absent again, and so are declarations of which none is printed.
 use Rattle.std.proofs.Common.{◌≡◌, refl, ap, ◌∙◌, ℕ, Bool, List, [], ◌∷◌, ◌++◌, append-nil, map}
-use Rattle.wgsl_template_spec.specs.declared.token.TemplateToken.{TemplateToken}
-use Rattle.wgsl_template_spec.specs.declared.token.SpannedTemplateToken.{SpannedTemplateToken}
-use Rattle.wgsl_token_layout.specs.Laws.{without_places}
-use Rattle.wgsl_token_layout.specs.OptionalMarks.{outside}
-use Rattle.wgsl_imports.specs.Tree.{Importing, Directive}
-use Rattle.wgsl_imports.specs.View.{importing_tree, directive_tree}
+use Rattle.wgsl_templates.specs.declared.meaning.token.TemplateToken.{TemplateToken}
+use Rattle.wgsl_templates.specs.declared.meaning.token.SpannedTemplateToken.{SpannedTemplateToken}
+use Rattle.wgsl_print_laws.specs.Laws.{without_places}
+use Rattle.wgsl_print_laws.specs.OptionalMarks.{outside}
+use Rattle.wgsl_declarations.specs.ImportsTree.{Importing, Directive}
+use Rattle.wgsl_declarations.specs.ImportsView.{importing_tree, directive_tree}
 use Rattle.wgsl_declarations.specs.Tree.{Decl, UnitTree}
 use Rattle.wgsl_declarations.specs.View.{declarations_tree}
-use Rattle.wgsl_tree_tokens.specs.Directives.{HasTokens}
-use Rattle.wgsl_tree_tokens.specs.Imports.{ImportTokens}
-use Rattle.wgsl_module_tokens.specs.Declarations.{DeclTokens, RowTokens, row_end, UnitTokens, a_unit}
-use Rattle.wgsl_shift_reduce.specs.Grammars.{Symbol, phrase}
-use Rattle.wgsl_parts.specs.declared.part.Part.{Part}
-use Rattle.wgsl_parts.specs.declared.part.Part.TheVariants as part
-use Rattle.wgsl_parts.specs.declared.label.Label.TheVariants as l
-use Rattle.wgsl_parts.specs.declared.label.DeclarationLabel.TheVariants as label
+use Rattle.wgsl_print_laws.specs.Directives.{HasTokens}
+use Rattle.wgsl_print_laws.specs.Imports.{ImportTokens}
+use Rattle.wgsl_print_laws.specs.Declarations.{DeclTokens, RowTokens, row_end, UnitTokens, a_unit}
+use Rattle.wgsl_grammar_tables.specs.Grammars.{Symbol, phrase}
+use Rattle.wgsl_semantic_values.specs.declared.part.Part.{Part}
+use Rattle.wgsl_semantic_values.specs.declared.part.Part.TheVariants as part
+use Rattle.wgsl_semantic_values.specs.declared.label.Label.TheVariants as l
+use Rattle.wgsl_semantic_values.specs.declared.label.DeclarationLabel.TheVariants as label
 use Rattle.wgsl_parser.specs.Phrase.{Phrase}
 use Rattle.wgsl_parser.specs.Reading.{imports_of, directives_of, globals_of}
 use Rattle.wgsl_read_back.proofs.Views.{View, Stands, some_imports, some_directives, some_declarations, a_module}

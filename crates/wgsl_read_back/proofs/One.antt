@@ -1,10 +1,10 @@
 -- A text has one module.
 use Rattle.std.proofs.Common.{◌≡◌, refl, sym, ap, ◌∙◌, subst, ℕ, List, [], ◌∷◌, ◌++◌, inl, inr, Some}
-use Rattle.wgsl_template_spec.specs.declared.token.SpannedTemplateToken.{SpannedTemplateToken}
-use Rattle.wgsl_template_spec.proofs.Once.{lexed_once}
-use Rattle.wgsl_shift_reduce.specs.Grammars.{Symbol, phrase, Rule, Derives, a_token, a_phrase, Row, done, next}
-use Rattle.wgsl_parts.specs.declared.part.Part.{Part}
-use Rattle.wgsl_parts.specs.declared.part.Part.TheVariants as part
+use Rattle.wgsl_templates.specs.declared.meaning.token.SpannedTemplateToken.{SpannedTemplateToken}
+use Rattle.wgsl_templates.proofs.Once.{lexed_once}
+use Rattle.wgsl_grammar_tables.specs.Grammars.{Symbol, phrase, Rule, Derives, a_token, a_phrase, Row, done, next}
+use Rattle.wgsl_semantic_values.specs.declared.part.Part.{Part}
+use Rattle.wgsl_semantic_values.specs.declared.part.Part.TheVariants as part
 use Rattle.wgsl_parser.specs.Phrase.{Phrase}
 use Rattle.wgsl_grammar_tables.proofs.Fits.{tables_fit}
 use Rattle.wgsl_parser.specs.Phrases.{grammar}

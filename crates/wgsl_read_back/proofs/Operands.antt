@@ -6,24 +6,24 @@ use Rattle.wgsl_path.specs.declared.path.ModulePath.{ModulePath}
 use Rattle.wgsl_path.specs.Paths.{ident_of}
 use Rattle.wgsl_path.specs.Joining.{root_path}
 use Rattle.wgsl_token.specs.declared.token.Fixed.TheVariants as f
-use Rattle.wgsl_template_spec.specs.declared.token.TemplateToken.TheVariants.{TemplateArgsStart, TemplateArgsEnd}
-use Rattle.wgsl_template_spec.specs.declared.token.SpannedTemplateToken.{SpannedTemplateToken}
-use Rattle.wgsl_template_spec.specs.Kinds.{kind}
-use Rattle.wgsl_token_layout.specs.Laws.{without_places}
-use Rattle.wgsl_token_layout.specs.OptionalMarks.{Before, is_callee, outer, groups}
+use Rattle.wgsl_templates.specs.declared.meaning.token.TemplateToken.TheVariants.{TemplateArgsStart, TemplateArgsEnd}
+use Rattle.wgsl_templates.specs.declared.meaning.token.SpannedTemplateToken.{SpannedTemplateToken}
+use Rattle.wgsl_templates.specs.Kinds.{kind}
+use Rattle.wgsl_print_laws.specs.Laws.{without_places}
+use Rattle.wgsl_print_laws.specs.OptionalMarks.{Before, is_callee, outer, groups}
 use Rattle.wgsl_expressions.specs.declared.expression.Expression.{Expression}
 use Rattle.wgsl_expressions.specs.declared.expression.TemplateArgOf.{TemplateArgOf}
 use Rattle.wgsl_expressions.specs.Tree.{Exp, Exps, nil, exps, Typ, simple, templated}
 use Rattle.wgsl_expressions.specs.View.{node_tree}
-use Rattle.wgsl_tree_tokens.specs.Tokens.{mark, word, origin_tokens, supers_tokens, components_tokens, path_tokens, qualifier_tokens, exps_tokens}
-use Rattle.wgsl_tree_tokens.specs.Printable.{are_apart, type_is_apart}
-use Rattle.wgsl_shift_reduce.specs.Grammars.{token, phrase}
-use Rattle.wgsl_parts.specs.declared.part.Part.{Part}
-use Rattle.wgsl_parts.specs.declared.part.Part.TheVariants as part
-use Rattle.wgsl_parts.specs.declared.label.Label.TheVariants as l
-use Rattle.wgsl_parts.specs.declared.label.NameLabel.TheVariants as name
+use Rattle.wgsl_print_laws.specs.Tokens.{mark, word, origin_tokens, supers_tokens, components_tokens, path_tokens, qualifier_tokens, exps_tokens}
+use Rattle.wgsl_print_laws.specs.Printable.{are_apart, type_is_apart}
+use Rattle.wgsl_grammar_tables.specs.Grammars.{token, phrase}
+use Rattle.wgsl_semantic_values.specs.declared.part.Part.{Part}
+use Rattle.wgsl_semantic_values.specs.declared.part.Part.TheVariants as part
+use Rattle.wgsl_semantic_values.specs.declared.label.Label.TheVariants as l
+use Rattle.wgsl_semantic_values.specs.declared.label.NameLabel.TheVariants as name
 use Rattle.wgsl_parser.specs.Phrase.{Phrase}
-use Rattle.wgsl_parts.specs.Making as make
+use Rattle.wgsl_semantic_values.specs.Making as make
 use Rattle.wgsl_grammar_tables.specs.Classes.{fixed_class}
 use Rattle.wgsl_read_back.proofs.Views.{View, view_tokens, Stands, a_token, an_ups, a_path, a_type, a_call, an_expression, some_expressions, ends_as}
 use Rattle.wgsl_read_back.proofs.Views as v

@@ -4,30 +4,30 @@ use Rattle.std.specs.Option.{option_map}
 use Rattle.std.proofs.lemmas.List.{map-append}
 use Rattle.wgsl_path.specs.Paths.{ident_of}
 use Rattle.wgsl_token.specs.declared.token.Fixed.TheVariants as f
-use Rattle.wgsl_template_spec.specs.declared.token.TemplateToken.{TemplateToken}
-use Rattle.wgsl_template_spec.specs.declared.token.SpannedTemplateToken.{SpannedTemplateToken}
-use Rattle.wgsl_token_layout.specs.OptionalMarks.{Before}
+use Rattle.wgsl_templates.specs.declared.meaning.token.TemplateToken.{TemplateToken}
+use Rattle.wgsl_templates.specs.declared.meaning.token.SpannedTemplateToken.{SpannedTemplateToken}
+use Rattle.wgsl_print_laws.specs.OptionalMarks.{Before}
 use Rattle.wgsl_expressions.specs.Tree.{Typ}
 use Rattle.wgsl_expressions.specs.View.{type_tree}
-use Rattle.wgsl_attributes.specs.Tree.{Attr}
-use Rattle.wgsl_attributes.specs.View.{attributes_tree}
+use Rattle.wgsl_expressions.specs.AttributesTree.{Attr}
+use Rattle.wgsl_expressions.specs.AttributesView.{attributes_tree}
 use Rattle.wgsl_declarations.specs.Tree.{Param}
 use Rattle.wgsl_declarations.specs.View.{parameter_tree}
-use Rattle.wgsl_tree_tokens.specs.Tokens.{mark, word, typ_tokens}
-use Rattle.wgsl_tree_tokens.specs.Printable.{type_is_apart}
-use Rattle.wgsl_tree_tokens.specs.Imports.{AttributesTokens, no_attributes}
-use Rattle.wgsl_module_tokens.specs.Declarations.{typed_tokens, MoreParametersTokens, no_more_parameters, parameters_and, ParametersTokens, parameters}
-use Rattle.wgsl_shift_reduce.specs.Grammars.{Symbol, token, phrase}
-use Rattle.wgsl_parts.specs.Reading.{attributes_of}
-use Rattle.wgsl_parts.specs.declared.part.Part.{Part}
-use Rattle.wgsl_parts.specs.declared.part.Part.TheVariants as part
-use Rattle.wgsl_parts.specs.declared.label.Label.{Label}
-use Rattle.wgsl_parts.specs.declared.label.Label.TheVariants as l
-use Rattle.wgsl_parts.specs.declared.label.DeclarationLabel.TheVariants as label
+use Rattle.wgsl_print_laws.specs.Tokens.{mark, word, typ_tokens}
+use Rattle.wgsl_print_laws.specs.Printable.{type_is_apart}
+use Rattle.wgsl_print_laws.specs.Imports.{AttributesTokens, no_attributes}
+use Rattle.wgsl_print_laws.specs.Declarations.{typed_tokens, MoreParametersTokens, no_more_parameters, parameters_and, ParametersTokens, parameters}
+use Rattle.wgsl_grammar_tables.specs.Grammars.{Symbol, token, phrase}
+use Rattle.wgsl_semantic_values.specs.Reading.{attributes_of}
+use Rattle.wgsl_semantic_values.specs.declared.part.Part.{Part}
+use Rattle.wgsl_semantic_values.specs.declared.part.Part.TheVariants as part
+use Rattle.wgsl_semantic_values.specs.declared.label.Label.{Label}
+use Rattle.wgsl_semantic_values.specs.declared.label.Label.TheVariants as l
+use Rattle.wgsl_semantic_values.specs.declared.label.DeclarationLabel.TheVariants as label
 use Rattle.wgsl_parser.specs.Phrase.{Phrase}
 use Rattle.wgsl_parser.specs.Declarations as make
 use Rattle.wgsl_parser.specs.Reading.{parameters_of, return_attributes_of, return_type_in}
-use Rattle.wgsl_parts.specs.Lists as lists
+use Rattle.wgsl_semantic_values.specs.Lists as lists
 use Rattle.wgsl_grammar_tables.specs.Classes.{fixed_class}
 use Rattle.wgsl_read_back.proofs.Views.{View, view_tokens, Stands, ends_as, a_type, a_parameter, some_parameters, a_result as a_result_part, no_result as no_result_part}
 use Rattle.wgsl_read_back.proofs.Views as v

@@ -2,18 +2,18 @@
 -- whichever of them are there.
 use Rattle.std.proofs.Common.{◌≡◌, refl, sym, ap, ◌∙◌, subst, ℕ, Bool, true, List, [], ◌∷◌, ◌++◌, append_assoc, append-nil, None}
 use Rattle.wgsl_path.specs.declared.span.Span.{Span}
-use Rattle.wgsl_template_spec.specs.declared.token.TemplateToken.{TemplateToken}
-use Rattle.wgsl_template_spec.specs.declared.token.SpannedTemplateToken.{SpannedTemplateToken}
-use Rattle.wgsl_template_spec.specs.Kinds.{kind}
-use Rattle.wgsl_token_layout.specs.Laws.{without_places}
-use Rattle.wgsl_token_layout.specs.OptionalMarks.{Before, outside, before, groups, may_go, may_go_outside, AreAlike, first_extra, second_extra, first_outside}
-use Rattle.wgsl_tree_tokens.specs.Printable.{AreSpelled}
-use Rattle.wgsl_tree_tokens.proofs.Expressions.{are_front, are_behind, are_both}
-use Rattle.wgsl_shift_reduce.specs.Grammars.{Symbol, token, phrase, Derives, Row, done, next}
-use Rattle.wgsl_parts.specs.declared.part.Part.{Part}
-use Rattle.wgsl_parts.specs.declared.part.Part.TheVariants.{Absent}
-use Rattle.wgsl_parts.specs.declared.label.Label.{Label}
-use Rattle.wgsl_parts.specs.declared.label.Label.TheVariants as l
+use Rattle.wgsl_templates.specs.declared.meaning.token.TemplateToken.{TemplateToken}
+use Rattle.wgsl_templates.specs.declared.meaning.token.SpannedTemplateToken.{SpannedTemplateToken}
+use Rattle.wgsl_templates.specs.Kinds.{kind}
+use Rattle.wgsl_print_laws.specs.Laws.{without_places}
+use Rattle.wgsl_print_laws.specs.OptionalMarks.{Before, outside, before, groups, may_go, may_go_outside, AreAlike, first_extra, second_extra, first_outside}
+use Rattle.wgsl_print_laws.specs.Printable.{AreSpelled}
+use Rattle.wgsl_print_laws.proofs.Expressions.{are_front, are_behind, are_both}
+use Rattle.wgsl_grammar_tables.specs.Grammars.{Symbol, token, phrase, Derives, Row, done, next}
+use Rattle.wgsl_semantic_values.specs.declared.part.Part.{Part}
+use Rattle.wgsl_semantic_values.specs.declared.part.Part.TheVariants.{Absent}
+use Rattle.wgsl_semantic_values.specs.declared.label.Label.{Label}
+use Rattle.wgsl_semantic_values.specs.declared.label.Label.TheVariants as l
 use Rattle.wgsl_parser.specs.Phrase.{Phrase}
 use Rattle.wgsl_parser.specs.Gathering.{chosen}
 use Rattle.wgsl_parser.specs.Making as making

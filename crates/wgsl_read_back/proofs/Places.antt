@@ -3,11 +3,11 @@ use Rattle.std.proofs.Common.{◌≡◌, refl, sym, ap, ◌∙◌, ℕ, zero, su
 use Rattle.wgsl_token.specs.declared.token.Token.TheVariants as t
 use Rattle.wgsl_token.specs.declared.token.Fixed.{Fixed}
 use Rattle.wgsl_token.specs.declared.token.Fixed.TheVariants as f
-use Rattle.wgsl_template_spec.specs.declared.token.TemplateToken.{TemplateToken}
-use Rattle.wgsl_template_spec.specs.declared.token.TemplateToken.TheVariants.{Plain, TemplateArgsStart, TemplateArgsEnd}
+use Rattle.wgsl_templates.specs.declared.meaning.token.TemplateToken.{TemplateToken}
+use Rattle.wgsl_templates.specs.declared.meaning.token.TemplateToken.TheVariants.{Plain, TemplateArgsStart, TemplateArgsEnd}
 use Rattle.wgsl_expressions.specs.declared.expression.LiteralExpression.{LiteralExpression}
 use Rattle.wgsl_expressions.specs.declared.expression.LiteralExpression.TheVariants as l
-use Rattle.wgsl_tree_tokens.specs.Tokens.{mark, word, literal_token}
+use Rattle.wgsl_print_laws.specs.Tokens.{mark, word, literal_token}
 use Rattle.wgsl_grammar_tables.specs.Classes.{fixed_class, class_of}
 
 fixeds : List Fixed

@@ -3,22 +3,22 @@ use Rattle.std.proofs.Common.{◌≡◌, refl, ap, ◌∙◌, ℕ, Bool, true, f
 use Rattle.wgsl_path.specs.declared.path.ModulePath.{ModulePath}
 use Rattle.wgsl_path.specs.declared.span.Spanned.{Spanned}
 use Rattle.wgsl_path.specs.Paths.{ident_of}
-use Rattle.wgsl_operators.specs.declared.UnaryOperator.{UnaryOperator}
-use Rattle.wgsl_enumerations.specs.declared.words.AssignmentOperator.{AssignmentOperator}
-use Rattle.wgsl_enumerations.specs.declared.words.AssignmentOperator.TheVariants.{Equal}
+use Rattle.wgsl_words.specs.declared.operators.UnaryOperator.{UnaryOperator}
+use Rattle.wgsl_words.specs.declared.enumerations.words.AssignmentOperator.{AssignmentOperator}
+use Rattle.wgsl_words.specs.declared.enumerations.words.AssignmentOperator.TheVariants.{Equal}
 use Rattle.wgsl_token.specs.declared.token.Fixed.{Fixed}
 use Rattle.wgsl_token.specs.declared.token.Fixed.TheVariants as f
-use Rattle.wgsl_template_spec.specs.declared.token.TemplateToken.{TemplateToken}
-use Rattle.wgsl_template_spec.specs.declared.token.SpannedTemplateToken.{SpannedTemplateToken}
-use Rattle.wgsl_template_spec.specs.Kinds.{kind}
-use Rattle.wgsl_token_layout.specs.OptionalMarks.{Before, groups, ends_operand}
+use Rattle.wgsl_templates.specs.declared.meaning.token.TemplateToken.{TemplateToken}
+use Rattle.wgsl_templates.specs.declared.meaning.token.SpannedTemplateToken.{SpannedTemplateToken}
+use Rattle.wgsl_templates.specs.Kinds.{kind}
+use Rattle.wgsl_print_laws.specs.OptionalMarks.{Before, groups, ends_operand}
 use Rattle.wgsl_expressions.specs.declared.expression.Expression.{Expression}
 use Rattle.wgsl_expressions.specs.declared.expression.Expression.TheVariants as exp
 use Rattle.wgsl_expressions.specs.Tree.{Exp, Exps, unary, parenthesized, component, indexed, named, simple, call, Typ}
 use Rattle.wgsl_expressions.specs.View.{node_tree}
 use Rattle.wgsl_expressions.specs.Print.{is_numeric}
 use Rattle.wgsl_expressions.proofs.Trees.{tree_of_named}
-use Rattle.wgsl_attributes.specs.View.{attributes_tree}
+use Rattle.wgsl_expressions.specs.AttributesView.{attributes_tree}
 use Rattle.wgsl_simple_statements.specs.declared.declaration.DeclarationKind.{DeclarationKind}
 use Rattle.wgsl_simple_statements.specs.Tree as s
 use Rattle.wgsl_statements.specs.declared.statement.Statement.{Statement}
@@ -26,22 +26,22 @@ use Rattle.wgsl_statements.specs.declared.statement.Statement.TheVariants as sta
 use Rattle.wgsl_statements.specs.Tree as stm
 use Rattle.wgsl_statements.specs.View.{statement_tree}
 use Rattle.wgsl_statements.proofs.Trees.{tree_of_assignment, tree_of_increment, tree_of_decrement, tree_of_break, tree_of_continue, tree_of_return, tree_of_discard, tree_of_call, tree_of_assertion, tree_of_value}
-use Rattle.wgsl_tree_tokens.specs.Tokens.{mark, exp_tokens, unary_sign}
-use Rattle.wgsl_tree_tokens.specs.Printable.{ends_in_number, is_apart}
-use Rattle.wgsl_tree_tokens.specs.Attributes.{name_exp}
-use Rattle.wgsl_module_tokens.specs.Simple.{assignment_sign, PlaceTokens, SimpleTokens, value_is_apart, value_tokens, declared_tokens, asserted_tokens}
-use Rattle.wgsl_module_tokens.specs.Simple as t
-use Rattle.wgsl_shift_reduce.specs.Grammars.{Symbol, token, phrase}
-use Rattle.wgsl_parts.specs.declared.part.Part.{Part}
-use Rattle.wgsl_parts.specs.declared.part.Part.TheVariants as part
-use Rattle.wgsl_parts.specs.declared.label.Label.TheVariants as l
-use Rattle.wgsl_parts.specs.declared.label.ExpressionLabel.TheVariants as elabel
-use Rattle.wgsl_parts.specs.declared.label.PlainLabel.{PlainLabel}
-use Rattle.wgsl_parts.specs.declared.label.PlainLabel.TheVariants as label
-use Rattle.wgsl_parts.specs.declared.label.StatementLabel.TheVariants as slabel
+use Rattle.wgsl_print_laws.specs.Tokens.{mark, exp_tokens, unary_sign}
+use Rattle.wgsl_print_laws.specs.Printable.{ends_in_number, is_apart}
+use Rattle.wgsl_print_laws.specs.Attributes.{name_exp}
+use Rattle.wgsl_print_laws.specs.Simple.{assignment_sign, PlaceTokens, SimpleTokens, value_is_apart, value_tokens, declared_tokens, asserted_tokens}
+use Rattle.wgsl_print_laws.specs.Simple as t
+use Rattle.wgsl_grammar_tables.specs.Grammars.{Symbol, token, phrase}
+use Rattle.wgsl_semantic_values.specs.declared.part.Part.{Part}
+use Rattle.wgsl_semantic_values.specs.declared.part.Part.TheVariants as part
+use Rattle.wgsl_semantic_values.specs.declared.label.Label.TheVariants as l
+use Rattle.wgsl_semantic_values.specs.declared.label.ExpressionLabel.TheVariants as elabel
+use Rattle.wgsl_semantic_values.specs.declared.label.PlainLabel.{PlainLabel}
+use Rattle.wgsl_semantic_values.specs.declared.label.PlainLabel.TheVariants as label
+use Rattle.wgsl_semantic_values.specs.declared.label.StatementLabel.TheVariants as slabel
 use Rattle.wgsl_parser.specs.Phrase.{Phrase}
-use Rattle.wgsl_parts.specs.Making as emake
-use Rattle.wgsl_parts.specs.Values as make
+use Rattle.wgsl_semantic_values.specs.Making as emake
+use Rattle.wgsl_semantic_values.specs.Values as make
 use Rattle.wgsl_parser.specs.Statements as smake
 use Rattle.wgsl_grammar_tables.specs.Classes.{fixed_class}
 use Rattle.wgsl_read_back.proofs.Views.{View, view_tokens, Stands, a_token, a_path, a_call, an_expression, a_value, no_value, a_declared, an_asserted, a_phony, a_plain, a_header}

@@ -4,10 +4,10 @@ use Rattle.std.proofs.lemmas.List.{map-append}
 use Rattle.std.proofs.lemmas.Bool.{and_parts}
 use Rattle.wgsl_path.specs.Paths.{ident_of}
 use Rattle.wgsl_token.specs.declared.token.Fixed.TheVariants as f
-use Rattle.wgsl_template_spec.specs.declared.token.TemplateToken.TheVariants.{Plain}
-use Rattle.wgsl_template_spec.specs.declared.token.SpannedTemplateToken.{SpannedTemplateToken}
-use Rattle.wgsl_template_spec.specs.Kinds.{kind}
-use Rattle.wgsl_token_layout.specs.OptionalMarks.{Before, before, is_callee, ends_operand, outer, groups, comma}
+use Rattle.wgsl_templates.specs.declared.meaning.token.TemplateToken.TheVariants.{Plain}
+use Rattle.wgsl_templates.specs.declared.meaning.token.SpannedTemplateToken.{SpannedTemplateToken}
+use Rattle.wgsl_templates.specs.Kinds.{kind}
+use Rattle.wgsl_print_laws.specs.OptionalMarks.{Before, before, is_callee, ends_operand, outer, groups, comma}
 use Rattle.wgsl_expressions.specs.declared.expression.Expression.TheVariants as exp
 use Rattle.wgsl_expressions.specs.declared.expression.LiteralExpression.{LiteralExpression}
 use Rattle.wgsl_expressions.specs.declared.expression.LiteralExpression.TheVariants as lit
@@ -15,17 +15,17 @@ use Rattle.wgsl_expressions.specs.Print.{is_number, is_numeric}
 use Rattle.wgsl_expressions.specs.Tree.{Exp, literal, parenthesized, component, indexed, call, named, Exps, exps, Typ}
 use Rattle.wgsl_expressions.specs.View.{node_tree}
 use Rattle.wgsl_expressions.proofs.Trees.{tree_of_literal, tree_of_parenthesized, tree_of_component, tree_of_indexed, tree_of_call, tree_of_named}
-use Rattle.wgsl_tree_tokens.specs.Tokens.{mark, word, literal_token, exp_tokens, more_tokens, typ_tokens}
-use Rattle.wgsl_tree_tokens.specs.Printable.{ends_in_number, is_apart, are_apart}
-use Rattle.wgsl_shift_reduce.specs.Grammars.{token, phrase}
-use Rattle.wgsl_parts.specs.declared.part.Part.{Part}
-use Rattle.wgsl_parts.specs.declared.part.Part.TheVariants as part
-use Rattle.wgsl_parts.specs.declared.label.Label.TheVariants as l
-use Rattle.wgsl_parts.specs.declared.label.ExpressionLabel.TheVariants as label
+use Rattle.wgsl_print_laws.specs.Tokens.{mark, word, literal_token, exp_tokens, more_tokens, typ_tokens}
+use Rattle.wgsl_print_laws.specs.Printable.{ends_in_number, is_apart, are_apart}
+use Rattle.wgsl_grammar_tables.specs.Grammars.{token, phrase}
+use Rattle.wgsl_semantic_values.specs.declared.part.Part.{Part}
+use Rattle.wgsl_semantic_values.specs.declared.part.Part.TheVariants as part
+use Rattle.wgsl_semantic_values.specs.declared.label.Label.TheVariants as l
+use Rattle.wgsl_semantic_values.specs.declared.label.ExpressionLabel.TheVariants as label
 use Rattle.wgsl_parser.specs.Leaves as leaves
 use Rattle.wgsl_parser.specs.Phrase.{Phrase}
-use Rattle.wgsl_parts.specs.Making as make
-use Rattle.wgsl_parts.specs.Lists as lists
+use Rattle.wgsl_semantic_values.specs.Making as make
+use Rattle.wgsl_semantic_values.specs.Lists as lists
 use Rattle.wgsl_grammar_tables.specs.Classes.{fixed_class, class_of}
 use Rattle.wgsl_read_back.proofs.Views.{View, view_tokens, Stands, a_token, an_ups, a_path, a_type, a_call, an_expression, some_expressions, ends_as}
 use Rattle.wgsl_read_back.proofs.Views as v

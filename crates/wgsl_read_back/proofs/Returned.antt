@@ -1,20 +1,20 @@
 -- What is printed of what a text derives is read as it again, from any start.
 use Rattle.std.proofs.Common.{◌≡◌, refl, sym, ◌∙◌, subst, ℕ, nat_lt, true, List, [], append-nil, None}
 use Rattle.wgsl_path.specs.declared.span.Span.{Span}
-use Rattle.wgsl_template_spec.specs.declared.token.TemplateToken.{TemplateToken}
-use Rattle.wgsl_template_spec.specs.declared.token.SpannedTemplateToken.{SpannedTemplateToken}
-use Rattle.wgsl_template_spec.specs.Tokens.{IsLexed, start as at_start}
-use Rattle.wgsl_token_layout.specs.Layout.{IsTextOf}
-use Rattle.wgsl_token_layout.specs.Laws.{without_places}
-use Rattle.wgsl_token_layout.specs.OptionalMarks.{outside, AreAlike, none}
-use Rattle.wgsl_token_layout.proofs.OptionalMarks.{laid_out_but_for_optional_marks}
-use Rattle.wgsl_tree_tokens.specs.Printable.{AreSpelled}
-use Rattle.wgsl_tree_tokens.proofs.Spelled.{read_spelled}
-use Rattle.wgsl_shift_reduce.specs.Grammars.{phrase, Derives}
-use Rattle.wgsl_shift_reduce.specs.Laws.{IsRead}
-use Rattle.wgsl_shift_reduce.proofs.Whole.{trees_are_unique}
-use Rattle.wgsl_tables.specs.Listed.{account}
-use Rattle.wgsl_parts.specs.declared.part.Part.{Part}
+use Rattle.wgsl_templates.specs.declared.meaning.token.TemplateToken.{TemplateToken}
+use Rattle.wgsl_templates.specs.declared.meaning.token.SpannedTemplateToken.{SpannedTemplateToken}
+use Rattle.wgsl_templates.specs.Tokens.{IsLexed, start as at_start}
+use Rattle.wgsl_print_laws.specs.Layout.{IsTextOf}
+use Rattle.wgsl_print_laws.specs.Laws.{without_places}
+use Rattle.wgsl_print_laws.specs.OptionalMarks.{outside, AreAlike, none}
+use Rattle.wgsl_print_laws.proofs.OptionalMarks.{laid_out_but_for_optional_marks}
+use Rattle.wgsl_print_laws.specs.Printable.{AreSpelled}
+use Rattle.wgsl_print_laws.proofs.Spelled.{read_spelled}
+use Rattle.wgsl_grammar_tables.specs.Grammars.{phrase, Derives}
+use Rattle.wgsl_grammar_tables.specs.Laws.{IsRead}
+use Rattle.wgsl_grammar_tables.proofs.Whole.{trees_are_unique}
+use Rattle.wgsl_grammar_tables.specs.Listed.{account}
+use Rattle.wgsl_semantic_values.specs.declared.part.Part.{Part}
 use Rattle.wgsl_parser.specs.Phrase.{Phrase}
 use Rattle.wgsl_grammar_tables.specs.Decoded.{listed}
 use Rattle.wgsl_grammar_tables.specs.Starts.{start}

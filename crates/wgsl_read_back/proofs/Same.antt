@@ -1,20 +1,20 @@
 -- Texts with the same tokens but for places are the same, from any start but that of modules, of which `ModuleLaws` speaks.
 use Rattle.std.proofs.Common.{◌≡◌, refl, sym, ap, ◌∙◌, subst, ℕ, nat_lt, true, List, Some, None}
 use Rattle.wgsl_path.specs.declared.span.Spanned.{Spanned}
-use Rattle.wgsl_template_spec.specs.declared.token.SpannedTemplateToken.{SpannedTemplateToken}
-use Rattle.wgsl_template_spec.specs.Tokens.{IsLexed}
-use Rattle.wgsl_template_spec.proofs.Once.{lexed_once}
-use Rattle.wgsl_token_layout.specs.Laws.{without_places}
+use Rattle.wgsl_templates.specs.declared.meaning.token.SpannedTemplateToken.{SpannedTemplateToken}
+use Rattle.wgsl_templates.specs.Tokens.{IsLexed}
+use Rattle.wgsl_templates.proofs.Once.{lexed_once}
+use Rattle.wgsl_print_laws.specs.Laws.{without_places}
 use Rattle.wgsl_expressions.specs.View.{node_tree}
-use Rattle.wgsl_imports.specs.View.{directive_tree, importing_tree}
+use Rattle.wgsl_declarations.specs.ImportsView.{directive_tree, importing_tree}
 use Rattle.wgsl_simple_statements.specs.declared.declaration.DeclarationKind.{DeclarationKind}
 use Rattle.wgsl_statements.specs.declared.statement.Statement.{Statement as Code}
 use Rattle.wgsl_statements.specs.View.{statement_tree}
 use Rattle.wgsl_declarations.specs.declared.declaration.GlobalDeclaration.{GlobalDeclaration}
 use Rattle.wgsl_declarations.specs.View.{declaration_tree}
-use Rattle.wgsl_shift_reduce.specs.Grammars.{phrase}
-use Rattle.wgsl_parts.specs.declared.part.Part.{Part}
-use Rattle.wgsl_parts.specs.declared.part.Part.TheVariants as part
+use Rattle.wgsl_grammar_tables.specs.Grammars.{phrase}
+use Rattle.wgsl_semantic_values.specs.declared.part.Part.{Part}
+use Rattle.wgsl_semantic_values.specs.declared.part.Part.TheVariants as part
 use Rattle.wgsl_grammar_tables.specs.Nonterminals as n
 use Rattle.wgsl_grammar_tables.specs.Expansion.{plain}
 use Rattle.wgsl_parser.specs.Start.{Start}

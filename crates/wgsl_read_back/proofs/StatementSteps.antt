@@ -5,16 +5,16 @@
 -- tokens and the value, are numbered by what stands in the row, from 1. `bare` is the rule without statements, for those of which nothing is printed.
 use Rattle.std.proofs.Common.{refl, ap, ℕ, List, [], ◌∷◌, ◌++◌, append-nil, Some, None}
 use Rattle.wgsl_token.specs.declared.token.Fixed.TheVariants as f
-use Rattle.wgsl_template_spec.specs.declared.token.SpannedTemplateToken.{SpannedTemplateToken}
+use Rattle.wgsl_templates.specs.declared.meaning.token.SpannedTemplateToken.{SpannedTemplateToken}
 use Rattle.wgsl_statements.specs.Tree.{nil, no_continuing}
-use Rattle.wgsl_tree_tokens.specs.Tokens.{mark}
-use Rattle.wgsl_tree_tokens.specs.Imports.{no_attributes}
-use Rattle.wgsl_module_tokens.specs.Statements.{no_statements, no_end, no_break_if}
-use Rattle.wgsl_shift_reduce.specs.Grammars.{token, phrase}
-use Rattle.wgsl_parts.specs.declared.part.Part.{Part}
-use Rattle.wgsl_parts.specs.declared.label.Label.TheVariants as l
-use Rattle.wgsl_parts.specs.declared.label.StatementLabel.TheVariants as label
-use Rattle.wgsl_parts.specs.declared.label.ClauseLabel.TheVariants as clause
+use Rattle.wgsl_print_laws.specs.Tokens.{mark}
+use Rattle.wgsl_print_laws.specs.Imports.{no_attributes}
+use Rattle.wgsl_print_laws.specs.Statements.{no_statements, no_end, no_break_if}
+use Rattle.wgsl_grammar_tables.specs.Grammars.{token, phrase}
+use Rattle.wgsl_semantic_values.specs.declared.part.Part.{Part}
+use Rattle.wgsl_semantic_values.specs.declared.label.Label.TheVariants as l
+use Rattle.wgsl_semantic_values.specs.declared.label.StatementLabel.TheVariants as label
+use Rattle.wgsl_semantic_values.specs.declared.label.ClauseLabel.TheVariants as clause
 use Rattle.wgsl_parser.specs.Phrase.{Phrase}
 use Rattle.wgsl_grammar_tables.specs.Classes.{fixed_class}
 use Rattle.wgsl_read_back.proofs.Views as v

@@ -4,15 +4,15 @@ use Rattle.std.specs.Option.{option_map}
 use Rattle.wgsl_path.specs.declared.span.Span.{Span}
 use Rattle.wgsl_path.specs.declared.span.Spanned.{Spanned}
 use Rattle.wgsl_token.specs.declared.token.Fixed.TheVariants as f
-use Rattle.wgsl_template_spec.specs.declared.token.TemplateToken.{TemplateToken}
-use Rattle.wgsl_template_spec.specs.declared.token.SpannedTemplateToken.{SpannedTemplateToken}
-use Rattle.wgsl_token_layout.specs.Laws.{without_places}
-use Rattle.wgsl_token_layout.specs.OptionalMarks.{Before, outside}
+use Rattle.wgsl_templates.specs.declared.meaning.token.TemplateToken.{TemplateToken}
+use Rattle.wgsl_templates.specs.declared.meaning.token.SpannedTemplateToken.{SpannedTemplateToken}
+use Rattle.wgsl_print_laws.specs.Laws.{without_places}
+use Rattle.wgsl_print_laws.specs.OptionalMarks.{Before, outside}
 use Rattle.wgsl_expressions.specs.Tree.{Exp}
 use Rattle.wgsl_expressions.specs.View.{node_tree}
-use Rattle.wgsl_attributes.specs.declared.attribute.Attribute.{Attribute}
-use Rattle.wgsl_attributes.specs.Tree.{Attr}
-use Rattle.wgsl_attributes.specs.View.{attributes_tree}
+use Rattle.wgsl_expressions.specs.declared.attributes.attribute.Attribute.{Attribute}
+use Rattle.wgsl_expressions.specs.AttributesTree.{Attr}
+use Rattle.wgsl_expressions.specs.AttributesView.{attributes_tree}
 use Rattle.wgsl_simple_statements.specs.Tree as s
 use Rattle.wgsl_simple_statements.specs.View.{assignment_tree, increment_tree, decrement_tree, break_tree, continue_tree, return_tree, discard_tree, call_tree, assertion_tree, value_tree}
 use Rattle.wgsl_statements.specs.declared.statement.Statement.{Statement, out-Statement}
@@ -24,17 +24,17 @@ use Rattle.wgsl_statements.specs.Tree.{simple, compound_statement, if_statement,
 use Rattle.wgsl_statements.specs.View.{layer, statement_tree, block_tree, elses_layer, continuing_layer, part_layer, part as header_part}
 use Rattle.wgsl_parser.specs.NodesStatements.{with_in, statement_with}
 use Rattle.wgsl_statements.proofs.Trees.{tree_out, tree_of_assignment, tree_of_increment, tree_of_decrement, tree_of_break, tree_of_continue, tree_of_return, tree_of_discard, tree_of_call, tree_of_assertion, tree_of_value, tree_of_void, tree_of_compound, tree_of_if, tree_of_switch, tree_of_loop, tree_of_for, tree_of_while}
-use Rattle.wgsl_tree_tokens.specs.Tokens.{mark, exp_tokens}
-use Rattle.wgsl_tree_tokens.specs.Printable.{is_apart}
-use Rattle.wgsl_tree_tokens.specs.Imports.{AttributesTokens, no_attributes}
-use Rattle.wgsl_module_tokens.specs.Simple.{SimpleTokens, attributed, value_tokens, value_is_apart}
-use Rattle.wgsl_module_tokens.specs.Statements.{PartTokens, no_part, a_part, in_braces, StmTokens, a_simple, a_compound, an_if, a_switch, a_loop, a_for, a_while, StmsTokens, BlockTokens, ElsesTokens, ClausesTokens, ContinuingTokens}
-use Rattle.wgsl_module_tokens.specs.Statements as m
-use Rattle.wgsl_shift_reduce.specs.Grammars.{Symbol, token, phrase, Derives, done, next}
-use Rattle.wgsl_parts.specs.Reading.{attributes_of, expression_in}
-use Rattle.wgsl_parts.specs.declared.part.Part.{Part}
-use Rattle.wgsl_parts.specs.declared.label.Label.TheVariants as l
-use Rattle.wgsl_parts.specs.declared.label.StatementLabel.TheVariants as label
+use Rattle.wgsl_print_laws.specs.Tokens.{mark, exp_tokens}
+use Rattle.wgsl_print_laws.specs.Printable.{is_apart}
+use Rattle.wgsl_print_laws.specs.Imports.{AttributesTokens, no_attributes}
+use Rattle.wgsl_print_laws.specs.Simple.{SimpleTokens, attributed, value_tokens, value_is_apart}
+use Rattle.wgsl_print_laws.specs.Statements.{PartTokens, no_part, a_part, in_braces, StmTokens, a_simple, a_compound, an_if, a_switch, a_loop, a_for, a_while, StmsTokens, BlockTokens, ElsesTokens, ClausesTokens, ContinuingTokens}
+use Rattle.wgsl_print_laws.specs.Statements as m
+use Rattle.wgsl_grammar_tables.specs.Grammars.{Symbol, token, phrase, Derives, done, next}
+use Rattle.wgsl_semantic_values.specs.Reading.{attributes_of, expression_in}
+use Rattle.wgsl_semantic_values.specs.declared.part.Part.{Part}
+use Rattle.wgsl_semantic_values.specs.declared.label.Label.TheVariants as l
+use Rattle.wgsl_semantic_values.specs.declared.label.StatementLabel.TheVariants as label
 use Rattle.wgsl_parser.specs.Phrase.{Phrase}
 use Rattle.wgsl_parser.specs.Phrases.{grammar}
 use Rattle.wgsl_parser.specs.Gathering.{either}

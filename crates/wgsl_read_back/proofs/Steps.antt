@@ -1,17 +1,17 @@
 -- What phrases of each nonterminal are, and what each production of expressions, directives, kinds of declarations, attributes and imports makes of what stands in its row.
 use Rattle.std.proofs.Common.{◌≡◌, refl, None, ℕ, Bool, ◌==◌, true, false, if◌then◌else◌, List, [], ◌∷◌, ◌++◌}
-use Rattle.wgsl_operators.specs.declared.BinaryOperator.{BinaryOperator}
-use Rattle.wgsl_operators.specs.declared.UnaryOperator.{UnaryOperator}
+use Rattle.wgsl_words.specs.declared.operators.BinaryOperator.{BinaryOperator}
+use Rattle.wgsl_words.specs.declared.operators.UnaryOperator.{UnaryOperator}
 use Rattle.wgsl_token.specs.declared.token.Fixed.TheVariants as f
-use Rattle.wgsl_template_spec.specs.declared.token.SpannedTemplateToken.{SpannedTemplateToken}
+use Rattle.wgsl_templates.specs.declared.meaning.token.SpannedTemplateToken.{SpannedTemplateToken}
 use Rattle.wgsl_expressions.specs.declared.expression.LiteralExpression.TheVariants as lit
-use Rattle.wgsl_tree_tokens.specs.Tokens.{mark, unary_sign, binary_sign}
-use Rattle.wgsl_shift_reduce.specs.Grammars.{Symbol, token, phrase}
-use Rattle.wgsl_parts.specs.declared.part.Part.{Part}
-use Rattle.wgsl_parts.specs.declared.label.Label.{Label}
-use Rattle.wgsl_parts.specs.declared.label.Label.TheVariants as l
-use Rattle.wgsl_parts.specs.declared.label.NameLabel.TheVariants as name
-use Rattle.wgsl_parts.specs.declared.label.ExpressionLabel.TheVariants as label
+use Rattle.wgsl_print_laws.specs.Tokens.{mark, unary_sign, binary_sign}
+use Rattle.wgsl_grammar_tables.specs.Grammars.{Symbol, token, phrase}
+use Rattle.wgsl_semantic_values.specs.declared.part.Part.{Part}
+use Rattle.wgsl_semantic_values.specs.declared.label.Label.{Label}
+use Rattle.wgsl_semantic_values.specs.declared.label.Label.TheVariants as l
+use Rattle.wgsl_semantic_values.specs.declared.label.NameLabel.TheVariants as name
+use Rattle.wgsl_semantic_values.specs.declared.label.ExpressionLabel.TheVariants as label
 use Rattle.wgsl_parser.specs.Phrase.{Phrase}
 use Rattle.wgsl_grammar_tables.specs.Classes.{fixed_class}
 use Rattle.wgsl_grammar_tables.specs.Nonterminals as n
@@ -22,15 +22,15 @@ use Rattle.wgsl_read_back.proofs.Places.{mark_of}
 use Rattle.wgsl_read_back.proofs.Families.{Expressed, Single, Typed, pass_expressed, pass_single, pass_typed, binary_expressed, unary_expressed}
 use Rattle.wgsl_read_back.proofs.Operands.{Named, Upped, Called, Separated, Listed, name_alone, name_above, name_in_package, name_within, one_up, further_up, simple_typed, template_typed, call_without, call_with}
 use Rattle.wgsl_read_back.proofs.Directives.{Ruled, Extended, Enumerated, NamesListed, Controlled, Directed, rule_alone, rule_of_two, extension, first_enumerated, more_enumerated, names_without, names_with, bare_row, bare_pattern, comma_row, comma_pattern, setting_without, setting_with, names_row, attributes_names_row, control_row, attributes_control_row, control_bare, control_attributed, enabled_bare, enabled_attributed, required_bare, required_attributed}
-use Rattle.wgsl_parts.specs.declared.label.DirectiveLabel.TheVariants as dir
+use Rattle.wgsl_semantic_values.specs.declared.label.DirectiveLabel.TheVariants as dir
 use Rattle.wgsl_simple_statements.specs.declared.declaration.DeclarationKind.TheVariants as kinds
-use Rattle.wgsl_parts.specs.declared.label.AttributeLabel.TheVariants as attr
+use Rattle.wgsl_semantic_values.specs.declared.label.AttributeLabel.TheVariants as attr
 use Rattle.wgsl_read_back.proofs.DeclarationKinds.{Kinded, var_alone, template_row, template_pattern, var_in, pass_kinded, kind_alone}
 use Rattle.wgsl_token.specs.declared.token.Fixed.{Fixed}
-use Rattle.wgsl_template_spec.specs.Kinds.{kind}
-use Rattle.wgsl_token_layout.specs.OptionalMarks.{Before, groups, is_any_word}
+use Rattle.wgsl_templates.specs.Kinds.{kind}
+use Rattle.wgsl_print_laws.specs.OptionalMarks.{Before, groups, is_any_word}
 use Rattle.wgsl_read_back.proofs.AttributeRows.{Worded, word_alone, reserved_alone, keyword_alone, Argued, empty_row, arguments_row, no_arguments, some_arguments_read, Attributed, bare_attribute_row, attribute_row, bare_attribute, full_attribute, AttributesRowed, pass_attribute, first_attribute, more_attributes}
-use Rattle.wgsl_parts.specs.declared.label.ImportLabel.TheVariants as imp
+use Rattle.wgsl_semantic_values.specs.declared.label.ImportLabel.TheVariants as imp
 use Rattle.wgsl_read_back.proofs.Imports.{Sourced, Stepped, Contained, Treed, TreesSeparated, TreesListed, Imported, step_row, own_row, further_row, renamed_row, collection_row, plain_row, from_row, attributes_plain_row, attributes_from_row, from_package, from_own, from_above, from_within, first_step, next_step, item_read, renamed_read, collection_read, tree_alone, tree_further, first_tree, more_trees, trees_without, trees_with, import_plain, import_from, import_attributed, import_attributed_from}
 use Rattle.wgsl_read_back.proofs.Values.{NameTyped, ValueDeclared, Asserted}
 use Rattle.wgsl_read_back.proofs.Plain.{Placed, Phony, PlainStated, Headed}

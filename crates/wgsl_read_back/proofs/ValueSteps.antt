@@ -1,20 +1,20 @@
 -- What each production of declared values, places, statements that hold no other, clauses and selectors makes of what stands in its row, alone, in a row and in lists.
 use Rattle.std.proofs.Common.{refl, ℕ, [], ◌∷◌}
-use Rattle.wgsl_operators.specs.declared.UnaryOperator.TheVariants as u
-use Rattle.wgsl_enumerations.specs.declared.words.AssignmentOperator.{AssignmentOperator}
-use Rattle.wgsl_enumerations.specs.declared.words.AssignmentOperator.TheVariants as a
+use Rattle.wgsl_words.specs.declared.operators.UnaryOperator.TheVariants as u
+use Rattle.wgsl_words.specs.declared.enumerations.words.AssignmentOperator.{AssignmentOperator}
+use Rattle.wgsl_words.specs.declared.enumerations.words.AssignmentOperator.TheVariants as a
 use Rattle.wgsl_token.specs.declared.token.Fixed.TheVariants as f
 use Rattle.wgsl_simple_statements.specs.declared.declaration.DeclarationKind.TheVariants as kinds
 use Rattle.wgsl_simple_statements.specs.Tree as s
 use Rattle.wgsl_statements.specs.declared.statement.Statement.TheVariants as statement
-use Rattle.wgsl_module_tokens.specs.Simple.{breaks, continues, discards}
-use Rattle.wgsl_shift_reduce.specs.Grammars.{token, phrase}
-use Rattle.wgsl_parts.specs.declared.label.Label.TheVariants as l
-use Rattle.wgsl_parts.specs.declared.label.ExpressionLabel.TheVariants as expression
-use Rattle.wgsl_parts.specs.declared.label.ValueLabel.TheVariants as value
-use Rattle.wgsl_parts.specs.declared.label.PlainLabel.TheVariants as plainly
-use Rattle.wgsl_parts.specs.declared.label.StatementLabel.TheVariants as label
-use Rattle.wgsl_parts.specs.declared.label.ClauseLabel.TheVariants as clause
+use Rattle.wgsl_print_laws.specs.Simple.{breaks, continues, discards}
+use Rattle.wgsl_grammar_tables.specs.Grammars.{token, phrase}
+use Rattle.wgsl_semantic_values.specs.declared.label.Label.TheVariants as l
+use Rattle.wgsl_semantic_values.specs.declared.label.ExpressionLabel.TheVariants as expression
+use Rattle.wgsl_semantic_values.specs.declared.label.ValueLabel.TheVariants as value
+use Rattle.wgsl_semantic_values.specs.declared.label.PlainLabel.TheVariants as plainly
+use Rattle.wgsl_semantic_values.specs.declared.label.StatementLabel.TheVariants as label
+use Rattle.wgsl_semantic_values.specs.declared.label.ClauseLabel.TheVariants as clause
 use Rattle.wgsl_grammar_tables.specs.Classes.{fixed_class}
 use Rattle.wgsl_read_back.proofs.Rows.{Rebuild}
 use Rattle.wgsl_read_back.proofs.Families.{Expressed, Typed}

@@ -3,24 +3,24 @@ use Rattle.std.proofs.Common.{◌≡◌, refl, sym, ap, ◌∙◌, ℕ, Bool, tr
 use Rattle.wgsl_path.specs.Paths.{ident_of}
 use Rattle.wgsl_token.specs.declared.token.Fixed.{Fixed}
 use Rattle.wgsl_token.specs.declared.token.Fixed.TheVariants as f
-use Rattle.wgsl_template_spec.specs.declared.token.SpannedTemplateToken.{SpannedTemplateToken}
-use Rattle.wgsl_template_spec.specs.Kinds.{kind}
-use Rattle.wgsl_token_layout.specs.OptionalMarks.{Before, groups}
+use Rattle.wgsl_templates.specs.declared.meaning.token.SpannedTemplateToken.{SpannedTemplateToken}
+use Rattle.wgsl_templates.specs.Kinds.{kind}
+use Rattle.wgsl_print_laws.specs.OptionalMarks.{Before, groups}
 use Rattle.wgsl_expressions.specs.Tree.{Exp, Typ}
 use Rattle.wgsl_simple_statements.specs.declared.declaration.DeclarationKind.{DeclarationKind}
 use Rattle.wgsl_simple_statements.specs.declared.declaration.DeclarationKind.TheVariants as kinds
-use Rattle.wgsl_tree_tokens.specs.Tokens.{mark, word, exp_tokens, typ_tokens}
-use Rattle.wgsl_tree_tokens.specs.DeclarationKinds.{kind_tokens}
-use Rattle.wgsl_tree_tokens.specs.Printable.{is_apart}
-use Rattle.wgsl_module_tokens.specs.Simple.{annotation_is_apart, value_is_apart, annotation_tokens}
-use Rattle.wgsl_shift_reduce.specs.Grammars.{Symbol, token, phrase}
-use Rattle.wgsl_parts.specs.declared.part.Part.{Part}
-use Rattle.wgsl_parts.specs.declared.part.Part.TheVariants as part
-use Rattle.wgsl_parts.specs.declared.label.Label.TheVariants as l
-use Rattle.wgsl_parts.specs.declared.label.ValueLabel.{ValueLabel}
-use Rattle.wgsl_parts.specs.declared.label.ValueLabel.TheVariants as label
+use Rattle.wgsl_print_laws.specs.Tokens.{mark, word, exp_tokens, typ_tokens}
+use Rattle.wgsl_print_laws.specs.DeclarationKinds.{kind_tokens}
+use Rattle.wgsl_print_laws.specs.Printable.{is_apart}
+use Rattle.wgsl_print_laws.specs.Simple.{annotation_is_apart, value_is_apart, annotation_tokens}
+use Rattle.wgsl_grammar_tables.specs.Grammars.{Symbol, token, phrase}
+use Rattle.wgsl_semantic_values.specs.declared.part.Part.{Part}
+use Rattle.wgsl_semantic_values.specs.declared.part.Part.TheVariants as part
+use Rattle.wgsl_semantic_values.specs.declared.label.Label.TheVariants as l
+use Rattle.wgsl_semantic_values.specs.declared.label.ValueLabel.{ValueLabel}
+use Rattle.wgsl_semantic_values.specs.declared.label.ValueLabel.TheVariants as label
 use Rattle.wgsl_parser.specs.Phrase.{Phrase}
-use Rattle.wgsl_parts.specs.Values as make
+use Rattle.wgsl_semantic_values.specs.Values as make
 use Rattle.wgsl_grammar_tables.specs.Classes.{fixed_class}
 use Rattle.wgsl_read_back.proofs.Views.{View, Stands, a_token, a_type, an_expression, a_kind, a_typed, a_declared, an_asserted}
 use Rattle.wgsl_read_back.proofs.Views as v

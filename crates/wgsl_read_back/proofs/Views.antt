@@ -4,29 +4,29 @@ use Rattle.wgsl_path.specs.declared.span.Spanned.{Spanned}
 use Rattle.wgsl_path.specs.declared.path.PathOrigin.TheVariants.{Relative}
 use Rattle.wgsl_path.specs.declared.path.ModulePath.{ModulePath}
 use Rattle.wgsl_token.specs.declared.token.Fixed.TheVariants as f
-use Rattle.wgsl_template_spec.specs.declared.token.TemplateToken.{TemplateToken}
-use Rattle.wgsl_token_layout.specs.OptionalMarks.{Before, outside, callee, ends_operand}
+use Rattle.wgsl_templates.specs.declared.meaning.token.TemplateToken.{TemplateToken}
+use Rattle.wgsl_print_laws.specs.OptionalMarks.{Before, outside, callee, ends_operand}
 use Rattle.wgsl_expressions.specs.declared.expression.Expression.{Expression}
 use Rattle.wgsl_expressions.specs.declared.expression.FunctionCallOf.{FunctionCallOf}
 use Rattle.wgsl_expressions.specs.declared.expression.TypeExpressionOf.{TypeExpressionOf}
 use Rattle.wgsl_expressions.specs.Tree.{Exp, Exps, exps, Typ}
 use Rattle.wgsl_expressions.specs.View.{node_tree, type_tree}
-use Rattle.wgsl_imports.specs.declared.directive.GlobalDirective.{GlobalDirective}
-use Rattle.wgsl_imports.specs.declared.import.ImportContent.{ImportContent}
-use Rattle.wgsl_imports.specs.declared.import.ImportOf.{ImportOf}
-use Rattle.wgsl_imports.specs.declared.import.ImportStatement.{ImportStatement}
-use Rattle.wgsl_imports.specs.Tree.{Content, Imp, imps, Importing, Directive}
-use Rattle.wgsl_imports.specs.View.{content_tree, import_tree, importing_tree, directive_tree}
+use Rattle.wgsl_declarations.specs.declared.imports.directive.GlobalDirective.{GlobalDirective}
+use Rattle.wgsl_declarations.specs.declared.imports.import.ImportContent.{ImportContent}
+use Rattle.wgsl_declarations.specs.declared.imports.import.ImportOf.{ImportOf}
+use Rattle.wgsl_declarations.specs.declared.imports.import.ImportStatement.{ImportStatement}
+use Rattle.wgsl_declarations.specs.ImportsTree.{Content, Imp, imps, Importing, Directive}
+use Rattle.wgsl_declarations.specs.ImportsView.{content_tree, import_tree, importing_tree, directive_tree}
 use Rattle.wgsl_simple_statements.specs.declared.declaration.DeclarationKind.{DeclarationKind}
-use Rattle.wgsl_tree_tokens.specs.Directives.{names_tokens}
-use Rattle.wgsl_attributes.specs.declared.attribute.Attribute.{Attribute}
-use Rattle.wgsl_attributes.specs.Tree.{Attr}
-use Rattle.wgsl_attributes.specs.View.{attribute_tree, attributes_tree}
+use Rattle.wgsl_print_laws.specs.Directives.{names_tokens}
+use Rattle.wgsl_expressions.specs.declared.attributes.attribute.Attribute.{Attribute}
+use Rattle.wgsl_expressions.specs.AttributesTree.{Attr}
+use Rattle.wgsl_expressions.specs.AttributesView.{attribute_tree, attributes_tree}
 use Rattle.wgsl_parser.specs.Failures.{attribute_failed}
-use Rattle.wgsl_tree_tokens.specs.Attributes.{name_exp, arguments_tokens}
-use Rattle.wgsl_tree_tokens.specs.Imports.{steps_tokens, content_tokens, imps_tokens}
-use Rattle.wgsl_tree_tokens.specs.DeclarationKinds.{kind_tokens}
-use Rattle.wgsl_tree_tokens.specs.Tokens.{mark, word, origin_tokens, qualifier_tokens, exp_tokens, exps_tokens, typ_tokens}
+use Rattle.wgsl_print_laws.specs.Attributes.{name_exp, arguments_tokens}
+use Rattle.wgsl_print_laws.specs.Imports.{steps_tokens, content_tokens, imps_tokens}
+use Rattle.wgsl_print_laws.specs.DeclarationKinds.{kind_tokens}
+use Rattle.wgsl_print_laws.specs.Tokens.{mark, word, origin_tokens, qualifier_tokens, exp_tokens, exps_tokens, typ_tokens}
 use Rattle.std.specs.Option.{option_map}
 use Rattle.wgsl_simple_statements.specs.declared.declaration.Declaration.{Declaration}
 use Rattle.wgsl_simple_statements.specs.declared.declaration.ConstAssert.{ConstAssert}
@@ -48,12 +48,12 @@ use Rattle.wgsl_declarations.specs.declared.declaration.GlobalDeclaration.{Globa
 use Rattle.wgsl_declarations.specs.declared.unit.TranslationUnit.{TranslationUnit}
 use Rattle.wgsl_declarations.specs.Tree.{Member, Param, Decl, UnitTree}
 use Rattle.wgsl_declarations.specs.View.{member_tree, members_tree, parameter_tree, declaration_tree, declarations_tree, unit_tree}
-use Rattle.wgsl_module_tokens.specs.Simple.{annotation_tokens, declared_tokens, asserted_tokens, value_tokens, selector_tokens, selectors_tokens}
-use Rattle.wgsl_parts.specs.declared.part.TypedName.{TypedName}
-use Rattle.wgsl_parts.specs.declared.part.FunctionResult.{FunctionResult}
-use Rattle.wgsl_parts.specs.declared.part.QualifiedName.{QualifiedName}
-use Rattle.wgsl_parts.specs.declared.part.Part.{Part}
-use Rattle.wgsl_parts.specs.declared.part.Part.TheVariants as part
+use Rattle.wgsl_print_laws.specs.Simple.{annotation_tokens, declared_tokens, asserted_tokens, value_tokens, selector_tokens, selectors_tokens}
+use Rattle.wgsl_semantic_values.specs.declared.part.TypedName.{TypedName}
+use Rattle.wgsl_semantic_values.specs.declared.part.FunctionResult.{FunctionResult}
+use Rattle.wgsl_semantic_values.specs.declared.part.QualifiedName.{QualifiedName}
+use Rattle.wgsl_semantic_values.specs.declared.part.Part.{Part}
+use Rattle.wgsl_semantic_values.specs.declared.part.Part.TheVariants as part
 use Rattle.wgsl_parser.specs.Leaves.{leaf}
 
 pub data View : Type 0 where

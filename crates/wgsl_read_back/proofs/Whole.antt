@@ -1,34 +1,34 @@
 -- What is printed of an expression, a directive, an import statement, a kind of declaration or an attribute that tokens derive is read as it again.
 use Rattle.std.proofs.Common.{◌≡◌, refl, sym, ap, ◌∙◌, subst, ℕ, List}
 use Rattle.wgsl_path.specs.declared.span.Spanned.{Spanned}
-use Rattle.wgsl_template_spec.specs.declared.token.TemplateToken.{TemplateToken}
+use Rattle.wgsl_templates.specs.declared.meaning.token.TemplateToken.{TemplateToken}
 use Rattle.wgsl_expressions.specs.declared.expression.Expression.{Expression as Node}
 use Rattle.wgsl_expressions.specs.Tree.{Exp}
 use Rattle.wgsl_expressions.specs.View.{node_tree}
 use Rattle.wgsl_expressions.specs.Print.{exp_text}
-use Rattle.wgsl_imports.specs.declared.directive.GlobalDirective.{GlobalDirective}
-use Rattle.wgsl_imports.specs.declared.import.ImportStatement.{ImportStatement}
-use Rattle.wgsl_imports.specs.Tree.{Directive as DirectiveTree, Importing}
-use Rattle.wgsl_imports.specs.View.{directive_tree, importing_tree}
-use Rattle.wgsl_imports.specs.Print.{directive_text, importing_text}
+use Rattle.wgsl_declarations.specs.declared.imports.directive.GlobalDirective.{GlobalDirective}
+use Rattle.wgsl_declarations.specs.declared.imports.import.ImportStatement.{ImportStatement}
+use Rattle.wgsl_declarations.specs.ImportsTree.{Directive as DirectiveTree, Importing}
+use Rattle.wgsl_declarations.specs.ImportsView.{directive_tree, importing_tree}
+use Rattle.wgsl_declarations.specs.ImportsPrint.{directive_text, importing_text}
 use Rattle.wgsl_simple_statements.specs.declared.declaration.DeclarationKind.{DeclarationKind}
 use Rattle.wgsl_simple_statements.specs.Print.{kind_text}
-use Rattle.wgsl_template_spec.specs.declared.token.SpannedTemplateToken.{SpannedTemplateToken}
-use Rattle.wgsl_template_spec.specs.Tokens.{IsLexed}
-use Rattle.wgsl_attributes.specs.declared.attribute.Attribute.{Attribute}
-use Rattle.wgsl_attributes.specs.Tree.{Attr}
-use Rattle.wgsl_attributes.specs.View.{attribute_tree}
-use Rattle.wgsl_attributes.specs.Print.{attr_text}
-use Rattle.wgsl_shift_reduce.specs.Grammars.{phrase}
-use Rattle.wgsl_tree_tokens.proofs.Attributes.{attributes_are_laid_out}
+use Rattle.wgsl_templates.specs.declared.meaning.token.SpannedTemplateToken.{SpannedTemplateToken}
+use Rattle.wgsl_templates.specs.Tokens.{IsLexed}
+use Rattle.wgsl_expressions.specs.declared.attributes.attribute.Attribute.{Attribute}
+use Rattle.wgsl_expressions.specs.AttributesTree.{Attr}
+use Rattle.wgsl_expressions.specs.AttributesView.{attribute_tree}
+use Rattle.wgsl_expressions.specs.AttributesPrint.{attr_text}
+use Rattle.wgsl_grammar_tables.specs.Grammars.{phrase}
+use Rattle.wgsl_print_laws.proofs.Attributes.{attributes_are_laid_out}
 use Rattle.wgsl_read_back.proofs.AttributeRows.{Attributed}
 use Rattle.wgsl_read_back.proofs.Derived.{derived}
-use Rattle.wgsl_tree_tokens.proofs.Expressions.{expressions_are_laid_out}
-use Rattle.wgsl_tree_tokens.proofs.DirectiveLines.{directives_are_laid_out}
-use Rattle.wgsl_tree_tokens.proofs.Imports.{imports_are_laid_out}
-use Rattle.wgsl_tree_tokens.proofs.DeclarationKinds.{kinds_are_laid_out}
-use Rattle.wgsl_parts.specs.declared.part.Part.{Part}
-use Rattle.wgsl_parts.specs.declared.part.Part.TheVariants as part
+use Rattle.wgsl_print_laws.proofs.Expressions.{expressions_are_laid_out}
+use Rattle.wgsl_print_laws.proofs.DirectiveLines.{directives_are_laid_out}
+use Rattle.wgsl_print_laws.proofs.Imports.{imports_are_laid_out}
+use Rattle.wgsl_print_laws.proofs.DeclarationKinds.{kinds_are_laid_out}
+use Rattle.wgsl_semantic_values.specs.declared.part.Part.{Part}
+use Rattle.wgsl_semantic_values.specs.declared.part.Part.TheVariants as part
 use Rattle.wgsl_grammar_tables.specs.Nonterminals as n
 use Rattle.wgsl_grammar_tables.specs.Expansion.{plain}
 use Rattle.wgsl_grammar_tables.proofs.Written.{goal_is}

@@ -7,25 +7,25 @@ use Rattle.wgsl_path.specs.declared.path.ModulePath.{ModulePath}
 use Rattle.wgsl_path.specs.Paths.{path_text}
 use Rattle.wgsl_expressions.specs.declared.expression.Expression.{Expression as Node}
 use Rattle.wgsl_expressions.specs.View.{node_tree}
-use Rattle.wgsl_template_spec.specs.declared.token.SpannedTemplateToken.{SpannedTemplateToken}
-use Rattle.wgsl_template_spec.specs.Tokens.{IsLexed}
-use Rattle.wgsl_token_layout.specs.Laws.{without_places}
-use Rattle.wgsl_shift_reduce.specs.Grammars.{phrase, Derives}
+use Rattle.wgsl_templates.specs.declared.meaning.token.SpannedTemplateToken.{SpannedTemplateToken}
+use Rattle.wgsl_templates.specs.Tokens.{IsLexed}
+use Rattle.wgsl_print_laws.specs.Laws.{without_places}
+use Rattle.wgsl_grammar_tables.specs.Grammars.{phrase, Derives}
 use Rattle.wgsl_grammar_tables.specs.Nonterminals as n
 use Rattle.wgsl_grammar_tables.specs.Expansion.{plain}
-use Rattle.wgsl_parts.specs.declared.part.Part.{Part}
+use Rattle.wgsl_semantic_values.specs.declared.part.Part.{Part}
 use Rattle.wgsl_parser.specs.Phrase.{Phrase}
 use Rattle.wgsl_parser.specs.Phrases.{grammar}
-use Rattle.wgsl_attributes.specs.declared.attribute.Attribute.{Attribute}
-use Rattle.wgsl_attributes.specs.View.{attribute_tree}
-use Rattle.wgsl_attributes.specs.Print.{arguments_text, attr_text}
+use Rattle.wgsl_expressions.specs.declared.attributes.attribute.Attribute.{Attribute}
+use Rattle.wgsl_expressions.specs.AttributesView.{attribute_tree}
+use Rattle.wgsl_expressions.specs.AttributesPrint.{arguments_text, attr_text}
 use Rattle.wgsl_attribute_words.specs.Attributes.{attribute_of}
 use Rattle.wgsl_expressions.specs.Print.{exp_text}
-use Rattle.wgsl_imports.specs.declared.directive.GlobalDirective.{GlobalDirective}
-use Rattle.wgsl_imports.specs.declared.import.ImportStatement.{ImportStatement}
-use Rattle.wgsl_imports.specs.Tree.{Importing}
-use Rattle.wgsl_imports.specs.View.{directive_tree, importing_tree}
-use Rattle.wgsl_imports.specs.Print.{directive_text, importing_text}
+use Rattle.wgsl_declarations.specs.declared.imports.directive.GlobalDirective.{GlobalDirective}
+use Rattle.wgsl_declarations.specs.declared.imports.import.ImportStatement.{ImportStatement}
+use Rattle.wgsl_declarations.specs.ImportsTree.{Importing}
+use Rattle.wgsl_declarations.specs.ImportsView.{directive_tree, importing_tree}
+use Rattle.wgsl_declarations.specs.ImportsPrint.{directive_text, importing_text}
 use Rattle.wgsl_simple_statements.specs.declared.declaration.DeclarationKind.{DeclarationKind}
 use Rattle.wgsl_simple_statements.specs.Print.{kind_text}
 use Rattle.wgsl_declarations.specs.declared.declaration.GlobalDeclaration.{GlobalDeclaration}
@@ -37,7 +37,7 @@ use Rattle.wgsl_statements.specs.declared.statement.Statement.{Statement as Code
 use Rattle.wgsl_statements.specs.Tree.{Stm}
 use Rattle.wgsl_statements.specs.View.{statement_tree}
 use Rattle.wgsl_statements.specs.Print.{stm_text}
-use Rattle.wgsl_parts.specs.declared.part.Part.TheVariants as part
+use Rattle.wgsl_semantic_values.specs.declared.part.Part.TheVariants as part
 use Rattle.wgsl_parser.specs.Start.{Start}
 use Rattle.wgsl_parser.specs.Start.TheVariants.{Expression, Statement, Declaration, Directive, Import, Kind}
 use Rattle.wgsl_parser.specs.Texts.{IsParsed, ParsesModule}

@@ -1,10 +1,10 @@
 -- A value at the const stage is the value at each stage.
 use Rattle.std.proofs.Common.{◌≡◌, ℕ, Bool, true, false, true≢false, refl, ap, subst, ℤ, pos}
 use Rattle.std.specs.Prelude.{⊤, ◌||◌, nat_lt, Option, Some, None, Ok, Err, if◌then◌else◌}
-use Rattle.wgsl_operators.specs.declared.BinaryOperator.{BinaryOperator}
-use Rattle.wgsl_operators.specs.declared.BinaryOperator.TheVariants.{Addition, Subtraction, Multiplication, Division, Remainder, ShiftLeft}
-use Rattle.wgsl_enumerations.specs.declared.words.ShaderStage.{ShaderStage}
-use Rattle.wgsl_enumerations.specs.declared.words.ShaderStage.TheVariants.{Const}
+use Rattle.wgsl_words.specs.declared.operators.BinaryOperator.{BinaryOperator}
+use Rattle.wgsl_words.specs.declared.operators.BinaryOperator.TheVariants.{Addition, Subtraction, Multiplication, Division, Remainder, ShiftLeft}
+use Rattle.wgsl_words.specs.declared.enumerations.words.ShaderStage.{ShaderStage}
+use Rattle.wgsl_words.specs.declared.enumerations.words.ShaderStage.TheVariants.{Const}
 use Rattle.wgsl_type_operators.specs.Error.{Error}
 use Rattle.wgsl_type_operators.specs.LiteralInstance.{LiteralInstance}
 use Rattle.wgsl_type_operators.specs.LiteralInstance.TheVariants as literal

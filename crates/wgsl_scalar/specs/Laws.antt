@@ -1,8 +1,8 @@
 -- The operators on scalars, beside the types of operators.
 use Rattle.std.specs.Prelude.{◌≡◌, Ok, Err}
-use Rattle.wgsl_operators.specs.declared.BinaryOperator.{BinaryOperator}
-use Rattle.wgsl_enumerations.specs.declared.words.ShaderStage.{ShaderStage}
-use Rattle.wgsl_enumerations.specs.declared.words.ShaderStage.TheVariants.{Const}
+use Rattle.wgsl_words.specs.declared.operators.BinaryOperator.{BinaryOperator}
+use Rattle.wgsl_words.specs.declared.enumerations.words.ShaderStage.{ShaderStage}
+use Rattle.wgsl_words.specs.declared.enumerations.words.ShaderStage.TheVariants.{Const}
 use Rattle.wgsl_type_operators.specs.ShaderType.{ShaderType}
 use Rattle.wgsl_type_operators.specs.Error.TheVariants.{Binary}
 use Rattle.wgsl_type_operators.specs.LiteralInstance.{LiteralInstance}

@@ -1,11 +1,11 @@
 -- The types of operators on scalars, and which scalar types convert. That they are those of the rules of all types, `laws` says
 -- (WGSL, "Conversion Rank", "Overload Resolution").
 use Rattle.std.specs.Prelude.{◌≡◌, ◌↔◌, IsTrue, MatchResult, Bool, true, false, Option, Some, None, Result, Ok, Err, if◌then◌else◌}
-use Rattle.wgsl_operators.specs.declared.UnaryOperator.{UnaryOperator}
-use Rattle.wgsl_operators.specs.declared.UnaryOperator.TheVariants.{LogicalNegation, Negation, BitwiseComplement, AddressOf, Indirection}
-use Rattle.wgsl_operators.specs.declared.BinaryOperator.{BinaryOperator}
-use Rattle.wgsl_enumerations.specs.declared.words.ShaderStage.{ShaderStage}
-use Rattle.wgsl_enumerations.specs.declared.words.ShaderStage.TheVariants.{Const}
+use Rattle.wgsl_words.specs.declared.operators.UnaryOperator.{UnaryOperator}
+use Rattle.wgsl_words.specs.declared.operators.UnaryOperator.TheVariants.{LogicalNegation, Negation, BitwiseComplement, AddressOf, Indirection}
+use Rattle.wgsl_words.specs.declared.operators.BinaryOperator.{BinaryOperator}
+use Rattle.wgsl_words.specs.declared.enumerations.words.ShaderStage.{ShaderStage}
+use Rattle.wgsl_words.specs.declared.enumerations.words.ShaderStage.TheVariants.{Const}
 use Rattle.wgsl_type_operators.specs.Error.{Error}
 use Rattle.wgsl_type_operators.specs.Error.TheVariants.{Unary, Binary}
 use Rattle.wgsl_type_operators.specs.LiteralInstance.{LiteralInstance}

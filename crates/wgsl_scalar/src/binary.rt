@@ -9,9 +9,8 @@ use crate::conversion::{convert_scalar, to_integer};
 use crate::exact::{at_exec, exact, or_error};
 use crate::scalar::{IntegerType, ScalarType, type_of, value_at};
 use crate::shift::shifted;
-use wgsl_enumerations::ShaderStage;
-use wgsl_operators::BinaryOperator;
 use wgsl_type_operators::{Error, LiteralInstance};
+use wgsl_words::{BinaryOperator, ShaderStage};
 
 // Whether the divisor isn't 0 and the quotient, toward zero, is in the range.
 fn divides(ty: IntegerType, a: i128, b: i128) -> bool

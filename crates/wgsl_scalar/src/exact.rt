@@ -4,8 +4,8 @@ ghost use Rattle.std.specs.Prelude.{◌≡◌};
 ghost use Rattle.wgsl_scalar.specs.Operators as spec;
 
 use crate::scalar::{IntegerType, value_at, wrapped_signed, wrapped_unsigned};
-use wgsl_enumerations::ShaderStage;
 use wgsl_type_operators::{Error, LiteralInstance};
+use wgsl_words::ShaderStage;
 
 /// Whether a result may be another than the exact one: when the shader runs, and only of 32 bits.
 pub(crate) fn is_lenient(stage: ShaderStage, ty: IntegerType) -> bool

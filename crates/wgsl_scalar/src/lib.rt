@@ -15,4 +15,4 @@ pub use conversion::{construct_scalar, convert_scalar};
 pub use operator_type::{scalar_binary_type, scalar_unary_type};
 pub use scalar::{IntegerType, ScalarType, type_of};
 pub use unary::unary_scalar_op;
-pub use wgsl_enumerations::ShaderStage;
+pub use wgsl_words::ShaderStage;

@@ -6,8 +6,8 @@ ghost use Rattle.wgsl_scalar.specs.OperatorTypes as spec;
 
 use crate::binary::{common, is_amount, is_shift, takes};
 use crate::scalar::{IntegerType, ScalarType};
-use wgsl_operators::{BinaryOperator, UnaryOperator};
 use wgsl_type_operators::Error;
+use wgsl_words::{BinaryOperator, UnaryOperator};
 
 fn type_in_front(operator: UnaryOperator, ty: ScalarType) -> Option<ScalarType>
     ensures { result ≡ spec.type_in_front operator ty }

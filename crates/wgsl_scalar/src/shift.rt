@@ -6,9 +6,8 @@ ghost use Rattle.wgsl_scalar.specs.Operators as spec;
 
 use crate::exact::{exact, is_lenient, or_error};
 use crate::scalar::{IntegerType, number};
-use wgsl_enumerations::ShaderStage;
-use wgsl_operators::BinaryOperator;
 use wgsl_type_operators::{Error, LiteralInstance};
+use wgsl_words::{BinaryOperator, ShaderStage};
 
 /// By how many bits a value of a type is shifted, if the stage takes the amount.
 fn shift_amount(stage: ShaderStage, ty: IntegerType, amount: u32) -> Option<u32>

@@ -5,9 +5,8 @@ ghost use Rattle.wgsl_scalar.specs.Operators as spec;
 
 use crate::exact::{exact, or_error};
 use crate::scalar::{IntegerType, type_of};
-use wgsl_enumerations::ShaderStage;
-use wgsl_operators::UnaryOperator;
 use wgsl_type_operators::{Error, LiteralInstance};
+use wgsl_words::{ShaderStage, UnaryOperator};
 
 fn negated(stage: ShaderStage, value: LiteralInstance) -> Result<LiteralInstance, Error>
     ensures { result ≡ spec.negated stage value }

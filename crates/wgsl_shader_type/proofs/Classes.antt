@@ -1,7 +1,7 @@
 -- The concrete and the loaded type, variant by variant.
 use Rattle.std.proofs.Common.{◌≡◌, refl, sym, ap, ◌∙◌, ℕ, List, [], ◌∷◌, map, Option}
-use Rattle.wgsl_enumerations.specs.declared.address.AddressSpace.{AddressSpace}
-use Rattle.wgsl_enumerations.specs.declared.address.AccessMode.{AccessMode}
+use Rattle.wgsl_words.specs.declared.enumerations.address.AddressSpace.{AddressSpace}
+use Rattle.wgsl_words.specs.declared.enumerations.address.AccessMode.{AccessMode}
 use Rattle.wgsl_shader_type.specs.declared.tree.StructTypeOf.{StructTypeOf}
 use Rattle.wgsl_shader_type.specs.declared.tree.StructMemberTypeOf.{StructMemberTypeOf}
 use Rattle.wgsl_shader_type.specs.declared.tree.ShaderType.{ShaderType, roll-ShaderType, map-ShaderType, para-roll-ShaderType}

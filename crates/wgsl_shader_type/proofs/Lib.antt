@@ -4,4 +4,4 @@ pub mod LayoutSteps
 pub mod Layouts
 pub mod Ranks
 pub mod Rounding
-pub use Rattle.wgsl_items.proofs.Bools
+pub use Rattle.wgsl_base.proofs.Bools

@@ -3,8 +3,8 @@ use Rattle.std.specs.Prelude.{◌==◌, Bool, true, false, ◌&&◌}
 use Rattle.std.specs.Option.{option_eq}
 use Rattle.std.specs.Str.{bytes_eq}
 use Rattle.std.specs.Cmp.Lexicographic.{pointwise}
-use Rattle.wgsl_enumerations.specs.contracts.address.AddressSpacePartialEq.TheImpl as space
-use Rattle.wgsl_enumerations.specs.contracts.address.AccessModePartialEq.TheImpl as access
+use Rattle.wgsl_words.specs.contracts.enumerations.address.AddressSpacePartialEq.TheImpl as space
+use Rattle.wgsl_words.specs.contracts.enumerations.address.AccessModePartialEq.TheImpl as access
 use Rattle.wgsl_shader_type.specs.declared.tree.StructTypeOf.{StructTypeOf}
 use Rattle.wgsl_shader_type.specs.declared.tree.StructMemberTypeOf.{StructMemberTypeOf}
 use Rattle.wgsl_shader_type.specs.declared.tree.ShaderType.{ShaderType, out-ShaderType, fold-ShaderType}

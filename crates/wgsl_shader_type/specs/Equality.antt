@@ -6,10 +6,10 @@ use Rattle.std.specs.Cmp.{first_so, second_so, both_ways, IsEquivalence}
 use Rattle.std.specs.Cmp.Lexicographic.{pointwise}
 use Rattle.std.proofs.lemmas.Slice.Eq.{bytes_eq-Decides}
 use denote.Enum.Bare.{same_true, true_same}
-use Rattle.wgsl_enumerations.specs.contracts.address.AddressSpace.{the_type as space_type}
-use Rattle.wgsl_enumerations.specs.contracts.address.AccessMode.{the_type as access_type}
-use Rattle.wgsl_enumerations.specs.contracts.address.AddressSpacePartialEq.TheImpl as space
-use Rattle.wgsl_enumerations.specs.contracts.address.AccessModePartialEq.TheImpl as access
+use Rattle.wgsl_words.specs.contracts.enumerations.address.AddressSpace.{the_type as space_type}
+use Rattle.wgsl_words.specs.contracts.enumerations.address.AccessMode.{the_type as access_type}
+use Rattle.wgsl_words.specs.contracts.enumerations.address.AddressSpacePartialEq.TheImpl as space
+use Rattle.wgsl_words.specs.contracts.enumerations.address.AccessModePartialEq.TheImpl as access
 use Rattle.wgsl_shader_type.specs.declared.tree.StructTypeOf.{StructTypeOf}
 use Rattle.wgsl_shader_type.specs.declared.tree.StructMemberTypeOf.{StructMemberTypeOf}
 use Rattle.wgsl_shader_type.specs.declared.tree.ShaderType.{ShaderType, roll-ShaderType, out-ShaderType, out-roll-ShaderType, roll-out-ShaderType, map-ShaderType, fold_out-ShaderType, ind-ShaderType}

@@ -8,6 +8,6 @@ pub mod Literal
 pub mod Rank
 pub mod Text
 pub mod Trees
-pub use Rattle.wgsl_enumerations.specs.declared.address.AddressSpace
-pub use Rattle.wgsl_enumerations.specs.declared.address.AccessMode
-pub use Rattle.wgsl_operators.specs.declared.UnaryOperator
+pub use Rattle.wgsl_words.specs.declared.enumerations.address.AddressSpace
+pub use Rattle.wgsl_words.specs.declared.enumerations.address.AccessMode
+pub use Rattle.wgsl_words.specs.declared.operators.UnaryOperator

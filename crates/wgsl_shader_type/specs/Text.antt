@@ -1,10 +1,10 @@
 -- How a type is written (WGSL, "Types"; `AbstractInt` and `AbstractFloat`, and references, which no module can write, in this project's own way).
 use Rattle.std.specs.Prelude.{ℕ, List, [], ◌++◌, Option, Some, None, codes}
 use Rattle.std.specs.Fmt.{decimal}
-use Rattle.wgsl_enumerations.specs.Texts.{address_space_text, access_mode_text}
-use Rattle.wgsl_enumerations.specs.declared.address.AddressSpace.{AddressSpace}
-use Rattle.wgsl_enumerations.specs.declared.address.AddressSpace.TheVariants.{Storage}
-use Rattle.wgsl_enumerations.specs.declared.address.AccessMode.{AccessMode}
+use Rattle.wgsl_words.specs.Texts.{address_space_text, access_mode_text}
+use Rattle.wgsl_words.specs.declared.enumerations.address.AddressSpace.{AddressSpace}
+use Rattle.wgsl_words.specs.declared.enumerations.address.AddressSpace.TheVariants.{Storage}
+use Rattle.wgsl_words.specs.declared.enumerations.address.AccessMode.{AccessMode}
 use Rattle.wgsl_shader_type.specs.declared.tree.ShaderType.{ShaderType, fold-ShaderType}
 use Rattle.wgsl_shader_type.specs.declared.tree.ShaderType.TheOpen.{ShaderType-F}
 

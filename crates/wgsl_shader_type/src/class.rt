@@ -5,7 +5,7 @@ ghost use Rattle.wgsl_shader_type.specs.Class as class;
 
 use crate::tree::{ShaderType, StructType};
 use std::alloc::{AllocError, Global};
-use wgsl_items::Boxed;
+use wgsl_base::Boxed;
 
 impl ShaderType {
     /// Whether it is Bool or one of the numeric types.

@@ -4,7 +4,7 @@ ghost use Rattle.std.specs.Prelude.{◌≡◌, IfOk};
 
 use crate::tree::{ShaderType, StructMemberType, StructType};
 use std::alloc::{AllocError, Global};
-use wgsl_items::{Boxed, CloneIn, Items};
+use wgsl_base::{Boxed, CloneIn, Items};
 
 impl ShaderType {
     /// A copy in fresh memory.

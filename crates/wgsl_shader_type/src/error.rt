@@ -7,8 +7,8 @@ use crate::literal::{CallSignature, LiteralInstance};
 use crate::tree::Type;
 use std::alloc::{AllocError, AllocFailed, Global};
 use thiserror::Error;
-use wgsl_items::{CloneIn, Text};
-use wgsl_operators::{BinaryOperator, UnaryOperator};
+use wgsl_base::{CloneIn, Text};
+use wgsl_words::{BinaryOperator, UnaryOperator};
 
 /// A refusal by a rule of types, values or operators, or for want of memory.
 #[derive(Debug, Drop, PartialEq, Error)]

@@ -15,6 +15,5 @@ pub use conversion::{conversion_rank, convert_all_ty, convert_ty};
 pub use error::Error;
 pub use literal::{CallSignature, LiteralInstance, TpltParam};
 pub use tree::{ShaderType, StructMemberType, StructMemberTypeOf, StructType, StructTypeOf, Type};
-pub use wgsl_enumerations::{AccessMode, AddressSpace};
-pub use wgsl_items::Boxed;
-pub use wgsl_operators::UnaryOperator;
+pub use wgsl_base::Boxed;
+pub use wgsl_words::{AccessMode, AddressSpace, UnaryOperator};

@@ -7,8 +7,8 @@ use crate::error::Error;
 use crate::tree::Type;
 use std::alloc::{AllocError, Global};
 use std::fmt;
-use wgsl_enumerations::Enumerant;
-use wgsl_items::{CloneIn, Items, Text};
+use wgsl_base::{CloneIn, Items, Text};
+use wgsl_words::Enumerant;
 
 /// The value of a scalar.
 #[derive(Clone, Copy, Debug, PartialEq, Eq)]

@@ -2,13 +2,13 @@
 
 ghost use Rattle.std.specs.Prelude.{◌++◌, codes};
 ghost use Rattle.std.specs.Fmt.{WritesOnOk, decimal};
-ghost use Rattle.wgsl_enumerations.specs.Texts.{access_mode_text, address_space_text};
+ghost use Rattle.wgsl_words.specs.Texts.{access_mode_text, address_space_text};
 ghost use Rattle.wgsl_shader_type.specs.Text.{type_text, count_text, pointer_access_text};
 
 use crate::tree::ShaderType;
 use std::fmt;
 use std::fmt::Display;
-use wgsl_enumerations::{AccessMode, AddressSpace};
+use wgsl_words::{AccessMode, AddressSpace};
 
 impl fmt::Display for ShaderType {
     ghost use Rattle.std.specs.Prelude.{Some};

@@ -3,8 +3,8 @@
 ghost use Rattle.std.specs.Prelude.{◌≡◌, None};
 
 use std::alloc::{AllocError, Global};
-use wgsl_enumerations::{AccessMode, AddressSpace};
-use wgsl_items::{Boxed, FromIn, Items, Text};
+use wgsl_base::{Boxed, FromIn, Items, Text};
+use wgsl_words::{AccessMode, AddressSpace};
 
 /// A type (WGSL, "Types").
 #[derive(Debug, Drop)]

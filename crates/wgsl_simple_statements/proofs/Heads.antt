@@ -1,6 +1,6 @@
 -- What a clause of `switch` begins with.
 use Rattle.std.proofs.Common.{◌≡◌, refl, List, [], ◌∷◌, ◌++◌, map, codes}
-use Rattle.wgsl_attributes.specs.ExpressionsPrint.{commas}
+use Rattle.wgsl_expressions.specs.Print.{commas}
 use Rattle.wgsl_simple_statements.specs.declared.statement.CaseSelector.{CaseSelector}
 use Rattle.wgsl_simple_statements.specs.declared.statement.CaseSelector.TheVariants.{Default, Expression as Case}
 use Rattle.wgsl_simple_statements.specs.View.{selector_tree}

@@ -1,12 +1,12 @@
 -- How statements that hold no other statement are printed (this project's own layout).
 use Rattle.std.specs.Prelude.{ℕ, List, [], ◌∷◌, ◌++◌, Option, Some, None, codes}
-use Rattle.wgsl_attributes.specs.AddressSpace.{AddressSpace}
-use Rattle.wgsl_attributes.specs.AccessMode.{AccessMode}
-use Rattle.wgsl_attributes.specs.EnumerationsTexts.{address_space_text, access_mode_text, assignment_operator_text}
-use Rattle.wgsl_attributes.specs.ExpressionsTree.{Exp, call, Typ}
-use Rattle.wgsl_attributes.specs.ExpressionsPrint.{commas, exp_text, typ_text}
-use Rattle.wgsl_attributes.specs.Tree.{Attr}
-use Rattle.wgsl_attributes.specs.Print.{attrs_text}
+use Rattle.wgsl_expressions.specs.AddressSpace.{AddressSpace}
+use Rattle.wgsl_expressions.specs.AccessMode.{AccessMode}
+use Rattle.wgsl_expressions.specs.EnumerationsTexts.{address_space_text, access_mode_text, assignment_operator_text}
+use Rattle.wgsl_expressions.specs.Tree.{Exp, call, Typ}
+use Rattle.wgsl_expressions.specs.Print.{commas, exp_text, typ_text}
+use Rattle.wgsl_expressions.specs.AttributesTree.{Attr}
+use Rattle.wgsl_expressions.specs.AttributesPrint.{attrs_text}
 use Rattle.wgsl_simple_statements.specs.declared.declaration.DeclarationKind.{DeclarationKind}
 use Rattle.wgsl_simple_statements.specs.declared.declaration.DeclarationKind.TheVariants as kinds
 use Rattle.wgsl_simple_statements.specs.Tree.{Simple, assignment, increment, decrement, breaking, continuing, returning, discarding, calling, asserting, declaring, BreakIf, Selector, default_selector, selected}

@@ -1,8 +1,8 @@
 -- Statements that hold no other statement, without places.
 use Rattle.std.specs.Prelude.{ℕ, List, Option}
-use Rattle.wgsl_attributes.specs.AssignmentOperator.{AssignmentOperator}
-use Rattle.wgsl_attributes.specs.ExpressionsTree.{Exp, Exps, Typ}
-use Rattle.wgsl_attributes.specs.Tree.{Attr}
+use Rattle.wgsl_expressions.specs.AssignmentOperator.{AssignmentOperator}
+use Rattle.wgsl_expressions.specs.Tree.{Exp, Exps, Typ}
+use Rattle.wgsl_expressions.specs.AttributesTree.{Attr}
 use Rattle.wgsl_simple_statements.specs.declared.declaration.DeclarationKind.{DeclarationKind}
 
 -- a statement that ends with `;` (WGSL, "Statements"), its attributes first

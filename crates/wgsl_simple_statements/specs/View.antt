@@ -1,9 +1,9 @@
 -- The statement without places that a code tree stands for.
 use Rattle.std.specs.Prelude.{map}
 use Rattle.std.specs.Option.{option_map}
-use Rattle.wgsl_attributes.specs.ExpressionsTree.{exps}
-use Rattle.wgsl_attributes.specs.ExpressionsView.{node_tree, type_tree}
-use Rattle.wgsl_attributes.specs.View.{attributes_tree}
+use Rattle.wgsl_expressions.specs.Tree.{exps}
+use Rattle.wgsl_expressions.specs.View.{node_tree, type_tree}
+use Rattle.wgsl_expressions.specs.AttributesView.{attributes_tree}
 use Rattle.wgsl_simple_statements.specs.declared.declaration.Declaration.{Declaration}
 use Rattle.wgsl_simple_statements.specs.declared.declaration.ConstAssert.{ConstAssert}
 use Rattle.wgsl_simple_statements.specs.declared.statement.AssignmentStatement.{AssignmentStatement}

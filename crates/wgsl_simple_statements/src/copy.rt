@@ -7,7 +7,7 @@ use crate::statement::{
     ReturnStatement,
 };
 use std::alloc::{AllocError, Global};
-use wgsl_attributes::CloneIn;
+use wgsl_expressions::CloneIn;
 
 impl CloneIn for DeclarationKind {
     fn clone_in(&self, _alloc: Global) -> Result<DeclarationKind, AllocError> {

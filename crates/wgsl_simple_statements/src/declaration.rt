@@ -1,7 +1,7 @@
 //! Declarations of values and constant assertions: of modules and of functions (WGSL, "Variable and Value Declarations",
 //! "Const Assertion Statement").
 
-use wgsl_attributes::{
+use wgsl_expressions::{
     AccessMode, AddressSpace, Attributes, ExpressionNode, Ident, TypeExpression,
 };
 

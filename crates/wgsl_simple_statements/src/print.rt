@@ -3,10 +3,10 @@
 ghost use Rattle.std.specs.Prelude.{◌≡◌, ◌++◌, Some, map, codes};
 ghost use Rattle.std.specs.Option.{option_map};
 ghost use Rattle.std.specs.Fmt.{WritesOnOk};
-ghost use Rattle.wgsl_attributes.specs.ExpressionsView.{node_tree, type_tree};
+ghost use Rattle.wgsl_expressions.specs.View.{node_tree, type_tree};
 ghost use Rattle.wgsl_simple_statements.specs.View.{assignment_tree, increment_tree, decrement_tree, break_tree, continue_tree, return_tree, discard_tree, call_tree, break_if_tree, selector_tree};
 ghost use Rattle.wgsl_simple_statements.specs.Print.{value_text, simple_text, simple_line, break_if_text, selector_text, case_head};
-ghost use Rattle.wgsl_attributes.specs.ExpressionsPrint.{commas};
+ghost use Rattle.wgsl_expressions.specs.Print.{commas};
 
 use crate::statement::{
     AssignmentStatement, BreakIfStatement, BreakStatement, CaseSelector, ContinueStatement,
@@ -15,7 +15,7 @@ use crate::statement::{
 };
 use std::fmt;
 use std::fmt::Display;
-use wgsl_attributes::{ExpressionNode, write_attributes};
+use wgsl_expressions::{ExpressionNode, write_attributes};
 
 fn write_value<W: fmt::Write>(
     value: &Option<ExpressionNode>,

@@ -3,14 +3,16 @@
 ghost use Rattle.std.specs.Prelude.{◌≡◌, ◌++◌, Some, map, codes};
 ghost use Rattle.std.specs.Option.{option_map};
 ghost use Rattle.std.specs.Fmt.{WritesOnOk};
-ghost use Rattle.wgsl_attributes.specs.ExpressionsView.{node_tree, type_tree};
+ghost use Rattle.wgsl_expressions.specs.View.{node_tree, type_tree};
 ghost use Rattle.wgsl_simple_statements.specs.View.{assertion_tree, value_tree};
 ghost use Rattle.wgsl_simple_statements.specs.Print.{access_text, space_text, kind_text, annotation_text, initializer_text, asserted_text, declared_text, simple_text, simple_line};
 
 use crate::declaration::{ConstAssert, Declaration, DeclarationKind};
 use std::fmt;
 use std::fmt::Display;
-use wgsl_attributes::{AccessMode, AddressSpace, ExpressionNode, TypeExpression, write_attributes};
+use wgsl_expressions::{
+    AccessMode, AddressSpace, ExpressionNode, TypeExpression, write_attributes,
+};
 
 fn write_access<W: fmt::Write>(access: Option<AccessMode>, f: &mut fmt::Formatter<W>) -> fmt::Result
     ensures { WritesOnOk W.write_str_gives f.old result (access_text access) f.new }

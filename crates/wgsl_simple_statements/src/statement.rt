@@ -1,6 +1,6 @@
 //! Statements that hold no other statement (WGSL, "Statements").
 
-use wgsl_attributes::{AssignmentOperator, Attributes, ExpressionNode, FunctionCall};
+use wgsl_expressions::{AssignmentOperator, Attributes, ExpressionNode, FunctionCall};
 
 /// A value that is assigned, maybe by a compound sign. The place `_` is an identifier of that name.
 #[derive(Debug, Drop, PartialEq)]

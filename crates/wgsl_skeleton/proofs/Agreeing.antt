@@ -3,7 +3,7 @@ use Rattle.std.proofs.Common.{◌≡◌, refl, ap, sym, List, [], ◌∷◌, ◌
 use Rattle.std.specs.Prelude.{if◌then◌else◌}
 use Rattle.std.proofs.lemmas.List.Elements.{Contains-append_left, Contains-append_right}
 use Rattle.wgsl_path.specs.declared.path.ModulePath.{ModulePath}
-use Rattle.wgsl_items.proofs.Members.{first_in}
+use Rattle.wgsl_base.proofs.Members.{first_in}
 use Rattle.wgsl_skeleton.specs.Skeleton.{Name, Node, occurrence, local, scope, node, Nodes, nil, cons}
 use Rattle.wgsl_skeleton.specs.Occurrences.{Occurrence, occurrences, all_occurrences, behind, denotes_local, hidden_by, outside}
 use Rattle.wgsl_skeleton.specs.Renaming.{Naming, new_name, renamed, all_renamed}

@@ -4,8 +4,8 @@ use Rattle.std.specs.Prelude.{if◌then◌else◌}
 use Rattle.std.specs.Str.{bytes_eq}
 use Rattle.wgsl_expressions.specs.Tree as e
 use Rattle.wgsl_expressions.specs.Tree.{Exp, Exps, Typ}
-use Rattle.wgsl_attributes.specs.Tree as a
-use Rattle.wgsl_attributes.specs.Tree.{Attr}
+use Rattle.wgsl_expressions.specs.AttributesTree as a
+use Rattle.wgsl_expressions.specs.AttributesTree.{Attr}
 use Rattle.wgsl_declarations.specs.SimpleStatementsTree as s
 use Rattle.wgsl_declarations.specs.SimpleStatementsTree.{Simple, BreakIf, Selector}
 use Rattle.wgsl_declarations.specs.StatementsTree as t

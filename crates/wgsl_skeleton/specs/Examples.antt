@@ -1,12 +1,12 @@
 -- What occurs in some declarations.
 use Rattle.std.specs.Prelude.{◌≡◌, ◌≢◌, List, [], ◌∷◌, map, Some, None, codes}
-use Rattle.wgsl_operators.specs.declared.BinaryOperator.TheVariants.{LessThan, Equality}
-use Rattle.wgsl_enumerations.specs.declared.words.AssignmentOperator.TheVariants.{Equal}
+use Rattle.wgsl_words.specs.declared.operators.BinaryOperator.TheVariants.{LessThan, Equality}
+use Rattle.wgsl_words.specs.declared.enumerations.words.AssignmentOperator.TheVariants.{Equal}
 use Rattle.wgsl_path.specs.declared.path.PathOrigin.TheVariants.{Absolute}
 use Rattle.wgsl_declarations.specs.DeclarationKind.TheVariants.{Let, Var, Const}
 use Rattle.wgsl_expressions.specs.Tree as e
 use Rattle.wgsl_expressions.specs.Tree.{Exp, Typ, exps}
-use Rattle.wgsl_attributes.specs.Tree as a
+use Rattle.wgsl_expressions.specs.AttributesTree as a
 use Rattle.wgsl_declarations.specs.SimpleStatementsTree as s
 use Rattle.wgsl_declarations.specs.StatementsTree as t
 use Rattle.wgsl_declarations.specs.StatementsTree.{Stm, Stms, Block}

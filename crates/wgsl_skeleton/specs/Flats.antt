@@ -1,17 +1,11 @@
 -- A skeleton laid out flat, as one walk meets it, and read again with the scopes that are open.
 use Rattle.std.specs.Prelude.{◌≡◌, ⊤, List, [], ◌∷◌, ◌++◌, map, Option, Some, None, if◌then◌else◌}
 use Rattle.wgsl_path.specs.declared.path.ModulePath.{ModulePath}
+pub use Rattle.wesl_mark.specs.Flats.{Flat, enters, leaves, declares, occurs}
 use Rattle.wgsl_declarations.specs.Tree.{Decl}
 use Rattle.wgsl_skeleton.specs.Skeleton.{Name, Node, occurrence, local, scope, node, Nodes, nil, cons}
 use Rattle.wgsl_skeleton.specs.Occurrences.{Occurrence, hidden_by, occurrences, outside}
 use Rattle.wgsl_skeleton.specs.Trees.{declaration_node}
-
--- a scope starts, or the innermost one ends; a local is in scope from here up to the end of the innermost scope; a name occurs
-pub data Flat : Type 0 where
-  enters : Flat
-  leaves : Flat
-  declares : Name → Flat
-  occurs : Option ModulePath → Name → Flat
 
 abbrev mutual
   pub flat : Node → List Flat

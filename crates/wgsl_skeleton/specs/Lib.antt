@@ -6,7 +6,7 @@ pub mod Laws
 pub mod Flats
 pub mod Examples
 pub use Rattle.wgsl_expressions.specs.Tree as ExpressionsTree
-pub use Rattle.wgsl_attributes.specs.Tree as AttributesTree
+pub use Rattle.wgsl_expressions.specs.AttributesTree as AttributesTree
 pub use Rattle.wgsl_declarations.specs.SimpleStatementsTree
 pub use Rattle.wgsl_declarations.specs.StatementsTree
 pub use Rattle.wgsl_declarations.specs.ImportsTree

@@ -1,13 +1,13 @@
 -- What is left of a tree for whoever only asks about names and scopes (WGSL, "Declaration and Scope"). Everything else of a node is
 -- its label.
 use Rattle.std.specs.Prelude.{ℕ, List, Option}
-use Rattle.wgsl_operators.specs.declared.UnaryOperator.{UnaryOperator}
-use Rattle.wgsl_operators.specs.declared.BinaryOperator.{BinaryOperator}
-use Rattle.wgsl_enumerations.specs.declared.builtin.BuiltinValue.{BuiltinValue}
-use Rattle.wgsl_enumerations.specs.declared.words.AssignmentOperator.{AssignmentOperator}
-use Rattle.wgsl_enumerations.specs.declared.words.DiagnosticSeverity.{DiagnosticSeverity}
-use Rattle.wgsl_enumerations.specs.declared.words.InterpolationType.{InterpolationType}
-use Rattle.wgsl_enumerations.specs.declared.words.InterpolationSampling.{InterpolationSampling}
+use Rattle.wgsl_words.specs.declared.operators.UnaryOperator.{UnaryOperator}
+use Rattle.wgsl_words.specs.declared.operators.BinaryOperator.{BinaryOperator}
+use Rattle.wgsl_words.specs.declared.enumerations.builtin.BuiltinValue.{BuiltinValue}
+use Rattle.wgsl_words.specs.declared.enumerations.words.AssignmentOperator.{AssignmentOperator}
+use Rattle.wgsl_words.specs.declared.enumerations.words.DiagnosticSeverity.{DiagnosticSeverity}
+use Rattle.wgsl_words.specs.declared.enumerations.words.InterpolationType.{InterpolationType}
+use Rattle.wgsl_words.specs.declared.enumerations.words.InterpolationSampling.{InterpolationSampling}
 use Rattle.wgsl_path.specs.declared.path.ModulePath.{ModulePath}
 use Rattle.wgsl_expressions.specs.declared.expression.LiteralExpression.{LiteralExpression}
 use Rattle.wgsl_expressions.specs.Tree.{Exp}

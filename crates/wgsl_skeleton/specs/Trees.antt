@@ -5,12 +5,13 @@ use Rattle.std.specs.Str.{bytes_eq}
 use Rattle.wgsl_path.specs.declared.path.ModulePath.{ModulePath}
 use Rattle.wgsl_expressions.specs.Tree as e
 use Rattle.wgsl_expressions.specs.Tree.{Exp, Exps, Typ}
-use Rattle.wgsl_attributes.specs.Tree as a
-use Rattle.wgsl_attributes.specs.Tree.{Attr}
+use Rattle.wgsl_expressions.specs.AttributesTree as a
+use Rattle.wgsl_expressions.specs.AttributesTree.{Attr}
 use Rattle.wgsl_declarations.specs.SimpleStatementsTree as s
 use Rattle.wgsl_declarations.specs.SimpleStatementsTree.{Simple, BreakIf, Selector}
 use Rattle.wgsl_declarations.specs.StatementsTree as t
 use Rattle.wgsl_declarations.specs.StatementsTree.{Stm, Stms, Block, Elses, Clauses, Continuing, Part}
+use Rattle.wgsl_declarations.specs.ImportsTree.{Directive, diagnostic, enabling, requiring}
 use Rattle.wgsl_declarations.specs.Tree as d
 use Rattle.wgsl_declarations.specs.Tree.{Member, Param, Decl}
 use Rattle.wgsl_skeleton.specs.Skeleton as l
@@ -169,7 +170,15 @@ abbrev mutual
   part_nodes t.absent = nil
   part_nodes (t.present x) = statement_nodes x
 
--- ---- declarations
+-- ---- directives and declarations
+
+abbrev pub directive_attributes : Directive → List Attr
+directive_attributes (diagnostic attributes severity rule) = attributes
+directive_attributes (enabling attributes names) = attributes
+directive_attributes (requiring attributes names) = attributes
+
+abbrev pub directive_node : Directive → Node
+directive_node d = attributes_node (directive_attributes d)
 
 abbrev pub member_node : Member → Node
 member_node m = node (l.member m.name) (nodes (attributes_node m.attributes ∷ type_node m.type ∷ []))

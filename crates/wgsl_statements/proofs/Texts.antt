@@ -3,7 +3,7 @@ use Rattle.std.proofs.Common.{◌≡◌, refl, sym, ap, ◌∙◌, ℕ, ◌+◌,
 use Rattle.std.proofs.lemmas.Bool.{ne_eqb}
 use Rattle.std.specs.List.{flat_map, list_any}
 use Rattle.std.specs.Option.{option_map}
-use Rattle.wgsl_statement_pieces.specs.Spanned.{Spanned}
+use Rattle.wgsl_simple_statements.specs.Spanned.{Spanned}
 use Rattle.wgsl_simple_statements.specs.declared.declaration.Declaration.{Declaration}
 use Rattle.wgsl_simple_statements.specs.declared.declaration.ConstAssert.{ConstAssert}
 use Rattle.wgsl_simple_statements.specs.declared.statement.AssignmentStatement.{AssignmentStatement}
@@ -24,10 +24,10 @@ use Rattle.wgsl_statements.specs.declared.statement.LoopStatementOf.{LoopStateme
 use Rattle.wgsl_statements.specs.declared.statement.ContinuingStatementOf.{ContinuingStatementOf}
 use Rattle.wgsl_statements.specs.declared.statement.ForStatementOf.{ForStatementOf}
 use Rattle.wgsl_statements.specs.declared.statement.WhileStatementOf.{WhileStatementOf}
-use Rattle.wgsl_statement_pieces.specs.ExpressionsView.{node_tree}
-use Rattle.wgsl_statement_pieces.specs.ExpressionsPrint.{indent}
-use Rattle.wgsl_statement_pieces.specs.AttributesView.{attributes_tree}
-use Rattle.wgsl_statement_pieces.specs.AttributesPrint.{attrs_text}
+use Rattle.wgsl_simple_statements.specs.ExpressionsView.{node_tree}
+use Rattle.wgsl_simple_statements.specs.ExpressionsPrint.{indent}
+use Rattle.wgsl_simple_statements.specs.AttributesView.{attributes_tree}
+use Rattle.wgsl_simple_statements.specs.AttributesPrint.{attrs_text}
 use Rattle.wgsl_simple_statements.specs.declared.statement.BreakIfStatement.{BreakIfStatement}
 use Rattle.wgsl_simple_statements.specs.View.{assignment_tree, increment_tree, decrement_tree, break_tree, continue_tree, return_tree, discard_tree, call_tree, assertion_tree, value_tree, break_if_tree, selector_tree}
 use Rattle.wgsl_simple_statements.specs.Print.{simple_text, break_if_text, case_head}

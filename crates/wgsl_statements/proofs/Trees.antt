@@ -1,9 +1,9 @@
 -- What each kind of statement stands for, from what its parts stand for.
 use Rattle.std.proofs.Common.{◌≡◌, refl, ap, ◌∙◌, List, [], ◌∷◌, map, Option, Some, None}
 use Rattle.std.specs.Option.{option_map}
-use Rattle.wgsl_statement_pieces.specs.Spanned.{Spanned}
-use Rattle.wgsl_statement_pieces.specs.ExpressionsView.{node_tree}
-use Rattle.wgsl_statement_pieces.specs.AttributesView.{attributes_tree}
+use Rattle.wgsl_simple_statements.specs.Spanned.{Spanned}
+use Rattle.wgsl_simple_statements.specs.ExpressionsView.{node_tree}
+use Rattle.wgsl_simple_statements.specs.AttributesView.{attributes_tree}
 use Rattle.wgsl_simple_statements.specs.declared.declaration.Declaration.{Declaration}
 use Rattle.wgsl_simple_statements.specs.declared.declaration.ConstAssert.{ConstAssert}
 use Rattle.wgsl_simple_statements.specs.declared.statement.AssignmentStatement.{AssignmentStatement}

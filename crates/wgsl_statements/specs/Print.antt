@@ -1,10 +1,10 @@
 -- How statements are printed (this project's own layout): each a line or lines, four spaces deeper for each level of nesting.
 use Rattle.std.specs.Prelude.{ℕ, ◌+◌, List, [], ◌∷◌, ◌++◌, Option, Some, None, codes}
-use Rattle.wgsl_statement_pieces.specs.ExpressionsTree.{Exp}
-use Rattle.wgsl_statement_pieces.specs.ExpressionsPrint.{indent}
-use Rattle.wgsl_statement_pieces.specs.AttributesPrint.{attrs_text}
-pub use Rattle.wgsl_statement_pieces.specs.Print.{opening, closing, condition_text}
-unfoldable pub use Rattle.wgsl_statement_pieces.specs.Print.{head_text}
+use Rattle.wgsl_simple_statements.specs.ExpressionsTree.{Exp}
+use Rattle.wgsl_simple_statements.specs.ExpressionsPrint.{indent}
+use Rattle.wgsl_simple_statements.specs.AttributesPrint.{attrs_text}
+pub use Rattle.wgsl_simple_statements.specs.PiecesPrint.{opening, closing, condition_text}
+unfoldable pub use Rattle.wgsl_simple_statements.specs.PiecesPrint.{head_text}
 use Rattle.wgsl_simple_statements.specs.Tree.{BreakIf}
 use Rattle.wgsl_simple_statements.specs.Print.{simple_text, break_if_text, case_head}
 use Rattle.wgsl_statements.specs.Tree.{Stm, simple, compound_statement, if_statement, switch_statement, loop_statement, for_statement, while_statement, Stms, nil, cons, Block, block, Elses, no_else, else_clause, else_if_clause, Clauses, no_clauses, switch_clause, Continuing, no_continuing, continuing_statement, Part, absent, present}

@@ -1,7 +1,7 @@
 -- Statements without places: what a text says, whatever its layout. A `;` alone is none of them.
 use Rattle.std.specs.Prelude.{List, Option}
-use Rattle.wgsl_statement_pieces.specs.ExpressionsTree.{Exp}
-use Rattle.wgsl_statement_pieces.specs.AttributesTree.{Attr}
+use Rattle.wgsl_simple_statements.specs.ExpressionsTree.{Exp}
+use Rattle.wgsl_simple_statements.specs.AttributesTree.{Attr}
 use Rattle.wgsl_simple_statements.specs.Tree.{Simple, BreakIf, Selector}
 
 mutual

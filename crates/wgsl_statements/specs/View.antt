@@ -1,9 +1,9 @@
 -- The statement without places that a code tree stands for. `Void` stands for none.
 use Rattle.std.specs.Prelude.{List, [], ◌∷◌, map, Option, Some, None}
 use Rattle.std.specs.Option.{option_map}
-use Rattle.wgsl_statement_pieces.specs.Spanned.{Spanned}
-use Rattle.wgsl_statement_pieces.specs.ExpressionsView.{node_tree}
-use Rattle.wgsl_statement_pieces.specs.AttributesView.{attributes_tree}
+use Rattle.wgsl_simple_statements.specs.Spanned.{Spanned}
+use Rattle.wgsl_simple_statements.specs.ExpressionsView.{node_tree}
+use Rattle.wgsl_simple_statements.specs.AttributesView.{attributes_tree}
 use Rattle.wgsl_simple_statements.specs.View.{assignment_tree, increment_tree, decrement_tree, break_tree, continue_tree, return_tree, discard_tree, call_tree, assertion_tree, value_tree, break_if_tree, selector_tree}
 use Rattle.wgsl_statements.specs.declared.statement.Statement.{Statement, fold-Statement}
 use Rattle.wgsl_statements.specs.declared.statement.Statement.TheOpen.{Statement-F}

@@ -8,7 +8,7 @@ use crate::statement::{
     WhileStatement,
 };
 use std::alloc::{AllocError, Global};
-use wgsl_statement_pieces::{
+use wgsl_simple_statements::{
     CloneIn, Items, both, converted, converted_in, present, push_made, spanned, three,
 };
 

@@ -2,7 +2,7 @@
 //! clauses without.
 
 ghost use Rattle.std.specs.Prelude.{◌≡◌, ◌++◌, Some, map, codes};
-ghost use Rattle.wgsl_statement_pieces.specs.ExpressionsView.{node_tree};
+ghost use Rattle.wgsl_simple_statements.specs.ExpressionsView.{node_tree};
 ghost use Rattle.wgsl_simple_statements.specs.View.{selector_tree};
 ghost use Rattle.wgsl_simple_statements.specs.Print.{case_head};
 ghost use Rattle.wgsl_statements.specs.View.{statement_tree, block_tree, if_layer, switch_layer, continuing_layer, loop_layer, for_layer, while_layer};
@@ -17,8 +17,7 @@ use crate::statement::{
     IfStatement, LoopStatement, Statement, SwitchClause, SwitchStatement, WhileStatement,
 };
 use std::fmt;
-use wgsl_simple_statements::write_case_head;
-use wgsl_statement_pieces::write_head;
+use wgsl_simple_statements::{write_case_head, write_head};
 
 impl fmt::Display for Statement {
     ghost output = { λ x. Some (lines_text 0 (statement_tree x)) };

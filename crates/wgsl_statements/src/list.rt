@@ -6,7 +6,7 @@ ghost use Rattle.std.specs.Fn.{CalledAt};
 ghost use Rattle.std.specs.List.Retain.{IsFiltered};
 
 use crate::statement::StatementNode;
-use wgsl_statement_pieces::Items;
+use wgsl_simple_statements::Items;
 
 /// Keeps, in order, the statements at which the closure returns `true`, and drops the others.
 pub fn retain_statements<F: FnMut(&StatementNode) -> bool>(

@@ -6,11 +6,10 @@ use crate::statement::{
 };
 use std::alloc::{AllocError, Global};
 use wgsl_simple_statements::{
-    AssignmentStatement, BreakStatement, ConstAssert, ContinueStatement, Declaration,
-    DecrementStatement, DiscardStatement, FunctionCallStatement, IncrementStatement,
+    AssignmentStatement, Boxed, BreakStatement, ConstAssert, ContinueStatement, Declaration,
+    DecrementStatement, DiscardStatement, FromIn, FunctionCallStatement, IncrementStatement,
     ReturnStatement,
 };
-use wgsl_statement_pieces::{Boxed, FromIn};
 
 impl From<CompoundStatement> for Statement {
     ghost use Rattle.std.specs.Prelude.{◌≡◌};

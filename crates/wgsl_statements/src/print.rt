@@ -4,10 +4,10 @@ ghost use Rattle.std.specs.Prelude.{◌≡◌, ◌++◌, ◌+◌, ◌||◌, ◌=
 ghost use Rattle.std.specs.Option.{option_map};
 ghost use Rattle.std.specs.List.{flat_map, list_any};
 ghost use Rattle.std.specs.Fmt.{WritesOnOk};
-ghost use Rattle.wgsl_statement_pieces.specs.ExpressionsView.{node_tree};
-ghost use Rattle.wgsl_statement_pieces.specs.ExpressionsPrint.{indent};
-ghost use Rattle.wgsl_statement_pieces.specs.AttributesView.{attributes_tree};
-ghost use Rattle.wgsl_statement_pieces.specs.AttributesPrint.{attrs_text};
+ghost use Rattle.wgsl_simple_statements.specs.ExpressionsView.{node_tree};
+ghost use Rattle.wgsl_simple_statements.specs.ExpressionsPrint.{indent};
+ghost use Rattle.wgsl_simple_statements.specs.AttributesView.{attributes_tree};
+ghost use Rattle.wgsl_simple_statements.specs.AttributesPrint.{attrs_text};
 ghost use Rattle.wgsl_simple_statements.specs.View.{break_if_tree, selector_tree};
 ghost use Rattle.wgsl_simple_statements.specs.Print.{case_head};
 ghost use Rattle.wgsl_statements.specs.View.{statement_tree, block_tree, part, part_layer, else_layer, if_layer, switch_layer, continuing_layer, loop_layer, for_layer, while_layer};
@@ -18,11 +18,10 @@ use crate::statement::{
     LoopStatement, Statement, StatementNode, SwitchClause, SwitchStatement, WhileStatement,
 };
 use std::fmt;
-use wgsl_simple_statements::{BreakIfStatement, write_case_head};
-use wgsl_statement_pieces::{
-    Items, write_attributed_head, write_attributes, write_closing, write_condition,
-    write_for_front, write_head, write_indent, write_last_line, write_opening, write_switch_front,
-    write_word_front,
+use wgsl_simple_statements::{
+    BreakIfStatement, Items, write_attributed_head, write_attributes, write_case_head,
+    write_closing, write_condition, write_for_front, write_head, write_indent, write_last_line,
+    write_opening, write_switch_front, write_word_front,
 };
 
 /// Is it more than a `;`?

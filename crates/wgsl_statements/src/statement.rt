@@ -2,11 +2,10 @@
 //! types has one member; the plain names are aliases.
 
 use wgsl_simple_statements::{
-    AssignmentStatement, BreakIfStatement, BreakStatement, CaseSelector, ConstAssert,
-    ContinueStatement, Declaration, DecrementStatement, DiscardStatement, FunctionCallStatement,
-    IncrementStatement, ReturnStatement,
+    AssignmentStatement, Attributes, Boxed, BreakIfStatement, BreakStatement, CaseSelector,
+    ConstAssert, ContinueStatement, Declaration, DecrementStatement, DiscardStatement,
+    ExpressionNode, FunctionCallStatement, IncrementStatement, Items, ReturnStatement, Spanned,
 };
-use wgsl_statement_pieces::{Attributes, Boxed, ExpressionNode, Items, Spanned};
 
 /// A statement and its place.
 pub type StatementNode = Spanned<Statement>;

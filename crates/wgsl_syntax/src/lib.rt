@@ -1,29 +1,36 @@
-//! The syntax trees of WGSL modules with imports.
+//! The syntax trees of modules, places in their texts, and the paths of modules: what is asked of them and done with them, and the laws
+//! of their `==`. It has no code of its own, and passes on what users call of the crates below.
 #![tactic(auto)]
 
-mod copy;
-mod declaration;
-mod expression;
-mod import;
-mod print;
-mod print_declarations;
-mod statement;
-mod unit;
-
-pub use declaration::{
-    Attribute, AttributeNode, Attributes, Declaration, DeclarationKind, FormalParameter, Function,
-    GlobalDeclaration, GlobalDeclarationNode,
+pub use wgsl_base::Indent;
+pub use wgsl_declarations::{
+    DiagnosticDirective, EnableDirective, FormalParameter, Function, GlobalDeclaration,
+    GlobalDeclarationNode, GlobalDirective, Import, ImportContent, ImportItem, ImportStatement,
+    RequiresDirective, Struct, StructMember, StructMemberNode, TranslationUnit, TypeAlias, let_go,
+    retain_declarations,
 };
-pub use expression::{
-    BinaryExpression, BinaryExpressionOf, Expression, ExpressionNode, FunctionCall, FunctionCallOf,
-    LiteralExpression, ParenthesizedExpression, ParenthesizedExpressionOf, TemplateArg,
-    TemplateArgOf, TemplateArgs, TypeExpression, TypeExpressionOf, UnaryExpression,
-    UnaryExpressionOf,
+pub use wgsl_empty_items::{
+    equality, remove_voids, remove_voids_in_block, remove_voids_in_declaration,
+    remove_voids_in_statement,
 };
-pub use import::{ImportContent, ImportItem, ImportStatement};
-pub use statement::{
-    CompoundStatement, CompoundStatementOf, ReturnStatement, Statement, StatementNode,
+pub use wgsl_expressions::{
+    Attribute, AttributeNode, Attributes, BinaryExpression, BinaryOperator, Boxed, CloneIn,
+    CustomAttribute, DiagnosticAttribute, Expression, ExpressionNode, FromIn, FunctionCall, Ident,
+    IndexingExpression, InterpolateAttribute, Items, LiteralExpression, ModulePath,
+    NamedComponentExpression, ParenthesizedExpression, PathOrigin, Span, Spanned, TemplateArg,
+    TemplateArgs, Text, TypeExpression, UnaryExpression, UnaryOperator, WorkgroupSizeAttribute,
 };
-pub use unit::TranslationUnit;
-pub use wgsl_operators::{BinaryOperator, UnaryOperator};
-pub use wgsl_path::{Ident, ModulePath, PathOrigin, Span, Spanned};
+pub use wgsl_nodes::{Header, SyntaxNode};
+pub use wgsl_path::ModulePathParseError;
+pub use wgsl_statements::{
+    AssignmentStatement, BreakIfStatement, BreakStatement, CaseSelector, CompoundStatement,
+    ConstAssert, ConstAssertStatement, ContinueStatement, ContinuingStatement, Declaration,
+    DeclarationKind, DeclarationStatement, DecrementStatement, DiscardStatement, ElseClause,
+    ElseIfClause, ForStatement, FunctionCallStatement, IfClause, IfStatement, IncrementStatement,
+    LoopStatement, ReturnStatement, Statement, StatementNode, SwitchClause, SwitchStatement,
+    WhileStatement, clear_statement, retain_statements,
+};
+pub use wgsl_words::{
+    AccessMode, AddressSpace, AssignmentOperator, BuiltinValue, DiagnosticSeverity,
+    InterpolationSampling, InterpolationType,
+};

@@ -8,17 +8,17 @@ use Rattle.wgsl_lex.specs.Tokens.{size, is_blank}
 use Rattle.wgsl_lex.specs.declared.short.ShortWord.{ShortWord}
 use Rattle.wgsl_lex.specs.Pieces.{IsShortWord}
 use Rattle.wgsl_lex.proofs.Sizes.{size_split}
-use Rattle.wgsl_template_spec.proofs.Once.{first_takes}
+use Rattle.wgsl_templates.proofs.Once.{first_takes}
 use Rattle.wgsl_lex.proofs.First.{blank_first}
-use Rattle.wgsl_template_spec.specs.declared.token.Bracket.{Bracket}
-use Rattle.wgsl_template_spec.specs.declared.token.TemplateToken.TheVariants.{Plain}
-use Rattle.wgsl_template_spec.specs.declared.token.TemplateToken.{TemplateToken}
-use Rattle.wgsl_template_spec.specs.declared.token.SpannedTemplateToken.{SpannedTemplateToken}
-use Rattle.wgsl_template_spec.specs.Tokens.{is_word, behind}
+use Rattle.wgsl_templates.specs.declared.meaning.token.Bracket.{Bracket}
+use Rattle.wgsl_templates.specs.declared.meaning.token.TemplateToken.TheVariants.{Plain}
+use Rattle.wgsl_templates.specs.declared.meaning.token.TemplateToken.{TemplateToken}
+use Rattle.wgsl_templates.specs.declared.meaning.token.SpannedTemplateToken.{SpannedTemplateToken}
+use Rattle.wgsl_templates.specs.Tokens.{is_word, behind}
 use Rattle.wgsl_templates.specs.declared.entry.Entry.{Entry}
 use Rattle.wgsl_templates.specs.Steps.{StandsHere, state}
 use Rattle.wgsl_templates.proofs.Here.{here_trivia, here_word, is_first}
-use Rattle.wgsl_templates.proofs.Reading.{IsLexedTo, lex_trivia, lex_token}
+use Rattle.wgsl_templates.proofs.ReadingLemmas.{IsLexedTo, lex_trivia, lex_token}
 
 pub size_first : (cs : List ℕ) (c : ℕ) (following : List ℕ) → cs ≡ c ∷ following → size cs ≡ len_utf8 c + size following
 size_first cs c following is = ap size is ∙ length-append (encode_utf8 c) (encode_utf8_all following) ∙ ap (λ n. n + size following) (length-encode c)

@@ -2,14 +2,14 @@
 use Rattle.std.specs.Prelude.{Option, Some, None, is_some, slice_index_or}
 use Rattle.std.proofs.Common.{◌≡◌, ℕ, zero, suc, ◌+◌, ◌<◌, ◌≤◌, Bool, true, false, ◌&&◌, ◌==◌, List, [], ◌∷◌, length, take, drop, refl, sym, ◌∙◌, ap, subst, arith}
 use Rattle.wgsl_token.specs.declared.token.Token.{Token}
-use Rattle.wgsl_items.proofs.Bools.{and_both, false_if}
+use Rattle.wgsl_base.proofs.Bools.{and_both, false_if}
 use Rattle.wgsl_lex.specs.declared.short.ShortWord.{ShortWord}
 use Rattle.wgsl_lex.specs.Pieces.{StandsFirst, IsShortWord}
 use Rattle.wgsl_lex.proofs.Bools.{is_number, and_false, neither}
-use Rattle.wgsl_template_spec.specs.declared.token.TemplateToken.{TemplateToken}
-use Rattle.wgsl_template_spec.specs.declared.token.TemplateToken.TheVariants.{Plain, TemplateArgsEnd}
-use Rattle.wgsl_template_spec.specs.Tokens.{is_less, is_in_list, less_or_start, State, IsFirst, closing, asked, plain, Opens}
-use Rattle.wgsl_template_spec.proofs.Once.{first_takes}
+use Rattle.wgsl_templates.specs.declared.meaning.token.TemplateToken.{TemplateToken}
+use Rattle.wgsl_templates.specs.declared.meaning.token.TemplateToken.TheVariants.{Plain, TemplateArgsEnd}
+use Rattle.wgsl_templates.specs.Tokens.{is_less, is_in_list, less_or_start, State, IsFirst, closing, asked, plain, Opens}
+use Rattle.wgsl_templates.proofs.Once.{first_takes}
 use Rattle.wgsl_templates.specs.declared.entry.Entry.{Entry}
 use Rattle.wgsl_templates.specs.Levels.{none, IsTable}
 use Rattle.wgsl_templates.specs.Steps.{StandsHere, trivia_here, token_here}

@@ -2,30 +2,30 @@
 use Rattle.std.specs.Prelude.{Option, Some, None, is_some}
 use Rattle.std.proofs.Common.{◌≡◌, ℕ, ◌+◌, ◌-◌, ◌≤◌, Bool, true, false, ◌&&◌, List, [], ◌∷◌, ◌++◌, length, take, drop, refl, sym, ◌∙◌, ap, subst, arith, append_assoc, append-nil, length-append, length-drop, take-append-drop}
 use Rattle.wgsl_lex.specs.Tokens.{size}
-use Rattle.wgsl_template_spec.specs.declared.kind.Kind.{Kind}
-use Rattle.wgsl_template_spec.specs.declared.kind.Kind.TheVariants as k
-use Rattle.wgsl_template_spec.specs.declared.token.Bracket.{Bracket}
-use Rattle.wgsl_template_spec.specs.declared.token.Bracket.TheVariants as b
-use Rattle.wgsl_template_spec.specs.declared.token.TemplateToken.{TemplateToken}
-use Rattle.wgsl_template_spec.specs.declared.token.SpannedTemplateToken.{SpannedTemplateToken}
-use Rattle.wgsl_template_spec.specs.Kinds.{kind, kinds}
-use Rattle.wgsl_template_spec.specs.Tokens.{is_word, is_in_list, begins_with_greater, behind, State, in_list, after, spanned, IsFirst, Reads, nothing, behind_trivia, a_token, Stands, closing, asked, plain, Opens, no_list}
-use Rattle.wgsl_template_spec.proofs.Once.{reads_then, kinds_append}
-use Rattle.wgsl_template_spec.proofs.Whole.{opens_list}
-use Rattle.wgsl_template_recognizer.specs.declared.recognize.Answer.TheVariants.{List as Listed, Never, Unfinished}
-use Rattle.wgsl_template_recognizer.specs.declared.place.Place.TheVariants as at
-use Rattle.wgsl_template_recognizer.specs.declared.place.Enclosing.{Enclosing}
-use Rattle.wgsl_template_recognizer.specs.declared.place.Enclosing.TheVariants as e
-use Rattle.wgsl_template_recognizer.specs.declared.place.Frame.{Frame}
-use Rattle.wgsl_template_recognizer.specs.declared.place.State.{State as Standing}
-use Rattle.wgsl_template_recognizer.specs.declared.place.Action.{Action}
-use Rattle.wgsl_template_recognizer.specs.declared.place.Action.TheVariants as a
-use Rattle.wgsl_template_recognizer.specs.Actions.{Status, reading, ended, popped, enclosing, first_place, last_place, action, does, next}
-use Rattle.wgsl_template_recognizer.specs.Runs.{verdict}
-use Rattle.wgsl_template_recognizer.proofs.Run.{verdict_ended, beginning}
-use Rattle.wgsl_template_recognizer.proofs.Complete.{complete}
-use Rattle.wgsl_template_recognizer.proofs.Sound.{sound}
-use Rattle.wgsl_template_recognizer.proofs.Fits.{Fits, fits, turns, sign}
+use Rattle.wgsl_templates.specs.declared.meaning.kind.Kind.{Kind}
+use Rattle.wgsl_templates.specs.declared.meaning.kind.Kind.TheVariants as k
+use Rattle.wgsl_templates.specs.declared.meaning.token.Bracket.{Bracket}
+use Rattle.wgsl_templates.specs.declared.meaning.token.Bracket.TheVariants as b
+use Rattle.wgsl_templates.specs.declared.meaning.token.TemplateToken.{TemplateToken}
+use Rattle.wgsl_templates.specs.declared.meaning.token.SpannedTemplateToken.{SpannedTemplateToken}
+use Rattle.wgsl_templates.specs.Kinds.{kind, kinds}
+use Rattle.wgsl_templates.specs.Tokens.{is_word, is_in_list, begins_with_greater, behind, State, in_list, after, spanned, IsFirst, Reads, nothing, behind_trivia, a_token, Stands, closing, asked, plain, Opens, no_list}
+use Rattle.wgsl_templates.proofs.Once.{reads_then, kinds_append}
+use Rattle.wgsl_templates.proofs.Whole.{opens_list}
+use Rattle.wgsl_templates.specs.declared.recognizer.recognize.Answer.TheVariants.{List as Listed, Never, Unfinished}
+use Rattle.wgsl_templates.specs.declared.recognizer.place.Place.TheVariants as at
+use Rattle.wgsl_templates.specs.declared.recognizer.place.Enclosing.{Enclosing}
+use Rattle.wgsl_templates.specs.declared.recognizer.place.Enclosing.TheVariants as e
+use Rattle.wgsl_templates.specs.declared.recognizer.place.Frame.{Frame}
+use Rattle.wgsl_templates.specs.declared.recognizer.place.State.{State as Standing}
+use Rattle.wgsl_templates.specs.declared.recognizer.place.Action.{Action}
+use Rattle.wgsl_templates.specs.declared.recognizer.place.Action.TheVariants as a
+use Rattle.wgsl_templates.specs.Actions.{Status, reading, ended, popped, enclosing, first_place, last_place, action, does, next}
+use Rattle.wgsl_templates.specs.Runs.{verdict}
+use Rattle.wgsl_templates.proofs.Run.{verdict_ended, beginning}
+use Rattle.wgsl_templates.proofs.Complete.{complete}
+use Rattle.wgsl_templates.proofs.Sound.{sound}
+use Rattle.wgsl_templates.proofs.Fits.{Fits, fits, turns, sign}
 use Rattle.wgsl_templates.specs.declared.entry.Entry.{Entry}
 use Rattle.wgsl_templates.specs.declared.level.Move.{Move}
 use Rattle.wgsl_templates.specs.declared.level.Move.TheVariants.{Reads as Goes_on, GoesOver, Closes as Closed, Answers}

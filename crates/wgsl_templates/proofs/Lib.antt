@@ -4,6 +4,15 @@ pub mod Entries
 pub mod Here
 pub mod Levels
 pub mod Lines
-pub mod Reading
+pub mod ReadingLemmas
 pub mod Signs
 pub mod Within
+pub mod Once
+pub mod Whole
+pub mod Run
+pub mod Complete
+pub mod Sound
+pub mod Answers
+pub mod Fits
+pub mod Starts
+pub mod Faults

@@ -2,13 +2,13 @@
 use Rattle.std.specs.Prelude.{Option, Some, None, slice_index}
 use Rattle.std.proofs.Common.{◌≡◌, ℕ, zero, suc, ◌+◌, ◌<◌, ◌≤◌, Bool, true, false, not, ◌&&◌, ◌||◌, ◌==◌, List, [], ◌∷◌, ◌++◌, length, take, drop, refl, sym, ◌∙◌, ap, subst, arith, get_or, length-append, length-drop}
 use Rattle.std.proofs.lemmas.List.{drop_more}
-use Rattle.wgsl_items.proofs.Bools.{and_both}
+use Rattle.wgsl_base.proofs.Bools.{and_both}
 use Rattle.wgsl_lex.specs.Tokens.{is_blank, is_line_break}
 use Rattle.wgsl_lex.specs.Runs.{IsRun, is_no_line_break}
 use Rattle.wgsl_lex.specs.Pieces.{StandsFirst, IsCommentAnswer, no_comment, comment}
 use Rattle.wgsl_lex.proofs.First.{blank_first, line_answer}
 use Rattle.wgsl_lex.proofs.Bools.{is_number}
-use Rattle.wgsl_template_spec.specs.Tokens.{IsFirst}
+use Rattle.wgsl_templates.specs.Tokens.{IsFirst}
 use Rattle.wgsl_templates.specs.declared.ahead.Ahead.{Ahead}
 use Rattle.wgsl_templates.specs.declared.entry.Entry.{Entry}
 use Rattle.wgsl_templates.specs.Levels.{SkipsTo, IsAhead, begins_with_slash, none, ends_at, IsEntry}

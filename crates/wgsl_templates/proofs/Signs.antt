@@ -13,17 +13,17 @@ use Rattle.wgsl_lex.specs.Tokens.{is_trivia, is_word as is_word_text, is_reserve
 use Rattle.wgsl_lex.specs.Pieces.{StandsFirst, trivia_first, token_first, nothing_first}
 use Rattle.wgsl_lex.proofs.Bools.{is_number}
 use Rattle.wgsl_lex.proofs.Tables.{spelled_as}
-use Rattle.wgsl_template_spec.specs.declared.kind.Kind.{Kind}
-use Rattle.wgsl_template_spec.specs.declared.kind.Kind.TheVariants as k
-use Rattle.wgsl_template_spec.specs.declared.token.Bracket.{Bracket}
-use Rattle.wgsl_template_spec.specs.declared.token.Bracket.TheVariants as b
-use Rattle.wgsl_template_spec.specs.declared.token.TemplateToken.{TemplateToken}
-use Rattle.wgsl_template_spec.specs.declared.token.TemplateToken.TheVariants.{Plain, TemplateArgsStart, TemplateArgsEnd}
-use Rattle.wgsl_template_spec.specs.Kinds.{kind, plain_kind}
-use Rattle.wgsl_template_spec.specs.Tokens.{is_word, is_less, is_in_list, closed, behind, State, less_or_start, IsFirst, Stands, closing, asked, plain}
-use Rattle.wgsl_template_recognizer.specs.declared.place.Enclosing.{Enclosing}
-use Rattle.wgsl_template_recognizer.specs.declared.place.Enclosing.TheVariants as e
-use Rattle.wgsl_template_recognizer.proofs.Fits.{turns, is_closing, sign}
+use Rattle.wgsl_templates.specs.declared.meaning.kind.Kind.{Kind}
+use Rattle.wgsl_templates.specs.declared.meaning.kind.Kind.TheVariants as k
+use Rattle.wgsl_templates.specs.declared.meaning.token.Bracket.{Bracket}
+use Rattle.wgsl_templates.specs.declared.meaning.token.Bracket.TheVariants as b
+use Rattle.wgsl_templates.specs.declared.meaning.token.TemplateToken.{TemplateToken}
+use Rattle.wgsl_templates.specs.declared.meaning.token.TemplateToken.TheVariants.{Plain, TemplateArgsStart, TemplateArgsEnd}
+use Rattle.wgsl_templates.specs.Kinds.{kind, plain_kind}
+use Rattle.wgsl_templates.specs.Tokens.{is_word, is_less, is_in_list, closed, behind, State, less_or_start, IsFirst, Stands, closing, asked, plain}
+use Rattle.wgsl_templates.specs.declared.recognizer.place.Enclosing.{Enclosing}
+use Rattle.wgsl_templates.specs.declared.recognizer.place.Enclosing.TheVariants as e
+use Rattle.wgsl_templates.proofs.Fits.{turns, is_closing, sign}
 use Rattle.wgsl_templates.specs.Levels.{bracket}
 
 -- Tokens of one spelling

@@ -1,19 +1,19 @@
 -- How far a bracket was read.
 use Rattle.std.specs.Prelude.{Option, Some, None, IfSome, reverse}
 use Rattle.std.proofs.Common.{◌≡◌, ℕ, ◌+◌, ◌-◌, ◌<◌, ◌≤◌, Bool, true, false, List, [], ◌∷◌, ◌++◌, length, take, drop, refl, sym, ◌∙◌, ap, subst, arith, get_or, length-drop}
-use Rattle.wgsl_template_spec.specs.declared.kind.Kind.TheVariants as k
-use Rattle.wgsl_template_spec.specs.declared.token.Bracket.{Bracket}
-use Rattle.wgsl_template_spec.specs.declared.token.TemplateToken.{TemplateToken}
-use Rattle.wgsl_template_spec.specs.Kinds.{kind}
-use Rattle.wgsl_template_spec.specs.Tokens.{is_word, Stands}
-use Rattle.wgsl_template_recognizer.specs.declared.place.Place.{Place}
-use Rattle.wgsl_template_recognizer.specs.declared.place.Place.TheVariants as at
-use Rattle.wgsl_template_recognizer.specs.declared.place.Progress.{Progress}
-use Rattle.wgsl_template_recognizer.specs.declared.place.Enclosing.{Enclosing}
-use Rattle.wgsl_template_recognizer.specs.declared.place.Enclosing.TheVariants as e
-use Rattle.wgsl_template_recognizer.specs.declared.place.State.{State as Standing}
-use Rattle.wgsl_template_recognizer.specs.Actions.{fresh, first_place, action}
-use Rattle.wgsl_template_recognizer.proofs.Fits.{sign}
+use Rattle.wgsl_templates.specs.declared.meaning.kind.Kind.TheVariants as k
+use Rattle.wgsl_templates.specs.declared.meaning.token.Bracket.{Bracket}
+use Rattle.wgsl_templates.specs.declared.meaning.token.TemplateToken.{TemplateToken}
+use Rattle.wgsl_templates.specs.Kinds.{kind}
+use Rattle.wgsl_templates.specs.Tokens.{is_word, Stands}
+use Rattle.wgsl_templates.specs.declared.recognizer.place.Place.{Place}
+use Rattle.wgsl_templates.specs.declared.recognizer.place.Place.TheVariants as at
+use Rattle.wgsl_templates.specs.declared.recognizer.place.Progress.{Progress}
+use Rattle.wgsl_templates.specs.declared.recognizer.place.Enclosing.{Enclosing}
+use Rattle.wgsl_templates.specs.declared.recognizer.place.Enclosing.TheVariants as e
+use Rattle.wgsl_templates.specs.declared.recognizer.place.State.{State as Standing}
+use Rattle.wgsl_templates.specs.Actions.{fresh, first_place, action}
+use Rattle.wgsl_templates.proofs.Fits.{sign}
 use Rattle.wgsl_templates.specs.declared.entry.Entry.{Entry}
 use Rattle.wgsl_templates.specs.declared.level.Move.{Move}
 use Rattle.wgsl_templates.specs.declared.level.Move.TheVariants.{Reads as Goes_on, GoesOver, Closes as Closed, Answers}
@@ -21,7 +21,7 @@ use Rattle.wgsl_templates.specs.Steps.{StandsHere, state as state_of}
 use Rattle.wgsl_templates.specs.Levels.{bracket, within, Ends, standing, none, end_of, SkipsTo, IsEntry, IsTable, moved}
 use Rattle.wgsl_templates.proofs.Entries.{same_end, table_back, parts}
 use Rattle.wgsl_templates.proofs.Levels.{stood, no_token, over_trivia, move_reads, move_closes, move_answers, move_over, move_within, ended_here, entry_opens}
-use Rattle.wgsl_templates.proofs.Reading.{stands_more}
+use Rattle.wgsl_templates.proofs.ReadingLemmas.{stands_more}
 use Rattle.wgsl_templates.proofs.Signs.{mark, opens_with, comma_with, sign_parts}
 
 -- What the rest answers the bracket answers.

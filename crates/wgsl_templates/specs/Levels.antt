@@ -1,22 +1,22 @@
 -- Where a bracket ends, for a reader of expressions who stands within it.
 use Rattle.std.specs.Prelude.{◌≡◌, ℕ, ◌<◌, ◌≤◌, Bool, true, false, ◌==◌, List, [], ◌∷◌, ◌++◌, length, drop, slice_index_or, Option, Some, None}
-use Rattle.wgsl_template_spec.specs.declared.kind.Kind.{Kind}
-use Rattle.wgsl_template_spec.specs.declared.token.Bracket.{Bracket}
-use Rattle.wgsl_template_spec.specs.declared.token.Bracket.TheVariants as b
-use Rattle.wgsl_template_spec.specs.declared.token.SpannedTemplateToken.{SpannedTemplateToken}
-use Rattle.wgsl_template_spec.specs.Kinds.{kinds}
-use Rattle.wgsl_template_spec.specs.Tokens.{State, Reads}
-use Rattle.wgsl_template_recognizer.specs.declared.recognize.Answer.TheVariants.{List as Listed}
-use Rattle.wgsl_template_recognizer.specs.declared.place.Place.{Place}
-use Rattle.wgsl_template_recognizer.specs.declared.place.Place.TheVariants as at
-use Rattle.wgsl_template_recognizer.specs.declared.place.Enclosing.{Enclosing}
-use Rattle.wgsl_template_recognizer.specs.declared.place.Enclosing.TheVariants as e
-use Rattle.wgsl_template_recognizer.specs.declared.place.Frame.{Frame}
-use Rattle.wgsl_template_recognizer.specs.declared.place.State.{State as Standing}
-use Rattle.wgsl_template_recognizer.specs.declared.place.Action.{Action}
-use Rattle.wgsl_template_recognizer.specs.declared.place.Action.TheVariants as a
-use Rattle.wgsl_template_recognizer.specs.Actions.{reading, popped, enclosing, fresh, last_place, action}
-use Rattle.wgsl_template_recognizer.specs.Runs.{verdict}
+use Rattle.wgsl_templates.specs.declared.meaning.kind.Kind.{Kind}
+use Rattle.wgsl_templates.specs.declared.meaning.token.Bracket.{Bracket}
+use Rattle.wgsl_templates.specs.declared.meaning.token.Bracket.TheVariants as b
+use Rattle.wgsl_templates.specs.declared.meaning.token.SpannedTemplateToken.{SpannedTemplateToken}
+use Rattle.wgsl_templates.specs.Kinds.{kinds}
+use Rattle.wgsl_templates.specs.Tokens.{State, Reads}
+use Rattle.wgsl_templates.specs.declared.recognizer.recognize.Answer.TheVariants.{List as Listed}
+use Rattle.wgsl_templates.specs.declared.recognizer.place.Place.{Place}
+use Rattle.wgsl_templates.specs.declared.recognizer.place.Place.TheVariants as at
+use Rattle.wgsl_templates.specs.declared.recognizer.place.Enclosing.{Enclosing}
+use Rattle.wgsl_templates.specs.declared.recognizer.place.Enclosing.TheVariants as e
+use Rattle.wgsl_templates.specs.declared.recognizer.place.Frame.{Frame}
+use Rattle.wgsl_templates.specs.declared.recognizer.place.State.{State as Standing}
+use Rattle.wgsl_templates.specs.declared.recognizer.place.Action.{Action}
+use Rattle.wgsl_templates.specs.declared.recognizer.place.Action.TheVariants as a
+use Rattle.wgsl_templates.specs.Actions.{reading, popped, enclosing, fresh, last_place, action}
+use Rattle.wgsl_templates.specs.Runs.{verdict}
 use Rattle.wgsl_lex.specs.Runs.{IsRun, is_no_line_break}
 use Rattle.wgsl_templates.specs.declared.ahead.Ahead.{Ahead}
 use Rattle.wgsl_templates.specs.declared.entry.Entry.{Entry}

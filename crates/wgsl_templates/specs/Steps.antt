@@ -1,8 +1,8 @@
 -- What the code finds at a place.
 use Rattle.std.specs.Prelude.{ℕ, Bool, List, reverse, Option, Some, None}
-use Rattle.wgsl_template_spec.specs.declared.token.Bracket.{Bracket}
-use Rattle.wgsl_template_spec.specs.declared.token.TemplateToken.{TemplateToken}
-use Rattle.wgsl_template_spec.specs.Tokens.{State, IsFirst, Stands}
+use Rattle.wgsl_templates.specs.declared.meaning.token.Bracket.{Bracket}
+use Rattle.wgsl_templates.specs.declared.meaning.token.TemplateToken.{TemplateToken}
+use Rattle.wgsl_templates.specs.Tokens.{State, IsFirst, Stands}
 
 -- So many characters stand first, with this token if they have one.
 pub data StandsHere (s : State) (text : List ℕ) (n : ℕ) : Option TemplateToken → Type 0 where

@@ -3,12 +3,12 @@
 ghost use Rattle.std.specs.Prelude.{◌≡◌};
 ghost use Rattle.wgsl_templates.specs.Levels as levels;
 
-use wgsl_template_recognizer::Enclosing;
+use crate::recognizer::Enclosing;
 
 /// Where a bracket ends that opens at a place, or a template list that goes on behind the comma there, or a comment to the line's end
 /// with what comments and blankspace follow. An end is told by how many characters stand behind it; there is none where what follows is
 /// not the inside of such a bracket.
-#[derive(Clone, Copy, Debug, PartialEq, Eq)]
+#[derive(Clone, Copy)]
 pub(crate) struct Entry {
     /// Of a template list, of parentheses round one expression, of an index, or of a comment.
     pub(crate) end: Option<usize>,

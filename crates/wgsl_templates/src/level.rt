@@ -1,17 +1,17 @@
 //! Where a bracket ends.
 
 ghost use Rattle.std.specs.Prelude.{◌≡◌, ◌≤◌, ◌<◌, ◌∷◌, length, IfOk, IfSome, false};
-ghost use Rattle.wgsl_template_spec.specs.Kinds as kinds;
-ghost use Rattle.wgsl_template_spec.specs.Tokens as tokens;
+ghost use Rattle.wgsl_templates.specs.Kinds as kinds;
+ghost use Rattle.wgsl_templates.specs.Tokens as tokens;
 ghost use Rattle.wgsl_templates.specs.Levels.{Ends, IsTable, SkipsTo, standing};
 ghost use Rattle.wgsl_templates.specs.Levels as levels;
 
 use crate::entry::Entry;
 use crate::lexer::is_word;
+use crate::meaning::{Bracket, Kind, TemplateToken};
 use crate::piece::{Pieces, TemplatePiece, next_at_once};
+use crate::recognizer::{Action, Enclosing, Place, State, action, fresh, last_place};
 use std::alloc::{AllocError, Global};
-use wgsl_template_recognizer::{Action, Enclosing, Place, State, action, fresh, last_place};
-use wgsl_template_spec::{Bracket, Kind, TemplateToken};
 
 /// How many characters stand behind the end of such a bracket, of which these stand behind its beginning: of its own tokens, those up
 /// to the first comma of a template list are read, and the brackets in it are gone over by the table. Only memory can fail.

@@ -3,18 +3,18 @@
 ghost use Rattle.std.specs.Prelude.{◌≡◌, ◌<◌, ◌≤◌, ◌^◌, ◌+◌, ◌∷◌, ◌++◌, [], length, reverse, IfOk, true};
 ghost use Rattle.std.specs.Str.{chars};
 ghost use Rattle.wgsl_lex.specs.Tokens.{size};
-ghost use Rattle.wgsl_template_spec.specs.Tokens.{start, is_word, behind, Lexes, IsLexed};
+ghost use Rattle.wgsl_templates.specs.Tokens.{start, is_word, behind, Lexes, IsLexed};
 ghost use Rattle.wgsl_templates.specs.Levels.{IsTable};
 
 use crate::characters::characters_of;
 use crate::entry::Entry;
 use crate::list::TokenList;
+use crate::meaning::{Bracket, SpannedTemplateToken, TemplateToken};
 use crate::piece::{Pieces, TemplatePiece, next, told_symbol};
 use crate::table::table_of;
 use std::alloc::{AllocError, Global};
 use wgsl_lex::{is_blankspace, short_word, symbol_alone};
 use wgsl_path::Span;
-use wgsl_template_spec::{Bracket, SpannedTemplateToken, TemplateToken};
 use wgsl_token::{Fixed, Token};
 
 /// The tokens of a text (WGSL, "Textual Structure" and "Template Lists"), each with its place in bytes, put into a list that is

@@ -1,14 +1,13 @@
 //! Lists that tokens are put into.
 
+use crate::meaning::SpannedTemplateToken;
 use std::alloc::AllocError;
-use wgsl_items::Items;
-use wgsl_stack::QueueWriter;
-use wgsl_template_spec::SpannedTemplateToken;
+use wgsl_base::{Items, QueueWriter};
 
 /// What the tokens of a text are put into, the first first.
 pub trait TokenList: Drop {
     ghost use Rattle.std.specs.Prelude.{◌≡◌, ◌++◌, ◌∷◌, [], List, IfOk};
-    ghost use Rattle.wgsl_template_spec.specs.declared.token.SpannedTemplateToken.{SpannedTemplateToken};
+    ghost use Rattle.wgsl_templates.specs.declared.meaning.token.SpannedTemplateToken.{SpannedTemplateToken};
 
     /// The tokens that it holds.
     ghost listed: { Self → List SpannedTemplateToken };

@@ -2,16 +2,16 @@
 
 ghost use Rattle.std.specs.Prelude.{◌≡◌, ◌≤◌, ◌<◌, ◌+◌, ◌∷◌, ◌==◌, ◌&&◌, ℕ, length, reverse, IfOk, IfSome, Some, None};
 ghost use Rattle.wgsl_lex.specs.Pieces.{StandsFirst, IsShortWord};
-ghost use Rattle.wgsl_template_spec.specs.Tokens as tokens;
+ghost use Rattle.wgsl_templates.specs.Tokens as tokens;
 ghost use Rattle.wgsl_templates.specs.Steps.{StandsHere, state};
 ghost use Rattle.wgsl_templates.specs.Levels.{IsTable};
 
 use crate::entry::Entry;
+use crate::meaning::{Bracket, TemplateToken};
 use std::alloc::{AllocError, Global};
 use wgsl_lex::{
     Piece, ShortWord, is_blankspace, short_float, short_number, short_word, symbol_alone,
 };
-use wgsl_template_spec::{Bracket, TemplateToken};
 use wgsl_token::{Fixed, Token};
 
 /// Who knows what stands first.
@@ -29,7 +29,7 @@ pub trait Pieces {
 }
 
 /// What stands first where template lists are told.
-#[derive(Debug, Drop)]
+#[derive(Drop)]
 pub(crate) struct TemplatePiece {
     /// How many characters it has.
     pub(crate) length: usize,

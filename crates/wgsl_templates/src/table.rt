@@ -1,15 +1,15 @@
 //! The table of a text's template lists.
 
 ghost use Rattle.std.specs.Prelude.{◌≡◌, ◌≤◌, length, IfOk};
-ghost use Rattle.wgsl_template_spec.specs.Tokens.{Opens};
+ghost use Rattle.wgsl_templates.specs.Tokens.{Opens};
 ghost use Rattle.wgsl_templates.specs.Levels.{IsAhead, IsEntry, IsTable};
 
 use crate::ahead::{Ahead, begins_with_slash};
 use crate::entry::Entry;
 use crate::level::end_of;
 use crate::piece::Pieces;
+use crate::recognizer::{Enclosing, Place};
 use std::alloc::{AllocError, Global};
-use wgsl_template_recognizer::{Enclosing, Place};
 
 /// For each place of a text, from its end: where what a character right before it opens ends. It is made from the right, each entry of
 /// those behind it.

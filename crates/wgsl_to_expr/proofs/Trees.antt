@@ -2,7 +2,7 @@
 use Rattle.std.proofs.Common.{◌≡◌, ap, ◌∙◌, ℕ, List, map, None, pos}
 use Rattle.wgsl_path.specs.declared.span.Spanned.{Spanned}
 use Rattle.wgsl_path.specs.declared.ident.Ident.{Ident}
-use Rattle.wgsl_operators.specs.declared.BinaryOperator.TheVariants.{Subtraction}
+use Rattle.wgsl_words.specs.declared.operators.BinaryOperator.TheVariants.{Subtraction}
 use Rattle.wgsl_expressions.specs.declared.expression.LiteralExpression.TheVariants.{AbstractInt}
 use Rattle.wgsl_expressions.specs.declared.expression.Expression.{Expression}
 use Rattle.wgsl_expressions.specs.declared.expression.Expression.TheVariants.{Binary, FunctionCall, Literal}

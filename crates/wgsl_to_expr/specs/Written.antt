@@ -2,14 +2,14 @@
 -- difference, types in full.
 use Rattle.std.specs.Prelude.{◌≡◌, ◌⊎◌, ⊤, ℕ, suc, ◌^◌, pos, negsuc, nat_eq, nat_lt, Bool, true, false, if◌then◌else◌, List, [], ◌∷◌, ◌++◌, map, length, Option, Some, None, option_map, option_and_then, Result, Ok, Err, codes}
 use Rattle.std.specs.Fmt.{decimal}
-use Rattle.wgsl_items.specs.declared.error.OrOutOfMemory.{OrOutOfMemory}
-use Rattle.wgsl_items.specs.declared.error.OrOutOfMemory.TheVariants.{Error, OutOfMemory}
-use Rattle.wgsl_operators.specs.declared.UnaryOperator.TheVariants.{Negation}
-use Rattle.wgsl_operators.specs.declared.BinaryOperator.TheVariants.{Subtraction}
-use Rattle.wgsl_enumerations.specs.Texts.{address_space_text, access_mode_text}
-use Rattle.wgsl_enumerations.specs.declared.address.AddressSpace.{AddressSpace}
-use Rattle.wgsl_enumerations.specs.declared.address.AddressSpace.TheVariants.{Storage}
-use Rattle.wgsl_enumerations.specs.declared.address.AccessMode.{AccessMode}
+use Rattle.wgsl_base.specs.declared.items.error.OrOutOfMemory.{OrOutOfMemory}
+use Rattle.wgsl_base.specs.declared.items.error.OrOutOfMemory.TheVariants.{Error, OutOfMemory}
+use Rattle.wgsl_words.specs.declared.operators.UnaryOperator.TheVariants.{Negation}
+use Rattle.wgsl_words.specs.declared.operators.BinaryOperator.TheVariants.{Subtraction}
+use Rattle.wgsl_words.specs.Texts.{address_space_text, access_mode_text}
+use Rattle.wgsl_words.specs.declared.enumerations.address.AddressSpace.{AddressSpace}
+use Rattle.wgsl_words.specs.declared.enumerations.address.AddressSpace.TheVariants.{Storage}
+use Rattle.wgsl_words.specs.declared.enumerations.address.AccessMode.{AccessMode}
 use Rattle.wgsl_expressions.specs.declared.expression.LiteralExpression.{LiteralExpression}
 use Rattle.wgsl_expressions.specs.declared.expression.LiteralExpression.TheVariants as l
 use Rattle.wgsl_expressions.specs.declared.expression.Expression.{Expression}

@@ -2,17 +2,17 @@
 
 ghost use Rattle.std.specs.Prelude.{◌≡◌, [], ◌∷◌, ◌++◌, map, IfOk, OnOk};
 ghost use Rattle.std.specs.Option.{option_map};
-ghost use Rattle.wgsl_enumerations.specs.Texts.{address_space_text, access_mode_text};
+ghost use Rattle.wgsl_words.specs.Texts.{address_space_text, access_mode_text};
 ghost use Rattle.wgsl_expressions.specs.Tree as T;
 ghost use Rattle.wgsl_expressions.specs.View.{tree, type_tree};
 ghost use Rattle.wgsl_to_expr.specs.Written.{name_alone, template_of, argument_tree, count_exp, counts, vector_typ, access_exps, pointer_typ, type_written, Writes};
 
 use crate::call::{named, push_argument, push_type, templated};
 use std::alloc::{AllocError, Global};
-use wgsl_enumerations::{AccessMode, AddressSpace};
+use wgsl_base::OrOutOfMemory;
 use wgsl_expressions::{Expression, Items, LiteralExpression, TemplateArg, TypeExpression};
-use wgsl_items::OrOutOfMemory;
 use wgsl_shader_type::Type;
+use wgsl_words::{AccessMode, AddressSpace};
 
 /// The word of an address space.
 pub fn address_space_to_type(

@@ -12,9 +12,9 @@ use crate::call::{call, push_node};
 use crate::literal::literal_to_expr;
 use crate::ty::type_to_type_expression;
 use std::alloc::{AllocError, Global};
+use wgsl_base::OrOutOfMemory;
 use wgsl_expressions::{Expression, Items};
 use wgsl_instance::{ArrayInstance, Instance, StructInstance, VecInstance};
-use wgsl_items::OrOutOfMemory;
 use wgsl_shader_type::{Error, LiteralInstance, Type};
 
 fn components_to_exprs(

@@ -2,6 +2,7 @@
 #![tactic(auto)]
 
 mod error;
+pub mod fault;
 mod token;
 
 pub use error::{Error, ErrorKind};

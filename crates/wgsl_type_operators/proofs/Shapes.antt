@@ -1,7 +1,7 @@
 -- The result of an operator, shape by shape; what conversions leave of a type's shape and class.
 use Rattle.std.proofs.Common.{◌≡◌, refl, sym, ap, ◌∙◌, subst, ℕ, ◌==◌, ◌&&◌, ◌||◌, not, Bool, true, false, cond, Option, Some, None, true≢false, eqb-true, ◌⊎◌, inl, inr, ⊎_elim}
 use Rattle.std.specs.Option.{is_some}
-use Rattle.wgsl_operators.specs.declared.BinaryOperator.{BinaryOperator}
+use Rattle.wgsl_words.specs.declared.operators.BinaryOperator.{BinaryOperator}
 use Rattle.wgsl_shader_type.specs.declared.tree.ShaderType.{ShaderType, roll-ShaderType, out-ShaderType, roll-out-ShaderType, out-roll-ShaderType}
 use Rattle.wgsl_shader_type.specs.declared.tree.ShaderType.TheVariants as v
 use Rattle.wgsl_shader_type.specs.declared.tree.ShaderType.TheOpen.{ShaderType-F}

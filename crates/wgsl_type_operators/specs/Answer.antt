@@ -1,7 +1,7 @@
 -- What an operator answers: its result, or a refusal exactly where no candidate fits, but for want of memory.
 use Rattle.std.specs.Prelude.{◌≡◌, ◌⊎◌, Result, MatchResult}
-use Rattle.wgsl_operators.specs.declared.UnaryOperator.{UnaryOperator}
-use Rattle.wgsl_operators.specs.declared.BinaryOperator.{BinaryOperator}
+use Rattle.wgsl_words.specs.declared.operators.UnaryOperator.{UnaryOperator}
+use Rattle.wgsl_words.specs.declared.operators.BinaryOperator.{BinaryOperator}
 use Rattle.wgsl_shader_type.specs.declared.tree.ShaderType.{ShaderType}
 use Rattle.wgsl_shader_type.specs.declared.error.Error.{Error}
 use Rattle.wgsl_shader_type.specs.declared.error.Error.TheVariants.{OutOfMemory, Binary}

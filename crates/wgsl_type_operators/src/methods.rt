@@ -1,14 +1,14 @@
 //! The operators as methods of types: what each gives, by the candidate of the least sum of conversion ranks.
 
 ghost use Rattle.std.specs.Prelude.{◌≡◌};
-ghost use Rattle.wgsl_operators.specs.declared.BinaryOperator.TheVariants as binary;
-ghost use Rattle.wgsl_operators.specs.declared.UnaryOperator.TheVariants as unary;
+ghost use Rattle.wgsl_words.specs.declared.operators.BinaryOperator.TheVariants as binary;
+ghost use Rattle.wgsl_words.specs.declared.operators.UnaryOperator.TheVariants as unary;
 ghost use Rattle.wgsl_type_operators.specs.Answer.{AnswersBinary, AnswersUnary};
 
 use crate::operator::{type_binary_op, type_unary_op};
 use std::alloc::Global;
-use wgsl_operators::{BinaryOperator, UnaryOperator};
 use wgsl_shader_type::{Error, ShaderType};
+use wgsl_words::{BinaryOperator, UnaryOperator};
 
 /// What the operators take: a type, or what stands for one.
 pub trait TypeOperators {

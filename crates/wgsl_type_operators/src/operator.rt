@@ -6,8 +6,8 @@ ghost use Rattle.wgsl_type_operators.specs.Operator as spec;
 ghost use Rattle.wgsl_type_operators.specs.ResultOf as plain;
 
 use std::alloc::{AllocError, Global};
-use wgsl_operators::{BinaryOperator, UnaryOperator};
 use wgsl_shader_type::{AccessMode, AddressSpace, Boxed, Error, Type, convert_ty};
+use wgsl_words::{BinaryOperator, UnaryOperator};
 
 fn is_arithmetic(operator: BinaryOperator) -> bool
     ensures { result ≡ spec.is_arithmetic operator }

@@ -2,8 +2,8 @@
 use Rattle.std.specs.Prelude.{◌≡◌, ℕ, List, [], ◌∷◌, map, Option, Some, None, Result, MatchResult, Bool, true, false, ◌⊎◌, codes, if◌then◌else◌}
 use Rattle.std.specs.Option.{option_map}
 use Rattle.std.specs.Str.{bytes_eq}
-use Rattle.wgsl_builtin.specs.Names.{Name, is_in}
-use Rattle.wgsl_builtin.specs.Builtin.{value_types, other_types}
+use Rattle.wgsl_words.specs.Names.{Name, is_in}
+use Rattle.wgsl_words.specs.Builtin.{value_types, other_types}
 use Rattle.wgsl_shader_type.specs.declared.tree.ShaderType.{ShaderType}
 use Rattle.wgsl_shader_type.specs.declared.tree.ShaderType.TheVariants as type
 use Rattle.wgsl_shader_type.specs.declared.error.Error.{Error}

@@ -1,8 +1,8 @@
 -- What the arguments of a template make (WGSL, "Type generators and their parameters").
 use Rattle.std.specs.Prelude.{◌≡◌, ℕ, ℤ, pos, List, [], ◌∷◌, Option, Some, None, Bool, true, false, ◌==◌, nat_lt, codes, if◌then◌else◌}
-use Rattle.wgsl_enumerations.specs.declared.address.AddressSpace.TheVariants.{Storage}
-use Rattle.wgsl_enumerations.specs.declared.address.Enumerant.TheVariants as enumerant
-use Rattle.wgsl_enumerations.specs.Texts.{default_access}
+use Rattle.wgsl_words.specs.declared.enumerations.address.AddressSpace.TheVariants.{Storage}
+use Rattle.wgsl_words.specs.declared.enumerations.address.Enumerant.TheVariants as enumerant
+use Rattle.wgsl_words.specs.Texts.{default_access}
 use Rattle.wgsl_shader_type.specs.declared.tree.ShaderType.{ShaderType}
 use Rattle.wgsl_shader_type.specs.Class.{is_scalar}
 use Rattle.wgsl_shader_type.specs.declared.error.Error.{Error}

@@ -14,7 +14,7 @@ ghost use Rattle.wgsl_types.specs.Template.{IsTemplateArgs, IsArrayTemplateFault
 use crate::names::{BuiltinName, builtin_name};
 use crate::template::{ArrayTemplate, VecTemplate};
 use std::alloc::{AllocError, Global};
-use wgsl_items::{Boxed, CloneIn, Items, Text};
+use wgsl_base::{Boxed, CloneIn, Items, Text};
 use wgsl_shader_type::{CallSignature, Error, StructType, TpltParam, Type, convert_all_ty};
 
 /// What makes a value, once its name and its template are read.

@@ -6,7 +6,7 @@ ghost use Rattle.wgsl_types.specs.Convert.{both_converted, all_converted, AllAtC
 
 use crate::typed::{Convert, Ty};
 use std::alloc::{AllocError, Global};
-use wgsl_items::Items;
+use wgsl_base::Items;
 use wgsl_shader_type::{Type, convert_all_ty, convert_ty};
 
 /// Two things at a type, or nothing where one doesn't convert.

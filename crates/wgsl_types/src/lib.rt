@@ -13,13 +13,12 @@ pub use conversions::{convert, convert_all, convert_all_inner_to, convert_all_to
 pub use names::{builtin_type, is_ctor};
 pub use template::{ArrayTemplate, PtrTemplate, VecTemplate};
 pub use typed::{Convert, Ty};
-pub use wgsl_enumerations::{
-    AccessMode, AddressSpace, AssignmentOperator, BuiltinValue, DiagnosticSeverity, Enumerant,
-    InterpolationSampling, InterpolationType, ShaderStage,
-};
-pub use wgsl_operators::{BinaryOperator, UnaryOperator};
 pub use wgsl_shader_type::{
     CallSignature, Error, LiteralInstance, ShaderType, StructMemberType, StructMemberTypeOf,
     StructType, StructTypeOf, TpltParam, Type, conversion_rank, convert_all_ty, convert_ty,
 };
 pub use wgsl_type_operators::{TypeOperators, type_binary_op, type_unary_op};
+pub use wgsl_words::{
+    AccessMode, AddressSpace, AssignmentOperator, BinaryOperator, BuiltinValue, DiagnosticSeverity,
+    Enumerant, InterpolationSampling, InterpolationType, ShaderStage, UnaryOperator,
+};

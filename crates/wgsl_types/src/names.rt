@@ -6,9 +6,9 @@ ghost use Rattle.wgsl_types.specs.Names as spec;
 
 use crate::template::{ArrayTemplate, PtrTemplate, VecTemplate};
 use std::alloc::Global;
-use wgsl_builtin::{is_known, other_types};
-use wgsl_items::{Boxed, Text};
+use wgsl_base::{Boxed, Text};
 use wgsl_shader_type::{Error, TpltParam, Type};
+use wgsl_words::{is_known, other_types};
 
 /// What a built-in name of a type stands for.
 #[derive(Debug, Drop, PartialEq)]

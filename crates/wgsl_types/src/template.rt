@@ -5,9 +5,9 @@ ghost use Rattle.wgsl_shader_type.specs.declared.tree.ShaderType.TheVariants as 
 ghost use Rattle.wgsl_types.specs.Template as spec;
 
 use std::alloc::{AllocError, Global};
-use wgsl_enumerations::{AccessMode, AddressSpace, Enumerant};
-use wgsl_items::{Boxed, CloneIn, Text};
+use wgsl_base::{Boxed, CloneIn, Text};
 use wgsl_shader_type::{Error, LiteralInstance, TpltParam, Type};
+use wgsl_words::{AccessMode, AddressSpace, Enumerant};
 
 /// The template of a vector: the type of its components.
 #[derive(Debug, Drop, PartialEq)]

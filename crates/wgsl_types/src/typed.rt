@@ -4,7 +4,7 @@ ghost use Rattle.std.specs.Prelude.{◌≡◌, IfOk};
 ghost use Rattle.wgsl_types.specs.Convert as spec;
 
 use std::alloc::{AllocError, Global};
-use wgsl_items::Boxed;
+use wgsl_base::Boxed;
 use wgsl_shader_type::{LiteralInstance, Type};
 
 /// What has a type.

@@ -2,18 +2,18 @@
 
 ghost use Rattle.std.specs.Prelude.{◌≡◌, map, Some};
 ghost use Rattle.std.specs.Option.{option_or, option_map};
-ghost use Rattle.wgsl_attributes.specs.View.{attributes_tree};
+ghost use Rattle.wgsl_expressions.specs.AttributesView.{attributes_tree};
 ghost use Rattle.wgsl_statements.specs.View.{statement_tree, block_tree, elses_layer, else_layer, clauses_layer, continuing_layer, part_layer};
-ghost use Rattle.wesl_cond_spec.specs.Trees.{statement_attributes};
-ghost use Rattle.wesl_cond_spec.specs.Faults.{block_fault, elses_fault, clauses_fault, continuing_fault, part_fault};
+ghost use Rattle.wesl_conditions.specs.Trees.{statement_attributes};
+ghost use Rattle.wesl_conditions.specs.Faults.{block_fault, elses_fault, clauses_fault, continuing_fault, part_fault};
 ghost use Rattle.wesl_conditions.specs.Told.{TellsFault};
 ghost use Rattle.wesl_cond.specs.Passing.{Passes, see_statement, see_node, inside_statement, first_of};
 
 use std::alloc::Global;
 use wesl_cond_items::{Check, attributes_of};
-use wesl_features::{CondCompError, Features};
-use wgsl_attributes::Attributes;
-use wgsl_items::Items;
+use wesl_conditions::{CondCompError, Features};
+use wgsl_base::Items;
+use wgsl_expressions::Attributes;
 use wgsl_statements::{
     CompoundStatement, ContinuingStatement, ElseClause, ElseIfClause, ForStatement, IfStatement,
     LoopStatement, Statement, StatementNode, SwitchClause,

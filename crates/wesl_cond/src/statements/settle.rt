@@ -7,8 +7,8 @@ ghost use Rattle.wgsl_statements.specs.View.{statement_tree, block_tree, else_la
 ghost use Rattle.wesl_cond.specs.Leaving.{statement_left, block_left, elses_left, clauses_left, continuing_left, part_left, else_if_pair, else_block, switch_pair, pair_left};
 
 use wesl_cond_items::settle_list;
-use wesl_features::Features;
-use wgsl_items::Items;
+use wesl_conditions::Features;
+use wgsl_base::Items;
 use wgsl_statements::{
     CompoundStatement, ContinuingStatement, ElseClause, ElseIfClause, ForStatement, IfStatement,
     LoopStatement, Statement, StatementNode, SwitchClause, SwitchStatement, WhileStatement,

@@ -3,12 +3,12 @@
 use std::alloc::AllocError;
 use wesl_cond::CondCompError;
 use weslc_bundle::{
-    CompileError, ErrorContext, ImportKind, PrecompileError, Refused, ResolveKind, RunRefusal,
-    Unprintable, WholeRefusal,
+    CompileError, CompileRefusal, ErrorContext, ImportKind, PrecompileError, Refused, ResolveKind,
+    RunRefusal, Unprintable,
 };
-use wgsl_error::{Error, Refusal};
-use wgsl_items::OrOutOfMemory;
+use wgsl_base::OrOutOfMemory;
 use wgsl_path::{ModulePath, PathOrigin};
+use wgsl_token::fault::{Error, Refusal};
 
 /// The errors that are told apart here.
 #[derive(Clone, Copy, PartialEq, Eq)]
@@ -80,7 +80,7 @@ impl Lettered for String {
     }
 }
 
-impl Lettered for wgsl_items::Text {
+impl Lettered for wgsl_base::Text {
     fn letters(&self) -> &str {
         self.as_str()
     }
@@ -191,11 +191,11 @@ impl Known for CompileError {
     }
 }
 
-impl Known for WholeRefusal {
+impl Known for CompileRefusal {
     fn kind(&self) -> Kind {
         match self {
-            WholeRefusal::Compile(error) => error.kind(),
-            WholeRefusal::Eval(_, _) => Kind::Another,
+            CompileRefusal::Compile(error) => error.kind(),
+            CompileRefusal::Eval(_, _) => Kind::Another,
         }
     }
 }

@@ -11,8 +11,8 @@ use weslc_bundle::{
     Binding, Options, RunResult, VirtualResolver, compile, eval, link, precompile, read_bindings,
     result_text, run,
 };
-use wgsl_inputs::Inputs;
-use wgsl_items::Items;
+use wgsl_base::Items;
+use wgsl_memory::Inputs;
 use wgsl_path::ModulePath;
 
 const COMPILED_COMPARISON: &str =

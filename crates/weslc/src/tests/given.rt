@@ -3,7 +3,7 @@
 use std::alloc::Global;
 use wesl_cond::{Feature, Features};
 use weslc_bundle::{Options, VirtualResolver};
-use wgsl_items::Text;
+use wgsl_base::Text;
 use wgsl_path::ModulePath;
 
 pub const COMPARISON: &str =

@@ -3,9 +3,10 @@
 use std::alloc::Global;
 use std::test::Fail;
 use weslc_bundle::{
-    BasicSourceMap, EscapeMangler, Options, SourceMap, Tried, VirtualResolver, link, try_compile,
+    BasicSourceMap, CoreAnswer, EscapeMangler, Options, SourceMap, VirtualResolver, link,
+    try_compile,
 };
-use wgsl_items::Text;
+use wgsl_base::Text;
 use wgsl_path::ModulePath;
 
 const ROOT: &str = "import package::m::two; fn g() -> u32 { return two + 1; }";
@@ -99,8 +100,8 @@ fn answers(
     match call {
         Call::Link => gives(alloc, link(alloc, resolver, root, options), source, LINKED),
         Call::Compile => match try_compile(alloc, resolver, root, options) {
-            Tried::Answered(answer) => gives(alloc, answer, source, COMPILED),
-            Tried::Beyond(_) => None,
+            CoreAnswer::Answered(answer) => gives(alloc, answer, source, COMPILED),
+            CoreAnswer::BeyondCore(_) => None,
         },
         Call::LinkWhole => gives(
             alloc,

@@ -6,7 +6,7 @@ use crate::tests::play::{Played, Row, Trial, is_right, play_made};
 use std::alloc::{AllocError, Global};
 use std::test::Fail;
 use wesl_cond::{Features, run};
-use wesl_rounds::HeldUnit;
+use wesl_load::HeldUnit;
 use weslc_bundle::{check_unit, lower, parse_str};
 use wgsl_guard::guard_templates;
 

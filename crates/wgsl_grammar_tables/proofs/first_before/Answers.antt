@@ -1,5 +1,5 @@
 use Rattle.std.proofs.Common.{◌∙◌, ap, sym, cond, Some, drop, ◌+◌, slice_index_or}
-use Rattle.wgsl_tables.specs.Listed.{first_before}
+use Rattle.wgsl_grammar_tables.specs.Listed.{first_before}
 use Rattle.wgsl_grammar_tables.specs.Decoded.{listed}
 use Rattle.wgsl_grammar_tables.proofs.Read.{first_step}
 use Rattle.wgsl_grammar_tables.proofs.first_before.Goals as goal

@@ -1,5 +1,5 @@
 use Rattle.std.proofs.Common.{◌≡◌, drop}
-use Rattle.wgsl_tables.specs.Listed.{first_before}
+use Rattle.wgsl_grammar_tables.specs.Listed.{first_before}
 use Rattle.wgsl_grammar_tables.specs.Decoded.{listed}
 use Rattle.wgsl_grammar_tables.proofs.first_before.Given as goal
 

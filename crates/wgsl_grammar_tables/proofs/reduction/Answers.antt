@@ -1,6 +1,6 @@
 use Rattle.std.proofs.Common.{◌∙◌, sym}
 use Rattle.wgsl_grammar_tables.proofs.Read.{finals_row}
-use Rattle.wgsl_grammar_tables.proofs.Steps.{reduced_by_only, reduced_by_others}
+use Rattle.wgsl_grammar_tables.proofs.StepsLemmas.{reduced_by_only, reduced_by_others}
 use Rattle.wgsl_grammar_tables.proofs.reduction.Goals as goal
 
 pub returns-in-Some : goal.returns-in-Some

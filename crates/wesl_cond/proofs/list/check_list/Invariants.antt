@@ -1,7 +1,7 @@
 use Rattle.std.proofs.Common.{◌≡◌, drop, filter_map}
 use Rattle.std.specs.Option.{option_map}
-use Rattle.wesl_cond_spec.specs.Seen.{list_fault}
-use Rattle.wesl_cond_spec.specs.Walks.{checked}
+use Rattle.wesl_conditions.specs.Seen.{list_fault}
+use Rattle.wesl_conditions.specs.Walks.{checked}
 use Rattle.wesl_cond.specs.Passing.{see}
 use Rattle.wesl_cond.proofs.list.check_list.Given as goal
 

@@ -1,6 +1,6 @@
 use Rattle.std.proofs.Common.{◌≡◌, drop}
-use Rattle.wgsl_attributes.specs.View.{attributes_tree}
-use Rattle.wesl_cond_spec.specs.Chains.{marks}
+use Rattle.wgsl_expressions.specs.AttributesView.{attributes_tree}
+use Rattle.wesl_conditions.specs.Chains.{marks}
 use Rattle.wesl_cond_attributes.specs.Kinds.{first_value}
 use Rattle.wesl_cond_attributes.proofs.kind.value_of.Given as goal
 

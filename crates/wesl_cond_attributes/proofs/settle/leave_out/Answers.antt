@@ -1,6 +1,6 @@
 use Rattle.std.proofs.Common.{rules, ap, ◌∙◌}
 use Rattle.std.proofs.lemmas.Fn.{filter_same}
-use Rattle.wgsl_attributes.specs.View.{attributes_tree}
+use Rattle.wgsl_expressions.specs.AttributesView.{attributes_tree}
 use Rattle.wesl_cond_attributes.proofs.Rewriting.{left_out}
 use Rattle.wesl_cond_attributes.proofs.settle.leave_out.Goals as goal
 

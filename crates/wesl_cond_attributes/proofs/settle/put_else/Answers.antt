@@ -1,8 +1,8 @@
 use Rattle.std.proofs.Common.{rules}
 use Rattle.std.specs.Prelude.{if◌then◌else◌}
-use Rattle.wgsl_attributes.specs.Tree.{otherwise}
-use Rattle.wgsl_attributes.specs.View.{attribute_tree}
-use Rattle.wesl_cond_spec.specs.Chains.{is_condition}
+use Rattle.wgsl_expressions.specs.AttributesTree.{otherwise}
+use Rattle.wgsl_expressions.specs.AttributesView.{attribute_tree}
+use Rattle.wesl_conditions.specs.Chains.{is_condition}
 use Rattle.wesl_cond_attributes.proofs.Rewriting.{turned}
 use Rattle.wesl_cond_attributes.proofs.settle.put_else.Goals as goal
 

@@ -1,5 +1,5 @@
 use Rattle.std.proofs.Common.{rules, ◌≡◌, refl}
-use Rattle.wgsl_attributes.specs.View.{attribute_tree}
+use Rattle.wgsl_expressions.specs.AttributesView.{attribute_tree}
 use Rattle.wesl_cond_attributes.specs.Kinds.{reopened}
 use Rattle.wesl_cond_attributes.proofs.Rewriting.{turned}
 use Rattle.wesl_cond_attributes.proofs.settle.reopen.Goals as goal

@@ -1,8 +1,8 @@
 use Rattle.std.proofs.Common.{◌≡◌, sym, ap, ◌∙◌}
 use Rattle.std.specs.Prelude.{if◌then◌else◌}
-use Rattle.wgsl_attributes.specs.View.{attributes_tree}
-use Rattle.wesl_cond_spec.specs.Chains.{marks}
-use Rattle.wesl_cond_spec.specs.Walks.{chain_at}
+use Rattle.wgsl_expressions.specs.AttributesView.{attributes_tree}
+use Rattle.wesl_conditions.specs.Chains.{marks}
+use Rattle.wesl_conditions.specs.Walks.{chain_at}
 use Rattle.wesl_cond_attributes.specs.declared.kind.Outlook.TheVariants.{Goes}
 use Rattle.wesl_cond_attributes.specs.Kinds.{chain_before, first_value, kind_outlook}
 use Rattle.wesl_cond_attributes.proofs.Facts.{chain_by, outlook_there, waits_left}

@@ -1,7 +1,7 @@
 use Rattle.std.proofs.Common.{rules, ◌≡◌, refl, ap, ◌∙◌, filter_map}
-use Rattle.wesl_cond_spec.specs.Walks.{settled}
-use Rattle.wesl_cond_spec.proofs.Walking.{settled_is_left}
-use Rattle.wesl_cond_spec.proofs.Turns.{settles}
+use Rattle.wesl_conditions.specs.Walks.{settled}
+use Rattle.wesl_conditions.proofs.Walking.{settled_is_left}
+use Rattle.wesl_conditions.proofs.Turns.{settles}
 use Rattle.wesl_cond_items.proofs.item.settle_list.Goals as goal
 
 pub returns : goal.returns

@@ -1,4 +1,4 @@
-use Rattle.wesl_conditions.proofs.Meaning.{meaning_stays}
+use Rattle.wesl_conditions.proofs.MeaningLemmas.{meaning_stays}
 use Rattle.wesl_conditions.proofs.laws.meaning_stays.Goals as goal
 
 pub returns : goal.returns

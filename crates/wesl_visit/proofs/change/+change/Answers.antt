@@ -1,12 +1,12 @@
 use Rattle.std.proofs.Common.{rules, of_calls, refl, ◌≡◌, ◌∙◌, ◌∷◌, [], Err, length-set}
 use Rattle.std.specs.Fn.{CalledAtMut}
-use Rattle.wesl_turns.specs.Turns.{remade_none, remade_refusal_inside}
+use Rattle.wesl_visit_children.specs.Turns.{remade_none, remade_refusal_inside}
 use Rattle.wesl_visit.specs.Statements.{in_else_if, in_clause, around_node, around_else_if, around_clause, inside_by, around_by}
 use Rattle.wesl_visit.proofs.Cases.{inner}
-use Rattle.wesl_turns.proofs.Lists.{singles, map_stays, later_same}
-use Rattle.wesl_turns.proofs.Deep.{changed_both, changed_refusal_first, changed_node}
+use Rattle.wesl_visit_children.proofs.Lists.{singles, map_stays, later_same}
+use Rattle.wesl_visit_children.proofs.Deep.{changed_both, changed_refusal_first, changed_node}
 use Rattle.wesl_visit.proofs.Turns.{nothing_inside}
-use Rattle.wesl_turns.proofs.DeepLoops.{changed_more, changed_refusal_at, changed_all}
+use Rattle.wesl_visit_children.proofs.DeepLoops.{changed_more, changed_refusal_at, changed_all}
 use Rattle.wesl_visit.proofs.change.+change.Goals as goal
 
 pub change_else-returns-in-None-clause-changed : goal.change_else-returns-in-None-clause-changed

@@ -5,7 +5,7 @@ use Rattle.wgsl_path.specs.declared.span.Spanned.{Spanned}
 use Rattle.wgsl_statements.specs.declared.statement.Statement.{Statement}
 use Rattle.wgsl_statements.specs.declared.statement.ElseIfClauseOf.{ElseIfClauseOf}
 use Rattle.wgsl_statements.specs.declared.statement.SwitchClauseOf.{SwitchClauseOf}
-use Rattle.wesl_turns.specs.Turns.{ChangedDeep}
+use Rattle.wesl_visit_children.specs.Turns.{ChangedDeep}
 use Rattle.wesl_visit.specs.Statements.{in_else_if, in_clause, around_node, around_else_if, around_clause, inside_by, around_by}
 use Rattle.wesl_visit.proofs.change.+change.Given as goal
 

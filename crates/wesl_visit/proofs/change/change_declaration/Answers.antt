@@ -1,4 +1,4 @@
-use Rattle.wesl_turns.specs.Turns.{remade_none}
+use Rattle.wesl_visit_children.specs.Turns.{remade_none}
 use Rattle.wesl_visit.proofs.change.change_declaration.Goals as goal
 
 pub returns-in-Void-clause-changed : goal.returns-in-Void-clause-changed

@@ -1,9 +1,9 @@
 use Rattle.std.proofs.Common.{rules, refl, ◌≡◌, ◌∙◌, Err, length-set}
 use Rattle.std.specs.Fn.{CalledAtMut}
-use Rattle.wesl_turns.specs.Turns.{remade_none}
+use Rattle.wesl_visit_children.specs.Turns.{remade_none}
 use Rattle.wesl_visit.specs.Statements.{in_declaration_node, around_declaration_node, inside_by, around_by}
-use Rattle.wesl_turns.proofs.Lists.{map_stays, later_same}
-use Rattle.wesl_turns.proofs.DeepLoops.{changed_more, changed_refusal_at}
+use Rattle.wesl_visit_children.proofs.Lists.{map_stays, later_same}
+use Rattle.wesl_visit_children.proofs.DeepLoops.{changed_more, changed_refusal_at}
 use Rattle.wesl_visit.proofs.change.change_declarations.Goals as goal
 
 pub loop-i-init : goal.loop-i-init

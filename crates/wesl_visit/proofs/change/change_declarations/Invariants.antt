@@ -3,7 +3,7 @@ use Rattle.std.specs.List.{flat_map}
 use Rattle.std.specs.Fn.{CalledAtMut}
 use Rattle.wgsl_path.specs.declared.span.Spanned.{Spanned}
 use Rattle.wgsl_declarations.specs.declared.declaration.GlobalDeclaration.{GlobalDeclaration}
-use Rattle.wesl_turns.specs.Turns.{ChangedDeep}
+use Rattle.wesl_visit_children.specs.Turns.{ChangedDeep}
 use Rattle.wesl_visit.specs.Statements.{in_declaration_node, around_declaration_node, inside_by, around_by}
 use Rattle.wesl_visit.proofs.change.change_declarations.Given as goal
 

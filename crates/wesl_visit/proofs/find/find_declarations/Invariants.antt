@@ -1,6 +1,6 @@
 use Rattle.std.proofs.Common.{◌≡◌, ◌++◌, drop}
 use Rattle.std.specs.List.{flat_map}
-use Rattle.wesl_turns.specs.Turns.{pointed}
+use Rattle.wesl_visit_children.specs.Turns.{pointed}
 use Rattle.wesl_visit.specs.Statements.{in_declaration_node}
 use Rattle.wesl_visit.proofs.find.find_declarations.Given as goal
 

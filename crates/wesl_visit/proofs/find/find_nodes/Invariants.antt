@@ -1,5 +1,5 @@
 use Rattle.std.proofs.Common.{◌≡◌, ◌++◌, drop}
-use Rattle.wesl_turns.specs.Turns.{pointed}
+use Rattle.wesl_visit_children.specs.Turns.{pointed}
 use Rattle.wesl_visit.proofs.find.find_nodes.Given as goal
 
 abbrev pub invariant-loop-node : goal.invariant-loop-node

@@ -1,11 +1,11 @@
 use Rattle.std.proofs.Common.{rules, refl, ◌≡◌, ◌∷◌, [], Err}
 use Rattle.std.specs.Fn.{CalledAt}
-use Rattle.wesl_turns.specs.Turns.{deep_none, deep_refusal}
+use Rattle.wesl_visit_children.specs.Turns.{deep_none, deep_refusal}
 use Rattle.wesl_visit.specs.Statements.{in_else_if, in_clause, statements_inside}
 use Rattle.wesl_visit.proofs.Cases.{inner}
-use Rattle.wesl_turns.proofs.Lists.{singles}
-use Rattle.wesl_turns.proofs.Deep.{met_both, met_refusal_first, met_node}
-use Rattle.wesl_turns.proofs.DeepLoops.{met_more, met_refusal_at, met_all}
+use Rattle.wesl_visit_children.proofs.Lists.{singles}
+use Rattle.wesl_visit_children.proofs.Deep.{met_both, met_refusal_first, met_node}
+use Rattle.wesl_visit_children.proofs.DeepLoops.{met_more, met_refusal_at, met_all}
 use Rattle.wesl_visit.proofs.meet.+meet.Goals as goal
 
 pub meet_else-returns-in-None-clause-met : goal.meet_else-returns-in-None-clause-met

@@ -1,7 +1,7 @@
 use Rattle.std.proofs.Common.{◌+◌, ◌*◌, ◌∷◌, [], take, Ok}
 use Rattle.std.specs.List.{flat_map}
 use Rattle.std.specs.Fn.{CalledAt}
-use Rattle.wesl_turns.specs.Turns.{CalledDeep}
+use Rattle.wesl_visit_children.specs.Turns.{CalledDeep}
 use Rattle.wesl_visit.specs.Statements.{in_else_if, in_clause, statements_inside}
 use Rattle.wesl_visit.proofs.meet.+meet.Given as goal
 

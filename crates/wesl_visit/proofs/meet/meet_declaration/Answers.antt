@@ -1,4 +1,4 @@
-use Rattle.wesl_turns.specs.Turns.{deep_none}
+use Rattle.wesl_visit_children.specs.Turns.{deep_none}
 use Rattle.wesl_visit.proofs.meet.meet_declaration.Goals as goal
 
 pub returns-in-Void-clause-met : goal.returns-in-Void-clause-met

@@ -1,8 +1,8 @@
 use Rattle.std.proofs.Common.{rules, ◌≡◌, Err}
 use Rattle.std.specs.Fn.{CalledAt}
-use Rattle.wesl_turns.specs.Turns.{deep_none}
+use Rattle.wesl_visit_children.specs.Turns.{deep_none}
 use Rattle.wesl_visit.specs.Statements.{in_declaration_node, statements_inside}
-use Rattle.wesl_turns.proofs.DeepLoops.{met_more, met_refusal_at}
+use Rattle.wesl_visit_children.proofs.DeepLoops.{met_more, met_refusal_at}
 use Rattle.wesl_visit.proofs.meet.meet_declarations.Goals as goal
 
 pub loop-declaration-init : goal.loop-declaration-init

@@ -1,7 +1,7 @@
 use Rattle.std.proofs.Common.{take, Ok}
 use Rattle.std.specs.List.{flat_map}
 use Rattle.std.specs.Fn.{CalledAt}
-use Rattle.wesl_turns.specs.Turns.{CalledDeep}
+use Rattle.wesl_visit_children.specs.Turns.{CalledDeep}
 use Rattle.wesl_visit.specs.Statements.{in_declaration_node, statements_inside}
 use Rattle.wesl_visit.proofs.meet.meet_declarations.Given as goal
 

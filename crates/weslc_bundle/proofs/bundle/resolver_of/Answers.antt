@@ -2,7 +2,7 @@
 use Rattle.std.proofs.Common.{◌≡◌, [], ◌∷◌, ◌∙◌, List, ap, sym, length, arith, refl}
 use Rattle.std.specs.Option.{option_or}
 use Rattle.std.specs.Vec.Iter.{into_iter_items}
-use Rattle.weslc_whole.specs.Stored.{text_at}
+use Rattle.weslc_compile.specs.Stored.{text_at}
 use Rattle.weslc_bundle.specs.declared.request.Module.{Module}
 use Rattle.weslc_bundle.proofs.Held.{last_in, held_more, only_one}
 use Rattle.weslc_bundle.proofs.bundle.resolver_of.Goals as goal

@@ -1,7 +1,7 @@
 use Rattle.std.proofs.Common.{◌≡◌, ℕ, List, length}
 use Rattle.std.specs.Option.{option_or}
 use Rattle.std.specs.Vec.Iter.{into_iter_items, into_iter_len}
-use Rattle.weslc_whole.specs.Stored.{text_at}
+use Rattle.weslc_compile.specs.Stored.{text_at}
 use Rattle.weslc_bundle.proofs.Held.{last_in}
 use Rattle.weslc_bundle.proofs.bundle.resolver_of.Given as goal
 

@@ -1,5 +1,5 @@
 use Rattle.std.proofs.Common.{◌≡◌, ℕ, List, drop}
-use Rattle.wesl_features.specs.Settings.{setting}
+use Rattle.wesl_conditions.specs.Settings.{setting}
 use Rattle.weslc_bundle.specs.Bundles.{set_to}
 use Rattle.weslc_bundle.proofs.features.set_features.Given as goal
 

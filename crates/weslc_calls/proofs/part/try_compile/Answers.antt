@@ -1,11 +1,11 @@
 -- What the proved chain tells is told of the modules once their conditions are decided.
 use Rattle.std.proofs.Common.{rules, IfOk, IfErr, string_bytes}
 use Rattle.wgsl_path.specs.Paths.{path_text}
-use Rattle.weslc_modules.specs.Found.{at_text, part_names}
-use Rattle.weslc_api.specs.Mapped.{HasNames}
-use Rattle.weslc_api.specs.Answers.{RefusesToCompile, IsMapped, IsCompiledText}
-use Rattle.wesl_reach.specs.Alone.{only, Alone}
-use Rattle.weslc_calls.specs.OfPart.{sources, texts_asked, IsOther}
+use Rattle.weslc_link.specs.Found.{at_text, part_names}
+use Rattle.core_calls.specs.Mapped.{HasNames}
+use Rattle.core_calls.specs.Answers.{RefusesToCompile, IsMapped, IsCompiledText}
+use Rattle.core_reach.specs.Alone.{only, Alone}
+use Rattle.weslc_calls.specs.OfCore.{sources, texts_asked, IsOther}
 use Rattle.weslc_calls.proofs.Trying.{asked_there, answered, beyond}
 use Rattle.weslc_calls.proofs.part.try_compile.Goals as goal
 

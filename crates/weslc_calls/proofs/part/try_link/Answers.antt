@@ -1,9 +1,9 @@
 -- What the proved chain tells is told of the modules once their conditions are decided.
 use Rattle.std.proofs.Common.{rules, IfOk, IfErr, string_bytes, inr}
 use Rattle.wgsl_path.specs.Paths.{path_text}
-use Rattle.weslc_modules.specs.Found.{at_text}
-use Rattle.weslc_api.specs.Answers.{RefusesToLink, IsMapped, IsLinkedText}
-use Rattle.weslc_calls.specs.OfPart.{sources}
+use Rattle.weslc_link.specs.Found.{at_text}
+use Rattle.core_calls.specs.Answers.{RefusesToLink, IsMapped, IsLinkedText}
+use Rattle.weslc_calls.specs.OfCore.{sources}
 use Rattle.weslc_calls.specs.Plain.{IsPlain}
 use Rattle.weslc_calls.proofs.Plain.{plain_answer}
 use Rattle.weslc_calls.proofs.part.try_link.Goals as goal

@@ -1,6 +1,6 @@
 use Rattle.std.proofs.Common.{ℕ, List, drop, Option}
 use Rattle.std.specs.Option.{option_copied}
-use Rattle.wgsl_derivable.specs.Found.{nodes}
+use Rattle.wgsl_read_back.specs.Found.{nodes}
 use Rattle.wgsl_check_unit.specs.Telling.{IsNamed}
 use Rattle.wgsl_check_unit.proofs.named.named.Given as goal
 

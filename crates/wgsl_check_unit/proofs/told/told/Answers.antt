@@ -2,8 +2,8 @@
 use Rattle.std.proofs.Common.{Decides, IfOk, subst}
 use Rattle.wgsl_declarations.specs.declared.declaration.GlobalDeclaration.{GlobalDeclaration}
 use Rattle.wgsl_declarations.specs.View.{declaration_tree}
-use Rattle.wgsl_derivable.specs.Alone.{at_most_one}
-use Rattle.wgsl_derivable.specs.Derivable.{IsDerivable}
+use Rattle.wgsl_read_back.specs.Alone.{at_most_one}
+use Rattle.wgsl_read_back.specs.Derivable.{IsDerivable}
 use Rattle.wgsl_check_unit.specs.Telling.{IsToldIn}
 use Rattle.wgsl_check_unit.proofs.Telling.{told_here, told_later, told_none, if_ok}
 use Rattle.wgsl_check_unit.proofs.told.told.Goals as goal

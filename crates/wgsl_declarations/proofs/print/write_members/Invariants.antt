@@ -1,7 +1,7 @@
 use Rattle.std.proofs.Common.{◌++◌, take}
 use Rattle.std.specs.List.{flat_map}
 use Rattle.std.specs.Fmt.{HasWritten, IsPlainFormatter}
-use Rattle.wgsl_imports.specs.ExpressionsPrint.{indent}
+use Rattle.wgsl_declarations.specs.ExpressionsPrint.{indent}
 use Rattle.wgsl_declarations.specs.View.{member_tree}
 use Rattle.wgsl_declarations.specs.Print.{member_text}
 use Rattle.wgsl_declarations.proofs.print.write_members.Given as goal

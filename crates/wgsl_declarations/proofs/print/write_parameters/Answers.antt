@@ -1,4 +1,4 @@
-use Rattle.wgsl_imports.proofs.Commas.{commas_map}
+use Rattle.wgsl_declarations.proofs.Commas.{commas_map}
 use Rattle.wgsl_declarations.specs.View.{parameter_tree}
 use Rattle.wgsl_declarations.specs.Print.{param_text}
 use Rattle.wgsl_declarations.proofs.print.write_parameters.Goals as goal

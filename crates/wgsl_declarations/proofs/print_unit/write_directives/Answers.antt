@@ -1,6 +1,6 @@
 use Rattle.std.proofs.lemmas.List.Folds.{flat_map-map}
-use Rattle.wgsl_imports.specs.View.{directive_tree}
-use Rattle.wgsl_imports.specs.Print.{directive_text}
+use Rattle.wgsl_declarations.specs.ImportsView.{directive_tree}
+use Rattle.wgsl_declarations.specs.ImportsPrint.{directive_text}
 use Rattle.wgsl_declarations.proofs.print_unit.write_directives.Goals as goal
 
 pub returns : goal.returns

@@ -1,8 +1,8 @@
 use Rattle.std.proofs.Common.{take}
 use Rattle.std.specs.List.{flat_map}
 use Rattle.std.specs.Fmt.{HasWritten, IsPlainFormatter}
-use Rattle.wgsl_imports.specs.View.{directive_tree}
-use Rattle.wgsl_imports.specs.Print.{directive_text}
+use Rattle.wgsl_declarations.specs.ImportsView.{directive_tree}
+use Rattle.wgsl_declarations.specs.ImportsPrint.{directive_text}
 use Rattle.wgsl_declarations.proofs.print_unit.write_each_directive.Given as goal
 
 abbrev pub invariant-loop-directive : goal.invariant-loop-directive

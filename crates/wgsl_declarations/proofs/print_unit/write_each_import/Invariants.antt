@@ -1,8 +1,8 @@
 use Rattle.std.proofs.Common.{take}
 use Rattle.std.specs.List.{flat_map}
 use Rattle.std.specs.Fmt.{HasWritten, IsPlainFormatter}
-use Rattle.wgsl_imports.specs.View.{importing_tree}
-use Rattle.wgsl_imports.specs.Print.{importing_text}
+use Rattle.wgsl_declarations.specs.ImportsView.{importing_tree}
+use Rattle.wgsl_declarations.specs.ImportsPrint.{importing_text}
 use Rattle.wgsl_declarations.proofs.print_unit.write_each_import.Given as goal
 
 abbrev pub invariant-loop-import : goal.invariant-loop-import

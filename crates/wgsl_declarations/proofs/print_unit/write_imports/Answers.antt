@@ -1,6 +1,6 @@
 use Rattle.std.proofs.lemmas.List.Folds.{flat_map-map}
-use Rattle.wgsl_imports.specs.View.{importing_tree}
-use Rattle.wgsl_imports.specs.Print.{importing_text}
+use Rattle.wgsl_declarations.specs.ImportsView.{importing_tree}
+use Rattle.wgsl_declarations.specs.ImportsPrint.{importing_text}
 use Rattle.wgsl_declarations.proofs.print_unit.write_imports.Goals as goal
 
 pub returns : goal.returns

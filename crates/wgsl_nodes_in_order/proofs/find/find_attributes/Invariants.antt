@@ -1,6 +1,6 @@
 use Rattle.std.proofs.Common.{◌≡◌, ◌++◌, drop}
 use Rattle.wgsl_nodes_in_order.specs.Found.{nodes}
-use Rattle.wgsl_attributes.specs.View.{attributes_tree}
+use Rattle.wgsl_expressions.specs.AttributesView.{attributes_tree}
 use Rattle.wgsl_nodes_in_order.specs.Nodes.{in_attrs}
 use Rattle.wgsl_nodes_in_order.proofs.find.find_attributes.Given as goal
 

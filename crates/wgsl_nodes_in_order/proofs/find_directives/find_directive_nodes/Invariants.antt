@@ -1,5 +1,5 @@
 use Rattle.std.proofs.Common.{◌≡◌, ◌++◌, drop, map}
-use Rattle.wgsl_imports.specs.View.{directive_tree}
+use Rattle.wgsl_declarations.specs.ImportsView.{directive_tree}
 use Rattle.wgsl_nodes_in_order.specs.Found.{nodes}
 use Rattle.wgsl_nodes_in_order.specs.Nodes.{in_directives}
 use Rattle.wgsl_nodes_in_order.proofs.find_directives.find_directive_nodes.Given as goal

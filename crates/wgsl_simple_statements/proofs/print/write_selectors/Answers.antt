@@ -1,4 +1,4 @@
-use Rattle.wgsl_attributes.proofs.Commas.{commas_map}
+use Rattle.wgsl_expressions.proofs.Commas.{commas_map}
 use Rattle.wgsl_simple_statements.specs.View.{selector_tree}
 use Rattle.wgsl_simple_statements.specs.Print.{selector_text}
 use Rattle.wgsl_simple_statements.proofs.print.write_selectors.Goals as goal

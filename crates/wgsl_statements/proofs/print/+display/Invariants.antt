@@ -1,8 +1,8 @@
 use Rattle.std.proofs.Common.{◌+◌, ◌*◌, ◌++◌, map, take, codes}
 use Rattle.std.specs.List.{flat_map}
 use Rattle.std.specs.Fmt.{HasWritten, IsPlainFormatter}
-use Rattle.wgsl_statement_pieces.specs.ExpressionsView.{node_tree}
-use Rattle.wgsl_statement_pieces.specs.ExpressionsPrint.{indent}
+use Rattle.wgsl_simple_statements.specs.ExpressionsView.{node_tree}
+use Rattle.wgsl_simple_statements.specs.ExpressionsPrint.{indent}
 use Rattle.wgsl_simple_statements.specs.View.{selector_tree}
 use Rattle.wgsl_simple_statements.specs.Print.{case_head}
 use Rattle.wgsl_statements.specs.View.{statement_tree, block_tree}

@@ -1,7 +1,7 @@
 use Rattle.std.proofs.Common.{arith, length, sym, ap}
 use Rattle.wgsl_lex.proofs.Sizes.{size_parts}
 use Rattle.wgsl_templates.proofs.Ascii.{front_bytes, back_bytes, behind_bytes}
-use Rattle.wgsl_templates.proofs.Reading.{lex_start, lex_trivia, lex_token, lex_all, stands_more}
+use Rattle.wgsl_templates.proofs.ReadingLemmas.{lex_start, lex_trivia, lex_token, lex_all, stands_more}
 use Rattle.wgsl_templates.proofs.Blanks.{lex_blank, lex_alone, lex_word, word_ends, found_word}
 use Rattle.wgsl_templates.proofs.lexer.lex_characters.Goals as goal
 

@@ -1,6 +1,6 @@
 use Rattle.std.proofs.Common.{◌≡◌, length, true}
 use Rattle.wgsl_lex.specs.Tokens.{size}
-use Rattle.wgsl_templates.proofs.Reading.{IsLexedTo}
+use Rattle.wgsl_templates.proofs.ReadingLemmas.{IsLexedTo}
 use Rattle.wgsl_templates.proofs.lexer.lex_characters.Given as goal
 
 abbrev pub decreases-loop-first : goal.decreases-loop-first

@@ -1,7 +1,7 @@
 use Rattle.std.proofs.Common.{arith, ap, length, ◌∙◌}
 use Rattle.std.proofs.lemmas.Str.{length-le-encodes}
 use Rattle.wgsl_lex.proofs.Bools.{is_number}
-use Rattle.wgsl_templates.proofs.Reading.{bounded, lexed}
+use Rattle.wgsl_templates.proofs.ReadingLemmas.{bounded, lexed}
 use Rattle.wgsl_templates.proofs.lexer.lex_counted.Goals as goal
 
 pub lex_characters-requires-clause-bounded : goal.lex_characters-requires-clause-bounded

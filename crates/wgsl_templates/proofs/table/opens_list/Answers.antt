@@ -1,5 +1,5 @@
 use Rattle.std.proofs.Common.{sym, subst, Bool}
-use Rattle.wgsl_template_spec.specs.Tokens.{Opens}
+use Rattle.wgsl_templates.specs.Tokens.{Opens}
 use Rattle.wgsl_templates.proofs.Levels.{opens_where}
 use Rattle.wgsl_templates.proofs.table.opens_list.Goals as goal
 

@@ -1,5 +1,5 @@
 use Rattle.std.proofs.Common.{ap, ◌∙◌}
-use Rattle.wgsl_operators.specs.declared.UnaryOperator.TheVariants.{Negation}
+use Rattle.wgsl_words.specs.declared.operators.UnaryOperator.TheVariants.{Negation}
 use Rattle.wgsl_expressions.specs.Tree.{unary}
 use Rattle.wgsl_expressions.specs.View.{node_tree}
 use Rattle.wgsl_expressions.proofs.Trees.{tree_of_unary, tree_of_literal}

@@ -1,10 +1,10 @@
 use Rattle.std.proofs.Common.{rules, ◌≡◌, sym, ap, ◌∙◌, subst, ◌∷◌, drop, ◌+◌, ◌⊎◌, Some, drop_of_length-le}
 use Rattle.std.proofs.lemmas.List.{drop_more}
 use Rattle.wgsl_statements.specs.View.{statements_tree}
-use Rattle.wesl_features.specs.declared.error.CondCompError.TheVariants.{OutOfMemory}
+use Rattle.wesl_conditions.specs.declared.features.error.CondCompError.TheVariants.{OutOfMemory}
 use Rattle.wesl_conditions.specs.Told.{TellsFault}
-use Rattle.wesl_cond_spec.specs.Seen.{list_fault}
-use Rattle.wesl_cond_spec.specs.Faults.{seen_statements}
+use Rattle.wesl_conditions.specs.Seen.{list_fault}
+use Rattle.wesl_conditions.specs.Faults.{seen_statements}
 use Rattle.wesl_cond.proofs.Passing.{refused_block, ended_block}
 use Rattle.wesl_cond.proofs.statements.check.+check.Goals as goal
 

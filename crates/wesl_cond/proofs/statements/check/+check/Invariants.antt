@@ -1,8 +1,8 @@
 use Rattle.std.proofs.Common.{◌≡◌, ◌+◌, ◌*◌, drop, map, filter_map}
 use Rattle.wgsl_statements.specs.View.{statement_tree, block_tree, clauses_layer}
-use Rattle.wesl_cond_spec.specs.Seen.{list_fault}
-use Rattle.wesl_cond_spec.specs.Walks.{checked}
-use Rattle.wesl_cond_spec.specs.Faults.{block_fault, clauses_fault}
+use Rattle.wesl_conditions.specs.Seen.{list_fault}
+use Rattle.wesl_conditions.specs.Walks.{checked}
+use Rattle.wesl_conditions.specs.Faults.{block_fault, clauses_fault}
 use Rattle.wesl_cond.specs.Passing.{see_node, first_of}
 use Rattle.wesl_cond.proofs.statements.check.+check.Given as goal
 

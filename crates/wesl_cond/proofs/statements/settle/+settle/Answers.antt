@@ -1,7 +1,7 @@
 use Rattle.std.proofs.Common.{rules, ◌∙◌, length-set}
 use Rattle.std.specs.Option.{option_map}
 use Rattle.wgsl_expressions.specs.View.{node_tree}
-use Rattle.wgsl_attributes.specs.View.{attributes_tree}
+use Rattle.wgsl_expressions.specs.AttributesView.{attributes_tree}
 use Rattle.wgsl_statements.specs.View.{statement_tree, block_tree}
 use Rattle.wesl_cond.specs.Leaving.{statement_left, else_if_pair, switch_pair, pair_left}
 use Rattle.wesl_cond.proofs.Changing.{changed_more, later_same}

@@ -5,7 +5,7 @@ use Rattle.std.specs.Str.{bytes_eq}
 use Rattle.std.specs.HashMap.{get_by_text}
 use Rattle.std.specs.declared.string.String.{String}
 use Rattle.std.specs.declared.alloc.Global.{Global}
-use Rattle.wgsl_items.proofs.Members.{same_bytes as same_text}
+use Rattle.wgsl_base.proofs.Members.{same_bytes as same_text}
 use Rattle.wgsl_path.specs.Paths.{path_text}
 use Rattle.weslc_workspace.proofs.Maps.{ChangesAt, found, dropped, none_set, not_parsed, told_when_set}
 use Rattle.weslc_workspace.proofs.Places.{absent, passes, stands, some_found}

@@ -1,5 +1,5 @@
 use Rattle.std.proofs.Common.{◌∙◌, subst, Result}
-use Rattle.wgsl_error.specs.declared.error.Error.{Error}
+use Rattle.wgsl_token.specs.declared.fault.error.Error.{Error}
 use Rattle.wgsl_declarations.specs.declared.unit.TranslationUnit.{TranslationUnit}
 use Rattle.weslc_workspace.specs.Outcome.{IsToldOf}
 use Rattle.weslc_workspace.proofs.Copied.{copied, refused}

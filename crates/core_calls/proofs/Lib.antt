@@ -1,0 +1,1 @@
+pub use Rattle.weslc_errors.proofs.Alone

@@ -1,0 +1,10 @@
+pub use Rattle.weslc_errors.specs.Stored
+pub use Rattle.weslc_errors.specs.Answers
+pub use Rattle.weslc_errors.specs.declared.resolver.VirtualResolver
+pub use Rattle.weslc_errors.specs.declared.options.Options
+pub use Rattle.weslc_errors.specs.declared.error.CompileError
+pub use Rattle.weslc_errors.specs.Mapped
+pub use Rattle.weslc_errors.specs.declared.error.ErrorContext
+pub use Rattle.core_compiled.specs.Derivable
+pub use Rattle.weslc_errors.specs.declared.options.Mode
+pub use Rattle.weslc_errors.specs.Declared

@@ -1,0 +1,1 @@
+pub use Rattle.core_unit.specs.Derivable

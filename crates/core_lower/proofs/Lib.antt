@@ -1,0 +1,14 @@
+pub mod Pushed
+pub mod Steps
+pub mod Units
+pub mod Runs
+pub mod Located
+pub mod Once
+pub mod Computes
+pub mod Worlds
+pub mod Differs
+pub mod Meets
+pub mod Starts
+pub mod Tables
+pub mod Same
+pub mod Whole

@@ -1,0 +1,10 @@
+pub mod Parts
+pub mod Reduces
+pub use Rattle.core_programs.proofs.Bodies
+pub use Rattle.core_programs.proofs.Scalars
+pub use Rattle.core_programs.proofs.Simulates
+pub use Rattle.core_programs.proofs.Itself
+pub use Rattle.core_programs.proofs.Agreeing
+pub use Rattle.core_programs.proofs.Converting
+pub use Rattle.core_programs.proofs.Cells
+pub use Rattle.core_programs.proofs.Known

@@ -1,0 +1,15 @@
+pub mod Cleared
+pub mod Lowered
+pub mod Computed
+pub mod Reduced
+pub use Rattle.core_programs.specs.Runs
+pub use Rattle.core_programs.specs.Names
+pub use Rattle.core_programs.specs.Programs
+pub use Rattle.core_programs.specs.Operators
+pub use Rattle.core_programs.specs.Computing
+pub use Rattle.core_programs.specs.Operations
+pub use Rattle.core_programs.specs.Meaning
+pub use Rattle.core_programs.specs.Follows
+pub use Rattle.core_programs.specs.Built
+pub use Rattle.core_programs.specs.Faults
+pub use Rattle.core_programs.specs.Calls

@@ -1,0 +1,16 @@
+pub mod Faults
+pub mod Computing
+pub mod Names
+pub mod Operations
+pub mod Meaning
+pub mod Calls
+pub mod Programs
+pub mod Runs
+pub mod Follows
+pub mod Typing
+pub mod Laws
+pub use Rattle.wgsl_instance.specs.declared.tree.Instance
+pub use Rattle.core_computations.specs.Machine
+pub use Rattle.core_order.specs.Units
+pub use Rattle.wgsl_instance_operators.specs.Operators
+pub use Rattle.wgsl_instance_operators.specs.Built

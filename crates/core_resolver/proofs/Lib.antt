@@ -1,0 +1,3 @@
+mod Reading
+mod Telling
+pub use Rattle.wesl_load.proofs.Asking

@@ -1,0 +1,187 @@
+//! The words of a command line, read.
+
+use crate::checks::{check_flags, check_packages};
+use crate::options::wesl_command;
+use crate::request::{Flag, Format, Package, Request, Verb};
+use clap::{ArgMatches, Error};
+use std::alloc::{AllocError, AllocFailed, Global};
+
+/// Why the words of a command line ask for nothing, with the text that is shown.
+#[derive(Drop)]
+pub enum Unread {
+    /// They ask for help or for the version.
+    Help(String),
+    /// A word is wrong or missing.
+    Wrong(String),
+    OutOfMemory,
+}
+
+impl From<AllocError> for Unread {
+    fn from(_: AllocError) -> Unread {
+        Unread::OutOfMemory
+    }
+}
+
+impl<T: Drop> From<AllocFailed<T>> for Unread {
+    fn from(_: AllocFailed<T>) -> Unread {
+        Unread::OutOfMemory
+    }
+}
+
+/// What the words of a command line ask for, of which the first is the program's name.
+pub fn read_words<'a>(alloc: Global, words: &'a [String]) -> Result<Request<'a>, Unread> {
+    let command = wesl_command(alloc)?;
+    match command.try_get_matches_from(words) {
+        Ok(matches) => request_of(alloc, &matches),
+        Err(error) => Err(refusal_of(alloc, &error)),
+    }
+}
+
+fn refusal_of(alloc: Global, error: &Error) -> Unread {
+    match (error.to_string(alloc), error.use_stderr()) {
+        (Ok(text), true) => Unread::Wrong(text),
+        (Ok(text), false) => Unread::Help(text),
+        (Err(AllocError), _) => Unread::OutOfMemory,
+    }
+}
+
+fn verb_of(name: &str) -> Option<Verb> {
+    match name {
+        "link" => Some(Verb::Link),
+        "precompile" => Some(Verb::Precompile),
+        "compile" => Some(Verb::Compile),
+        "check" => Some(Verb::Check),
+        "run" => Some(Verb::Run),
+        "eval" => Some(Verb::Eval),
+        _ => None,
+    }
+}
+
+fn format_of(name: Option<&str>) -> Format {
+    match name {
+        Some("line") => Format::Line,
+        Some("json") => Format::Json,
+        _ => Format::Text,
+    }
+}
+
+/// How errors are told, as far as words that are perhaps wrong say it.
+pub fn format_in(words: &[String]) -> Format {
+    let mut format = Format::Text;
+    let mut is_next = false;
+    for word in words {
+        let word = word.as_str();
+        if is_next {
+            format = format_of(Some(word));
+        } else if let Some(name) = word.strip_prefix("--error-format=") {
+            format = format_of(Some(name));
+        }
+        is_next = word == "--error-format";
+    }
+    format
+}
+
+/// The packages, each written `NAME=FOLDER`.
+fn packages_of<'a>(alloc: Global, matches: &ArgMatches<'a>) -> Result<Vec<Package<'a>>, Unread> {
+    let mut packages = Vec::new(alloc);
+    for word in list_of(alloc, matches, "package")?.as_slice() {
+        let Some((name, folder)) = word.split_once('=') else {
+            let why = "error: a package is written NAME=FOLDER\n";
+            return Err(Unread::Wrong(String::from_str(alloc, why)?));
+        };
+        packages.push(Package { name, folder })?;
+    }
+    Ok(packages)
+}
+
+/// The values of an option that may stand several times.
+fn list_of<'a>(
+    alloc: Global,
+    matches: &ArgMatches<'a>,
+    name: &str,
+) -> Result<Vec<&'a str>, AllocError> {
+    let mut list = Vec::new(alloc);
+    if let Some(words) = matches.get_strs(name) {
+        for word in words {
+            list.push(*word)?;
+        }
+    }
+    Ok(list)
+}
+
+/// The flags: those that are on, those that are off, and those that are set to something.
+fn flags_of<'a>(alloc: Global, matches: &ArgMatches<'a>) -> Result<Vec<Flag<'a>>, AllocError> {
+    let mut flags = Vec::new(alloc);
+    push_flags(&mut flags, matches, "enable", "enable")?;
+    push_flags(&mut flags, matches, "disable", "disable")?;
+    push_settings(&mut flags, matches)?;
+    Ok(flags)
+}
+
+/// Adds the flags that an option names, each set so.
+fn push_flags<'a>(
+    flags: &mut Vec<Flag<'a>>,
+    matches: &ArgMatches<'a>,
+    option: &str,
+    setting: &'a str,
+) -> Result<(), AllocError> {
+    let Some(words) = matches.get_strs(option) else {
+        return Ok(());
+    };
+    for word in words {
+        let name = *word;
+        flags.push(Flag { name, setting })?;
+    }
+    Ok(())
+}
+
+/// Adds the flags that are written `FLAG=SETTING`. One without a setting has an empty one.
+fn push_settings<'a>(
+    flags: &mut Vec<Flag<'a>>,
+    matches: &ArgMatches<'a>,
+) -> Result<(), AllocError> {
+    let Some(words) = matches.get_strs("feature") else {
+        return Ok(());
+    };
+    for word in words {
+        let (name, setting) = word.split_once('=').unwrap_or((*word, ""));
+        flags.push(Flag { name, setting })?;
+    }
+    Ok(())
+}
+
+/// What was asked for, of words that `wesl_command` has parsed. That refuses words which name no command or no file.
+fn request_of<'a>(alloc: Global, matches: &ArgMatches<'a>) -> Result<Request<'a>, Unread> {
+    let Some((name, matches)) = matches.subcommand() else {
+        return Err(Unread::Wrong(String::new(alloc)));
+    };
+    let (Some(verb), Some(file)) = (verb_of(name), matches.get_str("file")) else {
+        return Err(Unread::Wrong(String::new(alloc)));
+    };
+    let packages = packages_of(alloc, matches)?;
+    check_packages(alloc, packages.as_slice())?;
+    let flags = flags_of(alloc, matches)?;
+    check_flags(alloc, flags.as_slice())?;
+    let keep = list_of(alloc, matches, "keep")?;
+    Ok(Request {
+        verb,
+        file,
+        root: matches.get_str("root"),
+        packages,
+        follows_links: matches.get_flag("follow-links"),
+        keep,
+        flags,
+        default_feature: matches.get_str("default-feature"),
+        mode: matches.get_str("mode"),
+        max_modules: matches.get_one::<u32>("max-modules"),
+        max_steps: matches.get_one::<u64>("max-steps"),
+        output: matches.get_str("output"),
+        map: matches.get_str("map"),
+        entry: matches.get_str("entry"),
+        bindings: matches.get_str("bindings"),
+        inputs: matches.get_str("inputs"),
+        overrides: matches.get_str("overrides"),
+        expression: matches.get_str("expression"),
+        format: format_of(matches.get_str("error-format")),
+    })
+}

@@ -1,9 +1,0 @@
-//! What the names of loaded modules denote.
-#![tactic(auto)]
-
-mod denote;
-mod ends;
-
-pub use denote::{Denoted, Link, Start, Step, Via, denotation, found_at, start_of};
-pub use ends::Ends;
-pub use wesl_tables::{ImportError, Module, Modules, Spot, Target, kept_missing};

@@ -1,0 +1,181 @@
+//! An error as it is shown.
+
+use crate::diagnostics::error_line::ErrorLine;
+use crate::diagnostics::json::push_json;
+use crate::diagnostics::place::{SourceFile, find_place};
+use crate::diagnostics::sentence::{Beside, advice_of, push_sentence, sentence_of};
+use crate::diagnostics::shown::shown_lines;
+use std::alloc::{AllocError, Global};
+use wgsl_parse::Snippet;
+use wgsl_path::Span;
+
+/// An error of a command with the modules that were read, the root first, and why a file was not read, where that is known.
+#[derive(Clone, Copy)]
+pub struct Report<'a> {
+    pub line: ErrorLine<'a>,
+    /// The word of the command line.
+    pub command: &'a str,
+    /// What is wrong, where that is more than the kind says.
+    pub message: Option<&'a str>,
+    pub sources: &'a [SourceFile<'a>],
+    pub reason: Option<&'a str>,
+}
+
+/// A place as it is shown: its line and column, both counted from 1, as digits, and the line with marks below it.
+#[derive(Clone, Copy)]
+struct Shown<'a> {
+    line: &'a str,
+    column: &'a str,
+    lines: &'a str,
+}
+
+/// Takes what a snippet is written as apart.
+fn read_snippet(written: &str) -> Option<Shown<'_>> {
+    let (place, lines) = written.strip_prefix("line ")?.split_once('\n')?;
+    let (line, column) = place.split_once(", column ")?;
+    Some(Shown {
+        line,
+        column,
+        lines,
+    })
+}
+
+fn snippet_text(alloc: Global, text: &str, span: Span) -> Result<String, AllocError> {
+    Snippet { text, span }.to_string(alloc)
+}
+
+/// The file of the module that an error names.
+fn file_of<'a>(report: &Report<'a>) -> Option<&'a str> {
+    let Some(path) = report.line.module else {
+        return report.sources.first().map(|source| source.file);
+    };
+    for source in report.sources {
+        if source.path == path {
+            return Some(source.file);
+        }
+    }
+    None
+}
+
+/// What a sentence names beside the error.
+fn named<'a>(report: &Report<'a>, file: &'a str) -> Beside<'a> {
+    Beside {
+        file,
+        command: report.command,
+    }
+}
+
+/// Adds what is wrong.
+fn push_message(out: &mut String, report: &Report<'_>) -> Result<(), AllocError> {
+    if let Some(message) = report.message {
+        return out.push_str(message);
+    }
+    let sentence = sentence_of(&report.line);
+    push_sentence(out, sentence, &report.line, named(report, ""))
+}
+
+fn push_help(out: &mut String, report: &Report<'_>) -> Result<(), AllocError> {
+    if let Some(reason) = report.reason {
+        out.push_str("help: ")?;
+        out.push_str(reason)?;
+        return out.push('\n');
+    }
+    let Some(advice) = advice_of(report.line.kind) else {
+        return Ok(());
+    };
+    out.push_str("help: ")?;
+    let file = match file_of(report) {
+        Some(file) => file,
+        None => "the module",
+    };
+    push_sentence(out, advice, &report.line, named(report, file))?;
+    out.push('\n')
+}
+
+fn push_place(out: &mut String, file: &str, written: &str) -> Result<(), AllocError> {
+    let Some(shown) = read_snippet(written) else {
+        return Ok(());
+    };
+    out.push_str(" --> ")?;
+    out.push_str(file)?;
+    out.push(':')?;
+    out.push_str(shown.line)?;
+    out.push(':')?;
+    out.push_str(shown.column)?;
+    out.push('\n')?;
+    let (line, marks) = shown.lines.split_once('\n').unwrap_or((shown.lines, ""));
+    let lines = shown_lines(*out.allocator(), line, marks)?;
+    out.push_str(lines.as_str())?;
+    out.push('\n')
+}
+
+/// An error for people: a sentence with its kind, the place with its line and marks below it, and what to change.
+pub fn report_text(alloc: Global, report: &Report<'_>) -> Result<String, AllocError> {
+    let mut out = String::from_str(alloc, "error: ")?;
+    push_message(&mut out, report)?;
+    out.push_str(" (")?;
+    out.push_str(report.line.kind)?;
+    out.push_str(")\n")?;
+    match find_place(alloc, &report.line, report.sources)? {
+        Some((source, span)) => {
+            let written = snippet_text(alloc, source.text, span)?;
+            push_place(&mut out, source.file, written.as_str())?;
+        }
+        None => push_file(&mut out, report)?,
+    }
+    push_help(&mut out, report)?;
+    Ok(out)
+}
+
+/// Where there is no place: the file alone.
+fn push_file(out: &mut String, report: &Report<'_>) -> Result<(), AllocError> {
+    let Some(file) = file_of(report) else {
+        return Ok(());
+    };
+    out.push_str(" --> ")?;
+    out.push_str(file)?;
+    out.push('\n')
+}
+
+fn push_member(out: &mut String, key: &str, value: Option<&str>) -> Result<(), AllocError> {
+    out.push_str(",\"")?;
+    out.push_str(key)?;
+    out.push_str("\":")?;
+    match value {
+        Some(text) => push_json(out, text),
+        None => out.push_str("null"),
+    }
+}
+
+fn push_place_json(out: &mut String, file: &str, written: &str) -> Result<(), AllocError> {
+    push_member(out, "file", Some(file))?;
+    let Some(shown) = read_snippet(written) else {
+        return Ok(());
+    };
+    out.push_str(",\"line\":")?;
+    out.push_str(shown.line)?;
+    out.push_str(",\"column\":")?;
+    out.push_str(shown.column)
+}
+
+/// The same as one JSON object, and a line break.
+pub fn report_json(alloc: Global, report: &Report<'_>) -> Result<String, AllocError> {
+    let mut out = String::from_str(alloc, "{\"kind\":")?;
+    push_json(&mut out, report.line.kind)?;
+    push_member(&mut out, "module", report.line.module)?;
+    push_member(&mut out, "declaration", report.line.declaration)?;
+    push_member(&mut out, "subject", report.line.subject)?;
+    let mut message = String::new(alloc);
+    push_message(&mut message, report)?;
+    push_member(&mut out, "message", Some(message.as_str()))?;
+    match find_place(alloc, &report.line, report.sources)? {
+        Some((source, span)) => {
+            let written = snippet_text(alloc, source.text, span)?;
+            push_place_json(&mut out, source.file, written.as_str())?;
+        }
+        None => push_member(&mut out, "file", file_of(report))?,
+    }
+    push_member(&mut out, "reason", report.reason)?;
+    out.push_str("}\n")?;
+    Ok(out)
+}

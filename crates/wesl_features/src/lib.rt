@@ -1,8 +1,0 @@
-//! Feature flags of conditions (WESL, "Conditional Translation"), and the errors of conditions.
-#![tactic(auto)]
-
-mod error;
-mod feature;
-
-pub use error::CondCompError;
-pub use feature::{Feature, Features};

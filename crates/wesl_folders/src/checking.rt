@@ -1,0 +1,8 @@
+//! The call `check`: modules are linked, and their names are checked. No text is written.
+
+mod linked;
+mod names;
+
+pub use linked::check;
+pub use names::{CheckRefusal, NameRefusal};
+pub use wesl_check_names::{NameFault, NameProblem};

@@ -1,0 +1,87 @@
+//! The first fault of the names of a linked unit.
+
+use std::alloc::{AllocError, Global};
+use wesl_check_names::{NameFault, NameProblem, check_names};
+use weslc_calls::{
+    BasicSourceMap, CompileError, ErrorContext, LinkedModules, SourceMap, declaration_map,
+};
+use wgsl_base::{CloneIn, Text};
+
+/// What a check finds.
+#[derive(Drop)]
+pub enum CheckRefusal {
+    /// The modules are not linked, or no text stands for them.
+    Compile(CompileError),
+    Name(NameRefusal),
+}
+
+/// A fault of a name, and the module and the declaration that hold it. Names are those of modules, but for a declaration that needs itself.
+#[derive(Drop)]
+pub struct NameRefusal {
+    pub context: ErrorContext,
+    pub fault: NameFault,
+}
+
+impl From<AllocError> for CheckRefusal {
+    fn from(_: AllocError) -> CheckRefusal {
+        CheckRefusal::Compile(CompileError::OutOfMemory)
+    }
+}
+
+impl From<CompileError> for CheckRefusal {
+    fn from(error: CompileError) -> CheckRefusal {
+        CheckRefusal::Compile(error)
+    }
+}
+
+/// The module and the declaration at a place of the linked unit.
+fn context_of(
+    alloc: Global,
+    linked: &LinkedModules,
+    place: usize,
+) -> Result<ErrorContext, AllocError> {
+    let mut context = ErrorContext::of_maybe(None);
+    let Some(spot) = linked.origins.get(place) else {
+        return Ok(context);
+    };
+    let Some(module) = linked.modules.get(spot.module) else {
+        return Ok(context);
+    };
+    context.module = Some(module.target.path.clone_in(alloc)?);
+    if let Some(name) = module.name_at(spot.place) {
+        context.decl = Some(Text::from_str(alloc, name)?);
+    }
+    Ok(context)
+}
+
+/// A printed name as its module has it.
+fn source_name(alloc: Global, map: &BasicSourceMap, name: &Text) -> Result<Text, AllocError> {
+    match map.get_decl(name.as_str()) {
+        Some((_, name)) => Text::from_str(alloc, name),
+        None => name.clone_in(alloc),
+    }
+}
+
+/// The first fault of the names of a linked unit, if there is one.
+fn first_fault(alloc: Global, linked: &LinkedModules) -> Result<Option<NameFault>, AllocError> {
+    let faults = check_names(alloc, linked.unit.get())?;
+    Ok(faults.into_iter().next())
+}
+
+/// The first fault of the names of a linked unit, with the module and the declaration that hold it, if there is one.
+pub(crate) fn name_refusal(
+    alloc: Global,
+    linked: &LinkedModules,
+) -> Result<Option<NameRefusal>, AllocError> {
+    let Some(fault) = first_fault(alloc, linked)? else {
+        return Ok(None);
+    };
+    let mut fault = fault;
+    let context = context_of(alloc, linked, fault.place)?;
+    if fault.problem != NameProblem::Cycle {
+        let map = declaration_map(alloc, linked)?;
+        fault.name = source_name(alloc, &map, &fault.name)?;
+        fault.owner = source_name(alloc, &map, &fault.owner)?;
+    }
+    Ok(Some(NameRefusal { context, fault }))
+}

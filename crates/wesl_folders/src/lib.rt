@@ -1,0 +1,10 @@
+//! Modules in folders, read as loading asks for them, and the call `check` over them.
+#![tactic(auto)]
+
+mod checking;
+mod files;
+mod gathering;
+
+pub use checking::{CheckRefusal, NameFault, NameProblem, NameRefusal, check};
+pub use files::{FileProblem, Folders, MAX_FILE_LEN, ReadProblem, Root, Source, read_text};
+pub use gathering::{ModuleFile, Sources, Wanted, gather};

@@ -1,7 +1,0 @@
-use Rattle.std.proofs.Common.{◌≡◌, take}
-use Rattle.wesl_link.specs.Clashing.{sharing_at, sharing_in}
-use Rattle.wesl_rename.specs.Scopes.{texts}
-use Rattle.wesl_link.proofs.clash.sharing_of.Given as goal
-
-abbrev pub invariant-loop-name : goal.invariant-loop-name
-invariant-loop-name l = sharing_at l.sharing ≡ sharing_in (texts (take l.name-index l.names))

@@ -1,0 +1,3 @@
+pub mod Steps
+pub mod Skeletons
+pub mod Spots

@@ -1,0 +1,9 @@
+use Rattle.std.proofs.Common.{◌≡◌, ◌++◌, drop, map}
+use Rattle.std.specs.List.{flat_map}
+use Rattle.wesl_mark.specs.Lists.{flats, OnlyGrows}
+use Rattle.wgsl_declarations.specs.View.{parameter_tree}
+use Rattle.wesl_marks.specs.Laid.{in_param}
+use Rattle.wesl_marks.proofs.declarations.mark_parameters.Given as goal
+
+abbrev pub invariant-loop-x : goal.invariant-loop-x
+invariant-loop-x l = (flats l.list ++ flat_map in_param (map parameter_tree (drop l.x-index l.parameters)) ≡ flats l.initial.list ++ flat_map in_param (map parameter_tree l.parameters)) × OnlyGrows l.initial.list l.list

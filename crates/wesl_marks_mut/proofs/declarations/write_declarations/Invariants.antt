@@ -1,5 +1,0 @@
-use Rattle.std.proofs.Common.{◌≡◌, length}
-use Rattle.wesl_marks_mut.proofs.declarations.write_declarations.Given as goal
-
-abbrev pub invariant-loop-i : goal.invariant-loop-i
-invariant-loop-i l = length l.nodes ≡ length l.initial.nodes

@@ -1,0 +1,10 @@
+pub mod Lasts
+pub mod Putting
+pub mod Walks
+pub mod Written
+pub mod WrittenAttributes
+pub mod WrittenStatements
+pub mod WrittenUnits
+pub mod Spots
+pub mod Scripts
+pub mod Keeping

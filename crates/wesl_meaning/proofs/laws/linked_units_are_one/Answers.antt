@@ -1,5 +1,0 @@
-use Rattle.wesl_meaning.proofs.Unique.{linked_units_are_one}
-use Rattle.wesl_meaning.proofs.laws.linked_units_are_one.Goals as goal
-
-pub returns : goal.returns
-returns c = linked_units_are_one

@@ -1,5 +1,0 @@
-use Rattle.wesl_meaning.proofs.Agreement.{listed_modules_are_alike}
-use Rattle.wesl_meaning.proofs.laws.listed_modules_are_alike.Goals as goal
-
-pub returns : goal.returns
-returns g c resolver = listed_modules_are_alike (g.R.Resolver.answers resolver)

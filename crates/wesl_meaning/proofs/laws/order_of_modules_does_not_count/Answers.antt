@@ -1,5 +1,0 @@
-use Rattle.wesl_meaning.proofs.Same.{order_of_modules_does_not_count}
-use Rattle.wesl_meaning.proofs.laws.order_of_modules_does_not_count.Goals as goal
-
-pub returns : goal.returns
-returns c = order_of_modules_does_not_count

@@ -1,5 +1,0 @@
-use Rattle.wesl_meaning.proofs.Example.{premises_are_met}
-use Rattle.wesl_meaning.proofs.laws.premises_are_met.Goals as goal
-
-pub returns : goal.returns
-returns c = premises_are_met

@@ -1,5 +1,0 @@
-use Rattle.wesl_meaning.proofs.Loading.{what_is_loaded}
-use Rattle.wesl_meaning.proofs.laws.what_is_loaded.Goals as goal
-
-pub returns : goal.returns
-returns c start resolver = what_is_loaded _

@@ -1,0 +1,6 @@
+pub mod Tables
+pub mod Counts
+pub mod Loaded
+pub mod Uses
+pub mod Naming
+pub mod Making

@@ -1,7 +1,0 @@
-use Rattle.std.proofs.Common.{◌≡◌, drop, map}
-use Rattle.wgsl_declarations.specs.View.{parameter_tree}
-use Rattle.wesl_open_conditions.specs.Open.{parameters_open}
-use Rattle.wesl_open_conditions.proofs.unit.in_parameters.Given as goal
-
-abbrev pub invariant-loop-parameter : goal.invariant-loop-parameter
-invariant-loop-parameter l = parameters_open (map parameter_tree (drop l.parameter-index l.parameter-items)) ≡ parameters_open (map parameter_tree l.parameter-items)

@@ -1,5 +1,0 @@
-use Rattle.wesl_order.specs.Checks.{AreUsers}
-use Rattle.wesl_order.proofs.check.mark_all.Given as goal
-
-abbrev pub invariant-loop-position : goal.invariant-loop-position
-invariant-loop-position l = AreUsers l.rows l.proposal.order.items l.users

@@ -1,5 +1,0 @@
-use Rattle.wesl_order.specs.Progressing.{Settles}
-use Rattle.wesl_order.proofs.start.settle.Given as goal
-
-abbrev pub invariant-loop-position : goal.invariant-loop-position
-invariant-loop-position l = Settles l.marks l.initial.settled l.settled

@@ -1,9 +1,0 @@
-use Rattle.std.proofs.Common.{take, Ok}
-use Rattle.std.specs.List.{flat_map}
-use Rattle.wesl_turns.specs.Turns.{CalledInTurn}
-use Rattle.wesl_parts.specs.Parts.{in_expression}
-use Rattle.wesl_parts.proofs.meet.meet_arguments.Given as goal
-
-abbrev pub invariant-loop-argument : goal.invariant-loop-argument
-invariant-loop-argument g l =
-    g.W.ReadParts.ready l.w × CalledInTurn g.W.ReadParts.at l.initial.w (flat_map in_expression (take l.argument-index l.arguments)) (Ok tt) l.w

@@ -1,6 +1,0 @@
-use Rattle.wesl_turns.proofs.Turns.{met_single}
-use Rattle.wesl_parts.specs.Parts.{an_attribute}
-use Rattle.wesl_parts.proofs.meet.meet_attribute.Goals as goal
-
-pub returns-clause-met : goal.returns-clause-met
-returns-clause-met g c = met_single g.W.ReadParts.at c.args.w.now c.attribute.new.self (an_attribute c.args.attribute.now) c.attribute.result c.attribute.ensures.done

@@ -1,6 +1,0 @@
-use Rattle.wesl_turns.proofs.Turns.{met_single}
-use Rattle.wesl_parts.specs.Parts.{an_expression}
-use Rattle.wesl_parts.proofs.meet.meet_expression.Goals as goal
-
-pub returns-clause-met : goal.returns-clause-met
-returns-clause-met g c = met_single g.W.ReadParts.at c.args.w.now c.expression.new.self (an_expression c.args.expression.now) c.expression.result c.expression.ensures.done

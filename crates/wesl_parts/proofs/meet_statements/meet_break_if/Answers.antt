@@ -1,5 +1,0 @@
-use Rattle.wesl_turns.specs.Turns.{called_none}
-use Rattle.wesl_parts.proofs.meet_statements.meet_break_if.Goals as goal
-
-pub returns-in-None-clause-met : goal.returns-in-None-clause-met
-returns-in-None-clause-met g c = rw c.in-None.is called_none

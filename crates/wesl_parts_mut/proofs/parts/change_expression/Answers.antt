@@ -1,6 +1,0 @@
-use Rattle.wesl_turns.proofs.Turns.{changed_single}
-use Rattle.wesl_parts.specs.Parts.{an_expression}
-use Rattle.wesl_parts_mut.proofs.parts.change_expression.Goals as goal
-
-pub returns-clause-changed : goal.returns-clause-changed
-returns-clause-changed g c = changed_single g.W.WriteParts.at c.args.w.now c.expression.new.self (an_expression c.args.expression.now) (an_expression c.expression.new.expression) c.expression.result c.expression.ensures.done

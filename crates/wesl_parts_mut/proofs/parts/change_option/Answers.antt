@@ -1,5 +1,0 @@
-use Rattle.wesl_turns.specs.Turns.{changed_none}
-use Rattle.wesl_parts_mut.proofs.parts.change_option.Goals as goal
-
-pub returns-in-None-clause-changed : goal.returns-in-None-clause-changed
-returns-in-None-clause-changed g c = rw c.in-None.is changed_none

@@ -1,6 +1,0 @@
-use Rattle.wesl_scopes.specs.Outcomes.{loaded}
-use Rattle.wesl_reach.proofs.FirstLemmas.{held_under, IsAhead, IsLeft}
-use Rattle.wesl_reach.proofs.missing.first_missing.Given as goal
-
-abbrev pub invariant-loop-text : goal.invariant-loop-text
-invariant-loop-text l = IsLeft (loaded l.modules) held_under IsAhead l.text-iterator l.held.entries

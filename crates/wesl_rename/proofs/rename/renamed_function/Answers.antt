@@ -1,6 +1,0 @@
-use Rattle.std.proofs.Common.{rules}
-use Rattle.wesl_rename.proofs.Renames.{parameters_renamed}
-use Rattle.wesl_rename.proofs.rename.renamed_function.Goals as goal
-
-pub returns : goal.returns
-returns g c = rw (parameters_renamed (g.N.Naming.gives c.args.naming) c.args.function.now.parameters) (search rules)

@@ -1,6 +1,0 @@
-use Rattle.std.proofs.Common.{arith}
-use Rattle.wesl_rings.proofs.SearchLemmas.{starts_within}
-use Rattle.wesl_rings.proofs.ring.first_on_ring.Goals as goal
-
-pub returns-clause-none : goal.returns-clause-none
-returns-clause-none c = λ i ring. c.loop-position.invariant i (omega (arith, starts_within c.args.rows.now i i ring)) ring

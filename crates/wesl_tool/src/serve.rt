@@ -1,0 +1,167 @@
+//! From a request to a text or an error.
+
+use crate::answer::{HeldAnswer, Made, answer_reading};
+use crate::asked::{Asked, is_checked_whole};
+use crate::failure::{Failure, failed, misused};
+use crate::notes::write_notes;
+use crate::outputs::{check_outputs, write_outputs};
+use crate::written::{write_error, write_failure, write_unprinted};
+use std::alloc::AllocError;
+use std::io;
+use std::io::Write;
+use std::rt::Files;
+use wesl_command::Request;
+use wesl_diagnostics::Mode;
+use wesl_folders::{Folders, Root, Source, Sources, read_text};
+use wgsl_base::Text;
+use wgsl_path::ModulePath;
+
+/// What a call works on: the folders of the packages, the modules that were read, at first the root alone, and what is asked for.
+#[derive(Drop)]
+struct Begun {
+    folders: Folders,
+    sources: Sources,
+    asked: Asked,
+}
+
+/// The folders of a request's packages.
+fn folders_of<'a, R: Files + AllocGlobal>(
+    rt: &R,
+    request: &Request<'a>,
+    root: &str,
+) -> Result<Folders, Failure<'a>> {
+    let mut folders = Folders::new(rt.alloc(), request.follows_links);
+    if let Err(problem) = folders.add(rt, None, root) {
+        return Err(failed(rt.alloc(), request.file, problem));
+    }
+    for package in request.packages.as_slice() {
+        if let Err(problem) = folders.add(rt, Some(package.name), package.folder) {
+            return Err(failed(rt.alloc(), package.folder, problem));
+        }
+    }
+    Ok(folders)
+}
+
+/// The root, read.
+fn read_root<'a, R: Files + AllocGlobal>(
+    rt: &R,
+    request: &Request<'a>,
+    path: &ModulePath,
+) -> Result<Sources, Failure<'a>> {
+    let text = match read_text(rt, request.file) {
+        Ok(text) => text,
+        Err(problem) => return Err(failed(rt.alloc(), request.file, problem)),
+    };
+    let file = Text::from_str(rt.alloc(), request.file)?;
+    let mut sources = Sources::new(rt.alloc());
+    sources.add(rt.alloc(), path, Source { file, text })?;
+    Ok(sources)
+}
+
+/// Reads what a request names, but for the modules that its root asks for.
+fn begin<'a, R: Files + AllocGlobal>(rt: &R, request: &Request<'a>) -> Result<Begun, Failure<'a>> {
+    let Some(root) = Root::new(rt.alloc(), request.file, request.root)? else {
+        let why = "it must end in .wesl or .wgsl, and lie in the folder that --root names";
+        return Err(misused(rt.alloc(), request.file, why));
+    };
+    let Root { folder, path } = root;
+    let sources = read_root(rt, request, &path)?;
+    let folders = folders_of(rt, request, folder.as_str())?;
+    check_outputs(rt, request)?;
+    let asked = Asked::new(rt, request, path)?;
+    Ok(Begun {
+        folders,
+        sources,
+        asked,
+    })
+}
+
+fn print<W: Write>(out: &mut W, text: &str) -> io::Result<()> {
+    out.write_all(text.as_bytes())?;
+    out.flush()
+}
+
+/// Writes a text, and the map of its names before it where one is asked for, and gives the status of the program.
+fn write_made<R: Files + AllocGlobal, W: Write, E: Write>(
+    rt: &R,
+    request: &Request<'_>,
+    made: &Made,
+    sources: &Sources,
+    out: &mut W,
+    errors: &mut E,
+) -> io::Result<u8> {
+    match write_outputs(rt, request, made, sources) {
+        Ok(true) => {}
+        Ok(false) => {
+            if print(out, made.text.as_str()).is_err() {
+                return write_unprinted(rt.alloc(), request.format, errors);
+            }
+        }
+        Err(failure) => return write_failure(rt.alloc(), request, failure, errors),
+    }
+    write_notes(rt.alloc(), request, made.text.as_str(), sources, errors)?;
+    Ok(0)
+}
+
+/// What comes of a call. Where a check of all declarations asks for modules that can't be had, it is one of those that are kept.
+fn answer_in_modes<R: Files + AllocGlobal>(
+    rt: &R,
+    request: &Request<'_>,
+    asked: &mut Asked,
+    folders: &Folders,
+    sources: &mut Sources,
+) -> Result<(HeldAnswer, Option<String>), AllocError> {
+    let (answer, reason) = answer_reading(rt, request, asked, folders, sources)?;
+    let is_of_loading = match answer.get() {
+        Ok(_) => false,
+        Err(refusal) => refusal.is_of_loading(),
+    };
+    if !is_of_loading || !is_checked_whole(request) {
+        return Ok((answer, reason));
+    }
+    drop(answer);
+    asked.options.mode = Mode::Lazy;
+    answer_reading(rt, request, asked, folders, sources)
+}
+
+/// Makes the call, and writes the text or the error.
+fn finish<R: Files + AllocGlobal, W: Write, E: Write>(
+    rt: &R,
+    request: &Request<'_>,
+    begun: &mut Begun,
+    out: &mut W,
+    errors: &mut E,
+) -> io::Result<u8> {
+    let (answer, reason) = answer_in_modes(
+        rt,
+        request,
+        &mut begun.asked,
+        &begun.folders,
+        &mut begun.sources,
+    )?;
+    let sources = &begun.sources;
+    match answer.get() {
+        Ok(made) => write_made(rt, request, made, sources, out, errors),
+        Err(refusal) => {
+            let reason = match &reason {
+                Some(reason) => Some(reason.as_str()),
+                None => None,
+            };
+            write_error(rt.alloc(), request, refusal, sources, reason, errors)
+        }
+    }
+}
+
+/// Does what a request asks for, and gives the status of the program: 0 where there is a text, 1 for an error in the modules, 2 where
+/// a file or option is wrong.
+pub fn serve<R: Files + AllocGlobal, W: Write, E: Write>(
+    rt: &R,
+    request: &Request<'_>,
+    out: &mut W,
+    errors: &mut E,
+) -> io::Result<u8> {
+    match begin(rt, request) {
+        Ok(mut begun) => finish(rt, request, &mut begun, out, errors),
+        Err(failure) => write_failure(rt.alloc(), request, failure, errors),
+    }
+}

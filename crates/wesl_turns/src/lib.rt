@@ -1,2 +1,0 @@
-//! A closure that is called at values in turn, up to its first refusal: what visits of syntax trees say of their closures.
-#![tactic(auto)]

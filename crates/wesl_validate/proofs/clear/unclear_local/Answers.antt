@@ -1,6 +1,0 @@
-use Rattle.std.proofs.Common.{rules}
-use Rattle.wesl_validate.proofs.TreeLemmas.{names_of_trees}
-use Rattle.wesl_validate.proofs.clear.unclear_local.Goals as goal
-
-pub returns-in-Function : goal.returns-in-Function
-returns-in-Function c = rw (c.in-Function.is, names_of_trees c.in-Function.x.parameters) (search rules)

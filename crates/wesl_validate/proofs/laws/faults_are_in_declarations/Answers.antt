@@ -1,5 +1,0 @@
-use Rattle.wesl_validate.proofs.Located.{faults_are_in_declarations}
-use Rattle.wesl_validate.proofs.laws.faults_are_in_declarations.Goals as goal
-
-pub returns : goal.returns
-returns c = faults_are_in_declarations

@@ -1,6 +1,0 @@
-use Rattle.std.proofs.Common.{rules}
-use Rattle.wesl_turns.specs.Turns.{changed_none}
-use Rattle.wesl_visit_attributes.proofs.parts.ChangingWriteParts.ty.Goals as goal
-
-pub returns-clause-done : goal.returns-clause-done
-returns-clause-done g c = record { called = search (rules, changed_none); same = search rules }

@@ -1,7 +1,0 @@
-//! Visits of the attributes in a syntax tree.
-#![tactic(auto)]
-
-mod attribute;
-mod parts;
-
-pub use attribute::VisitAttributes;

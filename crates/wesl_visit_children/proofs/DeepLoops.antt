@@ -1,0 +1,46 @@
+-- A loop over a list whose elements have nodes, each in turn.
+use Rattle.std.proofs.Common.{◌≡◌, sym, ap, ◌∙◌, subst, ℕ, ◌+◌, ◌<◌, ◌≤◌, arith, List, ◌++◌, length, take, drop, get_or, set, Result, Ok, Err}
+use Rattle.std.specs.List.{flat_map}
+use Rattle.std.proofs.lemmas.List.{take_all}
+use Rattle.wesl_visit_children.specs.Turns.{CalledDeep, ChangedDeep}
+use Rattle.wesl_visit_children.proofs.Lists.{parts_more, parts_at, set_more, set_at, later_list}
+use Rattle.wesl_visit_children.proofs.Deep.{met_both, met_refusal_first, changed_both, changed_refusal_first}
+
+module _ {S N E X : Type 0} (inside : N → List N) (step : S → N → Result Unit E → S → Type 0) (g : X → List N) where
+  pub met_more : (s t u : S) (xs : List X) (i : ℕ) (x : X) → i < length xs → x ≡ get_or xs i x → CalledDeep inside step s (flat_map g (take i xs)) (Ok tt) t
+      → CalledDeep inside step t (g x) (Ok tt) u → CalledDeep inside step s (flat_map g (take (i + 1) xs)) (Ok tt) u
+  met_more s t u xs i x lt is before here =
+      subst (λ ns. CalledDeep inside step s ns (Ok tt) u) (parts_more g xs i x lt is) (met_both inside step before here)
+
+  pub met_refusal_at : (s t u : S) (e : E) (xs : List X) (i : ℕ) (x : X) → i < length xs → x ≡ get_or xs i x → CalledDeep inside step s (flat_map g (take i xs)) (Ok tt) t
+      → CalledDeep inside step t (g x) (Err e) u → CalledDeep inside step s (flat_map g xs) (Err e) u
+  met_refusal_at s t u e xs i x lt is before here =
+      subst (λ ns. CalledDeep inside step s ns (Err e) u) (parts_at g xs i x lt is)
+      (met_refusal_first inside step (flat_map g (drop (i + 1) xs)) (met_both inside step before here))
+
+  pub met_all : (s t : S) (xs : List X) (i : ℕ) → length xs ≤ i → CalledDeep inside step s (flat_map g (take i xs)) (Ok tt) t → CalledDeep inside step s (flat_map g xs) (Ok tt) t
+  met_all s t xs i le before = subst (λ ys. CalledDeep inside step s (flat_map g ys) (Ok tt) t) (take_all i xs le) before
+
+module _ {S N E B X : Type 0} (inside : N → List N) (around : N → B) (step : S → N → Result Unit E → S → N → Type 0) (g : X → List N) where
+  retold : {s t : S} {r : Result Unit E} (xs ys vs ws : List N) → xs ≡ ys → vs ≡ ws → ChangedDeep inside around step s xs r t vs → ChangedDeep inside around step s ys r t ws
+  retold {s = s} {t = t} {r = r} xs ys vs ws p q h =
+      subst (λ zs. ChangedDeep inside around step s ys r t zs) q (subst (λ zs. ChangedDeep inside around step s zs r t vs) p h)
+
+  pub changed_more : (s t u : S) (old cur : List X) (i : ℕ) (x y : X) → i < length cur → length cur ≡ length old → x ≡ get_or cur i x
+      → ((k : ℕ) (d : X) → i ≤ k → get_or cur k d ≡ get_or old k d) → ChangedDeep inside around step s (flat_map g (take i old)) (Ok tt) t (flat_map g (take i cur))
+      → ChangedDeep inside around step t (g x) (Ok tt) u (g y) → ChangedDeep inside around step s (flat_map g (take (i + 1) old)) (Ok tt) u (flat_map g (take (i + 1) (set cur i y)))
+  changed_more s t u old cur i x y lt long is later before here =
+      retold _ _ _ _ (parts_more g old i x (subst (λ n. i < n) long lt) (is ∙ later i x (omega arith))) (set_more g cur i y lt) (changed_both inside around step before here)
+
+  pub changed_refusal_at : (s t u : S) (e : E) (old cur : List X) (i : ℕ) (x y : X) → i < length cur → length cur ≡ length old → x ≡ get_or cur i x
+      → ((k : ℕ) (d : X) → i ≤ k → get_or cur k d ≡ get_or old k d) → ChangedDeep inside around step s (flat_map g (take i old)) (Ok tt) t (flat_map g (take i cur))
+      → ChangedDeep inside around step t (g x) (Err e) u (g y) → ChangedDeep inside around step s (flat_map g old) (Err e) u (flat_map g (set cur i y))
+  changed_refusal_at s t u e old cur i x y lt long is later before here =
+      retold _ _ _ _ (parts_at g old i x (subst (λ n. i < n) long lt) (is ∙ later i x (omega arith)))
+      (ap (λ zs. (flat_map g (take i cur) ++ g y) ++ flat_map g zs) (sym (later_list old cur i long later)) ∙ set_at g cur i y lt)
+      (changed_refusal_first inside around step (flat_map g (drop (i + 1) old)) (changed_both inside around step before here))
+
+  pub changed_all : (s t : S) (old cur : List X) (i : ℕ) → length cur ≤ i → length cur ≡ length old → ChangedDeep inside around step s (flat_map g (take i old)) (Ok tt) t (flat_map g (take i cur))
+      → ChangedDeep inside around step s (flat_map g old) (Ok tt) t (flat_map g cur)
+  changed_all s t old cur i le long before =
+      retold _ _ _ _ (ap (flat_map g) (take_all i old (subst (λ n. n ≤ i) long le))) (ap (flat_map g) (take_all i cur le)) before

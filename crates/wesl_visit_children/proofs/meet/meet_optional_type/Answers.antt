@@ -1,0 +1,5 @@
+use Rattle.wesl_visit_children.specs.Turns.{called_none}
+use Rattle.wesl_visit_children.proofs.meet.meet_optional_type.Goals as goal
+
+pub returns-in-None-clause-met : goal.returns-in-None-clause-met
+returns-in-None-clause-met g c = rw c.in-None.is called_none

@@ -1,0 +1,65 @@
+use Rattle.std.proofs.Common.{◌+◌, ◌*◌, take, Ok}
+use Rattle.wesl_visit_children.specs.Turns.{CalledInTurn}
+use Rattle.std.specs.List.{flat_map}
+use Rattle.wesl_visit_children.specs.Parts.{in_node, in_else_if, in_clause, parts_in_statement}
+use Rattle.wesl_visit_children.proofs.meet_statements.+meet.Given as goal
+
+abbrev pub decreases-meet_statement : goal.decreases-meet_statement
+decreases-meet_statement g l = 8 * goal.size-meet_statement g l + 0
+
+abbrev pub decreases-meet_statements : goal.decreases-meet_statements
+decreases-meet_statements g l = 8 * goal.size-meet_statements g l + 1
+
+abbrev pub invariant-meet_statements-loop-node : goal.invariant-meet_statements-loop-node
+invariant-meet_statements-loop-node g l =
+    g.W.ReadParts.ready l.w × CalledInTurn g.W.ReadParts.at l.initial.w (flat_map (in_node parts_in_statement) (take l.node-index l.nodes)) (Ok tt) l.w
+
+abbrev pub decreases-meet_block : goal.decreases-meet_block
+decreases-meet_block g l = 8 * goal.size-meet_block g l + 2
+
+abbrev pub decreases-meet_if : goal.decreases-meet_if
+decreases-meet_if g l = 8 * goal.size-meet_if g l + 5
+
+abbrev pub decreases-meet_else_ifs : goal.decreases-meet_else_ifs
+decreases-meet_else_ifs g l = 8 * goal.size-meet_else_ifs g l + 4
+
+abbrev pub invariant-meet_else_ifs-loop-clause : goal.invariant-meet_else_ifs-loop-clause
+invariant-meet_else_ifs-loop-clause g l =
+    g.W.ReadParts.ready l.w × CalledInTurn g.W.ReadParts.at l.initial.w (flat_map (in_else_if parts_in_statement) (take l.clause-index l.clauses)) (Ok tt) l.w
+
+abbrev pub decreases-meet_else_if : goal.decreases-meet_else_if
+decreases-meet_else_if g l = 8 * goal.size-meet_else_if g l + 3
+
+abbrev pub decreases-meet_else : goal.decreases-meet_else
+decreases-meet_else g l = 8 * goal.size-meet_else g l + 3
+
+abbrev pub decreases-meet_switch : goal.decreases-meet_switch
+decreases-meet_switch g l = 8 * goal.size-meet_switch g l + 5
+
+abbrev pub decreases-meet_clauses : goal.decreases-meet_clauses
+decreases-meet_clauses g l = 8 * goal.size-meet_clauses g l + 4
+
+abbrev pub invariant-meet_clauses-loop-clause : goal.invariant-meet_clauses-loop-clause
+invariant-meet_clauses-loop-clause g l =
+    g.W.ReadParts.ready l.w × CalledInTurn g.W.ReadParts.at l.initial.w (flat_map (in_clause parts_in_statement) (take l.clause-index l.clauses)) (Ok tt) l.w
+
+abbrev pub decreases-meet_clause : goal.decreases-meet_clause
+decreases-meet_clause g l = 8 * goal.size-meet_clause g l + 3
+
+abbrev pub decreases-meet_loop : goal.decreases-meet_loop
+decreases-meet_loop g l = 8 * goal.size-meet_loop g l + 5
+
+abbrev pub decreases-meet_optional_continuing : goal.decreases-meet_optional_continuing
+decreases-meet_optional_continuing g l = 8 * goal.size-meet_optional_continuing g l + 4
+
+abbrev pub decreases-meet_continuing : goal.decreases-meet_continuing
+decreases-meet_continuing g l = 8 * goal.size-meet_continuing g l + 3
+
+abbrev pub decreases-meet_for : goal.decreases-meet_for
+decreases-meet_for g l = 8 * goal.size-meet_for g l + 3
+
+abbrev pub decreases-meet_part : goal.decreases-meet_part
+decreases-meet_part g l = 8 * goal.size-meet_part g l + 1
+
+abbrev pub decreases-meet_while : goal.decreases-meet_while
+decreases-meet_while g l = 8 * goal.size-meet_while g l + 3

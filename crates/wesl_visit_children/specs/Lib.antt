@@ -1,0 +1,4 @@
+pub mod Parts
+pub mod Listed
+pub mod Rest
+pub mod Turns

@@ -1,0 +1,10 @@
+use Rattle.std.proofs.Common.{rules, of_calls}
+use Rattle.std.specs.Fn.{CalledAt}
+use Rattle.wesl_visit_children.proofs.TurnsLemmas.{met_single}
+use Rattle.wesl_visit_children_mut.proofs.attributes.parts.ReadingReadParts.attribute.Goals as goal
+
+pub returns-clause-done : goal.returns-clause-done
+returns-clause-done g c = record {
+  called = met_single (CalledAt g.F.FnMut) _ _ _ _ (search (rules, of_calls));
+  same = search rules;
+}

@@ -1,0 +1,6 @@
+use Rattle.std.proofs.Common.{rules}
+use Rattle.wesl_visit_children.specs.Turns.{called_none}
+use Rattle.wesl_visit_children_mut.proofs.attributes.parts.ReadingReadParts.expression.Goals as goal
+
+pub returns-clause-done : goal.returns-clause-done
+returns-clause-done g c = record { called = search (rules, called_none); same = search rules }

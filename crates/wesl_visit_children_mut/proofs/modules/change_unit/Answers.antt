@@ -1,0 +1,16 @@
+use Rattle.std.proofs.Common.{◌≡◌, rules, Err}
+use Rattle.wesl_visit_children.proofs.TurnsLemmas.{changed_both, changed_refusal_first}
+use Rattle.wesl_visit_children_mut.proofs.modules.change_unit.Goals as goal
+
+pub returns-in_err-change_imports-clause-changed : goal.returns-in_err-change_imports-clause-changed
+returns-in_err-change_imports-clause-changed g c =
+    let same : c.from_residual.result ≡ Err c.in_err-change_imports.field-0.0 = search rules in
+    rw same (changed_refusal_first g.W.WriteParts.at _ c.in_err-change_imports.ensures.changed)
+
+pub returns-in_err-change_directives-clause-changed : goal.returns-in_err-change_directives-clause-changed
+returns-in_err-change_directives-clause-changed g c =
+    let same : c.from_residual-in_err-change_directives.result ≡ Err c.in_err-change_directives.field-0.0 = search rules in
+    rw same (changed_both g.W.WriteParts.at c.in_ok-change_imports.ensures.changed (changed_refusal_first g.W.WriteParts.at _ c.in_err-change_directives.ensures.changed))
+
+pub returns-clause-changed : goal.returns-clause-changed
+returns-clause-changed g c = changed_both g.W.WriteParts.at c.in_ok-change_imports.ensures.changed (changed_both g.W.WriteParts.at c.in_ok-change_directives.ensures.changed c.change_declarations.ensures.changed)

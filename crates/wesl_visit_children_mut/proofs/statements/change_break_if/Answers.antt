@@ -1,0 +1,5 @@
+use Rattle.wesl_visit_children.specs.Turns.{changed_none}
+use Rattle.wesl_visit_children_mut.proofs.statements.change_break_if.Goals as goal
+
+pub returns-in-None-clause-changed : goal.returns-in-None-clause-changed
+returns-in-None-clause-changed g c = rw c.in-None.is changed_none

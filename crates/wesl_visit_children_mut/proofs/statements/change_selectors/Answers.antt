@@ -1,0 +1,27 @@
+use Rattle.std.proofs.Common.{◌≡◌, ◌∙◌, rules, refl, Err, length-set}
+use Rattle.wesl_visit_children.specs.Turns.{changed_none}
+use Rattle.wesl_visit_children.proofs.Lists.{map_stays, later_same}
+use Rattle.wesl_visit_children.proofs.Loops.{changed_more, changed_refusal_at}
+use Rattle.wesl_visit_children.specs.Parts.{in_selector}
+use Rattle.wesl_visit_children.specs.Rest.{around_selector}
+use Rattle.wesl_visit_children_mut.proofs.statements.change_selectors.Goals as goal
+
+pub loop-i-init : goal.loop-i-init
+loop-i-init g c = (search rules, changed_none, refl, refl, λ k d le. refl)
+
+pub loop-i-preserved : goal.loop-i-preserved
+loop-i-preserved g c = (
+  c.in_ok-change_selector.ensures.ready,
+  changed_more g.W.WriteParts.at in_selector c.args.w.now c.loop-i.w c.change_selector.new.w c.args.selectors.now c.loop-i.selectors c.loop-i.i c.get_mut.result.now c.change_selector.new.selector (search rules) c.loop-i.invariant.3 c.get_mut.ensures.value c.loop-i.invariant.4 c.loop-i.invariant.1 c.in_ok-change_selector.ensures.changed,
+  map_stays (around_selector g.W.WriteParts.rest) c.loop-i.selectors c.loop-i.i c.get_mut.result.now c.change_selector.new.selector (search rules) c.get_mut.ensures.value (c.in_ok-change_selector.ensures.rest) ∙ c.loop-i.invariant.2,
+  length-set c.loop-i.selectors c.loop-i.i c.change_selector.new.selector ∙ c.loop-i.invariant.3,
+  later_same c.args.selectors.now c.loop-i.selectors c.loop-i.i c.change_selector.new.selector c.loop-i.invariant.4,
+)
+
+pub returns-in_err-change_selector-clause-changed : goal.returns-in_err-change_selector-clause-changed
+returns-in_err-change_selector-clause-changed g c =
+    let same : c.from_residual.result ≡ Err c.in_err-change_selector.field-0.0 = search rules in
+    rw same (changed_refusal_at g.W.WriteParts.at in_selector c.args.w.now c.loop-i.w c.change_selector.new.w c.in_err-change_selector.field-0.0 c.args.selectors.now c.loop-i.selectors c.loop-i.i c.get_mut.result.now c.change_selector.new.selector (search rules) c.loop-i.invariant.3 c.get_mut.ensures.value c.loop-i.invariant.4 c.loop-i.invariant.1 c.in_err-change_selector.ensures.changed)
+
+pub returns-in_err-change_selector-clause-rest : goal.returns-in_err-change_selector-clause-rest
+returns-in_err-change_selector-clause-rest g c = map_stays (around_selector g.W.WriteParts.rest) c.loop-i.selectors c.loop-i.i c.get_mut.result.now c.change_selector.new.selector (search rules) c.get_mut.ensures.value (c.in_err-change_selector.ensures.rest) ∙ c.loop-i.invariant.2

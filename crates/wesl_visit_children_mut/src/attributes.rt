@@ -1,0 +1,6 @@
+//! Visits of the attributes in a syntax tree.
+
+mod attribute;
+mod parts;
+
+pub use attribute::VisitAttributes;

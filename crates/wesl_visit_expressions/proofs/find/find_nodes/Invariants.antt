@@ -1,6 +1,0 @@
-use Rattle.std.proofs.Common.{◌≡◌, ◌++◌, drop}
-use Rattle.wesl_turns.specs.Turns.{pointed}
-use Rattle.wesl_visit_expressions.proofs.find.find_nodes.Given as goal
-
-abbrev pub invariant-loop-node : goal.invariant-loop-node
-invariant-loop-node l = pointed l.found.items ++ drop l.node-index l.nodes ≡ pointed l.initial.found.items ++ l.nodes

@@ -1,0 +1,18 @@
+use Rattle.std.proofs.Common.{◌≡◌, rules, Err}
+use Rattle.wesl_visit_expressions.specs.Types.{inside_by, around_by}
+use Rattle.wesl_visit_children.proofs.Deep.{changed_both, changed_refusal_first}
+use Rattle.std.specs.Fn.{CalledAtMut}
+use Rattle.wesl_visit_expressions.proofs.types.change.change_sizes.Goals as goal
+
+pub returns-in_err-change_expression-clause-changed : goal.returns-in_err-change_expression-clause-changed
+returns-in_err-change_expression-clause-changed g c =
+    let same : c.from_residual.result ≡ Err c.in_err-change_expression.field-0.0 = search rules in
+    rw same (changed_refusal_first (inside_by c.args.deep) (around_by c.args.deep) (CalledAtMut g.F.FnMut) _ (rw c.node_mut.ensures.value at c.in_err-change_expression.ensures.changed))
+
+pub returns-in_err-change_option-clause-changed : goal.returns-in_err-change_option-clause-changed
+returns-in_err-change_option-clause-changed g c =
+    let same : c.from_residual-in_err-change_option.result ≡ Err c.in_err-change_option.field-0.0 = search rules in
+    rw same (changed_both (inside_by c.args.deep) (around_by c.args.deep) (CalledAtMut g.F.FnMut) (rw c.node_mut.ensures.value at c.in_ok-change_expression.ensures.changed) (changed_refusal_first (inside_by c.args.deep) (around_by c.args.deep) (CalledAtMut g.F.FnMut) _ c.in_err-change_option.ensures.changed))
+
+pub returns-clause-changed : goal.returns-clause-changed
+returns-clause-changed g c = changed_both (inside_by c.args.deep) (around_by c.args.deep) (CalledAtMut g.F.FnMut) (rw c.node_mut.ensures.value at c.in_ok-change_expression.ensures.changed) (changed_both (inside_by c.args.deep) (around_by c.args.deep) (CalledAtMut g.F.FnMut) c.in_ok-change_option.ensures.changed (c.change_option-2.ensures.changed))

@@ -1,2 +1,0 @@
-pub mod Modules
-pub mod Meeting

@@ -1,0 +1,4 @@
+pub mod Modules
+pub mod Meeting
+pub mod TypesModules
+pub mod TypesMeeting

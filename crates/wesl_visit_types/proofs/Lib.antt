@@ -1,3 +1,0 @@
-pub mod Layers
-pub mod Cases
-pub mod Visits

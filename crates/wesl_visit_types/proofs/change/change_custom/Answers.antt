@@ -1,5 +1,0 @@
-use Rattle.wesl_turns.specs.Turns.{remade_none}
-use Rattle.wesl_visit_types.proofs.change.change_custom.Goals as goal
-
-pub returns-in-None-clause-changed : goal.returns-in-None-clause-changed
-returns-in-None-clause-changed g c = rw c.in-None.is remade_none

@@ -1,8 +1,0 @@
-use Rattle.std.proofs.Common.{◌≡◌, ◌++◌, drop}
-use Rattle.wesl_visit_types.specs.Types.{in_argument}
-use Rattle.wesl_turns.specs.Turns.{pointed}
-use Rattle.std.specs.List.{flat_map}
-use Rattle.wesl_visit_types.proofs.find.find_arguments.Given as goal
-
-abbrev pub invariant-loop-argument : goal.invariant-loop-argument
-invariant-loop-argument l = pointed l.found.items ++ flat_map in_argument (drop l.argument-index l.argument-items) ≡ pointed l.initial.found.items ++ flat_map in_argument l.argument-items

@@ -1,6 +1,0 @@
-//! Visits of the types in expressions, types and attributes: the walks that the visits of all parts of a module go by.
-#![tactic(auto)]
-
-pub mod change;
-pub mod find;
-pub mod meet;

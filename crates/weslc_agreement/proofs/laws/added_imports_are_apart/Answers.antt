@@ -1,5 +1,0 @@
-use Rattle.weslc_agreement.proofs.Tokens.{added_imports_are_apart}
-use Rattle.weslc_agreement.proofs.laws.added_imports_are_apart.Goals as goal
-
-pub returns : goal.returns
-returns c = added_imports_are_apart

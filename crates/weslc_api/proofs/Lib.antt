@@ -1,1 +1,0 @@
-pub use Rattle.weslc_linking.proofs.Alone

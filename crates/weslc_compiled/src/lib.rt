@@ -1,9 +1,0 @@
-//! The compiled text of a linked unit: validation, clear names, then what it is lowered to.
-#![tactic(auto)]
-
-mod compile;
-
-pub use compile::compile_unit;
-pub use weslc_unit::{
-    PrintError, UnitRefusal, Unprintable, check_unit, parse_part, print_checked, print_part,
-};

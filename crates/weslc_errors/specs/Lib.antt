@@ -1,0 +1,9 @@
+pub mod Told
+pub mod Keyed
+pub mod Stored
+pub mod Answers
+pub mod Mapped
+pub mod Asked
+pub use Rattle.core_laws.specs.Headline
+pub use Rattle.core_reach.specs.Alone
+pub use Rattle.core_laws.specs.Declared

@@ -1,5 +1,0 @@
-use Rattle.weslc_laws.proofs.Declared.{compiled_units_declare_held_functions}
-use Rattle.weslc_laws.proofs.laws.compiled_units_declare_held_functions.Goals as goal
-
-pub returns : goal.returns
-returns c = compiled_units_declare_held_functions

@@ -1,5 +1,0 @@
-use Rattle.weslc_laws.proofs.Runs.{linked_text_runs_as_its_sources}
-use Rattle.weslc_laws.proofs.laws.linked_text_runs_as_its_sources.Goals as goal
-
-pub returns : goal.returns
-returns c = linked_text_runs_as_its_sources

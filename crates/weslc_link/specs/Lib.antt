@@ -1,0 +1,1 @@
+pub use Rattle.core_resolver.specs.Found

@@ -1,3 +1,0 @@
-mod Reading
-mod Telling
-pub use Rattle.wesl_rounds.proofs.Asking

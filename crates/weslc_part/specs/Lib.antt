@@ -1,3 +1,0 @@
-pub mod Found
-pub mod Laws
-pub use Rattle.wesl_rounds.specs.Asked

@@ -1,8 +1,0 @@
-//! A resolver of whole modules, seen by the part of the language whose linking and compiling is proved.
-#![tactic(auto)]
-
-mod narrowing;
-mod resolver;
-
-pub use resolver::{Beyond, PartResolver};
-pub use wesl_rounds::{HeldUnit, Resolutions, resolve_eager, resolve_lazy, test_root};

@@ -1,8 +1,0 @@
-//! An expression that is to be evaluated, and the const that stands for it behind a module's declarations.
-#![tactic(auto)]
-
-mod own;
-mod question;
-
-pub use own::{OWN_NAME, is_own};
-pub use question::Question;

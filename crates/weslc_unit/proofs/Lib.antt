@@ -1,4 +1,0 @@
-pub mod ClearLemmas
-pub mod Once
-pub mod Located
-pub use Rattle.wgsl_part_texts.proofs.Whole

@@ -1,5 +1,0 @@
-use Rattle.weslc_unit.proofs.Once.{compiled_once}
-use Rattle.weslc_unit.proofs.laws.compiled_once.Goals as goal
-
-pub returns : goal.returns
-returns c = compiled_once

@@ -1,5 +1,0 @@
-use Rattle.weslc_unit.proofs.Located.{refusals_are_in_declarations}
-use Rattle.weslc_unit.proofs.laws.refusals_are_in_declarations.Goals as goal
-
-pub returns : goal.returns
-returns c = refusals_are_in_declarations

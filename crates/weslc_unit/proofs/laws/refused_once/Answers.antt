@@ -1,5 +1,0 @@
-use Rattle.weslc_unit.proofs.Once.{refused_once}
-use Rattle.weslc_unit.proofs.laws.refused_once.Goals as goal
-
-pub returns : goal.returns
-returns c = refused_once

@@ -1,0 +1,6 @@
+use Rattle.std.proofs.Common.{sym}
+use Rattle.wgsl_attribute_words.proofs.ChoicesLemmas.{interpolation_sampling_none}
+use Rattle.wgsl_attribute_words.proofs.choices.interpolation_sampling.Goals as goal
+
+pub returns-in-Err : goal.returns-in-Err
+returns-in-Err c = sym (interpolation_sampling_none c.args.word.now c.in-Err.ensures)

@@ -1,2 +1,0 @@
-pub mod Texts
-pub use Rattle.wgsl_expressions.proofs.Commas

@@ -1,0 +1,6 @@
+pub mod Bools
+pub mod Members
+pub mod Queues
+pub mod Tops
+mod Pieces
+mod Whole

@@ -1,6 +1,0 @@
-use Rattle.std.proofs.Common.{sym}
-use Rattle.wgsl_choices.proofs.Choices.{access_mode_none}
-use Rattle.wgsl_choices.proofs.access_mode.Goals as goal
-
-pub returns-in-Err : goal.returns-in-Err
-returns-in-Err c = sym (access_mode_none c.args.word.now c.in-Err.ensures)

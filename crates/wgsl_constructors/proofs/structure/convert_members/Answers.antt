@@ -1,8 +1,0 @@
-use Rattle.std.proofs.Common.{drop}
-use Rattle.wgsl_constructors.proofs.Members.{filling_runs_out}
-use Rattle.wgsl_constructors.proofs.structure.convert_members.Goals as goal
-
-pub returns-in-None : goal.returns-in-None
-returns-in-None c =
-    filling_runs_out c.args.members.now c.args.args.now c.loop-member.values (drop c.loop-member.member-index c.args.members.now) c.loop-member.rest.now
-    c.in-None.ensures.cases c.loop-member.invariant

@@ -1,8 +1,0 @@
-use Rattle.std.proofs.Common.{ap}
-use Rattle.wgsl_meaning.specs.Outcome.{computed}
-use Rattle.wgsl_eval.proofs.Faults.{fails}
-use Rattle.wgsl_eval.proofs.error.computed.Goals as goal
-
-pub returns-in-Err : goal.returns-in-Err
-returns-in-Err g c =
-    fails (computed c.args.operation) c.in-Err.error c.operation_fault.result c.operation_fault.ensures (ap computed c.in-Err.is)

@@ -1,0 +1,3 @@
+//! What the parser of WGSL looks up at each of its steps, as `tools/parser_tables.py` writes it.
+
+pub mod steps;

@@ -1,3 +1,0 @@
-pub mod Trees
-pub mod Texts
-pub use Rattle.wgsl_attributes.proofs.Commas

@@ -1,2 +1,0 @@
-pub mod Indented
-pub mod Writing

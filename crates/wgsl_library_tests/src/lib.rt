@@ -1,0 +1,5 @@
+//! Tests of trees, values and memory.
+#![tactic(auto)]
+
+mod memory;
+mod trees;

@@ -1,7 +1,0 @@
-use Rattle.std.proofs.Common.{◌≡◌, drop}
-use Rattle.wgsl_syntax.specs.View.{attributes_tree}
-use Rattle.wgsl_lower_expressions.specs.Runs.{has_stage}
-use Rattle.wgsl_lower.proofs.function.has_stage.Given as goal
-
-abbrev pub invariant-loop-node : goal.invariant-loop-node
-invariant-loop-node l = has_stage (attributes_tree (drop l.node-index l.nodes)) ≡ has_stage (attributes_tree l.nodes)

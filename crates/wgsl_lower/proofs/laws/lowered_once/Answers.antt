@@ -1,5 +1,0 @@
-use Rattle.wgsl_lower.proofs.Once.{lowered_once}
-use Rattle.wgsl_lower.proofs.laws.lowered_once.Goals as goal
-
-pub returns : goal.returns
-returns c = lowered_once

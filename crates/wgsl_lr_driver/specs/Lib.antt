@@ -1,0 +1,16 @@
+pub mod Alone
+pub mod Failures
+pub mod Gathering
+pub mod Leaves
+pub mod Phrases
+pub mod Readings
+pub use Rattle.wgsl_semantic_values.specs.declared.part.Part
+pub use Rattle.wgsl_semantic_values.specs.TranslationUnit
+pub use Rattle.wgsl_reduce_actions.specs.Attributes
+pub use Rattle.wgsl_reduce_actions.specs.Reading
+pub use Rattle.wgsl_reduce_actions.specs.Statements
+pub use Rattle.wgsl_reduce_actions.specs.Declarations
+pub use Rattle.wgsl_reduce_actions.specs.Directives
+pub use Rattle.wgsl_reduce_actions.specs.Imports
+pub use Rattle.wgsl_reduce_actions.specs.Making
+pub use Rattle.wgsl_reduce_actions.specs.NodesStatements

@@ -1,4 +1,0 @@
-pub mod Simple
-pub mod Statements
-pub mod Declarations
-pub mod Laws

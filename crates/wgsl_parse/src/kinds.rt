@@ -1,0 +1,5 @@
+//! What kinds of tokens there are: keywords, syntactic tokens, numbers.
+
+mod kinds;
+
+pub use kinds::TokenKinds;

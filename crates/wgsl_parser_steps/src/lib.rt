@@ -1,4 +1,0 @@
-//! What the parser of WGSL looks up at each of its steps, as `tools/parser_tables.py` writes it.
-#![tactic(auto)]
-
-pub mod steps;

@@ -1,6 +1,0 @@
-use Rattle.wgsl_declarations.specs.View as whole
-use Rattle.wgsl_part.proofs.Lying.{narrows}
-use Rattle.wgsl_part.proofs.declarations.narrow.Goals as goal
-
-pub returns-clause-unit : goal.returns-clause-unit
-returns-clause-unit c = narrows (whole.unit_tree c.args.unit.now) c.narrowed.result c.narrowed.ensures.tree

@@ -1,8 +1,0 @@
-use Rattle.std.proofs.Common.{◌≡◌, drop}
-use Rattle.std.specs.List.{list_all}
-use Rattle.wgsl_part.specs.Trees.{parameters_tree}
-use Rattle.wgsl_part.specs.InPart as spec
-use Rattle.wgsl_part.proofs.in_part.are_parameters.Given as goal
-
-abbrev pub invariant-loop-parameter : goal.invariant-loop-parameter
-invariant-loop-parameter l = list_all spec.is_parameter (parameters_tree (drop l.parameter-index l.parameters)) ≡ list_all spec.is_parameter (parameters_tree l.parameters)

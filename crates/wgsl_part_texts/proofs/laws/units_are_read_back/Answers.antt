@@ -1,5 +1,0 @@
-use Rattle.wgsl_part_texts.proofs.Whole as law
-use Rattle.wgsl_part_texts.proofs.laws.units_are_read_back.Goals as goal
-
-pub returns : goal.returns
-returns c = law.units_are_read_back

@@ -1,0 +1,14 @@
+pub mod Layout
+pub mod Laws
+pub mod OptionalMarks
+pub mod Tokens
+pub mod Printable
+pub mod Attributes
+pub mod Directives
+pub mod DeclarationKinds
+pub mod Imports
+pub mod TreesLaws
+pub mod Simple
+pub mod Statements
+pub mod Declarations
+pub mod ModulesLaws

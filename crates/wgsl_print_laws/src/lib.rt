@@ -1,0 +1,7 @@
+//! Laws: the tokens of printed texts.
+#![tactic(auto)]
+
+pub mod layout;
+mod lemmas;
+pub mod modules;
+pub mod trees;

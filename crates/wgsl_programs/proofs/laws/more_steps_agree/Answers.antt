@@ -1,5 +1,0 @@
-use Rattle.wgsl_programs.proofs.Answers.{more_steps as law}
-use Rattle.wgsl_programs.proofs.laws.more_steps_agree.Goals as goal
-
-pub returns : goal.returns
-returns c p s handed n m answer more ends = law p s handed n m answer more ends

@@ -1,8 +1,0 @@
-//! Names and what they stand for, in levels: the nearest of a name hides the others.
-#![tactic(auto)]
-
-mod keys;
-mod scope;
-
-pub use keys::Keys;
-pub use scope::{Scope, ScopeKind};

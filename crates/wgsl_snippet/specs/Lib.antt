@@ -1,3 +1,0 @@
-pub mod Places
-pub mod Snippets
-pub mod Points

@@ -1,7 +1,0 @@
-//! Parts of a text as they are shown: the line, with marks below the part.
-#![tactic(auto)]
-
-mod place;
-mod snippet;
-
-pub use snippet::Snippet;

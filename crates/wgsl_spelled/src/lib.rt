@@ -1,2 +1,0 @@
-//! Lemmas of tokens that are written down: which characters spell a token, and what may stand behind it.
-#![tactic(auto)]

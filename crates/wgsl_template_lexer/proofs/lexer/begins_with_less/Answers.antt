@@ -1,5 +1,0 @@
-use Rattle.wgsl_template_lexer.proofs.Starts.{less_first_of}
-use Rattle.wgsl_template_lexer.proofs.lexer.begins_with_less.Goals as goal
-
-pub returns : goal.returns
-returns c = less_first_of _ _ _ _ c.in_ok-piece.ensures.within c.in_ok-piece.ensures.first _ c.is_less.ensures

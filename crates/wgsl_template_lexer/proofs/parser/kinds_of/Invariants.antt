@@ -1,6 +1,0 @@
-use Rattle.std.proofs.Common.{◌≡◌, take}
-use Rattle.wgsl_template_spec.specs.Kinds.{kinds}
-use Rattle.wgsl_template_lexer.proofs.parser.kinds_of.Given as goal
-
-abbrev pub invariant-loop-token : goal.invariant-loop-token
-invariant-loop-token l = l.kinds.items ≡ kinds (take l.token-index l.tokens)

@@ -1,5 +1,0 @@
-use Rattle.wgsl_template_lexer.proofs.Faults.{IsSearched}
-use Rattle.wgsl_template_lexer.proofs.tokens.first_fault.Given as goal
-
-abbrev pub invariant-loop-at : goal.invariant-loop-at
-invariant-loop-at l = IsSearched l.tokens l.at

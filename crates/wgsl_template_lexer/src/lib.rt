@@ -1,9 +1,0 @@
-//! The tokens of WGSL texts with their template lists (WGSL, "Template Lists"), and which texts and tokens begin with one.
-#![tactic(auto)]
-
-pub mod lexer;
-pub mod parser;
-mod pieces;
-mod tokens;
-
-pub use tokens::Lexer;

@@ -1,4 +1,0 @@
-pub mod Kinds
-pub mod Grammar
-pub mod Tokens
-pub mod Laws

@@ -1,5 +1,0 @@
-use Rattle.std.proofs.Common.{◌≡◌, ◌++◌}
-use Rattle.wgsl_token_iterator.proofs.recognize.listed.Given as goal
-
-abbrev pub invariant-loop-token : goal.invariant-loop-token
-invariant-loop-token g l = l.list.items ++ g.I.TokenIterator.left l.token-iterator ≡ g.I.TokenIterator.left l.fn.tokens

@@ -1,8 +1,0 @@
-//! Iterators over the tokens of a text.
-#![tactic(auto)]
-
-mod iterator;
-mod recognize;
-
-pub use iterator::TokenIterator;
-pub use recognize::recognize_template_list;

@@ -1,6 +1,0 @@
-pub mod Pieces
-pub mod Ahead
-pub mod Levels
-pub mod Marked
-pub mod Alike
-pub mod OptionalMarks

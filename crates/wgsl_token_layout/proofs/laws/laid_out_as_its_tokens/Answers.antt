@@ -1,5 +1,0 @@
-use Rattle.wgsl_token_layout.proofs.Marked as marked
-use Rattle.wgsl_token_layout.proofs.laws.laid_out_as_its_tokens.Goals as goal
-
-pub returns : goal.returns
-returns c = marked.laid_out_as_its_tokens

@@ -1,5 +1,0 @@
-//! Texts that are laid out as given tokens: what the tokens of a text are depends on the tokens alone, and not on the blankspace and
-//! the comments between them.
-#![tactic(auto)]
-
-pub mod laws;

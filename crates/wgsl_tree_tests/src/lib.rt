@@ -1,7 +1,0 @@
-//! Tests of trees that are built in code: what is printed of them. The expected texts are those of the project's description.
-#![tactic(auto)]
-
-#[cfg(test)]
-mod declarations;
-#[cfg(test)]
-mod expressions;

@@ -1,9 +1,0 @@
-pub mod Tokens
-pub mod Printable
-pub mod Attributes
-pub mod Directives
-pub mod DeclarationKinds
-pub mod Imports
-pub mod Laws
-pub use Rattle.wgsl_token_layout.specs.Layout
-pub use Rattle.wgsl_token_layout.specs.OptionalMarks

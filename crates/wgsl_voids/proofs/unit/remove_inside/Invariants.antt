@@ -1,6 +1,0 @@
-use Rattle.std.proofs.Common.{◌≡◌, ◌++◌, take, drop, map}
-use Rattle.wgsl_voids_spec.specs.Units.{node_without_voids}
-use Rattle.wgsl_voids.proofs.unit.remove_inside.Given as goal
-
-abbrev pub invariant-loop-i : goal.invariant-loop-i
-invariant-loop-i l = l.declarations ≡ map node_without_voids (take l.i l.initial.declarations) ++ drop l.i l.initial.declarations

@@ -1,9 +1,0 @@
-pub mod Layers
-pub mod Equations
-pub mod Opened
-pub mod Views
-pub mod Counting
-pub mod Staying
-pub mod Leaving
-pub mod Twice
-pub mod Modules

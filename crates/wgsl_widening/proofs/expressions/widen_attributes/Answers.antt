@@ -1,9 +1,0 @@
-use Rattle.wgsl_attributes.specs.View as whole
-use Rattle.wgsl_syntax.specs.View.{attribute_tree}
-use Rattle.wgsl_part.specs.Widening.{widen_attr}
-use Rattle.wgsl_widening.proofs.Widened.{all_of}
-use Rattle.wgsl_widening.proofs.expressions.widen_attributes.Goals as goal
-
-pub returns : goal.returns
-returns c =
-    all_of widen_attr (λ n. attribute_tree n.node) (λ n. whole.attribute_tree n.node) c.args.attributes.now c.loop-attribute.attribute-index c.loop-attribute.widened c.loop-attribute-test.false c.loop-attribute.invariant

@@ -1,0 +1,4 @@
+pub mod Operators
+pub mod Texts
+pub mod Names
+pub mod Builtin

@@ -1,8 +1,0 @@
-use Rattle.std.proofs.Common.{◌∙◌, ap}
-use Rattle.wgsl_syntax.specs.Tree.{parenthesized}
-use Rattle.wgsl_syntax.specs.View.{node_tree}
-use Rattle.wgsl_syntax.proofs.Trees.{tree_of_parenthesized}
-use Rattle.wgsl_written.proofs.write.parenthesized.Goals as goal
-
-pub returns : goal.returns
-returns c = tree_of_parenthesized _ ∙ ap (λ n. parenthesized (node_tree n)) c.in_ok-expression.ensures
