@@ -9,3 +9,6 @@ mod unit;
 
 pub use unit::run;
 pub use wesl_conditions::{CondCompError, Feature, Features};
+pub use wesl_visits::{
+    Visit, VisitAttributes, VisitEach, VisitEachMut, VisitExpressions, VisitStatements, VisitTypes,
+};

@@ -2,6 +2,8 @@
 #![tactic(auto)]
 
 #[cfg(test)]
+mod linking;
+#[cfg(test)]
 mod manglers;
 #[cfg(test)]
 mod resolvers;

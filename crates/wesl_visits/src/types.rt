@@ -1,0 +1,54 @@
+//! Visits of types by the generic traits.
+
+use crate::visit::{Visit, VisitEach, VisitEachMut};
+use std::alloc::{AllocError, Global};
+use wesl_visit_in_modules::VisitTypes;
+use wgsl_expressions::TypeExpression;
+
+impl<S: VisitTypes> Visit<TypeExpression> for S {
+    ghost nodes = { S.nodes };
+
+    fn visit<'a>(&'a self, alloc: Global) -> Result<Vec<&'a TypeExpression>, AllocError> {
+        VisitTypes::visit(self, alloc)
+    }
+}
+
+impl<S: VisitTypes, E, F: FnMut(&TypeExpression) -> Result<(), E>> VisitEach<TypeExpression, E, F>
+    for S {
+    ghost use Rattle.std.specs.Fn.{CalledAt};
+    ghost use Rattle.wesl_visit_children.specs.Turns.{CalledDeep};
+    ghost use Rattle.wesl_visit_expressions.specs.Types.{types_inside};
+
+    ghost callable = { F.IsAlwaysCallable };
+
+    ghost met = { λ s f r g. CalledDeep types_inside (CalledAt F.FnMut) f (S.nodes s) r g };
+
+    fn visit_rec(&self, f: &mut F) -> Result<(), E> {
+        VisitTypes::visit_rec(self, f)
+    }
+}
+
+impl<S: VisitTypes, E, F: FnMut(&mut TypeExpression) -> Result<(), E>> VisitEachMut<
+    TypeExpression,
+    E,
+    F,
+> for S {
+    ghost use Rattle.std.specs.Prelude.{◌≡◌};
+    ghost use Rattle.std.specs.Fn.{CalledAtMut};
+    ghost use Rattle.wesl_visit_children.specs.Turns.{ChangedInTurn, ChangedDeep};
+    ghost use Rattle.wesl_visit_expressions.specs.Types.{types_inside, around_inside};
+
+    ghost callable = { F.IsAlwaysCallable };
+
+    ghost changed = { λ s f r t g. ChangedInTurn (CalledAtMut F.FnMut) f (S.nodes s) r g (S.nodes t) × (S.around t ≡ S.around s) };
+
+    ghost changed_deep = { λ s f r t g. ChangedDeep types_inside around_inside (CalledAtMut F.FnMut) f (S.nodes s) r g (S.nodes t) × (S.around t ≡ S.around s) };
+
+    fn visit_mut(&mut self, f: &mut F) -> Result<(), E> {
+        VisitTypes::visit_mut(self, f)
+    }
+
+    fn visit_rec_mut(&mut self, f: &mut F) -> Result<(), E> {
+        VisitTypes::visit_rec_mut(self, f)
+    }
+}
