@@ -11,6 +11,7 @@ pub fn syntax_kind(kind: ErrorKind) -> &'static str {
         ErrorKind::ReservedWord => "ReservedWord",
         ErrorKind::UnexpectedToken => "UnexpectedToken",
         ErrorKind::UnexpectedEof => "UnexpectedEof",
+        ErrorKind::ExtraToken => "ExtraToken",
         ErrorKind::DiagnosticSeverity => "DiagnosticSeverity",
         ErrorKind::Attribute => "Attribute",
         ErrorKind::VarTemplate => "VarTemplate",

@@ -18,6 +18,8 @@ pub enum ErrorKind {
     UnexpectedToken,
     /// The text ends where some text goes on.
     UnexpectedEof,
+    /// A token behind the end of a text. No text has this fault: a token too many is an `UnexpectedToken`.
+    ExtraToken,
     /// No severity of a diagnostic.
     DiagnosticSeverity,
     /// The arguments of an attribute are not those that it takes.
@@ -83,6 +85,7 @@ impl ErrorKind {
             ErrorKind::ReservedWord => "reserved word",
             ErrorKind::UnexpectedToken => "unexpected token",
             ErrorKind::UnexpectedEof => "unexpected end of the text",
+            ErrorKind::ExtraToken => "extra token",
             ErrorKind::DiagnosticSeverity => "invalid severity of a diagnostic",
             ErrorKind::Attribute => "invalid arguments of an attribute",
             ErrorKind::VarTemplate => "invalid template of `var`",
@@ -178,6 +181,7 @@ impl Error {
             | ErrorKind::ReservedWord
             | ErrorKind::UnexpectedToken
             | ErrorKind::UnexpectedEof
+            | ErrorKind::ExtraToken
             | ErrorKind::DiagnosticSeverity
             | ErrorKind::Attribute
             | ErrorKind::VarTemplate => None,
