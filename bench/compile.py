@@ -2,13 +2,14 @@
 """Times `weslc compile` on generated bundles: compile.py [PROGRAM]   (default: ../crates/weslc/out/weslc)
 
 Each bundle is one module of so many declarations, statements or levels. Beside the time of compiling stands the time that the same program needs to
-link the same bundle, and the peak of memory. Each figure is the least of a few runs; a run of more than a minute is given up."""
+link the same bundle, that of a lexer by hand (beside.py), and the peak of memory. Each figure is the least of a few runs; a run of more than a minute is given up."""
 import json
 import os
 import sys
 import time
 import subprocess
 
+from beside import times
 from link import peak_of
 
 HERE = os.path.dirname(os.path.abspath(__file__))
@@ -117,8 +118,8 @@ def shown(time):
 
 def main(argv):
     program = [os.path.abspath(argv[0] if argv else os.path.join(HERE, "../crates/weslc/out/weslc"))]
-    print("| shape | declarations | bundle, bytes | linked, s | compiled, s | ratio | peak, times the bundle |")
-    print("|---|---|---|---|---|---|---|")
+    print("| shape | declarations | bundle, bytes | linked, s | compiled, s | ratio | times the C lexer | peak, times the bundle |")
+    print("|---|---|---|---|---|---|---|---|")
     rows = [(name, shape, n) for name, shape in [*SHAPES.items(), *WHOLE.items()] for n in (10, 100, 1000, 10000)]
     rows += [(f"{name}, levels", shape, n) for name, shape in LEVELS.items() for n in (20, 200, 600)]
     for name, shape, n in rows:
@@ -126,7 +127,7 @@ def main(argv):
         data = bundle("compile", text, keep)
         linked, compiled = timed(program, bundle("link", text, keep)), timed(program, data)
         both = isinstance(linked, float) and isinstance(compiled, float)
-        ratio = f"{compiled / linked:.1f}" if both else "-"
+        ratio = f"{compiled / linked:.1f} | {times(compiled, text)}" if both else "- | -"
         peak = f"{peak_of(program, data) / len(data):.1f}" if both else "-"
         print(f"| {name} | {n} | {len(data)} | {shown(linked)} | {shown(compiled)} | {ratio} | {peak} |", flush=True)
 

@@ -3,7 +3,8 @@
 
 Each bundle has so many declarations over so many modules; module k imports from the next ones, in a chain or a fan, and
 the root keeps one function that reaches all. Beside the time of linking stands the time that the same program needs to
-refuse the same bundle for an unknown key, that is, to read its JSON. Each figure is the least of a few runs. Last, how
+refuse the same bundle for an unknown key, that is, to read its JSON; and
+a lexer by hand over the modules' texts (beside.py). Each figure is the least of a few runs. Last, how
 time grows from 1,000 to 10,000 declarations: by runs of both in turn, of which the medians are compared."""
 import json
 import os
@@ -12,6 +13,8 @@ import statistics
 import subprocess
 import sys
 import time
+
+from beside import times
 
 HERE = os.path.dirname(os.path.abspath(__file__))
 RUNS = 3
@@ -97,8 +100,8 @@ def peak_of(program, data):
 
 def main(argv):
     program = [os.path.abspath(argv[0] if argv else os.path.join(HERE, "../crates/weslc/out/weslc"))]
-    print("| shape | declarations | modules | bundle, bytes | read and refused, s | linked, s | ratio | peak, times the bundle |")
-    print("|---|---|---|---|---|---|---|---|")
+    print("| shape | declarations | modules | bundle, bytes | read and refused, s | linked, s | ratio | times the C lexer | peak, times the bundle |")
+    print("|---|---|---|---|---|---|---|---|---|")
     long = " + x * 2u - (x % 7u)" * 38
     for shape, make in (("chain", chain), ("fan", fan)):
         for declarations, modules, body in ((10, 1, ""), (100, 10, ""), (1000, 10, ""), (1000, 100, ""), (10000, 10, ""),
@@ -111,7 +114,8 @@ def main(argv):
             base, _ = timed(program, refused, 2)
             took, _ = timed(program, data, 0)
             peak = peak_of(program, data)
-            print(f"| {shape} | {declarations} | {modules} | {len(data)} | {base:.4f} | {took:.4f} | {took / base:.1f} | {peak / len(data):.1f} |", flush=True)
+            rest = f"{took / base:.1f} | {times(took, ''.join(texts))} | {peak / len(data):.1f}"
+            print(f"| {shape} | {declarations} | {modules} | {len(data)} | {base:.4f} | {took:.4f} | {rest} |", flush=True)
     print("\n| shape | modules | 1,000 declarations, s | 10,000 declarations, s | growth |")
     print("|---|---|---|---|---|")
     for shape, make in (("chain", chain), ("fan", fan)):

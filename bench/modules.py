@@ -5,7 +5,7 @@ usage: bench/modules.py [WESLC [CASES]]      the built programs; crates/weslc/ou
 
 Four shapes, each from a tenth to the whole: one module of 3 MB, 1,000 modules of 3 kB, a chain of 2,000 published imports of one name, and
 a module of 10,000 declarations that use their neighbours. Beside the time of linking stands that of parsing the same texts alone, by the
-program of cases, which reads them as one module. A time is the least of three runs."""
+program of cases, which reads them as one module, and that of a lexer by hand (beside.py). A time is the least of three runs."""
 import json
 import os
 import resource
@@ -13,6 +13,7 @@ import subprocess
 import sys
 import time
 
+from beside import times
 from parse import timed as parsed
 
 HERE = os.path.dirname(os.path.abspath(__file__))
@@ -99,8 +100,8 @@ def linked(program, data):
 def main(arguments):
     names = arguments + ["crates/weslc/out/weslc", "crates/weslc_cases/out/weslc_cases"][len(arguments):]
     program, cases = (os.path.abspath(it if arguments else os.path.join(HERE, "..", it)) for it in names)
-    print("| shape | bytes | linked, s | parsed alone, s | ratio | growth | peak, times the texts |")
-    print("|---|---|---|---|---|---|---|")
+    print("| shape | bytes | linked, s | parsed alone, s | ratio | times the C lexer | growth | peak, times the texts |")
+    print("|---|---|---|---|---|---|---|---|")
     for shape, make in SHAPES:
         before = None
         for part in (1, 10):
@@ -108,8 +109,8 @@ def main(arguments):
             size, data = sum(map(len, texts)), bundle(texts, mode, keep)
             took, peak = min(linked(program, data) for _ in range(RUNS))
             alone = parsed_alone(cases, texts)
-            growth = f"{took / before:.1f}" if before else ""
-            print(f"| {shape} | {size:,} | {took:.3f} | {alone:.3f} | {took / alone:.1f} | {growth} | {peak / size:.0f} |", flush=True)
+            growth, lexed = f"{took / before:.1f}" if before else "", times(took, "\n".join(texts))
+            print(f"| {shape} | {size:,} | {took:.3f} | {alone:.3f} | {took / alone:.1f} | {lexed} | {growth} | {peak / size:.0f} |", flush=True)
             before = took
 
 

@@ -4,7 +4,8 @@
 usage: bench/parse.py PROGRAM      PROGRAM is a built crates/weslc_cases/out/weslc_cases
 
 The program of cases reads one case: a module of the wanted size on one line, of which it tells whether it has a fault. So a time holds
-reading the file, and lexing, parsing and dropping the module."""
+reading the file, and lexing, parsing and dropping the module. Beside it stand a lexer by hand over the same text, and other compilers that the
+machine has (beside.py)."""
 import os
 import resource
 import subprocess
@@ -12,6 +13,7 @@ import sys
 import tempfile
 import time
 
+from beside import peers, times
 from one_case import fill
 
 FUNCTION = """@compute @workgroup_size(8, 8, 1) fn main_%d(@builtin(global_invocation_id) id: vec3<u32>, @location(0) weight: f32) -> @location(1) vec4<f32> {
@@ -54,7 +56,9 @@ def main():
         text = module(size)
         seconds = min(timed(program, text) for _ in range(3))
         peak = resource.getrusage(resource.RUSAGE_CHILDREN).ru_maxrss * 1024
-        print(f"{len(text):>9} bytes  {seconds:7.3f} s  {len(text) / seconds / 1e6:6.2f} MB/s  peak {peak / len(text):6.1f} times the text")
+        others = "".join(f"  {name} {took:.3f} s" for name, took in peers(text).items())
+        speed, room = f"{len(text) / seconds / 1e6:6.2f} MB/s", f"peak {peak / len(text):6.1f} times the text"
+        print(f"{len(text):>9} bytes  {seconds:7.3f} s  {speed}  {times(seconds, text):>4} times the C lexer  {room}{others}")
 
 
 if __name__ == "__main__":

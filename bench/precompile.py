@@ -4,7 +4,7 @@
 usage: bench/precompile.py WESLC PARSE         the built programs crates/weslc/out/weslc and crates/weslc_cases/out/weslc_cases
 
 The first reads a bundle with one module of so many declarations: it parses the module, fixes its flags, prints what is left, and parses that.
-The second reads one case alone, and tells whether the same text has a fault."""
+The second reads one case alone, and tells whether the same text has a fault. Beside both stands a lexer by hand (beside.py)."""
 import json
 import os
 import resource
@@ -13,6 +13,7 @@ import sys
 import tempfile
 import time
 
+from beside import times
 from one_case import fill
 
 FOUR = """@if(fast && !debug) @compute @workgroup_size(8, 8, 1) fn main_%d(@builtin(global_invocation_id) id: vec3<u32>, @if(debug) @location(0) w: f32) {
@@ -54,15 +55,15 @@ def timed(program, given="", case=""):
 
 def main():
     weslc, parse = map(os.path.abspath, sys.argv[1:])
-    print("| declarations | bytes | precompiled, s | parsed, s | ratio | peak, times the text |")
-    print("|---|---|---|---|---|---|")
+    print("| declarations | bytes | precompiled, s | parsed, s | ratio | times the C lexer | peak, times the text |")
+    print("|---|---|---|---|---|---|---|")
     for declarations in (10, 100, 1000, 10000):
         text = module(declarations)
         took, peak, out = timed(weslc, given=bundle(text))
         alone, _, _ = timed(parse, case=f"fault\tmodule\t{text}\tnone")
         if b"fn main_0" not in out:
             print(out[:300], file=sys.stderr)
-        print(f"| {declarations} | {len(text)} | {took:.4f} | {alone:.4f} | {took / alone:.1f} | {peak / len(text):.1f} |", flush=True)
+        print(f"| {declarations} | {len(text)} | {took:.4f} | {alone:.4f} | {took / alone:.1f} | {times(took, text)} | {peak / len(text):.1f} |", flush=True)
 
 
 if __name__ == "__main__":
