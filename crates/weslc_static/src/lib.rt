@@ -33,11 +33,7 @@ pub struct Answer<'a> {
 
 /// Answers a bundle. Where memory is refused, the status is 1 and the line says so, which takes no memory.
 #[unsafe(no_mangle)]
-pub extern "C" fn weslc_static_answer(
-    alloc: Global,
-    bundle: &[u8],
-    answer: &mut Answer<'static>,
-)
+pub extern "C" fn weslc_static_answer(alloc: Global, bundle: &[u8], answer: &mut Answer<'static>)
     ensures text { answer.new.status ≡ 0 → Answered (Some bundle.now) answer.new.text.now }
     ensures no_bundle { answer.new.status ≡ 2 → (refusal : ServeError) × Refused (Some bundle.now) refusal × (status_of refusal ≡ 2) }
     ensures statuses { answer.new.status ≤ 2 }

@@ -4,12 +4,14 @@ use super::{Answer, weslc_static_answer};
 use std::alloc::Global;
 use weslc_bundle::serve_bundle;
 
-const LINKED: &[u8] = br#"{"command": "link", "root": "package", "modules": [{"path": "package", "text": "import package::m::two; fn g() -> u32 { return two + 1; }"}, {"path": "package::m", "text": "const two = 2;"}], "keep": ["g"]}"#;
+const LINKED: &[u8] =
+    br#"{"command": "link", "root": "package", "modules": [{"path": "package", "text": "import package::m::two; fn g() -> u32 { return two + 1; }"}, {"path": "package::m", "text": "const two = 2;"}], "keep": ["g"]}"#;
 
 const TEXT: &[u8] =
     b"fn g() -> u32 {\n    return package_m_two + 1;\n}\nconst package_m_two = 2;\n";
 
-const GONE: &[u8] = br#"{"command": "link", "root": "package", "modules": [{"path": "package", "text": "import package::m::gone; fn g() -> u32 { return gone; }"}, {"path": "package::m", "text": "const two = 2;"}], "keep": ["g"]}"#;
+const GONE: &[u8] =
+    br#"{"command": "link", "root": "package", "modules": [{"path": "package", "text": "import package::m::gone; fn g() -> u32 { return gone; }"}, {"path": "package::m", "text": "const two = 2;"}], "keep": ["g"]}"#;
 
 const EMPTY: &[u8] =
     br#"{"command": "link", "root": "package", "modules": [{"path": "package", "text": ""}]}"#;
@@ -48,9 +50,30 @@ fn answers_are_those_of_weslc(rt: HostRuntime) {
     let (alloc, mut answer) = (rt.alloc(), no_answer());
     for _turn in 0..2 {
         assert!(rt; is_answered(alloc, LINKED, &mut answer, (0, TEXT, b"")));
-        assert!(rt; is_answered(alloc, GONE, &mut answer, (1, b"", b"error: Import.MissingDecl package::m - - gone\n")));
-        assert!(rt; is_answered(alloc, NO_UTF8, &mut answer, (2, b"", b"error: Bundle - - - -\n")));
+        assert!(rt;
+            is_answered(
+                alloc,
+                GONE,
+                &mut answer,
+                (1, b"", b"error: Import.MissingDecl package::m - - gone\n")
+            )
+        );
+        assert!(rt;
+            is_answered(
+                alloc,
+                NO_UTF8,
+                &mut answer,
+                (2, b"", b"error: Bundle - - - -\n")
+            )
+        );
         assert!(rt; is_answered(alloc, EMPTY, &mut answer, (0, b"", b"")));
-        assert!(rt; is_answered(alloc, b"", &mut answer, (2, b"", b"error: Bundle - - - -\n")));
+        assert!(rt;
+            is_answered(
+                alloc,
+                b"",
+                &mut answer,
+                (2, b"", b"error: Bundle - - - -\n")
+            )
+        );
     }
 }
