@@ -12,6 +12,7 @@ ghost use mir.Syntax.{Ty};
 ghost use types.Logic.{sem};
 ghost use Rattle.libc.specs.Heap.{chunk};
 ghost use Rattle.weslc_bundle.specs.Served.{Answered, Refused, status_of};
+ghost use Rattle.weslc_static.specs.Lines.{EndsWithBreak};
 
 use std::alloc::Global;
 use std::rt::Memory;
@@ -39,6 +40,7 @@ pub extern "C" fn weslc_static_answer(alloc: Global, bundle: &[u8], answer: &mut
     ensures statuses { answer.new.status ≤ 2 }
     ensures no_line { answer.new.status ≡ 0 → answer.new.line.now ≡ [] }
     ensures no_text { 0 < answer.new.status → answer.new.text.now ≡ [] }
+    ensures whole_line { 0 < answer.new.status → EndsWithBreak answer.new.line.now }
     ensures memory { IsTrue answer.new.holds_memory → 0 < length answer.new.text.now + length answer.new.line.now }
 {
     let mut reader = bundle;
@@ -69,6 +71,7 @@ fn of_text(text: Vec<u8>) -> Answer<'static>
 /// The answer where there is no text. A line without its line break was cut short, since memory was refused.
 fn of_line(line: Vec<u8>, status: u8) -> Answer<'static>
     ensures status { ((result.status ≡ status) ⊎ (result.status ≡ 1)) × (result.text.now ≡ []) }
+    ensures line { EndsWithBreak result.line.now }
     ensures memory { IsTrue result.holds_memory → 0 < length result.line.now }
 {
     match line.last() {

@@ -13,10 +13,14 @@ const TEXT: &[u8] =
 const GONE: &[u8] =
     br#"{"command": "link", "root": "package", "modules": [{"path": "package", "text": "import package::m::gone; fn g() -> u32 { return gone; }"}, {"path": "package::m", "text": "const two = 2;"}], "keep": ["g"]}"#;
 
+const GONE_LINE: &[u8] = b"error: Import.MissingDecl package::m - - gone\n";
+
 const EMPTY: &[u8] =
     br#"{"command": "link", "root": "package", "modules": [{"path": "package", "text": ""}]}"#;
 
 const NO_UTF8: &[u8] = b"{\"command\": \"\xff\"}";
+
+const NO_BUNDLE_LINE: &[u8] = b"error: Bundle - - - -\n";
 
 /// The answer that says nothing.
 fn no_answer() -> Answer<'static> {
@@ -50,30 +54,9 @@ fn answers_are_those_of_weslc(rt: HostRuntime) {
     let (alloc, mut answer) = (rt.alloc(), no_answer());
     for _turn in 0..2 {
         assert!(rt; is_answered(alloc, LINKED, &mut answer, (0, TEXT, b"")));
-        assert!(rt;
-            is_answered(
-                alloc,
-                GONE,
-                &mut answer,
-                (1, b"", b"error: Import.MissingDecl package::m - - gone\n")
-            )
-        );
-        assert!(rt;
-            is_answered(
-                alloc,
-                NO_UTF8,
-                &mut answer,
-                (2, b"", b"error: Bundle - - - -\n")
-            )
-        );
+        assert!(rt; is_answered(alloc, GONE, &mut answer, (1, b"", GONE_LINE)));
+        assert!(rt; is_answered(alloc, NO_UTF8, &mut answer, (2, b"", NO_BUNDLE_LINE)));
         assert!(rt; is_answered(alloc, EMPTY, &mut answer, (0, b"", b"")));
-        assert!(rt;
-            is_answered(
-                alloc,
-                b"",
-                &mut answer,
-                (2, b"", b"error: Bundle - - - -\n")
-            )
-        );
+        assert!(rt; is_answered(alloc, b"", &mut answer, (2, b"", NO_BUNDLE_LINE)));
     }
 }
