@@ -5,6 +5,7 @@
 #include <stdbool.h>
 #include <stddef.h>
 #include <stdint.h>
+#include <stdlib.h>
 
 /* What a bundle is answered with. The text or the line is empty, or both are; neither ends with a byte 0. */
 struct weslc_answer {
@@ -16,10 +17,9 @@ struct weslc_answer {
     bool holds_memory; /* for weslc_give_back */
 };
 
-/* The functions of the library. Call those below in their place, which meet what these ask for: no pointer is null, `answer` is one that
-   weslc_no_answer or the library gave, and `block` is the text or the line of an answer that holds memory, which nothing uses any more. */
+/* The function of the library. Call weslc_answer_bundle in its place, which meets what this one asks for: no pointer is null, and `answer`
+   is one that weslc_no_answer or the library gave. */
 void weslc_static_answer(const uint8_t *bundle, size_t length, struct weslc_answer *answer);
-void weslc_static_give_back(uint8_t *block);
 
 /* The answer that says nothing and holds no memory. */
 static inline struct weslc_answer weslc_no_answer(void) {
@@ -40,7 +40,7 @@ static inline struct weslc_answer weslc_answer_bundle(const void *bundle, size_t
    may be given back. */
 static inline void weslc_give_back(struct weslc_answer *answer) {
     if (answer->holds_memory) {
-        weslc_static_give_back((uint8_t *)(answer->text_length ? answer->text : answer->line));
+        free((void *)(answer->text_length ? answer->text : answer->line));
     }
     *answer = weslc_no_answer();
 }

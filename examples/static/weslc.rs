@@ -1,4 +1,5 @@
 //! The static library of `weslc`: a bundle's bytes in; text, error line and status out. docs/BUILDS.md says how it is built and linked.
+use std::ffi::c_void;
 use std::slice;
 
 /// What `struct weslc_answer` of weslc.h is.
@@ -14,7 +15,7 @@ struct Parts {
 
 unsafe extern "C" {
     fn weslc_static_answer(bundle: *const u8, length: usize, answer: *mut Parts);
-    fn weslc_static_give_back(block: *mut u8);
+    fn free(block: *mut c_void);
 }
 
 /// What a bundle is answered with. Its memory is given back where it is dropped.
@@ -53,8 +54,8 @@ impl Drop for Answer {
     fn drop(&mut self) {
         if self.0.holds_memory {
             let block = if self.0.text_length > 0 { self.0.text } else { self.0.line };
-            // SAFETY: the answer holds memory, and nothing uses it any more.
-            unsafe { weslc_static_give_back(block.cast_mut()) };
+            // SAFETY: the block is one of `malloc`, and nothing uses it any more.
+            unsafe { free(block.cast_mut().cast()) };
         }
     }
 }

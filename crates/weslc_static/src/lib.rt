@@ -1,21 +1,15 @@
-//! `weslc` for programs in C and Rust, as a static library: a bundle's bytes in; text, error line and status out. Its functions are made safe
-//! for C by `examples/static/weslc.h`, for Rust by `examples/static/weslc.rs`.
+//! `weslc` for programs in C and Rust, as a static library: a bundle's bytes in; text, error line and status out. `examples/static/weslc.h`
+//! wraps the one function for C, `examples/static/weslc.rs` for Rust.
 #![tactic(auto)]
 
 #[cfg(test)]
 mod tests;
 
 ghost use Rattle.std.specs.Prelude.{◌≡◌, ◌⊎◌, ◌+◌, ◌<◌, ◌≤◌, [], length, Some, IsTrue};
-ghost use base.Fml.{fsep};
-ghost use denote.RawPtr.{room_for};
-ghost use mir.Syntax.{Ty};
-ghost use types.Logic.{sem};
-ghost use Rattle.libc.specs.Heap.{chunk};
 ghost use Rattle.weslc_bundle.specs.Served.{Answered, Refused, status_of};
 ghost use Rattle.weslc_static.specs.Lines.{EndsWithBreak};
 
 use std::alloc::Global;
-use std::rt::Memory;
 use weslc_bundle::{ServeError, serve_bundle};
 
 /// What a bundle is answered with, as `weslc` answers it. The text or the line is empty, or both are.
@@ -28,7 +22,7 @@ pub struct Answer<'a> {
     pub line: &'a [u8],
     /// The status of `weslc`: 0, 1 or 2.
     pub status: u8,
-    /// Whether the one of text and line that is not empty begins a block of the heap, which is to be given back.
+    /// Whether the one of text and line that is not empty begins a block of the heap. The caller is to free it: nothing else uses it.
     pub holds_memory: bool,
 }
 
@@ -88,13 +82,4 @@ fn of_line(line: Vec<u8>, status: u8) -> Answer<'static>
             holds_memory: false,
         },
     }
-}
-
-/// Gives back the block that the text or the line of an answer begins, where the answer holds memory. Nothing uses it from then on.
-#[unsafe(no_mangle)]
-pub unsafe extern "C" fn weslc_static_give_back(memory: Memory, block: *mut u8)
-    ghost ty: { Ty }
-    requires* block { sem 𝓛 (fsep (room_for ty block) (chunk ty block)) }
-{
-    libc::heap::rattle_dealloc(memory, block);
 }
