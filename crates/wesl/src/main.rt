@@ -4,7 +4,7 @@
 use std::io;
 use std::io::{ErrorKind, Write};
 use std::process::ExitCode;
-use wesl_tool::run_words;
+use wesl_several::run_words;
 
 fn run(rt: &HostRuntime) -> io::Result<u8> {
     let mut errors = rt.stderr();
@@ -16,8 +16,9 @@ fn run(rt: &HostRuntime) -> io::Result<u8> {
         }
         Err(error) => return Err(error),
     };
+    let mut input = rt.stdin();
     let mut out = rt.stdout();
-    run_words(rt, words.as_slice(), &mut out, &mut errors)
+    run_words(rt, words.as_slice(), &mut input, &mut out, &mut errors)
 }
 
 fn main(rt: HostRuntime) -> ExitCode {

@@ -1,12 +1,12 @@
-//! The cases of `wesl`: each line of the file `commands` is a command line, which is run over the folders beside it; what it writes
-//! and its status are printed. Each pair of lines of the file `same` is a command line, and the members of a bundle of the same
+//! The cases of `wesl`: each line of the file `commands` is a command line, which is run over the folders beside it, with the file `typed`
+//! as standard input; what it writes and its status are printed. Each pair of lines of the file `same` is a command line, and the members of a bundle of the same
 //! modules, of which `weslc` has to make the same text, error line and status.
 #![tactic(auto)]
 
 use std::io::Write;
 use std::os::unix::fs::symlink;
 use std::{fs, io};
-use wesl_tool::{run_words, serve_bundle};
+use wesl_several::{run_words, serve_bundle};
 
 /// The longest text that a file may have, and one byte more.
 const TOO_LONG: usize = 16_777_217;
@@ -44,11 +44,12 @@ fn words_of(rt: &HostRuntime, line: &str) -> io::Result<Vec<String>> {
 }
 
 /// Runs a command line, and prints what it writes.
-fn run_line<W: Write>(rt: &HostRuntime, line: &str, out: &mut W) -> io::Result<()> {
+fn run_line<W: Write>(rt: &HostRuntime, line: &str, typed: &str, out: &mut W) -> io::Result<()> {
     let words = words_of(rt, line)?;
+    let mut input = typed.as_bytes();
     let mut text = Vec::new(rt.alloc());
     let mut errors = Vec::new(rt.alloc());
-    let status = run_words(rt, words.as_slice(), &mut text, &mut errors)?;
+    let status = run_words(rt, words.as_slice(), &mut input, &mut text, &mut errors)?;
     writeln!(out, "$ wesl {line}")?;
     out.write_all(text.as_slice())?;
     out.write_all(errors.as_slice())?;
@@ -58,9 +59,10 @@ fn run_line<W: Write>(rt: &HostRuntime, line: &str, out: &mut W) -> io::Result<(
 /// Runs a command line, and `weslc` over a bundle, and prints whether both write the same.
 fn compare<W: Write>(rt: &HostRuntime, line: &str, bundle: &str, out: &mut W) -> io::Result<()> {
     let words = words_of(rt, line)?;
+    let mut input = b"".as_slice();
     let mut text = Vec::new(rt.alloc());
     let mut errors = Vec::new(rt.alloc());
-    let status = run_words(rt, words.as_slice(), &mut text, &mut errors)?;
+    let status = run_words(rt, words.as_slice(), &mut input, &mut text, &mut errors)?;
     let mut reader = bundle.as_bytes();
     let mut wanted = Vec::new(rt.alloc());
     let mut line_wanted = Vec::new(rt.alloc());
@@ -105,13 +107,17 @@ fn main(rt: HostRuntime) -> io::Result<()> {
     write_long_file(&rt)?;
     make_links(&rt)?;
     let commands = fs::read_to_string(&rt, "commands")?;
+    let typed = fs::read_to_string(&rt, "typed")?;
     let mut out = rt.stdout();
     for line in commands.as_str().lines() {
-        run_line(&rt, line, &mut out)?;
+        run_line(&rt, line, typed.as_str(), &mut out)?;
     }
     compare_all(&rt, &mut out)?;
     show_file(&rt, "linked.wgsl", &mut out)?;
     show_file(&rt, "map.json", &mut out)?;
     show_file(&rt, "squared.txt", &mut out)?;
+    show_file(&rt, "made.d", &mut out)?;
+    show_file(&rt, "failed.d", &mut out)?;
+    show_file(&rt, "mapped.map", &mut out)?;
     out.flush()
 }

@@ -62,3 +62,16 @@ fn count_of(name: &str, packages: &[Package<'_>]) -> usize {
     }
     count
 }
+
+/// Whether what a depfile is to name is named: the file that is made.
+pub(crate) fn check_depfile(
+    alloc: Global,
+    depfile: Option<&str>,
+    output: Option<&str>,
+) -> Result<(), Unread> {
+    if depfile.is_some() && output.is_none() {
+        let why = "error: --depfile says what the file of --output is made of: name that one too\n";
+        return Err(Unread::Wrong(String::from_str(alloc, why)?));
+    }
+    Ok(())
+}

@@ -6,5 +6,5 @@ mod options;
 mod request;
 mod words;
 
-pub use request::{Flag, Format, Package, Request, Verb};
+pub use request::{Flag, Format, Package, Request, STANDARD_INPUT, Verb};
 pub use words::{Unread, format_in, read_words};

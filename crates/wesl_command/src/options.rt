@@ -16,6 +16,8 @@ static FORMATS: [&str; 3] = ["text", "line", "json"];
 enum Takes {
     /// A word that stands by itself, and is needed.
     Word,
+    /// One or more of them.
+    Words,
     /// A text, and the option is needed.
     Needed,
     Text,
@@ -36,6 +38,8 @@ enum Scope {
     All,
     /// All but `precompile`.
     Reading,
+    /// `check`.
+    Checking,
     /// `link`, `compile` and `check`.
     Linking,
     /// All but `check`.
@@ -46,6 +50,8 @@ enum Scope {
     Evaluating,
     /// `run`.
     Running,
+    /// `run` and `eval`.
+    Valuing,
     /// `eval`.
     Answering,
 }
@@ -61,7 +67,7 @@ struct Row {
     scope: Scope,
 }
 
-const OPTION_COUNT: usize = 20;
+const OPTION_COUNT: usize = 25;
 
 /// The words and options, in the order in which help shows them.
 static OPTIONS: [Row; OPTION_COUNT] = [
@@ -69,9 +75,17 @@ static OPTIONS: [Row; OPTION_COUNT] = [
         name: "file",
         short: None,
         value: "FILE",
-        help: "the root module",
+        help: "the root module; - reads it from standard input",
         takes: Takes::Word,
-        scope: Scope::All,
+        scope: Scope::Writing,
+    },
+    Row {
+        name: "file",
+        short: None,
+        value: "FILE",
+        help: "root modules, and folders of them; - is standard input",
+        takes: Takes::Words,
+        scope: Scope::Checking,
     },
     Row {
         name: "expression",
@@ -87,6 +101,14 @@ static OPTIONS: [Row; OPTION_COUNT] = [
         value: "FOLDER",
         help: "FILE's package [default: FILE's folder]",
         takes: Takes::Text,
+        scope: Scope::All,
+    },
+    Row {
+        name: "no-config",
+        short: None,
+        value: "",
+        help: "read no wesl.toml",
+        takes: Takes::Nothing,
         scope: Scope::All,
     },
     Row {
@@ -218,6 +240,30 @@ static OPTIONS: [Row; OPTION_COUNT] = [
         scope: Scope::Mapping,
     },
     Row {
+        name: "source-map",
+        short: None,
+        value: "FILE",
+        help: "where the source map of the text goes",
+        takes: Takes::Text,
+        scope: Scope::Mapping,
+    },
+    Row {
+        name: "depfile",
+        short: None,
+        value: "FILE",
+        help: "where the names of all files that were read go, for make",
+        takes: Takes::Text,
+        scope: Scope::Writing,
+    },
+    Row {
+        name: "json",
+        short: None,
+        value: "",
+        help: "print values as JSON, as --bindings reads them",
+        takes: Takes::Nothing,
+        scope: Scope::Valuing,
+    },
+    Row {
         name: "error-format",
         short: None,
         value: "FORMAT",
@@ -232,18 +278,20 @@ fn is_taken(scope: Scope, verb: Verb) -> bool {
     match scope {
         Scope::All => true,
         Scope::Reading => verb != Verb::Precompile,
+        Scope::Checking => verb == Verb::Check,
         Scope::Linking => verb == Verb::Link || verb == Verb::Compile || verb == Verb::Check,
         Scope::Writing => verb != Verb::Check,
         Scope::Mapping => verb == Verb::Link || verb == Verb::Compile,
         Scope::Evaluating => verb == Verb::Compile || verb == Verb::Run || verb == Verb::Eval,
         Scope::Running => verb == Verb::Run,
+        Scope::Valuing => verb == Verb::Run || verb == Verb::Eval,
         Scope::Answering => verb == Verb::Eval,
     }
 }
 
 fn action_of(takes: Takes) -> ArgAction {
     match takes {
-        Takes::Texts => ArgAction::Append,
+        Takes::Texts | Takes::Words => ArgAction::Append,
         Takes::Nothing => ArgAction::SetTrue,
         _ => ArgAction::Set,
     }
@@ -265,6 +313,7 @@ fn argument<'a>(alloc: Global, row: &'a Row) -> Arg<'a> {
     let argument = argument.value_name(row.value);
     match row.takes {
         Takes::Word => argument.required(true),
+        Takes::Words => argument.required(true).num_args(1..),
         Takes::Needed => argument.long(row.name).required(true),
         Takes::Text | Takes::Texts | Takes::Nothing => argument.long(row.name),
         Takes::Setting => argument.long(row.name).value_parser(SETTINGS.as_slice()),

@@ -1,6 +1,6 @@
 //! The words of a command line, read.
 
-use crate::checks::{check_flags, check_packages};
+use crate::checks::{check_depfile, check_flags, check_packages};
 use crate::options::wesl_command;
 use crate::request::{Flag, Format, Package, Request, Verb};
 use clap::{ArgMatches, Error};
@@ -89,7 +89,11 @@ fn packages_of<'a>(alloc: Global, matches: &ArgMatches<'a>) -> Result<Vec<Packag
             let why = "error: a package is written NAME=FOLDER\n";
             return Err(Unread::Wrong(String::from_str(alloc, why)?));
         };
-        packages.push(Package { name, folder })?;
+        packages.push(Package {
+            name,
+            folder,
+            is_named: true,
+        })?;
     }
     Ok(packages)
 }
@@ -107,6 +111,15 @@ fn list_of<'a>(
         }
     }
     Ok(list)
+}
+
+/// The files and folders behind the first.
+fn more_files<'a>(alloc: Global, matches: &ArgMatches<'a>) -> Result<Vec<&'a str>, AllocError> {
+    let mut files = list_of(alloc, matches, "file")?;
+    if !files.is_empty() {
+        files.remove(0);
+    }
+    Ok(files)
 }
 
 /// The flags: those that are on, those that are off, and those that are set to something.
@@ -130,7 +143,11 @@ fn push_flags<'a>(
     };
     for word in words {
         let name = *word;
-        flags.push(Flag { name, setting })?;
+        flags.push(Flag {
+            name,
+            setting,
+            is_named: true,
+        })?;
     }
     Ok(())
 }
@@ -145,7 +162,11 @@ fn push_settings<'a>(
     };
     for word in words {
         let (name, setting) = word.split_once('=').unwrap_or((*word, ""));
-        flags.push(Flag { name, setting })?;
+        flags.push(Flag {
+            name,
+            setting,
+            is_named: true,
+        })?;
     }
     Ok(())
 }
@@ -158,14 +179,17 @@ fn request_of<'a>(alloc: Global, matches: &ArgMatches<'a>) -> Result<Request<'a>
     let (Some(verb), Some(file)) = (verb_of(name), matches.get_str("file")) else {
         return Err(Unread::Wrong(String::new(alloc)));
     };
+    check_depfile(alloc, matches.get_str("depfile"), matches.get_str("output"))?;
     let packages = packages_of(alloc, matches)?;
     check_packages(alloc, packages.as_slice())?;
     let flags = flags_of(alloc, matches)?;
     check_flags(alloc, flags.as_slice())?;
     let keep = list_of(alloc, matches, "keep")?;
+    let more_files = more_files(alloc, matches)?;
     Ok(Request {
         verb,
         file,
+        more_files,
         root: matches.get_str("root"),
         packages,
         follows_links: matches.get_flag("follow-links"),
@@ -177,6 +201,12 @@ fn request_of<'a>(alloc: Global, matches: &ArgMatches<'a>) -> Result<Request<'a>
         max_steps: matches.get_one::<u64>("max-steps"),
         output: matches.get_str("output"),
         map: matches.get_str("map"),
+        source_map: matches.get_str("source-map"),
+        depfile: matches.get_str("depfile"),
+        prints_json: matches.get_flag("json"),
+        reads_config: !matches.get_flag("no-config"),
+        config: None,
+        shows_notes: true,
         entry: matches.get_str("entry"),
         bindings: matches.get_str("bindings"),
         inputs: matches.get_str("inputs"),

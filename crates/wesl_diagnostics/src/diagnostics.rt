@@ -1,8 +1,9 @@
 //! Errors for people: what an error line says, where it is, and what to change.
 
 mod error_line;
+mod findings;
 mod flags;
-mod json;
+mod hint;
 mod place;
 mod plain;
 mod report;
@@ -10,8 +11,9 @@ mod sentence;
 mod shown;
 
 pub use error_line::ErrorLine;
-pub use flags::names_flag;
-pub use json::push_json;
-pub use place::{Seek, SourceFile, declared_names, find_name, find_name_in, find_place};
+pub use findings::error_place;
+pub use flags::{meant_flag, names_flag};
 pub use plain::plain_json;
 pub use report::{Report, report_json, report_text};
+pub use wgsl_expected::did_you_mean;
+pub use wgsl_places::{Seek, SourceFile, declared_names, find_name, find_name_in};

@@ -12,6 +12,7 @@ pub use told::{Told, written};
 pub use weslc_bundle::{
     BasicSourceMap, Binding, BundleError, CompileError, ErrorContext, Feature, Features, Key, Mode,
     Options, OverrideValue, ResolveError, ResolveKind, RunRefusal, RunResult, ServeError,
-    SourceMap, ValueError, compile, eval, inputs_of, link, precompile, read_bindings, read_feature,
-    read_inputs, read_options, read_overrides, result_text, run, serve_bundle, zero_inputs,
+    SourceMap, ValueError, VirtualResolver, compile, eval, inputs_of, link, precompile,
+    read_bindings, read_feature, read_inputs, read_options, read_overrides, result_text, run,
+    serve_bundle, zero_inputs,
 };

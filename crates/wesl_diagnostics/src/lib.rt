@@ -5,13 +5,14 @@ mod diagnostics;
 mod fields;
 
 pub use diagnostics::{
-    ErrorLine, Report, Seek, SourceFile, declared_names, find_name_in, names_flag, plain_json,
-    push_json, report_json, report_text,
+    ErrorLine, Report, Seek, SourceFile, declared_names, did_you_mean, error_place, find_name_in,
+    meant_flag, names_flag, plain_json, report_json, report_text,
 };
 pub use fields::{
     BasicSourceMap, Binding, BundleError, CompileError, ErrorContext, Feature, Features, Key, Mode,
     Options, OverrideValue, ResolveError, ResolveKind, RunRefusal, RunResult, ServeError,
-    SourceMap, Told, ValueError, compile, eval, inputs_of, link, precompile, read_bindings,
-    read_feature, read_inputs, read_options, read_overrides, result_text, run, serve_bundle,
-    told_compile_error, told_compile_refusal, told_refusal, told_value, written, zero_inputs,
+    SourceMap, Told, ValueError, VirtualResolver, compile, eval, inputs_of, link, precompile,
+    read_bindings, read_feature, read_inputs, read_options, read_overrides, result_text, run,
+    serve_bundle, told_compile_error, told_compile_refusal, told_refusal, told_value, written,
+    zero_inputs,
 };

@@ -1,10 +1,16 @@
 //! Modules that lie in folders: which file a module's path names, and the text of it.
 
 mod folders;
+mod glob;
+mod listing;
 mod names;
 mod path;
 mod reading;
+mod selection;
 
 pub use folders::{Folders, ReadProblem, Root, Source};
+pub use listing::{is_folder, modules_in};
 pub use names::is_file_name;
-pub use reading::{FileProblem, MAX_FILE_LEN, read_text};
+pub use path::{folder_of, parts_below};
+pub use reading::{FileProblem, MAX_FILE_LEN, full_path, read_input, read_text};
+pub use selection::Selection;

@@ -6,5 +6,8 @@ mod files;
 mod gathering;
 
 pub use checking::{CheckRefusal, NameFault, NameProblem, NameRefusal, check};
-pub use files::{FileProblem, Folders, MAX_FILE_LEN, ReadProblem, Root, Source, read_text};
+pub use files::{
+    FileProblem, Folders, MAX_FILE_LEN, ReadProblem, Root, Selection, Source, folder_of, full_path,
+    is_folder, modules_in, parts_below, read_input, read_text,
+};
 pub use gathering::{ModuleFile, Sources, Wanted, gather};

@@ -11,6 +11,7 @@ use wesl_diagnostics::{
     precompile, result_text, run,
 };
 use wesl_folders::{Folders, Sources, check, gather};
+use weslc_builds::{result_json, value_json};
 use wgsl_path::ModulePath;
 
 /// What a call makes: a text, and of one that is linked the map of its names.
@@ -103,45 +104,52 @@ fn refused(refusal: RunRefusal) -> Refusal {
     })
 }
 
-fn text_of(alloc: Global, ran: &RunResult) -> Answer {
-    match result_text(alloc, ran) {
+fn text_of(alloc: Global, ran: &RunResult, prints_json: bool) -> Answer {
+    let text = match prints_json {
+        true => result_json(alloc, ran),
+        false => result_text(alloc, ran),
+    };
+    match text {
         Ok(text) => Ok(Made::of_text(text)),
         Err(_) => Err(Refusal::Call(ServeError::OutOfMemory)),
     }
 }
 
-fn ran(alloc: Global, asked: &Asked, sources: &mut Sources, entry: &str) -> Answer {
+fn ran(alloc: Global, request: &Request<'_>, asked: &Asked, sources: &mut Sources) -> Answer {
     match run(
         alloc,
         &mut sources.resolver,
         &asked.root,
         &asked.options,
-        entry,
+        request.entry.unwrap_or(""),
         &asked.handed.inputs,
         asked.handed.bindings.as_slice(),
         asked.handed.overrides.as_slice(),
     ) {
-        Ok(ran) => text_of(alloc, &ran),
+        Ok(ran) => text_of(alloc, &ran, request.prints_json),
         Err(refusal) => Err(refused(refusal)),
     }
 }
 
-fn line_of(alloc: Global, value: &str) -> Result<String, AllocError> {
-    let mut line = String::from_str(alloc, value)?;
+fn line_of(alloc: Global, value: &str, prints_json: bool) -> Result<String, AllocError> {
+    let mut line = match prints_json {
+        true => value_json(alloc, value)?,
+        false => String::from_str(alloc, value)?,
+    };
     line.push('\n')?;
     Ok(line)
 }
 
-fn evaluated(alloc: Global, asked: &Asked, sources: &mut Sources, expression: &str) -> Answer {
+fn evaluated(alloc: Global, request: &Request<'_>, asked: &Asked, sources: &mut Sources) -> Answer {
     let value = eval(
         alloc,
         &mut sources.resolver,
         &asked.root,
         &asked.options,
-        expression,
+        request.expression.unwrap_or(""),
     );
     match value {
-        Ok(value) => match line_of(alloc, value.as_str()) {
+        Ok(value) => match line_of(alloc, value.as_str(), request.prints_json) {
             Ok(line) => Ok(Made::of_text(line)),
             Err(AllocError) => Err(Refusal::Call(ServeError::OutOfMemory)),
         },
@@ -161,8 +169,8 @@ fn called(
         Verb::Compile => compiled(alloc, asked, sources),
         Verb::Check => checked(alloc, asked, sources),
         Verb::Precompile => precompiled(alloc, asked, sources),
-        Verb::Run => ran(alloc, asked, sources, request.entry.unwrap_or("")),
-        Verb::Eval => evaluated(alloc, asked, sources, request.expression.unwrap_or("")),
+        Verb::Run => ran(alloc, request, asked, sources),
+        Verb::Eval => evaluated(alloc, request, asked, sources),
     };
     HeldAnswer { answer }
 }
@@ -181,7 +189,7 @@ pub fn answer_reading<R: Files + AllocGlobal>(
     }
     for _turn in 0..u64::MAX {
         let held = called(rt.alloc(), request, asked, sources);
-        match read_missing(rt, folders, sources, held.missing_module())? {
+        match read_missing(rt, folders, sources, request, held.missing_module())? {
             Read::Nothing => return Ok((held, None)),
             Read::Refused(reason) => return Ok((held, Some(reason))),
             Read::Added => {}

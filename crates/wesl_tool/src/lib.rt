@@ -1,20 +1,22 @@
-//! The program `wesl`, for any runtime: from the words of a command line to a text or an error.
+//! What a command line asks for, for any runtime: from a request to a text or an error.
 #![tactic(auto)]
 
 mod answer;
 mod asked;
 mod failure;
 mod handed;
-mod map;
 mod notes;
 mod options;
 mod outputs;
 mod reading;
 mod refusal;
-mod run;
 mod same;
 mod serve;
 mod written;
 
-pub use run::run_words;
+pub use failure::{Failure, failed, misused};
+pub use refusal::Refusal;
+pub use serve::serve;
 pub use wesl_diagnostics::serve_bundle;
+pub use wesl_folders::{Selection, folder_of, is_folder, modules_in};
+pub use written::{write_failure, write_out_of_memory, write_usage};

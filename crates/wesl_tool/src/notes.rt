@@ -4,7 +4,7 @@ use std::alloc::{AllocError, Global};
 use std::io;
 use std::io::Write;
 use wesl_command::{Format, Request, Verb};
-use wesl_diagnostics::names_flag;
+use wesl_diagnostics::{meant_flag, names_flag};
 use wesl_folders::{ModuleFile, Sources};
 
 /// Whether a text is empty since the root has no entry point.
@@ -64,10 +64,15 @@ fn push_flags(
     }
     let texts = texts_of(alloc, sources)?;
     for flag in request.flags.as_slice() {
-        if !is_named(alloc, flag.name, texts.as_slice())? {
+        if flag.is_named && !is_named(alloc, flag.name, texts.as_slice())? {
             notes.push_str("note: no condition in what was read names the flag `")?;
             notes.push_str(flag.name)?;
-            notes.push_str("`\n")?;
+            notes.push('`')?;
+            if let Some(question) = meant_flag(alloc, texts.as_slice(), flag.name)? {
+                notes.push_str("; ")?;
+                notes.push_str(question.as_str())?;
+            }
+            notes.push('\n')?;
         }
     }
     Ok(())
@@ -79,7 +84,7 @@ fn push_packages(
     sources: &Sources,
 ) -> Result<(), AllocError> {
     for package in request.packages.as_slice() {
-        if !is_asked_for(package.name, sources.files.as_slice()) {
+        if package.is_named && !is_asked_for(package.name, sources.files.as_slice()) {
             notes.push_str("note: nothing asked for the package `")?;
             notes.push_str(package.name)?;
             notes.push_str("`\n")?;
@@ -114,7 +119,7 @@ pub fn write_notes<E: Write>(
     sources: &Sources,
     errors: &mut E,
 ) -> io::Result<()> {
-    if request.format != Format::Text {
+    if request.format != Format::Text || !request.shows_notes {
         return Ok(());
     }
     let notes = notes_of(alloc, request, text, sources)?;

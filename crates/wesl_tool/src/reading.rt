@@ -1,9 +1,11 @@
 //! Reading a module that a call did not find.
 
-use std::alloc::{AllocError, Global};
+use std::alloc::AllocError;
 use std::rt::Files;
+use wesl_command::Request;
+use wesl_diagnostics::did_you_mean;
 use wesl_folders::{FileProblem, Folders, ReadProblem, Sources};
-use wgsl_path::ModulePath;
+use wgsl_path::{ModulePath, ModulePathParseError};
 
 /// What came of reading a module that a call did not find.
 #[derive(Drop)]
@@ -15,20 +17,73 @@ pub enum Read {
     Refused(String),
 }
 
-/// Why a module was not read, in words.
-fn reason_of(alloc: Global, problem: &ReadProblem) -> Result<String, AllocError> {
-    let mut reason = String::new(alloc);
-    match &problem.file {
-        Some(file) => {
-            reason.push_str(file.as_str())?;
-            reason.push_str(": ")?;
-            let what = problem.problem.to_string(alloc)?;
-            reason.push_str(what.as_str())?;
-        }
-        None => reason.push_str(
-            "the path names no file: --package NAME=FOLDER says where a package is",
-        )?,
+/// The name of the package that a path begins with.
+fn package_of(path: &str) -> &str {
+    match path.split_once("::") {
+        Some((package, _)) => package,
+        None => path,
     }
+}
+
+/// Whether a path names a module of the own package where `package::` stands before it.
+fn is_own<R: Files + AllocGlobal>(
+    rt: &R,
+    folders: &Folders,
+    path: &str,
+) -> Result<bool, AllocError> {
+    let own = format!(in rt.alloc(); "package::{path}")?;
+    let own = match ModulePath::from_str(rt.alloc(), own.as_str()) {
+        Ok(own) => own,
+        Err(ModulePathParseError::OutOfMemory) => return Err(AllocError),
+        Err(_) => return Ok(false),
+    };
+    match folders.read(rt, &own) {
+        Ok(_) => Ok(true),
+        Err(problem) if problem.problem == FileProblem::OutOfMemory => Err(AllocError),
+        Err(_) => Ok(false),
+    }
+}
+
+/// What to change where a path names no file: another package is meant, or the own one.
+fn package_advice<R: Files + AllocGlobal>(
+    rt: &R,
+    folders: &Folders,
+    request: &Request<'_>,
+    path: &ModulePath,
+) -> Result<String, AllocError> {
+    let path = path.to_string(rt.alloc())?;
+    let path = path.as_str();
+    if is_own(rt, folders, path)? {
+        return format!(in rt.alloc(); "did you forget `package::`? There is `package::{path}`");
+    }
+    let mut names = Vec::new(rt.alloc());
+    for package in request.packages.as_slice() {
+        names.push(package.name)?;
+    }
+    match did_you_mean(rt.alloc(), package_of(path), names.as_slice())? {
+        Some(question) => Ok(question),
+        None => String::from_str(
+            rt.alloc(),
+            "the path names no file: --package NAME=FOLDER says where a package is",
+        ),
+    }
+}
+
+/// Why a module was not read, in words.
+fn reason_of<R: Files + AllocGlobal>(
+    rt: &R,
+    folders: &Folders,
+    request: &Request<'_>,
+    path: &ModulePath,
+    problem: &ReadProblem,
+) -> Result<String, AllocError> {
+    let Some(file) = &problem.file else {
+        return package_advice(rt, folders, request, path);
+    };
+    let mut reason = String::from_str(rt.alloc(), file.as_str())?;
+    reason.push_str(": ")?;
+    let what = problem.problem.to_string(rt.alloc())?;
+    reason.push_str(what.as_str())?;
     Ok(reason)
 }
 
@@ -37,6 +92,7 @@ pub fn read_missing<R: Files + AllocGlobal>(
     rt: &R,
     folders: &Folders,
     sources: &mut Sources,
+    request: &Request<'_>,
     path: Option<&ModulePath>,
 ) -> Result<Read, AllocError> {
     let Some(path) = path else {
@@ -51,7 +107,8 @@ pub fn read_missing<R: Files + AllocGlobal>(
             if problem.problem == FileProblem::OutOfMemory {
                 return Err(AllocError);
             }
-            Ok(Read::Refused(reason_of(rt.alloc(), &problem)?))
+            let reason = reason_of(rt, folders, request, path, &problem)?;
+            Ok(Read::Refused(reason))
         }
     }
 }

@@ -2,10 +2,10 @@
 
 use std::alloc::{AllocError, Global};
 use wesl_diagnostics::{
-    CompileError, ErrorContext, ResolveError, ResolveKind, ServeError, Told, find_name_in,
-    told_refusal, written,
+    CompileError, ErrorContext, ResolveError, ResolveKind, ServeError, Told, VirtualResolver,
+    find_name_in, told_refusal, written,
 };
-use wesl_folders::{CheckRefusal, NameFault, NameProblem, NameRefusal, Sources};
+use wesl_folders::{CheckRefusal, NameFault, NameProblem, NameRefusal};
 use wgsl_base::Text;
 use wgsl_path::{ModulePath, Span};
 
@@ -57,11 +57,11 @@ impl Refusal {
         }
     }
 
-    /// The fields of the error.
-    pub fn told(&self, alloc: Global, sources: &Sources) -> Result<Told, AllocError> {
+    /// The fields of the error of these modules.
+    pub fn told(&self, alloc: Global, modules: &VirtualResolver) -> Result<Told, AllocError> {
         match self {
             Refusal::Call(error) => told_refusal(alloc, error),
-            Refusal::Name(refusal) => told_name(alloc, refusal, sources),
+            Refusal::Name(refusal) => told_name(alloc, refusal, modules),
         }
     }
 
@@ -84,10 +84,14 @@ fn is_told_further(problem: NameProblem) -> bool {
     )
 }
 
-fn told_name(alloc: Global, refusal: &NameRefusal, sources: &Sources) -> Result<Told, AllocError> {
+fn told_name(
+    alloc: Global,
+    refusal: &NameRefusal,
+    modules: &VirtualResolver,
+) -> Result<Told, AllocError> {
     let NameRefusal { context, fault } = refusal;
     let kind = String::from_str(alloc, fault.problem.kind())?;
-    let span = span_of(alloc, context, fault, sources)?;
+    let span = span_of(alloc, context, fault, modules)?;
     let module = written::<ModulePath>(alloc, context.module.as_ref())?;
     let declaration = written::<Text>(alloc, context.decl.as_ref())?;
     let subject = match fault.problem {
@@ -108,7 +112,7 @@ fn span_of(
     alloc: Global,
     context: &ErrorContext,
     fault: &NameFault,
-    sources: &Sources,
+    modules: &VirtualResolver,
 ) -> Result<Option<Span>, AllocError> {
     let Some(module) = &context.module else {
         return Ok(None);
@@ -118,7 +122,7 @@ fn span_of(
         NameProblem::TypeMismatch => return Ok(Some(fault.span)),
         _ => {}
     }
-    let text = match sources.resolver.get_module(module) {
+    let text = match modules.get_module(module) {
         Ok(text) => text,
         Err(ResolveError::OutOfMemory) => return Err(AllocError),
         Err(_) => return Ok(None),

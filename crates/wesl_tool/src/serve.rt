@@ -4,17 +4,20 @@ use crate::answer::{HeldAnswer, Made, answer_reading};
 use crate::asked::{Asked, is_checked_whole};
 use crate::failure::{Failure, failed, misused};
 use crate::notes::write_notes;
-use crate::outputs::{check_outputs, write_outputs};
+use crate::outputs::{check_outputs, write_depfile, write_outputs};
 use crate::written::{write_error, write_failure, write_unprinted};
-use std::alloc::AllocError;
+use std::alloc::{AllocError, Global};
 use std::io;
-use std::io::Write;
+use std::io::{Read, Write};
 use std::rt::Files;
-use wesl_command::Request;
+use wesl_command::{Request, STANDARD_INPUT};
 use wesl_diagnostics::Mode;
-use wesl_folders::{Folders, Root, Source, Sources, read_text};
-use wgsl_base::Text;
-use wgsl_path::ModulePath;
+use wesl_folders::{Folders, Root, Selection, Source, Sources, read_input, read_text};
+use wgsl_base::{Items, Text};
+use wgsl_path::{ModulePath, PathOrigin};
+
+/// The name that messages give standard input.
+const SHOWN_INPUT: &str = "<stdin>";
 
 /// What a call works on: the folders of the packages, the modules that were read, at first the root alone, and what is asked for.
 #[derive(Drop)]
@@ -28,9 +31,13 @@ struct Begun {
 fn folders_of<'a, R: Files + AllocGlobal>(
     rt: &R,
     request: &Request<'a>,
+    selection: Option<&Selection>,
     root: &str,
 ) -> Result<Folders, Failure<'a>> {
     let mut folders = Folders::new(rt.alloc(), request.follows_links);
+    if let Some(selection) = selection {
+        folders.select(selection.copy(rt.alloc())?);
+    }
     if let Err(problem) = folders.add(rt, None, root) {
         return Err(failed(rt.alloc(), request.file, problem));
     }
@@ -43,30 +50,53 @@ fn folders_of<'a, R: Files + AllocGlobal>(
 }
 
 /// The root, read.
-fn read_root<'a, R: Files + AllocGlobal>(
+fn read_root<'a, R: Files + AllocGlobal, I: Read>(
     rt: &R,
     request: &Request<'a>,
     path: &ModulePath,
+    input: &mut I,
 ) -> Result<Sources, Failure<'a>> {
-    let text = match read_text(rt, request.file) {
-        Ok(text) => text,
-        Err(problem) => return Err(failed(rt.alloc(), request.file, problem)),
+    let (shown, text) = if request.file == STANDARD_INPUT {
+        (SHOWN_INPUT, read_input(rt.alloc(), input))
+    } else {
+        (request.file, read_text(rt, request.file))
     };
-    let file = Text::from_str(rt.alloc(), request.file)?;
+    let text = match text {
+        Ok(text) => text,
+        Err(problem) => return Err(failed(rt.alloc(), shown, problem)),
+    };
+    let file = Text::from_str(rt.alloc(), shown)?;
     let mut sources = Sources::new(rt.alloc());
     sources.add(rt.alloc(), path, Source { file, text })?;
     Ok(sources)
 }
 
+/// Which module of which folder a request is about. Standard input is the root of the own package.
+fn root_of<'a>(alloc: Global, request: &Request<'a>) -> Result<Root, Failure<'a>> {
+    if request.file == STANDARD_INPUT {
+        let folder = Text::from_str(alloc, request.root.unwrap_or("."))?;
+        let path = ModulePath::new(PathOrigin::Absolute, Items::new(alloc));
+        return Ok(Root { folder, path });
+    }
+    match Root::new(alloc, request.file, request.root)? {
+        Some(root) => Ok(root),
+        None => {
+            let why = "it must end in .wesl or .wgsl, and lie in the folder that --root names";
+            Err(misused(alloc, request.file, why))
+        }
+    }
+}
+
 /// Reads what a request names, but for the modules that its root asks for.
-fn begin<'a, R: Files + AllocGlobal>(rt: &R, request: &Request<'a>) -> Result<Begun, Failure<'a>> {
-    let Some(root) = Root::new(rt.alloc(), request.file, request.root)? else {
-        let why = "it must end in .wesl or .wgsl, and lie in the folder that --root names";
-        return Err(misused(rt.alloc(), request.file, why));
-    };
-    let Root { folder, path } = root;
-    let sources = read_root(rt, request, &path)?;
-    let folders = folders_of(rt, request, folder.as_str())?;
+fn begin<'a, R: Files + AllocGlobal, I: Read>(
+    rt: &R,
+    request: &Request<'a>,
+    selection: Option<&Selection>,
+    input: &mut I,
+) -> Result<Begun, Failure<'a>> {
+    let Root { folder, path } = root_of(rt.alloc(), request)?;
+    let sources = read_root(rt, request, &path, input)?;
+    let folders = folders_of(rt, request, selection, folder.as_str())?;
     check_outputs(rt, request)?;
     let asked = Asked::new(rt, request, path)?;
     Ok(Begun {
@@ -85,12 +115,13 @@ fn print<W: Write>(out: &mut W, text: &str) -> io::Result<()> {
 fn write_made<R: Files + AllocGlobal, W: Write, E: Write>(
     rt: &R,
     request: &Request<'_>,
+    asked: &Asked,
     made: &Made,
     sources: &Sources,
     out: &mut W,
     errors: &mut E,
 ) -> io::Result<u8> {
-    match write_outputs(rt, request, made, sources) {
+    match write_outputs(rt, request, asked, made, sources) {
         Ok(true) => {}
         Ok(false) => {
             if print(out, made.text.as_str()).is_err() {
@@ -124,7 +155,8 @@ fn answer_in_modes<R: Files + AllocGlobal>(
     answer_reading(rt, request, asked, folders, sources)
 }
 
-/// Makes the call, and writes the text or the error.
+/// Makes the call, and writes the text or the error. The depfile is written in both cases, as C compilers do; where the call is refused,
+/// that alone is told.
 fn finish<R: Files + AllocGlobal, W: Write, E: Write>(
     rt: &R,
     request: &Request<'_>,
@@ -139,9 +171,13 @@ fn finish<R: Files + AllocGlobal, W: Write, E: Write>(
         &begun.folders,
         &mut begun.sources,
     )?;
-    let sources = &begun.sources;
+    let (asked, sources) = (&begun.asked, &begun.sources);
+    let listed = write_depfile(rt, request, sources);
     match answer.get() {
-        Ok(made) => write_made(rt, request, made, sources, out, errors),
+        Ok(made) => match listed {
+            Ok(()) => write_made(rt, request, asked, made, sources, out, errors),
+            Err(failure) => write_failure(rt.alloc(), request, failure, errors),
+        },
         Err(refusal) => {
             let reason = match &reason {
                 Some(reason) => Some(reason.as_str()),
@@ -152,15 +188,17 @@ fn finish<R: Files + AllocGlobal, W: Write, E: Write>(
     }
 }
 
-/// Does what a request asks for, and gives the status of the program: 0 where there is a text, 1 for an error in the modules, 2 where
+/// Does what a request asks for, over the files of its package that are modules, and gives the status of the program: 0 where there is a text, 1 for an error in the modules, 2 where
 /// a file or option is wrong.
-pub fn serve<R: Files + AllocGlobal, W: Write, E: Write>(
+pub fn serve<R: Files + AllocGlobal, I: Read, W: Write, E: Write>(
     rt: &R,
     request: &Request<'_>,
+    selection: Option<&Selection>,
+    input: &mut I,
     out: &mut W,
     errors: &mut E,
 ) -> io::Result<u8> {
-    match begin(rt, request) {
+    match begin(rt, request, selection, input) {
         Ok(mut begun) => finish(rt, request, &mut begun, out, errors),
         Err(failure) => write_failure(rt.alloc(), request, failure, errors),
     }

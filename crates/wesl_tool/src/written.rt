@@ -67,7 +67,7 @@ pub fn write_error<E: Write>(
     errors: &mut E,
 ) -> io::Result<u8> {
     let shown = shown_sources(alloc, request, sources)?;
-    let told = refusal.told(alloc, sources)?;
+    let told = refusal.told(alloc, &sources.resolver)?;
     let message = refusal.message(alloc)?;
     let message = match &message {
         Some(message) => Some(message.as_str()),

@@ -1,10 +1,12 @@
 //! The lines of answers, in JSON.
 
 use crate::command::CommandError;
+use crate::place::push_place;
 use std::alloc::{AllocError, Global};
 use wesl_diagnostics::{
-    BundleError, ErrorLine, declared_names, push_json, told_compile_error, told_compile_refusal,
+    BundleError, ErrorLine, SourceFile, declared_names, told_compile_error, told_compile_refusal,
 };
+use weslc_json::push_json;
 use weslc_workspace::{BasicSourceMap, CompileError, CompileRefusal, SourceMap};
 use wgsl_base::Text;
 
@@ -29,6 +31,8 @@ pub enum Answer {
     /// It needs no memory, so that an edit that was made is never answered as refused.
     Ready(&'static str),
     Made(String),
+    /// The one that is kept of linking.
+    Linked,
 }
 
 /// A text, and where the names that it declares are from.
@@ -81,18 +85,43 @@ fn push_member(json: &mut String, key: &str, value: Option<&str>) -> Result<(), 
 }
 
 /// The refusal of a compilation.
-pub fn refusal_answer(alloc: Global, refusal: &CompileRefusal) -> Result<String, AllocError> {
-    error_answer(alloc, &told_compile_refusal(alloc, refusal)?.line())
+pub fn refusal_answer(
+    alloc: Global,
+    refusal: &CompileRefusal,
+    files: &[SourceFile<'_>],
+) -> Result<String, AllocError> {
+    error_answer(alloc, &told_compile_refusal(alloc, refusal)?.line(), files)
 }
 
 /// The refusal of linking.
-pub fn link_answer(alloc: Global, error: &CompileError) -> Result<String, AllocError> {
-    error_answer(alloc, &told_compile_error(alloc, error)?.line())
+pub fn link_answer(
+    alloc: Global,
+    error: &CompileError,
+    files: &[SourceFile<'_>],
+) -> Result<String, AllocError> {
+    error_answer(alloc, &told_compile_error(alloc, error)?.line(), files)
+}
+
+/// An error.
+pub fn error_answer(
+    alloc: Global,
+    line: &ErrorLine<'_>,
+    files: &[SourceFile<'_>],
+) -> Result<String, AllocError> {
+    let mut json = String::from_str(alloc, "{\"error\":")?;
+    let error = error_json(alloc, line, files)?;
+    json.push_str(error.as_str())?;
+    json.push_str("}\n")?;
+    Ok(json)
 }
 
 /// The fields of an error. One that is missing is left out.
-fn error_answer(alloc: Global, line: &ErrorLine<'_>) -> Result<String, AllocError> {
-    let mut json = String::from_str(alloc, "{\"error\":{\"kind\":")?;
+pub fn error_json(
+    alloc: Global,
+    line: &ErrorLine<'_>,
+    files: &[SourceFile<'_>],
+) -> Result<String, AllocError> {
+    let mut json = String::from_str(alloc, "{\"kind\":")?;
     push_json(&mut json, line.kind)?;
     push_member(&mut json, "module", line.module)?;
     push_member(&mut json, "declaration", line.declaration)?;
@@ -102,7 +131,8 @@ fn error_answer(alloc: Global, line: &ErrorLine<'_>) -> Result<String, AllocErro
         json.push_str(span.as_str())?;
     }
     push_member(&mut json, "subject", line.subject)?;
-    json.push_str("}}\n")?;
+    push_place(alloc, &mut json, line, files)?;
+    json.push('}')?;
     Ok(json)
 }
 
@@ -137,5 +167,6 @@ fn subject_answer(alloc: Global, subject: Option<&str>) -> Result<String, AllocE
             span: None,
             subject,
         },
+        &[],
     )
 }

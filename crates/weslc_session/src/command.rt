@@ -1,22 +1,65 @@
 //! The commands of a session.
 
 use std::alloc::AllocError;
-use wesl_diagnostics::BundleError;
+use wesl_diagnostics::{Binding, BundleError, OverrideValue};
 use weslc_workspace::{Feature, Options};
-use wgsl_base::Text;
+use wgsl_base::{Items, Text};
+use wgsl_memory::Inputs;
 use wgsl_path::ModulePath;
 
-/// What a line asks for.
+/// What a run is handed. It is dropped by a call of this module.
+pub struct Handed {
+    pub inputs: Inputs,
+    pub bindings: Items<Binding>,
+    pub overrides: Items<OverrideValue>,
+}
+
+impl Drop for Handed {
+    fn drop(self) {
+        let Handed {
+            inputs,
+            bindings,
+            overrides,
+        } = self;
+        drop(inputs);
+        drop(bindings);
+        drop(overrides);
+    }
+}
+
+/// Options for the workspace, and the same for calls beside it.
+#[derive(Drop)]
+pub struct BothOptions {
+    pub of_workspace: Options,
+    pub of_calls: Options,
+}
+
+/// What a line asks for, and the `id` that the answer has too, as JSON.
+#[derive(Drop)]
+pub struct Asked {
+    pub id: Option<String>,
+    pub command: Result<Command, CommandError>,
+}
+
+/// What is to be done.
 #[derive(Drop)]
 pub enum Command {
     /// An empty workspace with this root.
-    Open(ModulePath, Options),
+    Open(ModulePath, BothOptions),
     SetModule(ModulePath, Text),
     RemoveModule(ModulePath),
     SetFeature(Text, Feature),
-    SetOptions(Options),
+    SetOptions(BothOptions),
     Compile,
     Link,
+    /// The errors of all modules.
+    Check,
+    /// The text of a module, or of the root, with flags fixed.
+    Precompile(Option<ModulePath>),
+    /// A run of an entry point.
+    Run(Text, Handed),
+    /// The value of an expression.
+    Eval(Text),
     Parses,
     Runs,
 }

@@ -2,10 +2,13 @@
 #![tactic(auto)]
 
 mod answer;
+mod calls;
 mod command;
 mod line;
+mod place;
 mod reading;
 mod session;
+mod texts;
 
 use std::io;
 use std::io::BufReader;

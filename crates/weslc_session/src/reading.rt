@@ -1,11 +1,14 @@
 //! From a line to a command.
 
-use crate::command::{Command, CommandError};
+use crate::command::{Asked, BothOptions, Command, CommandError, Handed};
 use serde_json::{Map, Value};
 use std::alloc::Global;
-use wesl_diagnostics::{BundleError, read_feature, read_options};
+use wesl_diagnostics::{
+    BundleError, ValueError, inputs_of, read_bindings, read_feature, read_inputs, read_options,
+    read_overrides, zero_inputs,
+};
 use weslc_workspace::Options;
-use wgsl_base::Text;
+use wgsl_base::{Items, Text};
 use wgsl_path::{ModulePath, ModulePathParseError, PathOrigin};
 
 /// The keys of options.
@@ -18,27 +21,61 @@ const OPTIONS: [&str; 6] = [
     "mode",
 ];
 
-/// Reads a command: a JSON object with one key, its name, under which an object has what it needs.
-pub fn read_command(alloc: Global, bytes: &[u8]) -> Result<Command, CommandError> {
+/// Reads a line: a JSON object with the name of a command, under which an object has what it needs, and maybe with `id`.
+pub fn read_asked(alloc: Global, bytes: &[u8]) -> Asked {
+    match value_of(alloc, bytes) {
+        Ok(value) => asked_of(alloc, &value),
+        Err(error) => Asked {
+            id: None,
+            command: Err(error),
+        },
+    }
+}
+
+fn value_of(alloc: Global, bytes: &[u8]) -> Result<Value, CommandError> {
     let Ok(text) = str::from_utf8(bytes) else {
         return Err(CommandError::NotACommand);
     };
     match Value::from_str(alloc, text) {
-        Ok(value) => read_value(alloc, &value),
+        Ok(value) => Ok(value),
         Err(error) if error.is_memory() => Err(CommandError::OutOfMemory),
         Err(_) => Err(CommandError::NotACommand),
     }
+}
+
+fn asked_of(alloc: Global, value: &Value) -> Asked {
+    let id = match value.get("id") {
+        Some(id) => match id.to_string(alloc) {
+            Ok(id) => Some(id),
+            Err(_) => {
+                return Asked {
+                    id: None,
+                    command: Err(CommandError::OutOfMemory),
+                };
+            }
+        },
+        None => None,
+    };
+    let command = read_value(alloc, value);
+    Asked { id, command }
 }
 
 fn read_value(alloc: Global, value: &Value) -> Result<Command, CommandError> {
     let Some(members) = value.as_object() else {
         return Err(CommandError::NotACommand);
     };
-    if members.len() != 1 {
-        return Err(CommandError::NotACommand);
+    let mut command: Option<(&str, &Value)> = None;
+    for (name, needs) in members.iter() {
+        if name.as_str() == "id" {
+            continue;
+        }
+        if command.is_some() {
+            return Err(CommandError::NotACommand);
+        }
+        command = Some((name.as_str(), needs));
     }
-    match members.iter().next() {
-        Some((name, needs)) => read_named(alloc, name.as_str(), needs),
+    match command {
+        Some((name, needs)) => read_named(alloc, name, needs),
         None => Err(CommandError::NotACommand),
     }
 }
@@ -54,12 +91,34 @@ fn read_named(alloc: Global, name: &str, needs: &Value) -> Result<Command, Comma
         "set_feature" => read_set_feature(alloc, needs),
         "set_options" => {
             check_keys(alloc, needs, &OPTIONS)?;
-            Ok(Command::SetOptions(options_of(alloc, needs)?))
+            Ok(Command::SetOptions(both_options(alloc, needs)?))
         }
         "compile" => bare(alloc, needs, Command::Compile),
         "link" => bare(alloc, needs, Command::Link),
         "parses" => bare(alloc, needs, Command::Parses),
         "runs" => bare(alloc, needs, Command::Runs),
+        _ => read_call(alloc, name, needs),
+    }
+}
+
+/// Reads a command that is a call beside the workspace.
+fn read_call(alloc: Global, name: &str, needs: &Value) -> Result<Command, CommandError> {
+    match name {
+        "check" => bare(alloc, needs, Command::Check),
+        "precompile" => {
+            check_keys(alloc, needs, &["path"])?;
+            let path = match needs.get("path") {
+                Some(_) => Some(path_at(alloc, needs, "path")?),
+                None => None,
+            };
+            Ok(Command::Precompile(path))
+        }
+        "run" => read_run(alloc, needs),
+        "eval" => {
+            check_keys(alloc, needs, &["expression"])?;
+            let text = text_at(needs, "expression")?;
+            Ok(Command::Eval(Text::from_str(alloc, text)?))
+        }
         _ => Err(CommandError::UnknownKey(Text::from_str(alloc, name)?)),
     }
 }
@@ -70,10 +129,45 @@ fn bare(alloc: Global, needs: &Value, command: Command) -> Result<Command, Comma
     Ok(command)
 }
 
+/// The value at a key, read, or what stands for it where there is none.
+fn read_at<T: Drop>(key: &'static str, read: Result<T, ValueError>) -> Result<T, CommandError> {
+    match read {
+        Ok(value) => Ok(value),
+        Err(ValueError::Unexpected) => Err(CommandError::Value(key)),
+        Err(ValueError::OutOfMemory) => Err(CommandError::OutOfMemory),
+    }
+}
+
+fn read_run(alloc: Global, needs: &Value) -> Result<Command, CommandError> {
+    check_keys(alloc, needs, &["bindings", "entry", "inputs", "overrides"])?;
+    let entry = Text::from_str(alloc, text_at(needs, "entry")?)?;
+    let settings = match needs.get("inputs") {
+        Some(value) => read_at("inputs", read_inputs(alloc, value))?,
+        None => zero_inputs(alloc),
+    };
+    let inputs = inputs_of(alloc, settings)?;
+    let bindings = match needs.get("bindings") {
+        Some(value) => read_at("bindings", read_bindings(alloc, value))?,
+        None => Items::new(alloc),
+    };
+    let overrides = match needs.get("overrides") {
+        Some(value) => read_at("overrides", read_overrides(alloc, value))?,
+        None => Items::new(alloc),
+    };
+    Ok(Command::Run(
+        entry,
+        Handed {
+            inputs,
+            bindings,
+            overrides,
+        },
+    ))
+}
+
 fn read_open(alloc: Global, needs: &Value) -> Result<Command, CommandError> {
     check_open_keys(alloc, needs)?;
     let root = path_at(alloc, needs, "root")?;
-    Ok(Command::Open(root, options_of(alloc, needs)?))
+    Ok(Command::Open(root, both_options(alloc, needs)?))
 }
 
 fn read_set_module(alloc: Global, needs: &Value) -> Result<Command, CommandError> {
@@ -160,6 +254,13 @@ fn path_at(alloc: Global, needs: &Value, key: &'static str) -> Result<ModulePath
         Err(ModulePathParseError::OutOfMemory) => Err(CommandError::OutOfMemory),
         Err(_) => Err(CommandError::Value(key)),
     }
+}
+
+fn both_options(alloc: Global, needs: &Value) -> Result<BothOptions, CommandError> {
+    Ok(BothOptions {
+        of_workspace: options_of(alloc, needs)?,
+        of_calls: options_of(alloc, needs)?,
+    })
 }
 
 fn options_of(alloc: Global, needs: &Value) -> Result<Options, CommandError> {

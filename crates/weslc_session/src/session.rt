@@ -4,15 +4,31 @@ use crate::answer::{
     Answer, DONE, KEPT, OUT_OF_MEMORY, REMOVED, TOO_LONG, command_answer, link_answer,
     refusal_answer, text_answer,
 };
-use crate::command::Command;
+use crate::calls::{Room, checked, evaluated, precompiled, ran};
+use crate::command::{BothOptions, Command};
 use crate::line::{Line, read_line};
-use crate::reading::read_command;
-use std::alloc::Global;
+use crate::reading::read_asked;
+use crate::texts::{HeldText, Texts};
+use std::alloc::{AllocError, Global};
 use std::io::{BufRead, Write};
 use std::{io, mem};
-use weslc_workspace::{Compiled, Feature, Linked, Options, Workspace};
-use wgsl_base::{Items, Text};
+use weslc_workspace::{CompileError, Compiled, Feature, Linked, Options, Workspace};
+use wgsl_base::{CloneIn, Items, Text};
 use wgsl_path::{ModulePath, PathOrigin};
+
+/// A workspace, what calls beside it work on, and the line that answers `link`, as long as nothing is edited.
+#[derive(Drop)]
+struct Session {
+    alloc: Global,
+    workspace: Workspace,
+    room: Room,
+    linked: Option<String>,
+}
+
+/// The root of the first workspace.
+fn first_root(alloc: Global) -> ModulePath {
+    ModulePath::new(PathOrigin::Absolute, Items::new(alloc))
+}
 
 /// Answers each line with one, to the end of the input. The first workspace has the root `package` and the options of a bundle that names
 /// none.
@@ -21,119 +37,197 @@ pub fn serve<R: BufRead, W: Write>(
     reader: &mut R,
     writer: &mut W,
 ) -> io::Result<()> {
-    let root = ModulePath::new(PathOrigin::Absolute, Items::new(alloc));
-    let mut workspace = Workspace::new(alloc, root, Options::new(alloc));
+    let mut session = Session {
+        alloc,
+        workspace: Workspace::new(alloc, first_root(alloc), Options::new(alloc)),
+        room: Room {
+            root: first_root(alloc),
+            options: Options::new(alloc),
+            texts: Texts::new(alloc),
+        },
+        linked: None,
+    };
     for _turn in 0..u64::MAX {
         let line = read_line(alloc, reader)?;
         if matches!(line, Line::End) {
             break;
         }
-        answer_line(alloc, &mut workspace, line, writer)?;
+        session.answer_line(line, writer)?;
         writer.flush()?;
     }
     Ok(())
 }
 
-fn answer_line<W: Write>(
-    alloc: Global,
-    workspace: &mut Workspace,
-    line: Line,
-    writer: &mut W,
-) -> io::Result<()> {
-    match line {
-        Line::Bytes(bytes) => answer_bytes(alloc, workspace, bytes.as_slice(), writer),
-        Line::TooLong => writer.write_all(TOO_LONG.as_bytes()),
-        Line::OutOfMemory => writer.write_all(OUT_OF_MEMORY.as_bytes()),
-        Line::End => Ok(()),
-    }
-}
-
-fn answer_bytes<W: Write>(
-    alloc: Global,
-    workspace: &mut Workspace,
-    bytes: &[u8],
-    writer: &mut W,
-) -> io::Result<()> {
-    match answer_of(alloc, workspace, bytes) {
-        Ok(Answer::Ready(line)) => writer.write_all(line.as_bytes()),
-        Ok(Answer::Made(line)) => writer.write_all(line.as_str().as_bytes()),
-        Err(_) => writer.write_all(OUT_OF_MEMORY.as_bytes()),
-    }
-}
-
-/// The line that answers a line. It is refused for memory alone.
-fn answer_of(alloc: Global, workspace: &mut Workspace, bytes: &[u8]) -> Result<Answer, io::Error> {
-    match read_command(alloc, bytes) {
-        Ok(command) => obey(alloc, workspace, command),
-        Err(error) => Ok(Answer::Made(command_answer(alloc, &error)?)),
-    }
-}
-
-/// Does what a command asks for. Where memory is refused, no edit was made.
-fn obey(alloc: Global, workspace: &mut Workspace, command: Command) -> Result<Answer, io::Error> {
-    match command {
-        Command::Open(root, options) => Ok(open(alloc, workspace, root, options)),
-        Command::SetModule(path, text) => set_module(workspace, path, text),
-        Command::RemoveModule(path) => Ok(remove_module(workspace, path)),
-        Command::SetFeature(name, feature) => set_feature(workspace, name, feature),
-        Command::SetOptions(options) => Ok(set_options(workspace, options)),
-        Command::Compile => compiled(alloc, workspace.compile()),
-        Command::Link => linked(alloc, workspace.link()),
-        Command::Parses => counted(alloc, "parses", workspace.parses()),
-        Command::Runs => counted(alloc, "runs", workspace.runs()),
-    }
-}
-
-/// Begins with an empty workspace.
-fn open(alloc: Global, workspace: &mut Workspace, root: ModulePath, options: Options) -> Answer {
-    drop(mem::replace(workspace, Workspace::new(alloc, root, options)));
-    Answer::Ready(DONE)
-}
-
-fn set_module(
-    workspace: &mut Workspace,
-    path: ModulePath,
-    text: Text,
-) -> Result<Answer, io::Error> {
-    workspace.set_module(&path, text)?;
-    Ok(Answer::Ready(DONE))
-}
-
-fn remove_module(workspace: &mut Workspace, path: ModulePath) -> Answer {
-    let is_removed = workspace.remove_module(&path);
-    Answer::Ready(if is_removed { REMOVED } else { KEPT })
-}
-
-fn set_feature(
-    workspace: &mut Workspace,
-    name: Text,
-    feature: Feature,
-) -> Result<Answer, io::Error> {
-    workspace.set_feature(name.as_str(), feature)?;
-    Ok(Answer::Ready(DONE))
-}
-
-fn set_options(workspace: &mut Workspace, options: Options) -> Answer {
-    workspace.set_options(options);
-    Answer::Ready(DONE)
+/// Writes an answer, with the `id` of its line as the first member.
+fn write_answer<W: Write>(id: Option<&String>, line: &str, writer: &mut W) -> io::Result<()> {
+    let Some(id) = id else {
+        return writer.write_all(line.as_bytes());
+    };
+    writer.write_all(b"{\"id\":")?;
+    writer.write_all(id.as_str().as_bytes())?;
+    writer.write_all(b",")?;
+    writer.write_all(line.strip_prefix("{").unwrap_or(line).as_bytes())
 }
 
 /// A count, under its name.
-fn counted(alloc: Global, name: &str, count: u64) -> Result<Answer, io::Error> {
+fn counted(alloc: Global, name: &str, count: u64) -> Result<Answer, AllocError> {
     let line = format!(in alloc; "{{\"{name}\":{count}}}\n")?;
     Ok(Answer::Made(line))
 }
 
-fn compiled(alloc: Global, answer: &Compiled) -> Result<Answer, io::Error> {
-    match answer {
-        Ok((text, map)) => Ok(Answer::Made(text_answer(alloc, text.as_str(), map)?)),
-        Err(refusal) => Ok(Answer::Made(refusal_answer(alloc, refusal)?)),
+impl Session {
+    fn answer_line<W: Write>(&mut self, line: Line, writer: &mut W) -> io::Result<()> {
+        match line {
+            Line::Bytes(bytes) => self.answer_bytes(bytes.as_slice(), writer),
+            Line::TooLong => writer.write_all(TOO_LONG.as_bytes()),
+            Line::OutOfMemory => writer.write_all(OUT_OF_MEMORY.as_bytes()),
+            Line::End => Ok(()),
+        }
     }
-}
 
-fn linked(alloc: Global, answer: &Linked) -> Result<Answer, io::Error> {
-    match answer {
-        Ok((text, map)) => Ok(Answer::Made(text_answer(alloc, text.as_str(), map)?)),
-        Err(error) => Ok(Answer::Made(link_answer(alloc, error)?)),
+    fn answer_bytes<W: Write>(&mut self, bytes: &[u8], writer: &mut W) -> io::Result<()> {
+        let asked = read_asked(self.alloc, bytes);
+        let answer = match asked.command {
+            Ok(command) => self.obey(command),
+            Err(error) => match command_answer(self.alloc, &error) {
+                Ok(line) => Ok(Answer::Made(line)),
+                Err(error) => Err(error),
+            },
+        };
+        let id = asked.id.as_ref();
+        match answer {
+            Ok(Answer::Ready(line)) => write_answer(id, line, writer),
+            Ok(Answer::Made(line)) => write_answer(id, line.as_str(), writer),
+            Ok(Answer::Linked) => match &self.linked {
+                Some(line) => write_answer(id, line.as_str(), writer),
+                None => write_answer(id, OUT_OF_MEMORY, writer),
+            },
+            Err(AllocError) => write_answer(id, OUT_OF_MEMORY, writer),
+        }
+    }
+
+    /// Does what a command asks for. Where memory is refused, no edit was made.
+    fn obey(&mut self, command: Command) -> Result<Answer, AllocError> {
+        match command {
+            Command::Open(root, options) => self.open(root, options),
+            Command::SetModule(path, text) => self.set_module(path, text),
+            Command::RemoveModule(path) => self.remove_module(path),
+            Command::SetFeature(name, feature) => self.set_feature(name, feature),
+            Command::SetOptions(options) => Ok(self.set_options(options)),
+            Command::Compile => self.compile(),
+            Command::Link => self.link(),
+            Command::Parses => counted(self.alloc, "parses", self.workspace.parses()),
+            Command::Runs => counted(self.alloc, "runs", self.workspace.runs()),
+            call => self.call(call),
+        }
+    }
+
+    /// Makes a call beside the workspace.
+    fn call(&mut self, command: Command) -> Result<Answer, AllocError> {
+        let line = match command {
+            Command::Check => checked(self.alloc, &mut self.room),
+            Command::Precompile(Some(path)) => precompiled(self.alloc, &self.room, &path),
+            Command::Precompile(None) => precompiled(self.alloc, &self.room, &self.room.root),
+            Command::Run(entry, handed) => ran(self.alloc, &self.room, entry.as_str(), &handed),
+            Command::Eval(expression) => evaluated(self.alloc, &self.room, expression.as_str()),
+            _ => String::from_str(self.alloc, DONE),
+        };
+        Ok(Answer::Made(line?))
+    }
+
+    /// Begins with an empty workspace.
+    fn open(&mut self, root: ModulePath, options: BothOptions) -> Result<Answer, AllocError> {
+        let alloc = self.alloc;
+        let own_root = root.clone_in(alloc)?;
+        let BothOptions {
+            of_workspace,
+            of_calls,
+        } = options;
+        let workspace = Workspace::new(alloc, root, of_workspace);
+        drop(mem::replace(&mut self.workspace, workspace));
+        let room = Room {
+            root: own_root,
+            options: of_calls,
+            texts: Texts::new(alloc),
+        };
+        drop(mem::replace(&mut self.room, room));
+        self.linked = None;
+        Ok(Answer::Ready(DONE))
+    }
+
+    fn set_module(&mut self, path: ModulePath, text: Text) -> Result<Answer, AllocError> {
+        let printed = path.to_string(self.alloc)?;
+        let held = HeldText::new(self.alloc, &path, &text)?;
+        self.room.texts.reserve()?;
+        self.workspace.set_module(&path, text)?;
+        self.room.texts.put(printed, held);
+        self.linked = None;
+        Ok(Answer::Ready(DONE))
+    }
+
+    fn remove_module(&mut self, path: ModulePath) -> Result<Answer, AllocError> {
+        let printed = path.to_string(self.alloc)?;
+        let is_removed = self.workspace.remove_module(&path);
+        self.room.texts.remove(printed.as_str());
+        if is_removed {
+            self.linked = None;
+        }
+        Ok(Answer::Ready(if is_removed { REMOVED } else { KEPT }))
+    }
+
+    /// Sets a flag, for the workspace and for calls beside it. Where the workspace refuses, the old setting is put back, which needs no memory.
+    fn set_feature(&mut self, name: Text, feature: Feature) -> Result<Answer, AllocError> {
+        let set = String::from_str(self.alloc, name.as_str())?;
+        let put_back = String::from_str(self.alloc, name.as_str())?;
+        let features = &mut self.room.options.features;
+        let before = features.get(name.as_str());
+        features.set(set, feature)?;
+        if let Err(AllocError) = self.workspace.set_feature(name.as_str(), feature) {
+            features.set(put_back, before)?;
+            return Err(AllocError);
+        }
+        self.linked = None;
+        Ok(Answer::Ready(DONE))
+    }
+
+    fn set_options(&mut self, options: BothOptions) -> Answer {
+        let BothOptions {
+            of_workspace,
+            of_calls,
+        } = options;
+        self.workspace.set_options(of_workspace);
+        drop(mem::replace(&mut self.room.options, of_calls));
+        self.linked = None;
+        Answer::Ready(DONE)
+    }
+
+    fn compile(&mut self) -> Result<Answer, AllocError> {
+        let alloc = self.alloc;
+        let root = self.room.root.to_string(alloc)?;
+        let files = self.room.texts.files(root.as_str())?;
+        let compiled: &Compiled = self.workspace.compile();
+        let line = match compiled {
+            Ok((text, map)) => text_answer(alloc, text.as_str(), map)?,
+            Err(refusal) => refusal_answer(alloc, refusal, files.as_slice())?,
+        };
+        Ok(Answer::Made(line))
+    }
+
+    /// Links, unless the answer is kept. One that memory was refused to is not kept.
+    fn link(&mut self) -> Result<Answer, AllocError> {
+        if self.linked.is_some() {
+            return Ok(Answer::Linked);
+        }
+        let alloc = self.alloc;
+        let root = self.room.root.to_string(alloc)?;
+        let files = self.room.texts.files(root.as_str())?;
+        let linked: &Linked = self.workspace.link();
+        let line = match linked {
+            Ok((text, map)) => text_answer(alloc, text.as_str(), map)?,
+            Err(CompileError::OutOfMemory) => return Err(AllocError),
+            Err(error) => link_answer(alloc, error, files.as_slice())?,
+        };
+        self.linked = Some(line);
+        Ok(Answer::Linked)
     }
 }

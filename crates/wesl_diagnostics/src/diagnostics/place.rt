@@ -2,153 +2,33 @@
 
 use crate::diagnostics::error_line::ErrorLine;
 use std::alloc::{AllocError, Global};
-use wgsl_base::Text;
-use wgsl_lex::lex;
 use wgsl_path::Span;
-use wgsl_token::{Fixed, Token};
+use wgsl_places::{
+    Chained, Seek, SourceFile, chain_fault, find_name, flag_in_condition, function_head,
+    initial_value, miscounted_call, no_condition, no_flag, only_assertion, only_index,
+    only_operator, parameter_count,
+};
+use wgsl_token::Fixed;
 
-/// A module that was read: its path as it is printed, its file and its text.
-#[derive(Clone, Copy)]
-pub struct SourceFile<'a> {
-    pub path: &'a str,
-    pub file: &'a str,
-    pub text: &'a str,
-}
+/// The operators that divide.
+static DIVISIONS: [Fixed; 4] = [
+    Fixed::ForwardSlash,
+    Fixed::Modulo,
+    Fixed::DivisionEqual,
+    Fixed::ModuloEqual,
+];
 
-/// Which of the places of a name is wanted. Where there is none such, it is the first.
-#[derive(Clone, Copy)]
-pub enum Seek {
-    First,
-    Second,
-    /// The first behind a word that declares a name.
-    Declared,
-}
+/// The operators that add.
+static SUMS: [Fixed; 2] = [Fixed::Plus, Fixed::PlusEqual];
 
-/// Whether a name that is declared stands behind a token. A `>` is one where it ends the template list of a `var`, whose name is still to
-/// come.
-fn declares(token: &Token, is_in_var: bool) -> bool {
-    match token {
-        Token::Fixed(Fixed::GreaterThan) => is_in_var,
-        Token::Fixed(fixed) => matches!(
-            *fixed,
-            Fixed::Fn
-                | Fixed::Const
-                | Fixed::Struct
-                | Fixed::Alias
-                | Fixed::Override
-                | Fixed::Let
-                | Fixed::Var
-        ),
-        _ => false,
-    }
-}
-
-/// Whether behind a token the name of a `var` may still be to come.
-fn is_in_var_behind(is_in_var: bool, token: &Token) -> bool {
-    match token {
-        Token::Fixed(Fixed::Var) => true,
-        Token::Fixed(Fixed::GreaterThan | Fixed::Colon | Fixed::Equal | Fixed::Semicolon) => false,
-        _ => is_in_var,
-    }
-}
-
-fn is_name(token: &Token, name: &str) -> bool {
-    match token {
-        Token::Identifier(identifier) => identifier.as_str() == name,
-        _ => false,
-    }
-}
-
-/// Whether this place of a name is the one that is sought, and no other need be looked at.
-fn is_sought(seek: Seek, is_declared: bool, is_again: bool) -> bool {
-    match seek {
-        Seek::First => true,
-        Seek::Second => is_again,
-        Seek::Declared => is_declared,
-    }
-}
-
-/// A place of a name in a text, in comments not. Only memory can fail.
-pub fn find_name(
-    alloc: Global,
-    text: &str,
-    name: &str,
-    seek: Seek,
-) -> Result<Option<Span>, AllocError> {
-    let tokens = lex(alloc, text)?;
-    let mut first: Option<Span> = None;
-    let mut is_declared = false;
-    let mut is_in_var = false;
-    for spanned in tokens.as_slice() {
-        if is_name(&spanned.token, name) {
-            if is_sought(seek, is_declared, first.is_some()) {
-                return Ok(Some(spanned.span));
-            }
-            if first.is_none() {
-                first = Some(spanned.span);
-            }
-        }
-        is_declared = declares(&spanned.token, is_in_var);
-        is_in_var = is_in_var_behind(is_in_var, &spanned.token);
-    }
-    Ok(first)
-}
-
-/// The place of a name in a part of a text, in comments not: the first one there, or the last. Only memory can fail.
-pub fn find_name_in(
-    alloc: Global,
-    text: &str,
-    span: Span,
-    name: &str,
-    is_last: bool,
-) -> Result<Option<Span>, AllocError> {
-    let Some(part) = text.get(span.start..span.end) else {
-        return Ok(None);
-    };
-    let tokens = lex(alloc, part)?;
-    let mut found: Option<Span> = None;
-    for spanned in tokens.as_slice() {
-        if is_name(&spanned.token, name) && (is_last || found.is_none()) {
-            found = Some(Span {
-                start: span.start.saturating_add(spanned.span.start),
-                end: span.start.saturating_add(spanned.span.end),
-            });
-        }
-    }
-    Ok(found)
-}
-
-/// How deep in braces a token leaves those that stand behind it.
-fn depth_behind(depth: usize, token: &Token) -> usize {
-    match token {
-        Token::Fixed(Fixed::BraceLeft) => depth.saturating_add(1),
-        Token::Fixed(Fixed::BraceRight) => depth.saturating_sub(1),
-        _ => depth,
-    }
-}
-
-/// The names that a module declares, in their order. Only memory can fail.
-pub fn declared_names(alloc: Global, text: &str) -> Result<Vec<Text>, AllocError> {
-    let tokens = lex(alloc, text)?;
-    let mut names = Vec::new(alloc);
-    let mut depth = 0;
-    let mut is_declared = false;
-    let mut is_in_var = false;
-    for spanned in tokens.as_slice() {
-        if depth == 0 && is_declared {
-            if let Token::Identifier(name) = &spanned.token {
-                names.push(Text::from_str(alloc, name.as_str())?)?;
-            }
-        }
-        depth = depth_behind(depth, &spanned.token);
-        is_declared = declares(&spanned.token, is_in_var);
-        is_in_var = is_in_var_behind(is_in_var, &spanned.token);
-    }
-    Ok(names)
-}
+/// The operators that multiply.
+static PRODUCTS: [Fixed; 2] = [Fixed::Star, Fixed::TimesEqual];
 
 /// The module at a path.
-fn source_at<'a>(sources: &[SourceFile<'a>], path: Option<&str>) -> Option<SourceFile<'a>> {
+pub(crate) fn source_at<'a>(
+    sources: &[SourceFile<'a>],
+    path: Option<&str>,
+) -> Option<SourceFile<'a>> {
     match path {
         Some(path) => {
             for source in sources {
@@ -162,18 +42,19 @@ fn source_at<'a>(sources: &[SourceFile<'a>], path: Option<&str>) -> Option<Sourc
     }
 }
 
-/// The first place of a name in modules other than one, and the module.
+/// A place of a name in modules other than one, and the module.
 fn find_use<'a>(
     alloc: Global,
     sources: &[SourceFile<'a>],
     but: Option<&str>,
     name: &str,
+    seek: Seek,
 ) -> Result<Option<(SourceFile<'a>, Span)>, AllocError> {
     for source in sources {
         if Some(source.path) == but {
             continue;
         }
-        if let Some(span) = find_name(alloc, source.text, name, Seek::First)? {
+        if let Some(span) = find_name(alloc, source.text, name, seek)? {
             return Ok(Some((*source, span)));
         }
     }
@@ -211,7 +92,7 @@ fn last_part(path: &str) -> &str {
 
 /// Where an error is: the module, and the part of its text. What an error line has no place of is sought by its names, so the place
 /// is then the first that has such a name. Of the modules the first is the root.
-pub fn find_place<'a>(
+pub(crate) fn find_place<'a>(
     alloc: Global,
     line: &ErrorLine<'_>,
     sources: &[SourceFile<'a>],
@@ -224,23 +105,152 @@ pub fn find_place<'a>(
     }
     match line.kind {
         "Resolve.ModuleNotFound" | "TooManyModules" => match line.module {
-            Some(path) => find_use(alloc, sources, Some(path), last_part(path)),
+            Some(path) => find_use(alloc, sources, Some(path), last_part(path), Seek::Path),
             None => Ok(None),
         },
         "Import.MissingDecl" | "Import.Private" => find_import(alloc, line, sources),
         "NameClash" | "UnclearName" | "Unprintable" => match line.subject {
-            Some(name) => find_use(alloc, sources, None, name),
+            Some(name) => find_use(alloc, sources, None, name, Seek::First),
             None => Ok(None),
         },
-        "Import.DuplicateSymbol" | "Validate.Duplicate" => match source_at(sources, line.module) {
-            Some(source) => find_in_module(alloc, source, line, Seek::Second),
-            None => Ok(None),
-        },
+        "Validate.ParamCount" => find_call(alloc, line, sources),
         _ => match source_at(sources, line.module) {
-            Some(source) => find_in_module(alloc, source, line, Seek::First),
+            Some(source) => find_within(alloc, source, line),
             None => Ok(None),
         },
     }
+}
+
+/// The place of an error in the text of its module.
+fn find_within<'a>(
+    alloc: Global,
+    source: SourceFile<'a>,
+    line: &ErrorLine<'_>,
+) -> Result<Option<(SourceFile<'a>, Span)>, AllocError> {
+    let seek = match line.kind {
+        "Import.DuplicateSymbol" => Seek::InModule(1),
+        "Validate.Duplicate" => Seek::Inside(1),
+        _ => Seek::First,
+    };
+    match find_by_kind(alloc, source.text, line)? {
+        Some(span) => Ok(Some((source, span))),
+        None => find_in_module(alloc, source, line, seek),
+    }
+}
+
+/// The place of an error that is none of a name, by its kind.
+fn find_by_kind(
+    alloc: Global,
+    text: &str,
+    line: &ErrorLine<'_>,
+) -> Result<Option<Span>, AllocError> {
+    match line.kind.split_once('.') {
+        Some(("Condition", inner)) => find_condition(alloc, text, inner, line.subject),
+        Some(("Eval", inner)) => find_evaluated(alloc, text, inner, line),
+        _ => Ok(None),
+    }
+}
+
+/// The place of a fault of conditions.
+fn find_condition(
+    alloc: Global,
+    text: &str,
+    kind: &str,
+    flag: Option<&str>,
+) -> Result<Option<Span>, AllocError> {
+    match (kind, flag) {
+        ("InvalidExpression", _) => no_condition(alloc, text),
+        ("InvalidFeatureFlag", _) => no_flag(alloc, text),
+        ("UnexpectedFeatureFlag", Some(flag)) => flag_in_condition(alloc, text, flag),
+        ("NoPrecedingIf", _) => chain_fault(alloc, text, Chained::WithoutIf),
+        ("DuplicateIf", _) => chain_fault(alloc, text, Chained::Twice),
+        _ => Ok(None),
+    }
+}
+
+/// The place of a fault of evaluation.
+fn find_evaluated(
+    alloc: Global,
+    text: &str,
+    kind: &str,
+    line: &ErrorLine<'_>,
+) -> Result<Option<Span>, AllocError> {
+    match (kind, line.subject, line.declaration) {
+        ("ConstAssertFailure", _, _) => only_assertion(alloc, text),
+        ("NoReturn", Some(name), _) => function_head(alloc, text, name),
+        (_, None, Some(name)) if is_of_value(kind) => find_operation(alloc, text, kind, name),
+        _ => Ok(None),
+    }
+}
+
+/// Whether a fault of evaluation is one of a value that is made.
+fn is_of_value(kind: &str) -> bool {
+    kind.ends_with("Overflow")
+        || matches!(
+            kind,
+            "Conversion" | "DivByZero" | "RemZeroDiv" | "OutOfBounds" | "Binary" | "Unary"
+        )
+}
+
+/// The operators that can have a fault of evaluation.
+fn operators_of(kind: &str) -> &'static [Fixed] {
+    match kind {
+        "DivByZero" | "RemZeroDiv" => &DIVISIONS[..],
+        "AddOverflow" => &SUMS[..],
+        "MulOverflow" => &PRODUCTS[..],
+        _ => &[],
+    }
+}
+
+/// The only operation of a declaration that can have a fault, else the value of the declaration.
+fn find_operation(
+    alloc: Global,
+    text: &str,
+    kind: &str,
+    declaration: &str,
+) -> Result<Option<Span>, AllocError> {
+    let only = match kind {
+        "OutOfBounds" => only_index(alloc, text, declaration)?,
+        _ => only_operator(alloc, text, declaration, operators_of(kind))?,
+    };
+    match only {
+        Some(span) => Ok(Some(span)),
+        None => initial_value(alloc, text, declaration),
+    }
+}
+
+/// How many parameters a function has that one of the modules declares.
+pub(crate) fn parameters_of(
+    alloc: Global,
+    sources: &[SourceFile<'_>],
+    name: &str,
+) -> Result<Option<usize>, AllocError> {
+    for source in sources {
+        if let Some(count) = parameter_count(alloc, source.text, name)? {
+            return Ok(Some(count));
+        }
+    }
+    Ok(None)
+}
+
+/// Where a function is called with a wrong number of arguments.
+fn find_call<'a>(
+    alloc: Global,
+    line: &ErrorLine<'_>,
+    sources: &[SourceFile<'a>],
+) -> Result<Option<(SourceFile<'a>, Span)>, AllocError> {
+    let Some(source) = source_at(sources, line.module) else {
+        return Ok(None);
+    };
+    if let Some(name) = line.subject {
+        if let Some(count) = parameters_of(alloc, sources, name)? {
+            let text = source.text;
+            if let Some(span) = miscounted_call(alloc, text, line.declaration, name, count)? {
+                return Ok(Some((source, span)));
+            }
+        }
+    }
+    find_in_module(alloc, source, line, Seek::First)
 }
 
 /// Where a name that a module lacks is asked for: in another module first.
@@ -252,8 +262,8 @@ fn find_import<'a>(
     let Some(name) = line.subject else {
         return Ok(None);
     };
-    match find_use(alloc, sources, line.module, name)? {
+    match find_use(alloc, sources, line.module, name, Seek::Path)? {
         Some(found) => Ok(Some(found)),
-        None => find_use(alloc, sources, None, name),
+        None => find_use(alloc, sources, None, name, Seek::Path),
     }
 }

@@ -1,7 +1,7 @@
 //! Errors that are none of a module's.
 
-use crate::diagnostics::json::push_json;
 use std::alloc::{AllocError, Global};
+use weslc_json::push_json;
 
 /// An error of the command line or of a file that it names, as one JSON object of the form that errors of modules have, and a line break.
 pub fn plain_json(

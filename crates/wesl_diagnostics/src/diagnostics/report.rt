@@ -1,13 +1,14 @@
 //! An error as it is shown.
 
 use crate::diagnostics::error_line::ErrorLine;
-use crate::diagnostics::json::push_json;
-use crate::diagnostics::place::{SourceFile, find_place};
+use crate::diagnostics::findings::Findings;
 use crate::diagnostics::sentence::{Beside, advice_of, push_sentence, sentence_of};
 use crate::diagnostics::shown::shown_lines;
 use std::alloc::{AllocError, Global};
+use weslc_json::push_json;
 use wgsl_parse::Snippet;
 use wgsl_path::Span;
+use wgsl_places::SourceFile;
 
 /// An error of a command with the modules that were read, the root first, and why a file was not read, where that is known.
 #[derive(Clone, Copy)]
@@ -66,30 +67,49 @@ fn named<'a>(report: &Report<'a>, file: &'a str) -> Beside<'a> {
 }
 
 /// Adds what is wrong.
-fn push_message(out: &mut String, report: &Report<'_>) -> Result<(), AllocError> {
+fn push_message(
+    out: &mut String,
+    report: &Report<'_>,
+    findings: &Findings<'_>,
+) -> Result<(), AllocError> {
     if let Some(message) = report.message {
+        return out.push_str(message);
+    }
+    if let Some(message) = findings.message() {
         return out.push_str(message);
     }
     let sentence = sentence_of(&report.line);
     push_sentence(out, sentence, &report.line, named(report, ""))
 }
 
-fn push_help(out: &mut String, report: &Report<'_>) -> Result<(), AllocError> {
-    if let Some(reason) = report.reason {
-        out.push_str("help: ")?;
-        out.push_str(reason)?;
-        return out.push('\n');
-    }
-    let Some(advice) = advice_of(report.line.kind) else {
-        return Ok(());
-    };
+/// Adds a line of help.
+fn push_help_line(out: &mut String, help: &str) -> Result<(), AllocError> {
     out.push_str("help: ")?;
-    let file = match file_of(report) {
-        Some(file) => file,
-        None => "the module",
-    };
-    push_sentence(out, advice, &report.line, named(report, file))?;
+    out.push_str(help)?;
     out.push('\n')
+}
+
+/// Adds why a file was not read, or what to change where that is known by the kind, and what was meant.
+fn push_help(
+    out: &mut String,
+    report: &Report<'_>,
+    findings: &Findings<'_>,
+) -> Result<(), AllocError> {
+    if let Some(reason) = report.reason {
+        push_help_line(out, reason)?;
+    } else if let Some(advice) = advice_of(report.line.kind) {
+        out.push_str("help: ")?;
+        let file = match file_of(report) {
+            Some(file) => file,
+            None => "the module",
+        };
+        push_sentence(out, advice, &report.line, named(report, file))?;
+        out.push('\n')?;
+    }
+    match findings.help() {
+        Some(help) => push_help_line(out, help),
+        None => Ok(()),
+    }
 }
 
 fn push_place(out: &mut String, file: &str, written: &str) -> Result<(), AllocError> {
@@ -111,19 +131,20 @@ fn push_place(out: &mut String, file: &str, written: &str) -> Result<(), AllocEr
 
 /// An error for people: a sentence with its kind, the place with its line and marks below it, and what to change.
 pub fn report_text(alloc: Global, report: &Report<'_>) -> Result<String, AllocError> {
+    let findings = Findings::of(alloc, &report.line, report.sources)?;
     let mut out = String::from_str(alloc, "error: ")?;
-    push_message(&mut out, report)?;
+    push_message(&mut out, report, &findings)?;
     out.push_str(" (")?;
     out.push_str(report.line.kind)?;
     out.push_str(")\n")?;
-    match find_place(alloc, &report.line, report.sources)? {
+    match findings.place {
         Some((source, span)) => {
             let written = snippet_text(alloc, source.text, span)?;
             push_place(&mut out, source.file, written.as_str())?;
         }
         None => push_file(&mut out, report)?,
     }
-    push_help(&mut out, report)?;
+    push_help(&mut out, report, &findings)?;
     Ok(out)
 }
 
@@ -160,15 +181,16 @@ fn push_place_json(out: &mut String, file: &str, written: &str) -> Result<(), Al
 
 /// The same as one JSON object, and a line break.
 pub fn report_json(alloc: Global, report: &Report<'_>) -> Result<String, AllocError> {
+    let findings = Findings::of(alloc, &report.line, report.sources)?;
     let mut out = String::from_str(alloc, "{\"kind\":")?;
     push_json(&mut out, report.line.kind)?;
     push_member(&mut out, "module", report.line.module)?;
     push_member(&mut out, "declaration", report.line.declaration)?;
     push_member(&mut out, "subject", report.line.subject)?;
     let mut message = String::new(alloc);
-    push_message(&mut message, report)?;
+    push_message(&mut message, report, &findings)?;
     push_member(&mut out, "message", Some(message.as_str()))?;
-    match find_place(alloc, &report.line, report.sources)? {
+    match findings.place {
         Some((source, span)) => {
             let written = snippet_text(alloc, source.text, span)?;
             push_place_json(&mut out, source.file, written.as_str())?;
@@ -176,6 +198,9 @@ pub fn report_json(alloc: Global, report: &Report<'_>) -> Result<String, AllocEr
         None => push_member(&mut out, "file", file_of(report))?,
     }
     push_member(&mut out, "reason", report.reason)?;
+    if let Some(help) = findings.help() {
+        push_member(&mut out, "help", Some(help))?;
+    }
     out.push_str("}\n")?;
     Ok(out)
 }

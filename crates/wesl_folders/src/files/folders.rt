@@ -1,8 +1,9 @@
 //! The folders of packages.
 
 use crate::files::names::is_file_name;
-use crate::files::path::{below, folder_of};
+use crate::files::path::{folder_of, parts_below};
 use crate::files::reading::{FileProblem, read_within, real_folder};
+use crate::files::selection::Selection;
 use std::alloc::{AllocError, Global};
 use std::path::PathBuf;
 use std::rt::Files;
@@ -23,6 +24,8 @@ struct Package {
 pub struct Folders {
     packages: Vec<Package>,
     follows_links: bool,
+    /// Which files are modules, where not all are.
+    selection: Option<Selection>,
 }
 
 /// A file as a module: the folder of its package, and its path there.
@@ -44,7 +47,7 @@ impl Root {
             Some(folder) => folder,
             None => folder_of(file),
         };
-        let Some(names) = below(alloc, file, folder)? else {
+        let Some(names) = parts_below(alloc, file, folder)? else {
             return Ok(None);
         };
         let folder = Text::from_str(alloc, folder)?;
@@ -133,7 +136,60 @@ impl Folders {
         Folders {
             packages: Vec::new(alloc),
             follows_links,
+            selection: None,
         }
+    }
+
+    /// Says which files are modules.
+    pub fn select(&mut self, selection: Selection) {
+        self.selection = Some(selection);
+    }
+
+    /// Whether a file of a package is a module. What the own package selects says nothing of others.
+    fn takes(&self, alloc: Global, package: &Package, file: &str) -> Result<bool, AllocError> {
+        match &self.selection {
+            Some(selection) if package.name.is_none() => selection.takes(alloc, file),
+            _ => Ok(true),
+        }
+    }
+
+    /// Why a module without a file is not read.
+    fn missing(
+        &self,
+        alloc: Global,
+        package: &Package,
+        stem: &str,
+    ) -> Result<ReadProblem, AllocError> {
+        let mut file = Text::from_str(alloc, stem)?;
+        file.push_str(".wesl")?;
+        let problem = match self.takes(alloc, package, file.as_str())? {
+            true => FileProblem::Missing,
+            false => FileProblem::LeftOut,
+        };
+        Ok(ReadProblem {
+            file: Some(file),
+            problem,
+        })
+    }
+
+    /// Reads the file of a module with this ending. None where it is missing or left out.
+    fn read_ending<R: Files + AllocGlobal>(
+        &self,
+        rt: &R,
+        package: &Package,
+        stem: &str,
+        ending: &str,
+    ) -> Result<Option<Source>, ReadProblem> {
+        let mut file = Text::from_str(rt.alloc(), stem)?;
+        file.push_str(ending)?;
+        if !self.takes(rt.alloc(), package, file.as_str())? {
+            return Ok(None);
+        }
+        let within = match self.follows_links {
+            true => None,
+            false => Some(package.real.as_str()),
+        };
+        read_source(rt, file, within)
     }
 
     /// Adds the folder of a package, of the own one where no name is given. Of two for one package the first counts.
@@ -184,15 +240,11 @@ impl Folders {
         let Some(stem) = stem_in(rt.alloc(), package.folder.as_str(), path)? else {
             return Err(unnamed());
         };
-        let within = match self.follows_links {
-            true => None,
-            false => Some(package.real.as_str()),
-        };
-        match read_source(rt, stem.as_str(), ".wesl", within)? {
+        match self.read_ending(rt, package, stem.as_str(), ".wesl")? {
             Some(source) => Ok(source),
-            None => match read_source(rt, stem.as_str(), ".wgsl", within)? {
+            None => match self.read_ending(rt, package, stem.as_str(), ".wgsl")? {
                 Some(source) => Ok(source),
-                None => missing(rt.alloc(), stem.as_str()),
+                None => Err(self.missing(rt.alloc(), package, stem.as_str())?),
             },
         }
     }
@@ -223,24 +275,12 @@ fn stem_in(alloc: Global, folder: &str, path: &ModulePath) -> Result<Option<Text
     Ok(Some(file))
 }
 
-fn missing(alloc: Global, stem: &str) -> Result<Source, ReadProblem> {
-    let mut file = Text::from_str(alloc, stem)?;
-    file.push_str(".wesl")?;
-    Err(ReadProblem {
-        file: Some(file),
-        problem: FileProblem::Missing,
-    })
-}
-
 /// Reads a file, which has to lie within a folder where one is given; none where it is missing.
 fn read_source<R: Files + AllocGlobal>(
     rt: &R,
-    stem: &str,
-    ending: &str,
+    file: Text,
     within: Option<&str>,
 ) -> Result<Option<Source>, ReadProblem> {
-    let mut file = Text::from_str(rt.alloc(), stem)?;
-    file.push_str(ending)?;
     match read_within(rt, file.as_str(), within) {
         Ok(text) => Ok(Some(Source { file, text })),
         Err(FileProblem::Missing) => Ok(None),

@@ -14,7 +14,7 @@ fn parts(alloc: Global, path: &str) -> Result<Vec<&str>, AllocError> {
 }
 
 /// The parts of a file's path below a folder. None where it isn't below it.
-pub(crate) fn below<'a>(
+pub fn parts_below<'a>(
     alloc: Global,
     file: &'a str,
     folder: &str,
@@ -39,7 +39,7 @@ pub(crate) fn below<'a>(
 }
 
 /// The folder in which a file lies.
-pub(crate) fn folder_of(file: &str) -> &str {
+pub fn folder_of(file: &str) -> &str {
     match file.trim_end_matches('/').rsplit_once('/') {
         Some(("", _)) => "/",
         Some((folder, _)) => folder,

@@ -24,6 +24,8 @@ pub enum FileProblem {
     Irregular,
     #[error("a link leads out of the package's folder: --follow-links reads it")]
     Outside,
+    #[error("wesl.toml leaves it out")]
+    LeftOut,
     #[error("it is not UTF-8")]
     NotUtf8,
     #[error("it is longer than 16777216 bytes")]
@@ -60,7 +62,7 @@ impl<T: Drop> From<AllocFailed<T>> for FileProblem {
     }
 }
 
-fn problem_of(kind: ErrorKind) -> FileProblem {
+pub(crate) fn problem_of(kind: ErrorKind) -> FileProblem {
     match kind {
         ErrorKind::NotFound | ErrorKind::NotADirectory | ErrorKind::InvalidFilename =>
             FileProblem::Missing,
@@ -114,18 +116,23 @@ fn open_file<R: Files>(rt: &R, file: &str) -> Result<R::File, FileProblem> {
     }
 }
 
-/// The text of a file, or why there is none. What is no regular file is not opened.
-pub fn read_text<R: Files + AllocGlobal>(rt: &R, file: &str) -> Result<String, FileProblem> {
-    let mut opened = open_file(rt, file)?;
-    let bytes = read_bytes(rt.alloc(), &mut opened)?;
+/// The text that a reader has left, or why there is none.
+pub fn read_input<R: Read>(alloc: Global, reader: &mut R) -> Result<String, FileProblem> {
+    let bytes = read_bytes(alloc, reader)?;
     match str::from_utf8(bytes.as_slice()) {
-        Ok(text) => Ok(String::from_str(rt.alloc(), text)?),
+        Ok(text) => Ok(String::from_str(alloc, text)?),
         Err(_) => Err(FileProblem::NotUtf8),
     }
 }
 
-/// The path of a file without links in it.
-fn real_path<R: Files + AllocGlobal>(rt: &R, file: &str) -> Result<PathBuf, FileProblem> {
+/// The text of a file, or why there is none. What is no regular file is not opened.
+pub fn read_text<R: Files + AllocGlobal>(rt: &R, file: &str) -> Result<String, FileProblem> {
+    let mut opened = open_file(rt, file)?;
+    read_input(rt.alloc(), &mut opened)
+}
+
+/// The path of a file from the root of all folders, without links in it.
+pub fn full_path<R: Files + AllocGlobal>(rt: &R, file: &str) -> Result<PathBuf, FileProblem> {
     match fs::canonicalize(rt, file) {
         Ok(path) => Ok(path),
         Err(error) => Err(problem_of(error.kind())),
@@ -138,7 +145,7 @@ pub(crate) fn real_folder<R: Files + AllocGlobal>(
     folder: &str,
 ) -> Result<PathBuf, FileProblem> {
     match fs::metadata(rt, folder) {
-        Ok(metadata) if metadata.is_dir() => real_path(rt, folder),
+        Ok(metadata) if metadata.is_dir() => full_path(rt, folder),
         Ok(_) => Err(FileProblem::NoFolder),
         Err(error) => match problem_of(error.kind()) {
             FileProblem::Missing => Err(FileProblem::NoFolder),
@@ -154,7 +161,7 @@ pub(crate) fn read_within<R: Files + AllocGlobal>(
     within: Option<&str>,
 ) -> Result<String, FileProblem> {
     if let Some(folder) = within {
-        if !real_path(rt, file)?.starts_with(folder) {
+        if !full_path(rt, file)?.starts_with(folder) {
             return Err(FileProblem::Outside);
         }
     }

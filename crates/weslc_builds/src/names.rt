@@ -1,7 +1,8 @@
-//! The map of printed names.
+//! The map of the names that a text declares.
 
 use std::alloc::{AllocError, Global};
-use wesl_diagnostics::{BasicSourceMap, SourceMap, declared_names, push_json};
+use wesl_diagnostics::{BasicSourceMap, SourceMap, declared_names};
+use weslc_json::push_json;
 
 /// Adds where a printed name is from. Whether the map says it.
 fn push_origin(

@@ -1,0 +1,1 @@
+const width = 5u;

@@ -1,0 +1,3 @@
+fn blurred(x: u32) -> u32 {
+    return lost(x);
+}

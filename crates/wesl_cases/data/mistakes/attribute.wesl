@@ -1,0 +1,1 @@
+@compute @workgroup_sizes(1) fn main() {}

@@ -1,0 +1,5 @@
+fn main() {
+    if true {
+        return;
+}
+fn other() {}

@@ -1,0 +1,1 @@
+@compute @workgroup_size(1) fn main(@builtin(global_invocation_idx) id: vec3u) {}

@@ -1,0 +1,4 @@
+struct S {
+    a: u32
+    b: u32
+}

@@ -1,0 +1,1 @@
+@if(fast && 1) fn main() {}

@@ -1,0 +1,1 @@
+const main = array<u32, 2>(1u, 2u)[5];

@@ -1,0 +1,2 @@
+enable f16;
+import package::m::two;

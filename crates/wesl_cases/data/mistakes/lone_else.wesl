@@ -1,0 +1,2 @@
+fn main() {}
+@else fn other() {}

@@ -1,0 +1,1 @@
+import package::math::two; fn half() -> u32 { return two / 2; }

@@ -1,0 +1,1 @@
+import package::maths::two; fn main() -> u32 { return two; }

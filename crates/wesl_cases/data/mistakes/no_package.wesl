@@ -1,0 +1,1 @@
+import math::two; fn main() -> u32 { return two; }

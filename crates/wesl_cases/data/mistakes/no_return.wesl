@@ -1,0 +1,1 @@
+fn two() -> u32 {} fn main() -> u32 { return two(); }

@@ -1,0 +1,1 @@
+fn main() -> u32 { return 1 +; }

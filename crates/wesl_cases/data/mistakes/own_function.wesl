@@ -1,0 +1,1 @@
+const main = min(1, 2);

@@ -1,0 +1,1 @@
+import noize::simplex::two; fn main() -> u32 { return two; }

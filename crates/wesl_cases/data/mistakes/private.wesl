@@ -1,0 +1,1 @@
+import package::middle::two; fn main() -> u32 { return two; }
