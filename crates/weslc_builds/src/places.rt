@@ -91,14 +91,14 @@ fn files_at<'a>(
 
 /// The source map of a text, which goes to a file of its own, and the text to another, if to one. It names files as they are seen from its
 /// own folder.
-pub fn source_map_text<R: Files + AllocGlobal>(
+pub fn source_map_text<'a, R: Files + AllocGlobal>(
     rt: &R,
     map_file: &str,
     output: Option<&str>,
-    text: &str,
+    text: &'a str,
     map: &BasicSourceMap,
-    features: &Features,
-    sources: &Sources,
+    features: &'a Features,
+    sources: &'a Sources,
 ) -> Result<String, AllocError> {
     let alloc = rt.alloc();
     let paths = paths_from(rt, sources, map_file)?;
