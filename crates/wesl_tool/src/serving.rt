@@ -15,7 +15,9 @@ use std::rt::Files;
 use wesl_command::{Request, STANDARD_INPUT, Verb};
 use wesl_diagnostics::Mode;
 use wesl_faults::check_all;
-use wesl_folders::{Folders, Root, Selection, Source, Sources, read_input, read_text};
+use wesl_folders::{
+    CheckRefusal, Folders, Root, Selection, Source, Sources, read_input, read_text,
+};
 use wgsl_base::{Items, Text};
 use wgsl_path::{ModulePath, PathOrigin};
 
@@ -168,6 +170,46 @@ fn text_of(reason: &Option<String>) -> Option<&str> {
     }
 }
 
+/// What a check refuses modules for, whose files are read as they are asked for.
+fn faults_of<'a, R: Files + AllocGlobal>(
+    rt: &R,
+    asked: &Asked,
+    folders: &'a Folders,
+    sources: &'a mut Sources,
+) -> Result<Vec<CheckRefusal>, AllocError> {
+    let mut texts = FolderTexts {
+        rt,
+        folders,
+        sources,
+    };
+    check_all(
+        rt.alloc(),
+        &mut texts,
+        &asked.root,
+        &asked.options,
+        MOST_FAULTS,
+    )
+}
+
+/// Writes one of the errors of a check.
+fn write_other<R: Files + AllocGlobal, E: Write>(
+    rt: &R,
+    request: &Request<'_>,
+    refusal: &Refusal,
+    folders: &Folders,
+    sources: &mut Sources,
+    errors: &mut E,
+) -> io::Result<()> {
+    let missing = refusal.missing_module();
+    let reason = match read_missing(rt, folders, sources, request, missing)? {
+        Read::Refused(reason) => Some(reason),
+        Read::Nothing | Read::Added => None,
+    };
+    let reason = text_of(&reason);
+    write_error(rt.alloc(), request, refusal, sources, reason, errors)?;
+    Ok(())
+}
+
 /// Writes what a check refuses modules for behind the first fault, which is told already.
 fn write_others<R: Files + AllocGlobal, E: Write>(
     rt: &R,
@@ -175,35 +217,15 @@ fn write_others<R: Files + AllocGlobal, E: Write>(
     begun: &mut Begun,
     errors: &mut E,
 ) -> io::Result<()> {
-    let (asked, folders) = (&begun.asked, &begun.folders);
-    let sources = &mut begun.sources;
-    let mut texts = FolderTexts {
-        rt,
-        folders,
-        sources,
-    };
-    let (root, options) = (&asked.root, &asked.options);
+    let faults = faults_of(rt, &begun.asked, &begun.folders, &mut begun.sources)?;
     let mut is_first = true;
-    for refusal in check_all(rt.alloc(), &mut texts, root, options, MOST_FAULTS)? {
-        if is_first {
-            is_first = false;
-            continue;
+    for fault in faults {
+        if !is_first {
+            let refusal = Refusal::from(fault);
+            let (folders, sources) = (&begun.folders, &mut begun.sources);
+            write_other(rt, request, &refusal, folders, sources, errors)?;
         }
-        let refusal = Refusal::from(refusal);
-        let missing = refusal.missing_module();
-        let reason = match read_missing(rt, folders, &mut begun.sources, request, missing)? {
-            Read::Refused(reason) => Some(reason),
-            Read::Nothing | Read::Added => None,
-        };
-        let reason = text_of(&reason);
-        write_error(
-            rt.alloc(),
-            request,
-            &refusal,
-            &begun.sources,
-            reason,
-            errors,
-        )?;
+        is_first = false;
     }
     Ok(())
 }

@@ -127,19 +127,22 @@ pub fn ran(alloc: Global, room: &Room, entry: &str, handed: &Handed) -> Result<S
     }
 }
 
+/// A value, as an answer: as JSON, and its text.
+fn value_answer(alloc: Global, text: &str) -> Result<String, AllocError> {
+    let mut json = String::from_str(alloc, "{\"value\":")?;
+    let value = value_json(alloc, text)?;
+    json.push_str(value.as_str())?;
+    json.push_str(",\"text\":")?;
+    push_json(&mut json, text)?;
+    json.push_str("}\n")?;
+    Ok(json)
+}
+
 /// What comes of an expression: its value, and the text of that.
 pub fn evaluated(alloc: Global, room: &Room, expression: &str) -> Result<String, AllocError> {
     let mut resolver = room.texts.resolver()?;
     match eval(alloc, &mut resolver, &room.root, &room.options, expression) {
-        Ok(text) => {
-            let mut json = String::from_str(alloc, "{\"value\":")?;
-            let value = value_json(alloc, text.as_str())?;
-            json.push_str(value.as_str())?;
-            json.push_str(",\"text\":")?;
-            push_json(&mut json, text.as_str())?;
-            json.push_str("}\n")?;
-            Ok(json)
-        }
+        Ok(text) => value_answer(alloc, text.as_str()),
         Err(refusal) => refusal_of_expression(alloc, room, expression, &refused(refusal)),
     }
 }

@@ -5,7 +5,7 @@ use crate::answer::{
     text_answer,
 };
 use crate::calls::{Room, checked, evaluated, precompiled, ran};
-use crate::command::{BothOptions, Command};
+use crate::command::{Asked, BothOptions, Command, CommandError};
 use crate::line::{Line, read_line};
 use crate::reading::read_asked;
 use crate::texts::{HeldText, Texts};
@@ -87,6 +87,11 @@ fn write_answer<W: Write>(id: Option<&String>, line: &str, writer: &mut W) -> io
     writer.write_all(line.strip_prefix("{").unwrap_or(line).as_bytes())
 }
 
+/// The answer to what is no command.
+fn refused(alloc: Global, error: &CommandError) -> Result<Answer, AllocError> {
+    Ok(Answer::Made(command_answer(alloc, error)?))
+}
+
 /// A count, under its name.
 fn counted(alloc: Global, name: &str, count: u64) -> Result<Answer, AllocError> {
     let line = format!(in alloc; "{{\"{name}\":{count}}}\n")?;
@@ -104,15 +109,21 @@ impl Session {
     }
 
     fn answer_bytes<W: Write>(&mut self, bytes: &[u8], writer: &mut W) -> io::Result<()> {
-        let asked = read_asked(self.alloc, bytes);
-        let answer = match asked.command {
+        let Asked { id, command } = read_asked(self.alloc, bytes);
+        let answer = match command {
             Ok(command) => self.obey(command),
-            Err(error) => match command_answer(self.alloc, &error) {
-                Ok(line) => Ok(Answer::Made(line)),
-                Err(error) => Err(error),
-            },
+            Err(error) => refused(self.alloc, &error),
         };
-        let id = asked.id.as_ref();
+        self.tell(id.as_ref(), answer, writer)
+    }
+
+    /// Writes what is answered to a line with this `id`.
+    fn tell<W: Write>(
+        &self,
+        id: Option<&String>,
+        answer: Result<Answer, AllocError>,
+        writer: &mut W,
+    ) -> io::Result<()> {
         match answer {
             Ok(Answer::Ready(line)) => write_answer(id, line, writer),
             Ok(Answer::Made(line)) => write_answer(id, line.as_str(), writer),
@@ -136,21 +147,28 @@ impl Session {
             Command::Link => self.link(),
             Command::Parses => counted(self.alloc, "parses", self.workspace.parses()),
             Command::Runs => counted(self.alloc, "runs", self.workspace.runs()),
-            call => self.call(call),
+            call => self.call(&call),
         }
     }
 
     /// Makes a call beside the workspace.
-    fn call(&mut self, command: Command) -> Result<Answer, AllocError> {
+    fn call(&mut self, command: &Command) -> Result<Answer, AllocError> {
         let line = match command {
             Command::Check => checked(self.alloc, &mut self.room),
-            Command::Precompile(Some(path)) => precompiled(self.alloc, &self.room, &path),
-            Command::Precompile(None) => precompiled(self.alloc, &self.room, &self.room.root),
-            Command::Run(entry, handed) => ran(self.alloc, &self.room, entry.as_str(), &handed),
+            Command::Precompile(path) => self.precompile(path),
+            Command::Run(entry, handed) => ran(self.alloc, &self.room, entry.as_str(), handed),
             Command::Eval(expression) => evaluated(self.alloc, &self.room, expression.as_str()),
             _ => String::from_str(self.alloc, DONE),
         };
         Ok(Answer::Made(line?))
+    }
+
+    /// Fixes flags in a module, or where none is named in the root.
+    fn precompile(&self, path: &Option<ModulePath>) -> Result<String, AllocError> {
+        match path {
+            Some(path) => precompiled(self.alloc, &self.room, path),
+            None => precompiled(self.alloc, &self.room, &self.room.root),
+        }
     }
 
     /// Begins with an empty workspace.
