@@ -7,13 +7,22 @@ use std::io::{Read, Write};
 use std::rt::Files;
 use wesl_command::{Request, Verb};
 use wesl_tool::{Failure, failed, is_folder, misused, modules_in, serve, write_failure};
-use weslc_config::{Config, find_config, fit_folder};
+use weslc_config::{Config, Fitted, find_config, fit_folder};
 
 /// A file that is checked, and the folder of its package, where neither the request nor a `wesl.toml` names it.
 #[derive(Drop)]
 struct Listed {
     file: String,
     root: Option<String>,
+}
+
+impl Listed {
+    fn root(&self) -> Option<&str> {
+        match &self.root {
+            Some(root) => Some(root.as_str()),
+            None => None,
+        }
+    }
 }
 
 /// Whether a file of a folder is a module.
@@ -88,11 +97,14 @@ fn list<R: Files + AllocGlobal + Clone + Drop, E: Write>(
         true => find_config(rt, name),
         false => Ok(None),
     };
-    let added = match &config {
-        Ok(config) => list_folder(rt, request, name, config.as_ref(), listed),
-        Err(failure) => Err(config_failure(rt.alloc(), failure)),
+    let config = match config {
+        Ok(config) => config,
+        Err(failure) => {
+            let failure = config_failure(rt.alloc(), &failure);
+            return write_failure(rt.alloc(), request, failure, errors);
+        }
     };
-    match added {
+    match list_folder(rt, request, name, config.as_ref(), listed) {
         Ok(()) => Ok(0),
         Err(failure) => write_failure(rt.alloc(), request, failure, errors),
     }
@@ -130,18 +142,33 @@ impl<E: Write> Write for Once<'_, E> {
     }
 }
 
+/// Does what a request asks for of a file that lies so in the package that a `wesl.toml` describes.
+fn serve_configured<'a, R: Files + AllocGlobal, I: Read, W: Write, E: Write>(
+    rt: &R,
+    request: &Request<'a>,
+    config: &'a Config,
+    fitted: &'a Fitted,
+    input: &mut I,
+    out: &mut W,
+    errors: &mut E,
+) -> io::Result<u8> {
+    let made = configured(rt.alloc(), request, config, fitted)?;
+    let selection = selection_of(request, config, fitted);
+    serve(rt, &made, selection, input, out, errors)
+}
+
 /// Does what a request asks for of one file. The folder of its package is the one that the request names, or that a `wesl.toml` says, or
 /// else the one that was listed.
-fn serve_one<R: Files + AllocGlobal, I: Read, W: Write, E: Write>(
+fn serve_one<'a, R: Files + AllocGlobal, I: Read, W: Write, E: Write>(
     rt: &R,
-    request: &Request<'_>,
-    one: &Listed,
+    request: &Request<'a>,
+    file: &'a str,
+    listed: Option<&'a str>,
     input: &mut I,
     out: &mut W,
     errors: &mut E,
 ) -> io::Result<u8> {
     let alloc = rt.alloc();
-    let file = one.file.as_str();
     let config = match config_of(rt, request, file) {
         Ok(config) => config,
         Err(failure) => {
@@ -149,22 +176,15 @@ fn serve_one<R: Files + AllocGlobal, I: Read, W: Write, E: Write>(
             return write_failure(alloc, request, failure, errors);
         }
     };
-    let listed = match &one.root {
-        Some(root) => Some(root.as_str()),
-        None => None,
-    };
     let plain = request.of_file(alloc, file, request.root.or(listed))?;
     match &config {
         Some(config) => {
             let fitted = fit(rt, request, config, file)?;
-            let from = if fitted.root.is_some() {
-                request
+            if fitted.root.is_some() {
+                serve_configured(rt, request, config, &fitted, input, out, errors)
             } else {
-                &plain
-            };
-            let made = configured(alloc, from, config, &fitted)?;
-            let selection = selection_of(request, config, &fitted);
-            serve(rt, &made, selection, input, out, errors)
+                serve_configured(rt, &plain, config, &fitted, input, out, errors)
+            }
         }
         None => serve(rt, &plain, None, input, out, errors),
     }
@@ -203,7 +223,8 @@ fn serve_all<R: Files + AllocGlobal + Clone + Drop, I: Read, W: Write, E: Write>
     let mut request = request.of_file(alloc, request.file, request.root)?;
     request.shows_notes = false;
     for one in listed.as_slice() {
-        status = status.max(serve_one(rt, &request, one, input, out, &mut once)?);
+        let (file, root) = (one.file.as_str(), one.root());
+        status = status.max(serve_one(rt, &request, file, root, input, out, &mut once)?);
     }
     Ok(status)
 }
@@ -217,11 +238,7 @@ pub fn serve_each<R: Files + AllocGlobal + Clone + Drop, I: Read, W: Write, E: W
     errors: &mut E,
 ) -> io::Result<u8> {
     match is_of_one(rt, request) {
-        true => {
-            let file = String::from_str(rt.alloc(), request.file)?;
-            let one = Listed { file, root: None };
-            serve_one(rt, request, &one, input, out, errors)
-        }
+        true => serve_one(rt, request, request.file, None, input, out, errors),
         false => serve_all(rt, request, input, out, errors),
     }
 }
