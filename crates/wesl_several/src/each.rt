@@ -1,19 +1,28 @@
 //! A request for one file, or for several.
 
 use crate::configured::{config_failure, config_of, configured, fit, selection_of};
-use std::alloc::AllocError;
+use std::alloc::{AllocError, Global};
 use std::io;
 use std::io::{Read, Write};
 use std::rt::Files;
 use wesl_command::{Request, Verb};
 use wesl_tool::{Failure, failed, is_folder, misused, modules_in, serve, write_failure};
-use weslc_config::{Config, find_config, fit_folder};
+use weslc_config::{Config, Fitted, find_config, fit_folder};
 
 /// A file that is checked, and the folder of its package, where neither the request nor a `wesl.toml` names it.
 #[derive(Drop)]
 struct Listed {
     file: String,
     root: Option<String>,
+}
+
+impl Listed {
+    fn root(&self) -> Option<&str> {
+        match &self.root {
+            Some(root) => Some(root.as_str()),
+            None => None,
+        }
+    }
 }
 
 /// Whether a file of a folder is a module.
@@ -88,11 +97,14 @@ fn list<R: Files + AllocGlobal + Clone + Drop, E: Write>(
         true => find_config(rt, name),
         false => Ok(None),
     };
-    let added = match &config {
-        Ok(config) => list_folder(rt, request, name, config.as_ref(), listed),
-        Err(failure) => Err(config_failure(rt.alloc(), failure)),
+    let config = match config {
+        Ok(config) => config,
+        Err(failure) => {
+            let failure = config_failure(rt.alloc(), &failure);
+            return write_failure(rt.alloc(), request, failure, errors);
+        }
     };
-    match added {
+    match list_folder(rt, request, name, config.as_ref(), listed) {
         Ok(()) => Ok(0),
         Err(failure) => write_failure(rt.alloc(), request, failure, errors),
     }
@@ -103,38 +115,60 @@ fn is_of_one<R: Files>(rt: &R, request: &Request<'_>) -> bool {
     request.verb != Verb::Check || (request.more_files.is_empty() && !is_folder(rt, request.file))
 }
 
-/// What was told of some files, so that what several of them lead to is told once.
+/// A writer of errors, each of which is written by one call. One that several files lead to is written once.
 #[derive(Drop)]
-struct Told {
-    texts: Vec<Vec<u8>>,
+struct Once<'a, E> {
+    alloc: Global,
+    errors: &'a mut E,
+    written: Vec<Vec<u8>>,
 }
 
-impl Told {
-    /// Writes what is told of a file, unless it was told before.
-    fn tell<E: Write>(&mut self, text: Vec<u8>, errors: &mut E) -> io::Result<()> {
-        for told in self.texts.as_slice() {
-            if told.as_slice() == text.as_slice() {
-                return Ok(());
+impl<E: Write> Write for Once<'_, E> {
+    fn write(&mut self, buf: &[u8]) -> io::Result<usize> {
+        for written in self.written.as_slice() {
+            if written.as_slice() == buf {
+                return Ok(buf.len());
             }
         }
-        errors.write_all(text.as_slice())?;
-        self.texts.push(text)?;
-        Ok(())
+        self.errors.write_all(buf)?;
+        let mut text = Vec::new(self.alloc);
+        text.extend_from_slice(buf)?;
+        self.written.push(text)?;
+        Ok(buf.len())
     }
+
+    fn flush(&mut self) -> io::Result<()> {
+        self.errors.flush()
+    }
+}
+
+/// Does what a request asks for of a file that lies so in the package that a `wesl.toml` describes.
+fn serve_configured<'a, R: Files + AllocGlobal, I: Read, W: Write, E: Write>(
+    rt: &R,
+    request: &Request<'a>,
+    config: &'a Config,
+    fitted: &'a Fitted,
+    input: &mut I,
+    out: &mut W,
+    errors: &mut E,
+) -> io::Result<u8> {
+    let made = configured(rt.alloc(), request, config, fitted)?;
+    let selection = selection_of(request, config, fitted);
+    serve(rt, &made, selection, input, out, errors)
 }
 
 /// Does what a request asks for of one file. The folder of its package is the one that the request names, or that a `wesl.toml` says, or
 /// else the one that was listed.
-fn serve_one<R: Files + AllocGlobal, I: Read, W: Write, E: Write>(
+fn serve_one<'a, R: Files + AllocGlobal, I: Read, W: Write, E: Write>(
     rt: &R,
-    request: &Request<'_>,
-    one: &Listed,
+    request: &Request<'a>,
+    file: &'a str,
+    listed: Option<&'a str>,
     input: &mut I,
     out: &mut W,
     errors: &mut E,
 ) -> io::Result<u8> {
     let alloc = rt.alloc();
-    let file = one.file.as_str();
     let config = match config_of(rt, request, file) {
         Ok(config) => config,
         Err(failure) => {
@@ -142,22 +176,15 @@ fn serve_one<R: Files + AllocGlobal, I: Read, W: Write, E: Write>(
             return write_failure(alloc, request, failure, errors);
         }
     };
-    let listed = match &one.root {
-        Some(root) => Some(root.as_str()),
-        None => None,
-    };
     let plain = request.of_file(alloc, file, request.root.or(listed))?;
     match &config {
         Some(config) => {
             let fitted = fit(rt, request, config, file)?;
-            let from = if fitted.root.is_some() {
-                request
+            if fitted.root.is_some() {
+                serve_configured(rt, request, config, &fitted, input, out, errors)
             } else {
-                &plain
-            };
-            let made = configured(alloc, from, config, &fitted)?;
-            let selection = selection_of(request, config, &fitted);
-            serve(rt, &made, selection, input, out, errors)
+                serve_configured(rt, &plain, config, &fitted, input, out, errors)
+            }
         }
         None => serve(rt, &plain, None, input, out, errors),
     }
@@ -188,15 +215,16 @@ fn serve_all<R: Files + AllocGlobal + Clone + Drop, I: Read, W: Write, E: Write>
     let alloc = rt.alloc();
     let mut listed = Vec::new(alloc);
     let mut status = list_all(rt, request, &mut listed, errors)?;
-    let mut told = Told {
-        texts: Vec::new(alloc),
+    let mut once = Once {
+        alloc,
+        errors,
+        written: Vec::new(alloc),
     };
     let mut request = request.of_file(alloc, request.file, request.root)?;
     request.shows_notes = false;
     for one in listed.as_slice() {
-        let mut text = Vec::new(alloc);
-        status = status.max(serve_one(rt, &request, one, input, out, &mut text)?);
-        told.tell(text, errors)?;
+        let (file, root) = (one.file.as_str(), one.root());
+        status = status.max(serve_one(rt, &request, file, root, input, out, &mut once)?);
     }
     Ok(status)
 }
@@ -210,11 +238,7 @@ pub fn serve_each<R: Files + AllocGlobal + Clone + Drop, I: Read, W: Write, E: W
     errors: &mut E,
 ) -> io::Result<u8> {
     match is_of_one(rt, request) {
-        true => {
-            let file = String::from_str(rt.alloc(), request.file)?;
-            let one = Listed { file, root: None };
-            serve_one(rt, request, &one, input, out, errors)
-        }
+        true => serve_one(rt, request, request.file, None, input, out, errors),
         false => serve_all(rt, request, input, out, errors),
     }
 }

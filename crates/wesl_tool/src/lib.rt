@@ -11,12 +11,12 @@ mod outputs;
 mod reading;
 mod refusal;
 mod same;
-mod serve;
+mod serving;
 mod written;
 
 pub use failure::{Failure, failed, misused};
 pub use refusal::Refusal;
-pub use serve::serve;
+pub use serving::serve;
 pub use wesl_diagnostics::serve_bundle;
 pub use wesl_folders::{Selection, folder_of, is_folder, modules_in};
 pub use written::{write_failure, write_out_of_memory, write_usage};

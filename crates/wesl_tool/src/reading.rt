@@ -3,7 +3,8 @@
 use std::alloc::AllocError;
 use std::rt::Files;
 use wesl_command::Request;
-use wesl_diagnostics::did_you_mean;
+use wesl_diagnostics::{VirtualResolver, did_you_mean};
+use wesl_faults::ModuleTexts;
 use wesl_folders::{FileProblem, Folders, ReadProblem, Sources};
 use wgsl_path::{ModulePath, ModulePathParseError};
 
@@ -15,6 +16,27 @@ pub enum Read {
     Added,
     /// Its file was not read, and why.
     Refused(String),
+}
+
+/// Modules whose files are read as they are fetched.
+#[derive(Drop)]
+pub struct FolderTexts<'r, 'a, R> {
+    pub rt: &'r R,
+    pub folders: &'a Folders,
+    pub sources: &'a mut Sources,
+}
+
+impl<R: Files + AllocGlobal> ModuleTexts for FolderTexts<'_, '_, R> {
+    fn fetch(&mut self, path: &ModulePath) -> Result<(), AllocError> {
+        match self.sources.read(self.rt, self.folders, path) {
+            Err(problem) if problem.problem == FileProblem::OutOfMemory => Err(AllocError),
+            _ => Ok(()),
+        }
+    }
+
+    fn resolver(&mut self) -> &mut VirtualResolver {
+        &mut self.sources.resolver
+    }
 }
 
 /// The name of the package that a path begins with.
@@ -31,16 +53,18 @@ fn is_own<R: Files + AllocGlobal>(
     folders: &Folders,
     path: &str,
 ) -> Result<bool, AllocError> {
-    let own = format!(in rt.alloc(); "package::{path}")?;
-    let own = match ModulePath::from_str(rt.alloc(), own.as_str()) {
+    let printed = format!(in rt.alloc(); "package::{path}")?;
+    let own = match ModulePath::from_str(rt.alloc(), printed.as_str()) {
         Ok(own) => own,
         Err(ModulePathParseError::OutOfMemory) => return Err(AllocError),
         Err(_) => return Ok(false),
     };
     match folders.read(rt, &own) {
         Ok(_) => Ok(true),
-        Err(problem) if problem.problem == FileProblem::OutOfMemory => Err(AllocError),
-        Err(_) => Ok(false),
+        Err(problem) => match problem.problem {
+            FileProblem::OutOfMemory => Err(AllocError),
+            _ => Ok(false),
+        },
     }
 }
 

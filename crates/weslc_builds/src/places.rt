@@ -89,6 +89,27 @@ fn files_at<'a>(
     Ok(files)
 }
 
+/// The source map of a text, which goes to a file, if to one.
+fn map_json<'a>(
+    alloc: Global,
+    file: Option<&'a str>,
+    text: &'a str,
+    origins: &'a [Origin<'a>],
+    sources: &'a [SourceFile<'a>],
+    features: &'a Features,
+) -> Result<String, AllocError> {
+    source_map_json(
+        alloc,
+        &Target {
+            file,
+            text,
+            origins,
+            sources,
+            features,
+        },
+    )
+}
+
 /// The source map of a text, which goes to a file of its own, and the text to another, if to one. It names files as they are seen from its
 /// own folder.
 pub fn source_map_text<R: Files + AllocGlobal>(
@@ -113,14 +134,12 @@ pub fn source_map_text<R: Files + AllocGlobal>(
         Some(output) => Some(output.as_str()),
         None => None,
     };
-    source_map_json(
+    map_json(
         alloc,
-        &Target {
-            file,
-            text,
-            origins: origins.as_slice(),
-            sources: files.as_slice(),
-            features,
-        },
+        file,
+        text,
+        origins.as_slice(),
+        files.as_slice(),
+        features,
     )
 }

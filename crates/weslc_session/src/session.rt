@@ -1,28 +1,46 @@
 //! The session: a workspace that lines of commands edit and ask.
 
 use crate::answer::{
-    Answer, DONE, KEPT, OUT_OF_MEMORY, REMOVED, TOO_LONG, command_answer, link_answer,
-    refusal_answer, text_answer,
+    Answer, DONE, KEPT, OUT_OF_MEMORY, REMOVED, TOO_LONG, command_answer, error_answer, report_of,
+    text_answer,
 };
 use crate::calls::{Room, checked, evaluated, precompiled, ran};
-use crate::command::{BothOptions, Command};
+use crate::command::{Asked, BothOptions, Command, CommandError};
 use crate::line::{Line, read_line};
 use crate::reading::read_asked;
 use crate::texts::{HeldText, Texts};
 use std::alloc::{AllocError, Global};
 use std::io::{BufRead, Write};
 use std::{io, mem};
+use wesl_diagnostics::{Told, told_compile_error, told_compile_refusal};
 use weslc_workspace::{CompileError, Compiled, Feature, Linked, Options, Workspace};
 use wgsl_base::{CloneIn, Items, Text};
 use wgsl_path::{ModulePath, PathOrigin};
 
-/// A workspace, what calls beside it work on, and the line that answers `link`, as long as nothing is edited.
+/// A workspace, what calls beside it work on, and the line that answers `link`, as long as nothing is edited that it rests on.
 #[derive(Drop)]
 struct Session {
     alloc: Global,
     workspace: Workspace,
     room: Room,
     linked: Option<String>,
+}
+
+/// What the workspace makes of modules.
+#[derive(Clone, Copy)]
+enum Making {
+    Link,
+    Compile,
+}
+
+impl Making {
+    /// The command that asks for it.
+    fn command(self) -> &'static str {
+        match self {
+            Making::Link => "link",
+            Making::Compile => "compile",
+        }
+    }
 }
 
 /// The root of the first workspace.
@@ -69,6 +87,11 @@ fn write_answer<W: Write>(id: Option<&String>, line: &str, writer: &mut W) -> io
     writer.write_all(line.strip_prefix("{").unwrap_or(line).as_bytes())
 }
 
+/// The answer to what is no command.
+fn refused(alloc: Global, error: &CommandError) -> Result<Answer, AllocError> {
+    Ok(Answer::Made(command_answer(alloc, error)?))
+}
+
 /// A count, under its name.
 fn counted(alloc: Global, name: &str, count: u64) -> Result<Answer, AllocError> {
     let line = format!(in alloc; "{{\"{name}\":{count}}}\n")?;
@@ -86,15 +109,21 @@ impl Session {
     }
 
     fn answer_bytes<W: Write>(&mut self, bytes: &[u8], writer: &mut W) -> io::Result<()> {
-        let asked = read_asked(self.alloc, bytes);
-        let answer = match asked.command {
+        let Asked { id, command } = read_asked(self.alloc, bytes);
+        let answer = match command {
             Ok(command) => self.obey(command),
-            Err(error) => match command_answer(self.alloc, &error) {
-                Ok(line) => Ok(Answer::Made(line)),
-                Err(error) => Err(error),
-            },
+            Err(error) => refused(self.alloc, &error),
         };
-        let id = asked.id.as_ref();
+        self.tell(id.as_ref(), answer, writer)
+    }
+
+    /// Writes what is answered to a line with this `id`.
+    fn tell<W: Write>(
+        &self,
+        id: Option<&String>,
+        answer: Result<Answer, AllocError>,
+        writer: &mut W,
+    ) -> io::Result<()> {
         match answer {
             Ok(Answer::Ready(line)) => write_answer(id, line, writer),
             Ok(Answer::Made(line)) => write_answer(id, line.as_str(), writer),
@@ -118,21 +147,28 @@ impl Session {
             Command::Link => self.link(),
             Command::Parses => counted(self.alloc, "parses", self.workspace.parses()),
             Command::Runs => counted(self.alloc, "runs", self.workspace.runs()),
-            call => self.call(call),
+            call => self.call(&call),
         }
     }
 
     /// Makes a call beside the workspace.
-    fn call(&mut self, command: Command) -> Result<Answer, AllocError> {
+    fn call(&mut self, command: &Command) -> Result<Answer, AllocError> {
         let line = match command {
             Command::Check => checked(self.alloc, &mut self.room),
-            Command::Precompile(Some(path)) => precompiled(self.alloc, &self.room, &path),
-            Command::Precompile(None) => precompiled(self.alloc, &self.room, &self.room.root),
-            Command::Run(entry, handed) => ran(self.alloc, &self.room, entry.as_str(), &handed),
+            Command::Precompile(path) => self.precompile(path),
+            Command::Run(entry, handed) => ran(self.alloc, &self.room, entry.as_str(), handed),
             Command::Eval(expression) => evaluated(self.alloc, &self.room, expression.as_str()),
             _ => String::from_str(self.alloc, DONE),
         };
         Ok(Answer::Made(line?))
+    }
+
+    /// Fixes flags in a module, or where none is named in the root.
+    fn precompile(&self, path: &Option<ModulePath>) -> Result<String, AllocError> {
+        match path {
+            Some(path) => precompiled(self.alloc, &self.room, path),
+            None => precompiled(self.alloc, &self.room, &self.room.root),
+        }
     }
 
     /// Begins with an empty workspace.
@@ -155,13 +191,20 @@ impl Session {
         Ok(Answer::Ready(DONE))
     }
 
+    /// Forgets the answer of `link` where it asked for the module at a printed path.
+    fn forget_link_of(&mut self, printed: &str) {
+        if self.workspace.is_asked_to_link(printed) {
+            self.linked = None;
+        }
+    }
+
     fn set_module(&mut self, path: ModulePath, text: Text) -> Result<Answer, AllocError> {
         let printed = path.to_string(self.alloc)?;
         let held = HeldText::new(self.alloc, &path, &text)?;
         self.room.texts.reserve()?;
         self.workspace.set_module(&path, text)?;
+        self.forget_link_of(printed.as_str());
         self.room.texts.put(printed, held);
-        self.linked = None;
         Ok(Answer::Ready(DONE))
     }
 
@@ -170,7 +213,7 @@ impl Session {
         let is_removed = self.workspace.remove_module(&path);
         self.room.texts.remove(printed.as_str());
         if is_removed {
-            self.linked = None;
+            self.forget_link_of(printed.as_str());
         }
         Ok(Answer::Ready(if is_removed { REMOVED } else { KEPT }))
     }
@@ -203,12 +246,14 @@ impl Session {
 
     fn compile(&mut self) -> Result<Answer, AllocError> {
         let alloc = self.alloc;
-        let root = self.room.root.to_string(alloc)?;
-        let files = self.room.texts.files(root.as_str())?;
         let compiled: &Compiled = self.workspace.compile();
-        let line = match compiled {
-            Ok((text, map)) => text_answer(alloc, text.as_str(), map)?,
-            Err(refusal) => refusal_answer(alloc, refusal, files.as_slice())?,
+        let told = match compiled {
+            Ok((text, map)) => Ok(text_answer(alloc, text.as_str(), map)?),
+            Err(refusal) => Err(told_compile_refusal(alloc, refusal)?),
+        };
+        let line = match told {
+            Ok(line) => line,
+            Err(told) => self.refusal_line(&told, Making::Compile)?,
         };
         Ok(Answer::Made(line))
     }
@@ -219,15 +264,40 @@ impl Session {
             return Ok(Answer::Linked);
         }
         let alloc = self.alloc;
-        let root = self.room.root.to_string(alloc)?;
-        let files = self.room.texts.files(root.as_str())?;
         let linked: &Linked = self.workspace.link();
-        let line = match linked {
-            Ok((text, map)) => text_answer(alloc, text.as_str(), map)?,
+        let told = match linked {
+            Ok((text, map)) => Ok(text_answer(alloc, text.as_str(), map)?),
             Err(CompileError::OutOfMemory) => return Err(AllocError),
-            Err(error) => link_answer(alloc, error, files.as_slice())?,
+            Err(error) => Err(told_compile_error(alloc, error)?),
+        };
+        let line = match told {
+            Ok(line) => line,
+            Err(told) => self.refusal_line(&told, Making::Link)?,
         };
         self.linked = Some(line);
         Ok(Answer::Linked)
+    }
+
+    /// Whether linking or compiling asked for the module at a printed path.
+    fn is_asked(&self, making: Making, path: &str) -> bool {
+        match making {
+            Making::Link => self.workspace.is_asked_to_link(path),
+            Making::Compile => self.workspace.is_asked_to_compile(path),
+        }
+    }
+
+    /// The refusal of linking or compiling, which is placed in a module that was asked for.
+    fn refusal_line(&self, told: &Told, making: Making) -> Result<String, AllocError> {
+        let root = self.room.root.to_string(self.alloc)?;
+        let mut asked = Vec::new(self.alloc);
+        for file in self.room.texts.files(root.as_str())?.as_slice() {
+            if self.is_asked(making, file.path) {
+                asked.push(*file)?;
+            }
+        }
+        error_answer(
+            self.alloc,
+            &report_of(told.line(), making.command(), asked.as_slice()),
+        )
     }
 }
