@@ -176,17 +176,20 @@ fn serve_one<'a, R: Files + AllocGlobal, I: Read, W: Write, E: Write>(
             return write_failure(alloc, request, failure, errors);
         }
     };
-    let plain = request.of_file(alloc, file, request.root.or(listed))?;
     match &config {
         Some(config) => {
             let fitted = fit(rt, request, config, file)?;
-            if fitted.root.is_some() {
-                serve_configured(rt, request, config, &fitted, input, out, errors)
-            } else {
-                serve_configured(rt, &plain, config, &fitted, input, out, errors)
-            }
+            let root = match fitted.root {
+                Some(_) => request.root,
+                None => request.root.or(listed),
+            };
+            let plain = request.of_file(alloc, file, root)?;
+            serve_configured(rt, &plain, config, &fitted, input, out, errors)
         }
-        None => serve(rt, &plain, None, input, out, errors),
+        None => {
+            let plain = request.of_file(alloc, file, request.root.or(listed))?;
+            serve(rt, &plain, None, input, out, errors)
+        }
     }
 }
 
