@@ -125,8 +125,8 @@ impl Loading {
         asked: &Asked,
         options: &Options,
     ) -> Result<(), AllocError> {
-        for found in asked.values() {
-            let path = &found.target.path;
+        for target in asked.modules.values() {
+            let path = &target.path;
             if self.modules.len() >= options.max_modules as usize {
                 let context = ErrorContext::of_module(path.clone_in(self.alloc)?);
                 self.of_imports.push(CompileError::TooManyModules(context))?;
