@@ -66,12 +66,39 @@ fn of_loading<T: ModuleTexts>(
     Ok(all)
 }
 
+/// The faults where modules are not linked, of which this is the first.
+fn of_linking<T: ModuleTexts>(
+    alloc: Global,
+    texts: &mut T,
+    root: &ModulePath,
+    options: &Options,
+    first: CompileError,
+    most: usize,
+) -> Result<Vec<CheckRefusal>, AllocError> {
+    if matches!(&first, CompileError::OutOfMemory) {
+        return Err(AllocError);
+    }
+    of_loading(alloc, texts, root, options, first, most)
+}
+
 fn of_names(alloc: Global, refusals: Vec<NameRefusal>) -> Result<Vec<CheckRefusal>, AllocError> {
     let mut all = Vec::new(alloc);
     for refusal in refusals {
         all.push(CheckRefusal::Name(refusal))?;
     }
     Ok(all)
+}
+
+/// The faults of names, where modules are linked.
+fn of_linked<T: ModuleTexts>(
+    alloc: Global,
+    texts: &mut T,
+    root: &ModulePath,
+    options: &Options,
+    most: usize,
+) -> Result<Vec<CheckRefusal>, AllocError> {
+    let refusals = name_refusals(alloc, texts.resolver(), root, options, most)?;
+    of_names(alloc, refusals)
 }
 
 /// The faults for which a check refuses modules, the first one first, up to so many; none where there is none. Where a text or a condition
@@ -86,11 +113,7 @@ pub fn check_all<T: ModuleTexts>(
 ) -> Result<Vec<CheckRefusal>, AllocError> {
     match check(alloc, texts.resolver(), root, options) {
         Ok(()) => Ok(Vec::new(alloc)),
-        Err(CheckRefusal::Compile(CompileError::OutOfMemory)) => Err(AllocError),
-        Err(CheckRefusal::Compile(first)) => of_loading(alloc, texts, root, options, first, most),
-        Err(CheckRefusal::Name(_)) => {
-            let refusals = name_refusals(alloc, texts.resolver(), root, options, most)?;
-            of_names(alloc, refusals)
-        }
+        Err(CheckRefusal::Compile(first)) => of_linking(alloc, texts, root, options, first, most),
+        Err(CheckRefusal::Name(_)) => of_linked(alloc, texts, root, options, most),
     }
 }

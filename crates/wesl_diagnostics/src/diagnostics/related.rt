@@ -71,6 +71,11 @@ pub(crate) fn second_place<'a>(
     }
 }
 
+/// What stands at a declaration by way of which another needs itself.
+fn step_message(alloc: Global, step: &str) -> Result<String, AllocError> {
+    format!(in alloc; "by way of `{step}`")
+}
+
 /// The declarations of a module by way of which one needs itself: the one that it names first, and so on.
 fn steps_of<'a>(
     alloc: Global,
@@ -85,7 +90,7 @@ fn steps_of<'a>(
             continue;
         }
         if let Some(span) = find_name(alloc, source.text, step, Seek::Declared)? {
-            let message = format!(in alloc; "by way of `{step}`")?;
+            let message = step_message(alloc, step)?;
             related.push(Related {
                 source,
                 span,

@@ -52,6 +52,14 @@ pub fn check<R: Resolver>(
     check_linked(alloc, held.get_mut())
 }
 
+/// No faults of names, where modules can't be linked. Only memory can fail.
+fn no_refusals(alloc: Global, error: &CompileError) -> Result<Vec<NameRefusal>, AllocError> {
+    match error {
+        CompileError::OutOfMemory => Err(AllocError),
+        _ => Ok(Vec::new(alloc)),
+    }
+}
+
 /// The faults of the names of modules that are linked as for `check`, at most so many of them, the first one first. There is none where
 /// they can't be linked. The root is not relative.
 pub fn name_refusals<R: Resolver>(
@@ -63,7 +71,6 @@ pub fn name_refusals<R: Resolver>(
 ) -> Result<Vec<NameRefusal>, AllocError> {
     match linked_modules(alloc, resolver, root, options) {
         Ok(held) => refusals_of(alloc, held.get(), most),
-        Err(CompileError::OutOfMemory) => Err(AllocError),
-        Err(_) => Ok(Vec::new(alloc)),
+        Err(error) => no_refusals(alloc, &error),
     }
 }
