@@ -13,7 +13,7 @@ use wesl_faults::check_all;
 use wesl_tool::Refusal;
 use weslc_builds::{result_json, value_json};
 use weslc_json::push_json;
-use wgsl_base::Items;
+use wgsl_base::{Items, Text};
 use wgsl_path::ModulePath;
 
 /// How many faults of a module as a root are told at most.
@@ -138,13 +138,28 @@ fn value_answer(alloc: Global, text: &str) -> Result<String, AllocError> {
     Ok(json)
 }
 
+/// What is answered of a value, or of the refusal of an expression.
+fn told_value(
+    alloc: Global,
+    room: &Room,
+    expression: &str,
+    value: Result<Text, RunRefusal>,
+) -> Result<String, AllocError> {
+    match value {
+        Ok(text) => value_answer(alloc, text.as_str()),
+        Err(refusal) => {
+            let refusal = refused(refusal);
+            refusal_of_expression(alloc, room, expression, &refusal)
+        }
+    }
+}
+
 /// What comes of an expression: its value, and the text of that.
 pub fn evaluated(alloc: Global, room: &Room, expression: &str) -> Result<String, AllocError> {
     let mut resolver = room.texts.resolver()?;
-    match eval(alloc, &mut resolver, &room.root, &room.options, expression) {
-        Ok(text) => value_answer(alloc, text.as_str()),
-        Err(refusal) => refusal_of_expression(alloc, room, expression, &refused(refusal)),
-    }
+    let value = eval(alloc, &mut resolver, &room.root, &room.options, expression);
+    drop(resolver);
+    told_value(alloc, room, expression, value)
 }
 
 /// What is told of an error of a module that is checked, as JSON.

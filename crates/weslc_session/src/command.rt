@@ -44,12 +44,24 @@ pub struct Asked {
 /// What is to be done.
 #[derive(Drop)]
 pub enum Command {
+    Edit(Edit),
+    Call(Call),
+}
+
+/// What is to be changed.
+#[derive(Drop)]
+pub enum Edit {
     /// An empty workspace with this root.
     Open(ModulePath, BothOptions),
     SetModule(ModulePath, Text),
     RemoveModule(ModulePath),
     SetFeature(Text, Feature),
     SetOptions(BothOptions),
+}
+
+/// What is to be answered of the modules.
+#[derive(Drop)]
+pub enum Call {
     Compile,
     Link,
     /// The errors of all modules.

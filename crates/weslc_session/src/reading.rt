@@ -1,6 +1,6 @@
 //! From a line to a command.
 
-use crate::command::{Asked, BothOptions, Command, CommandError, Handed};
+use crate::command::{Asked, BothOptions, Call, Command, CommandError, Edit, Handed};
 use serde_json::{Map, Value};
 use std::alloc::Global;
 use wesl_diagnostics::{
@@ -86,17 +86,19 @@ fn read_named(alloc: Global, name: &str, needs: &Value) -> Result<Command, Comma
         "set_module" => read_set_module(alloc, needs),
         "remove_module" => {
             check_keys(alloc, needs, &["path"])?;
-            Ok(Command::RemoveModule(path_at(alloc, needs, "path")?))
+            let path = path_at(alloc, needs, "path")?;
+            Ok(Command::Edit(Edit::RemoveModule(path)))
         }
         "set_feature" => read_set_feature(alloc, needs),
         "set_options" => {
             check_keys(alloc, needs, &OPTIONS)?;
-            Ok(Command::SetOptions(both_options(alloc, needs)?))
+            let options = both_options(alloc, needs)?;
+            Ok(Command::Edit(Edit::SetOptions(options)))
         }
-        "compile" => bare(alloc, needs, Command::Compile),
-        "link" => bare(alloc, needs, Command::Link),
-        "parses" => bare(alloc, needs, Command::Parses),
-        "runs" => bare(alloc, needs, Command::Runs),
+        "compile" => bare(alloc, needs, Call::Compile),
+        "link" => bare(alloc, needs, Call::Link),
+        "parses" => bare(alloc, needs, Call::Parses),
+        "runs" => bare(alloc, needs, Call::Runs),
         _ => read_call(alloc, name, needs),
     }
 }
@@ -104,29 +106,30 @@ fn read_named(alloc: Global, name: &str, needs: &Value) -> Result<Command, Comma
 /// Reads a command that is a call beside the workspace.
 fn read_call(alloc: Global, name: &str, needs: &Value) -> Result<Command, CommandError> {
     match name {
-        "check" => bare(alloc, needs, Command::Check),
+        "check" => bare(alloc, needs, Call::Check),
         "precompile" => {
             check_keys(alloc, needs, &["path"])?;
             let path = match needs.get("path") {
                 Some(_) => Some(path_at(alloc, needs, "path")?),
                 None => None,
             };
-            Ok(Command::Precompile(path))
+            Ok(Command::Call(Call::Precompile(path)))
         }
         "run" => read_run(alloc, needs),
         "eval" => {
             check_keys(alloc, needs, &["expression"])?;
             let text = text_at(needs, "expression")?;
-            Ok(Command::Eval(Text::from_str(alloc, text)?))
+            let expression = Text::from_str(alloc, text)?;
+            Ok(Command::Call(Call::Eval(expression)))
         }
         _ => Err(CommandError::UnknownKey(Text::from_str(alloc, name)?)),
     }
 }
 
-/// A command that needs nothing.
-fn bare(alloc: Global, needs: &Value, command: Command) -> Result<Command, CommandError> {
+/// A call that needs nothing.
+fn bare(alloc: Global, needs: &Value, call: Call) -> Result<Command, CommandError> {
     check_keys(alloc, needs, &[])?;
-    Ok(command)
+    Ok(Command::Call(call))
 }
 
 /// The value at a key, read, or what stands for it where there is none.
@@ -154,27 +157,27 @@ fn read_run(alloc: Global, needs: &Value) -> Result<Command, CommandError> {
         Some(value) => read_at("overrides", read_overrides(alloc, value))?,
         None => Items::new(alloc),
     };
-    Ok(Command::Run(
-        entry,
-        Handed {
-            inputs,
-            bindings,
-            overrides,
-        },
-    ))
+    let handed = Handed {
+        inputs,
+        bindings,
+        overrides,
+    };
+    Ok(Command::Call(Call::Run(entry, handed)))
 }
 
 fn read_open(alloc: Global, needs: &Value) -> Result<Command, CommandError> {
     check_open_keys(alloc, needs)?;
     let root = path_at(alloc, needs, "root")?;
-    Ok(Command::Open(root, both_options(alloc, needs)?))
+    let options = both_options(alloc, needs)?;
+    Ok(Command::Edit(Edit::Open(root, options)))
 }
 
 fn read_set_module(alloc: Global, needs: &Value) -> Result<Command, CommandError> {
     check_keys(alloc, needs, &["path", "text"])?;
     let path = path_at(alloc, needs, "path")?;
     let text = text_at(needs, "text")?;
-    Ok(Command::SetModule(path, Text::from_str(alloc, text)?))
+    let text = Text::from_str(alloc, text)?;
+    Ok(Command::Edit(Edit::SetModule(path, text)))
 }
 
 fn read_set_feature(alloc: Global, needs: &Value) -> Result<Command, CommandError> {
@@ -184,7 +187,10 @@ fn read_set_feature(alloc: Global, needs: &Value) -> Result<Command, CommandErro
         return Err(CommandError::Value("feature"));
     };
     match read_feature(value) {
-        Some(feature) => Ok(Command::SetFeature(Text::from_str(alloc, name)?, feature)),
+        Some(feature) => {
+            let name = Text::from_str(alloc, name)?;
+            Ok(Command::Edit(Edit::SetFeature(name, feature)))
+        }
         None => Err(CommandError::Value("feature")),
     }
 }

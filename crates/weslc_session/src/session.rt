@@ -5,7 +5,7 @@ use crate::answer::{
     text_answer,
 };
 use crate::calls::{Room, checked, evaluated, precompiled, ran};
-use crate::command::{Asked, BothOptions, Command, CommandError};
+use crate::command::{Asked, BothOptions, Call, Command, CommandError, Edit};
 use crate::line::{Line, read_line};
 use crate::reading::read_asked;
 use crate::texts::{HeldText, Texts};
@@ -92,6 +92,11 @@ fn refused(alloc: Global, error: &CommandError) -> Result<Answer, AllocError> {
     Ok(Answer::Made(command_answer(alloc, error)?))
 }
 
+/// A line that was made.
+fn made(line: Result<String, AllocError>) -> Result<Answer, AllocError> {
+    Ok(Answer::Made(line?))
+}
+
 /// A count, under its name.
 fn counted(alloc: Global, name: &str, count: u64) -> Result<Answer, AllocError> {
     let line = format!(in alloc; "{{\"{name}\":{count}}}\n")?;
@@ -138,29 +143,38 @@ impl Session {
     /// Does what a command asks for. Where memory is refused, no edit was made.
     fn obey(&mut self, command: Command) -> Result<Answer, AllocError> {
         match command {
-            Command::Open(root, options) => self.open(root, options),
-            Command::SetModule(path, text) => self.set_module(path, text),
-            Command::RemoveModule(path) => self.remove_module(path),
-            Command::SetFeature(name, feature) => self.set_feature(name, feature),
-            Command::SetOptions(options) => Ok(self.set_options(options)),
-            Command::Compile => self.compile(),
-            Command::Link => self.link(),
-            Command::Parses => counted(self.alloc, "parses", self.workspace.parses()),
-            Command::Runs => counted(self.alloc, "runs", self.workspace.runs()),
-            call => self.call(&call),
+            Command::Edit(edit) => self.edit(edit),
+            Command::Call(call) => {
+                let answer = self.call(&call);
+                drop(call);
+                answer
+            }
         }
     }
 
-    /// Makes a call beside the workspace.
-    fn call(&mut self, command: &Command) -> Result<Answer, AllocError> {
-        let line = match command {
-            Command::Check => checked(self.alloc, &mut self.room),
-            Command::Precompile(path) => self.precompile(path),
-            Command::Run(entry, handed) => ran(self.alloc, &self.room, entry.as_str(), handed),
-            Command::Eval(expression) => evaluated(self.alloc, &self.room, expression.as_str()),
-            _ => String::from_str(self.alloc, DONE),
-        };
-        Ok(Answer::Made(line?))
+    fn edit(&mut self, edit: Edit) -> Result<Answer, AllocError> {
+        match edit {
+            Edit::Open(root, options) => self.open(root, options),
+            Edit::SetModule(path, text) => self.set_module(path, text),
+            Edit::RemoveModule(path) => self.remove_module(path),
+            Edit::SetFeature(name, feature) => self.set_feature(name, feature),
+            Edit::SetOptions(options) => Ok(self.set_options(options)),
+        }
+    }
+
+    /// Makes a call of the workspace, or beside it.
+    fn call(&mut self, call: &Call) -> Result<Answer, AllocError> {
+        let alloc = self.alloc;
+        match call {
+            Call::Compile => self.compile(),
+            Call::Link => self.link(),
+            Call::Check => made(checked(alloc, &mut self.room)),
+            Call::Precompile(path) => made(self.precompile(path)),
+            Call::Run(entry, handed) => made(ran(alloc, &self.room, entry.as_str(), handed)),
+            Call::Eval(expression) => made(evaluated(alloc, &self.room, expression.as_str())),
+            Call::Parses => counted(alloc, "parses", self.workspace.parses()),
+            Call::Runs => counted(alloc, "runs", self.workspace.runs()),
+        }
     }
 
     /// Fixes flags in a module, or where none is named in the root.
