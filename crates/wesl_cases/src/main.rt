@@ -6,7 +6,7 @@
 use std::io::Write;
 use std::os::unix::fs::symlink;
 use std::{fs, io};
-use wesl_several::{run_words, serve_bundle};
+use wesl_server::{run_words, serve_bundle};
 
 /// The longest text that a file may have, and one byte more.
 const TOO_LONG: usize = 16_777_217;

@@ -1,6 +1,7 @@
 //! Errors for people: what an error line says, where it is, and what to change.
 
 mod error_line;
+mod finding;
 mod findings;
 mod flags;
 mod hint;
@@ -11,6 +12,7 @@ mod sentence;
 mod shown;
 
 pub use error_line::ErrorLine;
+pub use finding::{Finding, finding_of};
 pub use findings::error_place;
 pub use flags::{meant_flag, names_flag};
 pub use plain::plain_json;

@@ -5,8 +5,8 @@ mod diagnostics;
 mod fields;
 
 pub use diagnostics::{
-    ErrorLine, Report, Seek, SourceFile, declared_names, did_you_mean, error_place, find_name_in,
-    meant_flag, names_flag, plain_json, report_json, report_text,
+    ErrorLine, Finding, Report, Seek, SourceFile, declared_names, did_you_mean, error_place,
+    find_name_in, finding_of, meant_flag, names_flag, plain_json, report_json, report_text,
 };
 pub use fields::{
     BasicSourceMap, Binding, BundleError, CompileError, ErrorContext, Feature, Features, Key, Mode,

@@ -3,6 +3,6 @@
 mod linked;
 mod names;
 
-pub use linked::check;
+pub use linked::{check, check_all};
 pub use names::{CheckRefusal, NameRefusal};
 pub use wesl_check_names::{NameFault, NameProblem};

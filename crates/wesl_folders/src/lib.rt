@@ -5,9 +5,9 @@ mod checking;
 mod files;
 mod gathering;
 
-pub use checking::{CheckRefusal, NameFault, NameProblem, NameRefusal, check};
+pub use checking::{CheckRefusal, NameFault, NameProblem, NameRefusal, check, check_all};
 pub use files::{
     FileProblem, Folders, MAX_FILE_LEN, ReadProblem, Root, Selection, Source, folder_of, full_path,
-    is_folder, modules_in, parts_below, read_input, read_text,
+    has_modules, is_folder, modules_in, parts_below, read_input, read_text, some_modules_in,
 };
 pub use gathering::{ModuleFile, Sources, Wanted, gather};

@@ -79,38 +79,64 @@ fn siblings_of<'a>(
 }
 
 /// Where the first of two declarations of a name stands, of which the second is shown.
-fn first_place(
+fn first_declared<'a>(
     alloc: Global,
-    place: Place<'_>,
+    place: Place<'a>,
     name: &str,
     seek: Seek,
-) -> Result<Option<String>, AllocError> {
+) -> Result<Place<'a>, AllocError> {
     let Some((source, shown)) = place else {
         return Ok(None);
     };
     match find_name(alloc, source.text, name, seek)? {
-        Some(span) if span.start < shown.start => placed(alloc, source, span, name),
+        Some(span) if span.start < shown.start => Ok(Some((source, span))),
         _ => Ok(None),
     }
 }
 
 /// Where a function is declared.
-fn declared_place(
+fn declared_at<'a>(
     alloc: Global,
-    sources: &[SourceFile<'_>],
-    place: Place<'_>,
+    sources: &[SourceFile<'a>],
+    place: Place<'a>,
     name: &str,
-) -> Result<Option<String>, AllocError> {
+) -> Result<Place<'a>, AllocError> {
     for source in sources {
         let declared = find_name(alloc, source.text, name, Seek::Declared)?;
         let (Some(span), Some((_, shown))) = (declared, place) else {
             continue;
         };
         if span != shown {
-            return placed(alloc, *source, span, name);
+            return Ok(Some((*source, span)));
         }
     }
     Ok(None)
+}
+
+/// Where what an error speaks of is declared, or was declared first.
+pub(crate) fn related_place<'a>(
+    alloc: Global,
+    line: &ErrorLine<'_>,
+    sources: &[SourceFile<'a>],
+    place: Place<'a>,
+) -> Result<Place<'a>, AllocError> {
+    let Some(name) = line.subject else {
+        return Ok(None);
+    };
+    match line.kind {
+        "Import.DuplicateSymbol" => first_declared(alloc, place, name, Seek::InModule(0)),
+        "Validate.Duplicate" => first_declared(alloc, place, name, Seek::Inside(0)),
+        "Validate.ParamCount" => declared_at(alloc, sources, place, name),
+        _ => Ok(None),
+    }
+}
+
+/// A sentence that a name is declared at a place.
+fn sentence_at(alloc: Global, place: Place<'_>, name: &str) -> Result<Option<String>, AllocError> {
+    match place {
+        Some((source, span)) => placed(alloc, source, span, name),
+        None => Ok(None),
+    }
 }
 
 /// How a declaration needs itself, as "`a` -> `b` -> `a`", where other declarations of its module do so between.
@@ -140,13 +166,13 @@ fn chain(
 }
 
 /// How many arguments a function takes, and where it is declared.
-fn counted_place(
+fn counted_place<'a>(
     alloc: Global,
-    sources: &[SourceFile<'_>],
-    place: Place<'_>,
+    sources: &[SourceFile<'a>],
+    place: Place<'a>,
     name: &str,
 ) -> Result<Option<String>, AllocError> {
-    let declared = declared_place(alloc, sources, place, name)?;
+    let declared = sentence_at(alloc, declared_at(alloc, sources, place, name)?, name)?;
     let (Some(declared), Some(count)) = (declared, parameters_of(alloc, sources, name)?) else {
         return Ok(None);
     };
@@ -188,8 +214,9 @@ pub(crate) fn hint_of<'a>(
         return Ok(None);
     };
     match line.kind {
-        "Import.DuplicateSymbol" => first_place(alloc, place, name, Seek::InModule(0)),
-        "Validate.Duplicate" => first_place(alloc, place, name, Seek::Inside(0)),
+        "Import.DuplicateSymbol" | "Validate.Duplicate" => {
+            sentence_at(alloc, related_place(alloc, line, sources, place)?, name)
+        }
         "Validate.Cycle" | "Eval.CyclicDecl" => {
             let name = line.declaration.unwrap_or(name);
             chain(alloc, sources, line.module, name)

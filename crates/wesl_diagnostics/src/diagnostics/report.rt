@@ -67,7 +67,7 @@ fn named<'a>(report: &Report<'a>, file: &'a str) -> Beside<'a> {
 }
 
 /// Adds what is wrong.
-fn push_message(
+pub(crate) fn push_message(
     out: &mut String,
     report: &Report<'_>,
     findings: &Findings<'_>,

@@ -1,7 +1,7 @@
 //! From modules to the first fault.
 
-use crate::checking::names::{CheckRefusal, name_refusal};
-use std::alloc::Global;
+use crate::checking::names::{CheckRefusal, name_refusal, name_refusals};
+use std::alloc::{AllocError, Global};
 use weslc_calls::{
     CompileError, Conditions, Decided, HeldModules, LinkedModules, Options, Preprocessor, Resolver,
     Unprintable, print_checked,
@@ -40,4 +40,50 @@ pub fn check<R: Resolver>(
     let mut decided = Decided { inner };
     let mut held = HeldModules::link(alloc, &mut decided, None, root, options)?;
     check_linked(alloc, held.get_mut())
+}
+
+/// A refusal alone, unless it is that of memory.
+fn alone(alloc: Global, refusal: CheckRefusal) -> Result<Vec<CheckRefusal>, AllocError> {
+    if matches!(
+        refusal,
+        CheckRefusal::Compile(CompileError::OutOfMemory)
+    ) {
+        return Err(AllocError);
+    }
+    let mut refusals = Vec::new(alloc);
+    refusals.push(refusal)?;
+    Ok(refusals)
+}
+
+/// All faults of a linked unit's names, up to so many, or that no text stands for it.
+fn all_linked(
+    alloc: Global,
+    linked: &mut LinkedModules,
+    most: usize,
+) -> Result<Vec<CheckRefusal>, AllocError> {
+    let refusals = name_refusals(alloc, linked, most)?;
+    if !refusals.is_empty() {
+        return Ok(refusals);
+    }
+    match check_printable(alloc, linked) {
+        Ok(()) => Ok(refusals),
+        Err(error) => alone(alloc, CheckRefusal::Compile(error)),
+    }
+}
+
+/// The same as `check`, with all faults of names, in their order, up to so many. Of others the first is told alone.
+pub fn check_all<R: Resolver>(
+    alloc: Global,
+    resolver: &mut R,
+    root: &ModulePath,
+    options: &Options,
+    most: usize,
+) -> Result<Vec<CheckRefusal>, AllocError> {
+    let features = &options.features;
+    let inner = Preprocessor::new(resolver, Conditions { features });
+    let mut decided = Decided { inner };
+    match HeldModules::link(alloc, &mut decided, None, root, options) {
+        Ok(mut held) => all_linked(alloc, held.get_mut(), most),
+        Err(error) => alone(alloc, CheckRefusal::Compile(error)),
+    }
 }

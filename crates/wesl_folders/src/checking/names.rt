@@ -76,6 +76,15 @@ pub(crate) fn name_refusal(
     let Some(fault) = first_fault(alloc, linked)? else {
         return Ok(None);
     };
+    Ok(Some(refusal_of(alloc, linked, fault)?))
+}
+
+/// A fault of a linked unit's names, with the module and the declaration that hold it.
+fn refusal_of(
+    alloc: Global,
+    linked: &LinkedModules,
+    fault: NameFault,
+) -> Result<NameRefusal, AllocError> {
     let mut fault = fault;
     let context = context_of(alloc, linked, fault.place)?;
     if fault.problem != NameProblem::Cycle {
@@ -83,5 +92,22 @@ pub(crate) fn name_refusal(
         fault.name = source_name(alloc, &map, &fault.name)?;
         fault.owner = source_name(alloc, &map, &fault.owner)?;
     }
-    Ok(Some(NameRefusal { context, fault }))
+    Ok(NameRefusal { context, fault })
+}
+
+/// The faults of the names of a linked unit, in their order, up to so many.
+pub(crate) fn name_refusals(
+    alloc: Global,
+    linked: &LinkedModules,
+    most: usize,
+) -> Result<Vec<CheckRefusal>, AllocError> {
+    let mut refusals = Vec::new(alloc);
+    for fault in check_names(alloc, linked.unit.get())? {
+        if refusals.len() >= most {
+            break;
+        }
+        let refusal = refusal_of(alloc, linked, fault)?;
+        refusals.push(CheckRefusal::Name(refusal))?;
+    }
+    Ok(refusals)
 }

@@ -1,0 +1,198 @@
+//! The faults of modules.
+
+use crate::checks::{Checked, Fault};
+use crate::package::Package;
+use indexmap::IndexSet;
+use std::alloc::{AllocError, Global};
+use wesl_diagnostics::{Finding, Report, SourceFile, VirtualResolver, finding_of};
+use wesl_folders::{CheckRefusal, check_all};
+use wesl_meanings::{Module, Modules};
+use wesl_messages::{push_key, push_location, push_range, push_text};
+use wesl_tool::Refusal;
+use weslc_json::push_json;
+use wgsl_base::CloneIn;
+use wgsl_path::Span;
+
+/// How many faults of names are told of a module.
+const MOST_FAULTS: usize = 20;
+
+/// How many modules are checked.
+const MOST_MODULES: usize = 1024;
+
+/// The printed paths of the modules that one may ask for, itself first, whether they are there or not.
+fn closure_of(
+    alloc: Global,
+    modules: &Modules,
+    number: usize,
+) -> Result<IndexSet<String>, AllocError> {
+    let mut closure = IndexSet::new(alloc);
+    closure.insert(String::from_str(alloc, modules.printed(number))?)?;
+    for at in 0..usize::MAX {
+        let found = match closure.get_index(at) {
+            Some(printed) => modules.number_of(printed.as_str()),
+            None => break,
+        };
+        let Some(module) = found.and_then(|number| modules.get(number)) else {
+            continue;
+        };
+        for asked in module.asked.as_slice() {
+            closure.insert(String::from_str(alloc, asked.as_str())?)?;
+        }
+    }
+    Ok(closure)
+}
+
+/// The modules of these paths that are there.
+fn modules_among<'a>(
+    alloc: Global,
+    modules: &'a Modules,
+    closure: &IndexSet<String>,
+) -> Result<Vec<&'a Module>, AllocError> {
+    let mut found = Vec::new(alloc);
+    for printed in closure.iter() {
+        if let Some(number) = modules.number_of(printed.as_str()) {
+            if let Some(module) = modules.get(number) {
+                found.push(module)?;
+            }
+        }
+    }
+    Ok(found)
+}
+
+fn resolver_of(alloc: Global, modules: &[&Module]) -> Result<VirtualResolver, AllocError> {
+    let mut resolver = VirtualResolver::new(alloc);
+    for module in modules {
+        resolver.add_module(module.path.clone_in(alloc)?, module.text.clone_in(alloc)?)?;
+    }
+    Ok(resolver)
+}
+
+/// The modules as errors are placed in them, with URIs for files.
+fn sources_of<'a>(
+    alloc: Global,
+    all: &'a Modules,
+    closure: &IndexSet<String>,
+) -> Result<Vec<SourceFile<'a>>, AllocError> {
+    let mut sources = Vec::new(alloc);
+    for printed in closure.iter() {
+        if let Some(number) = all.number_of(printed.as_str()) {
+            if let Some(module) = all.get(number) {
+                sources.push(SourceFile {
+                    path: all.printed(number),
+                    file: module.uri.as_str(),
+                    text: module.text.as_str(),
+                })?;
+            }
+        }
+    }
+    Ok(sources)
+}
+
+/// Adds where else to look.
+fn push_related(json: &mut String, finding: &Finding<'_>) -> Result<(), AllocError> {
+    let Some((source, span)) = finding.related else {
+        return Ok(());
+    };
+    push_key(json, "relatedInformation")?;
+    json.push_str("[{\"location\":")?;
+    push_location(json, source.file, source.text, span)?;
+    push_text(json, "message", "declared here")?;
+    json.push_str("}]")
+}
+
+/// An error as the editor is told it. One without a place is told at the beginning of the first module.
+fn fault_of(
+    alloc: Global,
+    kind: &str,
+    finding: &Finding<'_>,
+    sources: &[SourceFile<'_>],
+) -> Result<Option<Fault>, AllocError> {
+    let beginning = Span { start: 0, end: 0 };
+    let place = match (finding.place, sources.first()) {
+        (Some(place), _) => place,
+        (None, Some(source)) => (*source, beginning),
+        (None, None) => return Ok(None),
+    };
+    let (source, span) = place;
+    let mut json = String::from_str(alloc, "{\"range\":")?;
+    push_range(&mut json, source.text, span)?;
+    json.push_str(",\"severity\":1,\"source\":\"wesl\"")?;
+    push_text(&mut json, "code", kind)?;
+    push_key(&mut json, "message")?;
+    match &finding.help {
+        Some(help) => {
+            let mut message = String::from_str(alloc, finding.message.as_str())?;
+            message.push('\n')?;
+            message.push_str(help.as_str())?;
+            push_json(&mut json, message.as_str())?;
+        }
+        None => push_json(&mut json, finding.message.as_str())?,
+    }
+    push_related(&mut json, finding)?;
+    json.push('}')?;
+    Ok(Some(Fault {
+        uri: String::from_str(alloc, source.file)?,
+        json,
+    }))
+}
+
+/// What the editor is told of a refusal.
+fn fault_in(
+    alloc: Global,
+    refusal: CheckRefusal,
+    resolver: &VirtualResolver,
+    sources: &[SourceFile<'_>],
+) -> Result<Option<Fault>, AllocError> {
+    let refusal = Refusal::from(refusal);
+    let told = refusal.told(alloc, resolver)?;
+    let message = refusal.message(alloc)?;
+    let report = Report {
+        line: told.line(),
+        command: "check",
+        message: match &message {
+            Some(message) => Some(message.as_str()),
+            None => None,
+        },
+        sources,
+        reason: None,
+    };
+    let finding = finding_of(alloc, &report)?;
+    fault_of(alloc, told.line().kind, &finding, sources)
+}
+
+/// Checks a module, and what it asks for.
+fn checked(alloc: Global, package: &Package, number: usize) -> Result<Checked, AllocError> {
+    let rests_on = closure_of(alloc, &package.modules, number)?;
+    let mut faults = Vec::new(alloc);
+    if let Some(root) = package.modules.get(number) {
+        let modules = modules_among(alloc, &package.modules, &rests_on)?;
+        let mut resolver = resolver_of(alloc, modules.as_slice())?;
+        let options = &package.options;
+        let refusals = check_all(alloc, &mut resolver, &root.path, options, MOST_FAULTS)?;
+        let sources = sources_of(alloc, &package.modules, &rests_on)?;
+        for refusal in refusals {
+            if let Some(fault) = fault_in(alloc, refusal, &resolver, sources.as_slice())? {
+                faults.push(fault)?;
+            }
+        }
+    }
+    Ok(Checked { rests_on, faults })
+}
+
+/// Whether a module is one of the own package.
+fn is_own(printed: &str) -> bool {
+    printed == "package" || printed.starts_with("package::")
+}
+
+/// Checks the modules of a package of which no check is kept, each with what it asks for.
+pub fn check_package(alloc: Global, package: &mut Package) -> Result<(), AllocError> {
+    for number in 0..package.modules.len().min(MOST_MODULES) {
+        let printed = String::from_str(alloc, package.modules.printed(number))?;
+        if !is_own(printed.as_str()) || package.checks.has(printed.as_str()) {
+            continue;
+        }
+        let checked = checked(alloc, package, number)?;
+        package.checks.keep(alloc, printed.as_str(), checked)?;
+    }
+    Ok(())
+}
