@@ -8,16 +8,14 @@ use wesl_messages::{Reply, Value, push_text};
 use weslc_version::VERSION;
 
 /// What the server can do.
-const CAPABILITIES: &str = concat!(
-    "{\"positionEncoding\":\"utf-16\",",
-    "\"textDocumentSync\":{\"openClose\":true,\"change\":2,\"save\":true},",
-    "\"definitionProvider\":true,",
-    "\"referencesProvider\":true,",
-    "\"documentSymbolProvider\":true,",
-    "\"hoverProvider\":true,",
-    "\"completionProvider\":{\"triggerCharacters\":[\":\",\".\",\"@\"]},",
-    "\"renameProvider\":{\"prepareProvider\":true}}"
-);
+const CAPABILITIES: &str = "{\"positionEncoding\":\"utf-16\",\
+    \"textDocumentSync\":{\"openClose\":true,\"change\":2,\"save\":true},\
+    \"definitionProvider\":true,\
+    \"referencesProvider\":true,\
+    \"documentSymbolProvider\":true,\
+    \"hoverProvider\":true,\
+    \"completionProvider\":{\"triggerCharacters\":[\":\",\".\",\"@\"]},\
+    \"renameProvider\":{\"prepareProvider\":true}}";
 
 /// The URI of the editor's folder: of several the first.
 fn folder_uri(params: &Value) -> Option<&str> {

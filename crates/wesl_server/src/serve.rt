@@ -3,6 +3,7 @@
 use crate::answers::answer;
 use crate::edits::{change, close, open, read_again, refresh};
 use crate::initialize::initialize;
+use crate::publish::show_error;
 use crate::state::{Server, Stage};
 use std::alloc::{AllocError, Global};
 use std::io;
@@ -144,8 +145,13 @@ fn serve_message<R: Files + AllocGlobal + Clone + Drop, W: Write>(
     if method == "exit" {
         return Ok(Next::End);
     }
-    if server.stage == Stage::Running && take_notice(rt, request, server, method, asked)? {
-        refresh(rt.alloc(), server, writer)?;
+    if server.stage != Stage::Running {
+        return Ok(Next::On);
+    }
+    match take_notice(rt, request, server, method, asked) {
+        Ok(true) => refresh(rt.alloc(), server, writer)?,
+        Ok(false) => {}
+        Err(AllocError) => show_error(rt.alloc(), "out of memory", writer)?,
     }
     Ok(Next::On)
 }
