@@ -9,7 +9,7 @@ use crate::rules::broken_rule;
 use crate::view::{View, number_at};
 use std::alloc::{AllocError, Global};
 use wgsl_path::Span;
-use wgsl_templates::lexing::lexer::lex;
+use wgsl_templates::reading::lexer::lex;
 
 /// What is told of a token with which no text goes on, or of an end that comes too early.
 fn of_token(alloc: Global, whole: Whole, view: View<'_>) -> Result<Option<Explained>, AllocError> {
