@@ -4,8 +4,7 @@ use crate::edits::file_of;
 use crate::state::{Server, Stage};
 use std::alloc::{AllocError, Global};
 use std::rt::Files;
-use wesl_messages::{Reply, Value, push_text};
-use weslc_version::VERSION;
+use wesl_messages::{Reply, Value};
 
 /// What the server can do.
 const CAPABILITIES: &str = "{\"positionEncoding\":\"utf-16\",\
@@ -33,9 +32,7 @@ fn folder_uri(params: &Value) -> Option<&str> {
 fn capabilities(alloc: Global) -> Result<Reply, AllocError> {
     let mut json = String::from_str(alloc, "{\"capabilities\":")?;
     json.push_str(CAPABILITIES)?;
-    json.push_str(",\"serverInfo\":{\"name\":\"wesl\"")?;
-    push_text(&mut json, "version", VERSION)?;
-    json.push_str("}}")?;
+    json.push_str(",\"serverInfo\":{\"name\":\"wesl\"}}")?;
     Ok(Reply::Result(json))
 }
 
