@@ -4,18 +4,18 @@
 
 mod asked;
 mod completion;
-mod hover;
 mod inside;
 mod names;
 mod navigation;
 mod outline;
-mod rename;
+mod renaming;
+mod shown;
 mod taken;
 mod values;
 
 pub use asked::At;
 pub use completion::complete;
-pub use hover::hover;
 pub use navigation::{definition, references};
 pub use outline::document_symbols;
-pub use rename::{prepare_rename, rename};
+pub use renaming::{prepare_rename, rename};
+pub use shown::hover;

@@ -68,7 +68,8 @@ fn read_line<R: BufRead>(alloc: Global, reader: &mut R) -> io::Result<Line> {
             break;
         }
     }
-    Ok(match line.as_slice().last() {
+    let last = line.as_slice().last().copied();
+    Ok(match last {
         None => Line::End,
         Some(b'\n') => Line::Bytes(line),
         Some(_) => Line::TooLong,

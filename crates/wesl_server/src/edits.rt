@@ -76,13 +76,9 @@ pub fn read_again<R: Files + AllocGlobal + Clone + Drop>(
     rt: &R,
     server: &mut Server,
 ) -> Result<(), AllocError> {
-    let Server {
-        documents,
-        packages,
-        ..
-    } = server;
+    let documents = &server.documents;
     let mut number: usize = 0;
-    for package in packages.as_mut_slice() {
+    for package in server.packages.as_mut_slice() {
         package.read_all(rt, documents, number)?;
         number = number.saturating_add(1);
     }
@@ -128,12 +124,8 @@ pub fn change<R: Files + AllocGlobal>(
     };
     let file = String::from_str(alloc, document.file.as_str())?;
     server.documents.put(alloc, document)?;
-    let Server {
-        documents,
-        packages,
-        ..
-    } = server;
-    for package in packages.as_mut_slice() {
+    let documents = &server.documents;
+    for package in server.packages.as_mut_slice() {
         package.take_edit(rt, documents, file.as_str())?;
     }
     Ok(())

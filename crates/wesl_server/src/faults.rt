@@ -191,8 +191,8 @@ pub fn check_package(alloc: Global, package: &mut Package) -> Result<(), AllocEr
         if !is_own(printed.as_str()) || package.checks.has(printed.as_str()) {
             continue;
         }
-        let checked = checked(alloc, package, number)?;
-        package.checks.keep(alloc, printed.as_str(), checked)?;
+        let found = checked(alloc, package, number)?;
+        package.checks.keep(alloc, printed.as_str(), found)?;
     }
     Ok(())
 }
