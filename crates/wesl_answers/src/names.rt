@@ -8,14 +8,23 @@ use wgsl_path::Span;
 
 /// What a name that could be written is, by its number in the protocol.
 pub(crate) const FUNCTION: u32 = 3;
+
 pub(crate) const FIELD: u32 = 5;
+
 pub(crate) const VARIABLE: u32 = 6;
+
 pub(crate) const TYPE: u32 = 7;
+
 pub(crate) const MODULE: u32 = 9;
+
 pub(crate) const KEYWORD: u32 = 14;
+
 pub(crate) const REFERENCE: u32 = 18;
+
 pub(crate) const ENUMERANT: u32 = 20;
+
 pub(crate) const CONSTANT: u32 = 21;
+
 pub(crate) const STRUCTURE: u32 = 22;
 
 /// A name that could be written, and what it is.
@@ -27,9 +36,33 @@ pub(crate) struct Choice<'a> {
 
 /// The words that begin statements and declarations.
 static KEYWORDS: [&str; 27] = [
-    "alias", "break", "case", "const", "const_assert", "continue", "continuing", "default",
-    "discard", "else", "enable", "false", "fn", "for", "if", "import", "let", "loop", "override",
-    "package", "return", "struct", "super", "switch", "true", "var", "while",
+    "alias",
+    "break",
+    "case",
+    "const",
+    "const_assert",
+    "continue",
+    "continuing",
+    "default",
+    "discard",
+    "else",
+    "enable",
+    "false",
+    "fn",
+    "for",
+    "if",
+    "import",
+    "let",
+    "loop",
+    "override",
+    "package",
+    "return",
+    "struct",
+    "super",
+    "switch",
+    "true",
+    "var",
+    "while",
 ];
 
 /// Adds a name, unless it is there.

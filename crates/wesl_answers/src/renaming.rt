@@ -3,9 +3,7 @@
 use crate::asked::At;
 use crate::taken::{Ungiven, fixed_name, sentence_of, ungiven};
 use std::alloc::{AllocError, Global};
-use wesl_meanings::{
-    Modules, Place, Target, meaning_at, places_of_target,
-};
+use wesl_meanings::{Modules, Place, Target, meaning_at, places_of_target};
 use wesl_messages::{Refusal, Reply, push_range, push_text};
 use wesl_symbols::part_of;
 use weslc_json::push_json;
@@ -114,12 +112,7 @@ pub fn prepare_rename(alloc: Global, modules: &Modules, at: At) -> Result<Reply,
 
 /// What changes where the word at a place gets another name: all words of all modules that are the same and mean the same. Refused are a name
 /// that is no identifier, and one that stands already in a module that is changed, or in a function whose local is renamed.
-pub fn rename(
-    alloc: Global,
-    modules: &Modules,
-    at: At,
-    name: &str,
-) -> Result<Reply, AllocError> {
+pub fn rename(alloc: Global, modules: &Modules, at: At, name: &str) -> Result<Reply, AllocError> {
     let (Some(module), Some((occurrence, target))) = (
         at.module_of(modules),
         meaning_at(alloc, modules, at.module, at.place)?,

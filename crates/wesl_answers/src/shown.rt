@@ -92,14 +92,20 @@ fn shown_of(
         Target::Local(number, local) => {
             if let Some(module) = modules.get(number) {
                 if let Some(found) = module.symbols.locals.get(local) {
-                    push_code(&mut shown, code_in(module, found.item.start, found.item.end))?;
+                    push_code(
+                        &mut shown,
+                        code_in(module, found.item.start, found.item.end),
+                    )?;
                 }
             }
         }
         Target::Member(number, member) => {
             if let Some(module) = modules.get(number) {
                 if let Some(found) = module.symbols.members.get(member) {
-                    push_code(&mut shown, code_in(module, found.item.start, found.item.end))?;
+                    push_code(
+                        &mut shown,
+                        code_in(module, found.item.start, found.item.end),
+                    )?;
                 }
             }
         }

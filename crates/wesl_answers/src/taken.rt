@@ -22,7 +22,10 @@ pub(crate) enum Ungiven {
 
 /// Whether a word stands for something by its name alone, so that another declaration of that name could change it.
 fn is_by_name(role: Role) -> bool {
-    !matches!(role, Role::Member(_) | Role::Component | Role::ImportPart(_))
+    !matches!(
+        role,
+        Role::Member(_) | Role::Component | Role::ImportPart(_)
+    )
 }
 
 /// Whether a name stands in a part of a module as more than a member.
@@ -53,12 +56,7 @@ fn part_around(module: &Module, place: usize) -> Span {
 }
 
 /// The module in which a name stands already where it would be given anew.
-fn taken_in(
-    modules: &Modules,
-    target: Target,
-    places: &[Place],
-    name: &str,
-) -> Option<usize> {
+fn taken_in(modules: &Modules, target: Target, places: &[Place], name: &str) -> Option<usize> {
     for place in places {
         let module = modules.get(place.module)?;
         let within = match target {
@@ -140,7 +138,10 @@ pub(crate) fn sentence_of(
             String::from_str(alloc, "a module has the name of its file: rename that")
         }
         Ungiven::OtherPackage => {
-            String::from_str(alloc, "this is declared in another package: rename it there")
+            String::from_str(
+                alloc,
+                "this is declared in another package: rename it there",
+            )
         }
         Ungiven::Nothing => {
             String::from_str(alloc, "there is nothing here that a module declares")

@@ -183,9 +183,7 @@ pub fn meaning_of(
             meaning_of_path(alloc, modules, number, symbols.path(path), true)
         }
         Role::Given(import) => match symbols.imports.get(import) {
-            Some(import) => {
-                meaning_of_path(alloc, modules, number, import.path.as_str(), true)
-            }
+            Some(import) => { meaning_of_path(alloc, modules, number, import.path.as_str(), true) }
             None => Ok(None),
         },
         Role::Member(member) => Ok(Some(Target::Member(number, member))),

@@ -33,11 +33,7 @@ pub struct Package {
 }
 
 /// A problem with a folder, in a sentence.
-fn folder_problem(
-    alloc: Global,
-    folder: &str,
-    problem: FileProblem,
-) -> Result<String, AllocError> {
+fn folder_problem(alloc: Global, folder: &str, problem: FileProblem) -> Result<String, AllocError> {
     let why = problem.to_string(alloc)?;
     let why = why.as_str();
     format!(in alloc; "{folder}: {why}")
@@ -108,7 +104,8 @@ impl Package {
     fn add_folders<R: Files + AllocGlobal>(&mut self, rt: &R) -> Result<(), AllocError> {
         let own = self.folder.as_str();
         if let Err(problem) = self.folders.add(rt, None, own) {
-            self.problems.push(folder_problem(rt.alloc(), own, problem)?)?;
+            self.problems
+                .push(folder_problem(rt.alloc(), own, problem)?)?;
         }
         for other in self.others.as_slice() {
             let folder = other.folder.as_str();
@@ -177,7 +174,13 @@ impl Package {
             ),
             None => {
                 let uri = uri_of(alloc, file.as_str())?;
-                self.put_text(alloc, path, file.as_str(), uri.as_str(), source.text.as_str())
+                self.put_text(
+                    alloc,
+                    path,
+                    file.as_str(),
+                    uri.as_str(),
+                    source.text.as_str(),
+                )
             }
         }
     }
@@ -276,11 +279,7 @@ impl Package {
     }
 
     /// Takes modules away that are not there any more.
-    fn remove_unseen(
-        &mut self,
-        alloc: Global,
-        seen: &IndexSet<String>,
-    ) -> Result<(), AllocError> {
+    fn remove_unseen(&mut self, alloc: Global, seen: &IndexSet<String>) -> Result<(), AllocError> {
         let mut gone = Vec::new(alloc);
         for number in 0..self.modules.len() {
             let printed = self.modules.printed(number);
@@ -313,7 +312,13 @@ impl Package {
             };
             let name = String::from_str(alloc, other.name.as_str())?;
             let folder = String::from_str(alloc, other.folder.as_str())?;
-            self.read_folder(rt, documents, folder.as_str(), Some(name.as_str()), &mut seen)?;
+            self.read_folder(
+                rt,
+                documents,
+                folder.as_str(),
+                Some(name.as_str()),
+                &mut seen,
+            )?;
         }
         self.put_open(alloc, documents, number, &mut seen)?;
         self.read_asked(rt, documents, &mut seen)?;

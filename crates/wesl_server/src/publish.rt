@@ -31,10 +31,7 @@ fn add(
 }
 
 /// The faults of all packages, by the files where they are.
-fn lists_of(
-    alloc: Global,
-    server: &Server,
-) -> Result<IndexMap<String, Vec<String>>, AllocError> {
+fn lists_of(alloc: Global, server: &Server) -> Result<IndexMap<String, Vec<String>>, AllocError> {
     let mut lists = IndexMap::new(alloc);
     for package in server.packages.as_slice() {
         for fault in package.checks.faults(alloc)?.as_slice() {
@@ -61,10 +58,7 @@ fn params_of(alloc: Global, uri: &str, faults: &[String]) -> Result<String, Allo
 }
 
 /// What is to be told of files: of those that have faults, and of those of which some were told and that have none.
-fn params_by_file(
-    alloc: Global,
-    server: &Server,
-) -> Result<IndexMap<String, String>, AllocError> {
+fn params_by_file(alloc: Global, server: &Server) -> Result<IndexMap<String, String>, AllocError> {
     let lists = lists_of(alloc, server)?;
     let mut params = IndexMap::new(alloc);
     for (uri, faults) in lists.iter() {

@@ -23,12 +23,7 @@ enum Next {
 }
 
 /// Writes the answer to a request.
-fn write_reply<W: Write>(
-    alloc: Global,
-    id: &str,
-    reply: &Reply,
-    writer: &mut W,
-) -> io::Result<()> {
+fn write_reply<W: Write>(alloc: Global, id: &str, reply: &Reply, writer: &mut W) -> io::Result<()> {
     let body = match reply {
         Reply::Result(json) => result_message(alloc, id, json.as_str())?,
         Reply::Refused(refusal, message) => {

@@ -12,6 +12,6 @@ mod symbols;
 
 pub use items::read_symbols;
 pub use symbols::{
-    Declaration, DeclarationKind, Import, Local, LocalKind, Member, Occurrence, Role, Slot, Symbols,
-    part_of,
+    Declaration, DeclarationKind, Import, Local, LocalKind, Member, Occurrence, Role, Slot,
+    Symbols, part_of,
 };

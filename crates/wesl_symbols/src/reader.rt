@@ -133,7 +133,11 @@ impl<'a> Reader<'a> {
         let next = self.here();
         let span = Span {
             start: self.end_before(),
-            end: if self.is_at_word() { next.end } else { next.start },
+            end: if self.is_at_word() {
+                next.end
+            } else {
+                next.start
+            },
         };
         self.symbols.slots.push(Slot {
             span,

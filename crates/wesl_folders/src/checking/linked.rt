@@ -44,10 +44,7 @@ pub fn check<R: Resolver>(
 
 /// A refusal alone, unless it is that of memory.
 fn alone(alloc: Global, refusal: CheckRefusal) -> Result<Vec<CheckRefusal>, AllocError> {
-    if matches!(
-        refusal,
-        CheckRefusal::Compile(CompileError::OutOfMemory)
-    ) {
+    if matches!(refusal, CheckRefusal::Compile(CompileError::OutOfMemory)) {
         return Err(AllocError);
     }
     let mut refusals = Vec::new(alloc);
