@@ -21,11 +21,12 @@ pub(crate) enum Ungiven {
 }
 
 /// Whether a word stands for something by its name alone, so that another declaration of that name could change it.
-fn is_by_name(role: Role) -> bool {
-    !matches!(
-        role,
-        Role::Member(_) | Role::Component | Role::ImportPart(_)
-    )
+fn is_by_name(module: &Module, role: Role) -> bool {
+    match role {
+        Role::Member(_) | Role::Component | Role::ImportPart(_) => false,
+        Role::Part(path) => !module.symbols.path(path).contains("::"),
+        Role::Declared(_) | Role::Local(_) | Role::Used | Role::Given(_) => true,
+    }
 }
 
 /// Whether a name stands in a part of a module as more than a member.
@@ -33,7 +34,7 @@ fn stands_in(module: &Module, within: Span, name: &str) -> bool {
     for occurrence in module.symbols.occurrences.as_slice() {
         let is_within = within.start <= occurrence.span.start && occurrence.span.end <= within.end;
         if is_within
-            && is_by_name(occurrence.role)
+            && is_by_name(module, occurrence.role)
             && part_of(module.text.as_str(), occurrence.span) == name
         {
             return true;
@@ -58,6 +59,9 @@ fn part_around(module: &Module, place: usize) -> Span {
 /// The module in which a name stands already where it would be given anew.
 fn taken_in(modules: &Modules, target: Target, places: &[Place], name: &str) -> Option<usize> {
     for place in places {
+        if !place.is_by_name {
+            continue;
+        }
         let module = modules.get(place.module)?;
         let within = match target {
             Target::Local(_, _) => part_around(module, place.span.start),

@@ -42,8 +42,8 @@ fn scalar_type(value: &str) -> &'static str {
         _ if value.ends_with('i') => "i32",
         _ if value.ends_with('f') => "f32",
         _ if value.ends_with('h') => "f16",
-        _ if value.contains('.') || value.contains('e') => "an abstract float",
-        _ => "an abstract integer",
+        _ if value.contains('.') || value.contains('e') => "abstract float",
+        _ => "abstract integer",
     }
 }
 

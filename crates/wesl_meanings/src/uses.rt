@@ -6,12 +6,14 @@ use std::alloc::{AllocError, Global};
 use wesl_symbols::{Occurrence, Role, part_of};
 use wgsl_path::Span;
 
-/// A word of a module: the number of the module, the word, and whether it declares what it means.
+/// A word of a module: the number of the module, the word, whether it declares what it means, and whether it means that by its name alone, and
+/// not by a path before it.
 #[derive(Clone, Copy, Debug)]
 pub struct Place {
     pub module: usize,
     pub span: Span,
     pub is_declaration: bool,
+    pub is_by_name: bool,
 }
 
 /// The name of what a word means; of a module the last part of its path.
@@ -94,6 +96,7 @@ fn push_declared(places: &mut Vec<Place>, module: usize, span: Span) -> Result<(
         module,
         span,
         is_declaration: true,
+        is_by_name: true,
     })?;
     Ok(())
 }
@@ -145,6 +148,7 @@ fn add_places(
                 module: number,
                 span: occurrence.span,
                 is_declaration: is_declaring(module, *occurrence),
+                is_by_name: !matches!(occurrence.role, Role::Part(_) | Role::ImportPart(_)),
             })?;
         }
     }

@@ -44,7 +44,7 @@ fn answer_at(
     let json = match method {
         "textDocument/definition" => definition(alloc, modules, at)?,
         "textDocument/references" => references(alloc, modules, at, has_declaration(params))?,
-        "textDocument/hover" => hover(alloc, modules, at, &package.options)?,
+        "textDocument/hover" => hover(alloc, modules, at, &package.value_options)?,
         "textDocument/completion" => complete(alloc, modules, at)?,
         "textDocument/prepareRename" => return Ok(Some(prepare_rename(alloc, modules, at)?)),
         "textDocument/rename" => {

@@ -67,7 +67,7 @@ fn resolver_of(alloc: Global, modules: &[&Module]) -> Result<VirtualResolver, Al
     Ok(resolver)
 }
 
-/// The modules as errors are placed in them, with URIs for files.
+/// The modules as errors are placed in them. Their paths stand for their files.
 fn sources_of<'a>(
     alloc: Global,
     all: &'a Modules,
@@ -79,7 +79,7 @@ fn sources_of<'a>(
             if let Some(module) = all.get(number) {
                 sources.push(SourceFile {
                     path: all.printed(number),
-                    file: module.uri.as_str(),
+                    file: all.printed(number),
                     text: module.text.as_str(),
                 })?;
             }
@@ -88,14 +88,29 @@ fn sources_of<'a>(
     Ok(sources)
 }
 
+/// The URI of the file of a module.
+fn uri_in<'a>(modules: &'a Modules, source: SourceFile<'_>) -> &'a str {
+    match modules.number_of(source.path) {
+        Some(number) => match modules.get(number) {
+            Some(module) => module.uri.as_str(),
+            None => "",
+        },
+        None => "",
+    }
+}
+
 /// Adds where else to look.
-fn push_related(json: &mut String, finding: &Finding<'_>) -> Result<(), AllocError> {
+fn push_related(
+    json: &mut String,
+    modules: &Modules,
+    finding: &Finding<'_>,
+) -> Result<(), AllocError> {
     let Some((source, span)) = finding.related else {
         return Ok(());
     };
     push_key(json, "relatedInformation")?;
     json.push_str("[{\"location\":")?;
-    push_location(json, source.file, source.text, span)?;
+    push_location(json, uri_in(modules, source), source.text, span)?;
     push_text(json, "message", "declared here")?;
     json.push_str("}]")
 }
@@ -103,6 +118,7 @@ fn push_related(json: &mut String, finding: &Finding<'_>) -> Result<(), AllocErr
 /// An error as the editor is told it. One without a place is told at the beginning of the first module.
 fn fault_of(
     alloc: Global,
+    modules: &Modules,
     kind: &str,
     finding: &Finding<'_>,
     sources: &[SourceFile<'_>],
@@ -128,10 +144,10 @@ fn fault_of(
         }
         None => push_json(&mut json, finding.message.as_str())?,
     }
-    push_related(&mut json, finding)?;
+    push_related(&mut json, modules, finding)?;
     json.push('}')?;
     Ok(Some(Fault {
-        uri: String::from_str(alloc, source.file)?,
+        uri: String::from_str(alloc, uri_in(modules, source))?,
         json,
     }))
 }
@@ -139,6 +155,7 @@ fn fault_of(
 /// What the editor is told of a refusal.
 fn fault_in(
     alloc: Global,
+    modules: &Modules,
     refusal: CheckRefusal,
     resolver: &VirtualResolver,
     sources: &[SourceFile<'_>],
@@ -157,7 +174,7 @@ fn fault_in(
         reason: None,
     };
     let finding = finding_of(alloc, &report)?;
-    fault_of(alloc, told.line().kind, &finding, sources)
+    fault_of(alloc, modules, told.line().kind, &finding, sources)
 }
 
 /// Checks a module, and what it asks for.
@@ -171,7 +188,14 @@ fn checked(alloc: Global, package: &Package, number: usize) -> Result<Checked, A
         let refusals = check_all(alloc, &mut resolver, &root.path, options, MOST_FAULTS)?;
         let sources = sources_of(alloc, &package.modules, &rests_on)?;
         for refusal in refusals {
-            if let Some(fault) = fault_in(alloc, refusal, &resolver, sources.as_slice())? {
+            let fault = fault_in(
+                alloc,
+                &package.modules,
+                refusal,
+                &resolver,
+                sources.as_slice(),
+            )?;
+            if let Some(fault) = fault {
                 faults.push(fault)?;
             }
         }

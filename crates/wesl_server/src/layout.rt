@@ -4,7 +4,7 @@ use std::alloc::{AllocError, Global};
 use std::rt::Files;
 use wesl_command::Request;
 use wesl_diagnostics::Options;
-use wesl_folders::{Root, full_path, has_modules, is_folder, parts_below};
+use wesl_folders::{Root, full_path, has_modules, parts_below};
 use wesl_several::{Failure, config_failure, config_of, configured, fit, selection_of};
 use wesl_tool::{Selection, folder_of, options_of};
 
@@ -24,7 +24,9 @@ pub struct Layout {
     pub folder: String,
     pub selection: Option<Selection>,
     pub others: Vec<Other>,
+    /// The options of checks, and those of values, which ask for no more than they need.
     pub options: Options,
+    pub value_options: Options,
     /// What is wrong with the `wesl.toml`, for people.
     pub problem: Option<String>,
 }
@@ -85,6 +87,19 @@ fn options_in(alloc: Global, request: &Request<'_>) -> Result<Options, AllocErro
     }
 }
 
+/// A folder by its full path, if a file lies in it; else the folder of the file.
+fn folder_within<R: Files + AllocGlobal>(
+    rt: &R,
+    file: &str,
+    folder: &str,
+) -> Result<String, AllocError> {
+    let folder = whole_path(rt, folder)?;
+    match Root::new(rt.alloc(), file, Some(folder.as_str()))? {
+        Some(_) => Ok(folder),
+        None => String::from_str(rt.alloc(), folder_of(file)),
+    }
+}
+
 /// The layout where no `wesl.toml` is read.
 fn plain_layout<R: Files + AllocGlobal + Clone + Drop>(
     rt: &R,
@@ -94,13 +109,7 @@ fn plain_layout<R: Files + AllocGlobal + Clone + Drop>(
     problem: Option<String>,
 ) -> Result<Layout, AllocError> {
     let folder = match request.root {
-        Some(root) => {
-            let root = whole_path(rt, root)?;
-            match Root::new(rt.alloc(), file, Some(root.as_str()))? {
-                Some(_) => root,
-                None => String::from_str(rt.alloc(), folder_of(file))?,
-            }
-        }
+        Some(root) => folder_within(rt, file, root)?,
         None => folder_by_files(rt, file, around)?,
     };
     Ok(Layout {
@@ -108,6 +117,7 @@ fn plain_layout<R: Files + AllocGlobal + Clone + Drop>(
         selection: None,
         others: others_of(rt, request)?,
         options: options_in(rt.alloc(), request)?,
+        value_options: options_in(rt.alloc(), request)?,
         problem,
     })
 }
@@ -149,14 +159,15 @@ pub fn layout_of<'a, R: Files + AllocGlobal + Clone + Drop>(
         None => None,
     };
     let folder = match made.root {
-        Some(root) if is_folder(rt, root) => whole_path(rt, root)?,
-        _ => String::from_str(alloc, folder_of(file))?,
+        Some(root) => folder_within(rt, file, root)?,
+        None => String::from_str(alloc, folder_of(file))?,
     };
     Ok(Layout {
         folder,
         selection,
         others: others_of(rt, &made)?,
         options: options_in(alloc, &made)?,
+        value_options: options_in(alloc, &made)?,
         problem: None,
     })
 }

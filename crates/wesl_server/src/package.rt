@@ -25,7 +25,9 @@ pub struct Package {
     pub others: Vec<Other>,
     pub folders: Folders,
     pub selection: Option<Selection>,
+    /// The options of checks, and of values.
     pub options: Options,
+    pub value_options: Options,
     pub modules: Modules,
     pub checks: Checks,
     /// What is wrong with it that no module tells, for people.
@@ -76,6 +78,7 @@ impl Package {
             selection,
             others,
             options,
+            value_options,
             problem,
         } = layout;
         let mut package = Package {
@@ -84,6 +87,7 @@ impl Package {
             folders: Folders::new(alloc, follows_links),
             selection: None,
             options,
+            value_options,
             modules: Modules::new(alloc),
             checks: Checks::new(alloc),
             problems: Vec::new(alloc),
