@@ -1,7 +1,7 @@
 //! What a new name changes.
 
 use crate::asked::At;
-use crate::taken::{Ungiven, fixed_name, sentence_of, ungiven};
+use crate::taken::{Ungiven, fixed_name, sentence_of, why_not};
 use std::alloc::{AllocError, Global};
 use wesl_meanings::{Modules, Place, Target, meaning_at, places_of_target};
 use wesl_messages::{Refusal, Reply, push_range, push_text};
@@ -121,7 +121,7 @@ pub fn rename(alloc: Global, modules: &Modules, at: At, name: &str) -> Result<Re
     };
     let word = part_of(module.text.as_str(), occurrence.span);
     let places = renamed_places(alloc, modules, target, word)?;
-    match ungiven(alloc, modules, target, places.as_slice(), word, name)? {
+    match why_not(alloc, modules, target, places.as_slice(), word, name)? {
         Some(why) => refuse(alloc, modules, &why, name),
         None => {
             let edits = edits_json(alloc, modules, places.as_slice(), name)?;

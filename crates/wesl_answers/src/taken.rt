@@ -99,7 +99,7 @@ pub(crate) fn fixed_name(modules: &Modules, target: Target, word: &str) -> Optio
 }
 
 /// Why a name can't be given in the place of a word to what words of these places mean.
-pub(crate) fn ungiven(
+pub(crate) fn why_not(
     alloc: Global,
     modules: &Modules,
     target: Target,

@@ -178,7 +178,7 @@ fn fault_in(
 }
 
 /// Checks a module, and what it asks for.
-fn checked(alloc: Global, package: &Package, number: usize) -> Result<Checked, AllocError> {
+fn check_module(alloc: Global, package: &Package, number: usize) -> Result<Checked, AllocError> {
     let rests_on = closure_of(alloc, &package.modules, number)?;
     let mut faults = Vec::new(alloc);
     if let Some(root) = package.modules.get(number) {
@@ -215,7 +215,7 @@ pub fn check_package(alloc: Global, package: &mut Package) -> Result<(), AllocEr
         if !is_own(printed.as_str()) || package.checks.has(printed.as_str()) {
             continue;
         }
-        let found = checked(alloc, package, number)?;
+        let found = check_module(alloc, package, number)?;
         package.checks.keep(alloc, printed.as_str(), found)?;
     }
     Ok(())
