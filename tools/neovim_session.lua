@@ -15,8 +15,10 @@ local function shown(range)
   return string.format("%d:%d..%d:%d", from.line + 1, from.character + 1, to.line + 1, to.character + 1)
 end
 
+local around = folder:match("(.*)/")
+
 local function name_of(uri)
-  return vim.uri_to_fname(uri):sub(#folder + 2)
+  return vim.uri_to_fname(uri):sub(#around + 2)
 end
 
 local client = vim.lsp.start_client({
@@ -40,7 +42,7 @@ local function faults(count)
   end, 20)
   local lines = {}
   for _, fault in ipairs(vim.diagnostic.get(nil)) do
-    local name = vim.api.nvim_buf_get_name(fault.bufnr):sub(#folder + 2)
+    local name = vim.api.nvim_buf_get_name(fault.bufnr):sub(#around + 2)
     local place = string.format("%d:%d..%d:%d", fault.lnum + 1, fault.col + 1, fault.end_lnum + 1, fault.end_col + 1)
     table.insert(lines, string.format("  %s:%s %s", name, place, (fault.message:gsub("\n", " / "))))
   end
@@ -126,11 +128,11 @@ local function run()
   vim.api.nvim_set_current_buf(main)
   say("-- definitions")
   places("leaf_3", (ask("textDocument/definition", at("leaf_3(", 2))))
-  places("through a published import", (ask("textDocument/definition", at("shared", 0))))
+  places("through a published import", (ask("textDocument/definition", at("common", 0))))
   places("another package", (ask("textDocument/definition", at("white", 0))))
 
   say("-- hover")
-  local hover = ask("textDocument/hover", at("shared", 0))
+  local hover = ask("textDocument/hover", at("common", 0))
   say(hover and hover.contents.value or "nothing")
 
   say("-- completion behind package::leaf_5::")
@@ -161,12 +163,14 @@ local function run()
   rename("base()", "while")
   rename("base()", "unit")
   rename("base()", "ground")
-  faults(0)
   vim.cmd("silent wall")
+  -- Neovim tells of files that it has open for the server alone, so one is saved behind all others.
+  vim.cmd("silent write!")
   say("saved")
+  faults(0)
 
   say("-- what is no request")
-  local _, problem = ask("textDocument/formatting", { textDocument = { uri = vim.uri_from_bufnr(0) } })
+  local _, problem = ask("wesl/none", { textDocument = { uri = vim.uri_from_bufnr(0) } })
   say(problem or "answered")
 
   vim.lsp.stop_client(client)

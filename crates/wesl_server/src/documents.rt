@@ -53,6 +53,22 @@ impl Documents {
         None
     }
 
+    /// The URIs of the texts.
+    pub fn uris(&self, alloc: Global) -> Result<Vec<String>, AllocError> {
+        let mut uris = Vec::new(alloc);
+        for uri in self.held.keys() {
+            uris.push(String::from_str(alloc, uri.as_str())?)?;
+        }
+        Ok(uris)
+    }
+
+    /// Says which package a text is in.
+    pub fn set_package(&mut self, uri: &str, package: usize) {
+        if let Some(document) = self.held.get_mut(uri) {
+            document.package = package;
+        }
+    }
+
     /// The files of a package that are open.
     pub fn files_of(&self, alloc: Global, package: usize) -> Result<Vec<String>, AllocError> {
         let mut files = Vec::new(alloc);

@@ -85,6 +85,53 @@ pub fn read_again<R: Files + AllocGlobal + Clone + Drop>(
     Ok(())
 }
 
+/// Seeks the packages of all texts that are open anew, since a `wesl.toml` has changed.
+fn find_packages_again<R: Files + AllocGlobal + Clone + Drop>(
+    rt: &R,
+    request: &Request<'_>,
+    server: &mut Server,
+) -> Result<(), AllocError> {
+    let alloc = rt.alloc();
+    server.packages.truncate(0);
+    for uri in server.documents.uris(alloc)?.as_slice() {
+        let file = match server.documents.get(uri.as_str()) {
+            Some(document) => String::from_str(alloc, document.file.as_str())?,
+            None => continue,
+        };
+        let package = package_of(rt, request, server, file.as_str())?;
+        server.documents.set_package(uri.as_str(), package);
+    }
+    Ok(())
+}
+
+/// Whether one of the files that changed is a `wesl.toml`.
+fn names_config(params: &Value) -> bool {
+    let Some(changes) = params.get("changes").and_then(Value::as_array) else {
+        return false;
+    };
+    for change in changes.as_slice() {
+        if let Some(uri) = change.get("uri").and_then(Value::as_str) {
+            if uri.ends_with("/wesl.toml") {
+                return true;
+            }
+        }
+    }
+    false
+}
+
+/// Takes in that files changed.
+pub fn take_files<R: Files + AllocGlobal + Clone + Drop>(
+    rt: &R,
+    request: &Request<'_>,
+    server: &mut Server,
+    params: &Value,
+) -> Result<(), AllocError> {
+    if names_config(params) {
+        find_packages_again(rt, request, server)?;
+    }
+    read_again(rt, server)
+}
+
 /// The text that is open, with edits.
 fn edited(
     alloc: Global,

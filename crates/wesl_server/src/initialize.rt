@@ -4,7 +4,7 @@ use crate::edits::file_of;
 use crate::state::{Server, Stage};
 use std::alloc::{AllocError, Global};
 use std::rt::Files;
-use wesl_messages::{Reply, Value};
+use wesl_messages::{Reply, Value, value_at};
 
 /// What the server can do.
 const CAPABILITIES: &str = "{\"positionEncoding\":\"utf-16\",\
@@ -15,6 +15,23 @@ const CAPABILITIES: &str = "{\"positionEncoding\":\"utf-16\",\
     \"hoverProvider\":true,\
     \"completionProvider\":{\"triggerCharacters\":[\":\",\".\",\"@\"]},\
     \"renameProvider\":{\"prepareProvider\":true}}";
+
+/// What asks the editor to tell that modules and `wesl.toml` changed.
+pub const WATCH: &str =
+    "{\"jsonrpc\":\"2.0\",\"id\":\"watch\",\"method\":\"client/registerCapability\",\
+    \"params\":{\"registrations\":[{\"id\":\"watch\",\"method\":\"workspace/didChangeWatchedFiles\",\
+    \"registerOptions\":{\"watchers\":[{\"globPattern\":\"**/*.{wesl,wgsl}\"},{\"globPattern\":\"**/wesl.toml\"}]}}]}}";
+
+/// Whether an editor tells that files changed where it is asked to.
+fn can_watch(params: &Value) -> bool {
+    let Some(workspace) = value_at(params, "capabilities", "workspace") else {
+        return false;
+    };
+    match value_at(workspace, "didChangeWatchedFiles", "dynamicRegistration") {
+        Some(value) => value.as_bool() == Some(true),
+        None => false,
+    }
+}
 
 /// The URI of the editor's folder: of several the first.
 fn folder_uri(params: &Value) -> Option<&str> {
@@ -45,6 +62,7 @@ pub fn initialize<R: Files + AllocGlobal>(
     if let Some(uri) = folder_uri(params) {
         server.folder = file_of(rt, uri)?;
     }
+    server.is_told_of_files = can_watch(params);
     server.stage = Stage::Running;
     capabilities(rt.alloc())
 }

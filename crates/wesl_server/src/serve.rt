@@ -1,8 +1,8 @@
 //! The loop over messages.
 
 use crate::answers::answer;
-use crate::edits::{change, close, open, read_again, refresh};
-use crate::initialize::initialize;
+use crate::edits::{change, close, open, read_again, refresh, take_files};
+use crate::initialize::{WATCH, initialize};
 use crate::publish::show_error;
 use crate::state::{Server, Stage};
 use std::alloc::{AllocError, Global};
@@ -115,7 +115,8 @@ fn take_notice<R: Files + AllocGlobal + Clone + Drop>(
         "textDocument/didOpen" => open(rt, request, server, params)?,
         "textDocument/didChange" => change(rt, server, params)?,
         "textDocument/didClose" => close(rt, server, params)?,
-        "textDocument/didSave" | "workspace/didChangeWatchedFiles" => read_again(rt, server)?,
+        "textDocument/didSave" => read_again(rt, server)?,
+        "workspace/didChangeWatchedFiles" => take_files(rt, request, server, params)?,
         _ => return Ok(false),
     }
     Ok(true)
@@ -142,6 +143,9 @@ fn serve_message<R: Files + AllocGlobal + Clone + Drop, W: Write>(
     }
     if server.stage != Stage::Running {
         return Ok(Next::On);
+    }
+    if method == "initialized" && server.is_told_of_files {
+        write_frame(rt.alloc(), writer, WATCH)?;
     }
     match take_notice(rt, request, server, method, asked) {
         Ok(true) => refresh(rt.alloc(), server, writer)?,

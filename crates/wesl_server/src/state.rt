@@ -19,6 +19,8 @@ pub enum Stage {
 #[derive(Drop)]
 pub struct Server {
     pub stage: Stage,
+    /// Whether the editor can tell that files changed.
+    pub is_told_of_files: bool,
     /// The editor's folder, by its full path.
     pub folder: Option<String>,
     pub documents: Documents,
@@ -32,6 +34,7 @@ impl Server {
     pub fn new(alloc: Global) -> Server {
         Server {
             stage: Stage::New,
+            is_told_of_files: false,
             folder: None,
             documents: Documents::new(alloc),
             packages: Vec::new(alloc),

@@ -1,3 +1,3 @@
 const white = 1.0;
-const pi = 3.0;
-const turn = 2.0 * pi;
+const pi = 3;
+const turn = 2 * pi;

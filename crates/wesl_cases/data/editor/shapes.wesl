@@ -5,5 +5,5 @@ struct Circle {
 }
 
 fn area(circle: Circle) -> f32 {
-    return pi * circle.radius * circle.radius;
+    return f32(pi) * circle.radius * circle.radius;
 }
