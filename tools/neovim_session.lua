@@ -35,8 +35,18 @@ local function open(name)
   return vim.api.nvim_get_current_buf()
 end
 
--- All that is told of faults, once it is so many.
+local function ask(method, params)
+  local answers = vim.lsp.buf_request_sync(0, method, params, 20000)
+  local answer = answers and answers[client]
+  if not answer then
+    return nil, "no answer"
+  end
+  return answer.result, answer.err and answer.err.message or answer.error and answer.error.message
+end
+
+-- All that is told of faults, once it is so many. A request is answered behind all that was told before it.
 local function faults(count)
+  ask("textDocument/documentSymbol", { textDocument = { uri = vim.uri_from_bufnr(0) } })
   vim.wait(20000, function()
     return #vim.diagnostic.get(nil) == count
   end, 20)
@@ -51,15 +61,6 @@ local function faults(count)
   for _, line in ipairs(lines) do
     say(line)
   end
-end
-
-local function ask(method, params)
-  local answers = vim.lsp.buf_request_sync(0, method, params, 20000)
-  local answer = answers and answers[client]
-  if not answer then
-    return nil, "no answer"
-  end
-  return answer.result, answer.err and answer.err.message or answer.error and answer.error.message
 end
 
 -- The place of a word in the text at hand.
@@ -128,11 +129,11 @@ local function run()
   vim.api.nvim_set_current_buf(main)
   say("-- definitions")
   places("leaf_3", (ask("textDocument/definition", at("leaf_3(", 2))))
-  places("through a published import", (ask("textDocument/definition", at("common", 0))))
+  places("through a published import", (ask("textDocument/definition", at("first_value", 0))))
   places("another package", (ask("textDocument/definition", at("white", 0))))
 
   say("-- hover")
-  local hover = ask("textDocument/hover", at("common", 0))
+  local hover = ask("textDocument/hover", at("first_value", 0))
   say(hover and hover.contents.value or "nothing")
 
   say("-- completion behind package::leaf_5::")
