@@ -5,8 +5,9 @@ mod diagnostics;
 mod fields;
 
 pub use diagnostics::{
-    ErrorLine, Finding, Report, Seek, SourceFile, declared_names, did_you_mean, error_place,
-    find_name_in, finding_of, meant_flag, names_flag, plain_json, report_json, report_text,
+    ErrorLine, Finding, Related, Report, Seek, SourceFile, declared_names, did_you_mean,
+    find_name_in, finding_of, meant_flag, names_flag, plain_json, push_range, report_json,
+    report_text,
 };
 pub use fields::{
     BasicSourceMap, Binding, BundleError, CompileError, ErrorContext, Feature, Features, Key, Mode,

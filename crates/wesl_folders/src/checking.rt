@@ -3,6 +3,6 @@
 mod linked;
 mod names;
 
-pub use linked::{check, check_all};
+pub use linked::{check, name_refusals};
 pub use names::{CheckRefusal, NameRefusal};
 pub use wesl_check_names::{NameFault, NameProblem};

@@ -4,16 +4,16 @@ use crate::checks::{Checked, Fault};
 use crate::package::Package;
 use indexmap::IndexSet;
 use std::alloc::{AllocError, Global};
-use wesl_diagnostics::{Finding, Report, SourceFile, VirtualResolver, finding_of};
-use wesl_folders::{CheckRefusal, check_all};
+use wesl_diagnostics::{Related, Report, SourceFile, VirtualResolver, finding_of};
+use wesl_faults::check_all;
+use wesl_folders::CheckRefusal;
 use wesl_meanings::{Module, Modules};
 use wesl_messages::{push_key, push_location, push_range, push_text};
 use wesl_tool::Refusal;
-use weslc_json::push_json;
 use wgsl_base::CloneIn;
 use wgsl_path::Span;
 
-/// How many faults of names are told of a module.
+/// How many faults are told of a module and what it asks for.
 const MOST_FAULTS: usize = 20;
 
 /// How many modules are checked.
@@ -99,32 +99,49 @@ fn uri_in<'a>(modules: &'a Modules, source: SourceFile<'_>) -> &'a str {
     }
 }
 
-/// Adds where else to look.
+/// Adds other places to look at, where there are any.
 fn push_related(
     json: &mut String,
     modules: &Modules,
-    finding: &Finding<'_>,
+    related: &[Related<'_>],
 ) -> Result<(), AllocError> {
-    let Some((source, span)) = finding.related else {
+    if related.is_empty() {
         return Ok(());
-    };
+    }
     push_key(json, "relatedInformation")?;
-    json.push_str("[{\"location\":")?;
-    push_location(json, uri_in(modules, source), source.text, span)?;
-    push_text(json, "message", "declared here")?;
-    json.push_str("}]")
+    let mut before = "[";
+    for place in related {
+        json.push_str(before)?;
+        json.push_str("{\"location\":")?;
+        let uri = uri_in(modules, place.source);
+        push_location(json, uri, place.source.text, place.span)?;
+        push_text(json, "message", place.message.as_str())?;
+        json.push('}')?;
+        before = ",";
+    }
+    json.push(']')
+}
+
+/// Adds what is wrong, and what was meant.
+fn push_message(json: &mut String, message: &str, help: Option<&String>) -> Result<(), AllocError> {
+    let alloc = *json.allocator();
+    let mut whole = String::from_str(alloc, message)?;
+    if let Some(help) = help {
+        whole.push('\n')?;
+        whole.push_str(help.as_str())?;
+    }
+    push_text(json, "message", whole.as_str())
 }
 
 /// An error as the editor is told it. One without a place is told at the beginning of the first module.
 fn fault_of(
     alloc: Global,
     modules: &Modules,
-    kind: &str,
-    finding: &Finding<'_>,
-    sources: &[SourceFile<'_>],
+    report: &Report<'_>,
 ) -> Result<Option<Fault>, AllocError> {
+    let finding = finding_of(alloc, report)?;
     let beginning = Span { start: 0, end: 0 };
-    let place = match (finding.place, sources.first()) {
+    let place = match (finding.place, report.sources.first()) {
         (Some(place), _) => place,
         (None, Some(source)) => (*source, beginning),
         (None, None) => return Ok(None),
@@ -133,18 +150,9 @@ fn fault_of(
     let mut json = String::from_str(alloc, "{\"range\":")?;
     push_range(&mut json, source.text, span)?;
     json.push_str(",\"severity\":1,\"source\":\"wesl\"")?;
-    push_text(&mut json, "code", kind)?;
-    push_key(&mut json, "message")?;
-    match &finding.help {
-        Some(help) => {
-            let mut message = String::from_str(alloc, finding.message.as_str())?;
-            message.push('\n')?;
-            message.push_str(help.as_str())?;
-            push_json(&mut json, message.as_str())?;
-        }
-        None => push_json(&mut json, finding.message.as_str())?,
-    }
-    push_related(&mut json, modules, finding)?;
+    push_text(&mut json, "code", report.line.kind)?;
+    push_message(&mut json, finding.message.as_str(), finding.help.as_ref())?;
+    push_related(&mut json, modules, finding.related.as_slice())?;
     json.push('}')?;
     Ok(Some(Fault {
         uri: String::from_str(alloc, uri_in(modules, source))?,
@@ -173,8 +181,7 @@ fn fault_in(
         sources,
         reason: None,
     };
-    let finding = finding_of(alloc, &report)?;
-    fault_of(alloc, modules, told.line().kind, &finding, sources)
+    fault_of(alloc, modules, &report)
 }
 
 /// Checks a module, and what it asks for.

@@ -1,7 +1,7 @@
 //! A request for one file, or for several.
 
 use crate::configured::{config_failure, config_of, configured, fit, selection_of};
-use std::alloc::AllocError;
+use std::alloc::{AllocError, Global};
 use std::io;
 use std::io::{Read, Write};
 use std::rt::Files;
@@ -103,23 +103,30 @@ fn is_of_one<R: Files>(rt: &R, request: &Request<'_>) -> bool {
     request.verb != Verb::Check || (request.more_files.is_empty() && !is_folder(rt, request.file))
 }
 
-/// What was told of some files, so that what several of them lead to is told once.
+/// A writer of errors, each of which is written by one call. One that several files lead to is written once.
 #[derive(Drop)]
-struct Told {
-    texts: Vec<Vec<u8>>,
+struct Once<'a, E> {
+    alloc: Global,
+    errors: &'a mut E,
+    written: Vec<Vec<u8>>,
 }
 
-impl Told {
-    /// Writes what is told of a file, unless it was told before.
-    fn tell<E: Write>(&mut self, text: Vec<u8>, errors: &mut E) -> io::Result<()> {
-        for told in self.texts.as_slice() {
-            if told.as_slice() == text.as_slice() {
-                return Ok(());
+impl<E: Write> Write for Once<'_, E> {
+    fn write(&mut self, buf: &[u8]) -> io::Result<usize> {
+        for written in self.written.as_slice() {
+            if written.as_slice() == buf {
+                return Ok(buf.len());
             }
         }
-        errors.write_all(text.as_slice())?;
-        self.texts.push(text)?;
-        Ok(())
+        self.errors.write_all(buf)?;
+        let mut text = Vec::new(self.alloc);
+        text.extend_from_slice(buf)?;
+        self.written.push(text)?;
+        Ok(buf.len())
+    }
+
+    fn flush(&mut self) -> io::Result<()> {
+        self.errors.flush()
     }
 }
 
@@ -188,15 +195,15 @@ fn serve_all<R: Files + AllocGlobal + Clone + Drop, I: Read, W: Write, E: Write>
     let alloc = rt.alloc();
     let mut listed = Vec::new(alloc);
     let mut status = list_all(rt, request, &mut listed, errors)?;
-    let mut told = Told {
-        texts: Vec::new(alloc),
+    let mut once = Once {
+        alloc,
+        errors,
+        written: Vec::new(alloc),
     };
     let mut request = request.of_file(alloc, request.file, request.root)?;
     request.shows_notes = false;
     for one in listed.as_slice() {
-        let mut text = Vec::new(alloc);
-        status = status.max(serve_one(rt, &request, one, input, out, &mut text)?);
-        told.tell(text, errors)?;
+        status = status.max(serve_one(rt, &request, one, input, out, &mut once)?);
     }
     Ok(status)
 }

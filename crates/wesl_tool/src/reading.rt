@@ -3,7 +3,8 @@
 use std::alloc::AllocError;
 use std::rt::Files;
 use wesl_command::Request;
-use wesl_diagnostics::did_you_mean;
+use wesl_diagnostics::{VirtualResolver, did_you_mean};
+use wesl_faults::ModuleTexts;
 use wesl_folders::{FileProblem, Folders, ReadProblem, Sources};
 use wgsl_path::{ModulePath, ModulePathParseError};
 
@@ -15,6 +16,27 @@ pub enum Read {
     Added,
     /// Its file was not read, and why.
     Refused(String),
+}
+
+/// Modules whose files are read as they are fetched.
+#[derive(Drop)]
+pub struct FolderTexts<'a, R> {
+    pub rt: &'a R,
+    pub folders: &'a Folders,
+    pub sources: &'a mut Sources,
+}
+
+impl<R: Files + AllocGlobal> ModuleTexts for FolderTexts<'_, R> {
+    fn fetch(&mut self, path: &ModulePath) -> Result<(), AllocError> {
+        match self.sources.read(self.rt, self.folders, path) {
+            Err(problem) if problem.problem == FileProblem::OutOfMemory => Err(AllocError),
+            _ => Ok(()),
+        }
+    }
+
+    fn resolver(&mut self) -> &mut VirtualResolver {
+        &mut self.sources.resolver
+    }
 }
 
 /// The name of the package that a path begins with.

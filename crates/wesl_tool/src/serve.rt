@@ -5,16 +5,22 @@ use crate::asked::{Asked, is_checked_whole};
 use crate::failure::{Failure, failed, misused};
 use crate::notes::write_notes;
 use crate::outputs::{check_outputs, write_depfile, write_outputs};
+use crate::reading::{FolderTexts, Read, read_missing};
+use crate::refusal::Refusal;
 use crate::written::{write_error, write_failure, write_unprinted};
 use std::alloc::{AllocError, Global};
 use std::io;
-use std::io::{Read, Write};
+use std::io::Write;
 use std::rt::Files;
-use wesl_command::{Request, STANDARD_INPUT};
+use wesl_command::{Request, STANDARD_INPUT, Verb};
 use wesl_diagnostics::Mode;
+use wesl_faults::check_all;
 use wesl_folders::{Folders, Root, Selection, Source, Sources, read_input, read_text};
 use wgsl_base::{Items, Text};
 use wgsl_path::{ModulePath, PathOrigin};
+
+/// How many faults a check tells at most.
+const MOST_FAULTS: usize = 20;
 
 /// The name that messages give standard input.
 const SHOWN_INPUT: &str = "<stdin>";
@@ -50,7 +56,7 @@ fn folders_of<'a, R: Files + AllocGlobal>(
 }
 
 /// The root, read.
-fn read_root<'a, R: Files + AllocGlobal, I: Read>(
+fn read_root<'a, R: Files + AllocGlobal, I: io::Read>(
     rt: &R,
     request: &Request<'a>,
     path: &ModulePath,
@@ -88,7 +94,7 @@ fn root_of<'a>(alloc: Global, request: &Request<'a>) -> Result<Root, Failure<'a>
 }
 
 /// Reads what a request names, but for the modules that its root asks for.
-fn begin<'a, R: Files + AllocGlobal, I: Read>(
+fn begin<'a, R: Files + AllocGlobal, I: io::Read>(
     rt: &R,
     request: &Request<'a>,
     selection: Option<&Selection>,
@@ -155,6 +161,53 @@ fn answer_in_modes<R: Files + AllocGlobal>(
     answer_reading(rt, request, asked, folders, sources)
 }
 
+fn text_of(reason: &Option<String>) -> Option<&str> {
+    match reason {
+        Some(reason) => Some(reason.as_str()),
+        None => None,
+    }
+}
+
+/// Writes what a check refuses modules for behind the first fault, which is told already.
+fn write_others<R: Files + AllocGlobal, E: Write>(
+    rt: &R,
+    request: &Request<'_>,
+    begun: &mut Begun,
+    errors: &mut E,
+) -> io::Result<()> {
+    let (asked, folders) = (&begun.asked, &begun.folders);
+    let sources = &mut begun.sources;
+    let mut texts = FolderTexts {
+        rt,
+        folders,
+        sources,
+    };
+    let (root, options) = (&asked.root, &asked.options);
+    let mut is_first = true;
+    for refusal in check_all(rt.alloc(), &mut texts, root, options, MOST_FAULTS)? {
+        if is_first {
+            is_first = false;
+            continue;
+        }
+        let refusal = Refusal::from(refusal);
+        let missing = refusal.missing_module();
+        let reason = match read_missing(rt, folders, &mut begun.sources, request, missing)? {
+            Read::Refused(reason) => Some(reason),
+            Read::Nothing | Read::Added => None,
+        };
+        let reason = text_of(&reason);
+        write_error(
+            rt.alloc(),
+            request,
+            &refusal,
+            &begun.sources,
+            reason,
+            errors,
+        )?;
+    }
+    Ok(())
+}
+
 /// Makes the call, and writes the text or the error. The depfile is written in both cases, as C compilers do; where the call is refused,
 /// that alone is told.
 fn finish<R: Files + AllocGlobal, W: Write, E: Write>(
@@ -179,18 +232,19 @@ fn finish<R: Files + AllocGlobal, W: Write, E: Write>(
             Err(failure) => write_failure(rt.alloc(), request, failure, errors),
         },
         Err(refusal) => {
-            let reason = match &reason {
-                Some(reason) => Some(reason.as_str()),
-                None => None,
-            };
-            write_error(rt.alloc(), request, refusal, sources, reason, errors)
+            let reason = text_of(&reason);
+            let status = write_error(rt.alloc(), request, refusal, sources, reason, errors)?;
+            if request.verb == Verb::Check {
+                write_others(rt, request, begun, errors)?;
+            }
+            Ok(status)
         }
     }
 }
 
 /// Does what a request asks for, over the files of its package that are modules, and gives the status of the program: 0 where there is a text, 1 for an error in the modules, 2 where
 /// a file or option is wrong.
-pub fn serve<R: Files + AllocGlobal, I: Read, W: Write, E: Write>(
+pub fn serve<R: Files + AllocGlobal, I: io::Read, W: Write, E: Write>(
     rt: &R,
     request: &Request<'_>,
     selection: Option<&Selection>,

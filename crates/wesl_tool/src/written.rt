@@ -11,7 +11,7 @@ use wesl_diagnostics::{
 };
 use wesl_folders::Sources;
 
-/// Writes an error in the form that is asked for: its fields, the modules that were read, and why a file was not.
+/// Writes an error by one call, in the form that is asked for: its fields, the modules that were read, and why a file was not.
 fn write_told<'a, E: Write>(
     alloc: Global,
     request: &Request<'_>,
@@ -29,7 +29,11 @@ fn write_told<'a, E: Write>(
         reason,
     };
     match request.format {
-        Format::Line => told.write_line(errors),
+        Format::Line => {
+            let mut line = Vec::new(alloc);
+            told.write_line(&mut line)?;
+            errors.write_all(line.as_slice())
+        }
         Format::Json => errors.write_all(report_json(alloc, &report)?.as_str().as_bytes()),
         Format::Text => errors.write_all(report_text(alloc, &report)?.as_str().as_bytes()),
     }
@@ -165,7 +169,7 @@ pub fn write_out_of_memory<E: Write>(format: Format, errors: &mut E) -> io::Resu
         Format::Text => b"error: out of memory\n".as_slice(),
         Format::Line => b"error: OutOfMemory - - - -\n".as_slice(),
         Format::Json =>
-            b"{\"kind\":\"OutOfMemory\",\"module\":null,\"declaration\":null,\"subject\":null,\"message\":\"out of memory\",\"file\":null,\"reason\":null}\n".as_slice(),
+            b"{\"kind\":\"OutOfMemory\",\"severity\":\"error\",\"module\":null,\"declaration\":null,\"subject\":null,\"message\":\"out of memory\",\"file\":null,\"reason\":null}\n".as_slice(),
     })?;
     Ok(1)
 }

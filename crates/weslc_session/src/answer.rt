@@ -1,13 +1,13 @@
 //! The lines of answers, in JSON.
 
 use crate::command::CommandError;
-use crate::place::push_place;
+use crate::place::{push_place, push_related};
 use std::alloc::{AllocError, Global};
 use wesl_diagnostics::{
-    BundleError, ErrorLine, SourceFile, declared_names, told_compile_error, told_compile_refusal,
+    BundleError, ErrorLine, Finding, Report, SourceFile, declared_names, finding_of,
 };
 use weslc_json::push_json;
-use weslc_workspace::{BasicSourceMap, CompileError, CompileRefusal, SourceMap};
+use weslc_workspace::{BasicSourceMap, SourceMap};
 use wgsl_base::Text;
 
 /// What is answered where memory is refused. It needs none.
@@ -84,45 +84,42 @@ fn push_member(json: &mut String, key: &str, value: Option<&str>) -> Result<(), 
     Ok(())
 }
 
-/// The refusal of a compilation.
-pub fn refusal_answer(
-    alloc: Global,
-    refusal: &CompileRefusal,
-    files: &[SourceFile<'_>],
-) -> Result<String, AllocError> {
-    error_answer(alloc, &told_compile_refusal(alloc, refusal)?.line(), files)
+/// An error of a command, with the modules as errors are placed in them.
+pub fn report_of<'a>(
+    line: ErrorLine<'a>,
+    command: &'a str,
+    sources: &'a [SourceFile<'a>],
+) -> Report<'a> {
+    Report {
+        line,
+        command,
+        message: None,
+        sources,
+        reason: None,
+    }
 }
 
-/// The refusal of linking.
-pub fn link_answer(
-    alloc: Global,
-    error: &CompileError,
-    files: &[SourceFile<'_>],
-) -> Result<String, AllocError> {
-    error_answer(alloc, &told_compile_error(alloc, error)?.line(), files)
-}
-
-/// An error.
-pub fn error_answer(
-    alloc: Global,
-    line: &ErrorLine<'_>,
-    files: &[SourceFile<'_>],
-) -> Result<String, AllocError> {
+/// An error of modules.
+pub fn error_answer(alloc: Global, report: &Report<'_>) -> Result<String, AllocError> {
     let mut json = String::from_str(alloc, "{\"error\":")?;
-    let error = error_json(alloc, line, files)?;
+    let error = error_json(alloc, report)?;
     json.push_str(error.as_str())?;
     json.push_str("}\n")?;
     Ok(json)
 }
 
-/// The fields of an error. One that is missing is left out.
-pub fn error_json(
-    alloc: Global,
-    line: &ErrorLine<'_>,
-    files: &[SourceFile<'_>],
-) -> Result<String, AllocError> {
+/// The fields of an error of modules, and what is told of it. What is missing is left out.
+pub fn error_json(alloc: Global, report: &Report<'_>) -> Result<String, AllocError> {
+    let Finding {
+        message,
+        help,
+        place,
+        related,
+    } = finding_of(alloc, report)?;
+    let line = report.line;
     let mut json = String::from_str(alloc, "{\"kind\":")?;
     push_json(&mut json, line.kind)?;
+    push_member(&mut json, "severity", Some("error"))?;
     push_member(&mut json, "module", line.module)?;
     push_member(&mut json, "declaration", line.declaration)?;
     if let Some(span) = line.span {
@@ -131,7 +128,12 @@ pub fn error_json(
         json.push_str(span.as_str())?;
     }
     push_member(&mut json, "subject", line.subject)?;
-    push_place(alloc, &mut json, line, files)?;
+    push_member(&mut json, "message", Some(message.as_str()))?;
+    push_place(&mut json, place)?;
+    push_related(&mut json, related.as_slice())?;
+    if let Some(help) = help {
+        push_member(&mut json, "help", Some(help.as_str()))?;
+    }
     json.push('}')?;
     Ok(json)
 }
@@ -158,15 +160,8 @@ pub fn command_answer(alloc: Global, error: &CommandError) -> Result<String, All
 }
 
 fn subject_answer(alloc: Global, subject: Option<&str>) -> Result<String, AllocError> {
-    error_answer(
-        alloc,
-        &ErrorLine {
-            kind: "Command",
-            module: None,
-            declaration: None,
-            span: None,
-            subject,
-        },
-        &[],
-    )
+    let mut json = String::from_str(alloc, "{\"error\":{\"kind\":\"Command\"")?;
+    push_member(&mut json, "subject", subject)?;
+    json.push_str("}}\n")?;
+    Ok(json)
 }

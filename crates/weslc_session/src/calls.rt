@@ -1,6 +1,6 @@
 //! Calls beside the workspace, over the same texts.
 
-use crate::answer::{error_answer, error_json};
+use crate::answer::{error_answer, error_json, report_of};
 use crate::command::Handed;
 use crate::texts::Texts;
 use std::alloc::{AllocError, Global};
@@ -9,12 +9,15 @@ use wesl_diagnostics::{
     ErrorLine, Mode, Options, RunRefusal, ServeError, SourceFile, VirtualResolver, eval,
     precompile, run, told_refusal,
 };
-use wesl_folders::check;
+use wesl_faults::check_all;
 use wesl_tool::Refusal;
 use weslc_builds::{result_json, value_json};
 use weslc_json::push_json;
 use wgsl_base::Items;
 use wgsl_path::ModulePath;
+
+/// How many faults of a module as a root are told at most.
+const MOST_FAULTS: usize = 20;
 
 /// What a call works on.
 #[derive(Drop)]
@@ -32,17 +35,18 @@ fn refused(refusal: RunRefusal) -> ServeError {
     }
 }
 
-/// The refusal of a call over a root.
+/// The refusal of a command's call over a root.
 fn refusal_of(
     alloc: Global,
     room: &Room,
+    command: &str,
     root: &ModulePath,
     refusal: &ServeError,
 ) -> Result<String, AllocError> {
     let printed = root.to_string(alloc)?;
     let files = room.texts.files(printed.as_str())?;
     let told = told_refusal(alloc, refusal)?;
-    error_answer(alloc, &told.line(), files.as_slice())
+    error_answer(alloc, &report_of(told.line(), command, files.as_slice()))
 }
 
 /// The refusal of an expression, which is a text of no module.
@@ -61,7 +65,7 @@ fn refusal_of_expression(
     })?;
     files.extend_from_slice(room.texts.files(printed.as_str())?.as_slice())?;
     let told = told_refusal(alloc, refusal)?;
-    error_answer(alloc, &told.line(), files.as_slice())
+    error_answer(alloc, &report_of(told.line(), "eval", files.as_slice()))
 }
 
 /// A text, as an answer.
@@ -82,7 +86,7 @@ fn missing_answer(alloc: Global, path: &ModulePath) -> Result<String, AllocError
         span: None,
         subject: None,
     };
-    error_answer(alloc, &line, &[])
+    error_answer(alloc, &report_of(line, "precompile", &[]))
 }
 
 /// What comes of fixing flags in a module.
@@ -97,7 +101,7 @@ pub fn precompiled(alloc: Global, room: &Room, path: &ModulePath) -> Result<Stri
     };
     match made {
         Ok(text) => text_answer(alloc, text.as_str()),
-        Err(error) => refusal_of(alloc, room, path, &error),
+        Err(error) => refusal_of(alloc, room, "precompile", path, &error),
     }
 }
 
@@ -119,7 +123,7 @@ pub fn ran(alloc: Global, room: &Room, entry: &str, handed: &Handed) -> Result<S
             Ok(json) => Ok(json),
             Err(_) => Err(AllocError),
         },
-        Err(refusal) => refusal_of(alloc, room, &room.root, &refused(refusal)),
+        Err(refusal) => refusal_of(alloc, room, "run", &room.root, &refused(refusal)),
     }
 }
 
@@ -140,27 +144,40 @@ pub fn evaluated(alloc: Global, room: &Room, expression: &str) -> Result<String,
     }
 }
 
-/// The error of a module as a root, all of whose declarations are checked, as JSON. What is to be kept of the session's root says nothing of it.
-fn error_of(
+/// What is told of an error of a module that is checked, as JSON.
+fn told_error(
     alloc: Global,
-    room: &mut Room,
+    refusal: &Refusal,
+    resolver: &VirtualResolver,
+    files: &[SourceFile<'_>],
+) -> Result<String, AllocError> {
+    let told = refusal.told(alloc, resolver)?;
+    let message = refusal.message(alloc)?;
+    let mut error = report_of(told.line(), "check", files);
+    if let Some(message) = &message {
+        error.message = Some(message.as_str());
+    }
+    error_json(alloc, &error)
+}
+
+/// Adds the errors of a module as a root, as JSON, but for those that are there.
+fn add_errors(
+    alloc: Global,
+    room: &Room,
     resolver: &mut VirtualResolver,
     root: &ModulePath,
-) -> Result<Option<String>, AllocError> {
-    let mode = room.options.mode;
-    let keep = mem::replace(&mut room.options.keep, Items::new(alloc));
-    room.options.mode = Mode::Whole;
-    let checked = check(alloc, resolver, root, &room.options);
-    room.options.mode = mode;
-    drop(mem::replace(&mut room.options.keep, keep));
-    let Err(refusal) = checked else {
-        return Ok(None);
-    };
-    let refusal = Refusal::from(refusal);
+    errors: &mut Vec<String>,
+) -> Result<(), AllocError> {
     let printed = root.to_string(alloc)?;
     let files = room.texts.files(printed.as_str())?;
-    let told = refusal.told(alloc, resolver)?;
-    Ok(Some(error_json(alloc, &told.line(), files.as_slice())?))
+    for refusal in check_all(alloc, resolver, root, &room.options, MOST_FAULTS)? {
+        let refusal = Refusal::from(refusal);
+        let error = told_error(alloc, &refusal, resolver, files.as_slice())?;
+        if !is_among(error.as_str(), errors.as_slice()) {
+            errors.push(error)?;
+        }
+    }
+    Ok(())
 }
 
 /// Whether one of these is equal to a text.
@@ -174,16 +191,25 @@ fn is_among(text: &str, texts: &[String]) -> bool {
 }
 
 /// The errors of all modules, each as a root, and each once.
-pub fn checked(alloc: Global, room: &mut Room) -> Result<String, AllocError> {
+fn errors_of(alloc: Global, room: &Room) -> Result<Vec<String>, AllocError> {
     let mut resolver = room.texts.resolver()?;
     let mut errors = Vec::new(alloc);
     for path in room.texts.paths()?.as_slice() {
-        if let Some(error) = error_of(alloc, room, &mut resolver, path)? {
-            if !is_among(error.as_str(), errors.as_slice()) {
-                errors.push(error)?;
-            }
-        }
+        add_errors(alloc, room, &mut resolver, path, &mut errors)?;
     }
+    Ok(errors)
+}
+
+/// The errors of all modules, of each as a root, all of whose declarations are checked. What is to be kept of the session's root says
+/// nothing of them.
+pub fn checked(alloc: Global, room: &mut Room) -> Result<String, AllocError> {
+    let mode = room.options.mode;
+    let keep = mem::replace(&mut room.options.keep, Items::new(alloc));
+    room.options.mode = Mode::Whole;
+    let errors = errors_of(alloc, room);
+    room.options.mode = mode;
+    drop(mem::replace(&mut room.options.keep, keep));
+    let errors = errors?;
     let mut json = String::from_str(alloc, "{\"errors\":[")?;
     let mut before = "";
     for error in errors.as_slice() {

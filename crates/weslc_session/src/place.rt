@@ -1,48 +1,48 @@
 //! Where errors are, as editors count.
 
-use std::alloc::{AllocError, Global};
-use wesl_diagnostics::{ErrorLine, SourceFile, error_place};
+use std::alloc::AllocError;
+use wesl_diagnostics::{Related, SourceFile, push_range};
 use weslc_json::push_json;
-use weslc_source_map::{Place, places_of};
 use wgsl_path::Span;
 
-fn push_position(json: &mut String, place: Place) -> Result<(), AllocError> {
-    let (line, column) = (place.line, place.column);
-    let alloc = *json.allocator();
-    let text = format!(in alloc; "{{\"line\":{line},\"character\":{column}}}")?;
-    json.push_str(text.as_str())
-}
-
-fn push_range(json: &mut String, text: &str, span: Span) -> Result<(), AllocError> {
-    let alloc = *json.allocator();
-    let places = places_of(alloc, text, &[span.start, span.end])?;
-    let (Some(start), Some(end)) = (places.get(0), places.get(1)) else {
-        return json.push_str("null");
-    };
-    json.push_str("{\"start\":")?;
-    push_position(json, *start)?;
-    json.push_str(",\"end\":")?;
-    push_position(json, *end)?;
-    json.push('}')
-}
-
-/// Adds where an error is behind its other members, if it is somewhere: the module, null for a text of none, and the range in it. Lines and
-/// characters count from 0, characters in units of UTF-16.
-pub fn push_place(
-    alloc: Global,
-    json: &mut String,
-    line: &ErrorLine<'_>,
-    files: &[SourceFile<'_>],
-) -> Result<(), AllocError> {
-    let Some((file, span)) = error_place(alloc, line, files)? else {
-        return Ok(());
-    };
-    json.push_str(",\"place\":{\"module\":")?;
-    match file.path {
+/// Adds the module of a place, null for a text of none, and the range in it, as members.
+fn push_members(json: &mut String, source: SourceFile<'_>, span: Span) -> Result<(), AllocError> {
+    json.push_str("\"module\":")?;
+    match source.path {
         "" => json.push_str("null")?,
         path => push_json(json, path)?,
     }
     json.push_str(",\"range\":")?;
-    push_range(json, file.text, span)?;
+    push_range(json, source.text, span)
+}
+
+/// Adds where an error is behind its other members, if it is somewhere.
+pub fn push_place(
+    json: &mut String,
+    place: Option<(SourceFile<'_>, Span)>,
+) -> Result<(), AllocError> {
+    let Some((source, span)) = place else {
+        return Ok(());
+    };
+    json.push_str(",\"place\":{")?;
+    push_members(json, source, span)?;
     json.push('}')
+}
+
+/// Adds other places that an error has to do with behind its other members, where there are any.
+pub fn push_related(json: &mut String, related: &[Related<'_>]) -> Result<(), AllocError> {
+    if related.is_empty() {
+        return Ok(());
+    }
+    let mut before = ",\"related\":[";
+    for place in related {
+        json.push_str(before)?;
+        json.push_str("{\"message\":")?;
+        push_json(json, place.message.as_str())?;
+        json.push(',')?;
+        push_members(json, place.source, place.span)?;
+        json.push('}')?;
+        before = ",";
+    }
+    json.push(']')
 }

@@ -1,8 +1,8 @@
 //! The session: a workspace that lines of commands edit and ask.
 
 use crate::answer::{
-    Answer, DONE, KEPT, OUT_OF_MEMORY, REMOVED, TOO_LONG, command_answer, link_answer,
-    refusal_answer, text_answer,
+    Answer, DONE, KEPT, OUT_OF_MEMORY, REMOVED, TOO_LONG, command_answer, error_answer, report_of,
+    text_answer,
 };
 use crate::calls::{Room, checked, evaluated, precompiled, ran};
 use crate::command::{BothOptions, Command};
@@ -12,17 +12,35 @@ use crate::texts::{HeldText, Texts};
 use std::alloc::{AllocError, Global};
 use std::io::{BufRead, Write};
 use std::{io, mem};
+use wesl_diagnostics::{Told, told_compile_error, told_compile_refusal};
 use weslc_workspace::{CompileError, Compiled, Feature, Linked, Options, Workspace};
 use wgsl_base::{CloneIn, Items, Text};
 use wgsl_path::{ModulePath, PathOrigin};
 
-/// A workspace, what calls beside it work on, and the line that answers `link`, as long as nothing is edited.
+/// A workspace, what calls beside it work on, and the line that answers `link`, as long as nothing is edited that it rests on.
 #[derive(Drop)]
 struct Session {
     alloc: Global,
     workspace: Workspace,
     room: Room,
     linked: Option<String>,
+}
+
+/// What the workspace makes of modules.
+#[derive(Clone, Copy)]
+enum Making {
+    Link,
+    Compile,
+}
+
+impl Making {
+    /// The command that asks for it.
+    fn command(self) -> &'static str {
+        match self {
+            Making::Link => "link",
+            Making::Compile => "compile",
+        }
+    }
 }
 
 /// The root of the first workspace.
@@ -155,13 +173,20 @@ impl Session {
         Ok(Answer::Ready(DONE))
     }
 
+    /// Forgets the answer of `link` where it asked for the module at a printed path.
+    fn forget_link_of(&mut self, printed: &str) {
+        if self.workspace.is_asked_to_link(printed) {
+            self.linked = None;
+        }
+    }
+
     fn set_module(&mut self, path: ModulePath, text: Text) -> Result<Answer, AllocError> {
         let printed = path.to_string(self.alloc)?;
         let held = HeldText::new(self.alloc, &path, &text)?;
         self.room.texts.reserve()?;
         self.workspace.set_module(&path, text)?;
+        self.forget_link_of(printed.as_str());
         self.room.texts.put(printed, held);
-        self.linked = None;
         Ok(Answer::Ready(DONE))
     }
 
@@ -170,7 +195,7 @@ impl Session {
         let is_removed = self.workspace.remove_module(&path);
         self.room.texts.remove(printed.as_str());
         if is_removed {
-            self.linked = None;
+            self.forget_link_of(printed.as_str());
         }
         Ok(Answer::Ready(if is_removed { REMOVED } else { KEPT }))
     }
@@ -203,12 +228,14 @@ impl Session {
 
     fn compile(&mut self) -> Result<Answer, AllocError> {
         let alloc = self.alloc;
-        let root = self.room.root.to_string(alloc)?;
-        let files = self.room.texts.files(root.as_str())?;
         let compiled: &Compiled = self.workspace.compile();
-        let line = match compiled {
-            Ok((text, map)) => text_answer(alloc, text.as_str(), map)?,
-            Err(refusal) => refusal_answer(alloc, refusal, files.as_slice())?,
+        let told = match compiled {
+            Ok((text, map)) => Ok(text_answer(alloc, text.as_str(), map)?),
+            Err(refusal) => Err(told_compile_refusal(alloc, refusal)?),
+        };
+        let line = match told {
+            Ok(line) => line,
+            Err(told) => self.refusal_line(&told, Making::Compile)?,
         };
         Ok(Answer::Made(line))
     }
@@ -219,15 +246,40 @@ impl Session {
             return Ok(Answer::Linked);
         }
         let alloc = self.alloc;
-        let root = self.room.root.to_string(alloc)?;
-        let files = self.room.texts.files(root.as_str())?;
         let linked: &Linked = self.workspace.link();
-        let line = match linked {
-            Ok((text, map)) => text_answer(alloc, text.as_str(), map)?,
+        let told = match linked {
+            Ok((text, map)) => Ok(text_answer(alloc, text.as_str(), map)?),
             Err(CompileError::OutOfMemory) => return Err(AllocError),
-            Err(error) => link_answer(alloc, error, files.as_slice())?,
+            Err(error) => Err(told_compile_error(alloc, error)?),
+        };
+        let line = match told {
+            Ok(line) => line,
+            Err(told) => self.refusal_line(&told, Making::Link)?,
         };
         self.linked = Some(line);
         Ok(Answer::Linked)
+    }
+
+    /// Whether linking or compiling asked for the module at a printed path.
+    fn is_asked(&self, making: Making, path: &str) -> bool {
+        match making {
+            Making::Link => self.workspace.is_asked_to_link(path),
+            Making::Compile => self.workspace.is_asked_to_compile(path),
+        }
+    }
+
+    /// The refusal of linking or compiling, which is placed in a module that was asked for.
+    fn refusal_line(&self, told: &Told, making: Making) -> Result<String, AllocError> {
+        let root = self.room.root.to_string(self.alloc)?;
+        let mut asked = Vec::new(self.alloc);
+        for file in self.room.texts.files(root.as_str())?.as_slice() {
+            if self.is_asked(making, file.path) {
+                asked.push(*file)?;
+            }
+        }
+        error_answer(
+            self.alloc,
+            &report_of(told.line(), making.command(), asked.as_slice()),
+        )
     }
 }

@@ -24,5 +24,7 @@ pub struct Workspace {
     pub(crate) runs: u64,
     pub(crate) compiled: HeldCompiled,
     pub(crate) linked: HeldLinked,
+    /// The printed paths that the last call of `link` asked for, found or not.
+    pub(crate) asked_to_link: IndexSet<String>,
     ghost kept: { is_stale ≡ false → ∥ IsKept modules root options asked compiled.answer ∥₁ },
 }

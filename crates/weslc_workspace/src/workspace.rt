@@ -15,6 +15,7 @@ use wgsl_path::ModulePath;
 impl Workspace {
     ghost use Rattle.std.specs.Prelude.{◌≡◌, ℕ, List, Some, None, OnOk, OnErr, true, false, if◌then◌else◌};
     ghost use Rattle.std.specs.Option.{is_some};
+    ghost use Rattle.std.specs.HashSet.{contains_text};
     ghost use Rattle.wgsl_path.specs.Paths.{path_text};
     ghost use Rattle.weslc_workspace.specs.Held.{text_at, IsSet, Counts};
     ghost use Rattle.weslc_workspace.specs.Content.{IsSameContent, one_more, rises, asks};
@@ -45,6 +46,7 @@ impl Workspace {
             runs: 0,
             compiled: HeldCompiled::out_of_memory(),
             linked: HeldLinked::out_of_memory(),
+            asked_to_link: IndexSet::new(alloc),
         }
     }
 
@@ -145,6 +147,20 @@ impl Workspace {
         &self.linked.answer
     }
 
+    /// Whether the last compilation that was finished asked for the module at a printed path, found or not.
+    pub fn is_asked_to_compile(&self, path: &str) -> bool
+        ensures { result ≡ asks self.now path.now }
+    {
+        self.asked.contains(path)
+    }
+
+    /// Whether the last call of `link` asked for the module at a printed path, found or not.
+    pub fn is_asked_to_link(&self, path: &str) -> bool
+        ensures { result ≡ contains_text self.now.asked_to_link path.now }
+    {
+        self.asked_to_link.contains(path)
+    }
+
     /// How many texts were parsed; it stops at the largest number.
     pub fn parses(&self) -> u64
         ensures { result ≡ self.now.modules.parses }
@@ -174,6 +190,7 @@ impl Workspace {
         let (asked, fresh) = asking.into_parts();
         let is_refused = self.modules.settle(&asked, fresh).is_err();
         self.linked = HeldLinked::new(answer, is_refused);
+        self.asked_to_link = asked;
     }
 
     /// Compiles where something was edited that the last answer rests on.

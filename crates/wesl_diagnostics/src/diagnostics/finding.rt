@@ -1,36 +1,34 @@
-//! An error as an editor shows it.
+//! What is told of an error.
 
 use crate::diagnostics::findings::Findings;
-use crate::diagnostics::hint::related_place;
-use crate::diagnostics::report::{Report, push_message};
+use crate::diagnostics::related::Related;
+use crate::diagnostics::report::{Report, message_of};
 use std::alloc::{AllocError, Global};
 use wgsl_path::Span;
 use wgsl_places::SourceFile;
 
-/// What is told of an error, what was meant, where it is, and where else to look.
+/// What is told of an error beside its fields: what is wrong, what was meant, where it is if that is known (the module, and the part of its
+/// text), and the places that it has to do with too.
 #[derive(Debug, Drop)]
 pub struct Finding<'a> {
     pub message: String,
     pub help: Option<String>,
     pub place: Option<(SourceFile<'a>, Span)>,
-    /// Where what the error speaks of is declared, or was declared first.
-    pub related: Option<(SourceFile<'a>, Span)>,
+    pub related: Vec<Related<'a>>,
 }
 
-/// What is told of an error of modules.
+/// What is told of an error of modules. Only memory can fail.
 pub fn finding_of<'a>(alloc: Global, report: &Report<'a>) -> Result<Finding<'a>, AllocError> {
-    let findings = Findings::of(alloc, &report.line, report.sources)?;
-    let mut message = String::new(alloc);
-    push_message(&mut message, report, &findings)?;
-    let help = match findings.help() {
-        Some(help) => Some(String::from_str(alloc, help)?),
-        None => None,
-    };
-    let place = findings.place;
-    Ok(Finding {
+    let Findings {
         message,
+        place,
+        related,
+        help,
+    } = Findings::of(alloc, &report.line, report.sources)?;
+    Ok(Finding {
+        message: message_of(alloc, report, message)?,
         help,
         place,
-        related: related_place(alloc, &report.line, report.sources, place)?,
+        related,
     })
 }

@@ -2,18 +2,20 @@
 
 use crate::diagnostics::error_line::ErrorLine;
 use crate::diagnostics::hint::hint_of;
-use crate::diagnostics::place::{find_place, source_at};
+use crate::diagnostics::place::{Place, find_place, source_at};
+use crate::diagnostics::related::{Related, related_of, second_place};
 use std::alloc::{AllocError, Global};
 use wgsl_expected::{Explained, Whole, explain};
-use wgsl_path::Span;
 use wgsl_places::SourceFile;
 
-/// What is found of an error: what is told of one of syntax, its place, and what was meant.
+/// What is found of an error: a sentence where more is found than its kind says, its place and others that it has to do with, and what was
+/// meant.
 #[derive(Debug, Drop)]
 pub(crate) struct Findings<'a> {
-    explained: Option<Explained>,
-    pub place: Option<(SourceFile<'a>, Span)>,
-    hint: Option<String>,
+    pub message: Option<String>,
+    pub place: Place<'a>,
+    pub related: Vec<Related<'a>>,
+    pub help: Option<String>,
 }
 
 /// What the text of an error of syntax is read as, and its kind in that.
@@ -51,51 +53,25 @@ impl<'a> Findings<'a> {
         sources: &[SourceFile<'a>],
     ) -> Result<Findings<'a>, AllocError> {
         if let Some((source, explained)) = explained_of(alloc, line, sources)? {
-            let place = Some((source, explained.span));
+            let Explained {
+                message,
+                help,
+                span,
+            } = explained;
             return Ok(Findings {
-                explained: Some(explained),
-                place,
-                hint: None,
+                message: Some(message),
+                place: Some((source, span)),
+                related: Vec::new(alloc),
+                help,
             });
         }
         let place = find_place(alloc, line, sources)?;
+        let second = second_place(alloc, line, sources, place)?;
         Ok(Findings {
-            explained: None,
+            message: None,
             place,
-            hint: hint_of(alloc, line, sources, place)?,
+            related: related_of(alloc, line, sources, second)?,
+            help: hint_of(alloc, line, sources, place, second)?,
         })
-    }
-
-    /// What is wrong, where more is found than the kind says.
-    pub fn message(&self) -> Option<&str> {
-        match &self.explained {
-            Some(explained) => Some(explained.message.as_str()),
-            None => None,
-        }
-    }
-
-    /// What was meant.
-    pub fn help(&self) -> Option<&str> {
-        let help = match &self.explained {
-            Some(explained) => &explained.help,
-            None => &self.hint,
-        };
-        match help {
-            Some(help) => Some(help.as_str()),
-            None => None,
-        }
-    }
-}
-
-/// Where an error is that is shown: the module, and the part of its text. Of the modules that were read the first is the root. Only memory
-/// can fail.
-pub fn error_place<'a>(
-    alloc: Global,
-    line: &ErrorLine<'_>,
-    sources: &[SourceFile<'a>],
-) -> Result<Option<(SourceFile<'a>, Span)>, AllocError> {
-    match explained_of(alloc, line, sources)? {
-        Some((source, explained)) => Ok(Some((source, explained.span))),
-        None => find_place(alloc, line, sources),
     }
 }

@@ -1,17 +1,14 @@
 //! What was meant by a name, and where else an error is.
 
 use crate::diagnostics::error_line::ErrorLine;
-use crate::diagnostics::place::{parameters_of, source_at};
+use crate::diagnostics::place::{Place, parameters_of, source_at};
 use std::alloc::{AllocError, Global};
 use wgsl_expected::{
     ATTRIBUTES, EXTENSIONS, did_you_mean, member_names, module_names, names_before, own_names,
 };
 use wgsl_parse::Snippet;
 use wgsl_path::Span;
-use wgsl_places::{Seek, SourceFile, find_name, ring};
-
-/// A place that is shown, and the module that has it.
-pub(crate) type Place<'a> = Option<(SourceFile<'a>, Span)>;
+use wgsl_places::{SourceFile, ring};
 
 /// The names that a place may speak of. An expression beside the modules, which has no path, speaks of those of the root behind it.
 fn names_at<'a>(
@@ -78,67 +75,6 @@ fn siblings_of<'a>(
     Ok(names)
 }
 
-/// Where the first of two declarations of a name stands, of which the second is shown.
-fn first_declared<'a>(
-    alloc: Global,
-    place: Place<'a>,
-    name: &str,
-    seek: Seek,
-) -> Result<Place<'a>, AllocError> {
-    let Some((source, shown)) = place else {
-        return Ok(None);
-    };
-    match find_name(alloc, source.text, name, seek)? {
-        Some(span) if span.start < shown.start => Ok(Some((source, span))),
-        _ => Ok(None),
-    }
-}
-
-/// Where a function is declared.
-fn declared_at<'a>(
-    alloc: Global,
-    sources: &[SourceFile<'a>],
-    place: Place<'a>,
-    name: &str,
-) -> Result<Place<'a>, AllocError> {
-    for source in sources {
-        let declared = find_name(alloc, source.text, name, Seek::Declared)?;
-        let (Some(span), Some((_, shown))) = (declared, place) else {
-            continue;
-        };
-        if span != shown {
-            return Ok(Some((*source, span)));
-        }
-    }
-    Ok(None)
-}
-
-/// Where what an error speaks of is declared, or was declared first.
-pub(crate) fn related_place<'a>(
-    alloc: Global,
-    line: &ErrorLine<'_>,
-    sources: &[SourceFile<'a>],
-    place: Place<'a>,
-) -> Result<Place<'a>, AllocError> {
-    let Some(name) = line.subject else {
-        return Ok(None);
-    };
-    match line.kind {
-        "Import.DuplicateSymbol" => first_declared(alloc, place, name, Seek::InModule(0)),
-        "Validate.Duplicate" => first_declared(alloc, place, name, Seek::Inside(0)),
-        "Validate.ParamCount" => declared_at(alloc, sources, place, name),
-        _ => Ok(None),
-    }
-}
-
-/// A sentence that a name is declared at a place.
-fn sentence_at(alloc: Global, place: Place<'_>, name: &str) -> Result<Option<String>, AllocError> {
-    match place {
-        Some((source, span)) => placed(alloc, source, span, name),
-        None => Ok(None),
-    }
-}
-
 /// How a declaration needs itself, as "`a` -> `b` -> `a`", where other declarations of its module do so between.
 fn chain(
     alloc: Global,
@@ -165,28 +101,13 @@ fn chain(
     Ok(Some(out))
 }
 
-/// How many arguments a function takes, and where it is declared.
-fn counted_place<'a>(
-    alloc: Global,
-    sources: &[SourceFile<'a>],
-    place: Place<'a>,
-    name: &str,
-) -> Result<Option<String>, AllocError> {
-    let declared = sentence_at(alloc, declared_at(alloc, sources, place, name)?, name)?;
-    let (Some(declared), Some(count)) = (declared, parameters_of(alloc, sources, name)?) else {
-        return Ok(None);
-    };
-    let declared = declared.as_str();
-    Ok(Some(format!(in alloc; "{declared}; it takes {count}")?))
-}
-
 /// A sentence that a name is declared at a place.
 fn placed(
     alloc: Global,
     source: SourceFile<'_>,
     span: Span,
     name: &str,
-) -> Result<Option<String>, AllocError> {
+) -> Result<String, AllocError> {
     let snippet = Snippet {
         text: source.text,
         span,
@@ -194,7 +115,30 @@ fn placed(
     let written = snippet.to_string(alloc)?;
     let (place, _) = written.as_str().split_once('\n').unwrap_or(("", ""));
     let file = source.file;
-    Ok(Some(format!(in alloc; "`{name}` is declared in {file}, {place}")?))
+    format!(in alloc; "`{name}` is declared in {file}, {place}")
+}
+
+/// Where the declaration stands that an error of one name is about too, and how many arguments it takes if it is a function that is called
+/// with another number.
+fn declared_there(
+    alloc: Global,
+    line: &ErrorLine<'_>,
+    sources: &[SourceFile<'_>],
+    second: Place<'_>,
+    name: &str,
+) -> Result<Option<String>, AllocError> {
+    let Some((source, span)) = second else {
+        return Ok(None);
+    };
+    let declared = placed(alloc, source, span, name)?;
+    if line.kind != "Validate.ParamCount" {
+        return Ok(Some(declared));
+    }
+    let Some(count) = parameters_of(alloc, sources, name)? else {
+        return Ok(None);
+    };
+    let declared = declared.as_str();
+    Ok(Some(format!(in alloc; "{declared}; it takes {count}")?))
 }
 
 /// What was meant by a name, by the kind of an error, or where else its name stands.
@@ -203,6 +147,7 @@ pub(crate) fn hint_of<'a>(
     line: &ErrorLine<'_>,
     sources: &[SourceFile<'a>],
     place: Place<'a>,
+    second: Place<'a>,
 ) -> Result<Option<String>, AllocError> {
     if line.kind == "Resolve.ModuleNotFound" {
         let path = line.module.unwrap_or("");
@@ -214,14 +159,13 @@ pub(crate) fn hint_of<'a>(
         return Ok(None);
     };
     match line.kind {
-        "Import.DuplicateSymbol" | "Validate.Duplicate" => {
-            sentence_at(alloc, related_place(alloc, line, sources, place)?, name)
+        "Import.DuplicateSymbol" | "Validate.Duplicate" | "Validate.ParamCount" => {
+            declared_there(alloc, line, sources, second, name)
         }
         "Validate.Cycle" | "Eval.CyclicDecl" => {
             let name = line.declaration.unwrap_or(name);
             chain(alloc, sources, line.module, name)
         }
-        "Validate.ParamCount" => counted_place(alloc, sources, place, name),
         "Validate.UnknownAttribute" => did_you_mean(alloc, name, &ATTRIBUTES[..]),
         "Validate.UnknownExtension" => did_you_mean(alloc, name, &EXTENSIONS[..]),
         kind => {

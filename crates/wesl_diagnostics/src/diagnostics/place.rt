@@ -24,6 +24,9 @@ static SUMS: [Fixed; 2] = [Fixed::Plus, Fixed::PlusEqual];
 /// The operators that multiply.
 static PRODUCTS: [Fixed; 2] = [Fixed::Star, Fixed::TimesEqual];
 
+/// A place that is shown, and the module that has it.
+pub(crate) type Place<'a> = Option<(SourceFile<'a>, Span)>;
+
 /// The module at a path.
 pub(crate) fn source_at<'a>(
     sources: &[SourceFile<'a>],
@@ -130,6 +133,7 @@ fn find_within<'a>(
     let seek = match line.kind {
         "Import.DuplicateSymbol" => Seek::InModule(1),
         "Validate.Duplicate" => Seek::Inside(1),
+        "Validate.Cycle" | "Eval.CyclicDecl" => Seek::Declared,
         _ => Seek::First,
     };
     match find_by_kind(alloc, source.text, line)? {

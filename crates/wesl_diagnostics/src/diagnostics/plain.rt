@@ -12,7 +12,9 @@ pub fn plain_json(
 ) -> Result<String, AllocError> {
     let mut out = String::from_str(alloc, "{\"kind\":")?;
     push_json(&mut out, kind)?;
-    out.push_str(",\"module\":null,\"declaration\":null,\"subject\":null,\"message\":")?;
+    out.push_str(
+        ",\"severity\":\"error\",\"module\":null,\"declaration\":null,\"subject\":null,\"message\":",
+    )?;
     push_json(&mut out, message)?;
     out.push_str(",\"file\":")?;
     match file {

@@ -1,11 +1,10 @@
 //! An error as it is shown.
 
 use crate::diagnostics::error_line::ErrorLine;
-use crate::diagnostics::findings::Findings;
+use crate::diagnostics::finding::{Finding, finding_of};
 use crate::diagnostics::sentence::{Beside, advice_of, push_sentence, sentence_of};
 use crate::diagnostics::shown::shown_lines;
 use std::alloc::{AllocError, Global};
-use weslc_json::push_json;
 use wgsl_parse::Snippet;
 use wgsl_path::Span;
 use wgsl_places::SourceFile;
@@ -24,14 +23,14 @@ pub struct Report<'a> {
 
 /// A place as it is shown: its line and column, both counted from 1, as digits, and the line with marks below it.
 #[derive(Clone, Copy)]
-struct Shown<'a> {
-    line: &'a str,
-    column: &'a str,
+pub(crate) struct Shown<'a> {
+    pub(crate) line: &'a str,
+    pub(crate) column: &'a str,
     lines: &'a str,
 }
 
 /// Takes what a snippet is written as apart.
-fn read_snippet(written: &str) -> Option<Shown<'_>> {
+pub(crate) fn read_snippet(written: &str) -> Option<Shown<'_>> {
     let (place, lines) = written.strip_prefix("line ")?.split_once('\n')?;
     let (line, column) = place.split_once(", column ")?;
     Some(Shown {
@@ -41,12 +40,12 @@ fn read_snippet(written: &str) -> Option<Shown<'_>> {
     })
 }
 
-fn snippet_text(alloc: Global, text: &str, span: Span) -> Result<String, AllocError> {
+pub(crate) fn snippet_text(alloc: Global, text: &str, span: Span) -> Result<String, AllocError> {
     Snippet { text, span }.to_string(alloc)
 }
 
 /// The file of the module that an error names.
-fn file_of<'a>(report: &Report<'a>) -> Option<&'a str> {
+pub(crate) fn file_of<'a>(report: &Report<'a>) -> Option<&'a str> {
     let Some(path) = report.line.module else {
         return report.sources.first().map(|source| source.file);
     };
@@ -66,20 +65,22 @@ fn named<'a>(report: &Report<'a>, file: &'a str) -> Beside<'a> {
     }
 }
 
-/// Adds what is wrong.
-pub(crate) fn push_message(
-    out: &mut String,
+/// What is wrong, of which more may be found than the kind says.
+pub(crate) fn message_of(
+    alloc: Global,
     report: &Report<'_>,
-    findings: &Findings<'_>,
-) -> Result<(), AllocError> {
-    if let Some(message) = report.message {
-        return out.push_str(message);
+    found: Option<String>,
+) -> Result<String, AllocError> {
+    match (report.message, found) {
+        (Some(message), _) => String::from_str(alloc, message),
+        (None, Some(message)) => Ok(message),
+        (None, None) => {
+            let mut message = String::new(alloc);
+            let sentence = sentence_of(&report.line);
+            push_sentence(&mut message, sentence, &report.line, named(report, ""))?;
+            Ok(message)
+        }
     }
-    if let Some(message) = findings.message() {
-        return out.push_str(message);
-    }
-    let sentence = sentence_of(&report.line);
-    push_sentence(out, sentence, &report.line, named(report, ""))
 }
 
 /// Adds a line of help.
@@ -93,7 +94,7 @@ fn push_help_line(out: &mut String, help: &str) -> Result<(), AllocError> {
 fn push_help(
     out: &mut String,
     report: &Report<'_>,
-    findings: &Findings<'_>,
+    help: Option<String>,
 ) -> Result<(), AllocError> {
     if let Some(reason) = report.reason {
         push_help_line(out, reason)?;
@@ -106,8 +107,8 @@ fn push_help(
         push_sentence(out, advice, &report.line, named(report, file))?;
         out.push('\n')?;
     }
-    match findings.help() {
-        Some(help) => push_help_line(out, help),
+    match help {
+        Some(help) => push_help_line(out, help.as_str()),
         None => Ok(()),
     }
 }
@@ -131,20 +132,25 @@ fn push_place(out: &mut String, file: &str, written: &str) -> Result<(), AllocEr
 
 /// An error for people: a sentence with its kind, the place with its line and marks below it, and what to change.
 pub fn report_text(alloc: Global, report: &Report<'_>) -> Result<String, AllocError> {
-    let findings = Findings::of(alloc, &report.line, report.sources)?;
+    let Finding {
+        message,
+        help,
+        place,
+        related: _,
+    } = finding_of(alloc, report)?;
     let mut out = String::from_str(alloc, "error: ")?;
-    push_message(&mut out, report, &findings)?;
+    out.push_str(message.as_str())?;
     out.push_str(" (")?;
     out.push_str(report.line.kind)?;
     out.push_str(")\n")?;
-    match findings.place {
+    match place {
         Some((source, span)) => {
             let written = snippet_text(alloc, source.text, span)?;
             push_place(&mut out, source.file, written.as_str())?;
         }
         None => push_file(&mut out, report)?,
     }
-    push_help(&mut out, report, &findings)?;
+    push_help(&mut out, report, help)?;
     Ok(out)
 }
 
@@ -156,51 +162,4 @@ fn push_file(out: &mut String, report: &Report<'_>) -> Result<(), AllocError> {
     out.push_str(" --> ")?;
     out.push_str(file)?;
     out.push('\n')
-}
-
-fn push_member(out: &mut String, key: &str, value: Option<&str>) -> Result<(), AllocError> {
-    out.push_str(",\"")?;
-    out.push_str(key)?;
-    out.push_str("\":")?;
-    match value {
-        Some(text) => push_json(out, text),
-        None => out.push_str("null"),
-    }
-}
-
-fn push_place_json(out: &mut String, file: &str, written: &str) -> Result<(), AllocError> {
-    push_member(out, "file", Some(file))?;
-    let Some(shown) = read_snippet(written) else {
-        return Ok(());
-    };
-    out.push_str(",\"line\":")?;
-    out.push_str(shown.line)?;
-    out.push_str(",\"column\":")?;
-    out.push_str(shown.column)
-}
-
-/// The same as one JSON object, and a line break.
-pub fn report_json(alloc: Global, report: &Report<'_>) -> Result<String, AllocError> {
-    let findings = Findings::of(alloc, &report.line, report.sources)?;
-    let mut out = String::from_str(alloc, "{\"kind\":")?;
-    push_json(&mut out, report.line.kind)?;
-    push_member(&mut out, "module", report.line.module)?;
-    push_member(&mut out, "declaration", report.line.declaration)?;
-    push_member(&mut out, "subject", report.line.subject)?;
-    let mut message = String::new(alloc);
-    push_message(&mut message, report, &findings)?;
-    push_member(&mut out, "message", Some(message.as_str()))?;
-    match findings.place {
-        Some((source, span)) => {
-            let written = snippet_text(alloc, source.text, span)?;
-            push_place_json(&mut out, source.file, written.as_str())?;
-        }
-        None => push_member(&mut out, "file", file_of(report))?,
-    }
-    push_member(&mut out, "reason", report.reason)?;
-    if let Some(help) = findings.help() {
-        push_member(&mut out, "help", Some(help))?;
-    }
-    out.push_str("}\n")?;
-    Ok(out)
 }

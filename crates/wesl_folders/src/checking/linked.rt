@@ -1,6 +1,6 @@
 //! From modules to the first fault.
 
-use crate::checking::names::{CheckRefusal, name_refusal, name_refusals};
+use crate::checking::names::{CheckRefusal, NameRefusal, refusals_of};
 use std::alloc::{AllocError, Global};
 use weslc_calls::{
     CompileError, Conditions, Decided, HeldModules, LinkedModules, Options, Preprocessor, Resolver,
@@ -21,10 +21,23 @@ fn check_printable(alloc: Global, linked: &mut LinkedModules) -> Result<(), Comp
 
 /// The first fault. Names are checked first, since printing takes empty items from the unit, whose places are counted.
 fn check_linked(alloc: Global, linked: &mut LinkedModules) -> Result<(), CheckRefusal> {
-    match name_refusal(alloc, linked)? {
+    match refusals_of(alloc, linked, 1)?.into_iter().next() {
         Some(refusal) => Err(CheckRefusal::Name(refusal)),
         None => Ok(check_printable(alloc, linked)?),
     }
+}
+
+/// Modules that are linked, their conditions decided.
+fn linked_modules<R: Resolver>(
+    alloc: Global,
+    resolver: &mut R,
+    root: &ModulePath,
+    options: &Options,
+) -> Result<HeldModules, CompileError> {
+    let features = &options.features;
+    let inner = Preprocessor::new(resolver, Conditions { features });
+    let mut decided = Decided { inner };
+    HeldModules::link(alloc, &mut decided, None, root, options)
 }
 
 /// The first fault of modules that are linked, and whose names are checked, if there is one. Conditions are decided as each module is
@@ -35,52 +48,22 @@ pub fn check<R: Resolver>(
     root: &ModulePath,
     options: &Options,
 ) -> Result<(), CheckRefusal> {
-    let features = &options.features;
-    let inner = Preprocessor::new(resolver, Conditions { features });
-    let mut decided = Decided { inner };
-    let mut held = HeldModules::link(alloc, &mut decided, None, root, options)?;
+    let mut held = linked_modules(alloc, resolver, root, options)?;
     check_linked(alloc, held.get_mut())
 }
 
-/// A refusal alone, unless it is that of memory.
-fn alone(alloc: Global, refusal: CheckRefusal) -> Result<Vec<CheckRefusal>, AllocError> {
-    if matches!(refusal, CheckRefusal::Compile(CompileError::OutOfMemory)) {
-        return Err(AllocError);
-    }
-    let mut refusals = Vec::new(alloc);
-    refusals.push(refusal)?;
-    Ok(refusals)
-}
-
-/// All faults of a linked unit's names, up to so many, or that no text stands for it.
-fn all_linked(
-    alloc: Global,
-    linked: &mut LinkedModules,
-    most: usize,
-) -> Result<Vec<CheckRefusal>, AllocError> {
-    let refusals = name_refusals(alloc, linked, most)?;
-    if !refusals.is_empty() {
-        return Ok(refusals);
-    }
-    match check_printable(alloc, linked) {
-        Ok(()) => Ok(refusals),
-        Err(error) => alone(alloc, CheckRefusal::Compile(error)),
-    }
-}
-
-/// The same as `check`, with all faults of names, in their order, up to so many. Of others the first is told alone.
-pub fn check_all<R: Resolver>(
+/// The faults of the names of modules that are linked as for `check`, at most so many of them, the first one first. There is none where
+/// they can't be linked. The root is not relative.
+pub fn name_refusals<R: Resolver>(
     alloc: Global,
     resolver: &mut R,
     root: &ModulePath,
     options: &Options,
     most: usize,
-) -> Result<Vec<CheckRefusal>, AllocError> {
-    let features = &options.features;
-    let inner = Preprocessor::new(resolver, Conditions { features });
-    let mut decided = Decided { inner };
-    match HeldModules::link(alloc, &mut decided, None, root, options) {
-        Ok(mut held) => all_linked(alloc, held.get_mut(), most),
-        Err(error) => alone(alloc, CheckRefusal::Compile(error)),
+) -> Result<Vec<NameRefusal>, AllocError> {
+    match linked_modules(alloc, resolver, root, options) {
+        Ok(held) => refusals_of(alloc, held.get(), most),
+        Err(CompileError::OutOfMemory) => Err(AllocError),
+        Err(_) => Ok(Vec::new(alloc)),
     }
 }

@@ -1,7 +1,7 @@
 //! The first fault of the names of a linked unit.
 
 use std::alloc::{AllocError, Global};
-use wesl_check_names::{NameFault, NameProblem, check_names};
+use wesl_check_names::{NameFault, check_names};
 use weslc_calls::{
     BasicSourceMap, CompileError, ErrorContext, LinkedModules, SourceMap, declaration_map,
 };
@@ -15,7 +15,7 @@ pub enum CheckRefusal {
     Name(NameRefusal),
 }
 
-/// A fault of a name, and the module and the declaration that hold it. Names are those of modules, but for a declaration that needs itself.
+/// A fault of a name, and the module and the declaration that hold it. Names are those of modules.
 #[derive(Drop)]
 pub struct NameRefusal {
     pub context: ErrorContext,
@@ -62,52 +62,36 @@ fn source_name(alloc: Global, map: &BasicSourceMap, name: &Text) -> Result<Text,
     }
 }
 
-/// The first fault of the names of a linked unit, if there is one.
-fn first_fault(alloc: Global, linked: &LinkedModules) -> Result<Option<NameFault>, AllocError> {
-    let faults = check_names(alloc, linked.unit.get())?;
-    Ok(faults.into_iter().next())
-}
-
-/// The first fault of the names of a linked unit, with the module and the declaration that hold it, if there is one.
-pub(crate) fn name_refusal(
-    alloc: Global,
-    linked: &LinkedModules,
-) -> Result<Option<NameRefusal>, AllocError> {
-    let Some(fault) = first_fault(alloc, linked)? else {
-        return Ok(None);
-    };
-    Ok(Some(refusal_of(alloc, linked, fault)?))
-}
-
-/// A fault of a linked unit's names, with the module and the declaration that hold it.
+/// A fault of a name, with the module and the declaration that hold it.
 fn refusal_of(
     alloc: Global,
     linked: &LinkedModules,
+    map: &BasicSourceMap,
     fault: NameFault,
 ) -> Result<NameRefusal, AllocError> {
     let mut fault = fault;
     let context = context_of(alloc, linked, fault.place)?;
-    if fault.problem != NameProblem::Cycle {
-        let map = declaration_map(alloc, linked)?;
-        fault.name = source_name(alloc, &map, &fault.name)?;
-        fault.owner = source_name(alloc, &map, &fault.owner)?;
-    }
+    fault.name = source_name(alloc, map, &fault.name)?;
+    fault.owner = source_name(alloc, map, &fault.owner)?;
     Ok(NameRefusal { context, fault })
 }
 
-/// The faults of the names of a linked unit, in their order, up to so many.
-pub(crate) fn name_refusals(
+/// The faults of the names of a linked unit, at most so many of them.
+pub(crate) fn refusals_of(
     alloc: Global,
     linked: &LinkedModules,
     most: usize,
-) -> Result<Vec<CheckRefusal>, AllocError> {
+) -> Result<Vec<NameRefusal>, AllocError> {
     let mut refusals = Vec::new(alloc);
-    for fault in check_names(alloc, linked.unit.get())? {
-        if refusals.len() >= most {
-            break;
+    let faults = check_names(alloc, linked.unit.get())?;
+    if faults.is_empty() {
+        return Ok(refusals);
+    }
+    let map = declaration_map(alloc, linked)?;
+    for fault in faults {
+        if refusals.len() < most {
+            refusals.push(refusal_of(alloc, linked, &map, fault)?)?;
         }
-        let refusal = refusal_of(alloc, linked, fault)?;
-        refusals.push(CheckRefusal::Name(refusal))?;
     }
     Ok(refusals)
 }

@@ -1,0 +1,2 @@
+const three = 3
+const four = 4;

@@ -1,0 +1,2 @@
+import package::last::six;
+const five = six;

@@ -1,0 +1,2 @@
+import package::values::one as hidden;
+const two = hidden;

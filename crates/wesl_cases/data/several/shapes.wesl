@@ -1,0 +1,1 @@
+@if(round && 1) const two = 2;
