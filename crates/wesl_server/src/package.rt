@@ -106,16 +106,17 @@ impl Package {
 
     /// Adds the folders of the packages. One that is none is told.
     fn add_folders<R: Files + AllocGlobal>(&mut self, rt: &R) -> Result<(), AllocError> {
+        let alloc = rt.alloc();
         let own = self.folder.as_str();
         if let Err(problem) = self.folders.add(rt, None, own) {
-            self.problems
-                .push(folder_problem(rt.alloc(), own, problem)?)?;
+            let text = folder_problem(alloc, own, problem)?;
+            self.problems.push(text)?;
         }
         for other in self.others.as_slice() {
             let folder = other.folder.as_str();
             if let Err(problem) = self.folders.add(rt, Some(other.name.as_str()), folder) {
-                self.problems
-                    .push(folder_problem(rt.alloc(), folder, problem)?)?;
+                let text = folder_problem(alloc, folder, problem)?;
+                self.problems.push(text)?;
             }
         }
         Ok(())

@@ -18,11 +18,10 @@ struct Importing {
 impl Importing {
     /// Goes back to the path before the innermost braces.
     fn back(&mut self) -> Result<(), AllocError> {
-        let before = match self.before.as_slice().last() {
-            Some(before) => before.as_str(),
-            None => "",
+        let path = match self.before.as_slice().last() {
+            Some(before) => String::from_str(self.alloc, before.as_str())?,
+            None => String::new(self.alloc),
         };
-        let path = String::from_str(self.alloc, before)?;
         self.path = path;
         Ok(())
     }

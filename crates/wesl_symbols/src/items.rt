@@ -128,13 +128,14 @@ impl<'a> Reader<'a> {
         let number = self.symbols.members.len();
         self.take(Role::Member(number))?;
         self.read_to_comma()?;
+        let item = Span {
+            start: name.start,
+            end: self.end_before(),
+        };
         self.symbols.members.push(Member {
             declaration,
             name,
-            item: Span {
-                start: name.start,
-                end: self.end_before(),
-            },
+            item,
         })?;
         Ok(())
     }
