@@ -4,7 +4,7 @@
 use std::io;
 use std::io::{ErrorKind, Write};
 use std::process::ExitCode;
-use wesl_several::run_words;
+use wesl_server::run_words;
 
 fn run(rt: &HostRuntime) -> io::Result<u8> {
     let mut errors = rt.stderr();

@@ -1,12 +1,13 @@
 //! The cases of `wesl`: each line of the file `commands` is a command line, which is run over the folders beside it, with the file `typed`
 //! as standard input; what it writes and its status are printed. Each pair of lines of the file `same` is a command line, and the members of a bundle of the same
-//! modules, of which `weslc` has to make the same text, error line and status.
+//! modules, of which `weslc` has to make the same text, error line and status. Each line of the file `messages` is a message to a language
+//! server, whose answers are printed; `HERE` stands for the folder of these files, and is put back in what is printed.
 #![tactic(auto)]
 
 use std::io::Write;
 use std::os::unix::fs::symlink;
 use std::{fs, io};
-use wesl_several::{run_words, serve_bundle};
+use wesl_server::{run_words, serve_bundle};
 
 /// The longest text that a file may have, and one byte more.
 const TOO_LONG: usize = 16_777_217;
@@ -96,6 +97,54 @@ fn compare_all<W: Write>(rt: &HostRuntime, out: &mut W) -> io::Result<()> {
     Ok(())
 }
 
+/// A text with another in the place of a part, wherever that stands.
+fn replaced(rt: &HostRuntime, text: &str, old: &str, new: &str) -> io::Result<String> {
+    let mut made = String::new(rt.alloc());
+    let mut is_first = true;
+    for part in text.split(old) {
+        if !is_first {
+            made.push_str(new)?;
+        }
+        made.push_str(part)?;
+        is_first = false;
+    }
+    Ok(made)
+}
+
+/// The messages of lines, each behind its head.
+fn framed(rt: &HostRuntime, lines: &str) -> io::Result<Vec<u8>> {
+    let mut input = Vec::new(rt.alloc());
+    for line in lines.lines() {
+        let length = line.len();
+        let message = format!(in rt.alloc(); "Content-Length: {length}\r\n\r\n{line}")?;
+        input.extend_from_slice(message.as_str().as_bytes())?;
+    }
+    Ok(input)
+}
+
+/// Hands the messages of the file `messages` to a language server, and prints what it answers.
+fn serve_messages<W: Write>(rt: &HostRuntime, out: &mut W) -> io::Result<()> {
+    let folder = fs::canonicalize(rt, ".")?;
+    let lines = fs::read_to_string(rt, "messages")?;
+    let lines = replaced(rt, lines.as_str(), "HERE", folder.as_str())?;
+    let input = framed(rt, lines.as_str())?;
+    let words = words_of(rt, "lsp")?;
+    let mut reader = input.as_slice();
+    let mut text = Vec::new(rt.alloc());
+    let mut errors = Vec::new(rt.alloc());
+    let status = run_words(rt, words.as_slice(), &mut reader, &mut text, &mut errors)?;
+    writeln!(out, "$ wesl lsp")?;
+    let text = str::from_utf8(text.as_slice()).unwrap_or("no UTF-8");
+    let text = replaced(rt, text, folder.as_str(), "HERE")?;
+    for part in text.as_str().split("Content-Length: ") {
+        if let Some((_, body)) = part.split_once("\r\n\r\n") {
+            writeln!(out, "{body}")?;
+        }
+    }
+    out.write_all(errors.as_slice())?;
+    writeln!(out, "status {status}")
+}
+
 /// Prints a file that a command line has written.
 fn show_file<W: Write>(rt: &HostRuntime, file: &str, out: &mut W) -> io::Result<()> {
     let text = fs::read_to_string(rt, file)?;
@@ -113,6 +162,7 @@ fn main(rt: HostRuntime) -> io::Result<()> {
         run_line(&rt, line, typed.as_str(), &mut out)?;
     }
     compare_all(&rt, &mut out)?;
+    serve_messages(&rt, &mut out)?;
     show_file(&rt, "linked.wgsl", &mut out)?;
     show_file(&rt, "map.json", &mut out)?;
     show_file(&rt, "squared.txt", &mut out)?;

@@ -36,13 +36,15 @@ enum Takes {
 #[derive(Clone, Copy)]
 enum Scope {
     All,
+    /// All but `lsp`.
+    Telling,
     /// All but `precompile`.
     Reading,
     /// `check`.
     Checking,
     /// `link`, `compile` and `check`.
     Linking,
-    /// All but `check`.
+    /// All but `check` and `lsp`.
     Writing,
     /// `link` and `compile`.
     Mapping,
@@ -269,7 +271,7 @@ static OPTIONS: [Row; OPTION_COUNT] = [
         value: "FORMAT",
         help: "how errors are told: text, line or json",
         takes: Takes::Format,
-        scope: Scope::All,
+        scope: Scope::Telling,
     },
 ];
 
@@ -277,10 +279,11 @@ static OPTIONS: [Row; OPTION_COUNT] = [
 fn is_taken(scope: Scope, verb: Verb) -> bool {
     match scope {
         Scope::All => true,
+        Scope::Telling => verb != Verb::Lsp,
         Scope::Reading => verb != Verb::Precompile,
         Scope::Checking => verb == Verb::Check,
         Scope::Linking => verb == Verb::Link || verb == Verb::Compile || verb == Verb::Check,
-        Scope::Writing => verb != Verb::Check,
+        Scope::Writing => verb != Verb::Check && verb != Verb::Lsp,
         Scope::Mapping => verb == Verb::Link || verb == Verb::Compile,
         Scope::Evaluating => verb == Verb::Compile || verb == Verb::Run || verb == Verb::Eval,
         Scope::Running => verb == Verb::Run,
@@ -341,7 +344,7 @@ fn command_of<'a>(
     Ok(command)
 }
 
-const VERB_COUNT: usize = 6;
+const VERB_COUNT: usize = 7;
 
 /// The commands, in the order in which help shows them.
 static VERBS: [Verb; VERB_COUNT] = [
@@ -351,6 +354,7 @@ static VERBS: [Verb; VERB_COUNT] = [
     Verb::Check,
     Verb::Run,
     Verb::Eval,
+    Verb::Lsp,
 ];
 
 /// The commands of a program, with their options.

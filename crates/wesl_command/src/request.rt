@@ -11,6 +11,7 @@ pub enum Verb {
     Check,
     Run,
     Eval,
+    Lsp,
 }
 
 impl Verb {
@@ -23,6 +24,7 @@ impl Verb {
             Verb::Check => "check",
             Verb::Run => "run",
             Verb::Eval => "eval",
+            Verb::Lsp => "lsp",
         }
     }
 
@@ -35,13 +37,14 @@ impl Verb {
             Verb::Check => "Parse, link and validate; write no text",
             Verb::Run => "Run an entry point over bound values",
             Verb::Eval => "Evaluate a constant expression",
+            Verb::Lsp => "Serve an editor over standard input and output",
         }
     }
 
-    /// The command of a bundle that does it. `Check` links.
+    /// The command of a bundle that does it. `Check` links, and so does what serves an editor.
     pub fn command(self) -> &'static str {
         match self {
-            Verb::Link | Verb::Check => "link",
+            Verb::Link | Verb::Check | Verb::Lsp => "link",
             Verb::Precompile => "precompile",
             Verb::Compile => "compile",
             Verb::Run => "run",

@@ -53,6 +53,7 @@ fn verb_of(name: &str) -> Option<Verb> {
         "check" => Some(Verb::Check),
         "run" => Some(Verb::Run),
         "eval" => Some(Verb::Eval),
+        "lsp" => Some(Verb::Lsp),
         _ => None,
     }
 }
@@ -171,12 +172,20 @@ fn push_settings<'a>(
     Ok(())
 }
 
+/// What is to be done, and the file. An editor names its files later.
+fn verb_and_file<'a>(name: &str, matches: &ArgMatches<'a>) -> Option<(Verb, &'a str)> {
+    match verb_of(name)? {
+        Verb::Lsp => Some((Verb::Lsp, ".")),
+        verb => Some((verb, matches.get_str("file")?)),
+    }
+}
+
 /// What was asked for, of words that `wesl_command` has parsed. That refuses words which name no command or no file.
 fn request_of<'a>(alloc: Global, matches: &ArgMatches<'a>) -> Result<Request<'a>, Unread> {
     let Some((name, matches)) = matches.subcommand() else {
         return Err(Unread::Wrong(String::new(alloc)));
     };
-    let (Some(verb), Some(file)) = (verb_of(name), matches.get_str("file")) else {
+    let Some((verb, file)) = verb_and_file(name, matches) else {
         return Err(Unread::Wrong(String::new(alloc)));
     };
     check_depfile(alloc, matches.get_str("depfile"), matches.get_str("output"))?;

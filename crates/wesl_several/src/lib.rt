@@ -5,5 +5,6 @@ mod configured;
 mod each;
 mod run;
 
+pub use configured::{config_failure, config_of, configured, fit, selection_of};
 pub use run::run_words;
-pub use wesl_tool::serve_bundle;
+pub use wesl_tool::{Failure, serve_bundle};

@@ -167,7 +167,7 @@ fn called(
     let answer = match request.verb {
         Verb::Link => linked(alloc, asked, sources),
         Verb::Compile => compiled(alloc, asked, sources),
-        Verb::Check => checked(alloc, asked, sources),
+        Verb::Check | Verb::Lsp => checked(alloc, asked, sources),
         Verb::Precompile => precompiled(alloc, asked, sources),
         Verb::Run => ran(alloc, request, asked, sources),
         Verb::Eval => evaluated(alloc, request, asked, sources),

@@ -15,6 +15,7 @@ mod serving;
 mod written;
 
 pub use failure::{Failure, failed, misused};
+pub use options::options_of;
 pub use refusal::Refusal;
 pub use serving::serve;
 pub use wesl_diagnostics::serve_bundle;

@@ -20,4 +20,5 @@ pub use conditions::{flag_in_condition, no_condition, no_flag};
 pub use initial::{function_head, initial_value, only_index, only_operator};
 pub use named::{Seek, declared_names, find_name, find_name_in};
 pub use rings::ring;
+pub use row::{Row, depth_behind};
 pub use source::SourceFile;

@@ -3,13 +3,14 @@
 use wgsl_path::Span;
 use wgsl_token::{Fixed, SpannedToken, Token};
 
-/// The tokens of a text.
+/// The tokens of a text. A number without a token is none of these.
 #[derive(Clone, Copy)]
-pub(crate) struct Row<'a> {
+pub struct Row<'a> {
     pub tokens: &'a [SpannedToken],
 }
 
 impl<'a> Row<'a> {
+    /// The token of a number.
     pub fn token(self, number: usize) -> Option<&'a Token> {
         match self.tokens.get(number) {
             Some(spanned) => Some(&spanned.token),
@@ -17,6 +18,7 @@ impl<'a> Row<'a> {
         }
     }
 
+    /// The place of the token of a number.
     pub fn span(self, number: usize) -> Option<Span> {
         match self.tokens.get(number) {
             Some(spanned) => Some(spanned.span),
@@ -32,6 +34,7 @@ impl<'a> Row<'a> {
         }
     }
 
+    /// Whether the token of a number is this fixed one.
     pub fn is_fixed(self, number: usize, fixed: Fixed) -> bool {
         self.fixed(number) == Some(fixed)
     }
@@ -81,7 +84,7 @@ impl<'a> Row<'a> {
 }
 
 /// How deep in brackets a token leaves those behind it.
-pub(crate) fn depth_behind(fixed: Option<Fixed>, depth: usize) -> usize {
+pub fn depth_behind(fixed: Option<Fixed>, depth: usize) -> usize {
     match fixed {
         Some(Fixed::BraceLeft | Fixed::ParenLeft | Fixed::BracketLeft) => depth.saturating_add(1),
         Some(Fixed::BraceRight | Fixed::ParenRight | Fixed::BracketRight) => {

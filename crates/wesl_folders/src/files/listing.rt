@@ -96,6 +96,46 @@ pub fn modules_in<R: Files + AllocGlobal + Clone + Drop>(
     Ok(walk.files)
 }
 
+/// The same, of so many folders at most. What can't be read is left out.
+pub fn some_modules_in<R: Files + AllocGlobal + Clone + Drop>(
+    rt: &R,
+    folder: &str,
+    most_folders: usize,
+) -> Result<Vec<String>, AllocError> {
+    let alloc = rt.alloc();
+    let mut walk = Walk {
+        folders: Vec::new(alloc),
+        files: Vec::new(alloc),
+    };
+    walk.folders.push(String::from_str(alloc, folder)?)?;
+    for _turn in 0..most_folders {
+        let Some(folder) = walk.folders.pop() else {
+            break;
+        };
+        if let Err(FileProblem::OutOfMemory) = walk.enter(rt, folder.as_str()) {
+            return Err(AllocError);
+        }
+    }
+    walk.files.sort_unstable();
+    Ok(walk.files)
+}
+
+/// Whether a file that lies in a folder itself has a name that modules have.
+pub fn has_modules<R: Files + AllocGlobal + Clone + Drop>(rt: &R, folder: &str) -> bool {
+    let Ok(entries) = fs::read_dir(rt, folder) else {
+        return false;
+    };
+    for entry in entries {
+        if let Ok(entry) = entry {
+            let name = entry.file_name();
+            if !is_hidden(name) && (name.ends_with(".wesl") || name.ends_with(".wgsl")) {
+                return true;
+            }
+        }
+    }
+    false
+}
+
 /// Whether a path leads to a folder.
 pub fn is_folder<R: Files>(rt: &R, path: &str) -> bool {
     match fs::metadata(rt, path) {

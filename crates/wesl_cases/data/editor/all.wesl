@@ -1,0 +1,1 @@
+@publish import package::colors::turn as tau;

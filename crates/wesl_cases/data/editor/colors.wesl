@@ -1,0 +1,3 @@
+const white = 1.0;
+const pi = 3;
+const turn = 2 * pi;
