@@ -138,6 +138,22 @@ fn value_answer(alloc: Global, text: &str) -> Result<String, AllocError> {
     Ok(json)
 }
 
+/// What is answered of a value.
+fn value_told(alloc: Global, text: Text) -> Result<String, AllocError> {
+    value_answer(alloc, text.as_str())
+}
+
+/// What is answered of the refusal of an expression.
+fn refusal_told(
+    alloc: Global,
+    room: &Room,
+    expression: &str,
+    refusal: RunRefusal,
+) -> Result<String, AllocError> {
+    let refusal = refused(refusal);
+    refusal_of_expression(alloc, room, expression, &refusal)
+}
+
 /// What is answered of a value, or of the refusal of an expression.
 fn told_value(
     alloc: Global,
@@ -146,11 +162,8 @@ fn told_value(
     value: Result<Text, RunRefusal>,
 ) -> Result<String, AllocError> {
     match value {
-        Ok(text) => value_answer(alloc, text.as_str()),
-        Err(refusal) => {
-            let refusal = refused(refusal);
-            refusal_of_expression(alloc, room, expression, &refusal)
-        }
+        Ok(text) => value_told(alloc, text),
+        Err(refusal) => refusal_told(alloc, room, expression, refusal),
     }
 }
 
