@@ -138,19 +138,14 @@ fn value_answer(alloc: Global, text: &str) -> Result<String, AllocError> {
     Ok(json)
 }
 
-/// What is answered of a value, or of the refusal of an expression.
-fn told_value(
+/// What is answered of a value, or why there is none.
+fn value_told(
     alloc: Global,
-    room: &Room,
-    expression: &str,
     value: Result<Text, RunRefusal>,
-) -> Result<String, AllocError> {
+) -> Result<Result<String, AllocError>, ServeError> {
     match value {
-        Ok(text) => value_answer(alloc, text.as_str()),
-        Err(refusal) => {
-            let refusal = refused(refusal);
-            refusal_of_expression(alloc, room, expression, &refusal)
-        }
+        Ok(text) => Ok(value_answer(alloc, text.as_str())),
+        Err(refusal) => Err(refused(refusal)),
     }
 }
 
@@ -159,7 +154,10 @@ pub fn evaluated(alloc: Global, room: &Room, expression: &str) -> Result<String,
     let mut resolver = room.texts.resolver()?;
     let value = eval(alloc, &mut resolver, &room.root, &room.options, expression);
     drop(resolver);
-    told_value(alloc, room, expression, value)
+    match value_told(alloc, value) {
+        Ok(answer) => answer,
+        Err(error) => refusal_of_expression(alloc, room, expression, &error),
+    }
 }
 
 /// What is told of an error of a module that is checked, as JSON.
