@@ -73,8 +73,8 @@ impl Loaded {
         ensures same_reference { R.holds resolver.new ≡ R.holds resolver.old }
         ensures asked { StayAsked (R.asked resolver.old) (R.asked resolver.new) }
     {
-        for found in asked.values() {
-            self.load(resolver, &found.target, max_modules)?;
+        for found in asked.modules.values() {
+            self.load(resolver, found, max_modules)?;
         }
         Ok(())
     }

@@ -256,10 +256,10 @@ impl Loading {
 
 /// Refuses the first module that is asked for, which would be one too many.
 fn test_none_asked(alloc: Global, asked: &Asked) -> Result<(), ImportError> {
-    match asked.values().next() {
+    match asked.modules.values().next() {
         None => Ok(()),
-        Some(found) => {
-            let path = found.target.path.clone_in(alloc)?;
+        Some(target) => {
+            let path = target.path.clone_in(alloc)?;
             Err(ImportError::TooManyModules(path))
         }
     }

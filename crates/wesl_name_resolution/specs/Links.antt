@@ -2,14 +2,17 @@
 use Rattle.std.specs.Prelude.{◌≡◌, ⊤, ℕ, List, [], ◌∷◌, Option, Some, None, if◌then◌else◌, slice_get, string_bytes}
 use Rattle.std.specs.Option.{option_map}
 use Rattle.wgsl_path.specs.Paths.{path_text}
+use Rattle.std.specs.BTreeMap as b
 use Rattle.std.specs.HashMap.{get_by_text}
 use Rattle.wesl_module_index.specs.declared.module.Meaning.{Meaning}
 use Rattle.wesl_module_index.specs.declared.module.Meaning.TheVariants.{Declared, Imported}
 use Rattle.wesl_module_index.specs.declared.module.Module.{Module}
+use Rattle.wesl_module_index.specs.declared.module.ReferenceTarget.{ReferenceTarget}
+use Rattle.wesl_module_index.specs.declared.module.ReferenceTarget.TheVariants as sought
 use Rattle.wesl_module_index.specs.declared.modules.Modules.{Modules}
 use Rattle.wesl_module_index.specs.Tables.{Import, symbol_named, import_at, place_number}
 use Rattle.wesl_module_index.specs.Loaded.{home_of, module_at, place_at}
-use Rattle.wesl_chains.specs.Outlines.{Path, Symbol, Use, Outline, Finder}
+use Rattle.wesl_chains.specs.Outlines.{Name, Path, Symbol, Use, Outline, Finder}
 use Rattle.wesl_chains.specs.Senses.{Sense, own, imported, bare, free, sense}
 use Rattle.wesl_chains.specs.Chains.{Step, stands, leads, lacks, hides, unknown, Outcome, declared_at, unloaded, missing, private, Denotes}
 use Rattle.wesl_name_resolution.specs.declared.denote.Link.{Link}
@@ -52,6 +55,31 @@ IsFoundIn ms home (step.Leads via link) = symbol_via ms via ≡ Some (symbol_of 
 IsFoundIn ms home step.Missing = ⊤
 IsFoundIn ms home step.Private = ⊤
 IsFoundIn ms home step.Unloaded = ⊤
+
+-- what the scope of a module means by a name
+abbrev pub meaning_in : Option Module → Name → Option Meaning
+meaning_in None x = None
+meaning_in (Some m) x = get_by_text m.scope x
+
+-- the number of the module at a path, and what its scope means by a name
+abbrev pub IsMeant : Modules → Symbol → ℕ → Meaning → Type 0
+IsMeant ms s n meaning = (b.get_by_text ms.numbers s.home ≡ Some n) × (meaning_in (slice_get ms.list.items n) s.name ≡ Some meaning)
+
+-- A declaration that is found, and an import that leads on, are what the scope of the module means by the name that is sought.
+abbrev pub IsFoundAs : Modules → Symbol → code.Step → Type 0
+IsFoundAs ms s (step.Declared spot) = IsMeant ms s spot.«module» (Declared spot.place)
+IsFoundAs ms s (step.Leads via link) = IsMeant ms s via.«module» (Imported via.item)
+IsFoundAs ms s step.Missing = ⊤
+IsFoundAs ms s step.Private = ⊤
+IsFoundAs ms s step.Unloaded = ⊤
+
+-- a step by an import of a module
+abbrev pub IsByImport : Via → code.Step → Type 0
+IsByImport via (step.Declared spot) = ⊥
+IsByImport via (step.Leads v link) = v ≡ via
+IsByImport via step.Missing = ⊤
+IsByImport via step.Private = ⊤
+IsByImport via step.Unloaded = ⊥
 
 -- ---- steps, by tables alone
 
@@ -119,3 +147,16 @@ begins p free = known None
 abbrev pub beginning_of : Modules → Start → Beginning
 beginning_of ms (start.Ends answer) = known (outcome_of ms answer)
 beginning_of ms (start.Leads link) = seeks (symbol_of link)
+
+-- a declaration at which a search ends at once is what a reference of the module means there
+abbrev pub sought_in : Option Module → ℕ → Option ReferenceTarget
+sought_in None r = None
+sought_in (Some m) r = slice_get m.sought.items r
+
+abbrev pub IsBegunAs : Modules → ℕ → ℕ → Start → Type 0
+IsBegunAs ms number reference (start.Ends (denoted.Declared spot)) = (spot.«module» ≡ number) × (sought_in (slice_get ms.list.items number) reference ≡ Some (sought.Declared spot.place))
+IsBegunAs ms number reference (start.Ends (denoted.Unloaded link)) = ⊤
+IsBegunAs ms number reference (start.Ends (denoted.Missing path name)) = ⊤
+IsBegunAs ms number reference (start.Ends (denoted.Private path name)) = ⊤
+IsBegunAs ms number reference (start.Ends denoted.Free) = ⊤
+IsBegunAs ms number reference (start.Leads link) = ⊤

@@ -1,13 +1,13 @@
 //! What a name denotes: a declaration of its own module, or the end of a chain of published imports.
 
-ghost use Rattle.std.specs.Prelude.{◌≡◌, Some, slice_get, string_bytes};
+ghost use Rattle.std.specs.Prelude.{◌≡◌, ℕ, Some, slice_get, string_bytes};
 ghost use Rattle.std.specs.Option.{option_map};
 ghost use Rattle.wesl_module_index.specs.declared.modules.Modules.{Modules};
 ghost use Rattle.wesl_module_index.specs.Tables.{import_said, import_at, import_sense, symbol_named};
 ghost use Rattle.wesl_module_index.specs.Loaded.{AreTabled};
 ghost use Rattle.wesl_chains.specs.Outlines.{Path, Symbol, Finder};
 ghost use Rattle.wesl_chains.specs.Chains.{next, missing};
-ghost use Rattle.wesl_name_resolution.specs.Links.{symbol_of, symbol_via, step_of, item_step, IsFoundIn, outcome_of, beginning_of, begins, StopsAs};
+ghost use Rattle.wesl_name_resolution.specs.Links.{symbol_of, symbol_via, step_of, item_step, IsFoundIn, IsFoundAs, IsByImport, IsBegunAs, outcome_of, beginning_of, begins, StopsAs};
 ghost use Rattle.wesl_name_resolution.specs.Ends.{AreEnds, Starts, IsDenotation, ComesTo};
 
 use crate::ends::{End, Ends};
@@ -70,6 +70,7 @@ pub enum Start<'a> {
 pub fn found_at<'a>(modules: &'a Modules, link: Link<'a>) -> Step<'a>
     ensures step { (find : Finder) → AreTabled modules.now find → step_of modules.now result ≡ next find (symbol_of link.entry) }
     ensures found { IsFoundIn modules.now (symbol_of link.entry).home result }
+    ensures named { IsFoundAs modules.now (symbol_of link.entry) result }
 {
     let Some(number) = modules.number_of(link.target.printed_path.as_str()) else {
         return Step::Unloaded;
@@ -96,6 +97,7 @@ pub fn found_at<'a>(modules: &'a Modules, link: Link<'a>) -> Step<'a>
 fn found_by(module: &Module, via: Via) -> Step<'_>
     ensures step { (ms : Modules) → step_of ms result ≡ item_step (import_at module.now via.item) }
     ensures found { (ms : Modules) (home : Path) → slice_get ms.list.items via.«module» ≡ Some module.now → IsFoundIn ms home result }
+    ensures by_import { IsByImport via result }
 {
     match module.items.get(via.item) {
         None => Step::Missing,
@@ -133,7 +135,8 @@ pub(crate) fn link_via(modules: &Modules, via: Via) -> Option<Link<'_>>
 
 /// Where the search begins for what a reference of the module of this number denotes, if no local declaration hides its first name.
 pub fn start_of<'a>(modules: &'a Modules, number: usize, reference: u32) -> Start<'a>
-    ensures { Starts modules.now number reference result }
+    ensures starts { Starts modules.now number reference result }
+    ensures begun { IsBegunAs modules.now number reference result }
 {
     let Some(module) = modules.get(number) else {
         return Start::Ends(Denoted::Free);
@@ -157,7 +160,8 @@ pub fn start_of<'a>(modules: &'a Modules, number: usize, reference: u32) -> Star
 }
 
 fn start_by<'a>(module: &'a Module, item: &'a ImportItem) -> Start<'a>
-    ensures { (ms : Modules) → beginning_of ms result ≡ begins (string_bytes module.now.target.printed_path) (import_sense (Some (import_said module.now.targets.items item.now))) }
+    ensures begun { (ms : Modules) (number reference : ℕ) → IsBegunAs ms number reference result }
+    ensures starts { (ms : Modules) → beginning_of ms result ≡ begins (string_bytes module.now.target.printed_path) (import_sense (Some (import_said module.now.targets.items item.now))) }
 {
     match link_of(module, item) {
         None => Start::Ends(Denoted::Missing(&module.target.path, item.name.as_str())),

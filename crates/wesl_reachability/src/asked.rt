@@ -1,57 +1,83 @@
 //! The modules that are asked for.
 
+ghost use Rattle.std.specs.Prelude.{◌≡◌, ◌++◌, ◌∷◌, [], IfOk, OnOk};
+ghost use Rattle.wesl_name_resolution.specs.Links.{symbol_of};
+ghost use Rattle.wesl_reachability.specs.Asking.{waits_for, waiting};
+
 use std::alloc::{AllocError, Global};
 use std::collections::BTreeMap;
-use wesl_name_resolution::{Link, Target};
+use wesl_name_resolution::{Link, Target, Via};
+use wgsl_base::Text;
 
-/// The modules that are asked for and not loaded, by their printed paths.
-pub type Asked = BTreeMap<String, AskedModule>;
-
-/// A module that is asked for, and the names that are sought there, each with the numbers of the published imports that name it and at which
-/// chains wait.
+/// An item that is sought in a module that is not loaded, and the published import that names it, at which chains wait, if one does.
 #[derive(Drop)]
-pub struct AskedModule {
+pub struct Pending {
     pub target: Target,
-    pub names: BTreeMap<String, Vec<usize>>,
+    pub name: Text,
+    pub before: Option<Via>,
 }
 
-/// Adds an item that is sought in a module, and the published import that names it, if one does.
-pub(crate) fn ask(
-    alloc: Global,
-    asked: &mut Asked,
-    link: Link<'_>,
-    import: Option<usize>,
-) -> Result<(), AllocError> {
-    let text = link.target.printed_path.as_str();
-    let mut module = taken(alloc, asked, link.target)?;
-    add_name(alloc, &mut module.names, link.name, import)?;
-    asked.insert(String::from_str(alloc, text)?, module)?;
-    Ok(())
+/// What is asked for in modules that are not loaded.
+#[derive(Drop)]
+pub struct Asked {
+    /// The modules, by their printed paths.
+    pub modules: BTreeMap<String, Target>,
+    /// What is sought there, in the order in which it was asked for.
+    pub pending: Vec<Pending>,
 }
 
-fn taken(alloc: Global, asked: &mut Asked, target: &Target) -> Result<AskedModule, AllocError> {
-    match asked.remove(target.printed_path.as_str()) {
-        Some(module) => Ok(module),
-        None => Ok(AskedModule {
-            target: Target::new(alloc, &target.path)?,
-            names: BTreeMap::new(alloc),
-        }),
+impl Asked {
+    /// Nothing is asked for.
+    pub fn new(alloc: Global) -> Asked
+        ensures { waiting result ≡ [] }
+    {
+        Asked {
+            modules: BTreeMap::new(alloc),
+            pending: Vec::new(alloc),
+        }
+    }
+
+    /// Whether no module is asked for.
+    pub fn is_empty(&self) -> bool {
+        self.modules.is_empty()
+    }
+
+    /// Asks for an item, which the published import `before` names.
+    pub(crate) fn ask(
+        &mut self,
+        alloc: Global,
+        link: Link<'_>,
+        before: Option<Via>,
+    ) -> Result<(), AllocError>
+        ensures { OnOk result (waiting self.new ≡ waiting self.old ++ (symbol_of link.entry, before) ∷ []) }
+    {
+        add_module(alloc, &mut self.modules, link.target)?;
+        let pending = waiting(alloc, link, before)?;
+        self.pending.push(pending)?;
+        Ok(())
     }
 }
 
-fn add_name(
+fn waiting(alloc: Global, link: Link<'_>, before: Option<Via>) -> Result<Pending, AllocError>
+    ensures { IfOk result (λ p. waits_for p ≡ (symbol_of link.entry, before)) }
+{
+    let name = Text::from_str(alloc, link.name)?;
+    Ok(Pending {
+        target: Target::new(alloc, &link.target.path)?,
+        name,
+        before,
+    })
+}
+
+fn add_module(
     alloc: Global,
-    names: &mut BTreeMap<String, Vec<usize>>,
-    name: &str,
-    import: Option<usize>,
+    modules: &mut BTreeMap<String, Target>,
+    target: &Target,
 ) -> Result<(), AllocError> {
-    let mut all = match names.remove(name) {
-        Some(all) => all,
-        None => Vec::new(alloc),
-    };
-    if let Some(import) = import {
-        all.push(import)?;
+    let text = target.printed_path.as_str();
+    if !modules.contains_key(text) {
+        let key = String::from_str(alloc, text)?;
+        modules.insert(key, Target::new(alloc, &target.path)?)?;
     }
-    names.insert(String::from_str(alloc, name)?, all)?;
     Ok(())
 }

@@ -1,13 +1,19 @@
 //! The published imports that chains went through.
 
+ghost use Rattle.std.specs.Prelude.{◌≡◌, ◌++◌, Some, IfOk, OnOk};
+ghost use Rattle.wesl_reachability.specs.declared.chains.State.TheVariants.{Met};
+ghost use Rattle.wesl_reachability.specs.Holding.{Answers};
+ghost use Rattle.wesl_reachability.specs.Joining.{state_at, before_at, AddsStep, Goes, PutsState, joined_of, Meets, IsOnward, Joins, PassesImport, AreNew, AreEmpty, TakesImports};
+
+use crate::links::{Links, is_same};
 use std::alloc::{AllocError, Global};
-use wesl_name_resolution::Via;
+use wesl_name_resolution::{Modules, Via};
 
 /// How a chain goes on at a published import.
 #[derive(Clone, Copy)]
 pub(crate) enum Joined {
-    /// No chain went through it before. It has this number.
-    First(usize),
+    /// No chain went through it before.
+    First,
     /// A chain went through it, and arrived at a declaration.
     Passed,
     /// A chain went through it, and waits for a module that is not loaded, or is lost.
@@ -17,8 +23,8 @@ pub(crate) enum Joined {
 }
 
 /// What is known of an import.
-#[derive(Clone, Copy, PartialEq, Eq)]
-enum State {
+#[derive(Clone, Copy)]
+pub(crate) enum State {
     New,
     /// Chains went through it.
     Met,
@@ -26,157 +32,207 @@ enum State {
     Passed,
 }
 
-/// An item of an import.
-#[derive(Clone, Copy, Drop)]
-struct Import {
-    module: usize,
-    state: State,
-    /// Another import that is connected with this one; itself, for one of all that are connected.
-    connected: usize,
-    /// The newest of the steps that lead to it.
-    newest: Option<usize>,
-}
-
-/// A step of a chain: the import before, and an older step to the same import.
-#[derive(Clone, Copy, Drop)]
-struct Before {
-    import: usize,
-    older: Option<usize>,
-}
-
-/// The items of all imports, numbered module by module, and the steps between them that chains took.
+/// The items of all imports, module by module, and the steps between them that chains took.
 #[derive(Drop)]
 pub(crate) struct Chains {
-    /// The number of the first item of each module, by the module's number.
-    firsts: Vec<usize>,
-    imports: Vec<Import>,
-    steps: Vec<Before>,
+    alloc: Global,
+    states: Vec<Vec<State>>,
+    /// The imports from which chains went on to an import.
+    before: Vec<Vec<Vec<Via>>>,
+    links: Links,
 }
 
 impl Chains {
     pub fn new(alloc: Global) -> Chains {
         Chains {
-            firsts: Vec::new(alloc),
-            imports: Vec::new(alloc),
-            steps: Vec::new(alloc),
+            alloc,
+            states: Vec::new(alloc),
+            before: Vec::new(alloc),
+            links: Links::new(alloc),
         }
     }
 
     /// Takes in the items of the next module.
-    pub fn take_in(&mut self, module: usize, items: usize) -> Result<(), AllocError> {
-        self.firsts.push(self.imports.len())?;
-        for _item in 0..items {
-            let connected = self.imports.len();
-            self.imports.push(Import {
-                module,
-                state: State::New,
-                connected,
-                newest: None,
-            })?;
-        }
-        Ok(())
+    pub fn take_in(&mut self, module: usize, items: usize) -> Result<(), AllocError>
+        ensures { OnOk result (TakesImports «module» items self.old self.new) }
+    {
+        let states = new_states(self.alloc, items)?;
+        self.states.push(states)?;
+        let before = no_steps(self.alloc, items)?;
+        self.before.push(before)?;
+        self.links.take_in(self.alloc, module, items)
     }
 
-    fn number_of(&self, via: Via) -> Option<usize> {
-        let first = self.firsts.get(via.module)?;
-        first.checked_add(via.item)
-    }
-
-    fn connected(&self, import: usize) -> usize {
-        match self.imports.get(import) {
-            None => import,
-            Some(found) => found.connected,
+    fn state(&self, via: Via) -> Option<State>
+        ensures { result ≡ state_at self.now via }
+    {
+        match self.states.get(via.module) {
+            None => None,
+            Some(row) => row.get(via.item).copied(),
         }
     }
 
-    /// The one of all imports connected with this one that is connected with itself. The way to it is halved.
-    fn root_of(&mut self, import: usize) -> usize {
-        let mut at = import;
-        for _import in 0..self.imports.len() {
-            let next = self.connected(at);
-            if next == at {
-                break;
-            }
-            let behind = self.connected(next);
-            if let Some(found) = self.imports.get_mut(at) {
-                found.connected = behind;
-            }
-            at = behind;
+    fn set_state(&mut self, via: Via, state: State)
+        ensures { PutsState via state self.old self.new }
+    {
+        if let Some(row) = self.states.get_mut(via.module)
+            && let Some(known) = row.get_mut(via.item)
+        {
+            *known = state;
         }
-        at
-    }
-
-    /// Connects two imports. Whether they were not connected before.
-    fn connect(&mut self, left: usize, right: usize) -> bool {
-        let left = self.root_of(left);
-        let right = self.root_of(right);
-        if left == right {
-            return false;
-        }
-        if let Some(found) = self.imports.get_mut(left) {
-            found.connected = right;
-        }
-        true
     }
 
     /// Notes that a chain went from one import to another.
-    fn add_step(&mut self, import: usize, to: usize) -> Result<(), AllocError> {
-        let number = self.steps.len();
-        if let Some(found) = self.imports.get_mut(to) {
-            let older = found.newest;
-            found.newest = Some(number);
-            self.steps.push(Before { import, older })?;
+    fn add_step(&mut self, from: Via, to: Via) -> Result<(), AllocError>
+        ensures steps { OnOk result (AddsStep from to self.old.before.items self.new.before.items) }
+        ensures states { self.new.states ≡ self.old.states }
+        ensures links { self.new.links ≡ self.old.links }
+    {
+        if let Some(row) = self.before.get_mut(to.module)
+            && let Some(before) = row.get_mut(to.item)
+        {
+            before.push(from)?;
         }
         Ok(())
     }
 
-    /// A chain goes from one import, or from a reference, on to another import.
-    pub fn join(&mut self, before: Option<usize>, via: Via) -> Result<Joined, AllocError> {
-        let Some(number) = self.number_of(via) else {
-            return Ok(Joined::Waiting);
-        };
-        if let Some(import) = before {
-            if !self.connect(import, number) {
-                return Ok(Joined::Itself);
+    /// Whether a chain goes round that goes on from an import to another.
+    fn goes_round(&mut self, modules: &Modules, from: Via, to: Via) -> Result<bool, AllocError>
+        ensures { IfOk result (λ b. Goes modules.now from to self.old b self.new) }
+    {
+        match self.links.last(modules, to) {
+            None => Ok(true),
+            Some(last) => {
+                if is_same(last, from) {
+                    return Ok(true);
+                }
+                self.links.lead(from, last);
+                self.add_step(from, to)?;
+                Ok(false)
             }
-            self.add_step(import, number)?;
-        }
-        let Some(found) = self.imports.get_mut(number) else {
-            return Ok(Joined::Waiting);
-        };
-        match found.state {
-            State::New => {
-                found.state = State::Met;
-                Ok(Joined::First(number))
-            }
-            State::Met => Ok(Joined::Waiting),
-            State::Passed => Ok(Joined::Passed),
         }
     }
 
-    /// The module of an import, if chains arrive there for the first time. Then the imports that lead to it are added to those that chains
-    /// arrive at.
-    pub fn pass(
+    /// A chain goes from one import, or from a reference, on to another import.
+    pub fn join(
         &mut self,
-        import: usize,
-        arrived: &mut Vec<usize>,
-    ) -> Result<Option<usize>, AllocError> {
-        let Some(found) = self.imports.get_mut(import) else {
-            return Ok(None);
-        };
-        if found.state == State::Passed {
-            return Ok(None);
+        modules: &Modules,
+        before: Option<Via>,
+        via: Via,
+    ) -> Result<Joined, AllocError>
+        ensures { IfOk result (λ r. Joins modules.now before via self.old r self.new) }
+    {
+        let state = self.meet(via);
+        match before {
+            None => Ok(how_joined(state)),
+            Some(from) => self.go_on(modules, from, via, state),
         }
-        found.state = State::Passed;
-        let module = found.module;
-        let mut step = found.newest;
-        for _step in 0..self.steps.len() {
-            let Some(before) = step.and_then(|number| self.steps.get(number)) else {
-                break;
-            };
-            arrived.push(before.import)?;
-            step = before.older;
-        }
-        Ok(Some(module))
     }
+
+    /// A chain goes from one import on to another, of which this was known before.
+    fn go_on(
+        &mut self,
+        modules: &Modules,
+        from: Via,
+        via: Via,
+        state: Option<State>,
+    ) -> Result<Joined, AllocError>
+        ensures { IfOk result (λ r. IsOnward modules.now (Some from) via self.old state r self.new) }
+    {
+        let is_round = self.goes_round(modules, from, via)?;
+        if is_round {
+            return Ok(Joined::Itself);
+        }
+        Ok(how_joined(state))
+    }
+
+    /// A chain comes to an import. What was known of it before.
+    fn meet(&mut self, via: Via) -> Option<State>
+        ensures state { result ≡ state_at self.old via }
+        ensures meets { Meets via self.old result self.new }
+    {
+        let state = self.state(via);
+        self.meet_as(via, state);
+        state
+    }
+
+    fn meet_as(&mut self, via: Via, state: Option<State>)
+        ensures { Meets via self.old state self.new }
+    {
+        match state {
+            Some(State::New) => self.set_state(via, State::Met),
+            Some(State::Met) | Some(State::Passed) | None => {}
+        }
+    }
+
+    /// Whether chains arrive at an import for the first time. Then the imports that lead to it are added to those that chains arrive at.
+    pub fn pass(&mut self, via: Via, arrived: &mut Vec<Via>) -> Result<bool, AllocError>
+        ensures { IfOk result (λ b. PassesImport via self.old arrived.old.items b self.new arrived.new.items) }
+    {
+        if self.is_met(via) {
+            self.set_state(via, State::Passed);
+            add_all(arrived, self.steps_to(via))?;
+            return Ok(true);
+        }
+        Ok(false)
+    }
+
+    fn is_met(&self, via: Via) -> bool
+        ensures { Answers result (state_at self.now via ≡ Some Met) }
+    {
+        match self.state(via) {
+            Some(State::Met) => true,
+            Some(State::New) | Some(State::Passed) | None => false,
+        }
+    }
+
+    fn steps_to(&self, via: Via) -> &[Via]
+        ensures { result.now ≡ before_at self.now via }
+    {
+        match self.before.get(via.module) {
+            None => &[],
+            Some(row) => match row.get(via.item) {
+                None => &[],
+                Some(before) => before.as_slice(),
+            },
+        }
+    }
+}
+
+/// How a chain goes on at an import of which this was known.
+fn how_joined(state: Option<State>) -> Joined
+    ensures { result ≡ joined_of state }
+{
+    match state {
+        Some(State::New) => Joined::First,
+        Some(State::Passed) => Joined::Passed,
+        Some(State::Met) | None => Joined::Waiting,
+    }
+}
+
+fn new_states(alloc: Global, count: usize) -> Result<Vec<State>, AllocError>
+    ensures { IfOk result (λ row. AreNew count row.items) }
+{
+    let mut row = Vec::new(alloc);
+    for _item in 0..count {
+        row.push(State::New)?;
+    }
+    Ok(row)
+}
+
+fn no_steps(alloc: Global, count: usize) -> Result<Vec<Vec<Via>>, AllocError>
+    ensures { IfOk result (λ row. AreEmpty count row.items) }
+{
+    let mut row = Vec::new(alloc);
+    for _item in 0..count {
+        let none = Vec::new(alloc);
+        row.push(none)?;
+    }
+    Ok(row)
+}
+
+fn add_all(list: &mut Vec<Via>, more: &[Via]) -> Result<(), AllocError>
+    ensures { OnOk result (list.new.items ≡ list.old.items ++ more.now) }
+{
+    list.extend_from_slice(more)
 }

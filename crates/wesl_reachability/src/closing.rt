@@ -1,29 +1,32 @@
-//! Which places are reached.
+//! What is reached in the loaded modules.
 
-use crate::asked::{Asked, ask};
+ghost use Rattle.std.specs.Prelude.{◌≡◌, [], Some, length, slice_get, IfOk, OnOk};
+ghost use Rattle.wesl_name_resolution.specs.Links.{symbol_of};
+ghost use Rattle.wesl_module_index.specs.declared.modules.Modules.{Modules};
+ghost use Rattle.wesl_reachability.specs.Cells.{HasRoom, IsSet};
+ghost use Rattle.wesl_reachability.specs.Holding.{ReachesAll, Passes};
+ghost use Rattle.wesl_reachability.specs.Uses.{uses_in};
+ghost use Rattle.wesl_reachability.specs.Closing.{Seeks, goes_on, JoinsOn, EndsAs, Keeps, FollowsOne, Searches, AreFollowed, IsFollowed, AreDone, IsOpen, IsClosed, ReachesMore, TakesAsked};
+
+use crate::asked::Asked;
 use crate::chains::{Chains, Joined};
+use crate::flags::{flags, set};
+use crate::holding::{Holding, Reached};
+use crate::passing::pass_before;
 use std::alloc::{AllocError, Global};
 use std::mem;
-use wesl_mark::Kind;
 use wesl_name_resolution::{
-    DeclarationId, Denoted, Link, Module, Modules, Start, Step, found_at, start_of,
+    DeclarationId, Denoted, Link, Module, Modules, Start, Step, Via, found_at, start_of,
 };
-
-/// For each module, by number, which of its places are reached.
-pub type Reached = Vec<Vec<bool>>;
 
 /// What is reached so far in the loaded modules.
 #[derive(Drop)]
 pub struct Closing {
     alloc: Global,
-    reached: Reached,
-    /// For each module, by number, whether a chain passed it.
-    passed: Vec<bool>,
+    holding: Holding,
     /// For each module, by number, which of its references were followed.
     followed: Vec<Vec<bool>>,
-    /// The reached places, in the order in which they were.
-    work: Vec<DeclarationId>,
-    /// How many of these were followed.
+    /// How many of the reached places were followed.
     done: usize,
     /// The published imports that chains went through.
     chains: Chains,
@@ -36,10 +39,8 @@ impl Closing {
     pub fn new(alloc: Global) -> Closing {
         Closing {
             alloc,
-            reached: Vec::new(alloc),
-            passed: Vec::new(alloc),
+            holding: Holding::new(alloc),
             followed: Vec::new(alloc),
-            work: Vec::new(alloc),
             done: 0,
             chains: Chains::new(alloc),
             asked: Asked::new(alloc),
@@ -48,39 +49,50 @@ impl Closing {
     }
 
     /// Whether some reached reference denotes nothing.
-    pub fn is_missing(&self) -> bool {
+    pub fn is_missing(&self) -> bool
+        ensures { result ≡ self.now.is_missing }
+    {
         self.is_missing
     }
 
     /// Which places are reached.
-    pub fn reached(&self) -> &Reached {
-        &self.reached
+    pub fn reached(&self) -> &Reached
+        ensures { result.now ≡ self.now.holding.reached }
+    {
+        &self.holding.reached
     }
 
     /// Which places are reached.
-    pub fn into_reached(self) -> Reached {
+    pub fn into_reached(self) -> Reached
+        ensures { result ≡ self.holding.reached }
+    {
         let Closing {
             alloc: _,
-            reached,
-            passed: _,
+            holding,
             followed: _,
-            work: _,
             done: _,
             chains: _,
             asked: _,
             is_missing: _,
         } = self;
+        let Holding {
+            reached,
+            work: _,
+            passed: _,
+        } = holding;
         reached
     }
 
-    /// The modules that reached references ask for. They are forgotten here.
-    pub fn take_asked(&mut self) -> Asked {
+    /// What reached references ask for. It is forgotten here.
+    pub fn take_asked(&mut self) -> Asked
+        ensures { TakesAsked self.old result self.new }
+    {
         mem::replace(&mut self.asked, Asked::new(self.alloc))
     }
 
     /// Takes the modules in that are loaded since, and reaches their directives.
     pub fn take_in(&mut self, modules: &Modules) -> Result<(), AllocError> {
-        for number in self.reached.len()..modules.len() {
+        for number in self.holding.reached.len()..modules.len() {
             if let Some(module) = modules.get(number) {
                 self.take_in_one(number, module)?;
             }
@@ -89,103 +101,81 @@ impl Closing {
     }
 
     fn take_in_one(&mut self, number: usize, module: &Module) -> Result<(), AllocError> {
-        let places = flags(self.alloc, module.places.len())?;
-        self.reached.push(places)?;
-        let references = flags(self.alloc, module.sought.len())?;
-        self.followed.push(references)?;
-        self.passed.push(false)?;
+        self.holding.take_in(self.alloc, module.places.len())?;
+        self.followed
+            .push(flags(self.alloc, module.list.reference_count())?)?;
         self.chains.take_in(number, module.items.len())?;
-        for (place, found) in module.places.iter().enumerate() {
-            if matches!(found.kind, Kind::Directive) {
-                self.reach(DeclarationId {
-                    module: number,
-                    place,
-                })?;
-            }
-        }
-        Ok(())
+        self.holding
+            .reach_directives(number, module.places.as_slice())
     }
 
     /// Reaches places.
-    pub fn reach_all(&mut self, spots: &[DeclarationId]) -> Result<(), AllocError> {
-        for spot in spots {
-            self.reach(*spot)?;
-        }
-        Ok(())
-    }
-
-    fn reach(&mut self, spot: DeclarationId) -> Result<(), AllocError> {
-        if let Some(places) = self.reached.get_mut(spot.module)
-            && let Some(is_reached) = places.get_mut(spot.place)
-            && !*is_reached
-        {
-            *is_reached = true;
-            self.work.push(spot)?;
-        }
-        Ok(())
+    pub fn reach_all(&mut self, spots: &[DeclarationId]) -> Result<(), AllocError>
+        ensures reaches { OnOk result (ReachesAll spots.now self.old.holding self.new.holding) }
+        ensures same { ReachesMore self.old self.new }
+        ensures open { OnOk result ((modules : Modules) → IsOpen modules self.old → IsOpen modules self.new) }
+    {
+        self.holding.reach_all(spots)
     }
 
     /// A chain passes a module: its assertions are reached.
-    pub fn pass(&mut self, modules: &Modules, number: usize) -> Result<(), AllocError> {
-        if let Some(is_passed) = self.passed.get_mut(number)
-            && !*is_passed
-        {
-            *is_passed = true;
-            if let Some(module) = modules.get(number) {
-                self.reach_assertions(number, module)?;
-            }
-        }
-        Ok(())
-    }
-
-    fn reach_assertions(&mut self, number: usize, module: &Module) -> Result<(), AllocError> {
-        for (place, found) in module.places.iter().enumerate() {
-            if matches!(found.kind, Kind::Assertion) {
-                self.reach(DeclarationId {
-                    module: number,
-                    place,
-                })?;
-            }
-        }
-        Ok(())
+    pub fn pass(&mut self, modules: &Modules, number: usize) -> Result<(), AllocError>
+        ensures passes { OnOk result (Passes modules.now.list.items number self.old.holding self.new.holding) }
+        ensures same { ReachesMore self.old self.new }
+        ensures open { OnOk result (IsOpen modules.now self.old → IsOpen modules.now self.new) }
+    {
+        self.holding.pass(modules, number)
     }
 
     /// Follows the references of what is reached, and of what they reach.
-    pub fn follow_all(&mut self, modules: &Modules) -> Result<(), AllocError> {
+    pub fn follow_all(&mut self, modules: &Modules) -> Result<(), AllocError>
+        ensures searches { OnOk result (Searches modules.now self.old self.new) }
+        ensures done { OnOk result (AreDone modules.now self.old self.old.done → AreDone modules.now self.new (length self.new.holding.work.items)) }
+        ensures closed { OnOk result (IsOpen modules.now self.old → IsClosed modules.now self.new × IsOpen modules.now self.new) }
+    {
         for at in self.done..usize::MAX {
-            let Some(spot) = self.work.get(at) else {
-                break;
+            let Some(spot) = self.holding.spot_at(at) else {
+                return Ok(());
             };
-            let spot = *spot;
-            self.done = at + 1;
             self.follow_place(modules, spot)?;
+            self.done = at + 1;
         }
-        Ok(())
+        // No list is that long.
+        Err(AllocError)
     }
 
-    fn follow_place(&mut self, modules: &Modules, spot: DeclarationId) -> Result<(), AllocError> {
-        if let Some(module) = modules.get(spot.module)
-            && let Some(uses) = module.uses.get(spot.place)
-        {
-            for reference in uses {
-                self.follow(modules, spot.module, *reference)?;
-            }
-        }
-        Ok(())
+    fn follow_place(&mut self, modules: &Modules, spot: DeclarationId) -> Result<(), AllocError>
+        ensures searches { OnOk result (Searches modules.now self.old self.new) }
+        ensures followed { OnOk result (IsFollowed modules.now self.new.followed.items spot) }
+        ensures done { self.new.done ≡ self.old.done }
+    {
+        self.follow_references(modules, spot.module, uses_of(modules, spot))
     }
 
-    fn follow(
+    fn follow_references(
         &mut self,
         modules: &Modules,
         number: usize,
-        reference: u32,
-    ) -> Result<(), AllocError> {
-        if let Some(references) = self.followed.get_mut(number)
-            && let Some(is_followed) = references.get_mut(reference as usize)
-            && !*is_followed
-        {
-            *is_followed = true;
-            return self.follow_first(modules, number, reference);
+        references: &[u32],
+    ) -> Result<(), AllocError>
+        ensures searches { OnOk result (Searches modules.now self.old self.new) }
+        ensures followed { OnOk result (AreFollowed self.new.followed.items number references.now) }
+        ensures done { self.new.done ≡ self.old.done }
+    {
+        for reference in references {
+            self.follow(modules, number, *reference)?;
+        }
+        Ok(())
+    }
+
+    fn follow(&mut self, modules: &Modules, number: usize, reference: u32) -> Result<(), AllocError>
+        ensures searches { OnOk result (Searches modules.now self.old self.new) }
+        ensures followed { OnOk result (HasRoom self.old.followed.items number reference → IsSet self.new.followed.items number reference) }
+        ensures done { self.new.done ≡ self.old.done }
+    {
+        let is_first = set(&mut self.followed, number, reference as usize);
+        if is_first {
+            self.follow_first(modules, number, reference)?;
         }
         Ok(())
     }
@@ -195,18 +185,34 @@ impl Closing {
         modules: &Modules,
         number: usize,
         reference: u32,
-    ) -> Result<(), AllocError> {
+    ) -> Result<(), AllocError>
+        ensures follows { OnOk result (FollowsOne modules.now number reference self.old self.new) }
+        ensures done { self.new.done ≡ self.old.done }
+    {
         match start_of(modules, number, reference) {
             Start::Leads(link) => self.seek(modules, link, None),
-            Start::Ends(Denoted::Declared(spot)) => {
-                self.pass(modules, spot.module)?;
-                self.reach(spot)
-            }
-            Start::Ends(Denoted::Missing(..) | Denoted::Private(..)) => {
+            Start::Ends(denoted) => self.end(modules, denoted),
+        }
+    }
+
+    /// What a reference denotes is known at once.
+    fn end(&mut self, modules: &Modules, denoted: Denoted<'_>) -> Result<(), AllocError>
+        ensures ends { OnOk result (EndsAs modules.now denoted.entry self.old self.new) }
+        ensures keeps { OnOk result (Keeps modules.now self.old self.new) }
+        ensures done { self.new.done ≡ self.old.done }
+    {
+        match denoted {
+            Denoted::Declared(spot) => self.holding.arrive(modules, spot),
+            Denoted::Missing(..) => {
                 self.is_missing = true;
                 Ok(())
             }
-            Start::Ends(Denoted::Free | Denoted::Unloaded(_)) => Ok(()),
+            Denoted::Private(..) => {
+                self.is_missing = true;
+                Ok(())
+            }
+            Denoted::Free => Ok(()),
+            Denoted::Unloaded(_) => Ok(()),
         }
     }
 
@@ -216,80 +222,123 @@ impl Closing {
         &mut self,
         modules: &Modules,
         first: Link<'_>,
-        before: Option<usize>,
-    ) -> Result<(), AllocError> {
+        before: Option<Via>,
+    ) -> Result<(), AllocError>
+        ensures seeks { OnOk result (Seeks modules.now (symbol_of first.entry, before) [] self.old self.new) }
+        ensures done { self.new.done ≡ self.old.done }
+    {
         let mut before = before;
         let mut link = first;
         for _item in 0..=modules.item_count() {
-            match found_at(modules, link) {
-                Step::Declared(spot) => return self.arrive(modules, before, spot),
-                Step::Unloaded => return ask(self.alloc, &mut self.asked, link, before),
-                Step::Missing | Step::Private => break,
-                Step::Leads(via, next) => match self.chains.join(before, via)? {
-                    Joined::First(import) => {
-                        before = Some(import);
-                        link = next;
-                    }
-                    Joined::Passed => return self.pass_before(modules, before),
-                    Joined::Waiting => return Ok(()),
-                    Joined::Itself => break,
-                },
+            let further = self.go(modules, link, before)?;
+            match further {
+                None => return Ok(()),
+                Some((via, next)) => {
+                    before = Some(via);
+                    link = next;
+                }
             }
         }
         self.is_missing = true;
         Ok(())
     }
 
-    /// Passes the modules of all published imports from which chains lead up to one, that one included.
-    fn pass_before(&mut self, modules: &Modules, last: Option<usize>) -> Result<(), AllocError> {
-        let mut work = Vec::new(self.alloc);
-        if let Some(import) = last {
-            work.push(import)?;
-        }
-        for at in 0..usize::MAX {
-            let Some(import) = work.get(at).copied() else {
-                break;
-            };
-            if let Some(module) = self.chains.pass(import, &mut work)? {
-                self.pass(modules, module)?;
+    /// Looks for an item that an import or a reference leads to. Where the chain is to be followed on: the import that leads on, and the item
+    /// that it leads to.
+    fn go<'a>(
+        &mut self,
+        modules: &'a Modules,
+        link: Link<'a>,
+        before: Option<Via>,
+    ) -> Result<Option<(Via, Link<'a>)>, AllocError>
+        ensures seeks { IfOk result (λ r. Seeks modules.now (symbol_of link.entry, before) (goes_on r) self.old self.new) }
+        ensures done { self.new.done ≡ self.old.done }
+    {
+        match found_at(modules, link) {
+            Step::Declared(spot) => {
+                pass_before(
+                    self.alloc,
+                    modules,
+                    before,
+                    &mut self.holding,
+                    &mut self.chains,
+                )?;
+                self.holding.arrive(modules, spot)?;
+                Ok(None)
+            }
+            Step::Unloaded => {
+                self.asked.ask(self.alloc, link, before)?;
+                Ok(None)
+            }
+            Step::Missing | Step::Private => {
+                self.is_missing = true;
+                Ok(None)
+            }
+            Step::Leads(via, next) => {
+                let goes = self.join(modules, before, via)?;
+                if goes {
+                    Ok(Some((via, next)))
+                } else {
+                    Ok(None)
+                }
             }
         }
-        Ok(())
     }
 
-    fn arrive(
-        &mut self,
-        modules: &Modules,
-        last: Option<usize>,
-        spot: DeclarationId,
-    ) -> Result<(), AllocError> {
-        self.pass_before(modules, last)?;
-        self.pass(modules, spot.module)?;
-        self.reach(spot)
+    /// A chain comes to a published import. Whether it is to be followed on.
+    fn join(&mut self, modules: &Modules, before: Option<Via>, via: Via) -> Result<bool, AllocError>
+        ensures joins { IfOk result (λ b. JoinsOn modules.now before via b self.old self.new) }
+        ensures done { self.new.done ≡ self.old.done }
+    {
+        let joined = self.chains.join(modules, before, via)?;
+        match joined {
+            Joined::First => Ok(true),
+            Joined::Passed => {
+                pass_before(
+                    self.alloc,
+                    modules,
+                    before,
+                    &mut self.holding,
+                    &mut self.chains,
+                )?;
+                Ok(false)
+            }
+            Joined::Waiting => Ok(false),
+            Joined::Itself => {
+                self.is_missing = true;
+                Ok(false)
+            }
+        }
     }
 
     /// Goes on with what was asked for, once the modules are loaded.
     pub fn seek_asked(&mut self, modules: &Modules, asked: &Asked) -> Result<(), AllocError> {
-        for module in asked.values() {
-            for (name, waiting) in &module.names {
-                let link = Link {
-                    target: &module.target,
-                    name: name.as_str(),
-                };
-                self.seek(modules, link, None)?;
-                for import in waiting {
-                    self.seek(modules, link, Some(*import))?;
-                }
-            }
+        for pending in &asked.pending {
+            let link = Link {
+                target: &pending.target,
+                name: pending.name.as_str(),
+            };
+            self.seek(modules, link, pending.before)?;
         }
         Ok(())
     }
 }
 
-fn flags(alloc: Global, count: usize) -> Result<Vec<bool>, AllocError> {
-    let mut flags = Vec::new(alloc);
-    for _flag in 0..count {
-        flags.push(false)?;
+/// The references of a place.
+fn uses_of(modules: &Modules, spot: DeclarationId) -> &[u32]
+    ensures { result.now ≡ uses_in (slice_get modules.now.list.items spot.«module») spot.place }
+{
+    match modules.get(spot.module) {
+        None => &[],
+        Some(module) => references_at(module, spot.place),
     }
-    Ok(flags)
+}
+
+fn references_at(module: &Module, place: usize) -> &[u32]
+    ensures { result.now ≡ uses_in (Some module.now) place }
+{
+    match module.uses.get(place) {
+        None => &[],
+        Some(uses) => uses.as_slice(),
+    }
 }

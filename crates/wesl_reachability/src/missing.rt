@@ -1,6 +1,6 @@
 //! The first reached reference that denotes nothing.
 
-use crate::closing::Reached;
+use crate::holding::Reached;
 use std::alloc::{AllocError, Global};
 use wesl_name_resolution::{Denoted, Ends, ImportError, Module, Modules, denotation};
 use wgsl_base::{CloneIn, Text};

@@ -127,11 +127,11 @@ fn load_asked<R: Files + AllocGlobal>(
     loading: &mut Loading,
     asked: &Asked,
 ) -> Result<(), Stop> {
-    for found in asked.values() {
+    for target in asked.modules.values() {
         if loading.modules.len() >= wanted.max_modules as usize {
             return Err(Stop::Fault);
         }
-        let path = &found.target.path;
+        let path = &target.path;
         sources.read(rt, folders, path)?;
         let unit = decided(rt.alloc(), sources, wanted.features, path)?;
         loading.add(path, unit)?;

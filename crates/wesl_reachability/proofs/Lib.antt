@@ -1,0 +1,14 @@
+mod Cells
+mod Held
+mod Onward
+mod Linking
+mod Searching
+mod Passes
+mod Joining
+mod Arriving
+mod Entries
+mod Reaching
+mod Goes
+mod Follows
+mod Rows
+mod Uses

@@ -1,0 +1,10 @@
+use Rattle.std.proofs.Common.{◌≡◌, take}
+use Rattle.wesl_reachability.specs.Closing.{Searches, AreFollowed}
+use Rattle.wesl_reachability.proofs.closing.Closing.follow_references.Given as goal
+
+abbrev pub invariant-loop-reference : goal.invariant-loop-reference
+invariant-loop-reference l = record {
+  searches : Searches l.modules l.fn.self l.self;
+  followed : AreFollowed l.self.followed.items l.number (take l.reference-index l.references);
+  done : l.self.done ≡ l.fn.self.done;
+}

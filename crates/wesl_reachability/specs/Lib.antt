@@ -1,0 +1,11 @@
+pub mod Cells
+pub mod Holding
+pub mod Onward
+pub mod Joining
+pub mod Asking
+pub mod Searching
+pub mod Passing
+pub mod Held
+pub mod Closing
+pub mod Starts
+pub mod Uses
