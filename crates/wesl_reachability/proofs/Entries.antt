@@ -48,6 +48,23 @@ entry_stands l [] uses k e is = absurd (cc)
 entry_stands l (p ∷ ps) [] k e is = absurd (cc)
 entry_stands l (p ∷ ps) (u ∷ us) k e is = at l p ps u us e (is_void p.kind) refl k is (λ j s. entry_stands l ps us j e s)
 
+-- at a place of no `;` stands an entry
+pub entry_there : (l : MarkList) (places : List Place) (uses : List (Vec ℕ Global)) (j : ℕ) (p : Place) → length uses ≡ length places → slice_get places j ≡ Some p → is_void p.kind ≡ false
+    → (references : Vec ℕ Global) × (slice_get uses j ≡ Some references) × (slice_get (entries_said l places uses) (place_number places j) ≡ Some (entry_said l p references.items))
+entry_there l [] us j p e is v = absurd (cc)
+entry_there l (q ∷ ps) [] j p e is v = absurd (omega (arith, e))
+entry_there l (q ∷ ps) (u ∷ us) zero p e is v =
+    let same : q ≡ p = same_some is in
+    let f : is_void q.kind ≡ false = ap (λ z. is_void z.kind) same ∙ v in
+    (u, refl, ap (λ b. slice_get (if b then entries_said l ps us else entry_said l q u.items ∷ entries_said l ps us) 0) f ∙ ap (λ z. Some (entry_said l z u.items)) same)
+entry_there l (q ∷ ps) (u ∷ us) (suc j) p e is v =
+    let x = entry_there l ps us j p (omega (arith, e)) is v in
+    (x.0, x.1, by (is_void q.kind) refl ∙ x.2)
+  where
+    by : (b : Bool) → is_void q.kind ≡ b → slice_get (entries_said l (q ∷ ps) (u ∷ us)) (place_number (q ∷ ps) (suc j)) ≡ slice_get (entries_said l ps us) (place_number ps j)
+    by true f = λ i. slice_get (if f i then entries_said l ps us else entry_said l q u.items ∷ entries_said l ps us) (number_cons q ps j true f i)
+    by false f = λ i. slice_get (if f i then entries_said l ps us else entry_said l q u.items ∷ entries_said l ps us) (number_cons q ps j false f i)
+
 -- places of entries have numbers of their own
 pub same_entry : (places : List Place) (i j : ℕ) (x y : Place) → slice_get places i ≡ Some x → is_void x.kind ≡ false → slice_get places j ≡ Some y → is_void y.kind ≡ false
     → place_number places i ≡ place_number places j → i ≡ j

@@ -1,13 +1,16 @@
 -- References are followed.
 use Rattle.std.proofs.Common.{◌≡◌, refl, sym, ap, ◌∙◌, subst, ℕ, zero, suc, ◌+◌, ◌<◌, ◌≤◌, ◌⊎◌, inl, inr, List, [], ◌∷◌, ◌++◌, length, take, Option, Some, None, Bool, true, false, is_some, arith}
-use Rattle.std.specs.Prelude.{slice_get, Vec}
+use Rattle.std.specs.Prelude.{slice_get, get_or, Vec}
+use Rattle.wgsl_path.specs.Paths.{path_text}
 use Rattle.std.specs.List.{Contains}
 use Rattle.std.specs.declared.alloc.Global.{Global}
 use Rattle.std.proofs.lemmas.List.{append-nil}
 use Rattle.std.proofs.lemmas.List.Elements.{Contains-push_cases}
-use Rattle.wgsl_base.proofs.Members.{in_none}
-use Rattle.wesl_chains.specs.Outlines.{Path, Symbol, Use, Outline, Finder}
-use Rattle.wesl_chains.specs.Senses.{sense}
+use Rattle.wgsl_base.proofs.Members.{first_in, later_in, in_none}
+use Rattle.wesl_chains.specs.Outlines.{Name, Path, Symbol, Use, Outline, Finder}
+use Rattle.wesl_chains.specs.Senses.{Sense, own, imported, bare, free, sense}
+use Rattle.wesl_chains.specs.Chains.{unknown, next, outcome_at, declared_at, missing, private, here, comes_to, by_item}
+use Rattle.wesl_chains.specs.Reaching.{IsAsked}
 use Rattle.wesl_chains.proofs.Loops.{same_some}
 use Rattle.wesl_module_index.specs.declared.module.Module.{Module}
 use Rattle.wesl_module_index.specs.declared.module.ReferenceTarget.{ReferenceTarget}
@@ -26,13 +29,41 @@ use Rattle.wesl_reachability.specs.Holding.{Holds, IsPassed, Grows, HasAll, Asse
 use Rattle.wesl_reachability.specs.Asking.{Waiting, waiting}
 use Rattle.wesl_reachability.specs.Searching.{IsHandled, Searched}
 use Rattle.wesl_reachability.specs.Held.{AreUnloaded, HoldsAt, IsPassedAt, HoldsAll}
-use Rattle.wesl_reachability.specs.Closing.{IsUnderway, Keeps, Seeks, FollowsOne, ArrivesAlone, EndsAs, KeepsFlags, Searches, AreFollowed, IsFollowed, AreDone, IsClosed, IsOpen, ReachesMore}
+use Rattle.wesl_reachability.specs.Uses.{uses_in}
+use Rattle.wesl_reachability.specs.Sound.{Comes, RefusesSome, IsReference, Sound, IsSound, KeepsSound}
+use Rattle.wesl_reachability.specs.Closing.{ClosesExactly, LacksOne, IsUnderway, Keeps, Seeks, FollowsOne, ArrivesAlone, EndsAs, KeepsFlags, Searches, AreFollowed, IsFollowed, AreDone, IsClosed, IsOpen, ReachesMore}
 use Rattle.wesl_reachability.proofs.Cells.{cell_now, some_put, kept_set, kept_room, set_there, same_cells}
 use Rattle.wesl_reachability.proofs.Held.{grows_same, grows_then}
 use Rattle.wesl_reachability.proofs.Linking.{adds_at}
 use Rattle.wesl_reachability.proofs.Searching.{Moves, searched_on, handled_on}
 use Rattle.wesl_reachability.proofs.Arriving.{arrives_grows, arrives_asserts, arrives_there, searched_asks, searched_flags, searched_same_flags, handled_seeks, handled_declared, handled_free, handled_unloaded}
 use Rattle.wesl_reachability.proofs.Reaching.{holds_all}
+use Rattle.wesl_reachability.proofs.Sound.{own_reached, bare_refused, place_references, sound_waits, sound_more, sound_missing, sound_arrives, sound_same}
+
+-- what begins so
+begins_seeks : (p : Path) (s : Symbol) (x : Sense) → seeks s ≡ begins p x → x ≡ imported s
+begins_seeks p s (own k) e = absurd (cc)
+begins_seeks p s (imported t) e = let f : s ≡ t = cc in ap imported (sym f)
+begins_seeks p s (bare x) e = absurd (cc)
+begins_seeks p s free e = absurd (cc)
+
+begins_declared : (p q : Path) (k : ℕ) (x : Sense) → known (Some (declared_at q k)) ≡ begins p x → x ≡ own k
+begins_declared p q k (own j) e = let f : k ≡ j = cc in ap own (sym f)
+begins_declared p q k (imported t) e = absurd (cc)
+begins_declared p q k (bare x) e = absurd (cc)
+begins_declared p q k free e = absurd (cc)
+
+begins_missing : (p : Path) (s : Symbol) (x : Sense) → known (Some (missing s)) ≡ begins p x → (y : Name) × (x ≡ bare y)
+begins_missing p s (own k) e = absurd (cc)
+begins_missing p s (imported t) e = absurd (cc)
+begins_missing p s (bare x) e = (x, refl)
+begins_missing p s free e = absurd (cc)
+
+not_private : (p : Path) (s : Symbol) (x : Sense) → known (Some (private s)) ≡ begins p x → ⊥
+not_private p s (own k) e = absurd (cc)
+not_private p s (imported t) e = absurd (cc)
+not_private p s (bare x) e = absurd (cc)
+not_private p s free e = absurd (cc)
 
 module _ (ms : Modules) (m r : ℕ) (old new : Closing) where
   -- a symbol is sought
@@ -44,6 +75,25 @@ module _ (ms : Modules) (m r : ℕ) (old new : Closing) where
         let a = adds_at (waiting old.asked) rest (s, None) in
         searched_flags ms find old.holding old.chains flags now w m r sets (handled_seeks ms find old.holding old.chains w m r (seeks s) (starts find t) s refl a.there)
         (searched_asks ms find flags old.holding old.chains s (waiting old.asked ++ rest) w a (u find t e)));
+    sound = λ root kept all_begin used u. k.sound root kept all_begin [] (λ find t.
+        let d = used find t in
+        let w = waiting old.asked in
+        let comes : Comes find root kept all_begin s = record {
+          home = d.path;
+          outline = d.outline;
+          occurring = d.occurring;
+          used = d.used;
+          first = s;
+          is_meant = begins_seeks d.path s (sense d.outline d.occurring) (starts find t d.path d.outline d.occurring d.is_use);
+          passed = [];
+          chain = here;
+        } in
+        let a = sound_more ms find t root kept all_begin old.holding old.chains old.is_missing (w ++ []) (u find t) s comes in
+        sound_waits ms find t root kept all_begin old.holding old.chains old.is_missing ((s, None) ∷ (w ++ [])) a (w ++ (s, None) ∷ [])
+        (λ x c. elim ((adds_at w [] (s, None)).back x c) [
+          | inl e ↦ subst (λ y. Contains ((s, None) ∷ (w ++ [])) y) (sym e) (first_in (s, None) (w ++ []))
+          | inr y ↦ later_in x (s, None) (w ++ []) y
+        ]));
   }
 
   -- nothing is to be reached
@@ -51,6 +101,7 @@ module _ (ms : Modules) (m r : ℕ) (old new : Closing) where
   follows_none same handled = subst (λ x. FollowsOne ms m r old x) (sym same) (record {
     keeps = record { holding = grows_same old.holding; followed = refl; missing = λ e. e; unloaded = λ find t u. u };
     followed = λ flags now rest sets u find t e. searched_flags ms find old.holding old.chains flags now (waiting old.asked ++ rest) m r sets (handled find t (waiting old.asked ++ rest)) (u find t e);
+    sound = λ root kept all_begin used u. u;
   })
 
   sought_module : (g : ReferenceTarget) → sought_in (slice_get ms.list.items m) r ≡ Some g → (one : Module) × (slice_get ms.list.items m ≡ Some one) × (slice_get one.sought.items r ≡ Some g)
@@ -78,10 +129,29 @@ module _ (ms : Modules) (m r : ℕ) (old new : Closing) where
         (subst (λ z. Searched ms find new.holding old.chains now (waiting z ++ rest)) (sym a.asked)
         (searched_flags ms find new.holding old.chains flags now w m r sets
         (handled_declared ms find new.holding old.chains w m r (known (declared_in (place_at ms spot) (home_of ms spot.«module»))) (starts find t) spot (home_of ms spot.«module») refl same is h.0 h.1) y));
+    sound = λ root kept all_begin used u find t.
+        let d = used find t in
+        let w = waiting old.asked ++ [] in
+        let home : home_of ms spot.«module» ≡ Some d.path = ap (home_of ms) same ∙ ms.keyed d.path m d.is_use.is_numbered in
+        let meant = begins_declared d.path d.path (place_at ms spot) (sense d.outline d.occurring)
+            (ap (λ q. known (declared_in (place_at ms spot) q)) (sym home) ∙ starts find t d.path d.outline d.occurring d.is_use) in
+        let there = own_reached ms find t root kept all_begin d.path d.outline d.occurring (place_at ms spot) d.used meant in
+        let b = sound_arrives ms find t root kept all_begin old.holding old.chains old.is_missing w (u find t) spot new.holding a.arrives d.path (d.is_use.is_numbered ∙ ap Some (sym same)) there.0 there.1 in
+        subst (λ x. Sound ms find root kept all_begin new.holding new.chains new.is_missing (waiting x ++ [])) (sym a.asked)
+        (sound_same ms find t root kept all_begin new.holding new.holding old.chains new.chains old.is_missing new.is_missing w refl a.chains a.missing b);
   }
 
-  follows_missing : new.is_missing ≡ true → Keeps ms old new → FollowsOne ms m r old new
-  follows_missing missing k = record { keeps = k; followed = λ flags now rest sets u find t e. let f : true ≡ false = sym missing ∙ e in absurd (cc) }
+  follows_missing : LacksOne old new
+      → ((find : Finder) → AreTabled ms find → (root : Path) (kept : List Name) (all_begin : Bool) → IsReference find root kept all_begin ms m r → RefusesSome find root kept all_begin) → Keeps ms old new → FollowsOne ms m r old new
+  follows_missing l refuses k = record {
+    keeps = k;
+    followed = λ flags now rest sets u find t e. let f : true ≡ false = sym l.missing ∙ e in absurd (cc);
+    sound = λ root kept all_begin used u find t.
+        let w = waiting old.asked ++ [] in
+        let b = sound_missing ms find t root kept all_begin old.holding old.chains old.is_missing w (u find t) (refuses find t root kept all_begin (used find t)) in
+        subst (λ x. Sound ms find root kept all_begin new.holding new.chains new.is_missing (waiting x ++ [])) (sym l.asked)
+        (sound_same ms find t root kept all_begin old.holding new.holding old.chains new.chains true new.is_missing w l.holding l.chains l.missing b);
+  }
 
   pub follows_ends : (d : Denoted) → ((find : Finder) → AreTabled ms find → (p : Path) (o : Outline) (u : Use) → IsUse ms find m r p o u → known (outcome_of ms d) ≡ begins p (sense o u)) → IsBegunAs ms m r (start.Ends d) → EndsAs ms d old new → Keeps ms old new
       → FollowsOne ms m r old new
@@ -90,8 +160,11 @@ module _ (ms : Modules) (m r : ℕ) (old new : Closing) where
     where
       outcome_known : Denoted → Beginning
       outcome_known d = known (outcome_of ms d)
-  follows_ends (denoted.Missing path name) starts is e k = follows_missing e k
-  follows_ends (denoted.Private path name) starts is e k = follows_missing e k
+  follows_ends (denoted.Missing path name) starts is e k = follows_missing e (λ find t root kept all_begin d.
+      let y = begins_missing d.path (record { home = path_text path.now; name = name.now }) (sense d.outline d.occurring) (starts find t d.path d.outline d.occurring d.is_use) in
+      bare_refused ms find t root kept all_begin d.path d.outline d.occurring y.0 d.used y.1) k
+  follows_ends (denoted.Private path name) starts is e k = follows_missing e (λ find t root kept all_begin d.
+      absurd (not_private d.path (record { home = path_text path.now; name = name.now }) (sense d.outline d.occurring) (starts find t d.path d.outline d.occurring d.is_use))) k
   follows_ends denoted.Free starts is e k = follows_none e (λ find t waits. handled_free ms find old.holding old.chains waits m r (known None) (starts find t) refl)
 
 -- ---- searching on
@@ -124,6 +197,12 @@ followed_more flags now m xs x a keeps room one r c h = elim (Contains-push_case
 ]
 
 -- ---- a reference is followed
+
+-- where only flags of references change, what is sound stays so
+pub sound_moved : (ms : Modules) (old new : Closing) → new.holding ≡ old.holding → new.chains ≡ old.chains → new.asked ≡ old.asked → new.is_missing ≡ old.is_missing → KeepsSound ms old new
+sound_moved ms old new holding chains asked missing root kept all_begin u find t =
+    subst (λ x. Sound ms find root kept all_begin new.holding new.chains new.is_missing (waiting x ++ [])) (sym asked)
+    (sound_same ms find t root kept all_begin old.holding new.holding old.chains new.chains old.is_missing new.is_missing (waiting old.asked ++ []) holding chains missing (u find t))
 
 -- its flag is set first
 pub searches_first : (ms : Modules) (m r : ℕ) (old mid new : Closing) → Sets old.followed.items m r mid.followed.items true → mid.holding ≡ old.holding → mid.chains ≡ old.chains → mid.asked ≡ old.asked → mid.is_missing ≡ old.is_missing
@@ -281,3 +360,51 @@ some_before (y ∷ xs) (suc i) x is = let h = some_before xs i x is in omega (ar
 
 pub asserts_same : (ms : List Module) (h now : Holding) → now.passed ≡ h.passed → Grows h now → HasAll ms h → Asserts ms h → Asserts ms now
 asserts_same ms h now passed grows all a m k p is = grows.stays m k (a m k (ap (λ v. slice_get v.items m) (sym passed) ∙ p) is)
+
+-- ---- what is reached, exactly
+
+pub closes_exactly : (ms : Modules) (old new : Closing) → Grows old.holding new.holding → (IsOpen ms old → IsClosed ms new × IsOpen ms new) → KeepsSound ms old new → ClosesExactly ms old new
+closes_exactly ms old new grows closed sound open find t root kept all_begin u begun rooted =
+    let s = sound root kept all_begin u find t in
+    let c = closed open in (
+      record {
+        holds = s.held;
+        passes = s.passed;
+        asks = λ p a. asked (a.one) (subst (λ l. Contains l a.one) (sym (append-nil (waiting new.asked))) a.is_there) p a.is_home (c.1.unloaded find t a.one a.is_there) s;
+        refuses = s.missing;
+      },
+      λ e. c.0 find t e root kept all_begin (λ m k b. held_on (begun m k b)) (record { number = rooted.number; is_numbered = rooted.is_numbered; passed = grows.keeps rooted.number rooted.passed }),
+    )
+  where
+    held_on : {m : Path} {k : ℕ} → HoldsAt ms old.holding m k → HoldsAt ms new.holding m k
+    held_on x = record { number = x.number; place = x.place; table = x.table; is_numbered = x.is_numbered; is_module = x.is_module; entry = x.entry; at = x.at; held = grows.stays x.number x.place x.held }
+
+    asked : (x : Waiting) → Contains (waiting new.asked ++ []) x → (p : Path) → x.0.home ≡ p → next find x.0 ≡ unknown → Sound ms find root kept all_begin new.holding new.chains new.is_missing (waiting new.asked ++ []) → IsAsked find root kept all_begin p
+    asked x there p home none s =
+        let c = s.waiting x.0 x.1 there in
+        record {
+          home = c.home;
+          place = c.used.place;
+          outline = c.outline;
+          entry = c.used.entry;
+          is_at = c.used.is_at;
+          reached = c.used.reached;
+          occurring = c.occurring;
+          used = c.used.used;
+          target = x.0;
+          passed = c.passed ++ [];
+          unfinished = by_item c.is_meant (comes_to c.chain (ap (outcome_at x.0) none));
+          is_home = home;
+        }
+
+pub contains_at : {X : Type 0} (xs : List X) (i : ℕ) (d : X) → i < length xs → Contains xs (get_or xs i d)
+contains_at [] i d less = absurd (omega (arith, less))
+contains_at (x ∷ xs) zero d less = first_in x xs
+contains_at (x ∷ xs) (suc i) d less = later_in (get_or xs i d) x xs (contains_at xs i d (omega (arith, less)))
+
+-- references of a place that was reached
+pub place_used : (ms : Modules) (old : Closing) (root : Path) (kept : List Name) (all_begin : Bool) (spot : DeclarationId) → Contains old.holding.work.items spot → IsSound ms root kept all_begin old []
+    → (find : Finder) → AreTabled ms find → (r : ℕ) → Contains (uses_in (slice_get ms.list.items spot.«module») spot.place) r → IsReference find root kept all_begin ms spot.«module» r
+place_used ms old root kept all_begin spot there u find t r c =
+    let s = u find t in
+    place_references ms find t root kept all_begin old.holding old.chains old.is_missing (waiting old.asked ++ []) s spot.«module» spot.place (s.works spot there) r c

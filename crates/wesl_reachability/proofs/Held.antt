@@ -20,7 +20,7 @@ use Rattle.wesl_reachability.proofs.Cells.{same_or, there_put, some_put, was_set
 -- ---- growing
 
 pub grows_same : (h : Holding) → Grows h h
-grows_same h = record { stays = λ m k x. x; room = λ m k x. x; keeps = λ m x. x; wide = λ m x. x; works = λ w. w; behind = λ i s x. x; longer = omega arith }
+grows_same h = record { stays = λ m k x. x; room = λ m k x. x; keeps = λ m x. x; wide = λ m x. x; works = λ w. w; works_only = λ w. w; behind = λ i s x. x; longer = omega arith }
 
 pub grows_then : {old mid new : Holding} → Grows old mid → Grows mid new → Grows old new
 grows_then a b = record {
@@ -29,6 +29,7 @@ grows_then a b = record {
   keeps = λ m x. b.keeps m (a.keeps m x);
   wide = λ m x. b.wide m (a.wide m x);
   works = λ w. b.works (a.works w);
+  works_only = λ w. b.works_only (a.works_only w);
   behind = λ i s x. b.behind i s (a.behind i s x);
   longer = (let x = a.longer in let y = b.longer in omega (arith, x, y));
 }
@@ -52,6 +53,11 @@ module _ (spot : DeclarationId) (old new : Holding) (work : new.work.items ≡ o
         | inl x ↦ Contains-append_left old.work.items (spot ∷ []) (spot_of m k) (w m k x)
         | inr x ↦ subst (λ v. Contains (old.work.items ++ spot ∷ []) v) (λ i. record { «module» = sym x.0 i; place = sym x.1 i }) (Contains-push old.work.items spot)
       ]);
+      works_only = λ w x c. elim (Contains-push_cases old.work.items spot x (subst (λ l. Contains l x) work c)) [
+        | inl y ↦ kept_set old.reached.items spot.«module» spot.place new.reached.items s.puts x.«module» x.place (w x y)
+        | inr e ↦ subst (λ y. Holds new y.«module» y.place) e
+            (set_there old.reached.items spot.«module» spot.place new.reached.items s.puts (ap is_some (not_set (cell old.reached.items spot.«module» spot.place) s.told)))
+      ];
       behind = λ i x is. ap (λ l. slice_get l i) work ∙ get_front old.work.items (spot ∷ []) i x is;
       longer = (let e : length new.work.items ≡ length (old.work.items ++ spot ∷ []) = ap length work in let f = length-append old.work.items (spot ∷ []) in omega (arith, e, f));
     };
@@ -71,6 +77,7 @@ reached_again spot old new work passed s = record {
     keeps = λ m h. ap (λ v. slice_get v.items m) passed ∙ h;
     wide = λ m h. ap (λ v. is_some (slice_get v.items m)) passed ∙ h;
     works = λ w m k h. subst (λ v. Contains v.items (spot_of m k)) (sym work) (w m k (sym (same_cells old.reached.items spot.«module» spot.place new.reached.items s m k) ∙ h));
+    works_only = λ w x c. same_cells old.reached.items spot.«module» spot.place new.reached.items s x.«module» x.place ∙ w x (subst (λ v. Contains v.items x) work c);
     behind = λ i x is. ap (λ v. slice_get v.items i) work ∙ is;
     longer = (let e : length new.work.items ≡ length old.work.items = ap (λ v. length v.items) work in omega (arith, e));
   };
@@ -179,6 +186,7 @@ module _ (ms : List Module) (number : ℕ) (old new : Holding) (first : Bool) (s
     keeps = keeps_set;
     wide = keeps_wide;
     works = λ w m k h. subst (λ v. Contains v.items (spot_of m k)) (sym work) (w m k (sym (ap (λ v. cell v.items m k) reached) ∙ h));
+    works_only = λ w x c. ap (λ v. cell v.items x.«module» x.place) reached ∙ w x (subst (λ v. Contains v.items x) work c);
     behind = λ i x is. ap (λ v. slice_get v.items i) work ∙ is;
     longer = (let e : length new.work.items ≡ length old.work.items = ap (λ v. length v.items) work in omega (arith, e));
   }

@@ -5,6 +5,7 @@ mod Linking
 mod Searching
 mod Passes
 mod Joining
+mod Sound
 mod Arriving
 mod Entries
 mod Reaching

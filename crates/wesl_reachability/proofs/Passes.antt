@@ -20,7 +20,7 @@ use Rattle.wesl_reachability.specs.Cells.{cell, HasRoom}
 use Rattle.wesl_reachability.specs.Holding.{HasModule, IsPassed, Grows, HasAll, Asserts, Passes}
 use Rattle.wesl_reachability.specs.Joining.{state_at, list_of, before_at, PutsState, PassesImport}
 use Rattle.wesl_reachability.specs.Searching.{is_met, is_known, IsKnown, IsGone}
-use Rattle.wesl_reachability.specs.Passing.{SameWays, IsPassing, PassesOne, PassesSome, PassesBefore}
+use Rattle.wesl_reachability.specs.Passing.{SameWays, IsPassing, LeadsUp, itself, before, PassesOnly, PassesOne, PassesSome, PassesBefore}
 use Rattle.wesl_reachability.proofs.Cells.{cell_now, kept_room}
 use Rattle.wesl_reachability.proofs.Held.{grows_same, grows_then}
 use Rattle.wesl_reachability.proofs.Linking.{known_state}
@@ -113,6 +113,10 @@ module _ (via : Via) (old new : Chains) (was_met : state_at old via ≡ Some Met
       },
       passed_now,
     );
+    only_more = λ v d. d;
+    only_held = q.only_held;
+    only_passed = q.only_passed;
+    only_gone = gone_or;
   }
     where
       same : (v w : Via) → Contains (before_at new v) w → Contains (before_at old v) w
@@ -140,12 +144,22 @@ passes_again ms via h c new work later other same added = subst (λ x. PassesOne
         },
         gone,
       );
+  only_more = λ v d. absurd (in_none v d);
+  only_held = λ m k x. inl x;
+  only_passed = λ m x. inl x;
+  only_gone = λ v x. inl x;
 })
 
 -- ---- one by one
 
 pub passes_some : (ms : Modules) (work : List Via) (h : Holding) (c : Chains) → PassesSome ms work h c h c work
-passes_some ms work h c = record { ways = same_ways c; grows = grows_same h; passing = λ a. (a, λ v x. inr x) }
+passes_some ms work h c = record {
+  ways = same_ways c;
+  grows = grows_same h;
+  passing = λ a. (a, λ v x. inr x);
+  only = record { held = λ m k x. inl x; passed = λ m x. inl x; gone = λ v x. inl x };
+  only_left = λ v x. itself x;
+}
 
 drop_get : {X : Type 0} (xs : List X) (i : ℕ) (x : X) → slice_get xs i ≡ Some x → drop i xs ≡ x ∷ drop (i + 1) xs
 drop_get [] i x is = absurd (cc)
@@ -178,6 +192,7 @@ pub passes_more : (ms : Modules) (first : List Via) (h now last : Holding) (c ne
     → PassesSome ms first h c now new (drop at work) → PassesOne ms via now new work last end later → PassesSome ms first h c last end (drop (at + 1) later)
 passes_more ms first h now last c new end work later at via is a p =
     let less = get_within work at via is in
+    let up : LeadsUp c first via = a.only_left via (subst (λ l. Contains l via) (sym (drop_get work at via is)) (first_in via (drop (at + 1) work))) in
     let e : drop (at + 1) later ≡ drop (at + 1) work ++ p.more = ap (drop (at + 1)) p.added ∙ drop_append work p.more (at + 1) (omega (arith, less)) in
     subst (λ l. PassesSome ms first h c last end l) (sym e) (record {
       ways = ways_then a.ways p.ways;
@@ -194,6 +209,24 @@ passes_more ms first h now last c new end work later at via is a p =
               ]
             ],
           );
+      only = record {
+        held = λ m k x. elim (p.only_held m k x) [
+          | inl y ↦ a.only.held m k y
+          | inr y ↦ inr (record { via = via; leads_up = up; is_module = sym y.0 }, y.1)
+        ];
+        passed = λ m x. elim (p.only_passed m x) [
+          | inl y ↦ a.only.passed m y
+          | inr y ↦ inr (record { via = via; leads_up = up; is_module = sym y })
+        ];
+        gone = λ v x. elim (p.only_gone v x) [
+          | inl y ↦ a.only.gone v y
+          | inr y ↦ inr (subst (λ z. LeadsUp c first z) (sym y) up)
+        ];
+      };
+      only_left = λ v x. elim (Contains-append_cases (drop (at + 1) work) p.more v x) [
+        | inl y ↦ a.only_left v (subst (λ l. Contains l v) (sym (drop_get work at via is)) (later_in v via (drop (at + 1) work) y))
+        | inr y ↦ before up (subst (λ z. Contains (list_of (cell z.items via.«module» via.item)) v) a.ways.before (p.only_more v y))
+      ];
     })
 
 pub passes_all : (ms : Modules) (work : List Via) (h now : Holding) (c new : Chains) (left : List Via) → PassesSome ms work h c now new left → left ≡ [] → PassesBefore ms work h c now new
@@ -207,6 +240,7 @@ passes_all ms work h now c new left a none = record {
       | inr g ↦ absurd (in_none v (subst (λ l. Contains l v) none g))
     ],
   );
+  only = a.only;
 }
 
 pub passes_none : (ms : Modules) (h : Holding) (c : Chains) → PassesBefore ms [] h c h c

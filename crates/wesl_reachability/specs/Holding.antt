@@ -32,6 +32,10 @@ HasModule h m = is_some (slice_get h.passed.items m) ≡ true
 abbrev pub IsWork : Holding → Type 0
 IsWork h = (m k : ℕ) → Holds h m k → Contains h.work.items (spot_of m k)
 
+-- and nothing else is
+abbrev pub IsWorkOnly : Holding → Type 0
+IsWorkOnly h = (s : DeclarationId) → Contains h.work.items s → Holds h s.«module» s.place
+
 -- at a place of these stands something of this kind
 pub record StandsAt (places : List Place) (k : ℕ) (kind : Kind) : Type 0 where
   pub place : Place
@@ -45,6 +49,7 @@ pub record Grows (old new : Holding) : Type 0 where
   pub keeps : (m : ℕ) → IsPassed old m → IsPassed new m
   pub wide : (m : ℕ) → HasModule old m → HasModule new m
   pub works : IsWork old → IsWork new
+  pub works_only : IsWorkOnly old → IsWorkOnly new
   pub behind : (i : ℕ) (s : DeclarationId) → slice_get old.work.items i ≡ Some s → slice_get new.work.items i ≡ Some s
   pub longer : length old.work.items ≤ length new.work.items
 

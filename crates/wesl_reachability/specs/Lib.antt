@@ -7,5 +7,6 @@ pub mod Searching
 pub mod Passing
 pub mod Held
 pub mod Closing
+pub mod Sound
 pub mod Starts
 pub mod Uses

@@ -6,7 +6,10 @@ ghost use Rattle.wesl_module_index.specs.declared.modules.Modules.{Modules};
 ghost use Rattle.wesl_reachability.specs.Cells.{HasRoom, IsSet};
 ghost use Rattle.wesl_reachability.specs.Holding.{ReachesAll, Passes};
 ghost use Rattle.wesl_reachability.specs.Uses.{uses_in};
-ghost use Rattle.wesl_reachability.specs.Closing.{Seeks, goes_on, JoinsOn, EndsAs, Keeps, FollowsOne, Searches, AreFollowed, IsFollowed, AreDone, IsOpen, IsClosed, ReachesMore, TakesAsked};
+ghost use Rattle.wesl_reachability.specs.Closing.{Seeks, goes_on, JoinsOn, EndsAs, Keeps, FollowsOne, Searches, AreFollowed, IsFollowed, AreDone, IsOpen, IsClosed, ClosesExactly, LeadsOnTo, ReachesMore, TakesAsked};
+ghost use Rattle.wesl_reachability.specs.Sound.{FollowsSoundly, FollowsAllSoundly, FollowsPlaceSoundly, KeepsSound, ReachesSoundly, PassesSoundly};
+ghost use Rattle.wesl_chains.specs.Outlines.{Finder};
+ghost use Rattle.wesl_module_index.specs.Loaded.{AreTabled};
 
 use crate::asked::Asked;
 use crate::chains::{Chains, Joined};
@@ -114,6 +117,7 @@ impl Closing {
         ensures reaches { OnOk result (ReachesAll spots.now self.old.holding self.new.holding) }
         ensures same { ReachesMore self.old self.new }
         ensures open { OnOk result ((modules : Modules) → IsOpen modules self.old → IsOpen modules self.new) }
+        ensures sound { OnOk result (ReachesSoundly spots.now self.old self.new) }
     {
         self.holding.reach_all(spots)
     }
@@ -123,6 +127,7 @@ impl Closing {
         ensures passes { OnOk result (Passes modules.now.list.items number self.old.holding self.new.holding) }
         ensures same { ReachesMore self.old self.new }
         ensures open { OnOk result (IsOpen modules.now self.old → IsOpen modules.now self.new) }
+        ensures sound { OnOk result (PassesSoundly modules.now number self.old self.new) }
     {
         self.holding.pass(modules, number)
     }
@@ -132,6 +137,8 @@ impl Closing {
         ensures searches { OnOk result (Searches modules.now self.old self.new) }
         ensures done { OnOk result (AreDone modules.now self.old self.old.done → AreDone modules.now self.new (length self.new.holding.work.items)) }
         ensures closed { OnOk result (IsOpen modules.now self.old → IsClosed modules.now self.new × IsOpen modules.now self.new) }
+        ensures sound { OnOk result (KeepsSound modules.now self.old self.new) }
+        ensures exact { OnOk result (ClosesExactly modules.now self.old self.new) }
     {
         for at in self.done..usize::MAX {
             let Some(spot) = self.holding.spot_at(at) else {
@@ -147,6 +154,7 @@ impl Closing {
     fn follow_place(&mut self, modules: &Modules, spot: DeclarationId) -> Result<(), AllocError>
         ensures searches { OnOk result (Searches modules.now self.old self.new) }
         ensures followed { OnOk result (IsFollowed modules.now self.new.followed.items spot) }
+        ensures sound { OnOk result (FollowsPlaceSoundly modules.now spot self.old self.new) }
         ensures done { self.new.done ≡ self.old.done }
     {
         self.follow_references(modules, spot.module, uses_of(modules, spot))
@@ -160,6 +168,7 @@ impl Closing {
     ) -> Result<(), AllocError>
         ensures searches { OnOk result (Searches modules.now self.old self.new) }
         ensures followed { OnOk result (AreFollowed self.new.followed.items number references.now) }
+        ensures sound { OnOk result (FollowsAllSoundly modules.now number references.now self.old self.new) }
         ensures done { self.new.done ≡ self.old.done }
     {
         for reference in references {
@@ -171,6 +180,7 @@ impl Closing {
     fn follow(&mut self, modules: &Modules, number: usize, reference: u32) -> Result<(), AllocError>
         ensures searches { OnOk result (Searches modules.now self.old self.new) }
         ensures followed { OnOk result (HasRoom self.old.followed.items number reference → IsSet self.new.followed.items number reference) }
+        ensures sound { OnOk result (FollowsSoundly modules.now number reference self.old self.new) }
         ensures done { self.new.done ≡ self.old.done }
     {
         let is_first = set(&mut self.followed, number, reference as usize);
@@ -252,6 +262,7 @@ impl Closing {
         before: Option<Via>,
     ) -> Result<Option<(Via, Link<'a>)>, AllocError>
         ensures seeks { IfOk result (λ r. Seeks modules.now (symbol_of link.entry, before) (goes_on r) self.old self.new) }
+        ensures leads { IfOk result (λ r. (find : Finder) → AreTabled modules.now find → LeadsOnTo find (symbol_of link.entry) (goes_on r)) }
         ensures done { self.new.done ≡ self.old.done }
     {
         match found_at(modules, link) {

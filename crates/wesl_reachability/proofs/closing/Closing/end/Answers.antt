@@ -1,4 +1,4 @@
-use Rattle.std.proofs.Common.{refl, sym, subst}
+use Rattle.std.proofs.Common.{refl, sym, subst, true}
 use Rattle.std.specs.Prelude.{OnOk}
 use Rattle.wesl_reachability.specs.Closing.{EndsAs}
 use Rattle.wesl_reachability.proofs.Held.{map_ok}
@@ -26,3 +26,11 @@ returns-in-Free-clause-keeps c = keeps_same c.args.modules.now c.args.self.now
 
 pub returns-in-Unloaded-clause-keeps : goal.returns-in-Unloaded-clause-keeps
 returns-in-Unloaded-clause-keeps c = keeps_same c.args.modules.now c.args.self.now
+
+pub returns-in-Missing-clause-ends : goal.returns-in-Missing-clause-ends
+returns-in-Missing-clause-ends c =
+    subst (λ d. EndsAs c.args.modules.now d c.args.self.now (record c.args.self.now { is_missing = true })) (sym c.in-Missing.is) (record { holding = refl; chains = refl; asked = refl; missing = refl })
+
+pub returns-in-Private-clause-ends : goal.returns-in-Private-clause-ends
+returns-in-Private-clause-ends c =
+    subst (λ d. EndsAs c.args.modules.now d c.args.self.now (record c.args.self.now { is_missing = true })) (sym c.in-Private.is) (record { holding = refl; chains = refl; asked = refl; missing = refl })

@@ -23,3 +23,9 @@ pub returns-else-is_first-clause-followed : goal.returns-else-is_first-clause-fo
 returns-else-is_first-clause-followed c =
     (searches_again c.args.modules.now c.args.number c.args.reference c.args.self.now (record c.args.self.now { followed = c.set-is_first.new.rows })
     (subst (λ b. Sets c.args.self.now.followed.items c.args.number c.args.reference c.set-is_first.new.rows.items b) c.if-is_first.false c.set-is_first.ensures) refl refl refl refl).1
+
+pub returns-in_ok-follow_first-clause-sound : goal.returns-in_ok-follow_first-clause-sound
+returns-in_ok-follow_first-clause-sound c = λ root kept all_begin used u. c.in_ok-follow_first.ensures.follows.sound root kept all_begin used u
+
+pub returns-else-is_first-clause-sound : goal.returns-else-is_first-clause-sound
+returns-else-is_first-clause-sound c = λ root kept all_begin used u. u

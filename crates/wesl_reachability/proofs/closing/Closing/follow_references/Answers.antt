@@ -1,11 +1,11 @@
 use Rattle.std.proofs.Common.{◌≡◌, refl, sym, ◌∙◌, subst, ◌+◌, take, List, ℕ}
 use Rattle.std.proofs.lemmas.List.{take_more}
 use Rattle.wesl_reachability.specs.Closing.{AreFollowed}
-use Rattle.wesl_reachability.proofs.Follows.{searches_same, searches_then, followed_none, followed_more}
+use Rattle.wesl_reachability.proofs.Follows.{searches_same, searches_then, followed_none, followed_more, contains_at}
 use Rattle.wesl_reachability.proofs.closing.Closing.follow_references.Goals as goal
 
 pub loop-reference-init : goal.loop-reference-init
-loop-reference-init c = record { searches = searches_same c.args.modules.now c.args.self.now; followed = followed_none c.args.self.now.followed.items c.args.number; done = refl }
+loop-reference-init c = record { searches = searches_same c.args.modules.now c.args.self.now; followed = followed_none c.args.self.now.followed.items c.args.number; sound = λ root kept all_begin used u. u; done = refl }
 
 pub loop-reference-preserved : goal.loop-reference-preserved
 loop-reference-preserved c =
@@ -15,5 +15,7 @@ loop-reference-preserved c =
       followed = subst (λ (l : List ℕ). AreFollowed c.follow.new.self.followed.items c.args.number l) (sym (take_more c.args.references.now i 0 c.loop-reference-test.true))
           (followed_more c.loop-reference.self.followed.items c.follow.new.self.followed.items c.args.number (take i c.args.references.now) _ c.loop-reference.invariant.followed
           (λ r x. c.in_ok-follow.ensures.searches.keeps.set c.args.number r x) (λ r. c.in_ok-follow.ensures.searches.keeps.room c.args.number r) c.in_ok-follow.ensures.followed);
+      sound = λ root kept all_begin used u. c.in_ok-follow.ensures.sound root kept all_begin
+          (λ find t. used find t _ (contains_at c.args.references.now i 0 c.loop-reference-test.true)) (c.loop-reference.invariant.sound root kept all_begin used u);
       done = c.follow.ensures.done ∙ c.loop-reference.invariant.done;
     }

@@ -1,11 +1,17 @@
-use Rattle.std.proofs.Common.{◌≡◌, refl, sym, ap, ◌∙◌, subst, [], ◌∷◌, Some, None}
+use Rattle.std.proofs.Common.{◌≡◌, refl, sym, ap, ◌∙◌, subst, ℕ, ◌+◌, ◌<◌, List, [], ◌∷◌, ◌++◌, length, Some, None, arith, length-append}
+use Rattle.wesl_chains.specs.Outlines.{Path, Finder}
+use Rattle.wesl_chains.specs.Chains.{Leads, here}
+use Rattle.wesl_chains.proofs.Loops.{leads_more}
+use Rattle.wesl_module_index.specs.Loaded.{AreTabled}
 use Rattle.wesl_name_resolution.specs.Links.{symbol_of}
-use Rattle.wesl_reachability.specs.Closing.{Seeks, goes_on}
-use Rattle.wesl_reachability.proofs.Goes.{seeks_same, seeks_then, seeks_missing}
+use Rattle.wesl_name_resolution.proofs.Chains.{exhausted}
+use Rattle.wesl_reachability.specs.Closing.{Seeks, LeadsOnTo, goes_on}
+use Rattle.wesl_reachability.proofs.Goes.{seeks_same, seeks_then, seeks_missing, longer_chain}
+use Rattle.wesl_reachability.proofs.Sound.{comes_round}
 use Rattle.wesl_reachability.proofs.closing.Closing.seek.Goals as goal
 
 pub loop-item-init : goal.loop-item-init
-loop-item-init c = record { seeks = seeks_same c.args.modules.now (symbol_of c.args.first, c.args.before) c.args.self.now; done = refl }
+loop-item-init c = record { seeks = seeks_same c.args.modules.now (symbol_of c.args.first, c.args.before) c.args.self.now; chain = λ find t. ([], here, refl); done = refl }
 
 pub returns-in-None-clause-seeks : goal.returns-in-None-clause-seeks
 returns-in-None-clause-seeks c =
@@ -16,6 +22,8 @@ pub loop-item-preserved : goal.loop-item-preserved
 loop-item-preserved c = record {
   seeks = seeks_then c.args.modules.now (symbol_of c.args.first, c.args.before) (symbol_of c.loop-item.link, c.loop-item.before) _ c.args.self.now c.loop-item.self c.go.new.self c.loop-item.invariant.seeks
       (subst (λ r. Seeks c.args.modules.now (symbol_of c.loop-item.link, c.loop-item.before) (goes_on r) c.loop-item.self c.go.new.self) c.in-Some.is c.in_ok-further.ensures.seeks);
+  chain = λ find t. longer_chain find (symbol_of c.args.first) (symbol_of c.loop-item.link) (symbol_of c.in-Some.next) c.loop-item._item (c.loop-item.invariant.chain find t)
+      (subst (λ r. LeadsOnTo find (symbol_of c.loop-item.link) (goes_on r)) c.in-Some.is (c.in_ok-further.ensures.leads find t));
   done = c.go.ensures.done ∙ c.loop-item.invariant.done;
 }
 
@@ -27,4 +35,11 @@ returns-in-Some-clause-seeks c =
     let three = (symbol_of c.in-Some.next, Some c.in-Some.via) in
     let a : Seeks ms one (three ∷ []) c.args.self.now c.go.new.self = seeks_then ms one two (three ∷ []) c.args.self.now c.loop-item.self c.go.new.self c.loop-item.invariant.seeks
     (subst (λ r. Seeks ms two (goes_on r) c.loop-item.self c.go.new.self) c.in-Some.is c.in_ok-further.ensures.seeks) in
-    seeks_then ms one three [] c.args.self.now c.go.new.self _ a (seeks_missing ms c.go.new.self _ three refl refl refl refl)
+    seeks_then ms one three [] c.args.self.now c.go.new.self _ a (seeks_missing ms c.go.new.self _ three refl refl refl refl refl (λ find t root kept all_begin d.
+    let x = longer_chain find (symbol_of c.args.first) (symbol_of c.loop-item.link) (symbol_of c.in-Some.next) c.loop-item._item (c.loop-item.invariant.chain find t)
+        (subst (λ r. LeadsOnTo find (symbol_of c.loop-item.link) (goes_on r)) c.in-Some.is (c.in_ok-further.ensures.leads find t)) in
+    let long : length x.0 ≡ c.loop-item._item + 1 = x.2 in
+    let less : c.item_count-item-end.result < c.loop-item._item + 1 = omega arith in
+    let more : c.item_count-item-end.result < length x.0 = omega (arith, long, less) in
+    comes_round ms find t root kept all_begin (symbol_of c.in-Some.next) d
+    (exhausted ms find t (symbol_of c.args.first) (symbol_of c.in-Some.next) x.0 x.1 c.item_count-item-end.result c.item_count-item-end.ensures more)))
