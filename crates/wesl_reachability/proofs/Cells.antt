@@ -17,6 +17,11 @@ get_set_other (x ∷ xs) zero (suc m) v n = refl
 get_set_other (x ∷ xs) (suc r) zero v n = refl
 get_set_other (x ∷ xs) (suc r) (suc m) v n = get_set_other xs r m v (λ e. n (ap suc e))
 
+length_set : {X : Type 0} (xs : List X) (r : ℕ) (v : X) → length (slice_set xs r v) ≡ length xs
+length_set [] r v = refl
+length_set (x ∷ xs) zero v = refl
+length_set (x ∷ xs) (suc r) v = ap suc (length_set xs r v)
+
 pub same_or : (m r : ℕ) → (m ≡ r) ⊎ (m ≡ r → ⊥)
 same_or zero zero = inl refl
 same_or zero (suc r) = inr (λ e. absurd (omega (arith, e)))
@@ -61,10 +66,10 @@ pub puts_none : {X : Type 0} (rows : Rows X) (r at : ℕ) (v : X) → slice_get 
 puts_none rows r at v is = record { here = ap (λ o. row_at o at) is ∙ ap (λ o. option_map (λ x. v) (row_at o at)) (sym is); others = λ m k other. refl }
 
 pub sets_row : (rows : Rows Bool) (r at : ℕ) (old new : Vec Bool Global) (first : Bool) → slice_get rows r ≡ Some old → SetsOne old.items at new.items first → Sets rows r at (slice_set rows r new) first
-sets_row rows r at old new first is s = record { puts = puts_row rows r at true old new is s.puts; told = s.told ∙ ap (λ o. is_unset (row_at o at)) (sym is) }
+sets_row rows r at old new first is s = record { puts = puts_row rows r at true old new is s.puts; told = s.told ∙ ap (λ o. is_unset (row_at o at)) (sym is); rows = length_set rows r new }
 
 pub sets_none : (rows : Rows Bool) (r at : ℕ) → slice_get rows r ≡ None → Sets rows r at rows false
-sets_none rows r at is = record { puts = puts_none rows r at true is; told = sym (ap (λ o. is_unset (row_at o at)) is) }
+sets_none rows r at is = record { puts = puts_none rows r at true is; told = sym (ap (λ o. is_unset (row_at o at)) is); rows = refl }
 
 -- ---- what stands there then
 

@@ -364,9 +364,9 @@ asserts_same ms h now passed grows all a m k p is = grows.stays m k (a m k (ap (
 -- ---- what is reached, exactly
 
 pub closes_exactly : (ms : Modules) (old new : Closing) → Grows old.holding new.holding → (IsOpen ms old → IsClosed ms new × IsOpen ms new) → KeepsSound ms old new → ClosesExactly ms old new
-closes_exactly ms old new grows closed sound open find t root kept all_begin u begun rooted =
+closes_exactly ms old new grows closed sound opened find t root kept all_begin u begun rooted =
     let s = sound root kept all_begin u find t in
-    let c = closed open in (
+    let c = closed opened in (
       record {
         holds = s.held;
         passes = s.passed;

@@ -155,9 +155,9 @@ module _ (ms : Modules) (old new : Closing) where
   }
     where
       good_at : (find : Finder) (s : Symbol) → Arrived find s → (b : Option Via) → ((v : Via) → b ≡ Some v → (symbol_via ms v ≡ Some s) × IsKnown old.chains v) → (v : Via) → Contains (option_to_list b) v → IsKnown old.chains v × Goes ms find v
-      good_at find s there None known v c = absurd (in_none v c)
-      good_at find s there (Some w) known v c = elim (in_cases w [] v c) [
-        | inl e ↦ (let k = known w refl in subst (λ x. IsKnown old.chains x × Goes ms find x) e (k.1, record { onward = s; is_onward = k.0; arrived = there }))
+      good_at find s there None knew v c = absurd (in_none v c)
+      good_at find s there (Some w) knew v c = elim (in_cases w [] v c) [
+        | inl e ↦ (let k = knew w refl in subst (λ x. IsKnown old.chains x × Goes ms find x) e (k.1, record { onward = s; is_onward = k.0; arrived = there }))
         | inr d ↦ absurd (in_none v d)
       ]
 
@@ -219,11 +219,11 @@ module _ (ms : Modules) (old new : Closing) where
         let m = met find root kept all_begin old.holding old.is_missing s t rest tabled is_via by onward a in
         let n = sound_steps ms find tabled root kept all_begin old.holding mid new.chains old.is_missing (met_or goes t via ++ (w ++ (s, b) ∷ rest)) b via s t
             (λ v e. m.imports s v (subst (λ x. Contains (met_or goes t via ++ (w ++ (s, b) ∷ rest)) (s, x)) e (Contains-append_right (met_or goes t via) (w ++ (s, b) ∷ rest) (s, b) (one_there w rest (s, b))))) is_via (step find tabled) g m in
-        let k = sound_waits ms find tabled root kept all_begin old.holding new.chains old.is_missing (met_or goes t via ++ (w ++ (s, b) ∷ rest)) n (w ++ met_or goes t via ++ rest) (later goes w rest s t) in
-        subst (λ x. Sound ms find root kept all_begin new.holding new.chains new.is_missing (waiting x ++ met_or goes t via ++ rest)) (sym asked)
-        (sound_same ms find tabled root kept all_begin old.holding new.holding new.chains new.chains old.is_missing new.is_missing (w ++ met_or goes t via ++ rest) holding refl missing k)
+        let k = sound_waits ms find tabled root kept all_begin old.holding new.chains old.is_missing (met_or goes t via ++ (w ++ (s, b) ∷ rest)) n (w ++ (met_or goes t via ++ rest)) (later goes w rest s t) in
+        subst (λ x. Sound ms find root kept all_begin new.holding new.chains new.is_missing (waiting x ++ (met_or goes t via ++ rest))) (sym asked)
+        (sound_same ms find tabled root kept all_begin old.holding new.holding new.chains new.chains old.is_missing new.is_missing (w ++ (met_or goes t via ++ rest)) holding refl missing k)
       where
-        later : (goes : Bool) (w rest : List Waiting) (s t : Symbol) (x : Waiting) → Contains (w ++ met_or goes t via ++ rest) x → Contains (met_or goes t via ++ (w ++ (s, b) ∷ rest)) x
+        later : (goes : Bool) (w rest : List Waiting) (s t : Symbol) (x : Waiting) → Contains (w ++ (met_or goes t via ++ rest)) x → Contains (met_or goes t via ++ (w ++ (s, b) ∷ rest)) x
         later true w rest s t x c = in_place w rest (s, b) (t, Some via) x c
         later false w rest s t x c = (drops_at w rest (s, b)).back x c
 
@@ -352,9 +352,9 @@ module _ (ms : Modules) (old new : Closing) (mid : Chains) (b : Option Via) (via
 
   goes_before : (find : Finder) → AreTabled ms find → (s t : Symbol) → symbol_via ms via ≡ Some t → next find s ≡ leads t → Goes ms find via → (x : Option Via) → ((v : Via) → x ≡ Some v → (symbol_via ms v ≡ Some s) × IsKnown mid v)
       → (v : Via) → Contains (option_to_list x) v → IsKnown mid v × Goes ms find v
-  goes_before find tabled s t is_via step g None known v c = absurd (in_none v c)
-  goes_before find tabled s t is_via step g (Some w) known v c = elim (in_cases w [] v c) [
-    | inl e ↦ (let k = known w refl in
+  goes_before find tabled s t is_via step g None knew v c = absurd (in_none v c)
+  goes_before find tabled s t is_via step g (Some w) knew v c = elim (in_cases w [] v c) [
+    | inl e ↦ (let k = knew w refl in
         subst (λ y. IsKnown mid y × Goes ms find y) e (k.1, goes_back ms find tabled via w (record { first = s; second = t; is_first = k.0; is_second = is_via; step = step }) g))
     | inr y ↦ absurd (in_none v y)
   ]

@@ -20,7 +20,7 @@ use Rattle.wesl_reachability.proofs.Cells.{same_or, there_put, some_put, was_set
 -- ---- growing
 
 pub grows_same : (h : Holding) → Grows h h
-grows_same h = record { stays = λ m k x. x; room = λ m k x. x; keeps = λ m x. x; wide = λ m x. x; works = λ w. w; works_only = λ w. w; behind = λ i s x. x; longer = omega arith }
+grows_same h = record { stays = λ m k x. x; room = λ m k x. x; keeps = λ m x. x; wide = λ m x. x; works = λ w. w; works_only = λ w. w; behind = λ i s x. x; longer = omega arith; rows = refl }
 
 pub grows_then : {old mid new : Holding} → Grows old mid → Grows mid new → Grows old new
 grows_then a b = record {
@@ -32,6 +32,7 @@ grows_then a b = record {
   works_only = λ w. b.works_only (a.works_only w);
   behind = λ i s x. b.behind i s (a.behind i s x);
   longer = (let x = a.longer in let y = b.longer in omega (arith, x, y));
+  rows = b.rows ∙ a.rows;
 }
 
 get_front : {X : Type 0} (xs ys : List X) (i : ℕ) (x : X) → slice_get xs i ≡ Some x → slice_get (xs ++ ys) i ≡ Some x
@@ -60,6 +61,7 @@ module _ (spot : DeclarationId) (old new : Holding) (work : new.work.items ≡ o
       ];
       behind = λ i x is. ap (λ l. slice_get l i) work ∙ get_front old.work.items (spot ∷ []) i x is;
       longer = (let e : length new.work.items ≡ length (old.work.items ++ spot ∷ []) = ap length work in let f = length-append old.work.items (spot ∷ []) in omega (arith, e, f));
+      rows = s.rows;
     };
     held = set_there old.reached.items spot.«module» spot.place new.reached.items s.puts;
     only = λ m k h. elim (only_set old.reached.items spot.«module» spot.place new.reached.items s.puts m k h) [
@@ -80,6 +82,7 @@ reached_again spot old new work passed s = record {
     works_only = λ w x c. same_cells old.reached.items spot.«module» spot.place new.reached.items s x.«module» x.place ∙ w x (subst (λ v. Contains v.items x) work c);
     behind = λ i x is. ap (λ v. slice_get v.items i) work ∙ is;
     longer = (let e : length new.work.items ≡ length old.work.items = ap (λ v. length v.items) work in omega (arith, e));
+    rows = s.rows;
   };
   held = set_there old.reached.items spot.«module» spot.place new.reached.items s.puts;
   only = λ m k h. inl (sym (same_cells old.reached.items spot.«module» spot.place new.reached.items s m k) ∙ h);
@@ -189,6 +192,7 @@ module _ (ms : List Module) (number : ℕ) (old new : Holding) (first : Bool) (s
     works_only = λ w x c. ap (λ v. cell v.items x.«module» x.place) reached ∙ w x (subst (λ v. Contains v.items x) work c);
     behind = λ i x is. ap (λ v. slice_get v.items i) work ∙ is;
     longer = (let e : length new.work.items ≡ length old.work.items = ap (λ v. length v.items) work in omega (arith, e));
+    rows = ap (λ v. length v.items) reached;
   }
 
   -- nothing more is to be reached

@@ -13,3 +13,5 @@ mod Goes
 mod Follows
 mod Rows
 mod Uses
+mod Taking
+mod Added

@@ -70,7 +70,7 @@ module _ (ms : Modules) (find : Finder) (tabled : AreTabled ms find) where
         is_at = record { is_module = o.1; stands_there = ap (λ l. slice_get l k) (sym o.2.entries) ∙ ap (slice_get _) (sym x.at) ∙ e.2 };
       }
 
-  goes_back : (v w : Via) → LeadsOver ms find w v → Goes ms find v → Goes ms find w
+  pub goes_back : (v w : Via) → LeadsOver ms find w v → Goes ms find v → Goes ms find w
   goes_back v w l g =
       let same : g.onward ≡ l.second = same_some (sym g.is_onward ∙ l.is_second) in
       record {

@@ -1,5 +1,5 @@
 -- Tables with a row for each module.
-use Rattle.std.specs.Prelude.{◌≡◌, ⊤, ℕ, List, Bool, true, false, Option, Some, None, slice_get, is_some, Vec}
+use Rattle.std.specs.Prelude.{◌≡◌, ⊤, ℕ, List, length, Bool, true, false, Option, Some, None, slice_get, is_some, Vec}
 use Rattle.std.specs.Option.{option_map}
 use Rattle.std.specs.declared.alloc.Global.{Global}
 
@@ -47,3 +47,4 @@ pub record SetsOne (old : List Bool) (at : ℕ) (new : List Bool) (first : Bool)
 pub record Sets (old : Rows Bool) (row at : ℕ) (new : Rows Bool) (first : Bool) : Type 0 where
   pub puts : Puts old row at true new
   pub told : first ≡ is_unset (cell old row at)
+  pub rows : length new ≡ length old

@@ -52,6 +52,7 @@ pub record Grows (old new : Holding) : Type 0 where
   pub works_only : IsWorkOnly old → IsWorkOnly new
   pub behind : (i : ℕ) (s : DeclarationId) → slice_get old.work.items i ≡ Some s → slice_get new.work.items i ≡ Some s
   pub longer : length old.work.items ≤ length new.work.items
+  pub rows : length new.reached.items ≡ length old.reached.items
 
 -- the places of one more module are taken in, none of which is reached
 pub record TakesIn (places : ℕ) (old new : Holding) : Type 0 where

@@ -8,5 +8,6 @@ pub mod Passing
 pub mod Held
 pub mod Closing
 pub mod Sound
+pub mod Taking
 pub mod Starts
 pub mod Uses

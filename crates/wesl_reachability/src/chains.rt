@@ -1,6 +1,6 @@
 //! The published imports that chains went through.
 
-ghost use Rattle.std.specs.Prelude.{◌≡◌, ◌++◌, Some, IfOk, OnOk};
+ghost use Rattle.std.specs.Prelude.{◌≡◌, [], ◌++◌, Some, IfOk, OnOk};
 ghost use Rattle.wesl_reachability.specs.declared.chains.State.TheVariants.{Met};
 ghost use Rattle.wesl_reachability.specs.Holding.{Answers};
 ghost use Rattle.wesl_reachability.specs.Joining.{state_at, before_at, AddsStep, Goes, PutsState, joined_of, Meets, IsOnward, Joins, PassesImport, AreNew, AreEmpty, TakesImports};
@@ -43,7 +43,11 @@ pub(crate) struct Chains {
 }
 
 impl Chains {
-    pub fn new(alloc: Global) -> Chains {
+    pub fn new(alloc: Global) -> Chains
+        ensures states { result.states.items ≡ [] }
+        ensures before { result.before.items ≡ [] }
+        ensures links { result.links.onward.items ≡ [] }
+    {
         Chains {
             alloc,
             states: Vec::new(alloc),

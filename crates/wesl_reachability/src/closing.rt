@@ -1,13 +1,15 @@
 //! What is reached in the loaded modules.
 
-ghost use Rattle.std.specs.Prelude.{◌≡◌, [], Some, length, slice_get, IfOk, OnOk};
+ghost use Rattle.std.specs.Prelude.{◌≡◌, List, [], Some, length, slice_get, IfOk, OnOk};
 ghost use Rattle.wesl_name_resolution.specs.Links.{symbol_of};
+ghost use Rattle.wesl_module_index.specs.declared.module.Module.{Module};
 ghost use Rattle.wesl_module_index.specs.declared.modules.Modules.{Modules};
 ghost use Rattle.wesl_reachability.specs.Cells.{HasRoom, IsSet};
 ghost use Rattle.wesl_reachability.specs.Holding.{ReachesAll, Passes};
 ghost use Rattle.wesl_reachability.specs.Uses.{uses_in};
 ghost use Rattle.wesl_reachability.specs.Closing.{Seeks, goes_on, JoinsOn, EndsAs, Keeps, FollowsOne, Searches, AreFollowed, IsFollowed, AreDone, IsOpen, IsClosed, ClosesExactly, LeadsOnTo, ReachesMore, TakesAsked};
 ghost use Rattle.wesl_reachability.specs.Sound.{FollowsSoundly, FollowsAllSoundly, FollowsPlaceSoundly, KeepsSound, ReachesSoundly, PassesSoundly};
+ghost use Rattle.wesl_reachability.specs.Taking.{TakesModule, HasTaken, TakesAll};
 ghost use Rattle.wesl_chains.specs.Outlines.{Finder};
 ghost use Rattle.wesl_module_index.specs.Loaded.{AreTabled};
 
@@ -39,7 +41,9 @@ pub struct Closing {
 
 impl Closing {
     /// Nothing is reached, in no modules.
-    pub fn new(alloc: Global) -> Closing {
+    pub fn new(alloc: Global) -> Closing
+        ensures { (modules : List Module) → HasTaken modules 0 result }
+    {
         Closing {
             alloc,
             holding: Holding::new(alloc),
@@ -94,16 +98,27 @@ impl Closing {
     }
 
     /// Takes the modules in that are loaded since, and reaches their directives.
-    pub fn take_in(&mut self, modules: &Modules) -> Result<(), AllocError> {
+    pub fn take_in(&mut self, modules: &Modules) -> Result<(), AllocError>
+        ensures { OnOk result (TakesAll modules.now self.old self.new) }
+    {
         for number in self.holding.reached.len()..modules.len() {
-            if let Some(module) = modules.get(number) {
-                self.take_in_one(number, module)?;
-            }
+            self.take_in_one(modules, number)?;
         }
         Ok(())
     }
 
-    fn take_in_one(&mut self, number: usize, module: &Module) -> Result<(), AllocError> {
+    fn take_in_one(&mut self, modules: &Modules, number: usize) -> Result<(), AllocError>
+        ensures { OnOk result ((one : Module) → slice_get modules.now.list.items number ≡ Some one → TakesModule number one self.old self.new) }
+    {
+        match modules.get(number) {
+            None => Ok(()),
+            Some(module) => self.take_in_module(number, module),
+        }
+    }
+
+    fn take_in_module(&mut self, number: usize, module: &Module) -> Result<(), AllocError>
+        ensures { OnOk result (TakesModule number «module».now self.old self.new) }
+    {
         self.holding.take_in(self.alloc, module.places.len())?;
         self.followed
             .push(flags(self.alloc, module.list.reference_count())?)?;
@@ -281,7 +296,11 @@ impl Closing {
                 self.asked.ask(self.alloc, link, before)?;
                 Ok(None)
             }
-            Step::Missing | Step::Private => {
+            Step::Missing => {
+                self.is_missing = true;
+                Ok(None)
+            }
+            Step::Private => {
                 self.is_missing = true;
                 Ok(None)
             }

@@ -1,6 +1,6 @@
 //! What is reached, and which modules chains pass.
 
-ghost use Rattle.std.specs.Prelude.{◌≡◌, length, slice_get, OnOk};
+ghost use Rattle.std.specs.Prelude.{◌≡◌, [], length, slice_get, OnOk};
 ghost use Rattle.wesl_mark.specs.declared.place.Kind.TheVariants.{Directive, Assertion};
 ghost use Rattle.wesl_reachability.specs.Holding.{Reaches, ReachesAll, ReachesKind, ReachesIf, StandsAt, Answers, TakesIn, Passes, Arrives};
 
@@ -23,7 +23,11 @@ pub(crate) struct Holding {
 }
 
 impl Holding {
-    pub fn new(alloc: Global) -> Holding {
+    pub fn new(alloc: Global) -> Holding
+        ensures reached { result.reached.items ≡ [] }
+        ensures work { result.work.items ≡ [] }
+        ensures passed { result.passed.items ≡ [] }
+    {
         Holding {
             reached: Vec::new(alloc),
             work: Vec::new(alloc),

@@ -1,6 +1,6 @@
 //! How published imports lead on to one another.
 
-ghost use Rattle.std.specs.Prelude.{◌≡◌, true, false, IfOk, OnOk};
+ghost use Rattle.std.specs.Prelude.{◌≡◌, [], true, false, IfOk, OnOk};
 ghost use Rattle.wesl_reachability.specs.Cells.{Puts};
 ghost use Rattle.wesl_reachability.specs.Onward.{onward_at, FindsLast, AreAlone, TakesLinks};
 
@@ -14,7 +14,9 @@ pub(crate) struct Links {
 }
 
 impl Links {
-    pub fn new(alloc: Global) -> Links {
+    pub fn new(alloc: Global) -> Links
+        ensures { result.onward.items ≡ [] }
+    {
         Links {
             onward: Vec::new(alloc),
         }

@@ -1,10 +1,12 @@
 //! Where reaching begins.
 
-ghost use Rattle.std.specs.Prelude.{slice_get, IfOk, OnOk};
-ghost use Rattle.wesl_reachability.specs.Starts.{AreAll, IsPlaceFrom, IsEntryPoint, IsNamed, IsKeptIn, AddsPlaces};
+ghost use Rattle.std.specs.Prelude.{◌≡◌, Some, length, slice_get, IfOk, OnOk};
+ghost use Rattle.wesl_module_index.specs.declared.module.Module.{Module};
+ghost use Rattle.wesl_reachability.specs.Holding.{Answers};
+ghost use Rattle.wesl_reachability.specs.Starts.{AreAll, IsPlaceFrom, IsEntryPoint, StandsAsEntryPoint, IsNamed, IsKeptIn, AddsIf, AddsNamed, AddsPlaces};
 
 use std::alloc::{AllocError, Global};
-use wesl_mark::Kind;
+use wesl_mark::{Kind, Place};
 use wesl_module_index::Meaning;
 use wesl_name_resolution::{DeclarationId, Module, Modules};
 use wgsl_base::Text;
@@ -29,18 +31,41 @@ fn entry_points(alloc: Global, root: &Module) -> Result<Vec<DeclarationId>, Allo
     ensures { IfOk result (λ spots. AreAll spots.items (IsEntryPoint root.now)) }
 {
     let mut spots = Vec::new(alloc);
-    for (place, found) in root.places.iter().enumerate() {
-        if matches!(
-            found.kind,
+    for place in 0..root.places.len() {
+        let is_one = is_entry_point(root.places.as_slice(), place);
+        add_if(&mut spots, DeclarationId { module: 0, place }, is_one)?;
+    }
+    Ok(spots)
+}
+
+/// Whether a function with a stage attribute stands at a place of these.
+fn is_entry_point(places: &[Place], at: usize) -> bool
+    ensures { Answers result (StandsAsEntryPoint places.now at) }
+{
+    match places.get(at) {
+        None => false,
+        Some(place) => matches!(
+            place.kind,
             Kind::Function {
                 is_entry_point: true,
                 ..
             }
-        ) {
-            spots.push(DeclarationId { module: 0, place })?;
-        }
+        ),
     }
-    Ok(spots)
+}
+
+/// Adds a place, if it is to be.
+fn add_if(
+    spots: &mut Vec<DeclarationId>,
+    spot: DeclarationId,
+    is_one: bool,
+) -> Result<(), AllocError>
+    ensures { OnOk result (AddsIf spot is_one spots.old.items spots.new.items) }
+{
+    if is_one {
+        spots.push(spot)?;
+    }
+    Ok(())
 }
 
 fn named_places(
@@ -52,14 +77,26 @@ fn named_places(
 {
     let mut spots = Vec::new(alloc);
     for name in keep {
-        if let Some(Meaning::Declared(place)) = root.scope.get(name.as_str()) {
+        add_named(&mut spots, root, name.as_str())?;
+    }
+    Ok(spots)
+}
+
+/// Adds the root's declaration of a name, if there is one.
+fn add_named(spots: &mut Vec<DeclarationId>, root: &Module, name: &str) -> Result<(), AllocError>
+    ensures { OnOk result (AddsNamed root.now name.now spots.old.items spots.new.items) }
+{
+    match root.scope.get(name) {
+        Some(Meaning::Declared(place)) => {
             spots.push(DeclarationId {
                 module: 0,
                 place: *place,
             })?;
+            Ok(())
         }
+        Some(Meaning::Imported(_)) => Ok(()),
+        None => Ok(()),
     }
-    Ok(spots)
 }
 
 /// All places of the modules from this number on.
@@ -72,11 +109,23 @@ pub fn all_places(
 {
     let mut spots = Vec::new(alloc);
     for number in first..modules.len() {
-        if let Some(module) = modules.get(number) {
-            add_places(&mut spots, number, module.places.len())?;
-        }
+        add_module(&mut spots, modules, number)?;
     }
     Ok(spots)
+}
+
+/// Adds the places of a module.
+fn add_module(
+    spots: &mut Vec<DeclarationId>,
+    modules: &Modules,
+    number: usize,
+) -> Result<(), AllocError>
+    ensures { OnOk result ((one : Module) → slice_get modules.now.list.items number ≡ Some one → AddsPlaces number (length one.places.items) spots.old.items spots.new.items) }
+{
+    match modules.get(number) {
+        None => Ok(()),
+        Some(module) => add_places(spots, number, module.places.len()),
+    }
 }
 
 /// Adds so many places of a module.

@@ -27,19 +27,5 @@ loop-item-preserved c = record {
   done = c.go.ensures.done ∙ c.loop-item.invariant.done;
 }
 
-pub returns-in-Some-clause-seeks : goal.returns-in-Some-clause-seeks
-returns-in-Some-clause-seeks c =
-    let ms = c.args.modules.now in
-    let one = (symbol_of c.args.first, c.args.before) in
-    let two = (symbol_of c.loop-item.link, c.loop-item.before) in
-    let three = (symbol_of c.in-Some.next, Some c.in-Some.via) in
-    let a : Seeks ms one (three ∷ []) c.args.self.now c.go.new.self = seeks_then ms one two (three ∷ []) c.args.self.now c.loop-item.self c.go.new.self c.loop-item.invariant.seeks
-    (subst (λ r. Seeks ms two (goes_on r) c.loop-item.self c.go.new.self) c.in-Some.is c.in_ok-further.ensures.seeks) in
-    seeks_then ms one three [] c.args.self.now c.go.new.self _ a (seeks_missing ms c.go.new.self _ three refl refl refl refl refl (λ find t root kept all_begin d.
-    let x = longer_chain find (symbol_of c.args.first) (symbol_of c.loop-item.link) (symbol_of c.in-Some.next) c.loop-item._item (c.loop-item.invariant.chain find t)
-        (subst (λ r. LeadsOnTo find (symbol_of c.loop-item.link) (goes_on r)) c.in-Some.is (c.in_ok-further.ensures.leads find t)) in
-    let long : length x.0 ≡ c.loop-item._item + 1 = x.2 in
-    let less : c.item_count-item-end.result < c.loop-item._item + 1 = omega arith in
-    let more : c.item_count-item-end.result < length x.0 = omega (arith, long, less) in
-    comes_round ms find t root kept all_begin (symbol_of c.in-Some.next) d
-    (exhausted ms find t (symbol_of c.args.first) (symbol_of c.in-Some.next) x.0 x.1 c.item_count-item-end.result c.item_count-item-end.ensures more)))
+pub returns-clause-seeks : goal.returns-clause-seeks
+returns-clause-seeks c = ?end
