@@ -9,7 +9,8 @@ use Rattle.std.proofs.lemmas.List.Elements.{Contains-push_cases}
 use Rattle.wgsl_base.proofs.Members.{first_in, later_in, in_none}
 use Rattle.wesl_chains.specs.Outlines.{Name, Path, Symbol, Use, Outline, Finder}
 use Rattle.wesl_chains.specs.Senses.{Sense, own, imported, bare, free, sense}
-use Rattle.wesl_chains.specs.Chains.{unknown, next, outcome_at, declared_at, missing, private, here, comes_to, by_item}
+use Rattle.wesl_chains.specs.Chains.{unknown, next, outcome_at, declared_at, here, comes_to, by_item}
+use Rattle.wesl_chains.specs.Chains as outcome
 use Rattle.wesl_chains.specs.Reaching.{IsAsked}
 use Rattle.wesl_chains.proofs.Loops.{same_some}
 use Rattle.wesl_module_index.specs.declared.module.Module.{Module}
@@ -53,13 +54,13 @@ begins_declared p q k (imported t) e = absurd (cc)
 begins_declared p q k (bare x) e = absurd (cc)
 begins_declared p q k free e = absurd (cc)
 
-begins_missing : (p : Path) (s : Symbol) (x : Sense) → known (Some (missing s)) ≡ begins p x → (y : Name) × (x ≡ bare y)
+begins_missing : (p : Path) (s : Symbol) (x : Sense) → known (Some (outcome.missing s)) ≡ begins p x → (y : Name) × (x ≡ bare y)
 begins_missing p s (own k) e = absurd (cc)
 begins_missing p s (imported t) e = absurd (cc)
 begins_missing p s (bare x) e = (x, refl)
 begins_missing p s free e = absurd (cc)
 
-not_private : (p : Path) (s : Symbol) (x : Sense) → known (Some (private s)) ≡ begins p x → ⊥
+not_private : (p : Path) (s : Symbol) (x : Sense) → known (Some (outcome.private s)) ≡ begins p x → ⊥
 not_private p s (own k) e = absurd (cc)
 not_private p s (imported t) e = absurd (cc)
 not_private p s (bare x) e = absurd (cc)

@@ -1,6 +1,6 @@
 -- What the steps of a search along a chain do to a closing.
-use Rattle.std.proofs.Common.{◌≡◌, refl, sym, ap, ◌∙◌, subst, ℕ, ◌+◌, ◌⊎◌, inl, inr, List, [], ◌∷◌, ◌++◌, length, length-append, arith, append_assoc, Option, Some, None, Bool, true, false, is_some}
-use Rattle.std.specs.Prelude.{slice_get}
+use Rattle.std.proofs.Common.{◌≡◌, refl, sym, ap, ◌∙◌, subst, ℕ, zero, suc, ◌+◌, ◌<◌, ◌⊎◌, inl, inr, List, [], ◌∷◌, ◌++◌, length, length-append, drop, arith, append_assoc, Option, Some, None, Bool, true, false, is_some}
+use Rattle.std.specs.Prelude.{slice_get, get_or}
 use Rattle.std.specs.Option.{option_to_list}
 use Rattle.std.specs.List.{Contains}
 use Rattle.std.proofs.lemmas.List.Elements.{Contains-append_right, Contains-append_cases}
@@ -31,7 +31,7 @@ use Rattle.wesl_reachability.specs.Searching.{is_met, IsKnown, IsGone, Searched,
 use Rattle.wesl_reachability.specs.Passing.{IsPassing, PassesBefore}
 use Rattle.wesl_reachability.specs.Held.{AreUnloaded}
 use Rattle.wesl_reachability.specs.Sound.{Arrived, Comes, RefusesSome, ComesBy, Goes, Sound, StaysSound}
-use Rattle.wesl_reachability.specs.Closing.{IsUnderway, Keeps, met_or, Seeks, JoinsOn, FollowsOne, ArrivesAlone}
+use Rattle.wesl_reachability.specs.Closing.{IsUnderway, Keeps, met_or, Seeks, JoinsOn, FollowsOne, ArrivesAlone, SeeksAll}
 use Rattle.wesl_reachability.proofs.Held.{grows_same, grows_then}
 use Rattle.wesl_reachability.proofs.Linking.{Drops, Adds, drops_at, drops_behind, adds_at, linked_same, is_met_now, gone_before}
 use Rattle.wesl_reachability.proofs.Searching.{Moves, searched_on}
@@ -403,3 +403,20 @@ seeks_then ms one two more a b c x y = record {
   sought = λ flags rest u. y.sought flags rest (x.sought flags rest u);
   sound = λ root kept all_begin rest u. y.sound root kept all_begin rest (x.sound root kept all_begin rest u);
 }
+
+-- ---- all that waits
+
+pub seeks_none : (ms : Modules) (waits : List Waiting) (cl : Closing) → SeeksAll ms waits waits cl cl
+seeks_none ms waits cl = record { keeps = keeps_same ms cl; sought = λ flags rest u. u; sound = λ root kept all_begin rest u. u }
+
+pub seeks_next : (ms : Modules) (waits left : List Waiting) (one : Waiting) (a b c : Closing) → SeeksAll ms waits (one ∷ left) a b → Seeks ms one [] b c → SeeksAll ms waits left a c
+seeks_next ms waits left one a b c x y = record {
+  keeps = keeps_then ms a b c x.keeps y.keeps;
+  sought = λ flags rest u. y.sought flags (left ++ rest) (x.sought flags rest u);
+  sound = λ root kept all_begin rest u. y.sound root kept all_begin (left ++ rest) (x.sound root kept all_begin rest u);
+}
+
+pub drop_next : {X : Type 0} (xs : List X) (i : ℕ) (d : X) → i < length xs → drop i xs ≡ get_or xs i d ∷ drop (i + 1) xs
+drop_next [] i d less = absurd (omega (arith, less))
+drop_next (x ∷ xs) zero d less = refl
+drop_next (x ∷ xs) (suc i) d less = let e : suc i + 1 ≡ suc (i + 1) = omega arith in drop_next xs i d (omega (arith, less)) ∙ ap (λ n. get_or xs i d ∷ drop n (x ∷ xs)) (sym e)

@@ -127,10 +127,6 @@ module _ (ms : List Module) (cl : Closing) (reached : cl.holding.reached.items �
 -- ---- a module more
 
 module _ (ms : List Module) (n : ℕ) (one : Module) (is : slice_get ms n ≡ Some one) (old new : Closing) (t : HasTaken ms n old) (a : TakesModule n one old new) where
-  states = a.imports.states
-  befores = a.imports.before
-  onwards = a.imports.links
-
   held_before : (m k : ℕ) → Holds a.mid m k → Holds old.holding m k
   held_before m k h = elim (cell_or old.holding.reached.items a.taken.row m k true (subst (λ l. cell l m k ≡ Some true) a.taken.reached h)) [
     | inl e ↦ e
@@ -158,9 +154,9 @@ module _ (ms : List Module) (n : ℕ) (one : Module) (is : slice_get ms n ≡ So
     places = λ k less. reached_at m k (room_keeps old.holding.reached.items a.taken.row m k (h.places k less));
     directives = λ k st. a.directives.grows.stays m k (held_still m k (h.directives k st));
     references = λ r less. subst (λ l. HasRoom l m r) (sym a.followed) (room_keeps old.followed.items a.flags m r (h.references r less));
-    states = λ k less. subst (λ l. HasRoom l m k) (sym states.1) (room_keeps old.chains.states.items states.0 m k (h.states k less));
-    befores = λ k less. subst (λ l. HasRoom l m k) (sym befores.1) (room_keeps old.chains.before.items befores.0 m k (h.befores k less));
-    onwards = λ k less. subst (λ l. HasRoom l m k) (sym onwards.rows) (room_keeps (onward_of old.chains) onwards.row m k (h.onwards k less));
+    states = λ k less. subst (λ l. HasRoom l m k) (sym a.imports.states.1) (room_keeps old.chains.states.items a.imports.states.0 m k (h.states k less));
+    befores = λ k less. subst (λ l. HasRoom l m k) (sym a.imports.before.1) (room_keeps old.chains.before.items a.imports.before.0 m k (h.befores k less));
+    onwards = λ k less. subst (λ l. HasRoom l m k) (sym a.imports.links.rows) (room_keeps (onward_of old.chains) a.imports.links.row m k (h.onwards k less));
   }
 
   now_at : (m : ℕ) → m ≡ n → HasTakenAt new m one
@@ -170,35 +166,35 @@ module _ (ms : List Module) (n : ℕ) (one : Module) (is : slice_get ms n ≡ So
     directives = λ k st. subst (λ j. Holds new.holding j k) (sym e) (a.directives.held k (some_before one.places.items k st.place st.is_there) st
         (subst (λ l. HasRoom l n k) (sym a.taken.reached) (room_last old.holding.reached.items a.taken.row n k (sym t.rows.reached) (subst (λ l. k < l) (sym row_length) (some_before one.places.items k st.place st.is_there)))));
     references = λ r less. subst (λ l. HasRoom l m r) (sym a.followed) (room_last old.followed.items a.flags m r (e ∙ sym t.rows.followed) (subst (λ l. r < l) (sym flags_length) less));
-    states = λ k less. subst (λ l. HasRoom l m k) (sym states.1) (room_last old.chains.states.items states.0 m k (e ∙ sym t.rows.states) (subst (λ l. k < l) (sym states.2.0) less));
-    befores = λ k less. subst (λ l. HasRoom l m k) (sym befores.1) (room_last old.chains.before.items befores.0 m k (e ∙ sym t.rows.befores) (subst (λ l. k < l) (sym befores.2.0) less));
-    onwards = λ k less. subst (λ l. HasRoom l m k) (sym onwards.rows) (room_last (onward_of old.chains) onwards.row m k (e ∙ sym t.rows.onwards) (subst (λ l. k < l) (sym onwards.alone.0) less));
+    states = λ k less. subst (λ l. HasRoom l m k) (sym a.imports.states.1) (room_last old.chains.states.items a.imports.states.0 m k (e ∙ sym t.rows.states) (subst (λ l. k < l) (sym a.imports.states.2.0) less));
+    befores = λ k less. subst (λ l. HasRoom l m k) (sym a.imports.before.1) (room_last old.chains.before.items a.imports.before.0 m k (e ∙ sym t.rows.befores) (subst (λ l. k < l) (sym a.imports.before.2.0) less));
+    onwards = λ k less. subst (λ l. HasRoom l m k) (sym a.imports.links.rows) (room_last (onward_of old.chains) a.imports.links.row m k (e ∙ sym t.rows.onwards) (subst (λ l. k < l) (sym a.imports.links.alone.0) less));
   }
 
   unknown_still : (v : Via) (o : Option State) → state_at new.chains v ≡ o → is_met o ≡ false
   unknown_still v None e = refl
   unknown_still v (Some New) e = refl
-  unknown_still v (Some Met) e = elim (cell_or old.chains.states.items states.0 v.«module» v.item Met (subst (λ l. cell l v.«module» v.item ≡ Some Met) states.1 e)) [
+  unknown_still v (Some Met) e = elim (cell_or old.chains.states.items a.imports.states.0 v.«module» v.item Met (subst (λ l. cell l v.«module» v.item ≡ Some Met) a.imports.states.1 e)) [
     | inl f ↦ (let g : true ≡ false = ap is_met (sym f) ∙ t.none_known v in absurd (cc))
-    | inr f ↦ (let g : Met ≡ New = states.2.1 v.item Met f.1 in absurd (cc))
+    | inr f ↦ (let g : Met ≡ New = a.imports.states.2.1 v.item Met f.1 in absurd (cc))
   ]
-  unknown_still v (Some Passed) e = elim (cell_or old.chains.states.items states.0 v.«module» v.item Passed (subst (λ l. cell l v.«module» v.item ≡ Some Passed) states.1 e)) [
+  unknown_still v (Some Passed) e = elim (cell_or old.chains.states.items a.imports.states.0 v.«module» v.item Passed (subst (λ l. cell l v.«module» v.item ≡ Some Passed) a.imports.states.1 e)) [
     | inl f ↦ (let g : true ≡ false = ap is_met (sym f) ∙ t.none_known v in absurd (cc))
-    | inr f ↦ (let g : Passed ≡ New = states.2.1 v.item Passed f.1 in absurd (cc))
+    | inr f ↦ (let g : Passed ≡ New = a.imports.states.2.1 v.item Passed f.1 in absurd (cc))
   ]
 
   no_steps_still : (v w : Via) (o : Option (Vec Via Global)) → cell new.chains.before.items v.«module» v.item ≡ o → Contains (list_of o) w → ⊥
   no_steps_still v w None e c = in_none w c
-  no_steps_still v w (Some x) e c = elim (cell_or old.chains.before.items befores.0 v.«module» v.item x (subst (λ l. cell l v.«module» v.item ≡ Some x) befores.1 e)) [
+  no_steps_still v w (Some x) e c = elim (cell_or old.chains.before.items a.imports.before.0 v.«module» v.item x (subst (λ l. cell l v.«module» v.item ≡ Some x) a.imports.before.1 e)) [
     | inl f ↦ t.no_steps v w (subst (λ o. Contains (list_of o) w) (sym f) c)
-    | inr f ↦ in_none w (subst (λ l. Contains l w) (befores.2.1 v.item x f.1) c)
+    | inr f ↦ in_none w (subst (λ l. Contains l w) (a.imports.before.2.1 v.item x f.1) c)
   ]
 
   alone_still : (v : Via) (o : Option Via) → cell (onward_of new.chains) v.«module» v.item ≡ o → unwrap_or o v ≡ v
   alone_still v None e = refl
-  alone_still v (Some x) e = elim (cell_or (onward_of old.chains) onwards.row v.«module» v.item x (subst (λ l. cell l v.«module» v.item ≡ Some x) onwards.rows e)) [
+  alone_still v (Some x) e = elim (cell_or (onward_of old.chains) a.imports.links.row v.«module» v.item x (subst (λ l. cell l v.«module» v.item ≡ Some x) a.imports.links.rows e)) [
     | inl f ↦ ap (λ o. unwrap_or o v) (sym f) ∙ t.alone v
-    | inr f ↦ (let g = f.0 ∙ t.rows.onwards in onwards.alone.1 v.item x f.1 ∙ (λ i. record { «module» = sym g i; item = v.item }))
+    | inr f ↦ (let g = f.0 ∙ t.rows.onwards in a.imports.links.alone.1 v.item x f.1 ∙ (λ i. record { «module» = sym g i; item = v.item }))
   ]
 
   pub takes_one : HasTaken ms (n + 1) new
@@ -207,9 +203,9 @@ module _ (ms : List Module) (n : ℕ) (one : Module) (is : slice_get ms n ≡ So
       reached = reached_length;
       passed = ap length passed_same ∙ one_more old.holding.passed.items false n t.rows.passed;
       followed = ap length a.followed ∙ one_more old.followed.items a.flags n t.rows.followed;
-      states = ap length states.1 ∙ one_more old.chains.states.items states.0 n t.rows.states;
-      befores = ap length befores.1 ∙ one_more old.chains.before.items befores.0 n t.rows.befores;
-      onwards = ap length onwards.rows ∙ one_more (onward_of old.chains) onwards.row n t.rows.onwards;
+      states = ap length a.imports.states.1 ∙ one_more old.chains.states.items a.imports.states.0 n t.rows.states;
+      befores = ap length a.imports.before.1 ∙ one_more old.chains.before.items a.imports.before.0 n t.rows.befores;
+      onwards = ap length a.imports.links.rows ∙ one_more (onward_of old.chains) a.imports.links.row n t.rows.onwards;
     };
     works = a.directives.grows.works (λ m k h. subst (λ v. Contains v.items _) (sym a.taken.work) (t.works m k (held_before m k h)));
     works_only = a.directives.grows.works_only (λ s c. held_still s.«module» s.place (t.works_only s (subst (λ v. Contains v.items s) a.taken.work c)));

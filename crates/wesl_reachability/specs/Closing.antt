@@ -166,3 +166,4 @@ pub record TakesAsked (old : Closing) (asked : Asked) (new : Closing) : Type 0 w
 pub record SeeksAll (ms : Modules) (waits left : List Waiting) (old new : Closing) : Type 0 where
   pub keeps : Keeps ms old new
   pub sought : (flags : Rows Bool) (rest : List Waiting) → IsUnderway ms old flags (waits ++ rest) → IsUnderway ms new flags (left ++ rest)
+  pub sound : StaysSound ms waits left old new

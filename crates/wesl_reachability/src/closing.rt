@@ -7,13 +7,14 @@ ghost use Rattle.wesl_module_index.specs.declared.modules.Modules.{Modules};
 ghost use Rattle.wesl_reachability.specs.Cells.{HasRoom, IsSet};
 ghost use Rattle.wesl_reachability.specs.Holding.{ReachesAll, Passes};
 ghost use Rattle.wesl_reachability.specs.Uses.{uses_in};
-ghost use Rattle.wesl_reachability.specs.Closing.{Seeks, goes_on, JoinsOn, EndsAs, Keeps, FollowsOne, Searches, AreFollowed, IsFollowed, AreDone, IsOpen, IsClosed, ClosesExactly, LeadsOnTo, ReachesMore, TakesAsked};
+ghost use Rattle.wesl_reachability.specs.Closing.{Seeks, goes_on, JoinsOn, EndsAs, Keeps, FollowsOne, Searches, AreFollowed, IsFollowed, AreDone, IsOpen, IsClosed, ClosesExactly, LeadsOnTo, ReachesMore, TakesAsked, SeeksAll, LacksOne};
+ghost use Rattle.wesl_reachability.specs.Asking.{waits_for, waiting};
 ghost use Rattle.wesl_reachability.specs.Sound.{FollowsSoundly, FollowsAllSoundly, FollowsPlaceSoundly, KeepsSound, ReachesSoundly, PassesSoundly};
 ghost use Rattle.wesl_reachability.specs.Taking.{TakesModule, HasTaken, TakesAll};
 ghost use Rattle.wesl_chains.specs.Outlines.{Finder};
 ghost use Rattle.wesl_module_index.specs.Loaded.{AreTabled};
 
-use crate::asked::Asked;
+use crate::asked::{Asked, Pending};
 use crate::chains::{Chains, Joined};
 use crate::flags::{flags, set};
 use crate::holding::{Holding, Reached};
@@ -264,8 +265,17 @@ impl Closing {
                 }
             }
         }
-        self.is_missing = true;
+        self.note_missing();
         Ok(())
+    }
+
+    /// A name denotes nothing.
+    fn note_missing(&mut self)
+        ensures lacks { LacksOne self.old self.new }
+        ensures followed { self.new.followed ≡ self.old.followed }
+        ensures done { self.new.done ≡ self.old.done }
+    {
+        self.is_missing = true;
     }
 
     /// Looks for an item that an import or a reference leads to. Where the chain is to be followed on: the import that leads on, and the item
@@ -342,15 +352,23 @@ impl Closing {
     }
 
     /// Goes on with what was asked for, once the modules are loaded.
-    pub fn seek_asked(&mut self, modules: &Modules, asked: &Asked) -> Result<(), AllocError> {
+    pub fn seek_asked(&mut self, modules: &Modules, asked: &Asked) -> Result<(), AllocError>
+        ensures { OnOk result (SeeksAll modules.now (waiting asked.now) [] self.old self.new) }
+    {
         for pending in &asked.pending {
-            let link = Link {
-                target: &pending.target,
-                name: pending.name.as_str(),
-            };
-            self.seek(modules, link, pending.before)?;
+            self.seek_pending(modules, pending)?;
         }
         Ok(())
+    }
+
+    fn seek_pending(&mut self, modules: &Modules, pending: &Pending) -> Result<(), AllocError>
+        ensures { OnOk result (Seeks modules.now (waits_for pending.now) [] self.old self.new) }
+    {
+        let link = Link {
+            target: &pending.target,
+            name: pending.name.as_str(),
+        };
+        self.seek(modules, link, pending.before)
     }
 }
 

@@ -12,4 +12,5 @@ returns-in-None c = λ one is. let f : None ≡ Some one = ap option_copied (sym
 pub returns-in-Some : goal.returns-in-Some
 returns-in-Some c =
     map_ok c.add_places.result
-    (λ t one is. subst (λ (m : Module). AddsPlaces c.args.number (length m.places.items) c.args.spots.now.items c.add_places.new.spots.items) (same_some (ap option_copied (sym c.in-Some.is) ∙ c.get.ensures ∙ is)) t) c.add_places.ensures
+    (λ t one is. subst (λ (m : Module). AddsPlaces c.args.number (length m.places.items) c.args.spots.now.items c.add_places.new.spots.items) (same_some (ap option_copied (sym c.in-Some.is) ∙ c.get.ensures ∙ is))
+    (subst (λ n. AddsPlaces c.args.number n c.args.spots.now.items c.add_places.new.spots.items) (c.len.ensures ∙ c.in-Some.«module».now.places.ok.0) t)) c.add_places.ensures

@@ -1,6 +1,7 @@
 use Rattle.std.proofs.Common.{◌≡◌, ◌≤◌, refl, sym, ◌∙◌, length, Some, None, arith, ◌+◌}
 use Rattle.std.specs.Prelude.{slice_get}
 use Rattle.wgsl_base.proofs.Members.{to_contains}
+use Rattle.wesl_reachability.specs.Closing.{AreDone, IsOpen, IsClosed}
 use Rattle.wesl_reachability.proofs.Follows.{searches_same, searches_then, searches_to, done_more, all_done, none_behind, some_before, is_closed, closes_exactly}
 use Rattle.wesl_reachability.proofs.closing.Closing.follow_all.Goals as goal
 
@@ -23,8 +24,8 @@ pub returns-in_default : goal.returns-in_default
 returns-in_default c =
     let ms = c.args.modules.now in
     let enough : length c.loop-at.self.holding.work.items ≤ c.loop-at.at = none_behind c.loop-at.self.holding.work.items c.loop-at.at (sym c.spot_at.ensures ∙ c.in_default.is) in
-    let done = λ d. all_done ms c.loop-at.self c.loop-at.at (c.loop-at.invariant.done d) enough in
-    let closed = λ o. is_closed ms c.args.self.now c.loop-at.self c.loop-at.invariant.searches done (c.loop-at.invariant.bounded o.bounded) o in
+    let done : AreDone ms c.args.self.now c.args.self.now.done → AreDone ms c.loop-at.self (length c.loop-at.self.holding.work.items) = λ d. all_done ms c.loop-at.self c.loop-at.at (c.loop-at.invariant.done d) enough in
+    let closed : IsOpen ms c.args.self.now → IsClosed ms c.loop-at.self × IsOpen ms c.loop-at.self = λ o. is_closed ms c.args.self.now c.loop-at.self c.loop-at.invariant.searches done (c.loop-at.invariant.bounded o.bounded) o in
     record {
       searches = c.loop-at.invariant.searches;
       done = done;

@@ -9,6 +9,7 @@ use Rattle.wesl_reachability.specs.Closing.{Seeks, LeadsOnTo, goes_on}
 use Rattle.wesl_reachability.proofs.Goes.{seeks_same, seeks_then, seeks_missing, longer_chain}
 use Rattle.wesl_reachability.proofs.Sound.{comes_round}
 use Rattle.wesl_reachability.proofs.closing.Closing.seek.Goals as goal
+use Rattle.wesl_reachability.proofs.closing.Closing.seek.Goals.{else-loop-item-test, then-loop-item-test+in_ok-further+in-Some+else-item-item-end}
 
 pub loop-item-init : goal.loop-item-init
 loop-item-init c = record { seeks = seeks_same c.args.modules.now (symbol_of c.args.first, c.args.before) c.args.self.now; chain = λ find t. ([], here, refl); done = refl }
@@ -28,4 +29,7 @@ loop-item-preserved c = record {
 }
 
 pub returns-clause-seeks : goal.returns-clause-seeks
-returns-clause-seeks c = ?end
+returns-clause-seeks c = elim c.loop-item-test.branch [
+  | else-loop-item-test w ↦ ?first
+  | then-loop-item-test+in_ok-further+in-Some+else-item-item-end w ↦ ?second
+]
