@@ -56,9 +56,9 @@ between_more ms first n one old new behind is b a = record {
   only = λ s c. elim (a.only s c) [
     | inl d ↦ (let x = b.only s d in let l = x.1 in (x.0, omega (arith, l)))
     | inr e ↦ (let f = e.0 in (
-        record { behind = omega (arith, behind, f); table = one; is_module = ap (slice_get ms) e.0 ∙ is; within = e.1 },
-        omega (arith, f),
-      ))
+      record { behind = omega (arith, behind, f); table = one; is_module = ap (slice_get ms) e.0 ∙ is; within = e.1 },
+      omega (arith, f),
+    ))
   ];
   all = λ s p. elim (less_or s.«module» n p.1) [
     | inl l ↦ a.old_ones s (b.all s (p.0, l))

@@ -135,7 +135,7 @@ module _ (ms : Modules) (m r : ℕ) (old new : Closing) where
         let w = waiting old.asked ++ [] in
         let home : home_of ms spot.«module» ≡ Some d.path = ap (home_of ms) same ∙ ms.keyed d.path m d.is_use.is_numbered in
         let meant = begins_declared d.path d.path (place_at ms spot) (sense d.outline d.occurring)
-            (ap (λ q. known (declared_in (place_at ms spot) q)) (sym home) ∙ starts find t d.path d.outline d.occurring d.is_use) in
+        (ap (λ q. known (declared_in (place_at ms spot) q)) (sym home) ∙ starts find t d.path d.outline d.occurring d.is_use) in
         let there = own_reached ms find t root kept all_begin d.path d.outline d.occurring (place_at ms spot) d.used meant in
         let b = sound_arrives ms find t root kept all_begin old.holding old.chains old.is_missing w (u find t) spot new.holding a.arrives d.path (d.is_use.is_numbered ∙ ap Some (sym same)) there.0 there.1 in
         subst (λ x. Sound ms find root kept all_begin new.holding new.chains new.is_missing (waiting x ++ [])) (sym a.asked)

@@ -218,7 +218,7 @@ module _ (ms : Modules) (old new : Closing) where
         let onward = comes_on ms find tabled root kept all_begin s t comes (step find tabled) in
         let m = met find root kept all_begin old.holding old.is_missing s t rest tabled is_via by onward a in
         let n = sound_steps ms find tabled root kept all_begin old.holding mid new.chains old.is_missing (met_or goes t via ++ (w ++ (s, b) ∷ rest)) b via s t
-            (λ v e. m.imports s v (subst (λ x. Contains (met_or goes t via ++ (w ++ (s, b) ∷ rest)) (s, x)) e (Contains-append_right (met_or goes t via) (w ++ (s, b) ∷ rest) (s, b) (one_there w rest (s, b))))) is_via (step find tabled) g m in
+        (λ v e. m.imports s v (subst (λ x. Contains (met_or goes t via ++ (w ++ (s, b) ∷ rest)) (s, x)) e (Contains-append_right (met_or goes t via) (w ++ (s, b) ∷ rest) (s, b) (one_there w rest (s, b))))) is_via (step find tabled) g m in
         let k = sound_waits ms find tabled root kept all_begin old.holding new.chains old.is_missing (met_or goes t via ++ (w ++ (s, b) ∷ rest)) n (w ++ (met_or goes t via ++ rest)) (later goes w rest s t) in
         subst (λ x. Sound ms find root kept all_begin new.holding new.chains new.is_missing (waiting x ++ (met_or goes t via ++ rest))) (sym asked)
         (sound_same ms find tabled root kept all_begin old.holding new.holding new.chains new.chains old.is_missing new.is_missing (w ++ (met_or goes t via ++ rest)) holding refl missing k)

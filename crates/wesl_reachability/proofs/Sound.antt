@@ -115,7 +115,7 @@ module _ (ms : Modules) (find : Finder) (tabled : AreTabled ms find) where
         → Reached find root kept all_begin a.last.home a.place × ((q : Path) → Contains ((c.passed ++ a.passed) ++ a.last.home ∷ []) q → IsPassedThrough find root kept all_begin q)
     comes_reached s c a =
         let d : Denotes find c.home c.outline c.occurring ((c.passed ++ a.passed) ++ a.last.home ∷ []) (declared_at a.last.home a.place)
-            = by_item c.is_meant (comes_to (leads_then find c.chain a.chain) (ap (outcome_at a.last) a.is_declared)) in
+        = by_item c.is_meant (comes_to (leads_then find c.chain a.chain) (ap (outcome_at a.last) a.is_declared)) in
         (onward c.used.reached c.used.is_at c.used.used d, λ q x. by_chain c.used.reached c.used.is_at c.used.used d x)
 
     -- a name denotes a declaration of its own module
@@ -377,9 +377,9 @@ module _ (ms : Modules) (find : Finder) (tabled : AreTabled ms find) where
             steps = λ w x y. elim (before_or w x y room) [
               | inl z ↦ (let k = s.steps w x z in (ap is_met (state_same x) ∙ k.0, k.1))
               | inr e ↦ (
-                  ap is_met (state_same x) ∙ subst (λ k. IsKnown c k) (sym e.1) from_known,
-                  subst (λ k. LeadsOver ms find x k) (sym e.0) (subst (λ k. LeadsOver ms find k v) (sym e.1) (record { first = a; second = b; is_first = is_from; is_second = is_v; step = step })),
-                )
+                ap is_met (state_same x) ∙ subst (λ k. IsKnown c k) (sym e.1) from_known,
+                subst (λ k. LeadsOver ms find x k) (sym e.0) (subst (λ k. LeadsOver ms find k v) (sym e.1) (record { first = a; second = b; is_first = is_from; is_second = is_v; step = step })),
+              )
             ];
             gone = λ w k. s.gone w (sym (state_same w) ∙ k);
             rooms = λ w u is. g.steps.room w.«module» w.item (s.rooms w u is);
@@ -504,7 +504,7 @@ module _ (ms : Modules) (find : Finder) (tabled : AreTabled ms find) where
             } in
             let t = (outline_at home n one (s.apart.numbered n one is) is).2 in
             let numbered = All-contains (λ q. q < length one.list.references.keys) uses.items r
-                (All-contains (λ (v : Vec ℕ Global). All (λ q. q < length one.list.references.keys) v.items) one.uses.items uses t.numbered (to_contains one.uses.items j uses are)) d in
+            (All-contains (λ (v : Vec ℕ Global). All (λ q. q < length one.list.references.keys) v.items) one.uses.items uses t.numbered (to_contains one.uses.items j uses are)) d in
             references_used h c lacks waits s home (place_number one.places.items j) x r uses are d numbered
 
         in_row : (one : Module) → slice_get ms.list.items n ≡ Some one → (o : Option (Vec ℕ Global)) → slice_get one.uses.items j ≡ o → Contains (references_of o) r → IsReference find root kept all_begin ms n r

@@ -19,5 +19,5 @@ returns-in-Waiting-clause-joins c =
     (subst (λ r. Joins c.args.modules.now c.args.before c.args.via c.args.self.now.chains r c.join.new.self) c.in-Waiting.is c.in_ok-joined.ensures)
 
 pub returns-in-Itself-clause-joins : goal.returns-in-Itself-clause-joins
-returns-in-Itself-clause-joins c = 
+returns-in-Itself-clause-joins c =
     joins_round c.args.modules.now c.args.self.now _ c.args.before c.args.via (subst (λ r. Joins c.args.modules.now c.args.before c.args.via c.args.self.now.chains r c.join.new.self) c.in-Itself.is c.in_ok-joined.ensures) refl refl refl refl
