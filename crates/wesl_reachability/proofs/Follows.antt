@@ -409,3 +409,9 @@ pub place_used : (ms : Modules) (old : Closing) (root : Path) (kept : List Name)
 place_used ms old root kept all_begin spot there u find t r c =
     let s = u find t in
     place_references ms find t root kept all_begin old.holding old.chains old.is_missing (waiting old.asked ++ []) s spot.«module» spot.place (s.works spot there) r c
+
+pub take_all : {X : Type 0} (xs : List X) (n : ℕ) → length xs ≤ n → take n xs ≡ xs
+take_all [] zero less = refl
+take_all [] (suc n) less = refl
+take_all (x ∷ xs) zero less = absurd (omega (arith, less))
+take_all (x ∷ xs) (suc n) less = ap (λ l. x ∷ l) (take_all xs n (omega (arith, less)))

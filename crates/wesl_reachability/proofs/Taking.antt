@@ -23,7 +23,7 @@ use Rattle.wesl_reachability.specs.declared.chains.State.TheVariants.{New, Met, 
 use Rattle.wesl_reachability.specs.declared.closing.Closing.{Closing}
 use Rattle.wesl_reachability.specs.declared.holding.Holding.{Holding}
 use Rattle.wesl_reachability.specs.Cells.{Rows, cell, HasRoom, IsSet}
-use Rattle.wesl_reachability.specs.Holding.{Holds, IsPassed, StandsAt}
+use Rattle.wesl_reachability.specs.Holding.{spot_of, Holds, IsPassed, StandsAt}
 use Rattle.wesl_reachability.specs.Joining.{state_at, onward_of, list_of, before_at}
 use Rattle.wesl_reachability.specs.Asking.{Waiting, waiting}
 use Rattle.wesl_reachability.specs.Searching.{AreDeclared, is_met, is_known, IsKnown, IsGone, Linked, Searched}
@@ -207,7 +207,7 @@ module _ (ms : List Module) (n : ℕ) (one : Module) (is : slice_get ms n ≡ So
       befores = ap length a.imports.before.1 ∙ one_more old.chains.before.items a.imports.before.0 n t.rows.befores;
       onwards = ap length a.imports.links.rows ∙ one_more (onward_of old.chains) a.imports.links.row n t.rows.onwards;
     };
-    works = a.directives.grows.works (λ m k h. subst (λ v. Contains v.items _) (sym a.taken.work) (t.works m k (held_before m k h)));
+    works = a.directives.grows.works (λ m k h. subst (λ v. Contains v.items (spot_of m k)) (sym a.taken.work) (t.works m k (held_before m k h)));
     works_only = a.directives.grows.works_only (λ s c. held_still s.«module» s.place (t.works_only s (subst (λ v. Contains v.items s) a.taken.work c)));
     none_passed = λ m p. elim (get_push old.holding.passed.items false m true (subst (λ l. slice_get l m ≡ Some true) passed_same p)) [
       | inl e ↦ t.none_passed m e

@@ -1,7 +1,7 @@
 use Rattle.std.proofs.Common.{◌≡◌, refl, sym, ◌∙◌, subst, ◌+◌, take, List, ℕ}
 use Rattle.std.proofs.lemmas.List.{take_more}
 use Rattle.wesl_reachability.specs.Closing.{AreFollowed}
-use Rattle.wesl_reachability.proofs.Follows.{searches_same, searches_then, followed_none, followed_more, contains_at}
+use Rattle.wesl_reachability.proofs.Follows.{searches_same, searches_then, followed_none, followed_more, contains_at, take_all}
 use Rattle.wesl_reachability.proofs.closing.Closing.follow_references.Goals as goal
 
 pub loop-reference-init : goal.loop-reference-init
@@ -19,3 +19,7 @@ loop-reference-preserved c =
           (λ find t. used find t _ (contains_at c.args.references.now i 0 c.loop-reference-test.true)) (c.loop-reference.invariant.sound root kept all_begin used u);
       done = c.follow.ensures.done ∙ c.loop-reference.invariant.done;
     }
+
+pub returns-clause-followed : goal.returns-clause-followed
+returns-clause-followed c =
+    subst (λ (l : List ℕ). AreFollowed c.loop-reference.self.followed.items c.args.number l) (take_all c.args.references.now c.loop-reference.reference-index c.loop-reference-test.false) c.loop-reference.invariant.followed
