@@ -5,6 +5,7 @@ use Rattle.wesl_chains.proofs.Loops.{leads_more}
 use Rattle.wesl_module_index.specs.Loaded.{AreTabled}
 use Rattle.wesl_name_resolution.specs.Links.{symbol_of}
 use Rattle.wesl_name_resolution.proofs.Chains.{exhausted}
+use Rattle.wesl_reachability.specs.Asking.{Waiting}
 use Rattle.wesl_reachability.specs.Closing.{Seeks, LeadsOnTo, goes_on}
 use Rattle.wesl_reachability.proofs.Goes.{seeks_same, seeks_then, seeks_missing, longer_chain}
 use Rattle.wesl_reachability.proofs.Sound.{comes_round}
@@ -33,9 +34,9 @@ returns-clause-seeks c = elim c.loop-item-test.branch [
   | else-loop-item-test w ↦ (let low = c.loop-item.auto._item-end in let high = w.loop-item-test.false in absurd (omega (arith, low, high)))
   | then-loop-item-test+in_ok-further+in-Some+else-item-item-end w ↦
       (let ms = c.args.modules.now in
-      let one = (symbol_of c.args.first, c.args.before) in
-      let two = (symbol_of c.loop-item.link, c.loop-item.before) in
-      let three = (symbol_of w.in-Some.next, Some w.in-Some.via) in
+      let one : Waiting = (symbol_of c.args.first, c.args.before) in
+      let two : Waiting = (symbol_of c.loop-item.link, c.loop-item.before) in
+      let three : Waiting = (symbol_of w.in-Some.next, Some w.in-Some.via) in
       let a : Seeks ms one (three ∷ []) c.args.self.now w.go.new.self = seeks_then ms one two (three ∷ []) c.args.self.now c.loop-item.self w.go.new.self c.loop-item.invariant.seeks
       (subst (λ r. Seeks ms two (goes_on r) c.loop-item.self w.go.new.self) w.in-Some.is w.in_ok-further.ensures.seeks) in
       let l = c.note_missing.ensures.lacks in
