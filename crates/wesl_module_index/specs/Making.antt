@@ -1,6 +1,7 @@
 -- What a module's tables are made of, and when they are refused.
-use Rattle.std.specs.Prelude.{◌≡◌, ◌⊎◌, ℕ, ◌<◌, ◌^◌, List, [], map, length, Bool, true, not, None, Result, Ok, Err, slice_get}
+use Rattle.std.specs.Prelude.{◌≡◌, ◌⊎◌, ℕ, ◌<◌, ◌^◌, List, [], map, length, Bool, true, not, Option, Some, None, Result, Ok, Err, slice_get}
 use Rattle.std.specs.List.{All, filter, flat_map}
+use Rattle.std.specs.HashMap.{get_by_text}
 use Rattle.wgsl_path.specs.declared.path.ModulePath.{ModulePath}
 use Rattle.wgsl_skeleton.specs.ImportsTree.{Importing}
 use Rattle.wgsl_skeleton.specs.Flats.{replayed}
@@ -10,6 +11,9 @@ use Rattle.wesl_mark.specs.Places.{DeclarationId}
 use Rattle.wesl_module_index.specs.declared.error.ImportError.{ImportError}
 use Rattle.wesl_module_index.specs.declared.error.ImportError.TheVariants.{DuplicateSymbol, OutOfMemory}
 use Rattle.wesl_module_index.specs.declared.imports.Names.{Names}
+use Rattle.wesl_module_index.specs.declared.module.Meaning.TheVariants as meaning
+use Rattle.wesl_module_index.specs.declared.module.ReferenceTarget.{ReferenceTarget}
+use Rattle.wesl_module_index.specs.declared.module.ReferenceTarget.TheVariants as sought
 use Rattle.wesl_module_index.specs.declared.module.Module.{Module}
 use Rattle.wesl_module_index.specs.declared.target.Target.{Target}
 use Rattle.wesl_chains.specs.Outlines.{Name, Entry, Outline, scope_names}
@@ -35,6 +39,14 @@ pub record IsOrderly (s : DeclarationId) : Type 0 where
   pub closed : trail_after s.flats [] ≡ []
   pub unnamed : is_void s.kind ≡ true → s.name ≡ None
 
+-- `;` says nothing
+abbrev pub IsSilent : DeclarationId → Type 0
+IsSilent s = is_void s.kind ≡ true → s.flats ≡ []
+
+-- a declaration that a reference means is one of a name
+abbrev pub IsDeclaredHere : Names → Option ReferenceTarget → Type 0
+IsDeclaredHere names s = (k : ℕ) → s ≡ Some (sought.Declared k) → (x : Name) × (get_by_text names.scope x ≡ Some (meaning.Declared k))
+
 -- the outline of the module at a path, with these imports, whose places say this
 abbrev pub outline_said : ModulePath → List Importing → List DeclarationId → Outline
 outline_said path imports spots = record { path = path; items = flat_map (items_of path) imports; entries = spot_entries spots }
@@ -54,4 +66,5 @@ pub record IsTable (target : Target) (list : MarkList) (places : List Place) (na
   pub scope : m.scope ≡ names.scope
   pub numbered : All (λ references. AreReferences list references.items) m.uses.items
   pub uses : All (IsClosed list) places → map (λ references. map (read_at list) references.items) m.uses.items ≡ map (uses_at list) places
+  pub declares : (r : ℕ) → IsDeclaredHere names (slice_get m.sought.items r)
   pub senses : (r : ℕ) → r < 2 ^ 32 → r < length list.references.keys → IsSense names (use_at list r) (slice_get m.sought.items r)

@@ -15,7 +15,8 @@ ghost use Rattle.wesl_linking_spec.specs.Outlining.{items_of};
 ghost use Rattle.wesl_module_index.specs.Tables.{import_said, target_at, use_at};
 ghost use Rattle.wesl_module_index.specs.Tables as tables;
 ghost use Rattle.wesl_module_index.specs.Naming.{AreNamed, IsSense, SayNames, declared_from, leading};
-ghost use Rattle.wesl_module_index.specs.Making.{IsMade, IsOrderly, IsTable, outline_said};
+ghost use Rattle.wesl_module_index.specs.Making.{IsMade, IsOrderly, IsSilent, IsDeclaredHere, IsTable, outline_said};
+ghost use Rattle.wesl_module_index.specs.Entries.{HasEntries};
 
 use crate::error::ImportError;
 use crate::imports::{Names, add_declared};
@@ -81,8 +82,9 @@ impl Module {
         list: MarkList,
         places: Vec<Place>,
     ) -> Result<Module, ImportError>
-        ensures { (spots : List DeclarationId) → AllZip (IsSpot list) places.items spots → All IsOrderly spots
+        ensures tables { (spots : List DeclarationId) → AllZip (IsSpot list) places.items spots → All IsOrderly spots
             → IsMade (outline_said (canonical (path_text path.now)) (map importing_tree imports.now) spots) result }
+        ensures entries { (spots : List DeclarationId) → AllZip (IsSpot list) places.items spots → All IsOrderly spots → All IsSilent spots → IfOk result HasEntries }
     {
         let target = Target::new(alloc, path)?;
         let names = names_of(alloc, &target.path, imports, &list, places.as_slice())?;
@@ -178,7 +180,8 @@ fn tabulated(
 }
 
 fn all_sought(names: &Names, list: &MarkList) -> Result<Vec<ReferenceTarget>, AllocError>
-    ensures { IfOk result (λ all. (r : ℕ) → r < 2 ^ 32 → r < length list.now.references.keys → IsSense names.now (use_at list.now r) (slice_get all.items r)) }
+    ensures senses { IfOk result (λ all. (r : ℕ) → r < 2 ^ 32 → r < length list.now.references.keys → IsSense names.now (use_at list.now r) (slice_get all.items r)) }
+    ensures declares { IfOk result (λ all. (r : ℕ) → IsDeclaredHere names.now (slice_get all.items r)) }
 {
     let mut all = Vec::new(names.alloc);
     for number in 0..list.reference_count() {
@@ -193,7 +196,8 @@ fn all_sought(names: &Names, list: &MarkList) -> Result<Vec<ReferenceTarget>, Al
 
 fn sought_at(names: &Names, list: &MarkList, number: u32) -> Result<ReferenceTarget, AllocError>
     requires { number < length list.now.references.keys }
-    ensures { IfOk result (λ sought. IsSense names.now (use_at list.now number) (Some sought)) }
+    ensures senses { IfOk result (λ sought. IsSense names.now (use_at list.now number) (Some sought)) }
+    ensures declares { IfOk result (λ sought. IsDeclaredHere names.now (Some sought)) }
 {
     match list.reference(number) {
         None => Ok(ReferenceTarget::Free),
@@ -206,7 +210,8 @@ fn sought_by(
     list: &MarkList,
     reference: &Reference,
 ) -> Result<ReferenceTarget, AllocError>
-    ensures { IfOk result (λ sought. IsSense names.now (record { path = reference.now.path; name = text_at list.now.names.keys reference.now.name }) (Some sought)) }
+    ensures senses { IfOk result (λ sought. IsSense names.now (record { path = reference.now.path; name = text_at list.now.names.keys reference.now.name }) (Some sought)) }
+    ensures declares { IfOk result (λ sought. IsDeclaredHere names.now (Some sought)) }
 {
     let name = list.name(reference.name);
     match &reference.path {
@@ -221,7 +226,8 @@ fn sought_by(
 
 /// What a name means that stands without a path.
 fn sought_plain(names: &Names, name: &str) -> ReferenceTarget
-    ensures { IsSense names.now (record { path = None; name = name.now }) (Some result) }
+    ensures senses { IsSense names.now (record { path = None; name = name.now }) (Some result) }
+    ensures declares { IsDeclaredHere names.now (Some result) }
 {
     match names.scope.get(name) {
         None => ReferenceTarget::Free,
