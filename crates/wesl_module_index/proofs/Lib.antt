@@ -6,3 +6,4 @@ mod Items
 mod Gathering
 mod Sensing
 mod Tabled
+mod Entries
