@@ -14,5 +14,6 @@ returns c = record {
   scope = refl;
   numbered = c.in_ok-uses.ensures.numbered;
   uses = subst (λ (ps : List Place). All (IsClosed c.args.list) ps → map (λ references. map (read_at c.args.list) references.items) c.in_ok-uses.uses.items ≡ map (uses_at c.args.list) ps) c.as_slice.ensures.value c.in_ok-uses.ensures.uses;
-  senses = c.in_ok-sought.ensures;
+  declares = c.in_ok-sought.ensures.declares;
+  senses = c.in_ok-sought.ensures.senses;
 }
