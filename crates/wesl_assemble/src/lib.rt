@@ -1,6 +1,7 @@
 //! The linked unit: what is held of the modules, under names and symbol numbers of its own, in one list of declarations.
 #![tactic(auto)]
 
+pub mod laws;
 mod linked_unit;
 mod moving;
 mod numbering;

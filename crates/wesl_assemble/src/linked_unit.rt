@@ -1,19 +1,19 @@
 //! The linked unit is put together.
 
-ghost use Rattle.std.specs.Prelude.{◌≡◌, [], IfOk};
+ghost use Rattle.std.specs.Prelude.{◌≡◌, ◌++◌, [], IfOk, OnOk};
+ghost use Rattle.wesl_assemble.specs.Taking.{along};
+ghost use Rattle.wesl_assemble.specs.Numbers.{goes, answer_at, origin_at};
 
-use crate::moving::{Moved, empty_unit, move_reversed, move_unless_equal};
-use crate::numbering::Numbering;
-use crate::scripts::{Meanings, find_meanings, script_of};
+use crate::moving::{Moved, empty_unit, keep_taken, move_all, move_new};
+use crate::numbering::{Numbering, is_held};
+use crate::scripts::{Meanings, script_of};
 use std::alloc::{AllocError, Global};
-use wesl_load::{HeldUnit, Resolutions};
-use wesl_mark::Kind;
-use wesl_marks_mut::{write_declaration, write_directive};
+use wesl_load::Resolutions;
+use wesl_mark::{Kind, Place};
+use wesl_marks_mut::write_unit;
 use wesl_module_index::{DeclarationId, Module};
 use wgsl_base::{Items, Text};
-use wgsl_declarations::{
-    GlobalDeclarationNode, GlobalDirective, TranslationUnit, let_go, retain_declarations,
-};
+use wgsl_declarations::{GlobalDeclarationNode, GlobalDirective, TranslationUnit, let_go};
 
 /// Puts the linked unit together: the directives of all loaded modules, equal ones once, and the held declarations, in the order of the
 /// symbols' numbers and without imports. `names` has the name of each symbol, by number. The trees are moved out of the resolutions, whose
@@ -28,7 +28,10 @@ pub fn assemble(
     ensures { IfOk result (λ unit. unit.imports ≡ []) }
 {
     let order = resolutions.modules.in_linked_order(alloc)?;
-    write_modules(alloc, resolutions, numbering, names, order.as_slice())?;
+    let mut meanings = Meanings::new(alloc, numbering.spots().len())?;
+    for number in order.as_slice() {
+        write_module(alloc, resolutions, numbering, names, *number, &mut meanings)?;
+    }
     let mut linked = empty_unit(alloc);
     let taken = take_all(
         alloc,
@@ -47,7 +50,7 @@ pub fn assemble(
     }
 }
 
-/// Moves the directives and what is held of the modules in this order.
+/// Moves what the modules in this order have, of which only what goes into the linked unit is left.
 fn take_all(
     alloc: Global,
     resolutions: &mut Resolutions,
@@ -56,47 +59,31 @@ fn take_all(
     declarations: &mut Items<GlobalDeclarationNode>,
     origins: &mut Vec<DeclarationId>,
 ) -> Result<(), AllocError> {
-    let mut turned = HeldUnit::new(empty_unit(alloc));
     let mut moved = Moved::new(alloc);
     for number in order {
-        if *number < resolutions.units.len() {
-            let unit = resolutions.units[*number].get_mut();
-            take_directives(
-                unit,
-                *number,
-                turned.get_mut(),
-                directives,
-                &mut moved,
-                origins,
+        if let Some(unit) = resolutions.units.get_mut(*number) {
+            let from = &mut unit.get_mut().global_directives;
+            move_new(from, *number, directives, &mut moved, origins)?;
+        }
+    }
+    for number in order {
+        if let Some(module) = resolutions.modules.get(*number) {
+            let held = resolutions.held.as_slice();
+            add_origins(held, *number, module.places.as_slice(), origins)?;
+        }
+        if let Some(unit) = resolutions.units.get_mut(*number) {
+            move_all(
+                alloc,
+                &mut unit.get_mut().global_declarations,
+                declarations,
             )?;
         }
     }
-    for number in order {
-        let taken = taken_declarations(alloc, resolutions, *number, origins)?;
-        if *number < resolutions.units.len() {
-            let unit = resolutions.units[*number].get_mut();
-            take_declarations(unit, taken.as_slice(), turned.get_mut(), declarations)?;
-        }
-    }
     Ok(())
 }
 
-/// Writes the names of the linked unit into the modules.
-fn write_modules(
-    alloc: Global,
-    resolutions: &mut Resolutions,
-    numbering: &Numbering,
-    names: &[Text],
-    order: &[usize],
-) -> Result<(), AllocError> {
-    let mut meanings = Meanings::new(alloc, numbering.spots().len())?;
-    for number in order {
-        write_module(alloc, resolutions, numbering, names, *number, &mut meanings)?;
-    }
-    Ok(())
-}
-
-/// Writes the names of the linked unit into the directives and the held declarations of a module.
+/// Drops the declarations of a module that do not go into the linked unit, and writes the names of that unit into the others and into the
+/// directives.
 fn write_module(
     alloc: Global,
     resolutions: &mut Resolutions,
@@ -105,152 +92,138 @@ fn write_module(
     number: usize,
     meanings: &mut Meanings,
 ) -> Result<(), AllocError> {
-    let count = match resolutions.modules.get(number) {
-        None => 0,
-        Some(module) => module.places.len(),
+    let Some(module) = resolutions.modules.get(number) else {
+        return Ok(());
     };
-    for place in 0..count {
+    let held = resolutions.held.as_slice();
+    let places = module.places.as_slice();
+    let taken = taken_declarations(alloc, held, number, places)?;
+    let symbols = find_symbols(alloc, resolutions, numbering, module, number)?;
+    meanings.meant.clear();
+    add_places(module, held, numbering, number, symbols.as_slice(), meanings)?;
+    let mut script = script_of(alloc, meanings.meant.as_slice(), names)?;
+    if let Some(unit) = resolutions.units.get_mut(number) {
+        let unit = unit.get_mut();
+        keep_taken(alloc, &mut unit.global_declarations, taken)?;
+        write_unit(unit, &mut script);
+    }
+    Ok(())
+}
+
+/// Adds what the identifiers stand for in what goes of a module into the linked unit.
+fn add_places(
+    module: &Module,
+    held: &[Vec<bool>],
+    numbering: &Numbering,
+    number: usize,
+    symbols: &[Option<u32>],
+    meanings: &mut Meanings,
+) -> Result<(), AllocError> {
+    for (place, entry) in module.places.iter().enumerate() {
         let spot = DeclarationId {
             module: number,
             place,
         };
-        if is_taken(resolutions, spot) {
-            write_place(alloc, resolutions, numbering, names, spot, meanings)?;
+        if is_taken(held, spot, *entry) {
+            let own = numbering.number(spot);
+            meanings.add_place(&module.list, symbols, own, *entry)?;
         }
     }
     Ok(())
 }
 
-/// Whether a place goes into the linked unit: each directive, and what is held but a `;` alone.
-fn is_taken(resolutions: &Resolutions, spot: DeclarationId) -> bool {
-    match kind_at(resolutions, spot) {
-        None => false,
-        Some(Kind::Directive) => true,
-        Some(Kind::Void) => false,
-        Some(_) => resolutions.is_held(spot),
-    }
-}
-
-fn kind_at(resolutions: &Resolutions, spot: DeclarationId) -> Option<Kind> {
-    match resolutions.modules.get(spot.module) {
-        None => None,
-        Some(module) => match module.places.get(spot.place) {
-            None => None,
-            Some(place) => Some(place.kind),
-        },
-    }
-}
-
-fn write_place(
+/// For each reference of a module, by number, the symbol that it denotes.
+fn find_symbols(
     alloc: Global,
-    resolutions: &mut Resolutions,
-    numbering: &Numbering,
-    names: &[Text],
-    spot: DeclarationId,
-    meanings: &mut Meanings,
-) -> Result<(), AllocError> {
-    match resolutions.modules.get(spot.module) {
-        None => return Ok(()),
-        Some(module) => find_in(resolutions, numbering, module, spot, meanings)?,
-    }
-    let mut script = script_of(alloc, meanings.meant.as_slice(), names)?;
-    if spot.module < resolutions.units.len() {
-        let unit = resolutions.units[spot.module].get_mut();
-        let directives = unit.global_directives.len();
-        if spot.place < directives {
-            write_directive(unit.global_directives.get_mut(spot.place), &mut script);
-        } else if spot.place - directives < unit.global_declarations.len() {
-            let node = unit.global_declarations.get_mut(spot.place - directives);
-            write_declaration(node.node_mut(), &mut script);
-        }
-    }
-    Ok(())
-}
-
-fn find_in(
     resolutions: &Resolutions,
     numbering: &Numbering,
     module: &Module,
-    spot: DeclarationId,
-    meanings: &mut Meanings,
-) -> Result<(), AllocError> {
-    match module.places.get(spot.place) {
-        None => Ok(()),
-        Some(place) => find_meanings(resolutions, numbering, &module.list, spot, *place, meanings),
-    }
-}
-
-/// Moves the directives of a module, in order and equal ones once.
-fn take_directives(
-    unit: &mut TranslationUnit,
     number: usize,
-    turned: &mut TranslationUnit,
-    directives: &mut Items<GlobalDirective>,
-    moved: &mut Moved,
-    origins: &mut Vec<DeclarationId>,
-) -> Result<(), AllocError> {
-    let count = unit.global_directives.len();
-    move_reversed(&mut unit.global_directives, &mut turned.global_directives)?;
-    for place in 0..count {
-        let is_new = move_unless_equal(
-            &mut turned.global_directives,
-            directives,
-            &mut unit.global_directives,
-            moved,
-        )?;
-        if is_new {
-            origins.push(DeclarationId {
-                module: number,
-                place,
-            })?;
-        }
+) -> Result<Vec<Option<u32>>, AllocError> {
+    let mut symbols = Vec::new(alloc);
+    for reference in 0..module.list.reference_count() {
+        let symbol = match u32::try_from(reference) {
+            Err(_) => None,
+            Ok(reference) => match resolutions.denoted(number, reference) {
+                None => None,
+                Some(spot) => numbering.number(spot),
+            },
+        };
+        symbols.push(symbol)?;
     }
-    Ok(())
+    Ok(symbols)
 }
 
-/// Which of the declarations of a module go into the linked unit. Where each that does comes from is added to the origins.
+/// Whether what stands at a place goes into the linked unit: each directive, and what is held but a `;` alone.
+fn is_taken(held: &[Vec<bool>], spot: DeclarationId, place: Place) -> bool
+    ensures { result ≡ goes held.now spot place }
+{
+    match place.kind {
+        Kind::Directive => true,
+        Kind::Void => false,
+        _ => is_held(held, spot),
+    }
+}
+
+/// Which of the declarations of a module go into the linked unit.
 fn taken_declarations(
     alloc: Global,
-    resolutions: &Resolutions,
-    number: usize,
-    origins: &mut Vec<DeclarationId>,
-) -> Result<Vec<bool>, AllocError> {
+    held: &[Vec<bool>],
+    module: usize,
+    places: &[Place],
+) -> Result<Vec<bool>, AllocError>
+    ensures { IfOk result (λ taken. taken.items ≡ along (answer_at held.now «module») 0 places.now) }
+{
     let mut taken = Vec::new(alloc);
-    let Some(module) = resolutions.modules.get(number) else {
-        return Ok(taken);
-    };
-    for (place, entry) in module.places.iter().enumerate() {
-        if entry.kind != Kind::Directive {
-            let spot = DeclarationId {
-                module: number,
-                place,
-            };
-            let is_taken = is_taken(resolutions, spot);
-            taken.push(is_taken)?;
-            if is_taken {
-                origins.push(spot)?;
-            }
-        }
+    for (place, entry) in places.iter().enumerate() {
+        let spot = DeclarationId { module, place };
+        add_answer(&mut taken, held, spot, *entry)?;
     }
     Ok(taken)
 }
 
-/// Moves the declarations of a module that go into the linked unit, in order, and drops the others.
-fn take_declarations(
-    unit: &mut TranslationUnit,
-    taken: &[bool],
-    turned: &mut TranslationUnit,
-    declarations: &mut Items<GlobalDeclarationNode>,
-) -> Result<(), AllocError> {
-    let mut at: usize = 0;
-    retain_declarations(&mut unit.global_declarations, |_| {
-        let is_taken = matches!(taken.get(at), Some(true));
-        at = at.saturating_add(1);
-        is_taken
-    });
-    move_reversed(
-        &mut unit.global_declarations,
-        &mut turned.global_declarations,
-    )?;
-    move_reversed(&mut turned.global_declarations, declarations)
+/// Adds whether a declaration goes into the linked unit.
+fn add_answer(
+    taken: &mut Vec<bool>,
+    held: &[Vec<bool>],
+    spot: DeclarationId,
+    place: Place,
+) -> Result<(), AllocError>
+    ensures { OnOk result (taken.new.items ≡ taken.old.items ++ answer_at held.now spot.«module» spot.place place) }
+{
+    if place.kind != Kind::Directive {
+        taken.push(is_taken(held, spot, place))?;
+    }
+    Ok(())
+}
+
+/// Adds where the declarations of a module come from that go into the linked unit.
+fn add_origins(
+    held: &[Vec<bool>],
+    module: usize,
+    places: &[Place],
+    origins: &mut Vec<DeclarationId>,
+) -> Result<(), AllocError>
+    ensures { OnOk result (origins.new.items ≡ origins.old.items ++ along (origin_at held.now «module») 0 places.now) }
+{
+    for (place, entry) in places.iter().enumerate() {
+        let spot = DeclarationId { module, place };
+        add_origin(held, spot, *entry, origins)?;
+    }
+    Ok(())
+}
+
+/// Adds where a declaration comes from that goes into the linked unit.
+fn add_origin(
+    held: &[Vec<bool>],
+    spot: DeclarationId,
+    place: Place,
+    origins: &mut Vec<DeclarationId>,
+) -> Result<(), AllocError>
+    ensures { OnOk result (origins.new.items ≡ origins.old.items ++ origin_at held.now spot.«module» spot.place place) }
+{
+    if place.kind != Kind::Directive && is_taken(held, spot, place) {
+        origins.push(spot)?;
+    }
+    Ok(())
 }

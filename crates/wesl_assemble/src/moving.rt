@@ -1,10 +1,13 @@
-//! Declarations and directives are moved from one unit to another. What moves them is generic, so that no drop of a tree is proved again.
+//! Directives and declarations are moved from one unit to another. What moves them is generic, so that no drop of a tree is proved again.
 
-ghost use Rattle.std.specs.Prelude.{◌≡◌, []};
+ghost use Rattle.std.specs.Prelude.{◌≡◌, ◌++◌, [], OnOk};
+ghost use Rattle.wesl_assemble.specs.Taking.{chosen, if_taken};
 
 use std::alloc::{AllocError, Global};
 use std::collections::HashMap;
 use std::fmt::Display;
+use std::mem;
+use wesl_module_index::DeclarationId;
 use wgsl_base::Items;
 use wgsl_declarations::TranslationUnit;
 
@@ -19,12 +22,42 @@ pub(crate) fn empty_unit(alloc: Global) -> TranslationUnit
     }
 }
 
-/// Moves all items, the last one first.
-pub(crate) fn move_reversed<T: Drop>(
+/// Keeps the items that are to be taken, in order, and drops the others.
+pub(crate) fn keep_taken<T: Drop>(
+    alloc: Global,
+    items: &mut Items<T>,
+    taken: Vec<bool>,
+) -> Result<(), AllocError>
+    ensures { OnOk result (items.new ≡ chosen taken.items items.old) }
+{
+    let all = mem::replace(items, Items::new(alloc));
+    let mut answers = taken.into_iter();
+    for item in all.into_vec() {
+        let is_taken = matches!(answers.next(), Some(true));
+        push_if(items, item, is_taken)?;
+    }
+    Ok(())
+}
+
+fn push_if<T: Drop>(items: &mut Items<T>, item: T, is_taken: bool) -> Result<(), AllocError>
+    ensures { OnOk result (items.new ≡ items.old ++ if_taken is_taken item) }
+{
+    if is_taken {
+        items.push(item)?;
+    }
+    Ok(())
+}
+
+/// Moves all items, in order.
+pub(crate) fn move_all<T: Drop>(
+    alloc: Global,
     from: &mut Items<T>,
     to: &mut Items<T>,
-) -> Result<(), AllocError> {
-    while let Some(item) = from.pop() {
+) -> Result<(), AllocError>
+    ensures { OnOk result (to.new ≡ to.old ++ from.old) }
+{
+    let all = mem::replace(from, Items::new(alloc));
+    for item in all.into_vec() {
         to.push(item)?;
     }
     Ok(())
@@ -71,27 +104,38 @@ impl Moved {
         self.places.insert(text, places)?;
         Ok(())
     }
+
+    /// Moves an item, if no equal one was moved before; else it is dropped. Whether it was moved.
+    fn move_item<T: Drop + PartialEq + Display>(
+        &mut self,
+        item: T,
+        to: &mut Items<T>,
+    ) -> Result<bool, AllocError> {
+        let text = item.to_string(self.alloc)?;
+        if self.is_among(text.as_str(), &item, to.as_slice()) {
+            return Ok(false);
+        }
+        self.add(text, to.len())?;
+        to.push(item)?;
+        Ok(true)
+    }
 }
 
-/// Moves the last item, where there is one. One that is there already goes to what is left. Whether it was new.
-pub(crate) fn move_unless_equal<T: Drop + PartialEq + Display>(
+/// Moves the items of a module, in order and equal ones once. Where each stood that is moved is added to the origins.
+pub(crate) fn move_new<T: Drop + PartialEq + Display>(
     from: &mut Items<T>,
+    module: usize,
     to: &mut Items<T>,
-    left: &mut Items<T>,
     moved: &mut Moved,
-) -> Result<bool, AllocError> {
-    match from.pop() {
-        None => Ok(false),
-        Some(item) => {
-            let text = item.to_string(moved.alloc)?;
-            if moved.is_among(text.as_str(), &item, to.as_slice()) {
-                left.push(item)?;
-                Ok(false)
-            } else {
-                moved.add(text, to.len())?;
-                to.push(item)?;
-                Ok(true)
-            }
+    origins: &mut Vec<DeclarationId>,
+) -> Result<(), AllocError> {
+    let all = mem::replace(from, Items::new(moved.alloc));
+    let mut place: usize = 0;
+    for item in all.into_vec() {
+        if moved.move_item(item, to)? {
+            origins.push(DeclarationId { module, place })?;
         }
+        place = place.saturating_add(1);
     }
+    Ok(())
 }

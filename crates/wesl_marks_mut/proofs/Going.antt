@@ -1,11 +1,11 @@
 -- Nodes that are written by a script, put together.
-use Rattle.std.proofs.Common.{◌≡◌, refl, sym, ap, ◌∙◌, subst, List, [], ◌∷◌, ◌++◌, map, Option, Some, None, false, codes}
-use Rattle.std.specs.Str.{bytes_eq}
+use Rattle.std.proofs.Common.{◌≡◌, refl, sym, ap, ◌∙◌, subst, List, [], ◌∷◌, ◌++◌, map, Option, Some, None}
 use Rattle.wgsl_path.specs.declared.path.ModulePath.{ModulePath}
 use Rattle.wgsl_skeleton.specs.Skeleton.{Name, Label, Node, occurrence, local, scope, node, Nodes, nil, cons}
 use Rattle.wgsl_skeleton.specs.Trees.{nodes, then_nodes}
 use Rattle.wgsl_skeleton.specs.Occurrences.{Occurrence, behind}
 use Rattle.wgsl_skeleton.specs.Renaming.{Naming, new_name, renamed, all_renamed}
+use Rattle.wesl_linking_spec.specs.Written.{reread, all_reread}
 use Rattle.wesl_marks_mut.specs.Lasts.{init, last}
 use Rattle.wesl_marks_mut.specs.Putting.{put_path, put_name}
 use Rattle.wesl_marks_mut.specs.Walks.{each}
@@ -35,7 +35,6 @@ module _ (f : Naming) where
   pub record Used (o : Occurrence) (xs : List DeclarationId) (s r : Left) : Type 0 where
     pub path : put_path o.path (last s) ≡ None
     pub name : put_name o.name (last s) ≡ new_name f o.path o.name o.locals
-    pub plain : bytes_eq (new_name f o.path o.name o.locals) (codes "_") ≡ false
     pub rest : Scripted f xs (init s) r
 
   pub use_of : {o : Occurrence} {xs zs : List DeclarationId} {s r : Left} → Scripted f zs s r → zs ≡ used o ∷ xs → Used o xs s r
@@ -47,7 +46,6 @@ module _ (f : Naming) where
       record {
         path = ap (put_path o.path) (last_push s n) ∙ p.path;
         name = ap (put_name o.name) (last_push s n) ∙ p.name;
-        plain = p.plain;
         rest = subst (λ v. Scripted f xs v r) (sym (init_push s n)) (subst (λ q. Scripted f q s r) more h);
       }
 
@@ -75,11 +73,11 @@ module _ (f : Naming) where
   -- a node that is no local, as it is written
   pub record Does (locals : List Name) (n m : Node) (s t : Left) : Type 0 where
     pub stays : behind locals n ≡ locals
-    pub gives : (r : Left) → Scripted f (spots locals n) s r → (m ≡ renamed f locals n) × (t ≡ r)
+    pub gives : (r : Left) → Scripted f (spots locals n) s r → (m ≡ reread (renamed f locals n)) × (t ≡ r)
 
   -- a list of nodes
   pub record Goes (locals : List Name) (ns ms : Nodes) (s t : Left) : Type 0 where
-    pub gives : (r : Left) → Scripted f (all_spots locals ns) s r → (ms ≡ all_renamed f locals ns) × (t ≡ r)
+    pub gives : (r : Left) → Scripted f (all_spots locals ns) s r → (ms ≡ all_reread (all_renamed f locals ns)) × (t ≡ r)
 
   pub goes_nil : {locals : List Name} {s : Left} → Goes locals nil nil s s
   goes_nil = record { gives = λ r h. (refl, all_used h refl) }
@@ -88,18 +86,18 @@ module _ (f : Naming) where
   goes_cons {locals = locals} {n = n} {m = m} {ns = ns} {ms = ms} {s = s} {t = t} {u = u} d g = record { gives = both }
     where
       both : (r : Left) → Scripted f (spots locals n ++ all_spots (behind locals n) ns) s r
-          → (cons m ms ≡ cons (renamed f locals n) (all_renamed f (behind locals n) ns)) × (u ≡ r)
+          → (cons m ms ≡ cons (reread (renamed f locals n)) (all_reread (all_renamed f (behind locals n) ns))) × (u ≡ r)
       both r h =
           let p = halves (spots locals n) (all_spots (behind locals n) ns) h refl in
           let a = d.gives p.mid p.left in
           let b = g.gives r (subst (λ v. Scripted f (all_spots locals ns) v r) (sym a.1) (subst (λ l. Scripted f (all_spots l ns) p.mid r) d.stays p.right)) in
-          ((λ i. cons (a.0 i) (b.0 i)) ∙ ap (λ l. cons (renamed f locals n) (all_renamed f l ns)) (sym d.stays), b.1)
+          ((λ i. cons (a.0 i) (b.0 i)) ∙ ap (λ l. cons (reread (renamed f locals n)) (all_reread (all_renamed f l ns))) (sym d.stays), b.1)
 
   -- a local, which keeps its name
   pub goes_local : {locals : List Name} (x : Name) {ns ms : Nodes} {s t : Left} → Goes (x ∷ locals) ns ms (init s) t → Goes locals (cons (local x) ns) (cons (local (put_name x (last s))) ms) s t
   goes_local {locals = locals} x {ns = ns} {ms = ms} {s = s} {t = t} g = record { gives = both }
     where
-      both : (r : Left) → Scripted f (called x x ∷ all_spots (x ∷ locals) ns) s r → (cons (local (put_name x (last s))) ms ≡ cons (local x) (all_renamed f (x ∷ locals) ns)) × (t ≡ r)
+      both : (r : Left) → Scripted f (called x x ∷ all_spots (x ∷ locals) ns) s r → (cons (local (put_name x (last s))) ms ≡ cons (local x) (all_reread (all_renamed f (x ∷ locals) ns))) × (t ≡ r)
       both r h = let c = call_of h refl in let b = g.gives r c.rest in (λ i. cons (local (c.name i)) (b.0 i), b.1)
 
   pub does_node : {locals : List Name} (label : Label) {ns ms : Nodes} {s t : Left} → Goes locals ns ms s t → Does locals (node label ns) (node label ms) s t
@@ -108,12 +106,13 @@ module _ (f : Naming) where
   pub does_scope : {locals : List Name} {ns ms : Nodes} {s t : Left} → Goes locals ns ms s t → Does locals (scope ns) (scope ms) s t
   does_scope g = record { stays = refl; gives = λ r h. let b = g.gives r h in (ap scope b.0, b.1) }
 
-  pub does_occurrence : {locals : List Name} (path : Option ModulePath) (x : Name) {ns ms : Nodes} {s t : Left} → Goes locals ns ms (init s) t
-      → Does locals (occurrence path x ns) (occurrence (put_path path (last s)) (put_name x (last s)) ms) s t
-  does_occurrence {locals = locals} path x {ns = ns} {ms = ms} {s = s} {t = t} g = record { stays = refl; gives = both }
+  -- one with a template list
+  pub does_occurrence : {locals : List Name} (path : Option ModulePath) (x : Name) {n m : Node} {ns ms : Nodes} {s t : Left} → Goes locals (cons n ns) (cons m ms) (init s) t
+      → Does locals (occurrence path x (cons n ns)) (occurrence (put_path path (last s)) (put_name x (last s)) (cons m ms)) s t
+  does_occurrence {locals = locals} path x {n = n} {m = m} {ns = ns} {ms = ms} {s = s} {t = t} g = record { stays = refl; gives = both }
     where
-      both : (r : Left) → Scripted f (used (record { path = path; name = x; locals = locals }) ∷ all_spots locals ns) s r
-          → (occurrence (put_path path (last s)) (put_name x (last s)) ms ≡ occurrence None (new_name f path x locals) (all_renamed f locals ns)) × (t ≡ r)
+      both : (r : Left) → Scripted f (used (record { path = path; name = x; locals = locals }) ∷ all_spots locals (cons n ns)) s r
+          → (occurrence (put_path path (last s)) (put_name x (last s)) (cons m ms) ≡ occurrence None (new_name f path x locals) (all_reread (all_renamed f locals (cons n ns)))) × (t ≡ r)
       both r h = let o = use_of h refl in let b = g.gives r o.rest in (λ i. occurrence (o.path i) (o.name i) (b.0 i), b.1)
 
   -- ---- lists behind lists
@@ -131,15 +130,15 @@ module _ (f : Naming) where
       append_back [] ys zs = refl
       append_back (x ∷ xs) ys zs = ap (λ l. x ∷ l) (append_back xs ys zs)
 
-  then_renamed : (locals : List Name) (ns more : Nodes) → all_renamed f locals (then_nodes ns more) ≡ then_nodes (all_renamed f locals ns) (all_renamed f (all_behind locals ns) more)
+  then_renamed : (locals : List Name) (ns more : Nodes) → all_reread (all_renamed f locals (then_nodes ns more)) ≡ then_nodes (all_reread (all_renamed f locals ns)) (all_reread (all_renamed f (all_behind locals ns) more))
   then_renamed locals nil more = refl
-  then_renamed locals (cons n ns) more = ap (λ l. cons (renamed f locals n) l) (then_renamed (behind locals n) ns more)
+  then_renamed locals (cons n ns) more = ap (λ l. cons (reread (renamed f locals n)) l) (then_renamed (behind locals n) ns more)
 
   pub goes_then : {locals : List Name} {ns ms more written : Nodes} {s t u : Left} → Goes locals ns ms s t → Goes (all_behind locals ns) more written t u
       → Goes locals (then_nodes ns more) (then_nodes ms written) s u
   goes_then {locals = locals} {ns = ns} {ms = ms} {more = more} {written = written} {s = s} {t = t} {u = u} g k = record { gives = both }
     where
-      both : (r : Left) → Scripted f (all_spots locals (then_nodes ns more)) s r → (then_nodes ms written ≡ all_renamed f locals (then_nodes ns more)) × (u ≡ r)
+      both : (r : Left) → Scripted f (all_spots locals (then_nodes ns more)) s r → (then_nodes ms written ≡ all_reread (all_renamed f locals (then_nodes ns more))) × (u ≡ r)
       both r h =
           let p = halves (all_spots locals ns) (all_spots (all_behind locals ns) more) h (then_spots locals ns more) in
           let a = g.gives p.mid p.left in

@@ -221,18 +221,18 @@ function_stays xs x ps rs result ys zs = record { stays = it }
     it : (s : Left) → HaveNoNames s → ((declaration_written (d.function xs x ps rs result (t.block ys zs)) s).0 ≡ d.function xs x ps rs result (t.block ys zs))
         × HaveNoNames (declaration_written (d.function xs x ps rs result (t.block ys zs)) s).1
     it s h =
-        let wa = attributes_written xs s in let wb = each parameter_written ps (init wa.1) in let wc = attributes_written rs wb.1 in
+        let wa = attributes_written xs (init s) in let wb = each parameter_written ps wa.1 in let wc = attributes_written rs wb.1 in
         let wd = if_there type_written result wc.1 in let we = attributes_written ys wd.1 in let wf = each parameter_named wb.0 we.1 in
-        let ka = (attributes xs).stays s h in let kb = (all parameters ps).stays (init wa.1) (none_before wa.1 ka.1) in
+        let ka = (attributes xs).stays (init s) (none_before s h) in let kb = (all parameters ps).stays wa.1 ka.1 in
         let kc = (attributes rs).stays wb.1 kb.1 in let kd = (maybe types result).stays wc.1 kc.1 in let ke = (attributes ys).stays wd.1 kd.1 in
         let kf = (all locals wb.0).stays we.1 ke.1 in let kg = (statement_lists zs).stays wf.1 kf.1 in
-        let n = name_stays x wa.1 ka.1 in let q = kf.0 ∙ kb.0 in
+        let n = name_stays x s h in let q = kf.0 ∙ kb.0 in
         (λ j. d.function (ka.0 j) (n j) (q j) (kc.0 j) (kd.0 j) (t.block (ke.0 j) (kg.0 j)), kg.1)
 
 declarations : By declaration_written
-declarations (d.variable xs kind x type value) = three (λ (k : List Attr × List ℕ) (y : Option Typ) (z : Option Exp). d.variable k.0 kind k.1 y z) (two (λ k y. (k, y)) (attributes xs) (name x)) (maybe types type) (maybe expressions value)
-declarations (d.alias xs x type) = three d.alias (attributes xs) (name x) (types type)
-declarations (d.structure xs x ms) = three d.structure (attributes xs) (name x) (all members ms)
+declarations (d.variable xs kind x type value) = three (λ (k : List Attr × List ℕ) (y : Option Typ) (z : Option Exp). d.variable k.0 kind k.1 y z) (two (λ y k. (k, y)) (name x) (attributes xs)) (maybe types type) (maybe expressions value)
+declarations (d.alias xs x type) = three (λ y k o. d.alias k y o) (name x) (attributes xs) (types type)
+declarations (d.structure xs x ms) = three (λ y k o. d.structure k y o) (name x) (attributes xs) (all members ms)
 declarations (d.function xs x ps rs result (t.block ys zs)) = function_stays xs x ps rs result ys zs
 declarations (d.assertion xs x) = two d.assertion (attributes xs) (expressions x)
 

@@ -28,19 +28,12 @@ mutual
 pub spots_are_occurrences : SpotsAreOccurrences
 spots_are_occurrences = one_occurs
 
-node_occurs : (n : Node) (ns : Nodes) → occurring (spots [] n ++ all_spots [] ns) ≡ occurrences [] n ++ all_occurrences [] ns
-node_occurs n ns = occurring_both (spots [] n) (all_spots [] ns) ∙ (λ k. one_occurs [] n k ++ all_occur [] ns k)
-
 -- a name that is declared is none that occurs
-named_occurs : (x y : Name) (n : Node) (ns : Nodes) → occurring (spots [] n ++ called x y ∷ all_spots [] ns) ≡ occurrences [] n ++ all_occurrences [] ns
-named_occurs x y n ns = occurring_both (spots [] n) (called x y ∷ all_spots [] ns) ∙ (λ k. one_occurs [] n k ++ all_occur [] ns k)
-
 pub declarations_are_occurrences : DeclarationsSpotsAreOccurrences
-declarations_are_occurrences y (variable attributes kind x type value) =
-    named_occurs x y (attributes_node attributes) (nodes (if_type type ∷ if_exp value ∷ []))
-declarations_are_occurrences y (alias attributes x type) = named_occurs x y (attributes_node attributes) (nodes (type_node type ∷ []))
-declarations_are_occurrences y (structure attributes x members) = named_occurs x y (attributes_node attributes) (nodes (map member_node members))
+declarations_are_occurrences y (variable attributes kind x type value) = all_occur [] (nodes (attributes_node attributes ∷ if_type type ∷ if_exp value ∷ []))
+declarations_are_occurrences y (alias attributes x type) = all_occur [] (nodes (attributes_node attributes ∷ type_node type ∷ []))
+declarations_are_occurrences y (structure attributes x members) = all_occur [] (nodes (attributes_node attributes ∷ map member_node members))
 declarations_are_occurrences y (function attributes x parameters result_attributes result (block body_attributes statements)) =
-    named_occurs x y (attributes_node attributes) (nodes (list (map parameter_node parameters) ∷ attributes_node result_attributes ∷ if_type result
+    all_occur [] (nodes (attributes_node attributes ∷ list (map parameter_node parameters) ∷ attributes_node result_attributes ∷ if_type result
     ∷ attributes_node body_attributes ∷ scope (then_nodes (nodes (map (λ p. local p.name) parameters)) (statements_nodes statements)) ∷ []))
-declarations_are_occurrences y (assertion attributes x) = node_occurs (attributes_node attributes) (nodes (exp_node x ∷ []))
+declarations_are_occurrences y (assertion attributes x) = all_occur [] (nodes (attributes_node attributes ∷ exp_node x ∷ []))

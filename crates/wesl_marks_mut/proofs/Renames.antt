@@ -17,6 +17,8 @@ use Rattle.wgsl_skeleton.specs.Skeleton as l
 use Rattle.wgsl_skeleton.specs.Skeleton.{Name, Label, Node, occurrence, local, scope, node, Nodes, nil, cons}
 use Rattle.wgsl_skeleton.specs.Trees.{nodes, then_nodes, leaf, list, named_node, exp_node, exp_nodes, type_node, if_exp, if_type, attribute_node, attributes_node, simple_nodes, selector_node, if_break, statement_nodes, statements_nodes, block_node, inside_nodes, elses_node, clause_nodes, loop_nodes, continuing_node, part_nodes, member_node, parameter_node, declaration_node}
 use Rattle.wgsl_skeleton.specs.Renaming.{Naming, new_name, renamed, all_renamed}
+use Rattle.wesl_linking_spec.specs.Written as linking
+use Rattle.wesl_linking_spec.specs.Written.{reread, all_reread}
 use Rattle.wesl_marks_mut.specs.Lasts.{init, last}
 use Rattle.wesl_marks_mut.specs.Putting.{put_path, put_name}
 use Rattle.wesl_marks_mut.specs.Walks.{each, if_there}
@@ -24,25 +26,22 @@ use Rattle.wesl_marks_mut.specs.Written.{Left, written, all_written, type_writte
 use Rattle.wesl_marks_mut.specs.WrittenAttributes.{attribute_written, attributes_written}
 use Rattle.wesl_marks_mut.specs.WrittenStatements.{simple_written, break_if_written, selector_written, statement_written, statements_written, block_written, elses_written, clauses_written, continuing_written, part_written}
 use Rattle.wesl_marks_mut.specs.WrittenUnits.{member_written, parameter_written, parameter_named, declaration_written}
-use Rattle.wesl_marks_mut.specs.Spots.{called, spots, all_spots, declaration_spots, node_called}
+use Rattle.wesl_marks_mut.specs.Spots.{called, spots, all_spots, declaration_spots}
 use Rattle.wesl_marks_mut.specs.Scripts.{Scripted, ExpressionsAreRenamed, AttributesAreRenamed, DeclarationsAreRenamed}
 use Rattle.wesl_marks_mut.proofs.Going.{halves, use_of, call_of, all_used, Does, Goes, goes_nil, goes_cons, goes_local, does_node, does_scope, does_occurrence, goes_then, each_goes}
 
 module _ (f : Naming) where
   -- ---- expressions
 
-  plain_node : (y : Name) → bytes_eq y (codes "_") ≡ false → named_node None y nil ≡ occurrence None y nil
-  plain_node y same = ap (λ b. if b then leaf l.underscore else occurrence None y nil) same
-
   simple_does : (locals : List Name) (path : Option ModulePath) (x : Name) (s : Left)
       → Does f locals (occurrence path x nil) (named_node (put_path path (last s)) (put_name x (last s)) nil) s (init s)
   simple_does locals path x s = record { stays = refl; gives = both }
     where
       both : (r : Left) → Scripted f (spots locals (occurrence path x nil)) s r
-          → (named_node (put_path path (last s)) (put_name x (last s)) nil ≡ occurrence None (new_name f path x locals) nil) × (init s ≡ r)
+          → (named_node (put_path path (last s)) (put_name x (last s)) nil ≡ named_node None (new_name f path x locals) nil) × (init s ≡ r)
       both r h =
           let o = use_of f h refl in
-          ((λ k. named_node (o.path k) (o.name k) nil) ∙ plain_node (new_name f path x locals) o.plain, all_used f o.rest refl)
+          (λ k. named_node (o.path k) (o.name k) nil, all_used f o.rest refl)
 
   alone_does : (locals : List Name) (x : Name) (s : Left) (b : Bool) → bytes_eq x (codes "_") ≡ b
       → (let r = (if b then (let v : Typ × Left = (e.simple None x, s) in v) else (e.simple (put_path None (last s)) (put_name x (last s)), init s)) in
@@ -306,21 +305,14 @@ module _ (f : Naming) where
   names_same [] s = refl
   names_same (x ∷ xs) s = ap (λ t. local_of x ∷ t) (names_same xs (parameter_written x s).1)
 
-  -- a declaration that declares a name: attributes, the name, and the rest
-  record Declared (x y : Name) (n m : Node) (ns ms : Nodes) (t u r : Left) : Type 0 where
-    name : put_name x (last t) ≡ y
-    first : m ≡ renamed f [] n
-    rest : ms ≡ all_renamed f [] ns
+  -- a declaration that declares a name, and what stands in it
+  record Declared (x y : Name) (ns ms : Nodes) (s u r : Left) : Type 0 where
+    name : put_name x (last s) ≡ y
+    rest : ms ≡ all_reread (all_renamed f [] ns)
     none_left : u ≡ r
 
-  declared : {x y : Name} {n m : Node} {ns ms : Nodes} {s t u : Left} → Does f [] n m s t → Goes f [] ns ms (init t) u → (r : Left)
-      → Scripted f (spots [] n ++ called x y ∷ all_spots [] ns) s r → Declared x y n m ns ms t u r
-  declared {x = x} {y = y} {n = n} {ns = ns} {t = t} d g r h =
-      let p = halves f (spots [] n) (called x y ∷ all_spots [] ns) h refl in
-      let a = d.gives p.mid p.left in
-      let c = call_of f (subst (λ v. Scripted f (called x y ∷ all_spots [] ns) v r) (sym a.1) p.right) refl in
-      let b = g.gives r c.rest in
-      record { name = c.name; first = a.0; rest = b.0; none_left = b.1 }
+  declared : {x y : Name} {ns ms : Nodes} {s u : Left} → Goes f [] ns ms (init s) u → (r : Left) → Scripted f (called x y ∷ all_spots [] ns) s r → Declared x y ns ms s u r
+  declared g r h = let c = call_of f h refl in let b = g.gives r c.rest in record { name = c.name; rest = b.0; none_left = b.1 }
 
   function_goes : (ps : List Param) (xs : List Attr) (result : Option Typ) (ys : List Attr) (stms : Stms) (s : Left)
       → (let b = each parameter_written ps s in let c = attributes_written xs b.1 in let d = if_there type_written result c.1 in
@@ -338,27 +330,27 @@ module _ (f : Naming) where
       (alone (does_scope f (goes_then f names ((statements_go stms).gives _ _)))))))
 
   pub declarations : (y : Name) (x : Decl) (s r : Left) → Scripted f (declaration_spots y (declaration_node x)) s r
-      → (declaration_node (declaration_written x s).0 ≡ node_called y (renamed f [] (declaration_node x))) × ((declaration_written x s).1 ≡ r)
+      → (declaration_node (declaration_written x s).0 ≡ linking.called y (linking.written f (declaration_node x))) × ((declaration_written x s).1 ≡ r)
   declarations y (d.variable xs kind x type value) s r h =
-      let k = declared (attributes_do [] xs s) (goes_cons f (if_type_does [] type _) (alone (if_exp_does [] value _))) r h in
-      (λ i. node (l.variable kind (k.name i)) (cons (k.first i) (k.rest i)), k.none_left)
+      let k = declared (goes_cons f (attributes_do [] xs (init s)) (goes_cons f (if_type_does [] type _) (alone (if_exp_does [] value _)))) r h in
+      (λ i. node (l.variable kind (k.name i)) (k.rest i), k.none_left)
   declarations y (d.alias xs x type) s r h =
-      let k = declared (attributes_do [] xs s) (alone (type_does [] type _)) r h in
-      (λ i. node (l.alias (k.name i)) (cons (k.first i) (k.rest i)), k.none_left)
+      let k = declared (goes_cons f (attributes_do [] xs (init s)) (alone (type_does [] type _))) r h in
+      (λ i. node (l.alias (k.name i)) (k.rest i), k.none_left)
   declarations y (d.structure xs x members) s r h =
-      let k = declared (attributes_do [] xs s) (each_goes f member_node member_written member_does members _) r h in
-      (λ i. node (l.structure (k.name i)) (cons (k.first i) (k.rest i)), k.none_left)
+      let k = declared (goes_cons f (attributes_do [] xs (init s)) (each_goes f member_node member_written member_does members _)) r h in
+      (λ i. node (l.structure (k.name i)) (k.rest i), k.none_left)
   declarations y (d.function xs x ps rs result (t.block ys stms)) s r h =
-      let k = declared (attributes_do [] xs s) (function_goes ps rs result ys stms _) r h in
-      (λ i. node (l.function (k.name i)) (cons (k.first i) (k.rest i)), k.none_left)
+      let k = declared (goes_cons f (attributes_do [] xs (init s)) (function_goes ps rs result ys stms _)) r h in
+      (λ i. node (l.function (k.name i)) (k.rest i), k.none_left)
   declarations y (d.assertion xs x) s r h = (marked [] l.assertion xs s (alone (exp_does [] x _))).gives r h
 
   pub expressions : (locals : List Name) (x : Exp) (s r : Left) → Scripted f (spots locals (exp_node x)) s r
-      → (exp_node (written x s).0 ≡ renamed f locals (exp_node x)) × ((written x s).1 ≡ r)
+      → (exp_node (written x s).0 ≡ reread (renamed f locals (exp_node x))) × ((written x s).1 ≡ r)
   expressions locals x s r h = (exp_does locals x s).gives r h
 
   pub attributes : (xs : List Attr) (s r : Left) → Scripted f (spots [] (attributes_node xs)) s r
-      → (attributes_node (attributes_written xs s).0 ≡ renamed f [] (attributes_node xs)) × ((attributes_written xs s).1 ≡ r)
+      → (attributes_node (attributes_written xs s).0 ≡ linking.written f (attributes_node xs)) × ((attributes_written xs s).1 ≡ r)
   attributes xs s r h = (attributes_do [] xs s).gives r h
 
 pub expressions_are_renamed : ExpressionsAreRenamed

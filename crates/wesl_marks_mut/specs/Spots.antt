@@ -34,19 +34,7 @@ then_spots y (l.structure x) rest = called x y ∷ rest
 then_spots y (l.function x) rest = called x y ∷ rest
 then_spots y label rest = rest
 
--- a declaration that is called `y` from then on: its own name comes behind its attributes
+-- a declaration that is called `y` from then on
 abbrev pub declaration_spots : Name → Node → List DeclarationId
-declaration_spots y (node label (cons attributes rest)) = spots [] attributes ++ then_spots y label (all_spots [] rest)
+declaration_spots y (node label inside) = then_spots y label (all_spots [] inside)
 declaration_spots y n = spots [] n
-
-abbrev pub label_called : Name → l.Label → l.Label
-label_called y (l.variable kind x) = l.variable kind y
-label_called y (l.alias x) = l.alias y
-label_called y (l.structure x) = l.structure y
-label_called y (l.function x) = l.function y
-label_called y label = label
-
--- a declaration that declares another name
-abbrev pub node_called : Name → Node → Node
-node_called y (node label inside) = node (label_called y label) inside
-node_called y n = n

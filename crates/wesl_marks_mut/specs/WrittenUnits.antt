@@ -22,20 +22,20 @@ parameter_written p s =
 abbrev pub parameter_named : Param → Left → Param × Left
 parameter_named p s = (record { attributes = p.attributes; name = put_name p.name (last s); type = p.type }, init s)
 
--- The name of a declaration comes behind its attributes. The names of parameters come before the statements of the body.
+-- The name that is declared comes first. The names of parameters come before the statements of the body.
 abbrev pub declaration_written : Decl → Left → Decl × Left
 declaration_written (variable attributes kind x type value) s =
-    let a = attributes_written attributes s in let b = if_there type_written type (init a.1) in let c = if_there written value b.1 in
-    (variable a.0 kind (put_name x (last a.1)) b.0 c.0, c.1)
+    let a = attributes_written attributes (init s) in let b = if_there type_written type a.1 in let c = if_there written value b.1 in
+    (variable a.0 kind (put_name x (last s)) b.0 c.0, c.1)
 declaration_written (alias attributes x type) s =
-    let a = attributes_written attributes s in let b = type_written type (init a.1) in (alias a.0 (put_name x (last a.1)) b.0, b.1)
+    let a = attributes_written attributes (init s) in let b = type_written type a.1 in (alias a.0 (put_name x (last s)) b.0, b.1)
 declaration_written (structure attributes x members) s =
-    let a = attributes_written attributes s in let b = each member_written members (init a.1) in (structure a.0 (put_name x (last a.1)) b.0, b.1)
+    let a = attributes_written attributes (init s) in let b = each member_written members a.1 in (structure a.0 (put_name x (last s)) b.0, b.1)
 declaration_written (function attributes x parameters result_attributes result (block body_attributes statements)) s =
-    let a = attributes_written attributes s in let b = each parameter_written parameters (init a.1) in
+    let a = attributes_written attributes (init s) in let b = each parameter_written parameters a.1 in
     let c = attributes_written result_attributes b.1 in let d = if_there type_written result c.1 in
     let e = attributes_written body_attributes d.1 in let f = each parameter_named b.0 e.1 in let g = statements_written statements f.1 in
-    (function a.0 (put_name x (last a.1)) f.0 c.0 d.0 (block e.0 g.0), g.1)
+    (function a.0 (put_name x (last s)) f.0 c.0 d.0 (block e.0 g.0), g.1)
 declaration_written (assertion attributes x) s = let a = attributes_written attributes s in let b = written x a.1 in (assertion a.0 b.0, b.1)
 
 abbrev pub directive_written : Directive → Left → Directive × Left

@@ -21,8 +21,8 @@ fn write_variable(x: &mut Declaration, script: &mut Script)
     ensures tree { variable_tree x.new ≡ (declaration_written (variable_tree x.old) script.old.rest.items).0 }
     ensures rest { script.new.rest.items ≡ (declaration_written (variable_tree x.old) script.old.rest.items).1 }
 {
-    write_attributes(&mut x.attributes, script);
     script.write(&mut x.ident);
+    write_attributes(&mut x.attributes, script);
     write_optional_type(&mut x.ty, script);
     write_optional(&mut x.initializer, script);
 }
@@ -32,8 +32,8 @@ fn write_alias(x: &mut TypeAlias, script: &mut Script)
     ensures tree { alias_tree x.new ≡ (declaration_written (alias_tree x.old) script.old.rest.items).0 }
     ensures rest { script.new.rest.items ≡ (declaration_written (alias_tree x.old) script.old.rest.items).1 }
 {
-    write_attributes(&mut x.attributes, script);
     script.write(&mut x.ident);
+    write_attributes(&mut x.attributes, script);
     write_type(&mut x.ty, script);
 }
 
@@ -42,8 +42,8 @@ fn write_struct(x: &mut Struct, script: &mut Script)
     ensures tree { structure_tree x.new ≡ (declaration_written (structure_tree x.old) script.old.rest.items).0 }
     ensures rest { script.new.rest.items ≡ (declaration_written (structure_tree x.old) script.old.rest.items).1 }
 {
-    write_attributes(&mut x.attributes, script);
     script.write(&mut x.ident);
+    write_attributes(&mut x.attributes, script);
     write_members(&mut x.members, script);
 }
 
@@ -69,8 +69,8 @@ fn write_function(x: &mut Function, script: &mut Script)
     ensures tree { function_tree x.new ≡ (declaration_written (function_tree x.old) script.old.rest.items).0 }
     ensures rest { script.new.rest.items ≡ (declaration_written (function_tree x.old) script.old.rest.items).1 }
 {
-    write_attributes(&mut x.attributes, script);
     script.write(&mut x.ident);
+    write_attributes(&mut x.attributes, script);
     write_parameters(&mut x.parameters, script);
     write_attributes(&mut x.return_attributes, script);
     write_optional_type(&mut x.return_type, script);
@@ -122,7 +122,8 @@ fn write_asserted(x: &mut ConstAssert, script: &mut Script)
     write_marked(&mut x.attributes, &mut x.expression, script);
 }
 
-/// Writes into a declaration what a script holds for it.
+/// Writes into a declaration what a script holds for it: the name that it declares comes first, then what is marked, in the order of the
+/// marks.
 pub fn write_declaration(declaration: &mut GlobalDeclaration, script: &mut Script)
     ensures tree { declaration_tree declaration.new ≡ (if_there declaration_written (declaration_tree declaration.old) script.old.rest.items).0 }
     ensures rest { script.new.rest.items ≡ (if_there declaration_written (declaration_tree declaration.old) script.old.rest.items).1 }

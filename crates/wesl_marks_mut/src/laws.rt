@@ -3,8 +3,8 @@
 ghost use Rattle.wesl_marks_mut.specs.Keeping.{UnitsStay};
 ghost use Rattle.wesl_marks_mut.specs.Scripts.{ExpressionsAreRenamed, AttributesAreRenamed, DeclarationsAreRenamed, SpotsAreOccurrences, DeclarationsSpotsAreOccurrences};
 
-/// By a script that holds the new names of all that occurs in a tree, the first one last, the tree is renamed, and the script is used up. The
-/// new names are not `_`, and locals keep theirs.
+/// By a script that holds the new names of all that occurs in a tree, the first one last, the tree is renamed, and the script is used up.
+/// Locals keep their names. A name that becomes `_` is read as none.
 pub fn writes_renamed()
     ensures expressions { ExpressionsAreRenamed }
     ensures attributes { AttributesAreRenamed }

@@ -1,6 +1,6 @@
-mod Bits
+pub mod Bits
 mod Pushed
-mod Trails
+pub mod Trails
 mod Scopes
 mod Items
 mod Gathering

@@ -1,0 +1,5 @@
+mod Along
+mod Rows
+mod Spots
+mod Fits
+mod Reading
