@@ -2,3 +2,4 @@ pub mod Taking
 pub mod Numbers
 pub mod Meanings
 pub mod Fitting
+pub mod ModuleScripts

@@ -1,17 +1,22 @@
 //! The linked unit is put together.
 
 ghost use Rattle.std.specs.Prelude.{◌≡◌, ◌++◌, [], IfOk, OnOk};
+ghost use Rattle.std.specs.List.{All};
+ghost use Rattle.wesl_module_index.specs.Uses.{AreLocals, IsClosed};
+ghost use Rattle.wesl_name_resolution.specs.Ends.{AreEnds};
 ghost use Rattle.wesl_assemble.specs.Taking.{along};
+ghost use Rattle.wesl_assemble.specs.ModuleScripts.{IsSymbolDenoted, AreSymbolsDenoted, AddsIfTaken, IsModuleScript};
 ghost use Rattle.wesl_assemble.specs.Numbers.{goes, answer_at, origin_at};
 
 use crate::moving::{Moved, empty_unit, keep_taken, move_all, move_new};
-use crate::numbering::{Numbering, is_held};
+use crate::numbering::{Numbering, counted, is_held};
 use crate::scripts::{Meanings, script_of};
 use std::alloc::{AllocError, Global};
 use wesl_load::Resolutions;
-use wesl_mark::{Kind, Place};
-use wesl_marks_mut::write_unit;
+use wesl_mark::{Kind, MarkList, Place};
+use wesl_marks_mut::{Script, write_unit};
 use wesl_module_index::{DeclarationId, Module};
+use wesl_name_resolution::{Denoted, denotation};
 use wgsl_base::{Items, Text};
 use wgsl_declarations::{GlobalDeclarationNode, GlobalDirective, TranslationUnit, let_go};
 
@@ -28,9 +33,9 @@ pub fn assemble(
     ensures { IfOk result (λ unit. unit.imports ≡ []) }
 {
     let order = resolutions.modules.in_linked_order(alloc)?;
-    let mut meanings = Meanings::new(alloc, numbering.spots().len())?;
+    let mut count = counted(numbering.spots().len())?;
     for number in order.as_slice() {
-        write_module(alloc, resolutions, numbering, names, *number, &mut meanings)?;
+        write_module(alloc, resolutions, numbering, names, *number, &mut count)?;
     }
     let mut linked = empty_unit(alloc);
     let taken = take_all(
@@ -72,62 +77,36 @@ fn take_all(
             add_origins(held, *number, module.places.as_slice(), origins)?;
         }
         if let Some(unit) = resolutions.units.get_mut(*number) {
-            move_all(
-                alloc,
-                &mut unit.get_mut().global_declarations,
-                declarations,
-            )?;
+            move_all(alloc, &mut unit.get_mut().global_declarations, declarations)?;
         }
     }
     Ok(())
 }
 
 /// Drops the declarations of a module that do not go into the linked unit, and writes the names of that unit into the others and into the
-/// directives.
+/// directives. `count` is how many symbol numbers are given.
 fn write_module(
     alloc: Global,
     resolutions: &mut Resolutions,
     numbering: &Numbering,
     names: &[Text],
     number: usize,
-    meanings: &mut Meanings,
+    count: &mut u32,
 ) -> Result<(), AllocError> {
     let Some(module) = resolutions.modules.get(number) else {
         return Ok(());
     };
     let held = resolutions.held.as_slice();
-    let places = module.places.as_slice();
-    let taken = taken_declarations(alloc, held, number, places)?;
+    let taken = taken_declarations(alloc, held, number, module.places.as_slice())?;
     let symbols = find_symbols(alloc, resolutions, numbering, module, number)?;
-    meanings.meant.clear();
-    add_places(module, held, numbering, number, symbols.as_slice(), meanings)?;
-    let mut script = script_of(alloc, meanings.meant.as_slice(), names)?;
+    let symbols = symbols.as_slice();
+    let mut script = module_script(
+        alloc, module, held, numbering, number, symbols, names, count,
+    )?;
     if let Some(unit) = resolutions.units.get_mut(number) {
         let unit = unit.get_mut();
         keep_taken(alloc, &mut unit.global_declarations, taken)?;
         write_unit(unit, &mut script);
-    }
-    Ok(())
-}
-
-/// Adds what the identifiers stand for in what goes of a module into the linked unit.
-fn add_places(
-    module: &Module,
-    held: &[Vec<bool>],
-    numbering: &Numbering,
-    number: usize,
-    symbols: &[Option<u32>],
-    meanings: &mut Meanings,
-) -> Result<(), AllocError> {
-    for (place, entry) in module.places.iter().enumerate() {
-        let spot = DeclarationId {
-            module: number,
-            place,
-        };
-        if is_taken(held, spot, *entry) {
-            let own = numbering.number(spot);
-            meanings.add_place(&module.list, symbols, own, *entry)?;
-        }
     }
     Ok(())
 }
@@ -139,19 +118,89 @@ fn find_symbols(
     numbering: &Numbering,
     module: &Module,
     number: usize,
-) -> Result<Vec<Option<u32>>, AllocError> {
+) -> Result<Vec<Option<u32>>, AllocError>
+    ensures { IfOk result (λ symbols. AreEnds resolutions.now.modules resolutions.now.ends → AreSymbolsDenoted resolutions.now.modules numbering.now.numbers.items number module.now.list symbols.items) }
+{
     let mut symbols = Vec::new(alloc);
     for reference in 0..module.list.reference_count() {
         let symbol = match u32::try_from(reference) {
             Err(_) => None,
-            Ok(reference) => match resolutions.denoted(number, reference) {
-                None => None,
-                Some(spot) => numbering.number(spot),
-            },
+            Ok(reference) => symbol_denoted(resolutions, numbering, number, reference),
         };
         symbols.push(symbol)?;
     }
     Ok(symbols)
+}
+
+/// The symbol that a reference of the module of this number denotes, if no local declaration is meant.
+fn symbol_denoted(
+    resolutions: &Resolutions,
+    numbering: &Numbering,
+    number: usize,
+    reference: u32,
+) -> Option<u32>
+    ensures { AreEnds resolutions.now.modules resolutions.now.ends → IsSymbolDenoted resolutions.now.modules numbering.now.numbers.items number reference result }
+{
+    match denotation(&resolutions.modules, &resolutions.ends, number, reference) {
+        Denoted::Declared(spot) => numbering.number(spot),
+        Denoted::Unloaded(_) | Denoted::Missing(..) | Denoted::Private(..) | Denoted::Free => None,
+    }
+}
+
+/// The script of what goes of a module into the linked unit. `symbols` has the symbol of each reference, `names` the name of each symbol, and
+/// `count` is how many symbol numbers are given.
+fn module_script(
+    alloc: Global,
+    module: &Module,
+    held: &[Vec<bool>],
+    numbering: &Numbering,
+    number: usize,
+    symbols: &[Option<u32>],
+    names: &[Text],
+    count: &mut u32,
+) -> Result<Script, AllocError>
+    ensures { IfOk result (λ script. All (IsClosed module.now.list) module.now.places.items → IsModuleScript module.now held.now numbering.now.numbers.items number symbols.now names.now script.rest.items) }
+{
+    let mut meanings = Meanings::new(alloc, *count);
+    for (place, entry) in module.places.iter().enumerate() {
+        let spot = DeclarationId {
+            module: number,
+            place,
+        };
+        add_if_taken(
+            &module.list,
+            held,
+            numbering,
+            spot,
+            *entry,
+            symbols,
+            &mut meanings,
+        )?;
+    }
+    *count = meanings.count;
+    let script = script_of(alloc, meanings.meant.as_slice(), names)?;
+    Ok(script)
+}
+
+/// Adds what the identifiers of a place stand for, if it goes into the linked unit.
+fn add_if_taken(
+    list: &MarkList,
+    held: &[Vec<bool>],
+    numbering: &Numbering,
+    spot: DeclarationId,
+    place: Place,
+    symbols: &[Option<u32>],
+    meanings: &mut Meanings,
+) -> Result<(), AllocError>
+    requires { AreLocals list.now.names.keys meanings.old.scopes.trail.items }
+    ensures locals { OnOk result (AreLocals list.now.names.keys meanings.new.scopes.trail.items) }
+    ensures symbols { OnOk result (AddsIfTaken list.now symbols.now held.now numbering.now.numbers.items spot place meanings.old meanings.new) }
+{
+    if is_taken(held, spot, place) {
+        let own = numbering.number(spot);
+        meanings.add_place(list, symbols, own, place)?;
+    }
+    Ok(())
 }
 
 /// Whether what stands at a place goes into the linked unit: each directive, and what is held but a `;` alone.

@@ -25,7 +25,7 @@ pub fn retarget_idents(alloc: Global, unit: &mut TranslationUnit) -> Result<(), 
 fn meanings_in(alloc: Global, list: &MarkList, places: &[Place]) -> Result<Meanings, AllocError> {
     let globals = number_declarations(alloc, list, places)?;
     let symbols = number_references(alloc, list, globals.as_slice())?;
-    let mut meanings = Meanings::new(alloc, globals.len())?;
+    let mut meanings = Meanings::new(alloc, counted(globals.len())?);
     for place in places {
         let own = match place.name {
             None => None,

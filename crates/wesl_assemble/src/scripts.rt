@@ -8,7 +8,6 @@ ghost use Rattle.wesl_mark.specs.Marks.{said_by, flat_of, is_within};
 ghost use Rattle.wesl_module_index.specs.Uses.{read_at, AreLocals, trail_said, trail_after, flats_at};
 ghost use Rattle.wesl_assemble.specs.Meanings.{symbol_of, own_symbols, new_by, AddsSymbols, IsMeant, Reads};
 
-use crate::numbering::counted;
 use std::alloc::{AllocError, Global};
 use wesl_mark::{Mark, MarkList, Place, Scopes};
 use wesl_marks_mut::{New, Script};
@@ -34,17 +33,17 @@ pub(crate) struct Meanings {
 }
 
 impl Meanings {
-    /// Nothing is looked at. So many symbols have numbers.
-    pub fn new(alloc: Global, symbols: usize) -> Result<Meanings, AllocError>
-        ensures meant { IfOk result (λ meanings. meanings.meant.items ≡ []) }
-        ensures scopes { IfOk result (λ meanings. meanings.scopes.trail.items ≡ []) }
-        ensures count { IfOk result (λ meanings. meanings.count ≡ symbols) }
+    /// Nothing is looked at. So many symbol numbers are given.
+    pub fn new(alloc: Global, count: u32) -> Meanings
+        ensures meant { result.meant.items ≡ [] }
+        ensures scopes { result.scopes.trail.items ≡ [] }
+        ensures count { result.count ≡ count }
     {
-        Ok(Meanings {
+        Meanings {
             meant: Vec::new(alloc),
             scopes: Scopes::new(alloc),
-            count: counted(symbols)?,
-        })
+            count,
+        }
     }
 
     /// Adds what the identifiers of a place stand for: the name that it declares, which has this symbol number, and behind it what is
@@ -72,11 +71,7 @@ impl Meanings {
 }
 
 /// Adds the symbol of the name that a place declares, where it declares one.
-fn add_own(
-    meant: &mut Vec<Meant>,
-    name: Option<u32>,
-    own: Option<u32>,
-) -> Result<(), AllocError>
+fn add_own(meant: &mut Vec<Meant>, name: Option<u32>, own: Option<u32>) -> Result<(), AllocError>
     ensures { OnOk result (map symbol_of meant.new.items ≡ map symbol_of meant.old.items ++ own_symbols name own) }
 {
     if name.is_some() {
