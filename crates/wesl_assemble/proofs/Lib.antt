@@ -1,3 +1,4 @@
+mod Choosing
 mod Along
 mod Rows
 mod Spots

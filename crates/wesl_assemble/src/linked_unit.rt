@@ -98,8 +98,8 @@ fn write_module(
     };
     let held = resolutions.held.as_slice();
     let taken = taken_declarations(alloc, held, number, module.places.as_slice())?;
-    let symbols = find_symbols(alloc, resolutions, numbering, module, number)?;
-    let symbols = symbols.as_slice();
+    let table = find_symbols(alloc, resolutions, numbering, module, number)?;
+    let symbols = table.as_slice();
     let mut script = module_script(
         alloc, module, held, numbering, number, symbols, names, count,
     )?;

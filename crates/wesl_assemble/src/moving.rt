@@ -1,12 +1,14 @@
 //! Directives and declarations are moved from one unit to another. What moves them is generic, so that no drop of a tree is proved again.
 
 ghost use Rattle.std.specs.Prelude.{◌≡◌, ◌++◌, [], OnOk};
-ghost use Rattle.wesl_assemble.specs.Taking.{chosen, if_taken};
+ghost use Rattle.std.specs.Vec.Iter.{into_iter_items};
+ghost use Rattle.wesl_assemble.specs.Taking.{chosen, if_taken, first_of, rest_of};
 
 use std::alloc::{AllocError, Global};
 use std::collections::HashMap;
 use std::fmt::Display;
 use std::mem;
+use std::vec::IntoIter;
 use wesl_module_index::DeclarationId;
 use wgsl_base::Items;
 use wgsl_declarations::TranslationUnit;
@@ -33,10 +35,20 @@ pub(crate) fn keep_taken<T: Drop>(
     let all = mem::replace(items, Items::new(alloc));
     let mut answers = taken.into_iter();
     for item in all.into_vec() {
-        let is_taken = matches!(answers.next(), Some(true));
-        push_if(items, item, is_taken)?;
+        push_if(items, item, next_answer(&mut answers))?;
     }
     Ok(())
+}
+
+/// The next answer; no, where none is left.
+fn next_answer(answers: &mut IntoIter<bool>) -> bool
+    ensures first { result ≡ first_of (into_iter_items answers.old) }
+    ensures rest { into_iter_items answers.new ≡ rest_of (into_iter_items answers.old) }
+{
+    match answers.next() {
+        None => false,
+        Some(answer) => answer,
+    }
 }
 
 fn push_if<T: Drop>(items: &mut Items<T>, item: T, is_taken: bool) -> Result<(), AllocError>

@@ -153,14 +153,14 @@ fn occurring(list: &MarkList, symbols: &[Option<u32>], scopes: &Scopes, referenc
     requires within { reference < length list.now.references.keys }
     ensures { IsMeant list.now symbols.now scopes.now reference result }
 {
-    match local(list, scopes, reference) {
+    match local_meant(list, scopes, reference) {
         Some(symbol) => Meant::Local(symbol),
         None => symbol_meant(number_at(symbols, reference)),
     }
 }
 
 /// The local declaration that a reference means, where it means one.
-fn local(list: &MarkList, scopes: &Scopes, reference: u32) -> Option<u32>
+fn local_meant(list: &MarkList, scopes: &Scopes, reference: u32) -> Option<u32>
     requires locals { AreLocals list.now.names.keys scopes.now.trail.items }
     requires within { reference < length list.now.references.keys }
     ensures { is_some result ≡ hidden_by (read_at list.now reference).0 (read_at list.now reference).1 (names_on (trail_said list.now.names.keys scopes.now.trail.items)) }

@@ -5,4 +5,4 @@ use Rattle.wesl_assemble.proofs.moving.keep_taken.Given as goal
 
 -- what was taken, and what is still to be chosen from
 abbrev pub invariant-loop-item : goal.invariant-loop-item
-invariant-loop-item l = l.items ++ chosen (into_iter_items l.answers) (into_iter_items l.item-iterator) ≡ chosen l.taken.items l.initial.items
+invariant-loop-item g l = l.items ++ chosen (into_iter_items l.answers) (into_iter_items l.item-iterator) ≡ chosen l.fn.taken.items l.fn.items
