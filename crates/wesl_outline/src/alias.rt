@@ -45,6 +45,9 @@ impl Outline {
 
     /// The alias that an alias stands for; else what it stands for. The type stands right behind the alias's name.
     fn behind(&self, place: usize) -> Result<usize, Target> {
+        let Some(place) = self.places.get(place) else {
+            return Err(Target::Other);
+        };
         match self.declaring_mark(place) {
             Some(at) => self.next_alias(at.saturating_add(1)),
             None => Err(Target::Other),

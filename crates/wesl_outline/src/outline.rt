@@ -1,28 +1,38 @@
 //! What all tests look at: the marks of a unit, and what each name denotes.
 
-ghost use Rattle.std.specs.Prelude.{◌≡◌};
-ghost use Rattle.std.specs.List.{slice_index_or};
-ghost use Rattle.wesl_outline.specs.declared.meanings.Meaning.TheVariants.{Nothing};
+ghost use Rattle.std.specs.Prelude.{◌≡◌, ◌<◌, length, slice_get, option_map, IfOk};
+ghost use Rattle.wesl_mark.specs.Marks.{text_at};
+ghost use Rattle.wesl_outline.specs.Told.{names_said, is_declared, is_shared, AreNumbered, AreTold};
+ghost use Rattle.wesl_outline.specs.Said.{meaning_at, AreMeanings};
 
-use crate::meanings::{Declared, Meaning, declared_names, meanings_of};
+use crate::meanings::{
+    Declared, Meaning, declared_names, first_place, is_shared_name, meanings_of,
+};
 use std::alloc::{AllocError, Global};
 use wesl_mark::{Mark, MarkList, Place};
 
 /// The marks of a linked unit, and what its names denote by the scopes in which they stand.
 #[derive(Drop)]
 pub struct Outline {
-    pub list: MarkList,
+    pub(crate) list: MarkList,
     /// The directives, then the declarations, `;` counted.
-    pub places: Vec<Place>,
+    pub(crate) places: Vec<Place>,
     /// For each name the declarations of it in the module's scope.
-    pub(crate) names: Vec<Declared>,
+    names: Vec<Declared>,
     /// What each mark denotes.
-    pub(crate) meanings: Vec<Meaning>,
+    meanings: Vec<Meaning>,
+    ghost numbered: { AreNumbered list.names.keys places.items },
+    ghost told: { AreTold list.names.keys places.items names.items },
+    ghost meant: { AreMeanings list places.items meanings.items },
 }
 
 impl Outline {
     /// Looks names up, once the marks of a unit are read.
-    pub fn new(alloc: Global, list: MarkList, places: Vec<Place>) -> Result<Outline, AllocError> {
+    pub fn new(alloc: Global, list: MarkList, places: Vec<Place>) -> Result<Outline, AllocError>
+        requires { AreNumbered list.names.keys places.items }
+        ensures list { IfOk result (λ outline. outline.list ≡ list) }
+        ensures places { IfOk result (λ outline. outline.places ≡ places) }
+    {
         let names = declared_names(alloc, &list, places.as_slice())?;
         let meanings = meanings_of(alloc, &list, names.as_slice())?;
         Ok(Outline {
@@ -35,7 +45,7 @@ impl Outline {
 
     /// What the mark of this number denotes.
     pub fn meaning(&self, at: usize) -> Meaning
-        ensures { result ≡ slice_index_or self.now.meanings.items at Nothing }
+        ensures { result ≡ meaning_at self.now.list self.now.places.items at }
     {
         if at < self.meanings.len() {
             self.meanings[at]
@@ -45,28 +55,40 @@ impl Outline {
     }
 
     /// The mark of this number.
-    pub fn mark(&self, at: usize) -> Option<Mark> {
-        self.list.marks().get(at).copied()
+    pub fn mark(&self, at: usize) -> Option<Mark>
+        ensures { result ≡ slice_get self.now.list.marks.items at }
+    {
+        let marks = self.list.marks();
+        if at < marks.len() {
+            Some(marks[at])
+        } else {
+            None
+        }
     }
 
     /// The number of the name that an occurrence of this reference has.
-    pub(crate) fn name_of(&self, reference: u32) -> Option<u32> {
-        Some(self.list.reference(reference)?.name)
+    pub(crate) fn name_of(&self, reference: u32) -> Option<u32>
+        ensures { result ≡ option_map (λ r. r.name) (slice_get self.now.list.references.keys reference) }
+    {
+        match self.list.reference(reference) {
+            None => None,
+            Some(used) => Some(used.name),
+        }
     }
 
     /// Whether two declarations of the module have this name.
-    pub(crate) fn is_shared(&self, name: u32) -> bool {
-        match self.names.get(name as usize) {
-            Some(declared) => declared.is_shared,
-            None => false,
-        }
+    pub(crate) fn is_shared(&self, name: u32) -> bool
+        requires { name < length self.now.list.names.keys }
+        ensures { result ≡ is_shared (text_at self.now.list.names.keys name) (names_said self.now.list.names.keys self.now.places.items) }
+    {
+        is_shared_name(self.names.as_slice(), name)
     }
 
     /// Whether a declaration of the module has this name.
-    pub(crate) fn is_declared(&self, name: u32) -> bool {
-        match self.names.get(name as usize) {
-            Some(declared) => declared.first.is_some(),
-            None => false,
-        }
+    pub(crate) fn is_declared(&self, name: u32) -> bool
+        requires { name < length self.now.list.names.keys }
+        ensures { result ≡ is_declared (text_at self.now.list.names.keys name) (names_said self.now.list.names.keys self.now.places.items) }
+    {
+        first_place(self.names.as_slice(), name).is_some()
     }
 }

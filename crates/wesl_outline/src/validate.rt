@@ -25,7 +25,7 @@ fn add_mention(meaning: Meaning, row: &mut Items<usize>) -> Result<(), AllocErro
 impl Outline {
     /// The places that the marks of a place mention, once for each occurrence.
     fn mentioned_in(&self, alloc: Global, place: &Place) -> Result<Items<usize>, AllocError>
-        ensures { IfOk result (λ row. row ≡ mentioned_in self.now.meanings.items place.now) }
+        ensures { IfOk result (λ row. row ≡ mentioned_in self.now.list self.now.places.items place.now) }
     {
         let mut row = Items::new(alloc);
         for at in place.start..place.end {
@@ -36,7 +36,7 @@ impl Outline {
 
     /// For each place those that it mentions, once for each occurrence.
     pub fn mentions(&self, alloc: Global) -> Result<Vec<Items<usize>>, AllocError>
-        ensures { IfOk result (λ rows. rows.items ≡ mentions self.now) }
+        ensures { IfOk result (λ rows. rows.items ≡ mentions self.now.list self.now.places.items) }
     {
         let mut rows = Vec::new(alloc);
         for place in self.places.as_slice() {
@@ -55,8 +55,8 @@ impl Outline {
 
     /// The first declaration that a chain of occurrences leads back to itself.
     fn ring(&self, alloc: Global) -> Result<Option<Found>, AllocError>
-        ensures none { IfOk result (λ found. IfNone found ((i : ℕ) → IsOnRing (mentions self.now) i → ⊥)) }
-        ensures first { IfOk result (λ found. IfSome found (λ f. IsFirstOnRing (mentions self.now) f.place)) }
+        ensures none { IfOk result (λ found. IfNone found ((i : ℕ) → IsOnRing (mentions self.now.list self.now.places.items) i → ⊥)) }
+        ensures first { IfOk result (λ found. IfSome found (λ f. IsFirstOnRing (mentions self.now.list self.now.places.items) f.place)) }
     {
         let rows = self.mentions(alloc)?;
         match first_on_ring(alloc, rows.as_slice())? {
@@ -71,7 +71,7 @@ impl Outline {
 
     /// The first fault, case by case.
     fn first_fault(&self, alloc: Global, names: &[&str]) -> Result<Option<Found>, AllocError>
-        ensures { IfOk result (λ found. IfNone found ((i : ℕ) → IsOnRing (mentions self.now) i → ⊥)) }
+        ensures { IfOk result (λ found. IfNone found ((i : ℕ) → IsOnRing (mentions self.now.list self.now.places.items) i → ⊥)) }
     {
         let duplicate = self.duplicate(alloc)?;
         if duplicate.is_some() {
@@ -94,7 +94,7 @@ impl Outline {
         alloc: Global,
         names: &[&str],
     ) -> Result<(), OrOutOfMemory<ValidateFault>>
-        ensures { OnOk result ((i : ℕ) → IsOnRing (mentions self.now) i → ⊥) }
+        ensures { OnOk result ((i : ℕ) → IsOnRing (mentions self.now.list self.now.places.items) i → ⊥) }
     {
         match self.first_fault(alloc, names)? {
             None => Ok(()),

@@ -4,4 +4,4 @@ use Rattle.wesl_outline.proofs.outline.Outline.mentioned_in.Given as goal
 
 abbrev pub invariant-loop-at : goal.invariant-loop-at
 invariant-loop-at l =
-    (l.row ≡ mentions_from l.self.meanings.items l.place.start (l.at - l.place.start)) × (l.at - l.place.start ≤ l.place.end - l.place.start)
+    (l.row ≡ mentions_from l.self.list l.self.places.items l.place.start (l.at - l.place.start)) × (l.at - l.place.start ≤ l.place.end - l.place.start)
