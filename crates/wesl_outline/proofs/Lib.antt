@@ -1,3 +1,4 @@
 pub mod Bits
 pub mod Telling
 pub mod Trails
+pub mod Clashes

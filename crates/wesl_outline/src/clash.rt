@@ -56,10 +56,9 @@ fn is_number(one: u32, other: Option<u32>) -> bool
 fn has_symbol(symbols: &[Option<u32>], place: usize, symbol: Option<u32>) -> bool
     ensures { result ≡ has_symbol (slice_get symbols.now place) symbol }
 {
-    if place < symbols.len() {
-        is_same(symbols[place], symbol)
-    } else {
-        false
+    match symbols.get(place) {
+        None => false,
+        Some(own) => is_same(*own, symbol),
     }
 }
 

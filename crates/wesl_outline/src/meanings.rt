@@ -1,11 +1,13 @@
 //! What names denote (WGSL, "Declaration and Scope").
 
 ghost use Rattle.std.specs.Prelude.{◌≡◌, ◌<◌, ℕ, List, String, true, length, slice_get, get_or, nat_lt, IfOk, OnOk};
+ghost use Rattle.std.specs.List.{slice_index_or};
 ghost use Rattle.std.specs.declared.alloc.Global.{Global};
 ghost use Rattle.wesl_mark.specs.declared.names.Reference.{Reference};
 ghost use Rattle.wesl_mark.specs.declared.place.Place.{Place};
 ghost use Rattle.wesl_mark.specs.Marks.{said_by, is_within};
 ghost use Rattle.wesl_mark.specs.Trail.{nearest};
+ghost use Rattle.wesl_outline.specs.declared.meanings.Meaning.TheVariants.{Nothing};
 ghost use Rattle.wesl_outline.specs.Told.{names_said, AreNumbered, AreTold, is_number, again_told, told_if, first_of, shared_of};
 ghost use Rattle.wesl_outline.specs.Said.{denoted, denoted_by, unless_path, open_said, AreLocals, AreMeanings, Follows};
 
@@ -144,6 +146,17 @@ fn meaning_of_reference(names: &[Declared], scopes: &Scopes, reference: &Referen
             Some(place) => Meaning::Global(place),
             None => Meaning::Free,
         },
+    }
+}
+
+/// What the mark of a number denotes; behind them all nothing.
+pub(crate) fn meaning_in(meanings: &[Meaning], at: usize) -> Meaning
+    ensures { result ≡ slice_index_or meanings.now at Nothing }
+{
+    if at < meanings.len() {
+        meanings[at]
+    } else {
+        Meaning::Nothing
     }
 }
 

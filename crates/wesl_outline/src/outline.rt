@@ -6,7 +6,7 @@ ghost use Rattle.wesl_outline.specs.Told.{names_said, is_declared, is_shared, Ar
 ghost use Rattle.wesl_outline.specs.Said.{meaning_at, AreMeanings};
 
 use crate::meanings::{
-    Declared, Meaning, declared_names, first_place, is_shared_name, meanings_of,
+    Declared, Meaning, declared_names, first_place, is_shared_name, meaning_in, meanings_of,
 };
 use std::alloc::{AllocError, Global};
 use wesl_mark::{Mark, MarkList, Place};
@@ -47,22 +47,16 @@ impl Outline {
     pub fn meaning(&self, at: usize) -> Meaning
         ensures { result ≡ meaning_at self.now.list self.now.places.items at }
     {
-        if at < self.meanings.len() {
-            self.meanings[at]
-        } else {
-            Meaning::Nothing
-        }
+        meaning_in(self.meanings.as_slice(), at)
     }
 
     /// The mark of this number.
     pub fn mark(&self, at: usize) -> Option<Mark>
         ensures { result ≡ slice_get self.now.list.marks.items at }
     {
-        let marks = self.list.marks();
-        if at < marks.len() {
-            Some(marks[at])
-        } else {
-            None
+        match self.list.marks().get(at) {
+            None => None,
+            Some(mark) => Some(*mark),
         }
     }
 
