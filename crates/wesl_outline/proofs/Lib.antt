@@ -2,3 +2,4 @@ pub mod Bits
 pub mod Telling
 pub mod Trails
 pub mod Clashes
+pub mod Numbering

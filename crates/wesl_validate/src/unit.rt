@@ -1,5 +1,10 @@
 //! The tests of a linked unit.
 
+ghost use Rattle.std.specs.Prelude.{IfOk};
+ghost use Rattle.std.specs.List.{AllZip};
+ghost use Rattle.wesl_mark.specs.Places.{IsSpot};
+ghost use Rattle.wesl_marks.specs.Units.{unit_spots};
+
 use std::alloc::{AllocError, Global};
 use wesl_mark::MarkList;
 use wesl_marks::mark_unit;
@@ -8,7 +13,9 @@ use wgsl_base::{OrOutOfMemory, Text};
 use wgsl_declarations::TranslationUnit;
 
 /// Reads the marks of a unit, and looks its names up.
-pub fn read_outline(alloc: Global, unit: &TranslationUnit) -> Result<Outline, AllocError> {
+pub fn read_outline(alloc: Global, unit: &TranslationUnit) -> Result<Outline, AllocError>
+    ensures { IfOk result (λ outline. AllZip (IsSpot outline.list) outline.places.items (unit_spots unit.now)) }
+{
     let mut list = MarkList::new(alloc);
     let places = mark_unit(alloc, &mut list, unit)?;
     Outline::new(alloc, list, places)
