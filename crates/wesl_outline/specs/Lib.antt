@@ -4,3 +4,4 @@ pub mod First
 pub mod Clashing
 pub mod Unclear
 pub mod Mentions
+pub mod Faults
