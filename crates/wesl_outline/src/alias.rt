@@ -49,8 +49,8 @@ impl Outline {
             return Err(Target::Other);
         };
         match self.declaring_mark(place) {
-            Some(at) => self.next_alias(at.saturating_add(1)),
-            None => Err(Target::Other),
+            Some(at) if at.saturating_add(1) < place.end => self.next_alias(at.saturating_add(1)),
+            _ => Err(Target::Other),
         }
     }
 
