@@ -1,8 +1,9 @@
 -- The table of template lists, from the text's end.
-use Rattle.std.proofs.Common.{◌≡◌, ℕ, ◌+◌, ◌<◌, List, [], ◌∷◌, ◌++◌, length, take, drop, refl, sym, ◌∙◌, ap, subst, arith, append_assoc, length-append, take-append-drop, inl, inr, get_or, length-take-le, length-drop}
+use Rattle.std.proofs.Common.{◌≡◌, ℕ, ◌+◌, ◌-◌, ◌<◌, List, [], ◌∷◌, ◌++◌, length, take, drop, refl, sym, ◌∙◌, ap, subst, arith, append_assoc, length-append, take-append-drop, inl, inr, get_or, length-take-le, length-drop}
 use Rattle.std.proofs.lemmas.Bool.{cases_lt}
 use Rattle.std.proofs.lemmas.List.{get_or_push, take_more, take_more_set}
 use Rattle.std.proofs.Math.ListN.{get_or-append, set}
+use Rattle.std.proofs.Math.Seq.{take-length}
 use Rattle.wgsl_templates.specs.declared.entry.Entry.{Entry}
 use Rattle.wgsl_templates.specs.Levels.{none, IsEntry, IsTable}
 
@@ -52,6 +53,12 @@ pub place_parts : (text back : List ℕ) (place c : ℕ) → place < length text
 place_parts text back place c within b here =
     let front : take (place + 1) text ≡ take place text ++ c ∷ [] = take_more text place c within ∙ ap (λ x. take place text ++ x ∷ []) (sym here) in
     sym (take-append-drop (place + 1) text) ∙ (λ i. front i ++ sym b i) ∙ append_assoc (take place text) (c ∷ []) back
+
+-- the whole table, where no place is left
+pub table_whole : (text : List ℕ) (table : List Entry) (place : ℕ) → place ≡ 0 → length table ≡ length text → IsTable text (take (length text - place) table) → IsTable text table
+table_whole text table place none_left covered has =
+    let all : length text - place ≡ length table = omega (arith, none_left, covered) in
+    subst (IsTable text) (take-length table) (subst (λ k. IsTable text (take k table)) all has)
 
 pub table_back : (text front back : List ℕ) (table : List Entry) → text ≡ front ++ back → IsTable text table → IsTable back table
 table_back text front back table e has before character behind is short = has (front ++ before) character behind (e ∙ ap (λ x. front ++ x) is ∙ sym (append_assoc front before (character ∷ behind))) short

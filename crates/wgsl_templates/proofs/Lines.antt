@@ -1,8 +1,9 @@
 -- Blankspace and comments to the ends of lines.
 use Rattle.std.specs.Prelude.{Option, Some, None, slice_index}
-use Rattle.std.proofs.Common.{◌≡◌, ℕ, zero, suc, ◌+◌, ◌<◌, ◌≤◌, Bool, true, false, not, ◌&&◌, ◌||◌, ◌==◌, List, [], ◌∷◌, ◌++◌, length, take, drop, refl, sym, ◌∙◌, ap, subst, arith, get_or, length-append, length-drop}
+use Rattle.std.proofs.Common.{◌≡◌, ℕ, zero, suc, ◌+◌, ◌<◌, ◌≤◌, Bool, true, false, not, ◌&&◌, ◌||◌, ◌==◌, List, [], ◌∷◌, ◌++◌, length, take, drop, refl, sym, ◌∙◌, ap, subst, arith, get_or, inl, inr, nat_le, length-append, length-drop}
 use Rattle.std.proofs.lemmas.List.{drop_more}
-use Rattle.wgsl_base.proofs.Bools.{and_both}
+use Rattle.std.proofs.lemmas.Bool.{leb-true, eqb-true, or_cases}
+use Rattle.wgsl_base.proofs.Bools.{and_both, false_if}
 use Rattle.wgsl_lex.specs.Tokens.{is_blank, is_line_break}
 use Rattle.wgsl_lex.specs.Runs.{IsRun, is_no_line_break}
 use Rattle.wgsl_lex.specs.Pieces.{StandsFirst, IsCommentAnswer, no_comment, comment}
@@ -11,7 +12,7 @@ use Rattle.wgsl_lex.proofs.Bools.{is_number}
 use Rattle.wgsl_templates.specs.Tokens.{IsFirst}
 use Rattle.wgsl_templates.specs.declared.ahead.Ahead.{Ahead}
 use Rattle.wgsl_templates.specs.declared.entry.Entry.{Entry}
-use Rattle.wgsl_templates.specs.Levels.{SkipsTo, IsAhead, begins_with_slash, none, ends_at, IsEntry}
+use Rattle.wgsl_templates.specs.Levels.{SkipsTo, IsAhead, InWord, begins_with_slash, none, ends_at, IsEntry}
 use Rattle.wgsl_templates.proofs.Levels.{longer, over_trivia, entry_comment}
 use Rattle.wgsl_templates.proofs.Here.{is_first}
 
@@ -102,6 +103,30 @@ before_break c text ahead breaks h =
 pub before_other : (c : ℕ) (text : List ℕ) (ahead : Ahead) (skip : ℕ) → is_line_break c ≡ false → SkipsTo (c ∷ text) skip → IsAhead text ahead
     → IsAhead (c ∷ text) (record { skip = skip; line_skip = ahead.line_skip })
 before_other c text ahead skip goes skips h = record { skip = skips; line = suc h.line; run = run_before is_no_line_break c text h.line (ap not goes) h.run; line_skip = h.line_skip }
+
+-- no line breaks
+word_breaks : (c : ℕ) → InWord c → is_line_break c ≡ true → ⊥
+word_breaks c word breaks =
+    elim (or_cases ((nat_le 10 c && nat_le c 13) || (c == 133) || (c == 8232)) (c == 8233) breaks) [
+      | inr same ↦ let is : c ≡ 8233 = eqb-true c 8233 same in omega (arith, is, word.high)
+      | inl more ↦
+          elim (or_cases ((nat_le 10 c && nat_le c 13) || (c == 133)) (c == 8232) more) [
+            | inr same ↦ let is : c ≡ 8232 = eqb-true c 8232 same in omega (arith, is, word.high)
+            | inl most ↦
+                elim (or_cases (nat_le 10 c && nat_le c 13) (c == 133) most) [
+                  | inr same ↦ let is : c ≡ 133 = eqb-true c 133 same in omega (arith, is, word.high)
+                  | inl low ↦ let le : c ≤ 13 = leb-true c 13 (and_both (nat_le 10 c) (nat_le c 13) low).1 in omega (arith, le, word.low)
+                ]
+          ]
+    ]
+
+pub before_word : (c : ℕ) (text : List ℕ) (ahead : Ahead) → InWord c → IsAhead text ahead → IsAhead (c ∷ text) (record { skip = length text + 1; line_skip = ahead.line_skip })
+before_word c text ahead word h =
+    before_other c text ahead (length text + 1) (false_if (is_line_break c) (word_breaks c word)) (skips_none (c ∷ text) (length text + 1) (omega arith)) h
+
+pub before_space : (c : ℕ) (text : List ℕ) (ahead : Ahead) → c ≡ 32 → IsAhead text ahead → IsAhead (c ∷ text) ahead
+before_space c text ahead space h =
+    let P : ℕ → Type 0 = λ x. IsAhead (x ∷ text) ahead in subst P (sym space) (before_other 32 text ahead ahead.skip refl (skips_blank 32 text ahead.skip refl h.skip) h)
 
 pub nothing_ahead : IsAhead [] (record { skip = 0; line_skip = 0 })
 nothing_ahead = record {

@@ -1,5 +1,5 @@
 -- Where a bracket ends, for a reader of expressions who stands within it.
-use Rattle.std.specs.Prelude.{◌≡◌, ℕ, ◌<◌, ◌≤◌, Bool, true, false, ◌==◌, List, [], ◌∷◌, ◌++◌, length, drop, slice_index_or, Option, Some, None}
+use Rattle.std.specs.Prelude.{◌≡◌, ◌≢◌, ℕ, ◌<◌, ◌≤◌, Bool, true, false, ◌==◌, List, [], ◌∷◌, ◌++◌, length, drop, slice_index_or, Option, Some, None}
 use Rattle.wgsl_templates.specs.declared.meaning.kind.Kind.{Kind}
 use Rattle.wgsl_templates.specs.declared.meaning.token.Bracket.{Bracket}
 use Rattle.wgsl_templates.specs.declared.meaning.token.Bracket.TheVariants as b
@@ -99,6 +99,13 @@ pub record IsEntry (character : ℕ) (behind : List ℕ) (entry : Entry) : Type 
   pub arguments : character ≡ 40 → Ends e.Arguments (standing at.OperandOrEnd) false behind entry.arguments_end
   pub index : character ≡ 91 → Ends e.Index (standing at.Operand) false behind entry.end
   pub comment : character ≡ 47 → (count : ℕ) → entry.end ≡ Some count → (count ≤ length behind) × SkipsTo (47 ∷ behind) count
+
+-- a character between `0` and `z` with which no bracket or list begins
+pub record InWord (character : ℕ) : Type 0 where
+  pub low : 48 ≤ character
+  pub high : character ≤ 122
+  pub no_list : character ≢ 60
+  pub no_index : character ≢ 91
 
 -- An entry for each character of the text behind which fewer characters stand than there are entries, at the place that counts the
 -- characters behind.

@@ -1,7 +1,7 @@
 //! What stands ahead where a text is read from its end.
 
-ghost use Rattle.std.specs.Prelude.{◌≡◌, ◌==◌, ◌&&◌, [], ◌∷◌};
-ghost use Rattle.wgsl_templates.specs.Levels.{IsAhead, SkipsTo, begins_with_slash};
+ghost use Rattle.std.specs.Prelude.{◌≡◌, ◌==◌, ◌&&◌, [], ◌∷◌, true, IfSome};
+ghost use Rattle.wgsl_templates.specs.Levels.{IsAhead, IsEntry, SkipsTo, InWord, begins_with_slash, none};
 
 use wgsl_lex::{is_blankspace, is_line_break};
 
@@ -43,6 +43,22 @@ impl Ahead {
         }
     }
 
+    /// The same at once, if that character is a space or stands in words: no bracket, list or comment begins with it.
+    #[inline(always)]
+    pub(crate) fn before_word_or_space(self, character: char, behind: &[char]) -> Option<Ahead>
+        requires { IsAhead behind.now self }
+        ensures ahead { IfSome result (IsAhead (character ∷ behind.now)) }
+        ensures entry { IfSome result (λ _. IsEntry character behind.now none) }
+    {
+        if is_in_words(character) {
+            return Some(Ahead {
+                skip: behind.len() + 1,
+                line_skip: self.line_skip,
+            });
+        }
+        if character == ' ' { Some(self) } else { None }
+    }
+
     /// Where what stands before the next token ends, one character before.
     fn skip_before(self, character: char, behind: &[char]) -> usize
         requires { IsAhead behind.now self }
@@ -56,6 +72,14 @@ impl Ahead {
         }
         behind.len() + 1
     }
+}
+
+/// Whether a character is a letter or a digit in ASCII, or `_`.
+#[inline(always)]
+fn is_in_words(character: char) -> bool
+    ensures { result ≡ true → InWord character }
+{
+    matches!(character, 'a'..='z' | 'A'..='Z' | '0'..='9' | '_')
 }
 
 /// Whether a comment to the line's end begins with this character, of which those stand behind.

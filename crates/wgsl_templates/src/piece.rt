@@ -89,7 +89,7 @@ pub(crate) fn next<P: Pieces>(
     Ok(told(first, behind, length, token, after_word, opened, table))
 }
 
-/// The same, where short words, lone symbols and blanks are told first.
+/// The same, where blanks, short words and lone symbols are told first.
 #[inline(always)]
 pub(crate) fn next_at_once<P: Pieces>(
     alloc: Global,
@@ -107,6 +107,12 @@ pub(crate) fn next_at_once<P: Pieces>(
     ensures within { IfOk result (λ piece. piece.length ≤ length behind.now + 1) }
     ensures first { IfOk result (λ piece. (at : ℕ) → StandsHere (state at after_word opened.now) (first ∷ behind.now) piece.length piece.token) }
 {
+    if is_blankspace(first) {
+        return Ok(TemplatePiece {
+            length: 1,
+            token: None,
+        });
+    }
     if let Some(ShortWord { length, token }) = short_word(alloc, first, behind)? {
         let token = Some(TemplateToken::Plain(token));
         return Ok(TemplatePiece { length, token });
@@ -116,12 +122,6 @@ pub(crate) fn next_at_once<P: Pieces>(
         return Ok(TemplatePiece {
             length: 1,
             token: Some(token),
-        });
-    }
-    if is_blankspace(first) {
-        return Ok(TemplatePiece {
-            length: 1,
-            token: None,
         });
     }
     next(

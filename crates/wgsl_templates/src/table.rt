@@ -29,8 +29,13 @@ pub(crate) fn table_of<P: Pieces>(
         place -= 1;
         let (_, behind) = text.split_at(place + 1);
         let count = behind.len();
-        let made = &table[..count];
         let character = text[place];
+        if let Some(before) = ahead.before_word_or_space(character, behind) {
+            table[count] = Entry::none();
+            ahead = before;
+            continue;
+        }
+        let made = &table[..count];
         table[count] = entry_of(alloc, pieces, character, behind, made, ahead)?;
         ahead = ahead.one_before(character, behind);
     }
