@@ -188,6 +188,17 @@ class Automaton:
             assert not ahead & taken, ("clash", s, self.rules[p])
             taken |= ahead
 
+    def passes(self):
+        """For each rule that makes nothing new of its one symbol its left side."""
+        return {p: left for p, (left, _, label, parts) in enumerate(self.rules) if (label, parts) == ("l.Pass", [2])}
+
+    def chain(self, below, n, passes):
+        """The nonterminals that a phrase is passed on to above a state: each with the tokens before which it is not passed on further."""
+        state = self.steps[below][n]
+        stops = {symbol for symbol in self.steps[state] if symbol not in self.first}
+        to = passes.get(self.finals[state][0]) if len(self.finals[state]) == 1 else None
+        return [(n, stops)] + (self.chain(below, to, passes) if to else [])
+
     def order(self):
         done, order = set(), []
         while len(done) < len(self.phrases):
@@ -261,6 +272,15 @@ class Arrays:
         end = max(entries) + 1
         self.array(about, name, "u32", [entries.get(i, NO_ROW * 1024) for i in range(end)])
         self.array(f"Where the row of each begins in [`{name}`].", name + "_PLACES", "u16", places)
+        return places, end
+
+    def passed(self, chain):
+        """Before the end and each class of tokens the last nonterminal of a chain, and one; 0 for the first."""
+        row = [0] * (len(self.classes) + 1)
+        for place, (n, _) in enumerate(chain[1:], 1):
+            stopped = {self.ahead(name) for _, stops in chain[:place] for name in stops}
+            row = [row[c] if c in stopped else self.numbers[n] + 1 for c in range(len(row))]
+        return tuple(row)
 
     def write_states(self):
         a = self.automaton
@@ -312,11 +332,26 @@ class Arrays:
         about = "For each state and the {} that lead on the state, times 1024, and the state that is led to; the rows of all states laid over one another."
         for parity, name, symbols in (0, "TOKEN_STEPS", "classes of tokens"), (1, "PHRASE_STEPS", "nonterminals"):
             rows = [{self.code(symbol) // 2: to for symbol, to in row.items() if self.code(symbol) % 2 == parity} for row in a.steps]
-            self.folded(about.format(symbols), name, rows)
+            places, end = self.folded(about.format(symbols), name, rows)
+        self.write_chains(places, end)
         only = [rules[0] + 1 if len(rules) == 1 else 0 for rules in a.finals]
         self.array("For each state the only rule that it may reduce by, and one; 0 where there are none or more.", "ONLY_FINALS", "u16", only)
-        passed = [self.numbers[left] + 1 if (label, parts) == ("l.Pass", [2]) else 0 for left, _, label, parts in a.rules]
+        passes = a.passes()
+        passed = [self.numbers[passes[p]] + 1 if p in passes else 0 for p in range(len(a.rules))]
         self.array("For each rule that makes nothing new of its one symbol its left side, and one; 0 for any other.", "PASSED_TO", "u16", passed)
+
+    def write_chains(self, places, end):
+        a = self.automaton
+        passes, rows, numbers = a.passes(), {(0,) * (len(self.classes) + 1): 0}, [0] * end
+        for below, steps in enumerate(a.steps):
+            for n in steps:
+                if n in self.numbers:
+                    row = self.passed(a.chain(below, n, passes))
+                    numbers[places[below] + self.numbers[n]] = rows.setdefault(row, len(rows))
+        self.array("For each entry of [`PHRASE_STEPS`] the row of [`CHAINS`] that says how far its phrase is passed on.", "PHRASE_CHAINS", "u8", numbers)
+        about = "Before the end and before each class of tokens the last nonterminal that a phrase is passed on to, and one; 0 where it is not passed on."
+        lines = [f"/// {about}", f"pub static CHAINS: [[u16; {len(self.classes) + 1}]; {len(rows)}] = ["]
+        self.texts.append("\n".join(lines + [f"    [{', '.join(map(str, row))}]," for row in rows]) + "\n];\n")
 
     def steps_text(self):
         self.texts = []

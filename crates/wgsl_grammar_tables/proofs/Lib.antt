@@ -2,6 +2,7 @@ pub mod Passing
 pub mod Fits
 pub mod Read
 pub mod StepsLemmas
+pub mod Chains
 pub mod Examples
 pub mod Written
 pub mod Driving

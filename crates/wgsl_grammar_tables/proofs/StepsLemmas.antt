@@ -119,7 +119,7 @@ phrase_code n = 2 * n + 1
 token_half : (c : ℕ) → 2 * c / 2 ≡ c
 token_half c = omega arith
 
-phrase_half : (n : ℕ) → (2 * n + 1) / 2 ≡ n
+pub phrase_half : (n : ℕ) → (2 * n + 1) / 2 ≡ n
 phrase_half n = omega arith
 
 tokens_found : all_below STATE_COUNT (row_found TOKEN_STEPS_PLACES TOKEN_STEPS (steps_at listed) token_code) ≡ true
@@ -139,7 +139,7 @@ unfolding listed
 phrases_listed = refl
 
 -- a state with a step is one of the states
-below : (s a t : ℕ) → beside a (steps_at listed s) ≡ Some t → nat_lt s STATE_COUNT ≡ true
+pub below : (s a t : ℕ) → beside a (steps_at listed s) ≡ Some t → nat_lt s STATE_COUNT ≡ true
 unfolding listed
 below s a t is = (guarded (nat_lt s STATE_COUNT) (listed.steps s) (a, t) (is_beside a t (steps_at listed s) is)).0
 

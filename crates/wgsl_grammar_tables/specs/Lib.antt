@@ -7,6 +7,7 @@ pub mod Nonterminals
 pub mod Grammar
 pub mod Expansion
 pub mod PassedOn
+pub mod Chains
 pub mod Grammars
 pub mod Machine
 pub mod Fit

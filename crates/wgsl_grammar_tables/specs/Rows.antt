@@ -22,6 +22,14 @@ entry_behind entries row key (Some place) = entry_of row (slice_get entries (pla
 abbrev pub within : List ℕ → List ℕ → ℕ → ℕ → Option ℕ
 within places entries row key = entry_behind entries row key (slice_get places row)
 
+-- what stands at a key of a row, whosever it is
+abbrev pub laid_behind : List ℕ → ℕ → Option ℕ → Option ℕ
+laid_behind entries key None = None
+laid_behind entries key (Some place) = slice_get entries (place + key)
+
+abbrev pub laid_over : List ℕ → List ℕ → ℕ → ℕ → Option ℕ
+laid_over places entries row key = laid_behind entries key (slice_get places row)
+
 abbrev pub less : Option ℕ → Option ℕ
 less None = None
 less (Some n) = if n == 0 then None else Some (n - 1)

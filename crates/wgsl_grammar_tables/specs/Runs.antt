@@ -49,6 +49,13 @@ pub data Passes {T V : Type 0} (g : Grammar T V) (a : Tables) (below ahead : ℕ
   stays : {s : ℕ} → Passes g a below ahead x s s
   goes_on : {s u : ℕ} (left t : ℕ) → PassesBy g (action a s ahead) x left → a.step below (phrase left) ≡ Some t → Passes g a below ahead x t u → Passes g a below ahead x s u
 
+-- A phrase of a nonterminal, above a state and before what stands ahead, leads to some state, from which it is passed on to another if its
+-- tree is kept.
+pub record LeadsTo {T V : Type 0} (g : Grammar T V) (a : Tables) (kept : V → Type 0) (below ahead nonterminal to : ℕ) : Type 0 where
+  pub first : ℕ
+  pub step : a.step below (phrase nonterminal) ≡ Some first
+  pub passes : (x : V) → kept x → Passes g a below ahead x first to
+
 module _ {T V : Type 0} (g : Grammar T V) (a : Tables) (from : ℕ) where
   -- The parts of a rule were taken from the stack, and its tree put there.
   pub record IsReduction (p : ℕ) (es fs : List (Entry V)) : Type 0 where

@@ -7,12 +7,14 @@ ghost use Rattle.wgsl_grammar_tables.specs.Machine.{action, reducing, shifting};
 ghost use Rattle.wgsl_grammar_tables.specs.Listed.{reduction_at, rule_at, step_at, tables};
 ghost use Rattle.wgsl_grammar_tables.specs.Decoded.{listed};
 ghost use Rattle.wgsl_grammar_tables.specs.Starts.{start};
+ghost use Rattle.wgsl_grammar_tables.specs.PassedOn.{IsPassedOn};
 
 use crate::shift_reduce::{Action, Shape};
-use crate::{last_state, phrase_step, reduction, rule_left, rule_length, token_step};
+use crate::{last_state, passed_step, phrase_step, reduction, rule_left, rule_length, token_step};
 use wgsl_parser_table::table::RULE_COUNT;
 
 /// The reduction of a state before what is ahead, if there is one.
+#[inline(always)]
 fn reduce(state: u16, ahead: u16) -> Action
     ensures { result ≡ reducing (reduction_at listed state ahead) }
 {
@@ -62,6 +64,13 @@ pub fn state_behind(state: u16, nonterminal: u16) -> Option<u16>
     ensures { result ≡ step_at listed state (phrase nonterminal) }
 {
     phrase_step(state, nonterminal)
+}
+
+/// The state to which a phrase of a nonterminal leads, and to which it is passed on from there before what stands ahead.
+pub fn state_passed_to(below: u16, nonterminal: u16, ahead: u16) -> Option<u16>
+    ensures { MatchOption result Unit (IsPassedOn below ahead nonterminal) }
+{
+    passed_step(below, nonterminal, ahead)
 }
 
 /// The nonterminal of a rule, and how many symbols it is made of.

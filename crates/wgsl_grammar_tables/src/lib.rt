@@ -11,16 +11,18 @@ ghost use Rattle.wgsl_parser_table.specs.Label.TheVariants.{Pass};
 ghost use Rattle.wgsl_grammar_tables.specs.Starts.{start};
 ghost use Rattle.wgsl_grammar_tables.specs.Labels.{label_at, pattern_at};
 ghost use Rattle.wgsl_grammar_tables.specs.Grammars.{phrase, token};
-ghost use Rattle.wgsl_grammar_tables.specs.PassedOn.{IsPassedTo};
+ghost use Rattle.wgsl_grammar_tables.specs.PassedOn.{IsPassedOn, IsPassedTo};
+ghost use Rattle.wgsl_grammar_tables.specs.Chains.{last_passed};
 ghost use Rattle.wgsl_grammar_tables.specs.Listed.{finals_at, first_before, reduction_at, step_at};
 
 pub mod class;
 pub mod drive;
 mod rows;
 
-use crate::rows::{contains, less_one, row, within};
+use crate::rows::{contains, laid_over, less_one, row, within};
 use crate::steps::steps::{
-    ONLY_FINALS, PASSED_TO, PHRASE_STEPS, PHRASE_STEPS_PLACES, TOKEN_STEPS, TOKEN_STEPS_PLACES,
+    CHAINS, ONLY_FINALS, PASSED_TO, PHRASE_CHAINS, PHRASE_STEPS, PHRASE_STEPS_PLACES, TOKEN_STEPS,
+    TOKEN_STEPS_PLACES,
 };
 pub use shift_reduce::{Action, Driver, Entry, Progress, Shape, Stopped, run};
 use wgsl_parser_table::Label;
@@ -45,6 +47,27 @@ pub fn phrase_step(state: u16, nonterminal: u16) -> Option<u16>
     within(&PHRASE_STEPS_PLACES, &PHRASE_STEPS, state, nonterminal)
 }
 
+/// The last nonterminal that a phrase of this one is passed on to above a state, before what is ahead: 0 for the end, or a token's class and
+/// one. None where it is not passed on.
+fn last_passed(state: u16, nonterminal: u16, ahead: u16) -> Option<u16>
+    ensures { result ≡ last_passed state nonterminal ahead }
+{
+    let chain = laid_over(&PHRASE_STEPS_PLACES, &PHRASE_CHAINS, state, nonterminal)?;
+    less_one(CHAINS.get(usize::from(chain))?, ahead)
+}
+
+/// The state that a phrase of this nonterminal leads to from a state, and is passed on to from there before what is ahead.
+#[tactic(auto, using(crate::proofs::Chains::stays, crate::proofs::Chains::passed))]
+pub fn passed_step(state: u16, nonterminal: u16, ahead: u16) -> Option<u16>
+    ensures { MatchOption result Unit (IsPassedOn state ahead nonterminal) }
+{
+    let to = phrase_step(state, nonterminal)?;
+    match last_passed(state, nonterminal, ahead) {
+        Some(last) => phrase_step(state, last),
+        None => Some(to),
+    }
+}
+
 /// The rule that a state reduces by before what is ahead: 0 for the end, or a token's class and one.
 #[tactic(auto, using(crate::proofs::Read::finals_starts))]
 pub fn reduction(state: u16, ahead: u16) -> Option<u16>
@@ -64,7 +87,8 @@ pub fn passed_to(rule: u16) -> Option<u16>
     less_one(&PASSED_TO, rule)
 }
 
-/// The first rule of a nonterminal that this may stand behind.
+/// The first rule of a nonterminal that this may stand behind. Few states may reduce by more than one.
+#[inline(never)]
 #[tactic(auto, using(crate::proofs::Read::follow_starts, crate::proofs::Read::follow_row))]
 fn first_before(rules: &[u16], ahead: u16) -> Option<u16>
     ensures { result ≡ first_before listed ahead rules.now }

@@ -1,7 +1,7 @@
 //! Rows that stand behind one another in one array.
 
 ghost use Rattle.std.specs.Prelude.{◌≡◌, length};
-ghost use Rattle.wgsl_grammar_tables.specs.Rows.{AreStarts, less_one, row_between, within};
+ghost use Rattle.wgsl_grammar_tables.specs.Rows.{AreStarts, laid_over, less_one, row_between, within};
 ghost use Rattle.wgsl_grammar_tables.specs.Listed.{member};
 
 /// The row of this number, of those that begin at `starts`.
@@ -28,6 +28,14 @@ pub fn within(places: &[u16], entries: &[u32], row: u16, key: u16) -> Option<u16
     } else {
         None
     }
+}
+
+/// What stands at a key of a row in rows that are laid over one another, whosever it is: each begins at its place.
+pub fn laid_over(places: &[u16], entries: &[u8], row: u16, key: u16) -> Option<u8>
+    ensures { result ≡ laid_over places.now entries.now row key }
+{
+    let begin = places.get(usize::from(row))?;
+    entries.get(usize::from(*begin) + usize::from(key)).copied()
 }
 
 /// The number before the one at a place, unless that is 0.

@@ -7,8 +7,8 @@ ghost use Rattle.wgsl_grammar_tables.specs.Labels.{pattern_at};
 ghost use Rattle.wgsl_lr_driver.specs.Phrases.{clause_levels, expression_levels, grammar, import_nests, levels, made, name_nests, nests, number, statement_levels, IsKept};
 
 use crate::alone::remade;
-use crate::failure::{failure_at, made_failed, severity_failed};
-use crate::gather::{Extent, first_failure, gathered};
+use crate::failure::{failure_at, made_failed, never_fails, severity_failed};
+use crate::gather::{Extent, first_failure, gathered, let_go};
 use crate::leaf::leaf;
 use crate::phrase::Phrase;
 use std::alloc::Global;
@@ -168,7 +168,7 @@ fn make_into(
     let severity = severity_failed(label, parts);
     let part = make(alloc, label, extent.span, parts)?;
     let failure = failure_at(extent.last, severity, made_failed(label, &part));
-    drop(mem::replace(&mut phrase.part, Held::new(part)));
+    let_go(mem::replace(&mut phrase.part, Held::new(part)));
     phrase.span = extent.span;
     phrase.last = extent.last;
     phrase.failure = first_failure(extent.failure, failure);
@@ -260,6 +260,11 @@ impl Driver for Reader {
         drive::state_behind(state, nonterminal)
     }
 
+    #[tactic(auto, using(crate::proofs::Passing::leads_kept))]
+    fn state_passed_to(&self, below: u16, nonterminal: u16, ahead: u16) -> Option<u16> {
+        drive::state_passed_to(below, nonterminal, ahead)
+    }
+
     fn shape(&self, rule: u16) -> Option<Shape> {
         drive::shape(rule)
     }
@@ -281,9 +286,9 @@ impl Driver for Reader {
         make_several(self.alloc, rule, count, stack, room)
     }
 
-    /// A check of what is passed on is made again, which can fail for attributes and templates of `var` alone.
+    /// A check of what is passed on is made again. What has none that can fail is kept.
     fn is_kept(&self, part: &Phrase<Held>) -> bool {
-        made_failed(Label::Pass, part.part.part()).is_none()
+        never_fails(part.part.part())
     }
 
     #[tactic(auto, using(crate::proofs::Passing::passes_kept))]

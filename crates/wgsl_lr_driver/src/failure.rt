@@ -1,6 +1,6 @@
 //! Checks that fail.
 
-ghost use Rattle.std.specs.Prelude.{◌≡◌, ◌∷◌, []};
+ghost use Rattle.std.specs.Prelude.{◌≡◌, ◌∷◌, [], true, None};
 ghost use Rattle.std.specs.Option.{option_copied};
 ghost use Rattle.wgsl_reduce_actions.specs.Names.{is_setting, severity_in};
 ghost use Rattle.wgsl_lr_driver.specs.Failures as failures;
@@ -40,6 +40,7 @@ fn custom_failed(word: AttributeWord, attribute: &CustomAttribute) -> Check
     }
 }
 
+#[inline(never)]
 fn attribute_failed(attribute: &Attribute) -> Option<Check>
     ensures { result ≡ failures.attribute_failed attribute.now }
 {
@@ -63,6 +64,7 @@ fn template_failed(label: Label) -> Option<Check>
 }
 
 /// A check that fails in what a production of this label made.
+#[inline(always)]
 pub(crate) fn made_failed(label: Label, part: &Part) -> Option<Check>
     ensures { result ≡ failures.made_failed label part.now }
 {
@@ -70,6 +72,17 @@ pub(crate) fn made_failed(label: Label, part: &Part) -> Option<Check>
         Part::Attribute(attribute) => attribute_failed(attribute.node()),
         Part::Kind(DeclarationKind::Var(None)) => template_failed(label),
         _ => None,
+    }
+}
+
+/// Whether no check of what is passed on can fail: one can of attributes and of kinds of declarations alone.
+#[inline(always)]
+pub(crate) fn never_fails(part: &Part) -> bool
+    ensures { result ≡ true → failures.made_failed Label.Pass part.now ≡ None }
+{
+    match part {
+        Part::Attribute(_) | Part::Kind(_) => false,
+        _ => true,
     }
 }
 

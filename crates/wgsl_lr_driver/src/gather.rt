@@ -52,10 +52,10 @@ fn begin<P>(extent: &mut Option<Extent>, phrase: &Phrase<P>)
     }
 }
 
-/// Drops a part. A mark owns nothing, and takes no call.
+/// Drops a part. A mark or an absent one owns nothing, and takes no call.
 #[inline(always)]
-fn let_go<P: Absence>(part: P) {
-    if part.is_mark() {
+pub(crate) fn let_go<P: Absence>(part: P) {
+    if part.is_mark() || part.is_absent() {
         mem::forget(part);
     } else {
         drop(part);

@@ -13,6 +13,10 @@ pub trait Absence: Drop {
     fn absent() -> Self
         ensures { result ≡ absent };
 
+    /// It owns nothing.
+    fn is_absent(&self) -> bool
+        ensures { result ≡ true → self.now ≡ absent };
+
     /// What stands for a token that says nothing but that it is there. It owns nothing.
     ghost mark: { Self };
 
@@ -31,6 +35,12 @@ impl Absence for Held {
         Held::new(Part::Absent)
     }
 
+    #[inline(always)]
+    fn is_absent(&self) -> bool {
+        matches!(self.part(), Part::Absent)
+    }
+
+    #[inline(always)]
     fn is_mark(&self) -> bool {
         matches!(self.part(), Part::Mark)
     }

@@ -43,6 +43,7 @@ impl Held {
         Held { part }
     }
 
+    #[inline(always)]
     pub fn part(&self) -> &Part
         ensures { result.now ≡ self.now }
     {

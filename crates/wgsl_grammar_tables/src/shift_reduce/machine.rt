@@ -5,7 +5,7 @@ ghost use Rattle.std.specs.Option.{option_copied};
 ghost use Rattle.wgsl_grammar_tables.specs.Grammars.{Rule, Grammar, phrase};
 ghost use Rattle.wgsl_grammar_tables.specs.Machine.{Tables, action, below_top, ahead_of};
 ghost use Rattle.wgsl_grammar_tables.specs.Machine as machine;
-ghost use Rattle.wgsl_grammar_tables.specs.Runs.{IsShift, IsMade, PassesKept, PassesKeptBy, Passes, IsSettled, IsReduction, Advances, Said};
+ghost use Rattle.wgsl_grammar_tables.specs.Runs.{IsShift, IsMade, LeadsTo, PassesKept, PassesKeptBy, Passes, IsSettled, IsReduction, Advances, Said};
 
 use std::alloc::Global;
 use wgsl_base::{Queue, Stack};
@@ -70,8 +70,8 @@ impl<T, V> From<Refusal> for Stopped<T, V> {
     }
 }
 
-/// How many steps a parser may take for each token, and before the first; and how often a symbol may be passed on. No sentence of this
-/// project's grammars takes more than half of them, since no token begins more than some twenty phrases that are one another.
+/// How many steps a parser may take for each token, and before the first. No sentence of this project's grammars takes more than half of
+/// them, since no token begins more than some twenty phrases that are one another.
 const STEPS_PER_TOKEN: usize = 64;
 
 /// A grammar, the tables of its parser, and how trees are made.
@@ -105,6 +105,11 @@ pub trait Driver {
     /// The state to which a phrase of a nonterminal leads.
     fn state_behind(&self, state: u16, nonterminal: u16) -> Option<u16>
         ensures { result ≡ (tables self.now).step state (phrase nonterminal) };
+
+    /// The state to which a phrase of a nonterminal leads, and to which it is passed on from there before what stands ahead, if its tree
+    /// is kept. It may be passed on from that one too.
+    fn state_passed_to(&self, below: u16, nonterminal: u16, ahead: u16) -> Option<u16>
+        ensures { MatchOption result Unit (LeadsTo grammar (tables self.now) kept below ahead nonterminal) };
 
     /// The shape of a rule.
     fn shape(&self, rule: u16) -> Option<Shape>
@@ -179,8 +184,8 @@ struct Next {
     action: Action,
 }
 
-/// Passes a symbol with a tree that is kept on as long as its tree stays as it stands: above a state, from the state that it led to,
-/// before what stands ahead.
+/// Passes a symbol with a tree that is kept on, whose tree stays as it stands: above a state, from the state that it led to, before what
+/// stands ahead.
 fn settle<D: Driver>(
     driver: &D,
     below: u16,
@@ -192,21 +197,21 @@ fn settle<D: Driver>(
     ensures passes { IfOk result (λ s. Passes D.grammar (D.tables driver.now) below ahead part.now from s.state) }
     ensures action { IfOk result (λ s. s.action ≡ action (D.tables driver.now) s.state ahead) }
 {
-    let mut state = from;
-    for _step in 0..STEPS_PER_TOKEN {
-        let action = driver.action(state, ahead);
-        let Some(left) = passes_by(driver, action) else {
-            return Ok(Next { state, action });
-        };
-        let Some(to) = driver.state_behind(below, left) else {
-            return Err(Refusal::Misfit);
-        };
-        state = to;
-    }
-    Err(Refusal::TooManySteps)
+    let action = driver.action(from, ahead);
+    let Some(left) = passes_by(driver, action) else {
+        return Ok(Next {
+            state: from,
+            action,
+        });
+    };
+    let Some(state) = driver.state_passed_to(below, left, ahead) else {
+        return Err(Refusal::Misfit);
+    };
+    let action = driver.action(state, ahead);
+    Ok(Next { state, action })
 }
 
-/// Passes the uppermost symbol on as long as its tree stays as it stands, and returns what is done then.
+/// Passes the uppermost symbol on, if its tree stays as it stands, and returns what is done then.
 fn settled<D: Driver>(
     driver: &D,
     from: u16,
