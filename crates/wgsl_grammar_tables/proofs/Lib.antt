@@ -3,6 +3,7 @@ pub mod Fits
 pub mod Read
 pub mod StepsLemmas
 pub mod Chains
+pub mod ChainRows
 pub mod Examples
 pub mod Written
 pub mod Driving

@@ -53,7 +53,10 @@ fn last_passed(state: u16, nonterminal: u16, ahead: u16) -> Option<u16>
     ensures { result ≡ last_passed state nonterminal ahead }
 {
     let chain = laid_over(&PHRASE_STEPS_PLACES, &PHRASE_CHAINS, state, nonterminal)?;
-    less_one(CHAINS.get(usize::from(chain))?, ahead)
+    let Some(row) = CHAINS.get(usize::from(chain)) else {
+        return None;
+    };
+    less_one(row, ahead)
 }
 
 /// The state that a phrase of this nonterminal leads to from a state, and is passed on to from there before what is ahead.
