@@ -1,5 +1,5 @@
 import sys; sys.argv=["x",sys.argv[1],"1"]
-src=open("/work/drive2.py").read().split("log=open(")[0]
+src=open("/work/scripts/house/gate/drive2.py").read().split("log=open(")[0]
 exec(src)
 below_memo={}
 def below(self):
